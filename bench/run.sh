@@ -1,0 +1,7 @@
+#!/usr/bin/env bash
+# Measures speed: run it on an idle machine. The numbers are printed, and nothing is tested.
+set -eu
+cd "$(dirname "${BASH_SOURCE[0]}")/../crates/bench_receiver"
+rt run -- run
+cd ../bench_banker
+rt run -- run

@@ -1,0 +1,32 @@
+//! How many comparisons one decision of the banker takes, and how long: `bench_banker run`.
+#![tactic(auto)]
+
+mod ladder;
+
+use anyhow::Result;
+use ladder::{Ladder, decide};
+use std::env;
+use std::rt::Clock;
+
+/// Prints a line for each number of rows and each case.
+fn run(rt: &(impl Alloc + Clock + Print)) -> Result<()> {
+    for rows in [8, 64, 256, 1024] {
+        for ladder in [Ladder::Flat, Ladder::Steep] {
+            let (tests, took) = decide(rt, rt.alloc(), ladder, rows)?;
+            let all = u64::from(rows) * (u64::from(rows) + 1) / 2;
+            println!(rt;
+                "n {rows}, {ladder}: {tests} comparisons in {took:?} (n(n+1)/2 is {all})"
+            )?;
+        }
+    }
+    Ok(())
+}
+
+fn main(rt: HostRuntime) -> Result<()> {
+    for word in env::args(&rt)? {
+        if word.as_str() == "run" {
+            run(&rt)?;
+        }
+    }
+    Ok(())
+}

@@ -1,0 +1,45 @@
+//! Control files as they are sent.
+
+ghost use Rattle.std.specs.Prelude.{◌≡◌, [], ◌∷◌, ◌++◌, IfOk, OnOk};
+ghost use Rattle.control_file.specs.Written.{control_text, print_lines};
+ghost use Rattle.control_file.specs.View.{contents};
+
+use crate::control::Control;
+use crate::names::FileNames;
+use lpd_commands::Octets;
+use std::alloc::{AllocError, Global};
+
+/// Puts a line of this letter and operand, with its LF, at the end of the text.
+fn put_line(text: &mut Vec<u8>, letter: u8, operand: &[u8]) -> Result<(), AllocError>
+    ensures { OnOk result (text.new.items ≡ text.old.items ++ letter ∷ (operand.now ++ 10 ∷ [])) }
+{
+    text.push(letter)?;
+    text.extend_from_slice(operand)?;
+    text.push(b'\n')?;
+    Ok(())
+}
+
+/// Puts a line that prints the file, for each name, at the end of the text.
+fn put_prints(text: &mut Vec<u8>, names: &FileNames) -> Result<(), AllocError>
+    ensures { OnOk result (text.new.items ≡ text.old.items ++ print_lines names.now) }
+{
+    for name in names.as_slice() {
+        put_line(text, b'f', name.octets())?;
+    }
+    Ok(())
+}
+
+impl Control {
+    /// The text of the control file: a line for the host, a line for the user, and a line with `f` for each name, each with
+    /// its LF (RFC 1179, section 7). It is read back as an equal control file under a name with its number, where it has at
+    /// most 8,192 octets.
+    pub fn write(&self, alloc: Global) -> Result<Octets, AllocError>
+        ensures { IfOk result (λ text. text ≡ control_text (contents self.now)) }
+    {
+        let mut text = Vec::new(alloc);
+        put_line(&mut text, b'H', self.host.as_slice())?;
+        put_line(&mut text, b'P', self.user.as_slice())?;
+        put_prints(&mut text, &self.prints)?;
+        Ok(Octets::from_vec(text))
+    }
+}

@@ -1,0 +1,186 @@
+ghost use Rattle.std.specs.Prelude.{◌≡◌, ℕ, ◌+◌, ◌<◌, ◌^◌, ◌↔◌, IsTrue, IsOk, IfOk, OnOk, OnErr, length, replicate, slice_set};
+ghost use Rattle.counts.specs.Amounts.{amount, Fits, sum_of, rest_of};
+
+use std::alloc::{AllocError, Global};
+use std::error::Error;
+use std::fmt;
+use std::marker::Model;
+
+/// Amounts, one for each kind of resource. Contracts see the list of them.
+#[derive(Debug, Drop)]
+pub struct Counts {
+    amounts: Vec<u32>,
+}
+
+impl Model for Counts {
+    ghost use Rattle.std.specs.Prelude.{List, ℕ};
+
+    ghost Value = { List ℕ };
+
+    ghost view = { λ c. c.amounts.items };
+}
+
+/// A sum of two amounts of one kind that is over 4,294,967,295.
+#[derive(Clone, Copy, Debug, PartialEq, Eq)]
+pub struct TooLarge;
+
+impl fmt::Display for TooLarge {
+    fn fmt<W: fmt::Write>(&self, f: &mut fmt::Formatter<W>) -> fmt::Result {
+        f.write_str("23 TooLarge")
+    }
+}
+
+impl Error for TooLarge {}
+
+impl Counts {
+    /// Nothing of each of so many kinds.
+    pub fn zero(alloc: Global, kinds: usize) -> Result<Counts, AllocError>
+        ensures { IfOk result (λ c. c ≡ replicate kinds 0) }
+    {
+        Ok(Counts {
+            amounts: vec![in alloc; 0; kinds]?,
+        })
+    }
+
+    /// How many kinds there are.
+    pub fn kinds(&self) -> usize
+        ensures kinds { result ≡ length self.now }
+        ensures small { (kind : ℕ) → amount self.now kind < 2 ^ 32 }
+    {
+        are_small(self.amounts.as_slice());
+        self.amounts.len()
+    }
+
+    /// The amounts by kind.
+    pub fn as_slice(&self) -> &[u32]
+        ensures { result.now ≡ self.now }
+    {
+        self.amounts.as_slice()
+    }
+
+    /// How much there is of a kind.
+    pub fn get(&self, kind: usize) -> u32
+        requires { kind < length self.now }
+        ensures { result ≡ amount self.now kind }
+    {
+        self.as_slice()[kind]
+    }
+
+    /// Makes this the amount of a kind.
+    pub fn set(&mut self, kind: usize, amount: u32)
+        requires { kind < length self.old }
+        ensures { self.new ≡ slice_set self.old kind amount }
+    {
+        self.amounts[kind] = amount;
+    }
+
+    /// Whether no amount is more than the other's.
+    pub fn le(&self, other: &Counts) -> bool
+        requires { length self.now ≡ length other.now }
+        ensures { IsTrue result ↔ Fits self.now (amount other.now) }
+    {
+        fits(self.amounts.as_slice(), other.amounts.as_slice())
+    }
+
+    /// Adds each amount of the other.
+    pub fn add(&mut self, more: &Counts)
+        requires kinds { length more.now ≡ length self.old }
+        requires room { (kind : ℕ) → amount self.old kind + amount more.now kind < 2 ^ 32 }
+        ensures { self.new ≡ sum_of self.old more.now }
+    {
+        add_each(self.amounts.as_mut_slice(), more.amounts.as_slice());
+    }
+
+    /// Adds each amount of the other, where all sums are at most 4,294,967,295. Otherwise
+    /// nothing changes.
+    pub fn try_add(&mut self, more: &Counts) -> Result<(), TooLarge>
+        requires { length more.now ≡ length self.old }
+        ensures fits { IsOk result ↔ ((kind : ℕ) → amount self.old kind + amount more.now kind < 2 ^ 32) }
+        ensures sum { OnOk result (self.new ≡ sum_of self.old more.now) }
+        ensures unchanged { OnErr result (self.new ≡ self.old) }
+    {
+        if !has_room(self.amounts.as_slice(), more.amounts.as_slice()) {
+            return Err(TooLarge);
+        }
+        add_each(self.amounts.as_mut_slice(), more.amounts.as_slice());
+        Ok(())
+    }
+
+    /// Takes each amount of the other away.
+    pub fn sub(&mut self, less: &Counts)
+        requires kinds { length less.now ≡ length self.old }
+        requires enough { Fits less.now (amount self.old) }
+        ensures { self.new ≡ rest_of self.old less.now }
+    {
+        take_each(self.amounts.as_mut_slice(), less.amounts.as_slice());
+    }
+
+    /// Becomes equal to the other.
+    pub fn copy_from(&mut self, other: &Counts)
+        requires { length other.now ≡ length self.old }
+        ensures { self.new ≡ other.now }
+    {
+        self.amounts
+            .as_mut_slice()
+            .copy_from_slice(other.amounts.as_slice());
+    }
+
+    /// Equal amounts of their own.
+    pub fn copy(&self, alloc: Global) -> Result<Counts, AllocError>
+        ensures { IfOk result (λ c. c ≡ self.now) }
+    {
+        let mut copied = Counts::zero(alloc, self.kinds())?;
+        copied.copy_from(self);
+        Ok(copied)
+    }
+}
+
+/// Numbers of this type are below its limit.
+fn are_small(amounts: &[u32])
+    ensures { (kind : ℕ) → amount amounts.now kind < 2 ^ 32 }
+{}
+
+fn fits(need: &[u32], free: &[u32]) -> bool
+    requires { length need.now ≡ length free.now }
+    ensures { IsTrue result ↔ Fits need.now (amount free.now) }
+{
+    for k in 0..need.len() {
+        if need[k] > free[k] {
+            return false;
+        }
+    }
+    true
+}
+
+/// Whether each sum is an amount.
+fn has_room(amounts: &[u32], more: &[u32]) -> bool
+    requires { length more.now ≡ length amounts.now }
+    ensures { IsTrue result ↔ ((kind : ℕ) → amount amounts.now kind + amount more.now kind < 2 ^ 32) }
+{
+    for k in 0..more.len() {
+        if amounts[k].checked_add(more[k]).is_none() {
+            return false;
+        }
+    }
+    true
+}
+
+fn add_each(sums: &mut [u32], more: &[u32])
+    requires kinds { length more.now ≡ length sums.old }
+    requires room { (kind : ℕ) → amount sums.old kind + amount more.now kind < 2 ^ 32 }
+    ensures { sums.new ≡ sum_of sums.old more.now }
+{
+    for k in 0..more.len() {
+        sums[k] += more[k];
+    }
+}
+
+fn take_each(rests: &mut [u32], less: &[u32])
+    requires kinds { length less.now ≡ length rests.old }
+    requires enough { Fits less.now (amount rests.old) }
+    ensures { rests.new ≡ rest_of rests.old less.now }
+{
+    for k in 0..less.len() {
+        rests[k] -= less[k];
+    }
+}

@@ -1,0 +1,20 @@
+-- What readers and writers tell of their octets.
+use Rattle.std.specs.Prelude.{◌≡◌, ◌<◌, ◌+◌, ◌-◌, ◌^◌, ◌++◌, ℕ, List, [], Option, Some, None, length, take, drop, min}
+
+-- one more, up to the last value of a u64
+abbrev pub one_more : ℕ → ℕ
+one_more n = min (n + 1) (2 ^ 64 - 1)
+
+-- a read of these octets: they are the next ones; though there is room, there are none only where nothing is left
+abbrev pub Reads : Option (List ℕ) → Option (List ℕ) → List ℕ → ℕ → Type 0
+Reads None rest got room = rest ≡ None
+Reads (Some old) rest got room = (old ≡ got ++ drop (length got) old) × (rest ≡ Some (drop (length got) old)) × (got ≡ [] → 0 < room → old ≡ [])
+
+-- these octets were written
+abbrev pub Writes : Option (List ℕ) → Option (List ℕ) → List ℕ → Type 0
+Writes None now octets = now ≡ None
+Writes (Some old) now octets = now ≡ Some (old ++ octets)
+
+-- some octets from the head were written
+abbrev pub WritesSome : Option (List ℕ) → Option (List ℕ) → List ℕ → Type 0
+WritesSome old now octets = (n : ℕ) × Writes old now (take n octets)

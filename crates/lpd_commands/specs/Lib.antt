@@ -1,0 +1,11 @@
+pub mod Ends
+pub mod Given
+pub mod Kinds
+pub mod Layout
+pub mod Laws
+pub mod Line
+pub mod Name
+pub mod Pieces
+pub mod Plain
+pub mod Refusals
+pub mod Written

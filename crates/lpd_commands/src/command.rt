@@ -1,0 +1,101 @@
+//! Command lines.
+
+ghost use Rattle.std.specs.Prelude.{◌≡◌};
+ghost use Rattle.lpd_commands.specs.Line.{command_at, command_of, command_with, removal, words_of};
+ghost use Rattle.lpd_commands.specs.Given.{Gives};
+ghost use Rattle.lpd_commands.specs.Layout.{AnswersCommand};
+
+use crate::octets::{Octets, Words};
+use crate::refusal::Refusal;
+use crate::words::{MAX_LINE, is_worded, next_word, words_in};
+use std::alloc::Global;
+
+/// What a connection asks for first (RFC 1179, section 5).
+#[derive(Debug, Drop)]
+pub enum Command {
+    /// Starts the stopped printers of the queue.
+    PrintWaiting {
+        queue: Octets,
+    },
+    /// Receives jobs for the queue.
+    Receive {
+        queue: Octets,
+    },
+    /// Tells the state of the queue, of the listed jobs and users alone where there are any.
+    State {
+        queue: Octets,
+        list: Words,
+        long: bool,
+    },
+    /// Removes the listed jobs for the agent.
+    Remove {
+        queue: Octets,
+        agent: Octets,
+        list: Words,
+    },
+}
+
+/// The removal from this queue that the words of the text ask for, the agent first.
+fn parse_removal(alloc: Global, queue: &[u8], text: &[u8]) -> Result<Command, Refusal>
+    ensures { Gives result (removal queue.now (words_of text.now)) }
+{
+    let Some((agent, list)) = next_word(text) else {
+        return Err(Refusal::BadLine);
+    };
+    Ok(Command::Remove {
+        queue: Octets::copy_of(alloc, queue)?,
+        agent: Octets::copy_of(alloc, agent)?,
+        list: words_in(alloc, list)?,
+    })
+}
+
+/// The command of a code from 1 to 5 and a text that begins with a word.
+fn parse_words(alloc: Global, code: u8, text: &[u8]) -> Result<Command, Refusal>
+    ensures { Gives result (command_with code (words_of text.now)) }
+{
+    let Some((queue, rest)) = next_word(text) else {
+        return Err(Refusal::BadLine);
+    };
+    match code {
+        1 => Ok(Command::PrintWaiting {
+            queue: Octets::copy_of(alloc, queue)?,
+        }),
+        2 => Ok(Command::Receive {
+            queue: Octets::copy_of(alloc, queue)?,
+        }),
+        3 | 4 => Ok(Command::State {
+            queue: Octets::copy_of(alloc, queue)?,
+            list: words_in(alloc, rest)?,
+            long: code == 4,
+        }),
+        _ => parse_removal(alloc, queue, rest),
+    }
+}
+
+/// The command of a line that isn't too long.
+fn parse_short(alloc: Global, line: &[u8]) -> Result<Command, Refusal>
+    ensures { Gives result (command_at line.now) }
+{
+    let Some((code, rest)) = line.split_first() else {
+        return Err(Refusal::BadCode);
+    };
+    if *code == 0 || *code > 5 {
+        return Err(Refusal::BadCode);
+    }
+    if !is_worded(rest) {
+        return Err(Refusal::BadLine);
+    }
+    parse_words(alloc, *code, rest)
+}
+
+/// The command of a line without its LF, or the first refusal that fits: `LineTooLong`, `BadCode`, `BadLine`, and then
+/// `Memory` (RFC 1179, section 5).
+pub fn parse_command(alloc: Global, line: &[u8]) -> Result<Command, Refusal>
+    ensures value { Gives result (command_of line.now) }
+    ensures layout { AnswersCommand line.now result }
+{
+    if line.len() > MAX_LINE {
+        return Err(Refusal::LineTooLong);
+    }
+    parse_short(alloc, line)
+}

@@ -1,0 +1,120 @@
+//! Subcommand lines.
+
+ghost use Rattle.std.specs.Prelude.{◌≡◌, ◌⊎◌, [], ◌∷◌, MatchOption, MatchResult, true, false, if◌then◌else◌};
+ghost use Rattle.lpd_commands.specs.Name.{is_control_name, is_data_name};
+ghost use Rattle.lpd_commands.specs.Layout.{MeansSub, RefusesSub};
+ghost use Rattle.lpd_commands.specs.Line.{is_count, count_of, words_of, file_of, file_with, sub_at, sub_of};
+
+use crate::kinds::{all_spaces, is_digit};
+use crate::name::FileName;
+use crate::refusal::Refusal;
+use crate::words::{MAX_LINE, is_worded, next_word};
+
+/// What a connection that receives jobs asks for (RFC 1179, section 6).
+#[derive(Clone, Copy, Debug)]
+pub enum Sub {
+    /// Aborts the job in hand.
+    Abort,
+    /// A control file of `count` octets follows.
+    ControlFile { count: u64, name: FileName },
+    /// A data file of `count` octets follows.
+    DataFile { count: u64, name: FileName },
+}
+
+/// The number that 1 to 19 decimal digits are.
+fn read_count(digits: &[u8]) -> Option<u64>
+    ensures { MatchOption result (is_count digits.now ≡ false) (λ n. (is_count digits.now ≡ true) × (n ≡ count_of digits.now)) }
+{
+    if digits.is_empty() || digits.len() > 19 {
+        return None;
+    }
+    let mut count = 0;
+    for digit in digits {
+        if !is_digit(*digit) {
+            return None;
+        }
+        count = 10 * count + u64::from(*digit - b'0');
+    }
+    Some(count)
+}
+
+fn control_file(count: u64, name: &[u8]) -> Result<Sub, Refusal>
+    ensures { result ≡ (if is_control_name name.now then Ok (Sub.ControlFile count name.now) else Err Refusal.BadName) }
+{
+    let name = FileName::read(name)?;
+    if !name.is_control() {
+        return Err(Refusal::BadName);
+    }
+    Ok(Sub::ControlFile { count, name })
+}
+
+fn data_file(count: u64, name: &[u8]) -> Result<Sub, Refusal>
+    ensures { result ≡ (if is_data_name name.now then Ok (Sub.DataFile count name.now) else Err Refusal.BadName) }
+{
+    let name = FileName::read(name)?;
+    if name.is_control() {
+        return Err(Refusal::BadName);
+    }
+    Ok(Sub::DataFile { count, name })
+}
+
+/// The file subcommand of this code, 2 or 3, and these words.
+pub(crate) fn parse_named(code: u8, count: &[u8], name: &[u8]) -> Result<Sub, Refusal>
+    requires { (code ≡ 2) ⊎ (code ≡ 3) }
+    ensures { result ≡ file_with code count.now name.now }
+{
+    let Some(count) = read_count(count) else {
+        return Err(Refusal::BadCount);
+    };
+    if code == 2 {
+        return control_file(count, name);
+    }
+    if count == 0 {
+        return Err(Refusal::BadCount);
+    }
+    data_file(count, name)
+}
+
+fn parse_file(code: u8, text: &[u8]) -> Result<Sub, Refusal>
+    requires { (code ≡ 2) ⊎ (code ≡ 3) }
+    ensures { result ≡ file_of code (words_of text.now) }
+{
+    let Some((count, rest)) = next_word(text) else {
+        return Err(Refusal::BadLine);
+    };
+    let Some((name, rest)) = next_word(rest) else {
+        return Err(Refusal::BadLine);
+    };
+    if next_word(rest).is_some() {
+        return Err(Refusal::BadLine);
+    }
+    parse_named(code, count, name)
+}
+
+/// The subcommand of a line that isn't too long.
+fn parse_short(line: &[u8]) -> Result<Sub, Refusal>
+    ensures { result ≡ sub_at line.now }
+{
+    let Some((code, rest)) = line.split_first() else {
+        return Err(Refusal::BadCode);
+    };
+    match *code {
+        1 if all_spaces(rest) => Ok(Sub::Abort),
+        1 => Err(Refusal::BadLine),
+        2 | 3 if is_worded(rest) => parse_file(*code, rest),
+        2 | 3 => Err(Refusal::BadLine),
+        _ => Err(Refusal::BadCode),
+    }
+}
+
+/// The subcommand of a line without its LF, or the first refusal that fits: `LineTooLong`, `BadCode`, `BadLine`,
+/// `BadCount`, `BadName` (RFC 1179, section 6).
+pub fn parse_sub(line: &[u8]) -> Result<Sub, Refusal>
+    ensures value { result ≡ sub_of line.now }
+    ensures layout { MatchResult result (MeansSub line.now) (RefusesSub line.now) }
+{
+    if line.len() > MAX_LINE {
+        return Err(Refusal::LineTooLong);
+    }
+    parse_short(line)
+}

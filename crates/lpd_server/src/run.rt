@@ -1,0 +1,198 @@
+//! The main job: a configuration and a script in, acknowledgements and pages out.
+
+ghost use Rattle.std.specs.Prelude.{◌≤◌, length};
+
+use crate::fault::Fault;
+use crate::script::{LineFault, ScriptLine, parse_line};
+use crate::settings;
+use crate::world::{Stop, Told, World, Wrote};
+use spool_core::Printed;
+use std::alloc::Global;
+use std::io::{Read, Write};
+
+/// Reads a configuration, a line `%%` and a script from the input, and runs the script.
+///
+/// Where no such line comes, the script is empty. What is answered is the exit status: 0 when the script was run, 2
+/// where the configuration can't be used, 3 where a line of the script can't be run, 4 where memory, the input or the
+/// output failed. Any but 0 comes with one line for the fault.
+pub fn run_input<R: Read, W: Write, E: Write>(
+    alloc: Global,
+    input: &mut R,
+    output: &mut W,
+    faults: &mut E,
+) -> u8 {
+    match run_all(alloc, input, output) {
+        Ok(()) => 0,
+        Err(fault) => {
+            let _ = writeln!(faults, "{fault}");
+            fault.status()
+        }
+    }
+}
+
+fn run_all<R: Read, W: Write>(alloc: Global, input: &mut R, output: &mut W) -> Result<(), Fault> {
+    let all = read_all(alloc, input)?;
+    let (config, script) = parts(all.as_slice());
+    let config = settings::read(alloc, config)?;
+    let mut world = World::new(alloc, config)?;
+    let mut number = 0u64;
+    for line in script.split(|octet| *octet == b'\n') {
+        number = number.saturating_add(1);
+        run_line(alloc, &mut world, line, number, output)?;
+    }
+    Ok(())
+}
+
+/// All octets of the input, by at most 4,294,967,295 reads.
+fn read_all<R: Read>(alloc: Global, input: &mut R) -> Result<Vec<u8>, Fault> {
+    let mut all = Vec::new(alloc);
+    let mut buffer = [0u8; 4096];
+    for _ in 0..u32::MAX {
+        match input.read(&mut buffer) {
+            Ok(0) => return Ok(all),
+            Ok(count) => all.extend_from_slice(&buffer[..count])?,
+            Err(_) => return Err(Fault::ReadFile),
+        }
+    }
+    Err(Fault::ReadFile)
+}
+
+/// Where the line that begins at `start` ends: at its LF, or with the text.
+fn line_end(text: &[u8], start: usize) -> usize
+    requires { start ≤ length text.now }
+    ensures low { start ≤ result }
+    ensures high { result ≤ length text.now }
+{
+    let rest = &text[start..];
+    match rest.iter().position(|octet| *octet == b'\n') {
+        Some(at) => start + at,
+        None => text.len(),
+    }
+}
+
+/// What stands before the first line `%%`, and what stands after it.
+fn parts(text: &[u8]) -> (&[u8], &[u8]) {
+    let mut start = 0;
+    while start < text.len() {
+        let end = line_end(text, start);
+        let next = if end < text.len() { end + 1 } else { end };
+        if &text[start..end] == b"%%".as_slice() {
+            return (&text[..start], &text[next..]);
+        }
+        if end == text.len() {
+            break;
+        }
+        start = next;
+    }
+    (text, &text[text.len()..])
+}
+
+/// Runs one line of the script, and prints what it came to.
+fn run_line<W: Write>(
+    alloc: Global,
+    world: &mut World,
+    line: &[u8],
+    number: u64,
+    output: &mut W,
+) -> Result<(), Fault> {
+    let line = match parse_line(alloc, line) {
+        Ok(line) => line,
+        Err(LineFault::Bad) => return Err(Fault::BadScript(number)),
+        Err(LineFault::Memory) => return Err(Fault::Memory),
+    };
+    match line {
+        ScriptLine::Nothing => Ok(()),
+        ScriptLine::Connect if !world.is_connected() => connect(world, output),
+        ScriptLine::Send { session, octets } if world.has_session(session) => {
+            send(alloc, world, octets.as_slice(), output)
+        }
+        ScriptLine::Go { session } if world.has_session(session) => {
+            send(alloc, world, &[], output)
+        }
+        ScriptLine::Break { session } if world.has_session(session) => break_off(world, output),
+        ScriptLine::Next { printer } if world.has_printer(printer) => {
+            next(alloc, world, printer, output)
+        }
+        ScriptLine::Printed { printer } if world.has_printer(printer) => {
+            printed(world, printer, output)
+        }
+        ScriptLine::Free => {
+            let free = world.free();
+            writeln!(output, "free {free}").map_err(|_| Fault::WriteFile)
+        }
+        _ => Err(Fault::BadScript(number)),
+    }
+}
+
+/// A host connects.
+fn connect<W: Write>(world: &mut World, output: &mut W) -> Result<(), Fault> {
+    world.connect()?;
+    writeln!(output, "session 1").map_err(|_| Fault::WriteFile)
+}
+
+/// Octets arrive for the session, which goes on as far as it can.
+fn send<W: Write>(
+    alloc: Global,
+    world: &mut World,
+    octets: &[u8],
+    output: &mut W,
+) -> Result<(), Fault> {
+    if !world.is_open() {
+        return writeln!(output, "1: gone").map_err(|_| Fault::WriteFile);
+    }
+    world.arrive(octets)?;
+    let Wrote { octets, stop } = world.go()?;
+    let wrote = hex::encode(alloc, octets.as_slice())?;
+    let text = if octets.is_empty() {
+        "-"
+    } else {
+        wrote.as_str()
+    };
+    let end = match stop {
+        Stop::Waiting => "",
+        Stop::Later => " later",
+        Stop::Ended => " ended",
+    };
+    writeln!(output, "1: {text}{end}").map_err(|_| Fault::WriteFile)
+}
+
+/// The session's connection breaks.
+fn break_off<W: Write>(world: &mut World, output: &mut W) -> Result<(), Fault> {
+    let told = if world.is_open() { "broken" } else { "gone" };
+    world.break_off();
+    writeln!(output, "1: {told}").map_err(|_| Fault::WriteFile)
+}
+
+/// A printer asks for its next page.
+fn next<W: Write>(
+    alloc: Global,
+    world: &mut World,
+    printer: u32,
+    output: &mut W,
+) -> Result<(), Fault> {
+    let told = world.next(printer);
+    let written = match (told, world.page_at(printer)) {
+        (Told::Handed, Some(page)) => {
+            let octets = hex::encode(alloc, page.bytes())?;
+            let job = page.job();
+            let place = page.place();
+            writeln!(
+                output,
+                "printer {printer}: job {job} place {place} {octets}"
+            )
+        }
+        (Told::Busy, _) => writeln!(output, "printer {printer}: busy"),
+        _ => writeln!(output, "printer {printer}: nothing"),
+    };
+    written.map_err(|_| Fault::WriteFile)
+}
+
+/// A printer has printed its page.
+fn printed<W: Write>(world: &mut World, printer: u32, output: &mut W) -> Result<(), Fault> {
+    let told = match world.printed(printer) {
+        Some(Printed::Going) => "going",
+        Some(Printed::Done) => "done",
+        None => "no page",
+    };
+    writeln!(output, "printer {printer}: {told}").map_err(|_| Fault::WriteFile)
+}

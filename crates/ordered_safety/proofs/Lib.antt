@@ -1,0 +1,3 @@
+pub mod Orders
+pub mod Picks
+pub mod Turns

@@ -1,0 +1,25 @@
+use Rattle.std.proofs.Common.{◌≡◌, ℕ, ◌<◌, ◌≤◌, ◌+◌, ◌*◌, List, ◌++◌, length}
+use Rattle.std.specs.Prelude.{All, vec_len, vec_capacity}
+use Rattle.counts.specs.Amounts.{amount}
+use Rattle.claims.specs.Claims.{Pairwise, IsLower}
+use Rattle.ordered_safety.specs.Safety.{HasFinishingOrder, AreFinishing}
+use Rattle.ordered_safety.specs.Scan.{rows_at, StaysSmall}
+use Rattle.ordered_safety.proofs.scan.scan.Given as goal
+
+abbrev pub invariant-turns : goal.invariant-turns
+invariant-turns l = record {
+  rising : Pairwise IsLower (rows_at l.rows l.left.items);
+  there : All (λ j. j < length l.rows) l.left.items;
+  small : StaysSmall l.free (rows_at l.rows l.left.items);
+  kinds : length l.free ≡ length l.fn.free;
+  only : (numbers : List ℕ) → AreFinishing (amount l.free) (rows_at l.rows l.left.items) numbers → AreFinishing (amount l.fn.free) l.rows (l.order.items ++ numbers);
+  still : HasFinishingOrder (amount l.fn.free) l.rows → HasFinishingOrder (amount l.free) (rows_at l.rows l.left.items);
+  most : 2 * l.tests + length l.left.items * (length l.left.items + 1) ≤ length l.rows * (length l.rows + 1);
+  least : length l.order.items ≤ l.tests;
+  all : length l.order.items + length l.left.items ≡ length l.rows;
+  left : vec_capacity l.fn.left ≤ vec_capacity l.left;
+  room : vec_capacity l.fn.order ≤ vec_capacity l.order;
+}
+
+abbrev pub decreases-turns : goal.decreases-turns
+decreases-turns l = vec_len l.left

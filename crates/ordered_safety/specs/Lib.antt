@@ -1,0 +1,4 @@
+pub mod Safety
+pub mod Changed
+pub mod Scan
+pub mod Room

@@ -1,0 +1,60 @@
+ghost use Rattle.std.specs.Prelude.{◌≡◌, ℕ, ◌<◌, ◌≤◌, ◌^◌, ◌↔◌, IsTrue, IfSome, IfNone, length, vec_capacity, All};
+ghost use Rattle.counts.specs.Amounts.{amount};
+ghost use Rattle.claims.specs.Claims.{IsLower, Pairwise, HaveKinds};
+ghost use Rattle.ordered_safety.specs.Safety.{AreFinishing};
+ghost use Rattle.ordered_safety.specs.Scan.{HasTurn, StaysSmall};
+
+use crate::rows::Rows;
+use crate::scan::{fill, is_head};
+use crate::scratch::Verdict;
+use counts::Counts;
+
+/// Where among these places the row with this number stands, if no earlier row that is left is of
+/// its sender and queue.
+fn turn_of(rows: &Rows, left: &[usize], number: u64) -> Option<usize>
+    requires there { All (λ j. j < length rows.now) left.now }
+    ensures found { IfSome result (HasTurn rows.now left.now number) }
+    ensures none { IfNone result ((at : ℕ) → HasTurn rows.now left.now number at → ⊥) }
+{
+    for at in 0..left.len() {
+        let place = left[at];
+        if rows.get(place).number == number && is_head(rows, &left[..at], place) {
+            return Some(at);
+        }
+    }
+    None
+}
+
+/// Whether these are the numbers of all rows in a finishing order. It stops at the first that can't
+/// be next, and counts a comparison for it only where its need was compared.
+pub fn follow(rows: &Rows, left: &mut Vec<usize>, free: &mut Counts, numbers: &[u64]) -> Verdict
+    requires kinds { HaveKinds (length free.old) rows.now }
+    requires few { length rows.now < 2 ^ 32 }
+    requires small { StaysSmall free.old rows.now }
+    requires rising { Pairwise IsLower rows.now }
+    requires left { length rows.now ≤ vec_capacity left.old }
+    ensures exact { IsTrue result.safe ↔ AreFinishing (amount free.old) rows.now numbers.now }
+    ensures most { result.tests ≤ length rows.now }
+    ensures each { IsTrue result.safe → result.tests ≡ length rows.now }
+    ensures left { vec_capacity left.old ≤ vec_capacity left.new }
+    ensures same { length free.new ≡ length free.old }
+{
+    fill(left, rows.len());
+    let mut tests = 0;
+    'numbers: for &number in numbers {
+        let Some(at) = turn_of(rows, left.as_slice(), number) else {
+            return Verdict { safe: false, tests };
+        };
+        let row = rows.get(left[at]);
+        tests += 1;
+        if !row.need.le(free) {
+            return Verdict { safe: false, tests };
+        }
+        left.remove(at);
+        free.add(&row.held);
+    }
+    Verdict {
+        safe: left.is_empty(),
+        tests,
+    }
+}

@@ -1,0 +1,132 @@
+ghost use Rattle.std.specs.Prelude.{◌≡◌, ◌+◌, ◌*◌, ◌<◌, ◌≤◌, ◌^◌, ◌↔◌, false, IsTrue, IfOk, MatchOption, IfSome, IfNone, length};
+ghost use Rattle.counts.specs.Amounts.{amount};
+ghost use Rattle.claims.specs.Claims.{row_at};
+ghost use Rattle.claims.specs.Changes.{granted, granted_row};
+ghost use Rattle.ordered_safety.specs.Safety.{IsSafe, FinishesBy};
+
+use crate::follow::follow;
+use crate::order::Order;
+use crate::rows::Rows;
+use crate::scan::scan;
+use crate::scratch::{Scratch, Verdict};
+use claims::{Row, Table};
+use std::alloc::{AllocError, Global};
+
+/// The kind of resource that is pages.
+pub const PAGES: usize = 0;
+
+/// Whether a finishing order exists. With n rows it takes at most n * (n + 1) / 2 comparisons.
+pub fn is_safe(scratch: &mut Scratch, table: &Table) -> Verdict
+    requires rows { length table.now.rows ≤ scratch.old.rows }
+    requires kinds { length table.now.capacity ≡ scratch.old.kinds }
+    ensures exact { IsTrue result.safe ↔ IsSafe table.now }
+    ensures most { 2 * result.tests ≤ length table.now.rows * (length table.now.rows + 1) }
+    ensures each { IsTrue result.safe → length table.now.rows ≤ result.tests }
+    ensures some { result.safe ≡ false → 0 < result.tests }
+    ensures kept { scratch.new ≡ scratch.old }
+{
+    scratch.free.copy_from(table.free());
+    let rows = Rows::plain(table.rows());
+    scan(
+        &rows,
+        &mut scratch.left,
+        &mut scratch.free,
+        &mut scratch.order,
+    )
+}
+
+/// Whether a finishing order exists once this row holds one page more and needs one less, and one
+/// less is free. With n rows it takes at most n * (n + 1) / 2 comparisons.
+pub fn safe_after_page(scratch: &mut Scratch, table: &Table, row: usize) -> Verdict
+    requires rows { length table.now.rows ≤ scratch.old.rows }
+    requires kinds { length table.now.capacity ≡ scratch.old.kinds }
+    requires here { row < length table.now.rows }
+    requires free { 0 < amount table.now.free PAGES }
+    requires needed { 0 < amount (row_at table.now.rows row).need PAGES }
+    ensures exact { IsTrue result.safe ↔ IsSafe (granted table.now row PAGES) }
+    ensures most { 2 * result.tests ≤ length table.now.rows * (length table.now.rows + 1) }
+    ensures each { IsTrue result.safe → length table.now.rows ≤ result.tests }
+    ensures some { result.safe ≡ false → 0 < result.tests }
+    ensures kept { scratch.new ≡ scratch.old }
+{
+    let free = table.free();
+    scratch.free.copy_from(free);
+    scratch.free.set(PAGES, free.get(PAGES) - 1);
+    let rows = table.rows();
+    copy_with_page(&rows[row], &mut scratch.asking);
+    let rows = Rows::with(rows, row, &scratch.asking);
+    scan(
+        &rows,
+        &mut scratch.left,
+        &mut scratch.free,
+        &mut scratch.order,
+    )
+}
+
+/// Whether these are the numbers of all rows in a finishing order. It stops at the first row that
+/// doesn't fit, and takes at most as many comparisons as there are rows.
+pub fn check_order(scratch: &mut Scratch, table: &Table, order: &Order) -> Verdict
+    requires rows { length table.now.rows ≤ scratch.old.rows }
+    requires kinds { length table.now.capacity ≡ scratch.old.kinds }
+    ensures exact { IsTrue result.safe ↔ FinishesBy table.now order.now }
+    ensures most { result.tests ≤ length table.now.rows }
+    ensures each { IsTrue result.safe → result.tests ≡ length table.now.rows }
+    ensures kept { scratch.new ≡ scratch.old }
+{
+    scratch.free.copy_from(table.free());
+    let rows = Rows::plain(table.rows());
+    follow(
+        &rows,
+        &mut scratch.left,
+        &mut scratch.free,
+        order.as_slice(),
+    )
+}
+
+/// A finishing order, if there is one, and how many comparisons it took to find or exclude it: with
+/// n rows at most n * (n + 1) / 2.
+pub fn find_order(
+    alloc: Global,
+    scratch: &mut Scratch,
+    table: &Table,
+) -> Result<(Option<Order>, u64), AllocError>
+    requires rows { length table.now.rows ≤ scratch.old.rows }
+    requires kinds { length table.now.capacity ≡ scratch.old.kinds }
+    ensures exact { IfOk result (λ found. MatchOption found.0 (IsSafe table.now → ⊥) (FinishesBy table.now)) }
+    ensures most { IfOk result (λ found. 2 * found.1 ≤ length table.now.rows * (length table.now.rows + 1)) }
+    ensures each { IfOk result (λ found. IfSome found.0 (λ _. length table.now.rows ≤ found.1)) }
+    ensures some { IfOk result (λ found. IfNone found.0 (0 < found.1)) }
+    ensures kept { scratch.new ≡ scratch.old }
+{
+    scratch.free.copy_from(table.free());
+    let rows = Rows::plain(table.rows());
+    let verdict = scan(
+        &rows,
+        &mut scratch.left,
+        &mut scratch.free,
+        &mut scratch.order,
+    );
+    if !verdict.safe {
+        return Ok((None, verdict.tests));
+    }
+    let order = Order::copy_of(alloc, scratch.order.as_slice())?;
+    Ok((Some(order), verdict.tests))
+}
+
+/// Makes `asking` the row as it is once it holds one page more and needs one less.
+fn copy_with_page(row: &Row, asking: &mut Row)
+    requires held { length asking.old.held ≡ length row.now.held }
+    requires need { length asking.old.need ≡ length row.now.need }
+    requires pages { (PAGES < length row.now.held) × (PAGES < length row.now.need) }
+    requires room { amount row.now.held PAGES + 1 < 2 ^ 32 }
+    requires needed { 0 < amount row.now.need PAGES }
+    ensures { asking.new ≡ granted_row PAGES row.now }
+{
+    asking.number = row.number;
+    asking.sender = row.sender;
+    asking.queue = row.queue;
+    asking.held.copy_from(&row.held);
+    asking.held.set(PAGES, row.held.get(PAGES) + 1);
+    asking.need.copy_from(&row.need);
+    asking.need.set(PAGES, row.need.get(PAGES) - 1);
+}

@@ -1,0 +1,112 @@
+ghost use Rattle.std.specs.Prelude.{◌≡◌, ℕ, ◌+◌, ◌*◌, ◌<◌, ◌≤◌, ◌^◌, ◌↔◌, false, IsTrue, IfSome, IfNone, length, slice_index, vec_capacity, All};
+ghost use Rattle.counts.specs.Amounts.{amount};
+ghost use Rattle.claims.specs.Claims.{IsLower, Pairwise, HaveKinds};
+ghost use Rattle.ordered_safety.specs.Safety.{HasFinishingOrder, AreFinishing};
+ghost use Rattle.ordered_safety.specs.Scan.{IsHead, MayGoAt, StaysSmall, rows_at};
+
+use crate::rows::Rows;
+use crate::scratch::Verdict;
+use counts::Counts;
+
+/// What may go next, and how often a need was compared.
+#[derive(Clone, Copy)]
+struct Choice {
+    at: Option<usize>,
+    tests: u64,
+}
+
+/// Whether none of the rows at these places is of the row's sender and queue.
+pub fn is_head(rows: &Rows, earlier: &[usize], place: usize) -> bool
+    requires here { place < length rows.now }
+    requires there { All (λ j. j < length rows.now) earlier.now }
+    ensures { IsTrue result ↔ IsHead rows.now earlier.now place }
+{
+    let row = rows.get(place);
+    for &j in earlier {
+        let other = rows.get(j);
+        if row.sender == other.sender && row.queue == other.queue {
+            return false;
+        }
+    }
+    true
+}
+
+/// The first of these places whose row may go now: its need fits, and no earlier row that is left
+/// is of its sender and queue.
+fn pick(rows: &Rows, left: &[usize], free: &Counts) -> Choice
+    requires kinds { HaveKinds (length free.now) rows.now }
+    requires there { All (λ j. j < length rows.now) left.now }
+    requires few { length left.now < 2 ^ 32 }
+    ensures found { IfSome result.at (MayGoAt rows.now left.now free.now) }
+    ensures none { IfNone result.at ((at : ℕ) → MayGoAt rows.now left.now free.now at → ⊥) }
+    ensures most { result.tests ≤ length left.now }
+    ensures least { 0 < length left.now → 0 < result.tests }
+{
+    let mut tests = 0;
+    for at in 0..left.len() {
+        let place = left[at];
+        if is_head(rows, &left[..at], place) {
+            tests += 1;
+            if rows.get(place).need.le(free) {
+                return Choice {
+                    at: Some(at),
+                    tests,
+                };
+            }
+        }
+    }
+    Choice { at: None, tests }
+}
+
+/// Takes rows that may go, the first one each time, until none is left or none may go. Where all
+/// went, `order` has their numbers.
+pub fn scan(rows: &Rows, left: &mut Vec<usize>, free: &mut Counts, order: &mut Vec<u64>) -> Verdict
+    requires kinds { HaveKinds (length free.old) rows.now }
+    requires few { length rows.now < 2 ^ 32 }
+    requires small { StaysSmall free.old rows.now }
+    requires rising { Pairwise IsLower rows.now }
+    requires left { length rows.now ≤ vec_capacity left.old }
+    requires order { length rows.now ≤ vec_capacity order.old }
+    ensures exact { IsTrue result.safe ↔ HasFinishingOrder (amount free.old) rows.now }
+    ensures order { IsTrue result.safe → AreFinishing (amount free.old) rows.now order.new.items }
+    ensures most { 2 * result.tests ≤ length rows.now * (length rows.now + 1) }
+    ensures each { IsTrue result.safe → length rows.now ≤ result.tests }
+    ensures some { result.safe ≡ false → 0 < result.tests }
+    ensures left { vec_capacity left.old ≤ vec_capacity left.new }
+    ensures room { vec_capacity order.old ≤ vec_capacity order.new }
+    ensures same { length free.new ≡ length free.old }
+{
+    fill(left, rows.len());
+    order.clear();
+    let mut tests = 0;
+    'turns: while !left.is_empty() {
+        let choice = pick(rows, left.as_slice(), free);
+        tests += choice.tests;
+        let Some(at) = choice.at else {
+            return Verdict { safe: false, tests };
+        };
+        let row = rows.get(left.remove(at));
+        free.add(&row.held);
+        match order.push(row.number) {
+            Ok(()) => {}
+            Err(_) => unreachable!(),
+        }
+    }
+    Verdict { safe: true, tests }
+}
+
+/// The places of so many rows.
+pub fn fill(left: &mut Vec<usize>, rows: usize)
+    requires { rows ≤ vec_capacity left.old }
+    ensures len { length left.new.items ≡ rows }
+    ensures each { (j : ℕ) → j < rows → slice_index left.new.items j ≡ j }
+    ensures room { vec_capacity left.old ≤ vec_capacity left.new }
+{
+    left.clear();
+    for place in 0..rows {
+        match left.push(place) {
+            Ok(()) => {}
+            Err(_) => unreachable!(),
+        }
+    }
+}

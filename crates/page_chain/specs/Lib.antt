@@ -1,0 +1,4 @@
+pub mod Files
+pub mod Runs
+pub mod Changes
+pub mod Laws

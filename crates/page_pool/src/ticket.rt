@@ -1,0 +1,115 @@
+//! A page that is being filled.
+
+ghost use Rattle.std.specs.Prelude.{◌≡◌, ◌+◌, ◌-◌, ◌<◌, ◌≤◌, ◌++◌, [], length, take, min, vec_len, vec_capacity, IsTrue, ◌↔◌, IfOk};
+
+use crate::filled::FilledPage;
+use std::alloc::{AllocError, Global};
+use std::marker::Model;
+
+/// A page that is being filled. It has to be spent: put back, sealed or surrendered.
+pub struct PageTicket {
+    octets: Vec<u8>,
+    page_size: usize,
+}
+
+impl Model for PageTicket {
+    ghost use Rattle.std.specs.Prelude.{vec_len, vec_capacity};
+    ghost use Rattle.page_pool.specs.Page.{Page, HoldsPage};
+
+    ghost Value = { Page };
+
+    ghost view = { λ t. record { octets = t.octets.items; page_size = t.page_size } };
+
+    ghost invariant = { λ t. HoldsPage (vec_len t.octets) t.page_size (vec_capacity t.octets) };
+}
+
+impl PageTicket {
+    /// A page with nothing on it.
+    pub(crate) fn blank(alloc: Global, page_size: usize) -> Result<Self, AllocError>
+        requires { 0 < page_size }
+        ensures { IfOk result (λ t. t ≡ record { octets = []; page_size = page_size }) }
+    {
+        Ok(PageTicket {
+            octets: Vec::with_capacity(alloc, page_size)?,
+            page_size,
+        })
+    }
+
+    /// Appends as many of the octets as fit, and answers how many that are.
+    pub fn push(&mut self, octets: &[u8]) -> usize
+        ensures count { result ≡ min (length octets.now) (self.old.page_size - length self.old.octets) }
+        ensures pushed { self.new ≡ record self.old { octets = self.old.octets ++ take result octets.now } }
+    {
+        let room = self.page_size - self.len();
+        let fitting = octets.len().min(room);
+        match self.octets.extend_from_slice(&octets[..fitting]) {
+            Ok(()) => fitting,
+            Err(_) => unreachable!(),
+        }
+    }
+
+    /// How many octets are on the page.
+    pub fn len(&self) -> usize
+        ensures len { result ≡ length self.now.octets }
+        ensures fits { result ≤ self.now.page_size }
+    {
+        self.octets.len()
+    }
+
+    /// Whether nothing is on the page.
+    pub fn is_empty(&self) -> bool
+        ensures { IsTrue result ↔ (self.now.octets ≡ []) }
+    {
+        self.octets.is_empty()
+    }
+
+    /// Whether no more octets fit.
+    pub fn is_full(&self) -> bool
+        ensures { IsTrue result ↔ (length self.now.octets ≡ self.now.page_size) }
+    {
+        self.len() == self.page_size
+    }
+
+    /// How many octets fit on the page in all.
+    pub fn page_size(&self) -> usize
+        ensures size { result ≡ self.now.page_size }
+        ensures some { 0 < result }
+    {
+        self.page_size
+    }
+
+    /// Ends the filling: what is on the page can't change any more.
+    pub fn seal(self) -> FilledPage
+        requires { 0 < length self.octets }
+        ensures { result ≡ self }
+    {
+        let PageTicket { octets, page_size } = self;
+        FilledPage::of(octets, page_size)
+    }
+
+    /// Spends a page that its pool doesn't take back.
+    pub fn surrender(self) {
+        let PageTicket {
+            octets: _,
+            page_size: _,
+        } = self;
+    }
+
+    /// A page in this buffer, with nothing on it.
+    pub(crate) fn emptied(mut octets: Vec<u8>, page_size: usize) -> PageTicket
+        requires some { 0 < page_size }
+        requires room { page_size ≤ vec_capacity octets }
+        ensures { result ≡ record { octets = []; page_size = page_size } }
+    {
+        octets.clear();
+        PageTicket { octets, page_size }
+    }
+
+    /// The same page with nothing on it.
+    pub(crate) fn wiped(self) -> PageTicket
+        ensures { result ≡ record self { octets = [] } }
+    {
+        let PageTicket { octets, page_size } = self;
+        PageTicket::emptied(octets, page_size)
+    }
+}

@@ -1,0 +1,7 @@
+pub mod Script
+pub mod Reading
+pub mod Reads
+pub mod View
+pub mod Sound
+pub mod Leads
+pub mod Blocks

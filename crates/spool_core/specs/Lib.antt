@@ -1,0 +1,4 @@
+pub mod Config
+pub mod Handed
+pub mod Job
+pub mod Spool

@@ -1,0 +1,269 @@
+-- Each held job that was begun has a printer of its queue, and no other job has that one.
+use Rattle.std.proofs.Common.{◌⊎◌, inl, inr, ◌≡◌, ◌==◌, ◌≢◌, ℕ, ◌+◌, ◌<◌, Bool, true, false, List, [], ◌∷◌, ◌++◌, length, map, refl, sym, ◌∙◌, ap, subst, arith}
+use Rattle.std.specs.Prelude.{◌&&◌, ◌||◌, not, cond, filter, find, Option, Some, None, is_some}
+use Rattle.std.proofs.lemmas.Bool.Decides.{nat_tests}
+use Rattle.std.proofs.lemmas.List.{append-nil}
+use Rattle.spool_history.specs.Events.{Act, Event, Sheet, Turn}
+use Rattle.spool_history.specs.Events.Act.{Opened, Granted, Began, Put, FileEnded, Controlled, Aborted}
+use Rattle.spool_history.specs.Events.Turn.{Handed, Printed, Failed}
+use Rattle.spool_history.specs.Events.Event.{OfJob, AtPrinter, Removed, Started, Closed}
+use Rattle.spool_history.specs.Setup.{Setup, queue_of}
+use Rattle.spool_history.specs.Acts.{is_lent_by, control_by}
+use Rattle.spool_history.specs.Said.{Opening, openings, opening_by, acts_of, is_handed, back_of, has_ended, began_at}
+use Rattle.spool_history.specs.Now.{Job, Printer, now, job_of, is_held}
+use Rattle.spool_history.specs.Next.{Next, next_page, next_at, with_out, hand_of, hand_first, turn_of, or_first, printer_at}
+use Rattle.spool_history.specs.Next.Next.{Hands, Stops, Over}
+use Rattle.spool_history.specs.Acts.{Page}
+use Rattle.spool_history.specs.Legal.{IsPrinter, IsLegal, May}
+use Rattle.spool_laws.proofs.Known.{Has, has_last, has_kept, known, test, clash, and_true, and_false, filter_cons}
+use Rattle.spool_laws.proofs.Printers.{at_printer}
+use Rattle.spool_laws.proofs.Turns.{given}
+use Rattle.spool_laws.proofs.Facts.{Facts, facts, turn_of_page, handed_at, received_at, handed_more, handed_same}
+use Rattle.spool_laws.proofs.Moves.{steady}
+use Rattle.spool_laws.proofs.Held.{Keeps, keeps}
+use Rattle.spool_laws.proofs.Pigeons.{Rises, rises_push}
+
+-- a job to which a page is lent isn't received
+pub lent_unreceived : {C : Type 0} (h : List (Event C)) (j : ℕ) → Keeps (acts_of h j) → is_lent_by (acts_of h j) ≡ true → received_at h j ≡ false
+lent_unreceived h j k e = rw (k.lent e) (and_false (is_some (control_by (acts_of h j))))
+
+pub record Busy {C : Type 0} (c : Setup) (h : List (Event C)) (o : Opening) : Type 0 where
+  pub at : ℕ
+  pub is : IsPrinter c at
+  pub began : began_at h at ≡ Some o.job
+  pub queue : queue_of c at ≡ o.queue
+
+abbrev pub AreBusy : {C : Type 0} → Setup → List (Event C) → Type 0
+AreBusy c h = (o : Opening) → Has o (openings h) → is_held (job_of h o) ≡ true → 0 < handed_at h o.job → Busy c h o
+
+held_by : {C : Type 0} (v w : Job C) (b : Bool) → is_held v ≡ b → (is_held v ≡ false → is_held w ≡ false) → is_held w ≡ true → is_held v ≡ true
+held_by v w true e st held = e
+held_by v w false e st held = absurd (clash (is_held w) held (st e))
+
+abbrev Steady : {C : Type 0} → List (Event C) → Event C → Type 0
+Steady h e = (o : Opening) → is_held (job_of h o) ≡ false → is_held (job_of (e ∷ h) o) ≡ false
+
+busy_act : {C : Type 0} (c : Setup) (h : List (Event C)) (k : ℕ) (act : Act C) → opening_by k act ≡ [] → Steady h (OfJob k act) → AreBusy c h → AreBusy c (OfJob k act ∷ h)
+busy_act {C} c h k act none st b o has held pos =
+    let os : openings h ++ opening_by k act ≡ openings h = ap (λ (l : List Opening). openings h ++ l) none ∙ append-nil (openings h) in
+    let x = b o (subst (λ (l : List Opening). Has o l) os has) (held_by (job_of h o) (job_of (OfJob k act ∷ h) o) (is_held (job_of h o)) refl (st o) held) pos in
+    record { at = x.at; is = x.is; began = x.began; queue = x.queue }
+
+busy_opened : {C : Type 0} (c : Setup) (h : List (Event C)) (j s q : ℕ) → Facts h → j ≡ length (openings h) + 1 → Steady h (OfJob j (Opened s q)) → AreBusy c h → AreBusy c (OfJob j (Opened s q) ∷ h)
+busy_opened {C} c h j s q f new st b o has held pos = elim (has_last o (openings h) (record { job = j; sender = s; queue = q }) has) [
+  | inl t ↦
+      let x = b o t (held_by (job_of h o) (job_of (OfJob j (Opened s q) ∷ h) o) (is_held (job_of h o)) refl (st o) held) pos in
+      record { at = x.at; is = x.is; began = x.began; queue = x.queue }
+  | inr e ↦
+      let m : j ≡ o.job = ap (λ (y : Opening). y.job) e in
+      let z : handed_at h o.job ≡ 0 = ap length (f.fresh o.job (omega arith)).handed in
+      absurd (omega arith)
+]
+
+began_same : {C : Type 0} (h : List (Event C)) (p : ℕ) (sheet : Sheet C) (turn : Turn) (q : ℕ) → is_handed turn ≡ false → began_at (AtPrinter p sheet turn ∷ h) q ≡ began_at h q
+began_same h p sheet turn q e = elim (test p q) [ inl s ↦ rw (s.1, e) refl | inr s ↦ rw s.1 refl ]
+
+busy_back : {C : Type 0} (c : Setup) (h : List (Event C)) (p : ℕ) (sheet : Sheet C) (turn : Turn) → is_handed turn ≡ false → Steady h (AtPrinter p sheet turn) → AreBusy c h → AreBusy c (AtPrinter p sheet turn ∷ h)
+busy_back c h p sheet turn not' st b o has held pos =
+    let m = ap length (handed_same h p sheet turn o.job not') in
+    let x = b o has (held_by (job_of h o) (job_of (AtPrinter p sheet turn ∷ h) o) (is_held (job_of h o)) refl (st o) held) (omega arith) in
+    record { at = x.at; is = x.is; began = began_same h p sheet turn x.at not' ∙ x.began; queue = x.queue }
+
+-- a printer goes on with the job that it began while that one goes on
+
+open_by : {C : Type 0} (b : Bool) (x : Next C) (sheet : Sheet C) → cond b Over x ≡ Hands sheet → x ≡ Hands sheet
+open_by true x sheet e = absurd cc
+open_by false x sheet e = e
+
+runs_by : {C : Type 0} (b : Bool) (x : Next C) (sheet : Sheet C) → cond b Stops x ≡ Hands sheet → x ≡ Hands sheet
+runs_by true x sheet e = absurd cc
+runs_by false x sheet e = e
+
+idle_by : {C : Type 0} (jobs : List (Job C)) (p : Printer C) (o : Option (Sheet C)) (sheet : Sheet C) → with_out jobs p o ≡ Hands sheet → hand_of (turn_of jobs p.queue p.began) ≡ Hands sheet
+idle_by jobs p (Some x) sheet e = absurd cc
+idle_by jobs p None sheet e = e
+
+none_found_by : {X : Type 0} (t : X → Bool) (x y : X) (ys : List X) (b : Bool) → t y ≡ b → find t (y ∷ ys) ≡ None → (y ≡ x) ⊎ Has x ys → (find t ys ≡ None → Has x ys → t x ≡ false) → t x ≡ false
+none_found_by {X} t x y ys true is e has ih = (let z : ◌≡◌ {A = Option X} (Some y) None = rw is at e in absurd cc)
+none_found_by {X} t x y ys false is e has ih = (let z : find t ys ≡ None = rw is at e in elim has [ inl s ↦ subst (λ (v : X). t v ≡ false) s is | inr h ↦ ih z h ])
+
+none_found : {X : Type 0} (t : X → Bool) (x : X) (ys : List X) → find t ys ≡ None → Has x ys → t x ≡ false
+none_found t x [] e has = absurd has
+none_found t x (y ∷ ys) e has = none_found_by t x y ys (t y) refl e has (none_found t x ys)
+
+found_it : {X : Type 0} (t : X → Bool) (x y : X) (ys : List X) (b : Bool) → t y ≡ b → find t (y ∷ ys) ≡ Some x → (find t ys ≡ Some x → t x ≡ true) → t x ≡ true
+found_it {X} t x y ys true is e ih = (let z : Some y ≡ Some x = rw is at e in let same : y ≡ x = cc in subst (λ (v : X). t v ≡ true) same is)
+found_it {X} t x y ys false is e ih = ih (rw is at e)
+
+found : {X : Type 0} (t : X → Bool) (x : X) (ys : List X) → find t ys ≡ Some x → t x ≡ true
+found t x [] e = absurd cc
+found t x (y ∷ ys) e = found_it t x y ys (t y) refl e (found t x ys)
+
+first_is : {C : Type 0} (j place : ℕ) (xs : List (Page C)) (sheet : Sheet C) → hand_first j place xs ≡ Hands sheet → j ≡ sheet.job
+first_is j place [] sheet e = absurd cc
+first_is {C} j place (x ∷ xs) sheet e = (let s : record { job = j; place = place; file = x.file; number = x.number; page = x.page } ≡ sheet = cc in ap (λ (y : Sheet C). y.job) s)
+
+ended_of : (a b : Bool) → a ≡ true → (a && not b) ≡ false → b ≡ true
+ended_of true true x e = refl
+ended_of true false x e = absurd cc
+ended_of false b x e = absurd cc
+
+ended_by : {C : Type 0} (jobs : List (Job C)) (q j : ℕ) (x : Job C) (sheet : Sheet C) (r : Option (Job C)) → find (λ (v : Job C). (v.number == j) && not v.ended) jobs ≡ r → hand_of (or_first jobs q r) ≡ Hands sheet → sheet.job ≢ j → Has x jobs → x.number ≡ j → x.ended ≡ true
+ended_by {C} jobs q j x sheet None e h ne has n =
+    let none = none_found (λ (v : Job C). (v.number == j) && not v.ended) x jobs e has in
+    let a : (x.number == j) ≡ true = grind (arith, nat_tests) in
+    ended_of (x.number == j) x.ended a none
+ended_by {C} jobs q j x sheet (Some v) e h ne has n =
+    let a = (and_true (v.number == j) (not v.ended) (found (λ (v : Job C). (v.number == j) && not v.ended) v jobs e)).0 in
+    let m : v.number ≡ j = grind (arith, nat_tests) in
+    absurd (ne (sym (first_is v.number v.handed _ sheet h) ∙ m))
+
+hands_by : {C : Type 0} (c : Setup) (h : List (Event C)) (p : ℕ) (sheet : Sheet C) → next_page (now c h) p ≡ Hands sheet → hand_of (turn_of (now c h).jobs (printer_at (now c h) p).queue (printer_at (now c h) p).began) ≡ Hands sheet
+hands_by c h p sheet e =
+    let v = now c h in
+    let x = printer_at v p in
+    idle_by v.jobs x x.out sheet (runs_by x.stopped (with_out v.jobs x x.out) sheet (open_by v.closed (next_at v.jobs x) sheet e))
+
+gone_or_out : (e l : Bool) (a b : ℕ) → e ≡ true → l ≡ false → a ≡ b → (not e || (l || not (a == b))) ≡ true → ⊥
+gone_or_out e l a b e1 l1 ab held =
+    let same : (a == b) ≡ true = grind (arith, nat_tests) in
+    let z : false ≡ true = rw (e1, l1, same) at held in
+    clash false z refl
+
+unlent_by : (b r : Bool) → (b ≡ true → r ≡ false) → r ≡ true → b ≡ false
+unlent_by true r f e = absurd (clash r e (f refl))
+unlent_by false r f e = refl
+
+received_by : (b : Bool) (n : ℕ) → (b ≡ false → n ≡ 0) → 0 < n → b ≡ true
+received_by true n f pos = refl
+received_by false n f pos = absurd (let z = f refl in omega arith)
+
+pub received_if : {C : Type 0} (h : List (Event C)) (j : ℕ) → Facts h → 0 < handed_at h j → received_at h j ≡ true
+received_if h j f pos = received_by (received_at h j) (handed_at h j) (f.begun j) pos
+
+pub unlent : {C : Type 0} (h : List (Event C)) (j : ℕ) → Keeps (acts_of h j) → received_at h j ≡ true → is_lent_by (acts_of h j) ≡ false
+unlent h j k r = unlent_by (is_lent_by (acts_of h j)) (received_at h j) (lent_unreceived h j k) r
+
+-- so it gets a page of no other
+no_other : {C : Type 0} (c : Setup) (h : List (Event C)) (p : ℕ) (sheet : Sheet C) (o : Opening) → Facts h → Keeps (acts_of h o.job) → IsPrinter c p → next_page (now c h) p ≡ Hands sheet → began_at h p ≡ Some o.job → Has o (openings h) → is_held (job_of h o) ≡ true → sheet.job ≢ o.job → ⊥
+no_other {C} c h p sheet o f k is e began has held ne =
+    let here = at_printer c h p is.0 is.1 in
+    let b : (printer_at (now c h) p).began ≡ Some o.job = ap (λ (x : Printer C). x.began) here ∙ began in
+    let hands = subst (λ (r : Option ℕ). hand_of (turn_of (now c h).jobs (printer_at (now c h) p).queue r) ≡ Hands sheet) b (hands_by c h p sheet e) in
+    let ended : has_ended h o.job ≡ true = ended_by (now c h).jobs (printer_at (now c h) p).queue o.job (job_of h o) sheet _ refl hands ne (has_kept h o (openings h) held has) refl in
+    let pos = f.began p o.job began in
+    let t = turn_of_page c h p sheet is.0 is.1 e in
+    let back = f.idle p o.job t.idle began in
+    gone_or_out (has_ended h o.job) (is_lent_by (acts_of h o.job)) (handed_at h o.job) (back_of h o.job) ended (unlent h o.job k (received_if h o.job f pos)) back held
+
+began_still : {C : Type 0} (h : List (Event C)) (p : ℕ) (sheet : Sheet C) (q j : ℕ) → (p ≡ q → sheet.job ≡ j) → began_at h q ≡ Some j → began_at (AtPrinter p sheet Handed ∷ h) q ≡ Some j
+began_still h p sheet q j same b = elim (test p q) [
+  | inl s ↦ rw s.1 (ap (λ (i : ℕ). Some i) (same s.0))
+  | inr s ↦ rw s.1 b
+]
+
+began_here : {C : Type 0} (h : List (Event C)) (p : ℕ) (sheet : Sheet C) (j : ℕ) → sheet.job ≡ j → began_at (AtPrinter p sheet Handed ∷ h) p ≡ Some j
+began_here h p sheet j e = elim (test p p) [ inl s ↦ rw s.1 (ap (λ (i : ℕ). Some i) e) | inr s ↦ absurd (s.0 refl) ]
+
+busy_handed : {C : Type 0} (c : Setup) (h : List (Event C)) (p : ℕ) (sheet : Sheet C) → Facts h → ((j : ℕ) → Keeps (acts_of h j)) → IsPrinter c p → next_page (now c h) p ≡ Hands sheet → Steady h (AtPrinter p sheet Handed) → AreBusy c h → AreBusy c (AtPrinter p sheet Handed ∷ h)
+busy_handed {C} c h p sheet f k is e st b o has held' pos =
+    let held = held_by (job_of h o) (job_of (AtPrinter p sheet Handed ∷ h) o) (is_held (job_of h o)) refl (st o) held' in
+    elim (test sheet.job o.job) [
+      | inl s ↦
+          let g = (given (now c h) p sheet e).1 in
+          let here = at_printer c h p is.0 is.1 in
+          let n : g.job.number ≡ sheet.job = sym (ap (λ (s : Sheet C). s.job) g.gets.is) in
+          elim g.turn.why [
+            | inl w ↦
+                let began : began_at h p ≡ Some o.job = sym (ap (λ (x : Printer C). x.began) here) ∙ (w ∙ ap (λ (i : ℕ). Some i) (n ∙ s.0)) in
+                let x = b o has held (f.began p o.job began) in
+                record { at = x.at; is = x.is; began = began_still h p sheet x.at o.job (λ _. s.0) x.began; queue = x.queue }
+            | inr w ↦
+                let a = known c h g.job g.turn.there in
+                let num : a.opening.job ≡ o.job = sym (ap (λ (v : Job C). v.number) a.is) ∙ (n ∙ s.0) in
+                let same : a.opening ≡ o = f.once a.opening o a.there has num in
+                let q : g.job.queue ≡ o.queue = ap (λ (v : Job C). v.queue) a.is ∙ ap (λ (y : Opening). y.queue) same in
+                record { at = p; is = is; began = began_here h p sheet o.job s.0; queue = sym (ap (λ (x : Printer C). x.queue) here) ∙ (sym w.queue ∙ q) }
+          ]
+      | inr s ↦
+          let m = ap length (handed_more h p sheet o.job s.0) in
+          let x = b o has held (omega arith) in
+          let other : p ≡ x.at → sheet.job ≡ o.job = λ same. absurd (no_other c h p sheet o f (k o.job) is e (subst (λ (i : ℕ). began_at h i ≡ Some o.job) (sym same) x.began) has held s.0) in
+          record { at = x.at; is = x.is; began = began_still h p sheet x.at o.job other x.began; queue = x.queue }
+    ]
+
+busy_same : {C : Type 0} (c : Setup) (h : List (Event C)) (e : Event C) → openings (e ∷ h) ≡ openings h → ((j : ℕ) → handed_at (e ∷ h) j ≡ handed_at h j) → ((p : ℕ) → began_at (e ∷ h) p ≡ began_at h p) → Steady h e → AreBusy c h → AreBusy c (e ∷ h)
+busy_same c h e os hs bs st b o has held pos =
+    let m = hs o.job in
+    let x = b o (subst (λ (l : List Opening). Has o l) os has) (held_by (job_of h o) (job_of (e ∷ h) o) (is_held (job_of h o)) refl (st o) held) (omega arith) in
+    record { at = x.at; is = x.is; began = bs x.at ∙ x.began; queue = x.queue }
+
+busy_step : {C : Type 0} (size : C → ℕ) (c : Setup) (h : List (Event C)) (e : Event C) → IsLegal size c h → May size (now c h) e → AreBusy c h → AreBusy c (e ∷ h)
+busy_step size c h (OfJob k (Opened s q)) l m b = busy_opened c h k s q (facts size c h l) m.4 (steady size c h (OfJob k (Opened s q)) l m) b
+busy_step size c h (OfJob k Granted) l m b = busy_act c h k Granted refl (steady size c h (OfJob k Granted) l m) b
+busy_step size c h (OfJob k (Began name count)) l m b = busy_act c h k (Began name count) refl (steady size c h (OfJob k (Began name count)) l m) b
+busy_step size c h (OfJob k (Put file number page)) l m b = busy_act c h k (Put file number page) refl (steady size c h (OfJob k (Put file number page)) l m) b
+busy_step size c h (OfJob k (FileEnded file whole)) l m b = busy_act c h k (FileEnded file whole) refl (steady size c h (OfJob k (FileEnded file whole)) l m) b
+busy_step size c h (OfJob k (Controlled control whole)) l m b = busy_act c h k (Controlled control whole) refl (steady size c h (OfJob k (Controlled control whole)) l m) b
+busy_step size c h (OfJob k Aborted) l m b = busy_act c h k Aborted refl (steady size c h (OfJob k Aborted) l m) b
+busy_step size c h (AtPrinter p sheet Handed) l m b = busy_handed c h p sheet (facts size c h l) (keeps size c h l) m.0 m.1 (steady size c h (AtPrinter p sheet Handed) l m) b
+busy_step size c h (AtPrinter p sheet (Printed x)) l m b = busy_back c h p sheet (Printed x) refl (steady size c h (AtPrinter p sheet (Printed x)) l m) b
+busy_step size c h (AtPrinter p sheet Failed) l m b = busy_back c h p sheet Failed refl (steady size c h (AtPrinter p sheet Failed) l m) b
+busy_step size c h (Removed q jobs) l m b = busy_same c h (Removed q jobs) refl (λ j. refl) (λ p. refl) (steady size c h (Removed q jobs) l m) b
+busy_step size c h (Started q) l m b = busy_same c h (Started q) refl (λ j. refl) (λ p. refl) (steady size c h (Started q) l m) b
+busy_step size c h Closed l m b = busy_same c h Closed refl (λ j. refl) (λ p. refl) (steady size c h Closed l m) b
+
+pub busy : {C : Type 0} (size : C → ℕ) (c : Setup) (h : List (Event C)) → IsLegal size c h → AreBusy c h
+busy size c [] l = λ o has held pos. absurd has
+busy size c (e ∷ h) l = busy_step size c h e l.1 l.0 (busy size c h l.1)
+
+-- the numbers of the jobs rise
+
+rising_act : {C : Type 0} (h : List (Event C)) (k : ℕ) (act : Act C) → opening_by k act ≡ [] → Rises (λ (o : Opening). o.job) (openings h) → Rises (λ (o : Opening). o.job) (openings (OfJob k act ∷ h))
+rising_act h k act none r = subst (λ (l : List Opening). Rises (λ (o : Opening). o.job) l) (sym (ap (λ (l : List Opening). openings h ++ l) none ∙ append-nil (openings h))) r
+
+rising_openings : {C : Type 0} (size : C → ℕ) (c : Setup) (h : List (Event C)) → IsLegal size c h → Rises (λ (o : Opening). o.job) (openings h)
+rising_openings size c [] l = tt
+rising_openings size c (OfJob k (Opened s q) ∷ h) l =
+    rises_push (λ (o : Opening). o.job) (openings h) (record { job = k; sender = s; queue = q }) (rising_openings size c h l.1)
+    (λ y t. let n = (facts size c h l.1).numbers y t in let is = l.0.4 in omega arith)
+rising_openings size c (OfJob k Granted ∷ h) l = rising_act h k Granted refl (rising_openings size c h l.1)
+rising_openings size c (OfJob k (Began name count) ∷ h) l = rising_act h k (Began name count) refl (rising_openings size c h l.1)
+rising_openings size c (OfJob k (Put file number page) ∷ h) l = rising_act h k (Put file number page) refl (rising_openings size c h l.1)
+rising_openings size c (OfJob k (FileEnded file whole) ∷ h) l = rising_act h k (FileEnded file whole) refl (rising_openings size c h l.1)
+rising_openings size c (OfJob k (Controlled control whole) ∷ h) l = rising_act h k (Controlled control whole) refl (rising_openings size c h l.1)
+rising_openings size c (OfJob k Aborted ∷ h) l = rising_act h k Aborted refl (rising_openings size c h l.1)
+rising_openings size c (AtPrinter p sheet turn ∷ h) l = rising_openings size c h l.1
+rising_openings size c (Removed q jobs ∷ h) l = rising_openings size c h l.1
+rising_openings size c (Started q ∷ h) l = rising_openings size c h l.1
+rising_openings size c (Closed ∷ h) l = rising_openings size c h l.1
+
+abbrev Comes : {C : Type 0} → List (Event C) → List Opening → Job C → Type 0
+Comes h os x = (o : Opening) × Has o os × (x ≡ job_of h o)
+
+comes_by : {C : Type 0} (h : List (Event C)) (o : Opening) (os : List Opening) (x : Job C) (b : Bool) → is_held (job_of h o) ≡ b → Has x (filter is_held (map (job_of h) (o ∷ os))) → (Has x (filter is_held (map (job_of h) os)) → Comes h os x) → Comes h (o ∷ os) x
+comes_by {C} h o os x true e has ih =
+    let here : (job_of h o ≡ x) ⊎ Has x (filter is_held (map (job_of h) os)) = subst (λ (l : List (Job C)). Has x l) (filter_cons true (job_of h o) (map (job_of h) os) e) has in
+    elim here [ inl s ↦ (o, inl refl, sym s) | inr t ↦ let r = ih t in (r.0, inr r.1, r.2) ]
+comes_by {C} h o os x false e has ih = (let r = ih (subst (λ (l : List (Job C)). Has x l) (filter_cons false (job_of h o) (map (job_of h) os) e) has) in (r.0, inr r.1, r.2))
+
+comes : {C : Type 0} (h : List (Event C)) (os : List Opening) (x : Job C) → Has x (filter is_held (map (job_of h) os)) → Comes h os x
+comes h [] x has = absurd has
+comes h (o ∷ os) x has = comes_by h o os x (is_held (job_of h o)) refl has (comes h os x)
+
+abbrev Rising : {C : Type 0} → List (Job C) → Type 0
+Rising {C} jobs = Rises (λ (v : Job C). v.number) jobs
+
+rising_by : {C : Type 0} (h : List (Event C)) (o : Opening) (os : List Opening) (b : Bool) → is_held (job_of h o) ≡ b → ((y : Opening) → Has y os → o.job < y.job) → Rising (filter is_held (map (job_of h) os)) → Rising (filter is_held (map (job_of h) (o ∷ os)))
+rising_by {C} h o os true e lt ih = subst (λ (l : List (Job C)). Rising l) (sym (filter_cons true (job_of h o) (map (job_of h) os) e)) (
+  λ y t. (let r = comes h os y t in subst (λ (v : Job C). o.job < v.number) (sym r.2) (lt r.0 r.1)),
+  ih,
+)
+rising_by {C} h o os false e lt ih = subst (λ (l : List (Job C)). Rising l) (sym (filter_cons false (job_of h o) (map (job_of h) os) e)) ih
+
+rising_in : {C : Type 0} (h : List (Event C)) (os : List Opening) → Rises (λ (o : Opening). o.job) os → Rising (filter is_held (map (job_of h) os))
+rising_in h [] r = tt
+rising_in h (o ∷ os) r = rising_by h o os (is_held (job_of h o)) refl r.0 (rising_in h os r.1)
+
+pub rising_jobs : {C : Type 0} (size : C → ℕ) (c : Setup) (h : List (Event C)) → IsLegal size c h → Rises (λ (v : Job C). v.number) (now c h).jobs
+rising_jobs size c h l = rising_in h (openings h) (rising_openings size c h l)

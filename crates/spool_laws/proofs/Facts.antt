@@ -1,0 +1,463 @@
+-- What holds of every legal history.
+use Rattle.std.proofs.Common.{◌⊎◌, inl, inr, ◌≡◌, ◌==◌, ◌≢◌, ℕ, ◌+◌, ◌<◌, ◌≤◌, Bool, true, false, List, [], ◌∷◌, ◌++◌, length, refl, sym, ◌∙◌, ap, subst, arith}
+use Rattle.std.specs.Prelude.{nat_lt, Option, Some, None}
+use Rattle.std.specs.List.{list_any, AllByRecursion}
+use Rattle.std.proofs.lemmas.List.{append-nil, length_push}
+use Rattle.std.proofs.lemmas.Bool.Decides.{nat_tests}
+use Rattle.spool_history.specs.Events.{Act, Event, Sheet, Turn}
+use Rattle.spool_history.specs.Events.Act.{Opened, Granted, Began, Put, FileEnded, Controlled, Aborted}
+use Rattle.spool_history.specs.Events.Turn.{Handed, Printed, Failed}
+use Rattle.spool_history.specs.Events.Event.{OfJob, AtPrinter, Removed, Started, Closed}
+use Rattle.spool_history.specs.Setup.{Setup}
+use Rattle.spool_history.specs.Said.{Opening, openings, opening_by, acts_of, is_handed, handed_of, back_of, has_ended, out_at, began_at, is_closed}
+use Rattle.spool_history.specs.Now.{Job, Printer, now, job_of, is_received}
+use Rattle.spool_history.specs.Next.{printer_at}
+use Rattle.spool_history.specs.Legal.{IsPrinter, HasJob, May, IsLegal}
+use Rattle.spool_laws.proofs.Known.{Has, At, has_at, held_at, has_last, test, clash, or_false, and_false}
+use Rattle.spool_laws.proofs.Printers.{at_printer}
+use Rattle.spool_laws.proofs.Turns.{given, given_at, Gets, Begins}
+
+abbrev pub handed_at : {C : Type 0} → List (Event C) → ℕ → ℕ
+handed_at h j = length (handed_of h j)
+
+abbrev pub received_at : {C : Type 0} → List (Event C) → ℕ → Bool
+received_at h j = is_received (job_of h (record { job = j; sender = 0; queue = 0 }))
+
+-- nothing is said of a job
+pub record Unknown {C : Type 0} (h : List (Event C)) (j : ℕ) : Type 0 where
+  pub acts : acts_of h j ≡ []
+  pub handed : handed_of h j ≡ []
+  pub back : back_of h j ≡ 0
+  pub ended : is_closed h ≡ false → has_ended h j ≡ false
+
+pub record Facts {C : Type 0} (h : List (Event C)) : Type 0 where
+  -- the numbers of the accepted jobs, and what is said of all others
+  pub numbers : (o : Opening) → Has o (openings h) → o.job ≤ length (openings h)
+  pub once : (o k : Opening) → Has o (openings h) → Has k (openings h) → o.job ≡ k.job → o ≡ k
+  pub fresh : (j : ℕ) → length (openings h) < j → Unknown h j
+  pub begun : (j : ℕ) → received_at h j ≡ false → handed_at h j ≡ 0
+  pub back : (j : ℕ) → back_of h j ≤ handed_at h j
+  -- the page that is out at a printer is the only one of its job that is out, and the next place after those that came back
+  pub out : (p : ℕ) (s : Sheet C) → out_at h p ≡ Some s → (began_at h p ≡ Some s.job) × (handed_at h s.job ≡ back_of h s.job + 1) × (s.place ≡ back_of h s.job)
+  pub idle : (p j : ℕ) → out_at h p ≡ None → began_at h p ≡ Some j → handed_at h j ≡ back_of h j
+  pub began : (p j : ℕ) → began_at h p ≡ Some j → 0 < handed_at h j
+  pub alone : (p q j : ℕ) → began_at h p ≡ Some j → began_at h q ≡ Some j → p ≡ q
+
+abbrev pub IsNumber : {C : Type 0} → List (Event C) → ℕ → Type 0
+IsNumber h k = k ≤ length (openings h)
+
+pub number_at : {C : Type 0} (h : List (Event C)) (k : ℕ) (P : Job C → Type 0) → Facts h → At h k P → IsNumber h k
+number_at h k P f a = f.numbers (record { job = k; sender = a.sender; queue = a.queue }) a.there
+
+-- a job's own acts, but for its opening
+
+pub acts_other : {C : Type 0} (h : List (Event C)) (k : ℕ) (act : Act C) (j : ℕ) → k ≢ j → acts_of (OfJob k act ∷ h) j ≡ acts_of h j
+acts_other h k act j ne = elim (test k j) [ inl s ↦ absurd (ne s.0) | inr s ↦ rw s.1 refl ]
+
+ended_other : {C : Type 0} (h : List (Event C)) (k : ℕ) (act : Act C) (j : ℕ) → k ≢ j → has_ended h j ≡ false → has_ended (OfJob k act ∷ h) j ≡ false
+ended_other h k act j ne e = elim (test k j) [ inl s ↦ absurd (ne s.0) | inr s ↦ rw s.1 e ]
+
+unknown_act : {C : Type 0} (h : List (Event C)) (k : ℕ) (act : Act C) (j : ℕ) → k ≢ j → Unknown h j → Unknown (OfJob k act ∷ h) j
+unknown_act h k act j ne u = record {
+  acts = acts_other h k act j ne ∙ u.acts;
+  handed = u.handed;
+  back = u.back;
+  ended = λ open'. ended_other h k act j ne (u.ended open');
+}
+
+begun_act : {C : Type 0} (h : List (Event C)) (k : ℕ) (act : Act C) → Facts h → (received_at (OfJob k act ∷ h) k ≡ false → received_at h k ≡ false) → (j : ℕ) → received_at (OfJob k act ∷ h) j ≡ false → handed_at h j ≡ 0
+begun_act {C} h k act f before j e = elim (test k j) [
+  | inl s ↦ subst (λ (i : ℕ). handed_at h i ≡ 0) s.0 (f.begun k (before (subst (λ (i : ℕ). received_at (OfJob k act ∷ h) i ≡ false) (sym s.0) e)))
+  | inr s ↦ f.begun j (rw s.1 at e)
+]
+
+facts_act : {C : Type 0} (h : List (Event C)) (k : ℕ) (act : Act C) → Facts h → IsNumber h k → opening_by k act ≡ [] → (received_at (OfJob k act ∷ h) k ≡ false → received_at h k ≡ false) → Facts (OfJob k act ∷ h)
+facts_act {C} h k act f le none before =
+    let os : openings h ++ opening_by k act ≡ openings h = ap (λ (l : List Opening). openings h ++ l) none ∙ append-nil (openings h) in
+    let n : length (openings h ++ opening_by k act) ≡ length (openings h) = ap length os in
+    record {
+      numbers = λ o has. (let m = f.numbers o (subst (λ (l : List Opening). Has o l) os has) in omega arith);
+      once = λ o i has also same. f.once o i (subst (λ (l : List Opening). Has o l) os has) (subst (λ (l : List Opening). Has i l) os also) same;
+      fresh = λ j lt. unknown_act h k act j (λ same. omega arith) (f.fresh j (omega arith));
+      begun = begun_act h k act f before;
+      back = f.back;
+      out = f.out;
+      idle = f.idle;
+      began = f.began;
+      alone = f.alone;
+    }
+
+received_opened : {C : Type 0} (h : List (Event C)) (k s q j : ℕ) → received_at (OfJob k (Opened s q) ∷ h) j ≡ false → received_at h j ≡ false
+received_opened h k s q j e = elim (test k j) [ inl r ↦ rw r.1 at e | inr r ↦ rw r.1 at e ]
+
+facts_opened : {C : Type 0} (h : List (Event C)) (k s q : ℕ) → Facts h → k ≡ length (openings h) + 1 → Facts (OfJob k (Opened s q) ∷ h)
+facts_opened {C} h k s q f is =
+    let x : Opening = record { job = k; sender = s; queue = q } in
+    let n : length (openings h ++ x ∷ []) ≡ length (openings h) + 1 = length_push (openings h) x in
+    record {
+      numbers = λ o has. elim (has_last o (openings h) x has) [
+        | inl t ↦ let old = f.numbers o t in omega arith
+        | inr e ↦ let j : k ≡ o.job = ap (λ (y : Opening). y.job) e in omega arith
+      ];
+      once = λ o i has also same. elim (has_last o (openings h) x has) [
+        | inl t ↦ elim (has_last i (openings h) x also) [
+          | inl u ↦ f.once o i t u same
+          | inr e ↦ let old = f.numbers o t in let j : k ≡ i.job = ap (λ (y : Opening). y.job) e in absurd (omega arith)
+        ]
+        | inr e ↦ elim (has_last i (openings h) x also) [
+          | inl u ↦ let old = f.numbers i u in let j : k ≡ o.job = ap (λ (y : Opening). y.job) e in absurd (omega arith)
+          | inr d ↦ sym e ∙ d
+        ]
+      ];
+      fresh = λ j lt. unknown_act h k (Opened s q) j (λ same. omega arith) (f.fresh j (omega arith));
+      begun = λ j e. f.begun j (received_opened h k s q j e);
+      back = f.back;
+      out = f.out;
+      idle = f.idle;
+      began = f.began;
+      alone = f.alone;
+    }
+
+-- a page that is handed
+
+pub record Turn' {C : Type 0} (h : List (Event C)) (p : ℕ) (sheet : Sheet C) : Type 0 where
+  pub idle : out_at h p ≡ None
+  pub at : At h sheet.job (λ v. Gets sheet v)
+  pub why : (began_at h p ≡ Some sheet.job) ⊎ ((handed_at h sheet.job ≡ 0) × (received_at h sheet.job ≡ true))
+
+begins_at : {C : Type 0} (h : List (Event C)) (x : Job C) (j q : ℕ) (jobs : List (Job C)) (o : Opening) → x ≡ job_of h o → x.number ≡ j → Begins jobs q x → (handed_at h j ≡ 0) × (received_at h j ≡ true)
+begins_at {C} h x j q jobs o is n b =
+    let m : o.job ≡ j = sym (ap (λ (v : Job C). v.number) is) ∙ n in
+    let a : handed_at h o.job ≡ 0 = sym (ap (λ (v : Job C). v.handed) is) ∙ b.unhanded in
+    let r : received_at h o.job ≡ true = sym (ap (λ (v : Job C). is_received v) is) ∙ b.received in
+    (subst (λ (i : ℕ). handed_at h i ≡ 0) m a, subst (λ (i : ℕ). received_at h i ≡ true) m r)
+
+pub turn_of_page : {C : Type 0} (c : Setup) (h : List (Event C)) (p : ℕ) (sheet : Sheet C) → 1 ≤ p → p ≤ Rattle.spool_history.specs.Setup.printer_count c → Rattle.spool_history.specs.Next.next_page (now c h) p ≡ Rattle.spool_history.specs.Next.Next.Hands sheet → Turn' h p sheet
+turn_of_page {C} c h p sheet one le e =
+    let g = (given (now c h) p sheet e).1 in
+    let here = at_printer c h p one le in
+    let k = Rattle.spool_laws.proofs.Known.known c h g.job g.turn.there in
+    let n : g.job.number ≡ sheet.job = sym (ap (λ (s : Sheet C). s.job) g.gets.is) in
+    record {
+      idle = sym (ap (λ (x : Printer C). x.out) here) ∙ g.idle;
+      at = given_at c h (printer_at (now c h) p) sheet g;
+      why = elim g.turn.why [
+        | inl b ↦ inl (sym (ap (λ (x : Printer C). x.began) here) ∙ (b ∙ ap (λ (i : ℕ). Some i) n))
+        | inr b ↦ inr (begins_at h g.job sheet.job (printer_at (now c h) p).queue (now c h).jobs k.opening k.is n b)
+      ];
+    }
+
+handed_now : {C : Type 0} (h : List (Event C)) (p : ℕ) (sheet : Sheet C) → Facts h → Turn' h p sheet → handed_at h sheet.job ≡ back_of h sheet.job
+handed_now h p sheet f t = elim t.why [
+  | inl b ↦ f.idle p sheet.job t.idle b
+  | inr z ↦ let b = f.back sheet.job in let zero' = z.0 in omega arith
+]
+
+-- no other printer began the job
+others : {C : Type 0} (h : List (Event C)) (p : ℕ) (sheet : Sheet C) → Facts h → Turn' h p sheet → (q : ℕ) → q ≢ p → began_at h q ≡ Some sheet.job → ⊥
+others h p sheet f t q ne b = elim t.why [
+  | inl a ↦ ne (f.alone q p sheet.job b a)
+  | inr z ↦ let w = f.began q sheet.job b in let zero' = z.0 in omega arith
+]
+
+received_now : {C : Type 0} (h : List (Event C)) (p : ℕ) (sheet : Sheet C) → Facts h → Turn' h p sheet → received_at h sheet.job ≡ false → ⊥
+received_now h p sheet f t e = elim t.why [
+  | inl b ↦ let w = f.began p sheet.job b in let z = f.begun sheet.job e in omega arith
+  | inr z ↦ clash (received_at h sheet.job) z.1 e
+]
+
+pub handed_more : {C : Type 0} (h : List (Event C)) (p : ℕ) (sheet : Sheet C) (j : ℕ) → sheet.job ≢ j → handed_of (AtPrinter p sheet Handed ∷ h) j ≡ handed_of h j
+handed_more h p sheet j ne = elim (test sheet.job j) [ inl s ↦ absurd (ne s.0) | inr s ↦ rw s.1 refl ]
+
+pub handed_one : {C : Type 0} (h : List (Event C)) (p : ℕ) (sheet : Sheet C) (j : ℕ) → sheet.job ≡ j → handed_of (AtPrinter p sheet Handed ∷ h) j ≡ handed_of h j ++ sheet ∷ []
+handed_one h p sheet j e = elim (test sheet.job j) [ inl s ↦ rw s.1 refl | inr s ↦ absurd (s.0 e) ]
+
+count_more : {C : Type 0} (h : List (Event C)) (p : ℕ) (sheet : Sheet C) (j : ℕ) → sheet.job ≢ j → handed_at (AtPrinter p sheet Handed ∷ h) j ≡ handed_at h j
+count_more h p sheet j ne = ap length (handed_more h p sheet j ne)
+
+pub count_one : {C : Type 0} (h : List (Event C)) (p : ℕ) (sheet : Sheet C) (j : ℕ) → sheet.job ≡ j → handed_at (AtPrinter p sheet Handed ∷ h) j ≡ handed_at h j + 1
+count_one h p sheet j e = ap length (handed_one h p sheet j e) ∙ length_push (handed_of h j) sheet
+
+pub back_same : {C : Type 0} (h : List (Event C)) (p : ℕ) (sheet : Sheet C) (j : ℕ) → back_of (AtPrinter p sheet Handed ∷ h) j ≡ back_of h j
+back_same h p sheet j = elim (test sheet.job j) [ inl s ↦ rw s.1 refl | inr s ↦ rw s.1 refl ]
+
+ended_turn : {C : Type 0} (h : List (Event C)) (p : ℕ) (sheet : Sheet C) (turn : Turn) (j : ℕ) → sheet.job ≢ j → has_ended h j ≡ false → has_ended (AtPrinter p sheet turn ∷ h) j ≡ false
+ended_turn h p sheet turn j ne e = elim (test sheet.job j) [ inl s ↦ absurd (ne s.0) | inr s ↦ rw s.1 e ]
+
+some_is : (k j : ℕ) → ◌≡◌ {A = Option ℕ} (Some k) (Some j) → k ≡ j
+some_is k j e = cc
+
+some_sheet : {C : Type 0} (s t : Sheet C) → ◌≡◌ {A = Option (Sheet C)} (Some s) (Some t) → s ≡ t
+some_sheet s t e = cc
+
+none_some : {C : Type 0} (s : Sheet C) → ◌≡◌ {A = Option (Sheet C)} None (Some s) → ⊥
+none_some s e = cc
+
+facts_handed : {C : Type 0} (h : List (Event C)) (p : ℕ) (sheet : Sheet C) → Facts h → Turn' h p sheet → Facts (AtPrinter p sheet Handed ∷ h)
+facts_handed {C} h p sheet f t =
+    let here = handed_now h p sheet f t in
+    let le = number_at h sheet.job (λ v. Gets sheet v) f t.at in
+    let place : sheet.place ≡ handed_at h sheet.job = ap (λ (s : Sheet C). s.place) t.at.is.is in
+    record {
+      numbers = f.numbers;
+      once = f.once;
+      fresh = λ j lt. (
+          let u = f.fresh j lt in
+          let ne : sheet.job ≢ j = λ same. (let m : sheet.job ≡ j = same in omega arith) in
+          record {
+            acts = u.acts;
+            handed = handed_more h p sheet j ne ∙ u.handed;
+            back = back_same h p sheet j ∙ u.back;
+            ended = λ open'. ended_turn h p sheet Handed j ne (u.ended open');
+          });
+      begun = λ j e. elim (test sheet.job j) [
+        | inl s ↦ absurd (received_now h p sheet f t (subst (λ (i : ℕ). received_at h i ≡ false) (sym s.0) e))
+        | inr s ↦ count_more h p sheet j s.0 ∙ f.begun j e
+      ];
+      back = λ j. elim (test sheet.job j) [
+        | inl s ↦ let m = count_one h p sheet j s.0 in let b = f.back j in let d = back_same h p sheet j in omega arith
+        | inr s ↦ let m = count_more h p sheet j s.0 in let b = f.back j in let d = back_same h p sheet j in omega arith
+      ];
+      out = λ q x e. elim (test p q) [
+        | inl s ↦
+            let x' : sheet ≡ x = some_sheet sheet x (rw s.1 at e) in
+            let j' : sheet.job ≡ x.job = ap (λ (y : Sheet C). y.job) x' in
+            let now' : handed_at h x.job ≡ back_of h x.job = subst (λ (i : ℕ). handed_at h i ≡ back_of h i) j' here in
+            let m = count_one h p sheet x.job j' in
+            let d = back_same h p sheet x.job in
+            let pl : x.place ≡ handed_at h x.job = subst (λ (y : Sheet C). y.place ≡ handed_at h y.job) x' place in
+            (rw s.1 (ap (λ (i : ℕ). Some i) j'), omega arith, omega arith)
+        | inr s ↦
+            let o = f.out q x (rw s.1 at e) in
+            let ne : sheet.job ≢ x.job = λ same. others h p sheet f t q (λ z. s.0 (sym z)) (subst (λ (i : ℕ). began_at h q ≡ Some i) (sym same) o.0) in
+            let m = count_more h p sheet x.job ne in
+            let d = back_same h p sheet x.job in
+            let o1 = o.1 in
+            let o2 = o.2 in
+            (rw s.1 o.0, omega arith, omega arith)
+      ];
+      idle = λ q j e b. elim (test p q) [
+        | inl s ↦ let x : ◌≡◌ {A = Option (Sheet C)} (Some sheet) None = rw s.1 at e in absurd (none_some sheet (sym x))
+        | inr s ↦
+            let b' : began_at h q ≡ Some j = rw s.1 at b in
+            let ne : sheet.job ≢ j = λ same. others h p sheet f t q (λ z. s.0 (sym z)) (subst (λ (i : ℕ). began_at h q ≡ Some i) (sym same) b') in
+            let i = f.idle q j (rw s.1 at e) b' in
+            let m = count_more h p sheet j ne in
+            let d = back_same h p sheet j in
+            omega arith
+      ];
+      began = λ q j b. elim (test sheet.job j) [
+        | inl s ↦ let m = count_one h p sheet j s.0 in omega arith
+        | inr s ↦ elim (test p q) [
+          | inl r ↦ absurd (s.0 (some_is sheet.job j (rw r.1 at b)))
+          | inr r ↦ let m = count_more h p sheet j s.0 in let o = f.began q j (rw r.1 at b) in omega arith
+        ]
+      ];
+      alone = λ q r j b d. elim (test p q) [
+        | inl s ↦ elim (test p r) [
+          | inl u ↦ sym s.0 ∙ u.0
+          | inr u ↦
+              let same : sheet.job ≡ j = some_is sheet.job j (rw s.1 at b) in
+              absurd (others h p sheet f t r (λ z. u.0 (sym z)) (subst (λ (i : ℕ). began_at h r ≡ Some i) (sym same) (rw u.1 at d)))
+        ]
+        | inr s ↦ elim (test p r) [
+          | inl u ↦
+              let same : sheet.job ≡ j = some_is sheet.job j (rw u.1 at d) in
+              absurd (others h p sheet f t q (λ z. s.0 (sym z)) (subst (λ (i : ℕ). began_at h q ≡ Some i) (sym same) (rw s.1 at b)))
+          | inr u ↦ f.alone q r j (rw s.1 at b) (rw u.1 at d)
+        ]
+      ];
+    }
+
+-- a page that comes back
+
+pub handed_same : {C : Type 0} (h : List (Event C)) (p : ℕ) (sheet : Sheet C) (turn : Turn) (j : ℕ) → is_handed turn ≡ false → handed_of (AtPrinter p sheet turn ∷ h) j ≡ handed_of h j
+handed_same h p sheet turn j e = elim (test sheet.job j) [ inl s ↦ rw (s.1, e) refl | inr s ↦ rw s.1 refl ]
+
+began_same : {C : Type 0} (h : List (Event C)) (p : ℕ) (sheet : Sheet C) (turn : Turn) (q : ℕ) → is_handed turn ≡ false → began_at (AtPrinter p sheet turn ∷ h) q ≡ began_at h q
+began_same h p sheet turn q e = elim (test p q) [ inl s ↦ rw (s.1, e) refl | inr s ↦ rw s.1 refl ]
+
+pub back_more : {C : Type 0} (h : List (Event C)) (p : ℕ) (sheet : Sheet C) (turn : Turn) (j : ℕ) → sheet.job ≢ j → back_of (AtPrinter p sheet turn ∷ h) j ≡ back_of h j
+back_more h p sheet turn j ne = elim (test sheet.job j) [ inl s ↦ absurd (ne s.0) | inr s ↦ rw s.1 refl ]
+
+pub back_one : {C : Type 0} (h : List (Event C)) (p : ℕ) (sheet : Sheet C) (turn : Turn) (j : ℕ) → is_handed turn ≡ false → sheet.job ≡ j → back_of (AtPrinter p sheet turn ∷ h) j ≡ back_of h j + 1
+back_one h p sheet turn j e same = elim (test sheet.job j) [ inl s ↦ rw (s.1, e) refl | inr s ↦ absurd (s.0 same) ]
+
+out_here : {C : Type 0} (h : List (Event C)) (p : ℕ) (sheet : Sheet C) (turn : Turn) (q : ℕ) → is_handed turn ≡ false → p ≡ q → out_at (AtPrinter p sheet turn ∷ h) q ≡ None
+out_here h p sheet turn q e same = elim (test p q) [ inl s ↦ rw (s.1, e) refl | inr s ↦ absurd (s.0 same) ]
+
+out_there : {C : Type 0} (h : List (Event C)) (p : ℕ) (sheet : Sheet C) (turn : Turn) (q : ℕ) → p ≢ q → out_at (AtPrinter p sheet turn ∷ h) q ≡ out_at h q
+out_there h p sheet turn q ne = elim (test p q) [ inl s ↦ absurd (ne s.0) | inr s ↦ rw s.1 refl ]
+
+-- a job of which a page is out was accepted
+known_by : {C : Type 0} (h : List (Event C)) (j : ℕ) (b : Bool) → nat_lt (length (openings h)) j ≡ b → Facts h → 0 < handed_at h j → IsNumber h j
+known_by h j false e f pos = grind (arith, nat_tests)
+known_by h j true e f pos =
+    let lt : length (openings h) < j = grind (arith, nat_tests) in
+    let z : handed_at h j ≡ 0 = ap length (f.fresh j lt).handed in
+    absurd (omega arith)
+
+pub handed_number : {C : Type 0} (h : List (Event C)) (j : ℕ) → Facts h → 0 < handed_at h j → IsNumber h j
+handed_number h j f pos = known_by h j (nat_lt (length (openings h)) j) refl f pos
+
+facts_back : {C : Type 0} (h : List (Event C)) (p : ℕ) (sheet : Sheet C) (turn : Turn) → is_handed turn ≡ false → Facts h → out_at h p ≡ Some sheet → Facts (AtPrinter p sheet turn ∷ h)
+facts_back {C} h p sheet turn is f o =
+    let was = f.out p sheet o in
+    let was1 = was.1 in
+    let le = handed_number h sheet.job f (omega arith) in
+    record {
+      numbers = f.numbers;
+      once = f.once;
+      fresh = λ j lt. (
+          let u = f.fresh j lt in
+          let ne : sheet.job ≢ j = λ same. (let m : sheet.job ≡ j = same in omega arith) in
+          record {
+            acts = u.acts;
+            handed = handed_same h p sheet turn j is ∙ u.handed;
+            back = back_more h p sheet turn j ne ∙ u.back;
+            ended = λ open'. ended_turn h p sheet turn j ne (u.ended open');
+          });
+      begun = λ j e. ap length (handed_same h p sheet turn j is) ∙ f.begun j e;
+      back = λ j. (
+          let s = ap length (handed_same h p sheet turn j is) in
+          elim (test sheet.job j) [
+            | inl r ↦
+                let m = back_one h p sheet turn j is r.0 in
+                let w : handed_at h j ≡ back_of h j + 1 = subst (λ (i : ℕ). handed_at h i ≡ back_of h i + 1) r.0 was.1 in
+                omega arith
+            | inr r ↦ let m = back_more h p sheet turn j r.0 in let b = f.back j in omega arith
+          ]);
+      out = λ q x e. elim (test p q) [
+        | inl s ↦ absurd (none_some x (sym (out_here h p sheet turn q is s.0) ∙ e))
+        | inr s ↦
+            let x' = f.out q x (sym (out_there h p sheet turn q s.0) ∙ e) in
+            let ne : sheet.job ≢ x.job = λ same. s.0 (f.alone p q sheet.job was.0 (subst (λ (i : ℕ). began_at h q ≡ Some i) (sym same) x'.0)) in
+            let m = back_more h p sheet turn x.job ne in
+            let n = ap length (handed_same h p sheet turn x.job is) in
+            let x1 = x'.1 in
+            let x2 = x'.2 in
+            (began_same h p sheet turn q is ∙ x'.0, omega arith, omega arith)
+      ];
+      idle = λ q j e b. (
+          let b' : began_at h q ≡ Some j = sym (began_same h p sheet turn q is) ∙ b in
+          let n = ap length (handed_same h p sheet turn j is) in
+          elim (test p q) [
+            | inl s ↦
+                let j' : sheet.job ≡ j = some_is sheet.job j (sym was.0 ∙ subst (λ (r : ℕ). began_at h r ≡ Some j) (sym s.0) b') in
+                let m = back_one h p sheet turn j is j' in
+                let w : handed_at h j ≡ back_of h j + 1 = subst (λ (i : ℕ). handed_at h i ≡ back_of h i + 1) j' was.1 in
+                omega arith
+            | inr s ↦
+                let ne : sheet.job ≢ j = λ same. s.0 (f.alone p q sheet.job was.0 (subst (λ (i : ℕ). began_at h q ≡ Some i) (sym same) b')) in
+                let i = f.idle q j (sym (out_there h p sheet turn q s.0) ∙ e) b' in
+                let m = back_more h p sheet turn j ne in
+                omega arith
+          ]);
+      began = λ q j b. (
+          let n = ap length (handed_same h p sheet turn j is) in
+          let o' = f.began q j (sym (began_same h p sheet turn q is) ∙ b) in
+          omega arith);
+      alone = λ q r j b d. f.alone q r j (sym (began_same h p sheet turn q is) ∙ b) (sym (began_same h p sheet turn r is) ∙ d);
+    }
+
+-- the other events
+
+none_named : {C : Type 0} (c : Setup) (h : List (Event C)) (P : Job C → Type 0) (j : ℕ) (jobs : List ℕ) → Facts h → length (openings h) < j → AllByRecursion (λ k. HasJob (now c h) k P) jobs → list_any (λ (k : ℕ). k == j) jobs ≡ false
+none_named c h P j [] f lt all = refl
+none_named c h P j (k ∷ ks) f lt all =
+    let n : k ≤ length (openings h) = number_at h k P f (has_at c h k P all.0) in
+    let rest = none_named c h P j ks f lt all.1 in
+    elim (test k j) [ inl s ↦ let m : k ≡ j = s.0 in absurd (omega arith) | inr s ↦ rw s.1 rest ]
+
+facts_removed : {C : Type 0} (c : Setup) (h : List (Event C)) (P : Job C → Type 0) (q : ℕ) (jobs : List ℕ) → Facts h → AllByRecursion (λ k. HasJob (now c h) k P) jobs → Facts (Removed q jobs ∷ h)
+facts_removed c h P q jobs f all = record {
+  numbers = f.numbers;
+  once = f.once;
+  fresh = λ j lt. (
+      let u = f.fresh j lt in
+      let none = none_named c h P j jobs f lt all in
+      record { acts = u.acts; handed = u.handed; back = u.back; ended = λ open'. rw none (u.ended open') });
+  begun = f.begun;
+  back = f.back;
+  out = f.out;
+  idle = f.idle;
+  began = f.began;
+  alone = f.alone;
+}
+
+facts_started : {C : Type 0} (h : List (Event C)) (q : ℕ) → Facts h → Facts (Started q ∷ h)
+facts_started h q f = record {
+  numbers = f.numbers;
+  once = f.once;
+  fresh = λ j lt. (let u = f.fresh j lt in record { acts = u.acts; handed = u.handed; back = u.back; ended = u.ended });
+  begun = f.begun;
+  back = f.back;
+  out = f.out;
+  idle = f.idle;
+  began = f.began;
+  alone = f.alone;
+}
+
+facts_closed : {C : Type 0} (h : List (Event C)) → Facts h → Facts (Closed ∷ h)
+facts_closed h f = record {
+  numbers = f.numbers;
+  once = f.once;
+  fresh = λ j lt. (let u = f.fresh j lt in record { acts = u.acts; handed = u.handed; back = u.back; ended = λ open'. absurd (clash true refl open') });
+  begun = f.begun;
+  back = f.back;
+  out = f.out;
+  idle = f.idle;
+  began = f.began;
+  alone = f.alone;
+}
+
+no_facts : {C : Type 0} → Facts {C = C} []
+no_facts = record {
+  numbers = λ o has. absurd has;
+  once = λ o i has also same. absurd has;
+  fresh = λ j lt. record { acts = refl; handed = refl; back = refl; ended = λ open'. refl };
+  begun = λ j e. refl;
+  back = λ j. omega arith;
+  out = λ p s e. absurd cc;
+  idle = λ p j e b. refl;
+  began = λ p j b. absurd cc;
+  alone = λ p q j b d. absurd cc;
+}
+
+received_aborted : {C : Type 0} (h : List (Event C)) (k : ℕ) → received_at (OfJob k Aborted ∷ h) k ≡ false → received_at h k ≡ false
+received_aborted h k e = elim (test k k) [ inl r ↦ rw r.1 at e | inr r ↦ absurd (r.0 refl) ]
+
+-- a page that is out at a printer
+pub is_out : {C : Type 0} (c : Setup) (h : List (Event C)) (p : ℕ) (sheet : Sheet C) → IsPrinter c p → (printer_at (now c h) p).out ≡ Some sheet → out_at h p ≡ Some sheet
+is_out {C} c h p sheet is e = sym (ap (λ (x : Printer C). x.out) (at_printer c h p is.0 is.1)) ∙ e
+
+facts_step : {C : Type 0} (size : C → ℕ) (c : Setup) (h : List (Event C)) (e : Event C) → Facts h → May size (now c h) e → Facts (e ∷ h)
+facts_step size c h (OfJob k (Opened s q)) f m = facts_opened h k s q f m.4
+facts_step size c h (OfJob k Granted) f m =
+    let a = has_at c h k _ m.0 in
+    facts_act h k Granted f (number_at h k _ f a) refl (λ e. a.is.0.1)
+facts_step size c h (OfJob k (Began name count)) f m =
+    let a = has_at c h k _ m.1 in
+    facts_act h k (Began name count) f (number_at h k _ f a) refl (λ e. a.is.0.1)
+facts_step size c h (OfJob k (Put file number page)) f m =
+    let a = has_at c h k _ m in
+    facts_act h k (Put file number page) f (number_at h k _ f a) refl (λ e. a.is.0.1)
+facts_step size c h (OfJob k (FileEnded file whole)) f m =
+    let a = has_at c h k _ m in
+    facts_act h k (FileEnded file whole) f (number_at h k _ f a) refl (λ e. a.is.0.1)
+facts_step size c h (OfJob k (Controlled control whole)) f m =
+    let a = has_at c h k _ m.1 in
+    facts_act h k (Controlled control whole) f (number_at h k _ f a) refl (λ e. a.is.0.1)
+facts_step size c h (OfJob k Aborted) f m =
+    let a = has_at c h k _ m in
+    facts_act h k Aborted f (number_at h k _ f a) refl (received_aborted h k)
+facts_step size c h (AtPrinter p sheet Handed) f m = facts_handed h p sheet f (turn_of_page c h p sheet m.0.0 m.0.1 m.1)
+facts_step size c h (AtPrinter p sheet (Printed x)) f m = facts_back h p sheet (Printed x) refl f (is_out c h p sheet m.0 m.1.0)
+facts_step size c h (AtPrinter p sheet Failed) f m = facts_back h p sheet Failed refl f (is_out c h p sheet m.0 m.1)
+facts_step size c h (Removed q jobs) f m = facts_removed c h _ q jobs f m.4
+facts_step size c h (Started q) f m = facts_started h q f
+facts_step size c h Closed f m = facts_closed h f
+
+pub facts : {C : Type 0} (size : C → ℕ) (c : Setup) (h : List (Event C)) → IsLegal size c h → Facts h
+facts size c [] l = no_facts
+facts size c (e ∷ h) l = facts_step size c h e (facts size c h l.1) l.0

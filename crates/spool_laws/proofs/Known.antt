@@ -1,0 +1,149 @@
+-- The jobs that a spool holds are accepted ones.
+use Rattle.std.proofs.Common.{◌⊎◌, inl, inr, ◌≡◌, ◌==◌, ◌≢◌, ℕ, zero, suc, ◌<◌, Bool, true, false, List, [], ◌∷◌, ◌++◌, length, get_or, map, refl, sym, ◌∙◌, ap, subst, arith}
+use Rattle.std.specs.Prelude.{◌&&◌, ◌||◌, not, cond, filter, find, Contains, Some}
+use Rattle.std.specs.List.{list_any}
+use Rattle.std.proofs.lemmas.Bool.Decides.{nat_tests}
+use Rattle.spool_history.specs.Events.{Event}
+use Rattle.spool_history.specs.Setup.{Setup}
+use Rattle.spool_history.specs.Said.{Opening, openings}
+use Rattle.spool_history.specs.Now.{Job, now, job_of, is_held}
+use Rattle.spool_history.specs.Legal.{HasJob}
+
+abbrev Same : ℕ → ℕ → Type 0
+Same k j = ((k ≡ j) × ((k == j) ≡ true)) ⊎ ((k ≢ j) × ((k == j) ≡ false))
+
+test_by : (k j : ℕ) (b : Bool) → (k == j) ≡ b → Same k j
+test_by k j true e = inl (grind (arith, nat_tests), e)
+test_by k j false e = inr (grind (arith, nat_tests), e)
+
+pub test : (k j : ℕ) → Same k j
+test k j = test_by k j (k == j) refl
+
+pub clash : (b : Bool) → b ≡ true → b ≡ false → ⊥
+clash b e f = cc
+
+pub and_true : (a b : Bool) → (a && b) ≡ true → (a ≡ true) × (b ≡ true)
+and_true true b e = (refl, e)
+and_true false b e = absurd cc
+
+pub both_true : (a b : Bool) → a ≡ true → b ≡ true → (a && b) ≡ true
+both_true true b e f = f
+both_true false b e f = absurd cc
+
+pub not_true : (a : Bool) → not a ≡ true → a ≡ false
+not_true true e = absurd cc
+not_true false e = refl
+
+pub or_false : (a b : Bool) → (a || b) ≡ false → (a ≡ false) × (b ≡ false)
+or_false true b e = absurd cc
+or_false false b e = (refl, e)
+
+pub or_true : (b : Bool) → (b || true) ≡ true
+or_true true = refl
+or_true false = refl
+
+pub and_false : (b : Bool) → (b && false) ≡ false
+and_false true = refl
+and_false false = refl
+
+-- x is one of xs
+abbrev pub Has : {X : Type 0} → X → List X → Type 0
+Has x [] = ⊥
+Has x (y ∷ ys) = (y ≡ x) ⊎ Has x ys
+
+pub has_at_place : {X : Type 0} (x : X) (xs : List X) (k : ℕ) → k < length xs → get_or xs k x ≡ x → Has x xs
+has_at_place x [] k lt is = omega arith
+has_at_place x (y ∷ ys) zero lt is = inl is
+has_at_place x (y ∷ ys) (suc k) lt is = inr (has_at_place x ys k (omega arith) is)
+
+pub has_contained : {X : Type 0} (x : X) (xs : List X) → Contains xs x → Has x xs
+has_contained x xs c = has_at_place x xs c.0 c.1 c.2
+
+pub has_last : {X : Type 0} (o : X) (os : List X) (x : X) → Has o (os ++ x ∷ []) → Has o os ⊎ (x ≡ o)
+has_last o [] x h = elim h [ inl e ↦ inr e | inr n ↦ absurd n ]
+has_last o (y ∷ os) x h = elim h [ inl e ↦ inl (inl e) | inr t ↦ elim (has_last o os x t) [ inl a ↦ inl (inr a) | inr b ↦ inr b ] ]
+
+find_step : {X : Type 0} (test : X → Bool) (x y : X) (ys : List X) (b : Bool) → test y ≡ b → find test (y ∷ ys) ≡ Some x → (find test ys ≡ Some x → Has x ys × (test x ≡ true)) → Has x (y ∷ ys) × (test x ≡ true)
+find_step {X} test x y ys true is e rest =
+    let first : Some y ≡ Some x = rw is at e in
+    let same : y ≡ x = cc in
+    (inl same, subst (λ (v : X). test v ≡ true) same is)
+find_step {X} test x y ys false is e rest =
+    let more : find test ys ≡ Some x = rw is at e in
+    (inr (rest more).0, (rest more).1)
+
+pub find_has : {X : Type 0} (test : X → Bool) (x : X) (xs : List X) → find test xs ≡ Some x → Has x xs × (test x ≡ true)
+find_has test x [] e = absurd cc
+find_has test x (y ∷ ys) e = find_step test x y ys (test y) refl e (find_has test x ys)
+
+pub none_of : {X : Type 0} (test' : X → Bool) (y : X) (xs : List X) → list_any test' xs ≡ false → Has y xs → test' y ≡ false
+none_of test' y [] e has = absurd has
+none_of {X} test' y (x ∷ xs) e has = elim has [
+  | inl s ↦ subst (λ (z : X). test' z ≡ false) s (or_false (test' x) (list_any test' xs) e).0
+  | inr t ↦ none_of test' y xs (or_false (test' x) (list_any test' xs) e).1 t
+]
+
+pub filter_cons : {C : Type 0} (b : Bool) (x : Job C) (xs : List (Job C)) → is_held x ≡ b → filter is_held (x ∷ xs) ≡ cond b (x ∷ filter is_held xs) (filter is_held xs)
+filter_cons b x xs e = rw e refl
+
+-- a held job is an accepted one, of which the history says that
+pub record Known {C : Type 0} (h : List (Event C)) (os : List Opening) (x : Job C) : Type 0 where
+  pub opening : Opening
+  pub is : x ≡ job_of h opening
+  pub held : is_held x ≡ true
+  pub there : Has opening os
+
+known_step : {C : Type 0} (h : List (Event C)) (o : Opening) (os : List Opening) (x : Job C) (b : Bool) → is_held (job_of h o) ≡ b → Has x (filter is_held (map (job_of h) (o ∷ os)))
+    → (Has x (filter is_held (map (job_of h) os)) → Known h os x) → Known h (o ∷ os) x
+known_step {C} h o os x false e has rest =
+    let r = rest (subst (λ (l : List (Job C)). Has x l) (filter_cons false (job_of h o) (map (job_of h) os) e) has) in
+    record { opening = r.opening; is = r.is; held = r.held; there = inr r.there }
+known_step {C} h o os x true e has rest =
+    let here : (job_of h o ≡ x) ⊎ Has x (filter is_held (map (job_of h) os)) = subst (λ (l : List (Job C)). Has x l) (filter_cons true (job_of h o) (map (job_of h) os) e) has in
+    elim here [
+      | inl s ↦ record { opening = o; is = sym s; held = subst (λ (v : Job C). is_held v ≡ true) s e; there = inl refl }
+      | inr t ↦ let r = rest t in record { opening = r.opening; is = r.is; held = r.held; there = inr r.there }
+    ]
+
+known_in : {C : Type 0} (h : List (Event C)) (os : List Opening) (x : Job C) → Has x (filter is_held (map (job_of h) os)) → Known h os x
+known_in h [] x has = absurd has
+known_in h (o ∷ os) x has = known_step h o os x (is_held (job_of h o)) refl has (known_in h os x)
+
+pub known : {C : Type 0} (c : Setup) (h : List (Event C)) (x : Job C) → Has x (now c h).jobs → Known h (openings h) x
+known c h x there = known_in h (openings h) x there
+
+-- whether the job of this number is held
+abbrev pub held_at : {C : Type 0} → List (Event C) → ℕ → Bool
+held_at h k = is_held (job_of h (record { job = k; sender = 0; queue = 0 }))
+
+-- what is said of it by its number
+pub record At {C : Type 0} (h : List (Event C)) (j : ℕ) (P : Job C → Type 0) : Type 0 where
+  pub sender : ℕ
+  pub queue : ℕ
+  pub there : Has (record { job = j; sender = sender; queue = queue }) (openings h)
+  pub held : held_at h j ≡ true
+  pub is : P (job_of h (record { job = j; sender = sender; queue = queue }))
+
+pub known_at : {C : Type 0} (h : List (Event C)) (x : Job C) (j : ℕ) (P : Job C → Type 0) → Known h (openings h) x → x.number ≡ j → P x → At h j P
+known_at {C} h x j P k e p =
+    let n : j ≡ k.opening.job = sym e ∙ ap (λ (v : Job C). v.number) k.is in
+    let o : record { job = j; sender = k.opening.sender; queue = k.opening.queue } ≡ k.opening = ap (λ (i : ℕ). record { job = i; sender = k.opening.sender; queue = k.opening.queue }) n in
+    record {
+      sender = k.opening.sender;
+      queue = k.opening.queue;
+      there = subst (λ (q : Opening). Has q (openings h)) (sym o) k.there;
+      held = subst (λ (i : ℕ). held_at h i ≡ true) (sym n) (subst (λ (v : Job C). is_held v ≡ true) k.is k.held);
+      is = subst (λ (q : Opening). P (job_of h q)) (sym o) (subst P k.is p);
+    }
+
+pub has_at : {C : Type 0} (c : Setup) (h : List (Event C)) (j : ℕ) (P : Job C → Type 0) → HasJob (now c h) j P → At h j P
+has_at c h j P m = known_at h m.job j P (known c h m.job (has_contained m.job (now c h).jobs m.there)) m.number m.is
+
+-- an accepted job that is held is among the held ones
+has_kept_by : {C : Type 0} (h : List (Event C)) (o q : Opening) (os : List Opening) (b : Bool) → is_held (job_of h q) ≡ b → is_held (job_of h o) ≡ true → (q ≡ o) ⊎ Has o os → (Has o os → Has (job_of h o) (filter is_held (map (job_of h) os))) → Has (job_of h o) (filter is_held (map (job_of h) (q ∷ os)))
+has_kept_by h o q os true e held has ih = rw e (elim has [ inl s ↦ inl (ap (job_of h) s) | inr t ↦ inr (ih t) ])
+has_kept_by h o q os false e held has ih = rw e (elim has [ inl s ↦ absurd (clash (is_held (job_of h o)) held (subst (λ (y : Opening). is_held (job_of h y) ≡ false) s e)) | inr t ↦ ih t ])
+
+pub has_kept : {C : Type 0} (h : List (Event C)) (o : Opening) (os : List Opening) → is_held (job_of h o) ≡ true → Has o os → Has (job_of h o) (filter is_held (map (job_of h) os))
+has_kept h o [] held has = absurd has
+has_kept h o (q ∷ os) held has = has_kept_by h o q os (is_held (job_of h q)) refl held has (has_kept h o os held)

@@ -1,0 +1,154 @@
+-- One more event leaves the spool where its step leads.
+use Rattle.std.proofs.Common.{inl, inr, ◌≡◌, ◌==◌, ℕ, ◌+◌, Bool, true, false, List, [], ◌∷◌, ◌++◌, length, map, refl, sym, ◌∙◌, ap, subst, arith}
+use Rattle.std.specs.Prelude.{◌||◌, not, cond, filter, sum_by}
+use Rattle.std.specs.List.{list_any}
+use Rattle.std.proofs.lemmas.List.{append-nil, map-append, length_push}
+use Rattle.std.proofs.lemmas.List.Elements.{filter-append}
+use Rattle.std.proofs.lemmas.List.Sums.{sum_by_push}
+use Rattle.std.proofs.lemmas.Bool.Decides.{nat_tests}
+use Rattle.spool_history.specs.Events.{Event}
+use Rattle.spool_history.specs.Events.Act.{Opened, Granted, Began, Put, FileEnded, Controlled, Aborted}
+use Rattle.spool_history.specs.Events.Turn.{Handed, Printed, Failed}
+use Rattle.spool_history.specs.Events.Event.{OfJob, AtPrinter, Removed, Started, Closed}
+use Rattle.spool_history.specs.Setup.{Setup, printer_count, reserve_of}
+use Rattle.spool_history.specs.Said.{Opening, openings, acts_of, back_of, has_ended, is_closed}
+use Rattle.spool_history.specs.Now.{Job, Printer, State, now, job_of, is_held, has_page_out, printer_of, up_to}
+use Rattle.spool_history.specs.Acts.{is_lent_by}
+use Rattle.spool_history.specs.Steps.{change, acted, turned, new_job, accepted_by, printers_after, closed_after, after}
+use Rattle.spool_history.specs.Legal.{May, IsLegal, IsLeftBy}
+use Rattle.spool_laws.proofs.Known.{has_at, held_at, filter_cons, clash, or_true, test}
+use Rattle.spool_laws.proofs.Changes.{changes}
+use Rattle.spool_laws.proofs.Printers.{printers_turned, printers_started}
+use Rattle.spool_laws.proofs.Facts.{Facts, facts, turn_of_page, is_out, handed_at}
+
+-- a job that is gone stays gone
+abbrev pub StaysGone : {C : Type 0} → List (Event C) → Event C → Type 0
+StaysGone h e = (o : Opening) → is_held (job_of h o) ≡ false → is_held (change e (job_of h o)) ≡ false
+
+held_step : {C : Type 0} (f : Job C → Job C) (v : Job C) (vs : List (Job C)) (b : Bool) → is_held v ≡ b → (is_held v ≡ false → is_held (f v) ≡ false)
+    → filter is_held (map f vs) ≡ filter is_held (map f (filter is_held vs)) → filter is_held (map f (v ∷ vs)) ≡ filter is_held (map f (filter is_held (v ∷ vs)))
+held_step {C} f v vs true e g ih = ap (λ (r : List (Job C)). cond (is_held (f v)) (f v ∷ r) r) ih ∙ sym (ap (λ (r : List (Job C)). filter is_held (map f r)) (filter_cons true v vs e))
+held_step {C} f v vs false e g ih = filter_cons false (f v) (map f vs) (g e) ∙ (ih ∙ sym (ap (λ (r : List (Job C)). filter is_held (map f r)) (filter_cons false v vs e)))
+
+-- so it is enough to change the held ones
+held_changes : {C : Type 0} (f : Job C → Job C) (g : Opening → Job C) (os : List Opening) → ((o : Opening) → is_held (g o) ≡ false → is_held (f (g o)) ≡ false) → filter is_held (map f (map g os)) ≡ filter is_held (map f (filter is_held (map g os)))
+held_changes f g [] k = refl
+held_changes f g (o ∷ os) k = held_step f (g o) (map g os) (is_held (g o)) refl (k o) (held_changes f g os k)
+
+map_changes : {C : Type 0} (f : Job C → Job C) (g k : Opening → Job C) (os : List Opening) → ((o : Opening) → k o ≡ f (g o)) → map k os ≡ map f (map g os)
+map_changes f g k [] e = refl
+map_changes f g k (o ∷ os) e = cc (e o, map_changes f g k os e)
+
+jobs_change : {C : Type 0} (h : List (Event C)) (e : Event C) → StaysGone h e → filter is_held (map (job_of (e ∷ h)) (openings h)) ≡ filter is_held (map (change e) (filter is_held (map (job_of h) (openings h))))
+jobs_change {C} h e g = ap (filter is_held) (map_changes (change e) (job_of h) (job_of (e ∷ h)) (openings h) (changes h e)) ∙ held_changes (change e) (job_of h) (openings h) g
+
+-- an event that names one held job
+stays_named : {C : Type 0} (h : List (Event C)) (e : Event C) (new : Job C → Job C) (k : ℕ) → ((v : Job C) → change e v ≡ cond (k == v.number) (new v) v) → held_at h k ≡ true → StaysGone h e
+stays_named {C} h e new k is held o gone = subst (λ (v : Job C). is_held v ≡ false) (sym (is (job_of h o))) (elim (test k o.job) [
+  | inl s ↦ absurd (clash (held_at h o.job) (subst (λ (j : ℕ). held_at h j ≡ true) s.0 held) gone)
+  | inr s ↦ rw s.1 gone
+])
+
+-- what has ended and has no page out is gone
+gone_ended : (e p : Bool) → (not e || p) ≡ false → (not true || p) ≡ false
+gone_ended true p g = g
+gone_ended false p g = absurd cc
+
+stays_removed : {C : Type 0} (h : List (Event C)) (q : ℕ) (jobs : List ℕ) (o : Opening) (b : Bool) → list_any (λ (k : ℕ). k == o.job) jobs ≡ b → is_held (job_of h o) ≡ false → is_held (change (Removed q jobs) (job_of h o)) ≡ false
+stays_removed h q jobs o true e gone = rw e (gone_ended (has_ended h o.job) (has_page_out (job_of h o)) gone)
+stays_removed h q jobs o false e gone = rw e gone
+
+stays_opened : {C : Type 0} (h : List (Event C)) (k s q : ℕ) → StaysGone h (OfJob k (Opened s q))
+stays_opened h k s q o gone = elim (test k o.job) [ inl r ↦ rw r.1 gone | inr r ↦ rw r.1 gone ]
+
+-- a job of which a page is out is held
+out_held : {C : Type 0} (h : List (Event C)) (k : ℕ) → handed_at h k ≡ back_of h k + 1 → held_at h k ≡ true
+out_held h k e =
+    let ne : (handed_at h k == back_of h k) ≡ false = grind (arith, nat_tests) in
+    rw ne (rw (or_true (is_lent_by (acts_of h k))) (or_true (not (has_ended h k))))
+
+pub stays : {C : Type 0} (size : C → ℕ) (c : Setup) (h : List (Event C)) (e : Event C) → IsLegal size c h → May size (now c h) e → StaysGone h e
+stays size c h (OfJob k (Opened s q)) l m = stays_opened h k s q
+stays size c h (OfJob k Granted) l m = stays_named h (OfJob k Granted) (acted Granted) k (λ v. refl) (has_at c h k _ m.0).held
+stays size c h (OfJob k (Began name count)) l m = stays_named h (OfJob k (Began name count)) (acted (Began name count)) k (λ v. refl) (has_at c h k _ m.1).held
+stays size c h (OfJob k (Put file number page)) l m = stays_named h (OfJob k (Put file number page)) (acted (Put file number page)) k (λ v. refl) (has_at c h k _ m).held
+stays size c h (OfJob k (FileEnded file whole)) l m = stays_named h (OfJob k (FileEnded file whole)) (acted (FileEnded file whole)) k (λ v. refl) (has_at c h k _ m).held
+stays size c h (OfJob k (Controlled control whole)) l m = stays_named h (OfJob k (Controlled control whole)) (acted (Controlled control whole)) k (λ v. refl) (has_at c h k _ m.1).held
+stays size c h (OfJob k Aborted) l m = stays_named h (OfJob k Aborted) (acted Aborted) k (λ v. refl) (has_at c h k _ m).held
+stays size c h (AtPrinter p sheet Handed) l m =
+    stays_named h (AtPrinter p sheet Handed) (turned Handed) sheet.job (λ v. refl) (turn_of_page c h p sheet m.0.0 m.0.1 m.1).at.held
+stays size c h (AtPrinter p sheet (Printed x)) l m =
+    stays_named h (AtPrinter p sheet (Printed x)) (turned (Printed x)) sheet.job (λ v. refl) (out_held h sheet.job ((facts size c h l).out p sheet (is_out c h p sheet m.0 m.1.0)).1)
+stays size c h (AtPrinter p sheet Failed) l m =
+    stays_named h (AtPrinter p sheet Failed) (turned Failed) sheet.job (λ v. refl) (out_held h sheet.job ((facts size c h l).out p sheet (is_out c h p sheet m.0 m.1)).1)
+stays size c h (Removed q jobs) l m = λ o gone. stays_removed h q jobs o (list_any (λ (k : ℕ). k == o.job) jobs) refl gone
+stays size c h (Started q) l m = λ o gone. gone
+stays size c h Closed l m = λ o gone. gone_ended (has_ended h o.job) (has_page_out (job_of h o)) gone
+
+-- what is gone stays gone
+pub steady : {C : Type 0} (size : C → ℕ) (c : Setup) (h : List (Event C)) (e : Event C) → IsLegal size c h → May size (now c h) e → (o : Opening) → is_held (job_of h o) ≡ false → is_held (job_of (e ∷ h) o) ≡ false
+steady {C} size c h e l m o gone = subst (λ (v : Job C). is_held v ≡ false) (sym (changes h e o)) (stays size c h e l m o gone)
+
+abbrev Moved : {C : Type 0} → Setup → List (Event C) → Event C → Type 0
+Moved c h e = now c (e ∷ h) ≡ after e (now c h)
+
+-- an event that accepts no job
+moved_by : {C : Type 0} (c : Setup) (h : List (Event C)) (e : Event C) → openings (e ∷ h) ≡ openings h → accepted_by e ≡ [] → StaysGone h e
+    → map (printer_of c (e ∷ h)) (up_to (printer_count c)) ≡ printers_after e (now c h) → is_closed (e ∷ h) ≡ closed_after e (is_closed h) → Moved c h e
+moved_by {C} c h e os none st pr cl =
+    let kept = filter is_held (map (change e) (now c h).jobs) in
+    let jobs : filter is_held (map (job_of (e ∷ h)) (openings (e ∷ h))) ≡ kept ++ accepted_by e =
+    ap (λ (l : List Opening). filter is_held (map (job_of (e ∷ h)) l)) os ∙ (jobs_change h e st ∙ (sym (append-nil kept) ∙ ap (λ (l : List (Job C)). kept ++ l) (sym none))) in
+    let count : length (openings (e ∷ h)) ≡ length (openings h) + length (accepted_by e) =
+    ap length os ∙ (let z = ap length none in omega arith) in
+    let reserve : Opening → ℕ = λ (o : Opening). reserve_of c o.queue in
+    let reserve' : Job C → ℕ = λ (v : Job C). reserve_of c v.queue in
+    let sums : sum_by reserve (openings (e ∷ h)) ≡ sum_by reserve (openings h) + sum_by reserve' (accepted_by e) =
+    ap (sum_by reserve) os ∙ (let z : sum_by reserve' (accepted_by e) ≡ 0 = ap (sum_by reserve') none in omega arith) in
+    cc (jobs, count, sums, pr, cl)
+
+same_state : {C : Type 0} (c : Setup) (jobs jobs' : List (Job C)) (n n' r r' : ℕ) (ps : List (Printer C)) (b : Bool) → jobs ≡ jobs' → n ≡ n' → r ≡ r'
+    → ◌≡◌ {A = State C} (record { setup = c; jobs = jobs; accepted = n; reserved = r; printers = ps; closed = b }) (record { setup = c; jobs = jobs'; accepted = n'; reserved = r'; printers = ps; closed = b })
+same_state c jobs jobs' n n' r r' ps b x y z = cc (x, y, z)
+
+moved_opened : {C : Type 0} (c : Setup) (h : List (Event C)) (j s q : ℕ) → Facts h → is_closed h ≡ false → j ≡ length (openings h) + 1 → Moved c h (OfJob j (Opened s q))
+moved_opened {C} c h j s q f open' is =
+    let e : Event C = OfJob j (Opened s q) in
+    let o : Opening = record { job = j; sender = s; queue = q } in
+    let u = f.fresh j (omega arith) in
+    let a = u.acts in
+    let b = u.handed in
+    let d = u.back in
+    let n = u.ended open' in
+    let new : job_of h o ≡ new_job j s q = rw (a, b, d, n) refl in
+    let same : change e (job_of h o) ≡ job_of h o = (elim (test j j) [ inl r ↦ rw r.1 refl | inr r ↦ rw r.1 refl ]) in
+    let last : filter is_held (map (job_of (e ∷ h)) (o ∷ [])) ≡ new_job j s q ∷ [] = ap (λ (v : Job C). filter is_held (v ∷ [])) (changes h e o ∙ (same ∙ new)) in
+    let split : filter is_held (map (job_of (e ∷ h)) (openings h ++ o ∷ [])) ≡ filter is_held (map (job_of (e ∷ h)) (openings h)) ++ filter is_held (map (job_of (e ∷ h)) (o ∷ [])) =
+    ap (filter is_held) (map-append (job_of (e ∷ h)) (openings h) (o ∷ [])) ∙ filter-append is_held (map (job_of (e ∷ h)) (openings h)) (map (job_of (e ∷ h)) (o ∷ [])) in
+    let old = filter is_held (map (change e) (now c h).jobs) in
+    let kept : filter is_held (map (job_of (e ∷ h)) (openings h)) ≡ old = jobs_change h e (stays_opened h j s q) in
+    let jobs : filter is_held (map (job_of (e ∷ h)) (openings h ++ o ∷ [])) ≡ old ++ new_job j s q ∷ [] =
+    split ∙ (ap (λ (l : List (Job C)). l ++ filter is_held (map (job_of (e ∷ h)) (o ∷ []))) kept ∙ ap (λ (l : List (Job C)). old ++ l) last) in
+    let count : length (openings h ++ o ∷ []) ≡ length (openings h) + 1 = length_push (openings h) o in
+    let sums : sum_by (λ (o : Opening). reserve_of c o.queue) (openings h ++ o ∷ []) ≡ sum_by (λ (o : Opening). reserve_of c o.queue) (openings h) + reserve_of c q = sum_by_push (λ (o : Opening). reserve_of c o.queue) (openings h) o in
+    let one : reserve_of c q ≡ sum_by (λ (v : Job C). reserve_of c v.queue) (new_job j s q ∷ []) = omega arith in
+    same_state c _ _ _ _ _ _ (now c h).printers (is_closed h) jobs count (sums ∙ ap (λ (n : ℕ). sum_by (λ (o : Opening). reserve_of c o.queue) (openings h) + n) one)
+
+pub moved : {C : Type 0} (size : C → ℕ) (c : Setup) (h : List (Event C)) (e : Event C) → IsLegal size c h → May size (now c h) e → now c (e ∷ h) ≡ after e (now c h)
+moved size c h (OfJob k (Opened s q)) l m = moved_opened c h k s q (facts size c h l) m.0 m.4
+moved size c h (OfJob k Granted) l m = moved_by c h (OfJob k Granted) (append-nil (openings h)) refl (stays size c h (OfJob k Granted) l m) refl refl
+moved size c h (OfJob k (Began name count)) l m = moved_by c h (OfJob k (Began name count)) (append-nil (openings h)) refl (stays size c h (OfJob k (Began name count)) l m) refl refl
+moved size c h (OfJob k (Put file number page)) l m = moved_by c h (OfJob k (Put file number page)) (append-nil (openings h)) refl (stays size c h (OfJob k (Put file number page)) l m) refl refl
+moved size c h (OfJob k (FileEnded file whole)) l m = moved_by c h (OfJob k (FileEnded file whole)) (append-nil (openings h)) refl (stays size c h (OfJob k (FileEnded file whole)) l m) refl refl
+moved size c h (OfJob k (Controlled control whole)) l m = moved_by c h (OfJob k (Controlled control whole)) (append-nil (openings h)) refl (stays size c h (OfJob k (Controlled control whole)) l m) refl refl
+moved size c h (OfJob k Aborted) l m = moved_by c h (OfJob k Aborted) (append-nil (openings h)) refl (stays size c h (OfJob k Aborted) l m) refl refl
+moved size c h (AtPrinter p sheet turn) l m = moved_by c h (AtPrinter p sheet turn) refl refl (stays size c h (AtPrinter p sheet turn) l m) (printers_turned c h p sheet turn m.0.0 m.0.1) refl
+moved size c h (Removed q jobs) l m = moved_by c h (Removed q jobs) refl refl (stays size c h (Removed q jobs) l m) refl refl
+moved size c h (Started q) l m = moved_by c h (Started q) refl refl (stays size c h (Started q) l m) (printers_started c h q) refl
+moved size c h Closed l m = moved_by c h Closed refl refl (stays size c h Closed l m) refl refl
+
+pub left_by : {C : Type 0} (size : C → ℕ) (h : List (Event C)) (e : Event C) (v : State C) → IsLeftBy size h v → May size v e → IsLeftBy size (e ∷ h) (after e v)
+left_by {C} size h e v l m =
+    let c = v.setup in
+    let may : May size (now c h) e = subst (λ (u : State C). May size u e) l.here m in
+    record { legal = (may, l.legal); here = ap (after e) l.here ∙ sym (moved size c h e l.legal may) }

@@ -1,0 +1,88 @@
+-- What one more event makes of the printers.
+use Rattle.std.proofs.Common.{inl, inr, ◌≡◌, ◌==◌, ◌≢◌, ℕ, zero, suc, ◌-◌, ◌<◌, ◌≤◌, Bool, true, false, List, [], ◌∷◌, ◌++◌, length, get_or, set, map, refl, sym, ◌∙◌, ap, arith}
+use Rattle.std.specs.Prelude.{cond}
+use Rattle.std.proofs.lemmas.List.{map-append, length-set, same_lists, get_or-set_same, get_or-set_other, get_or_append_left, get_or_at, length_push}
+use Rattle.std.proofs.lemmas.Bool.Decides.{nat_tests}
+use Rattle.spool_history.specs.Events.{Event, Sheet, Turn}
+use Rattle.spool_history.specs.Events.Turn.{Handed, Printed, Failed}
+use Rattle.spool_history.specs.Events.Event.{AtPrinter, Started}
+use Rattle.spool_history.specs.Setup.{Setup, printer_count, queue_of}
+use Rattle.spool_history.specs.Now.{Printer, now, printer_of, up_to}
+use Rattle.spool_history.specs.Next.{printer_at, no_printer}
+use Rattle.spool_history.specs.Steps.{printer_turned, printers_after}
+use Rattle.spool_laws.proofs.Known.{test}
+
+length_up_to : {P : Type 0} (f : ℕ → P) (n : ℕ) → length (map f (up_to n)) ≡ n
+length_up_to f zero = refl
+length_up_to f (suc n) = ap length (map-append f (up_to n) (suc n ∷ [])) ∙ (length_push (map f (up_to n)) (f (suc n)) ∙ (let ih = length_up_to f n in omega arith))
+
+get_last : {P : Type 0} (f : ℕ → P) (n i : ℕ) (d : P) (b : Bool) → (i == n) ≡ b → i < suc n → (i < n → get_or (map f (up_to n)) i d ≡ f (suc i)) → get_or (map f (up_to n) ++ f (suc n) ∷ []) i d ≡ f (suc i)
+get_last f n i d true e lt ih =
+    let same : i ≡ n = grind (arith, nat_tests) in
+    get_or_at (map f (up_to n)) (f (suc n)) [] d i (length_up_to f n ∙ sym same) ∙ ap (λ (m : ℕ). f (suc m)) (sym same)
+get_last f n i d false e lt ih =
+    let less : i < n = grind (arith, nat_tests) in
+    get_or_append_left (map f (up_to n)) (f (suc n) ∷ []) d i (let l = length_up_to f n in omega arith) ∙ ih less
+
+get_up_to : {P : Type 0} (f : ℕ → P) (n i : ℕ) (d : P) → i < n → get_or (map f (up_to n)) i d ≡ f (suc i)
+get_up_to f zero i d lt = absurd (omega arith)
+get_up_to {P} f (suc n) i d lt =
+    ap (λ (l : List P). get_or l i d) (map-append f (up_to n) (suc n ∷ [])) ∙ get_last f n i d (i == n) refl lt (get_up_to f n i d)
+
+-- where one of them changes
+set_up_to : {P : Type 0} (f g : ℕ → P) (n p : ℕ) (x : P) → p < n → g (suc p) ≡ x → ((q : ℕ) → q ≢ suc p → g q ≡ f q) → map g (up_to n) ≡ set (map f (up_to n)) p x
+set_up_to {P} f g n p x lt is other =
+    let m : length (map g (up_to n)) ≡ n = length_up_to g n in
+    let l : length (map f (up_to n)) ≡ n = length_up_to f n in
+    let s : length (set (map f (up_to n)) p x) ≡ n = length-set (map f (up_to n)) p x ∙ l in
+    same_lists (map g (up_to n)) (set (map f (up_to n)) p x) (m ∙ sym s) (λ k d below.
+    get_up_to g n k d (omega arith) ∙ at k d (omega arith) (k == p) refl)
+  where
+    at : (k : ℕ) (d : P) → k < n → (b : Bool) → (k == p) ≡ b → g (suc k) ≡ get_or (set (map f (up_to n)) p x) k d
+    at k d below true e =
+        let same : k ≡ p = grind (arith, nat_tests) in
+        ap (λ (i : ℕ). g (suc i)) same ∙ (is ∙ sym (ap (λ (i : ℕ). get_or (set (map f (up_to n)) p x) i d) same ∙ get_or-set_same (map f (up_to n)) p x d (let l = length_up_to f n in omega arith)))
+    at k d below false e =
+        let ne : k ≢ p = grind (arith, nat_tests) in
+        let ne' : suc k ≢ suc p = grind (arith, nat_tests) in
+        other (suc k) ne' ∙ sym (get_or-set_other (map f (up_to n)) p k x d ne ∙ get_up_to f n k d below)
+
+pub at_printer : {C : Type 0} (c : Setup) (h : List (Event C)) (p : ℕ) → 1 ≤ p → p ≤ printer_count c → printer_at (now c h) p ≡ printer_of c h p
+at_printer c h p one le =
+    let e : suc (p - 1) ≡ p = omega arith in
+    get_up_to (printer_of c h) (printer_count c) (p - 1) no_printer (omega arith) ∙ ap (printer_of c h) e
+
+turned_other : {C : Type 0} (c : Setup) (h : List (Event C)) (p : ℕ) (sheet : Sheet C) (turn : Turn) (q : ℕ) (b : Bool) → (p == q) ≡ b → q ≢ p → printer_of c (AtPrinter p sheet turn ∷ h) q ≡ printer_of c h q
+turned_other c h p sheet turn q true e ne = absurd (ne (grind (arith, nat_tests)))
+turned_other c h p sheet turn q false e ne = rw e refl
+
+turned_here : {C : Type 0} (c : Setup) (h : List (Event C)) (p : ℕ) (sheet : Sheet C) (turn : Turn) (b : Bool) → (p == p) ≡ b → printer_of c (AtPrinter p sheet turn ∷ h) p ≡ printer_turned sheet turn (printer_of c h p)
+turned_here c h p sheet Handed true e = rw e refl
+turned_here c h p sheet (Printed x) true e = rw e refl
+turned_here c h p sheet Failed true e = rw e refl
+turned_here c h p sheet turn false e = absurd (grind (arith, nat_tests))
+
+pub printers_turned : {C : Type 0} (c : Setup) (h : List (Event C)) (p : ℕ) (sheet : Sheet C) (turn : Turn) → 1 ≤ p → p ≤ printer_count c → (now c (AtPrinter p sheet turn ∷ h)).printers ≡ printers_after (AtPrinter p sheet turn) (now c h)
+printers_turned {C} c h p sheet turn one le =
+    let e : suc (p - 1) ≡ p = omega arith in
+    let here : printer_of c (AtPrinter p sheet turn ∷ h) (suc (p - 1)) ≡ printer_turned sheet turn (printer_at (now c h) p) =
+    ap (printer_of c (AtPrinter p sheet turn ∷ h)) e ∙ (turned_here c h p sheet turn (p == p) refl ∙ ap (printer_turned sheet turn) (sym (at_printer c h p one le))) in
+    set_up_to (printer_of c h) (printer_of c (AtPrinter p sheet turn ∷ h)) (printer_count c) (p - 1) (printer_turned sheet turn (printer_at (now c h) p)) (omega arith) here
+    (λ q ne. turned_other c h p sheet turn q (p == q) refl (λ same. ne (same ∙ sym e)))
+
+-- the start of a queue
+abbrev start : {C : Type 0} → ℕ → Printer C → Printer C
+start q p = cond (p.queue == q) (record p { stopped = false }) p
+
+started_one : {C : Type 0} (c : Setup) (h : List (Event C)) (q p : ℕ) → printer_of c (Started q ∷ h) p ≡ start q (printer_of c h p)
+started_one c h q p = elim (test q (queue_of c p)) [
+  | inl s ↦ elim (test (queue_of c p) q) [ inl t ↦ rw (s.1, t.1) refl | inr t ↦ absurd (t.0 (sym s.0)) ]
+  | inr s ↦ elim (test (queue_of c p) q) [ inl t ↦ absurd (s.0 (sym t.0)) | inr t ↦ rw (s.1, t.1) refl ]
+]
+
+map_twice : {X Y : Type 0} (f : X → Y) (g : Y → Y) (k : X → Y) (xs : List X) → ((x : X) → k x ≡ g (f x)) → map k xs ≡ map g (map f xs)
+map_twice f g k [] e = refl
+map_twice f g k (x ∷ xs) e = cc (e x, map_twice f g k xs e)
+
+pub printers_started : {C : Type 0} (c : Setup) (h : List (Event C)) (q : ℕ) → (now c (Started q ∷ h)).printers ≡ printers_after (Started q) (now c h)
+printers_started {C} c h q = map_twice (printer_of c h) (start q) (printer_of c (Started q ∷ h)) (up_to (printer_count c)) (started_one c h q)

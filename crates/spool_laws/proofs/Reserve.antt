@@ -1,0 +1,307 @@
+-- The entries of a history are within the reserves of its accepted jobs, and one.
+use Rattle.std.proofs.Common.{inl, inr, ◌≡◌, ◌==◌, ◌≢◌, ℕ, zero, suc, ◌+◌, ◌<◌, ◌≤◌, Bool, true, false, List, [], ◌∷◌, ◌++◌, length, refl, sym, ◌∙◌, ap, subst, arith}
+use Rattle.std.specs.Prelude.{sum_by}
+use Rattle.std.specs.List.{list_any, AllByRecursion}
+use Rattle.std.proofs.lemmas.List.{append-nil}
+use Rattle.std.proofs.lemmas.List.Sums.{sum_by-cons, sum_by_push}
+use Rattle.spool_history.specs.Events.{Act, Event, Sheet, Turn}
+use Rattle.spool_history.specs.Events.Act.{Opened, Granted, Began, Put, FileEnded, Controlled, Aborted}
+use Rattle.spool_history.specs.Events.Turn.{Handed, Printed, Failed}
+use Rattle.spool_history.specs.Events.Event.{OfJob, AtPrinter, Removed, Started, Closed}
+use Rattle.spool_history.specs.Setup.{Setup, printer_count, queue_of, reserve_of}
+use Rattle.spool_history.specs.Said.{Opening, openings, opening_by, acts_of, is_handed, is_failed, is_stopped_at, is_closed}
+use Rattle.spool_history.specs.Now.{Job, Printer, now, up_to}
+use Rattle.spool_history.specs.Legal.{HasJob, IsLegal, May}
+use Rattle.spool_laws.proofs.Known.{Has, At, has_at, test}
+use Rattle.spool_laws.proofs.Printers.{at_printer}
+use Rattle.spool_laws.proofs.Facts.{facts, is_out, turn_of_page, handed_at, handed_more, handed_same, count_one, acts_other, back_same, back_more, back_one}
+use Rattle.spool_laws.proofs.Counts.{one_if}
+use Rattle.spool_laws.proofs.Told.{failed_of, removed_of, used, failed_one, reserved}
+
+-- sums
+
+sum_less : {X : Type 0} (f g : X → ℕ) (xs : List X) → ((y : X) → Has y xs → f y ≤ g y) → sum_by f xs ≤ sum_by g xs
+sum_less f g [] le = omega arith
+sum_less f g (x ∷ xs) le =
+    let a = le x (inl refl) in
+    let ih = sum_less f g xs (λ y has. le y (inr has)) in
+    let k = sum_by-cons f x xs in
+    let l = sum_by-cons g x xs in
+    omega arith
+
+sum_more : {X : Type 0} (f g : X → ℕ) (n : ℕ) (x : X) (xs : List X) → Has x xs → ((y : X) → f y ≤ g y) → f x + n ≤ g x → sum_by f xs + n ≤ sum_by g xs
+sum_more f g n x [] has le more = absurd has
+sum_more {X} f g n x (y ∷ ys) has le more =
+    let k = sum_by-cons f y ys in
+    let l = sum_by-cons g y ys in
+    elim has [
+      | inl s ↦
+          let here : f y + n ≤ g y = subst (λ (z : X). f z + n ≤ g z) (sym s) more in
+          let rest = sum_less f g ys (λ z t. le z) in
+          omega arith
+      | inr t ↦ let a = le y in let ih = sum_more f g n x ys t le more in omega arith
+    ]
+
+up_less : (f g : ℕ → ℕ) (n : ℕ) → ((q : ℕ) → q ≤ n → g q ≤ f q) → sum_by g (up_to n) ≤ sum_by f (up_to n)
+up_less f g zero le = omega arith
+up_less f g (suc n) le =
+    let ih = up_less f g n (λ q l. le q (omega arith)) in
+    let a = le (suc n) (omega arith) in
+    let k = sum_by_push f (up_to n) (suc n) in
+    let l = sum_by_push g (up_to n) (suc n) in
+    omega arith
+
+up_one : (f g : ℕ → ℕ) (p n : ℕ) → ((q : ℕ) → q ≢ p → g q ≤ f q) → g p ≤ f p + 1 → sum_by g (up_to n) ≤ sum_by f (up_to n) + 1
+up_one f g p zero le one = omega arith
+up_one f g p (suc n) le one =
+    let k = sum_by_push f (up_to n) (suc n) in
+    let l = sum_by_push g (up_to n) (suc n) in
+    elim (test (suc n) p) [
+      | inl s ↦
+          let s0 = s.0 in
+          let rest = up_less f g n (λ q l. le q (λ e. (let z : q ≡ p = e in omega arith))) in
+          let here : g (suc n) ≤ f (suc n) + 1 = subst (λ (i : ℕ). g i ≤ f i + 1) (sym s.0) one in
+          omega arith
+      | inr s ↦ let a = le (suc n) s.0 in let ih = up_one f g p n le one in omega arith
+    ]
+
+has_left : {X : Type 0} (x : X) (xs ys : List X) → Has x xs → Has x (xs ++ ys)
+has_left x [] ys has = absurd has
+has_left x (z ∷ zs) ys has = elim has [ inl e ↦ inl e | inr t ↦ inr (has_left x zs ys t) ]
+
+has_end : {X : Type 0} (x : X) (xs : List X) → Has x (xs ++ x ∷ [])
+has_end x [] = inl refl
+has_end x (z ∷ zs) = inr (has_end x zs)
+
+has_up_to : (p n : ℕ) → 1 ≤ p → p ≤ n → Has p (up_to n)
+has_up_to p zero one le = absurd (omega arith)
+has_up_to p (suc n) one le = elim (test (suc n) p) [
+  | inl s ↦ subst (λ (i : ℕ). Has i (up_to n ++ suc n ∷ [])) s.0 (has_end (suc n) (up_to n))
+  | inr s ↦ let ne = s.0 in has_left p (up_to n) (suc n ∷ []) (has_up_to p n one (below n p ne le))
+]
+  where
+    below : (m p : ℕ) → suc m ≢ p → p ≤ suc m → p ≤ m
+    below m p ne le = omega arith
+
+-- a job of which a page was handed was accepted
+
+abbrev Accepted : {C : Type 0} → List (Event C) → ℕ → Type 0
+Accepted h j = (o : Opening) × Has o (openings h) × (o.job ≡ j)
+
+accepted_step : {C : Type 0} (size : C → ℕ) (c : Setup) (h : List (Event C)) (e : Event C) → IsLegal size c h → May size (now c h) e → ((j : ℕ) → 0 < handed_at h j → Accepted h j) → (j : ℕ) → 0 < handed_at (e ∷ h) j → Accepted (e ∷ h) j
+accepted_step size c h (OfJob k act) l m a j pos = let o = a j pos in (o.0, has_left o.0 (openings h) (opening_by k act) o.1, o.2)
+accepted_step size c h (AtPrinter p sheet Handed) l m a j pos = elim (test sheet.job j) [
+  | inl s ↦ (let t = (turn_of_page c h p sheet m.0.0 m.0.1 m.1).at in (record { job = sheet.job; sender = t.sender; queue = t.queue }, t.there, s.0))
+  | inr s ↦ a j (let n = ap length (handed_more h p sheet j s.0) in omega arith)
+]
+accepted_step size c h (AtPrinter p sheet (Printed x)) l m a j pos = a j (let n = ap length (handed_same h p sheet (Printed x) j refl) in omega arith)
+accepted_step size c h (AtPrinter p sheet Failed) l m a j pos = a j (let n = ap length (handed_same h p sheet Failed j refl) in omega arith)
+accepted_step size c h (Removed q jobs) l m a j pos = a j pos
+accepted_step size c h (Started q) l m a j pos = a j pos
+accepted_step size c h Closed l m a j pos = a j pos
+
+accepted : {C : Type 0} (size : C → ℕ) (c : Setup) (h : List (Event C)) → IsLegal size c h → (j : ℕ) → 0 < handed_at h j → Accepted h j
+accepted size c [] l j pos = absurd (omega arith)
+accepted size c (e ∷ h) l j pos = accepted_step size c h e l.1 l.0 (accepted size c h l.1) j pos
+
+-- what is told of one job more
+
+more_act : {C : Type 0} (h : List (Event C)) (k : ℕ) (act : Act C) (j : ℕ) → used h j ≤ used (OfJob k act ∷ h) j
+more_act h k act j = elim (test k j) [
+  | inl s ↦ (let n : length (acts_of (OfJob k act ∷ h) j) ≡ suc (length (acts_of h j)) = rw s.1 refl in omega arith)
+  | inr s ↦ (let n = ap length (acts_other h k act j s.0) in omega arith)
+]
+
+one_act : {C : Type 0} (h : List (Event C)) (k : ℕ) (act : Act C) (j : ℕ) → k ≡ j → used h j + 1 ≤ used (OfJob k act ∷ h) j
+one_act h k act j e = elim (test k j) [
+  | inl s ↦ (let n : length (acts_of (OfJob k act ∷ h) j) ≡ suc (length (acts_of h j)) = rw s.1 refl in omega arith)
+  | inr s ↦ absurd (s.0 e)
+]
+
+failed_less : {C : Type 0} (h : List (Event C)) (p : ℕ) (sheet : Sheet C) (turn : Turn) (j : ℕ) (b d : Bool) → (sheet.job == j) ≡ b → is_failed turn ≡ d → failed_of h j ≤ failed_of (AtPrinter p sheet turn ∷ h) j
+failed_less h p sheet turn j true true e f = let n : failed_of (AtPrinter p sheet turn ∷ h) j ≡ failed_of h j + 1 = rw (e, f) refl in omega arith
+failed_less h p sheet turn j true false e f = let n : failed_of (AtPrinter p sheet turn ∷ h) j ≡ failed_of h j = rw (e, f) refl in omega arith
+failed_less h p sheet turn j false d e f = let n : failed_of (AtPrinter p sheet turn ∷ h) j ≡ failed_of h j = rw e refl in omega arith
+
+more_handed : {C : Type 0} (h : List (Event C)) (p : ℕ) (sheet : Sheet C) (j : ℕ) → used h j ≤ used (AtPrinter p sheet Handed ∷ h) j
+more_handed h p sheet j =
+    let b = back_same h p sheet j in
+    let f = failed_less h p sheet Handed j (sheet.job == j) false refl refl in
+    elim (test sheet.job j) [
+      | inl s ↦ let n = count_one h p sheet j s.0 in omega arith
+      | inr s ↦ let n = ap length (handed_more h p sheet j s.0) in omega arith
+    ]
+
+one_handed : {C : Type 0} (h : List (Event C)) (p : ℕ) (sheet : Sheet C) (j : ℕ) → sheet.job ≡ j → used h j + 1 ≤ used (AtPrinter p sheet Handed ∷ h) j
+one_handed h p sheet j e =
+    let b = back_same h p sheet j in
+    let f = failed_less h p sheet Handed j (sheet.job == j) false refl refl in
+    let n = count_one h p sheet j e in
+    omega arith
+
+more_back : {C : Type 0} (h : List (Event C)) (p : ℕ) (sheet : Sheet C) (turn : Turn) → is_handed turn ≡ false → (j : ℕ) → used h j ≤ used (AtPrinter p sheet turn ∷ h) j
+more_back h p sheet turn is j =
+    let n = ap length (handed_same h p sheet turn j is) in
+    let f = failed_less h p sheet turn j (sheet.job == j) (is_failed turn) refl refl in
+    elim (test sheet.job j) [
+      | inl s ↦ let b = back_one h p sheet turn j is s.0 in omega arith
+      | inr s ↦ let b = back_more h p sheet turn j s.0 in omega arith
+    ]
+
+one_back : {C : Type 0} (h : List (Event C)) (p : ℕ) (sheet : Sheet C) (turn : Turn) → is_handed turn ≡ false → (j : ℕ) → sheet.job ≡ j → used h j + 1 ≤ used (AtPrinter p sheet turn ∷ h) j
+one_back h p sheet turn is j e =
+    let n = ap length (handed_same h p sheet turn j is) in
+    let f = failed_less h p sheet turn j (sheet.job == j) (is_failed turn) refl refl in
+    let b = back_one h p sheet turn j is e in
+    omega arith
+
+two_failed : {C : Type 0} (h : List (Event C)) (p : ℕ) (sheet : Sheet C) (j : ℕ) → sheet.job ≡ j → used h j + 2 ≤ used (AtPrinter p sheet Failed ∷ h) j
+two_failed h p sheet j e =
+    let n = ap length (handed_same h p sheet Failed j refl) in
+    let f = failed_one h p sheet j e in
+    let b = back_one h p sheet Failed j refl e in
+    omega arith
+
+more_removed : {C : Type 0} (h : List (Event C)) (q : ℕ) (jobs : List ℕ) (j : ℕ) (b : Bool) → list_any (λ (k : ℕ). k == j) jobs ≡ b → used h j + one_if b ≤ used (Removed q jobs ∷ h) j
+more_removed h q jobs j true e = let n : removed_of (Removed q jobs ∷ h) j ≡ removed_of h j + 1 = rw e refl in omega arith
+more_removed h q jobs j false e = let n : removed_of (Removed q jobs ∷ h) j ≡ removed_of h j = rw e refl in omega arith
+
+any_first : (k j : ℕ) (ks : List ℕ) → k ≡ j → list_any (λ (i : ℕ). i == j) (k ∷ ks) ≡ true
+any_first k j ks e = elim (test k j) [ inl s ↦ rw s.1 refl | inr s ↦ absurd (s.0 e) ]
+
+-- how many printers are stopped
+
+abbrev stop : {C : Type 0} → Setup → List (Event C) → ℕ → ℕ
+stop c h p = one_if (is_stopped_at h (queue_of c p) p)
+
+abbrev stops : {C : Type 0} → Setup → List (Event C) → ℕ
+stops c h = sum_by (stop c h) (up_to (printer_count c))
+
+abbrev used_by : {C : Type 0} → List (Event C) → Opening → ℕ
+used_by h o = used h o.job
+
+abbrev all_used : {C : Type 0} → List (Event C) → List Opening → ℕ
+all_used h os = sum_by (used_by h) os
+
+one_le : (b : Bool) → one_if b ≤ 1
+one_le true = omega arith
+one_le false = omega arith
+
+stop_same : {C : Type 0} (c : Setup) (h : List (Event C)) (r : ℕ) (sheet : Sheet C) (turn : Turn) (p : ℕ) → is_failed turn ≡ false → stop c (AtPrinter r sheet turn ∷ h) p ≤ stop c h p
+stop_same c h r sheet turn p e =
+    let n : stop c (AtPrinter r sheet turn ∷ h) p ≡ stop c h p = elim (test r p) [ inl s ↦ rw (s.1, e) refl | inr s ↦ rw s.1 refl ] in
+    omega arith
+
+stop_other : {C : Type 0} (c : Setup) (h : List (Event C)) (r : ℕ) (sheet : Sheet C) (turn : Turn) (p : ℕ) → p ≢ r → stop c (AtPrinter r sheet turn ∷ h) p ≤ stop c h p
+stop_other c h r sheet turn p ne =
+    let n : stop c (AtPrinter r sheet turn ∷ h) p ≡ stop c h p = elim (test r p) [ inl s ↦ absurd (ne (sym s.0)) | inr s ↦ rw s.1 refl ] in
+    omega arith
+
+stop_started : {C : Type 0} (c : Setup) (h : List (Event C)) (q p : ℕ) → stop c (Started q ∷ h) p ≤ stop c h p
+stop_started c h q p = elim (test q (queue_of c p)) [
+  | inl s ↦ (let n : stop c (Started q ∷ h) p ≡ 0 = rw s.1 refl in omega arith)
+  | inr s ↦ (let n : stop c (Started q ∷ h) p ≡ stop c h p = rw s.1 refl in omega arith)
+]
+
+starts_one : {C : Type 0} (c : Setup) (h : List (Event C)) (q p : ℕ) → queue_of c p ≡ q → is_stopped_at h (queue_of c p) p ≡ true → stop c (Started q ∷ h) p + 1 ≤ stop c h p
+starts_one c h q p e is = elim (test q (queue_of c p)) [
+  | inl s ↦ (let n : stop c (Started q ∷ h) p ≡ 0 = rw s.1 refl in let m : stop c h p ≡ 1 = ap one_if is in omega arith)
+  | inr s ↦ absurd (s.0 (sym e))
+]
+
+-- the entries and the stopped printers are among what is told of the jobs, and the close
+abbrev Told' : {C : Type 0} → Setup → List (Event C) → Type 0
+Told' c h = length h + stops c h ≤ all_used h (openings h) + one_if (is_closed h)
+
+act_told : {C : Type 0} (c : Setup) (h : List (Event C)) (k : ℕ) (act : Act C) (P : Job C → Type 0) → opening_by k act ≡ [] → At h k P → Told' c h → Told' c (OfJob k act ∷ h)
+act_told {C} c h k act P none a t =
+    let os : openings h ++ opening_by k act ≡ openings h = ap (λ (l : List Opening). openings h ++ l) none ∙ append-nil (openings h) in
+    let e : all_used (OfJob k act ∷ h) (openings h ++ opening_by k act) ≡ all_used (OfJob k act ∷ h) (openings h) = ap (all_used (OfJob k act ∷ h)) os in
+    let s = sum_more (used_by h) (used_by (OfJob k act ∷ h)) 1 (record { job = k; sender = a.sender; queue = a.queue }) (openings h) a.there (λ o. more_act h k act o.job) (one_act h k act k refl) in
+    omega arith
+
+opened_told : {C : Type 0} (c : Setup) (h : List (Event C)) (k s q : ℕ) → Told' c h → Told' c (OfJob k (Opened s q) ∷ h)
+opened_told {C} c h k s q t =
+    let e : Event C = OfJob k (Opened s q) in
+    let x : Opening = record { job = k; sender = s; queue = q } in
+    let p = sum_by_push (used_by (e ∷ h)) (openings h) x in
+    let m = sum_less (used_by h) (used_by (e ∷ h)) (openings h) (λ o has. more_act h k (Opened s q) o.job) in
+    let one : used h k + 1 ≤ used (e ∷ h) k = one_act h k (Opened s q) k refl in
+    omega arith
+
+turn_told : {C : Type 0} (c : Setup) (h : List (Event C)) (p : ℕ) (sheet : Sheet C) (turn : Turn) (o : Opening) → Has o (openings h) → is_failed turn ≡ false → ((j : ℕ) → used h j ≤ used (AtPrinter p sheet turn ∷ h) j) → used h o.job + 1 ≤ used (AtPrinter p sheet turn ∷ h) o.job → Told' c h → Told' c (AtPrinter p sheet turn ∷ h)
+turn_told c h p sheet turn o has is le one t =
+    let s = sum_more (used_by h) (used_by (AtPrinter p sheet turn ∷ h)) 1 o (openings h) has (λ x. le x.job) one in
+    let z = up_less (stop c h) (stop c (AtPrinter p sheet turn ∷ h)) (printer_count c) (λ q l. stop_same c h p sheet turn q is) in
+    omega arith
+
+failed_told : {C : Type 0} (c : Setup) (h : List (Event C)) (p : ℕ) (sheet : Sheet C) (o : Opening) → Has o (openings h) → sheet.job ≡ o.job → Told' c h → Told' c (AtPrinter p sheet Failed ∷ h)
+failed_told c h p sheet o has same t =
+    let s = sum_more (used_by h) (used_by (AtPrinter p sheet Failed ∷ h)) 2 o (openings h) has (λ x. more_back h p sheet Failed refl x.job) (two_failed h p sheet o.job same) in
+    let one = one_le (is_stopped_at (AtPrinter p sheet Failed ∷ h) (queue_of c p) p) in
+    let z = up_one (stop c h) (stop c (AtPrinter p sheet Failed ∷ h)) p (printer_count c) (λ q ne. stop_other c h p sheet Failed q ne) (omega arith) in
+    omega arith
+
+removed_told : {C : Type 0} (c : Setup) (h : List (Event C)) (P : Job C → Type 0) (q : ℕ) (jobs : List ℕ) → 0 < length jobs → AllByRecursion (λ k. HasJob (now c h) k P) jobs → Told' c h → Told' c (Removed q jobs ∷ h)
+removed_told c h P q [] pos all t = absurd (omega arith)
+removed_told {C} c h P q (k ∷ ks) pos all t =
+    let a = has_at c h k P all.0 in
+    let le : (o : Opening) → used h o.job ≤ used (Removed q (k ∷ ks) ∷ h) o.job = λ o. (let m = more_removed h q (k ∷ ks) o.job (list_any (λ (i : ℕ). i == o.job) (k ∷ ks)) refl in omega arith) in
+    let one : used h k + 1 ≤ used (Removed q (k ∷ ks) ∷ h) k = more_removed h q (k ∷ ks) k true (any_first k k ks refl) in
+    let s = sum_more (used_by h) (used_by (Removed q (k ∷ ks) ∷ h)) 1 (record { job = k; sender = a.sender; queue = a.queue }) (openings h) a.there le one in
+    omega arith
+
+started_told : {C : Type 0} (c : Setup) (h : List (Event C)) (q p : ℕ) → 1 ≤ p → p ≤ printer_count c → queue_of c p ≡ q → is_stopped_at h (queue_of c p) p ≡ true → Told' c h → Told' c (Started q ∷ h)
+started_told c h q p one le e is t =
+    let s = sum_more (stop c (Started q ∷ h)) (stop c h) 1 p (up_to (printer_count c)) (has_up_to p (printer_count c) one le) (λ r. stop_started c h q r) (starts_one c h q p e is) in
+    let m = sum_less (used_by h) (used_by (Started q ∷ h)) (openings h) (λ o has. omega arith) in
+    omega arith
+
+closed_told : {C : Type 0} (c : Setup) (h : List (Event C)) → is_closed h ≡ false → Told' c h → Told' c (Closed ∷ h)
+closed_told c h e t =
+    let z : one_if (is_closed h) ≡ 0 = ap one_if e in
+    let m = sum_less (used_by h) (used_by (Closed ∷ h)) (openings h) (λ o has. omega arith) in
+    omega arith
+
+abbrev no_events : (C : Type 0) → List (Event C)
+no_events C = []
+
+none_stopped : (C : Type 0) (c : Setup) (n : ℕ) → sum_by (stop c (no_events C)) (up_to n) ≡ 0
+none_stopped C c zero = refl
+none_stopped C c (suc n) = let ih = none_stopped C c n in let k = sum_by_push (stop c (no_events C)) (up_to n) (suc n) in omega arith
+
+told_step : {C : Type 0} (size : C → ℕ) (c : Setup) (h : List (Event C)) (e : Event C) → IsLegal size c h → May size (now c h) e → Told' c h → Told' c (e ∷ h)
+told_step size c h (OfJob k (Opened s q)) l m t = opened_told c h k s q t
+told_step size c h (OfJob k Granted) l m t = act_told c h k Granted _ refl (has_at c h k _ m.0) t
+told_step size c h (OfJob k (Began name count)) l m t = act_told c h k (Began name count) _ refl (has_at c h k _ m.1) t
+told_step size c h (OfJob k (Put file number page)) l m t = act_told c h k (Put file number page) _ refl (has_at c h k _ m) t
+told_step size c h (OfJob k (FileEnded file whole)) l m t = act_told c h k (FileEnded file whole) _ refl (has_at c h k _ m) t
+told_step size c h (OfJob k (Controlled control whole)) l m t = act_told c h k (Controlled control whole) _ refl (has_at c h k _ m.1) t
+told_step size c h (OfJob k Aborted) l m t = act_told c h k Aborted _ refl (has_at c h k _ m) t
+told_step size c h (AtPrinter p sheet Handed) l m t =
+    let a = (turn_of_page c h p sheet m.0.0 m.0.1 m.1).at in
+    turn_told c h p sheet Handed (record { job = sheet.job; sender = a.sender; queue = a.queue }) a.there refl (more_handed h p sheet) (one_handed h p sheet sheet.job refl) t
+told_step size c h (AtPrinter p sheet (Printed x)) l m t =
+    let n = ((facts size c h l).out p sheet (is_out c h p sheet m.0 m.1.0)).1 in
+    let o = accepted size c h l sheet.job (omega arith) in
+    turn_told c h p sheet (Printed x) o.0 o.1 refl (more_back h p sheet (Printed x) refl) (one_back h p sheet (Printed x) refl o.0.job (sym o.2)) t
+told_step size c h (AtPrinter p sheet Failed) l m t =
+    let n = ((facts size c h l).out p sheet (is_out c h p sheet m.0 m.1)).1 in
+    let o = accepted size c h l sheet.job (omega arith) in
+    failed_told c h p sheet o.0 o.1 (sym o.2) t
+told_step size c h (Removed q jobs) l m t = removed_told c h _ q jobs m.2 m.4 t
+told_step {C} size c h (Started q) l m t =
+    let here = at_printer c h m.2 m.3.0 m.3.1 in
+    started_told c h q m.2 m.3.0 m.3.1 (sym (ap (λ (x : Printer C). x.queue) here) ∙ m.4) (sym (ap (λ (x : Printer C). x.stopped) here) ∙ m.5) t
+told_step size c h Closed l m t = closed_told c h m t
+
+told_of : {C : Type 0} (size : C → ℕ) (c : Setup) (h : List (Event C)) → IsLegal size c h → Told' c h
+told_of {C} size c [] l = let z = none_stopped C c (printer_count c) in omega arith
+told_of size c (e ∷ h) l = told_step size c h e l.1 l.0 (told_of size c h l.1)
+
+pub reserve_is_enough : {C : Type 0} (size : C → ℕ) (c : Setup) (h : List (Event C)) → IsLegal size c h → length h ≤ (now c h).reserved + 1
+reserve_is_enough size c h l =
+    let t = told_of size c h l in
+    let s = sum_less (used_by h) (λ (o : Opening). reserve_of c o.queue) (openings h) (λ o has. reserved size c h l o has) in
+    let one = one_le (is_closed h) in
+    omega arith

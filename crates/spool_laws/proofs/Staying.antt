@@ -1,0 +1,403 @@
+-- A spool stays safe.
+use Rattle.std.proofs.Common.{inl, inr, ◌≡◌, ◌==◌, ◌≢◌, ℕ, zero, suc, ◌+◌, ◌-◌, ◌<◌, ◌≤◌, Bool, true, false, List, [], ◌∷◌, ◌++◌, length, get_or, map, refl, sym, ◌∙◌, ap, subst, arith}
+use Rattle.std.specs.Prelude.{◌&&◌, ◌||◌, not, cond, filter, nat_lt, Some, IsTrue, slice_index_or}
+use Rattle.std.specs.List.{AllByRecursion}
+use Rattle.std.proofs.lemmas.Bool.Decides.{nat_tests}
+use Rattle.std.proofs.lemmas.List.{append-nil, map-append}
+use Rattle.counts.specs.Amounts.{amount}
+use Rattle.claims.specs.declared.row.Row.{Row}
+use Rattle.ordered_safety.specs.Safety.{freed, KeepsLine, same_line, HasFinishingOrder}
+use Rattle.ordered_safety.proofs.Orders.{MayGo, safe_more, safe_without, safe_first}
+use Rattle.spool_history.specs.Events.{Event, Sheet}
+use Rattle.spool_history.specs.Events.Act.{Opened, Granted, Began, Put, FileEnded, Controlled, Aborted}
+use Rattle.spool_history.specs.Events.Turn.{Handed, Printed, Failed}
+use Rattle.spool_history.specs.Events.Event.{OfJob, AtPrinter, Removed, Started, Closed}
+use Rattle.spool_history.specs.Setup.{Setup, Queue, limit_of, queue_at, queue_of, printer_count, no_queue}
+use Rattle.spool_history.specs.Said.{Opening, openings, began_at}
+use Rattle.spool_history.specs.Now.{Job, State, now, job_of, is_held, is_received, amounts, row_of, capacity, free_amount, pages_held, printers_held, pages_needed, printers_needed, IsSafeNow, up_to}
+use Rattle.spool_history.specs.Steps.{change, acted, new_job, accepted_by}
+use Rattle.spool_history.specs.Legal.{IsLegal, May, IsQueue}
+use Rattle.spool_laws.specs.Safety.{EachCouldFinish}
+use Rattle.spool_laws.specs.Leaving.{EarlierAreGone}
+use Rattle.spool_laws.proofs.Known.{Has, known, has_at, has_kept, test, clash, and_true, filter_cons}
+use Rattle.spool_laws.proofs.Facts.{facts, turn_of_page}
+use Rattle.spool_laws.proofs.Moves.{moved}
+use Rattle.spool_laws.proofs.Behind.{each_in_order}
+use Rattle.spool_laws.proofs.Lowered.{Lower, Lowers, left, lowers, holds, holds_sum, holds_append, holds_less, safe_last}
+use Rattle.spool_laws.proofs.Pigeons.{Rises, Place, pigeons, tally, serves, served_total, at_most}
+use Rattle.spool_laws.proofs.Busy.{busy, rising_jobs, received_if}
+use Rattle.spool_laws.proofs.Sound.{amount_le, is_quiet, lowers_all}
+
+abbrev rows : {C : Type 0} → Setup → List (Job C) → List Row
+rows c jobs = map (row_of c) jobs
+
+abbrev free : {C : Type 0} → Setup → List (Job C) → ℕ → ℕ
+free c jobs k = amount (capacity c) k - holds k (rows c jobs)
+
+abbrev IsGood : {C : Type 0} → Setup → List (Job C) → Type 0
+IsGood c jobs = HasFinishingOrder (free c jobs) (rows c jobs)
+
+to_safe : {C : Type 0} (v : State C) → IsGood v.setup v.jobs → IsSafeNow v
+to_safe v g = safe_more (free v.setup v.jobs) (free_amount v) (rows v.setup v.jobs) (λ k. let e = holds_sum k (rows v.setup v.jobs) in omega arith) g
+
+of_safe : {C : Type 0} (v : State C) → IsSafeNow v → IsGood v.setup v.jobs
+of_safe v g = safe_more (free_amount v) (free v.setup v.jobs) (rows v.setup v.jobs) (λ k. let e = holds_sum k (rows v.setup v.jobs) in omega arith) g
+
+record Stays {C : Type 0} (c : Setup) (h : List (Event C)) : Type 0 where
+  pub safe : IsGood c (now c h).jobs
+  pub pages : holds 0 (rows c (now c h).jobs) ≤ c.pages
+
+-- no more printers are held than there are
+
+abbrev weight : {C : Type 0} → ℕ → Job C → ℕ
+weight i v = cond (suc i == v.queue) (printers_held v) 0
+
+printers_small : {C : Type 0} (v : Job C) → printers_held v ≤ 1
+printers_small v = elim (test v.handed 0) [ inl s ↦ rw s.1 (omega arith) | inr s ↦ rw s.1 (omega arith) ]
+
+weight_small : {C : Type 0} (i : ℕ) (v : Job C) → weight i v ≤ 1
+weight_small i v = elim (test (suc i) v.queue) [ inl s ↦ rw s.1 (printers_small v) | inr s ↦ rw s.1 (omega arith) ]
+
+holds_weight : {C : Type 0} (c : Setup) (i : ℕ) (jobs : List (Job C)) → holds (suc i) (rows c jobs) ≤ tally (weight i) jobs
+holds_weight c i [] = omega arith
+holds_weight c i (v ∷ vs) =
+    let ih = holds_weight c i vs in
+    let a = at_most (λ (r : ℕ). cond (r == v.queue) (printers_held v) 0) (length c.queues) i in
+    omega arith
+
+begun_if : {C : Type 0} (i : ℕ) (v : Job C) → 0 < weight i v → (v.queue ≡ suc i) × (0 < v.handed)
+begun_if i v pos = elim (test (suc i) v.queue) [
+  | inl s ↦ (
+    sym s.0,
+    (let p : 0 < printers_held v = rw s.1 at pos in elim (test v.handed 0) [
+      | inl t ↦ (let q : 0 < 0 = rw t.1 at p in absurd (omega arith))
+      | inr t ↦ (let ne : v.handed ≢ 0 = t.0 in omega arith)
+    ]),
+  )
+  | inr s ↦ (let q : 0 < 0 = rw s.1 at pos in absurd (omega arith))
+]
+
+some_one : (j k : ℕ) → ◌≡◌ {A = Rattle.std.specs.Prelude.Option ℕ} (Some j) (Some k) → j ≡ k
+some_one j k e = cc
+
+abbrev Tied : {C : Type 0} → List (Event C) → ℕ → ℕ → Type 0
+Tied h p j = began_at h p ≡ Some j
+
+place_at : {C : Type 0} (size : C → ℕ) (c : Setup) (h : List (Event C)) (i : ℕ) → IsLegal size c h → (o : Opening) → Has o (openings h) → is_held (job_of h o) ≡ true → 0 < weight i (job_of h o) → Place (Tied h) (serves 1 c.queues (1 + i)) (printer_count c) o.job
+place_at size c h i l o has held pos =
+    let g = begun_if i (job_of h o) pos in
+    let b = busy size c h l o has held g.1 in
+    let q : queue_of c b.at ≡ 1 + i = (let e : o.queue ≡ suc i = g.0 in let d = b.queue in omega arith) in
+    let is = b.is in
+    record {
+      at = b.at;
+      one = b.is.0;
+      le = b.is.1;
+      counts = elim (test (queue_of c b.at) (1 + i)) [ inl s ↦ rw s.1 (omega arith) | inr s ↦ absurd (s.0 q) ];
+      tied = b.began;
+    }
+
+printers_within : {C : Type 0} (size : C → ℕ) (c : Setup) (h : List (Event C)) (i : ℕ) → IsLegal size c h → holds (suc i) (rows c (now c h).jobs) ≤ amount (capacity c) (suc i)
+printers_within {C} size c h i l =
+    let jobs = (now c h).jobs in
+    let place : (v : Job C) → Has v jobs → 0 < weight i v → Place (Tied h) (serves 1 c.queues (1 + i)) (printer_count c) v.number = λ v has pos.
+    (let k = known c h v has in
+    subst (λ (u : Job C). Place (Tied h) (serves 1 c.queues (1 + i)) (printer_count c) u.number) (sym k.is)
+    (place_at size c h i l k.opening k.there (subst (λ (u : Job C). is_held u ≡ true) k.is k.held) (subst (λ (u : Job C). 0 < weight i u) k.is pos))) in
+    let a = holds_weight c i jobs in
+    let b = pigeons (Tied h) (λ p j k x y. some_one j k (sym x ∙ y)) (weight i) (λ (v : Job C). v.number) (printer_count c) (serves 1 c.queues (1 + i)) jobs (weight_small i) (rising_jobs size c h l) place in
+    let d = served_total 1 c.queues i (omega arith) in
+    omega arith
+
+roomy : {C : Type 0} (size : C → ℕ) (c : Setup) (h : List (Event C)) → IsLegal size c h → Stays c h → (k : ℕ) → holds k (rows c (now c h).jobs) ≤ amount (capacity c) k
+roomy size c h l s zero = s.pages
+roomy size c h l s (suc i) = printers_within size c h i l
+
+-- an event by which no job gets or accepts anything
+
+quiet_accepts : {C : Type 0} (e : Event C) → is_quiet e ≡ true → accepted_by e ≡ []
+quiet_accepts (OfJob k (Opened s q)) is = absurd (clash false is refl)
+quiet_accepts (OfJob k Granted) is = refl
+quiet_accepts (OfJob k (Began name count)) is = refl
+quiet_accepts (OfJob k (Put file number page)) is = refl
+quiet_accepts (OfJob k (FileEnded file whole)) is = refl
+quiet_accepts (OfJob k (Controlled control whole)) is = refl
+quiet_accepts (OfJob k Aborted) is = refl
+quiet_accepts (AtPrinter p sheet turn) is = refl
+quiet_accepts (Removed q jobs) is = refl
+quiet_accepts (Started q) is = refl
+quiet_accepts Closed is = refl
+
+jobs_after : {C : Type 0} (size : C → ℕ) (c : Setup) (h : List (Event C)) (e : Event C) → IsLegal size c h → May size (now c h) e → accepted_by e ≡ [] → (now c (e ∷ h)).jobs ≡ left (change e) (now c h).jobs
+jobs_after {C} size c h e l m none =
+    ap (λ (v : State C). v.jobs) (moved size c h e l m) ∙ (ap (λ (r : List (Job C)). left (change e) (now c h).jobs ++ r) none ∙ append-nil (left (change e) (now c h).jobs))
+
+all_of : {X : Type 0} (P : X → Type 0) (xs : List X) → ((x : X) → Has x xs → P x) → AllByRecursion P xs
+all_of P [] f = tt
+all_of P (x ∷ xs) f = (f x (inl refl), all_of P xs (λ y t. f y (inr t)))
+
+quiet : {C : Type 0} (size : C → ℕ) (c : Setup) (h : List (Event C)) (e : Event C) → is_quiet e ≡ true → IsLegal size c h → May size (now c h) e → Stays c h → Stays c (e ∷ h)
+quiet {C} size c h e is l m s =
+    let jobs = (now c h).jobs in
+    let later = left (change e) jobs in
+    let P : Job C → Type 0 = λ (v : Job C). is_held (change e v) ≡ true → Lower (row_of c v) (row_of c (change e v)) in
+    let each : Lowers (row_of c) (change e) jobs = all_of P jobs (λ v has. (let k = known c h v has in subst P (sym k.is) (lowers_all size c h e is l m k.opening k.there))) in
+    let j = jobs_after size c h e l m (quiet_accepts e is) in
+    let room = roomy size c h l s in
+    let good : IsGood c later = lowers (row_of c) (change e) jobs each [] (free c jobs) (free c later) (λ k. let r = room k in omega arith) s.safe in
+    let less = holds_less (row_of c) (change e) 0 jobs each in
+    let pages = s.pages in
+    let fewer : holds 0 (rows c later) ≤ c.pages = omega arith in
+    record { safe = subst (λ (r : List (Job C)). IsGood c r) (sym j) good; pages = subst (λ (r : List (Job C)). holds 0 (rows c r) ≤ c.pages) (sym j) fewer }
+
+-- an event that changes one job
+
+left_same : {C : Type 0} (g : Job C → Job C) (us : List (Job C)) → ((u : Job C) → Has u us → (g u ≡ u) × (is_held u ≡ true)) → left g us ≡ us
+left_same g [] f = refl
+left_same {C} g (u ∷ us) f =
+    let x = f u (inl refl) in
+    filter_cons true (g u) (map g us) (subst (λ (v : Job C). is_held v ≡ true) (sym x.0) x.1) ∙ cc (x.0, left_same g us (λ v t. f v (inr t)))
+
+record Split {C : Type 0} (g : Job C → Job C) (us : List (Job C)) (w : Job C) : Type 0 where
+  pub a : List (Job C)
+  pub b : List (Job C)
+  pub was : us ≡ a ++ w ∷ b
+  pub is : left g us ≡ a ++ g w ∷ b
+  pub others : (u : Job C) → Has u (a ++ b) → Has u us × (u.number ≢ w.number)
+
+split : {C : Type 0} (g : Job C → Job C) (us : List (Job C)) (w : Job C) → Has w us → Rises (λ (v : Job C). v.number) us → ((u : Job C) → u.number ≢ w.number → g u ≡ u) → ((u : Job C) → Has u us → is_held u ≡ true) → is_held (g w) ≡ true → Split g us w
+split g [] w has r same held now' = absurd has
+split {C} g (y ∷ us) w has r same held now' = elim has [
+  | inl e ↦
+      let ne : (u : Job C) → Has u us → u.number ≢ w.number = λ u t same'. (let lt = r.0 u t in let n : y.number ≡ w.number = ap (λ (v : Job C). v.number) e in let m : u.number ≡ w.number = same' in omega arith) in
+      let rest = left_same g us (λ u t. (same u (ne u t), held u (inr t))) in
+      let gy : g y ≡ g w = ap g e in
+      record {
+        a = [];
+        b = us;
+        was = ap (λ (v : Job C). v ∷ us) e;
+        is = filter_cons true (g y) (map g us) (subst (λ (v : Job C). is_held v ≡ true) (sym gy) now') ∙ cc (gy, rest);
+        others = λ u t. (inr t, ne u t);
+      }
+  | inr t ↦
+      let s = split g us w t r.1 same (λ u t'. held u (inr t')) now' in
+      let lt = r.0 w t in
+      let ne : y.number ≢ w.number = λ same'. (let m : y.number ≡ w.number = same' in omega arith) in
+      let gy = same y ne in
+      let sw = s.was in
+      let si = s.is in
+      record {
+        a = y ∷ s.a;
+        b = s.b;
+        was = ap (λ (v : List (Job C)). y ∷ v) s.was;
+        is = filter_cons true (g y) (map g us) (subst (λ (v : Job C). is_held v ≡ true) (sym gy) (held y (inl refl))) ∙ cc (gy, s.is);
+        others = λ u t'. elim t' [ inl e ↦ (inl e, subst (λ (v : Job C). v.number ≢ w.number) e ne) | inr i ↦ let o = s.others u i in (inr o.0, o.1) ];
+      }
+]
+
+held_jobs : {C : Type 0} (c : Setup) (h : List (Event C)) (u : Job C) → Has u (now c h).jobs → is_held u ≡ true
+held_jobs c h u has = (known c h u has).held
+
+holds_at : {C : Type 0} (c : Setup) (k : ℕ) (a b : List (Job C)) (w : Job C) → holds k (rows c (a ++ w ∷ b)) ≡ holds k (rows c a) + (amount (row_of c w).held k + holds k (rows c b))
+holds_at c k a b w = ap (holds k) (map-append (row_of c) a (w ∷ b)) ∙ holds_append k (rows c a) (rows c (w ∷ b))
+
+-- a page is lent
+
+granted : {C : Type 0} (size : C → ℕ) (c : Setup) (h : List (Event C)) (k : ℕ) → IsLegal size c h → May size (now c h) (OfJob k Granted) → Stays c h → Stays c (OfJob k Granted ∷ h)
+granted {C} size c h k l m s =
+    let e : Event C = OfJob k Granted in
+    let jobs = (now c h).jobs in
+    let a = has_at c h k _ m.0 in
+    let o : Opening = record { job = k; sender = a.sender; queue = a.queue } in
+    let w = job_of h o in
+    let here : change e w ≡ acted Granted w = elim (test k k) [ inl r ↦ rw r.1 refl | inr r ↦ absurd (r.0 refl) ] in
+    let other : (u : Job C) → u.number ≢ k → change e u ≡ u = λ u ne. elim (test k u.number) [ inl r ↦ absurd (ne (sym r.0)) | inr r ↦ rw r.1 refl ] in
+    let goes : w.ended ≡ false = a.is.0.0 in
+    let unreceived : is_received w ≡ false = a.is.0.1 in
+    let held : is_held (change e w) ≡ true = subst (λ (v : Job C). is_held v ≡ true) (sym here) (rw goes refl) in
+    let sp = split (change e) jobs w (has_kept h o (openings h) a.held a.there) (rising_jobs size c h l) other (held_jobs c h) held in
+    let j = jobs_after size c h e l m refl in
+    let p1 : pages_held w ≡ w.granted = rw (goes, unreceived) refl in
+    let p2 : pages_held (acted Granted w) ≡ w.granted + 1 = rw (goes, unreceived) refl in
+    let p3 : pages_held (change e w) ≡ pages_held (acted Granted w) = ap pages_held here in
+    let h1 = ap (λ (r : List (Job C)). holds 0 (rows c r)) sp.was ∙ holds_at c 0 sp.a sp.b w in
+    let h2 = ap (λ (r : List (Job C)). holds 0 (rows c r)) (j ∙ sp.is) ∙ holds_at c 0 sp.a sp.b (change e w) in
+    let sum = holds_sum 0 (rows c jobs) in
+    let some = m.1.0 in
+    let pages = s.pages in
+    record {
+      safe = of_safe (now c (e ∷ h)) (subst (λ (v : State C). IsSafeNow v) (sym (moved size c h e l m)) m.1.1);
+      pages = omega arith;
+    }
+
+-- a job is accepted
+
+get_printers : (qs : List Queue) (i : ℕ) → get_or (map (λ (q : Queue). q.printers) qs) i 0 ≡ (slice_index_or qs i no_queue).printers
+get_printers [] i = refl
+get_printers (q ∷ qs) zero = refl
+get_printers (q ∷ qs) (suc i) = get_printers qs i
+
+could : (c : Setup) → EachCouldFinish c → (q : ℕ) → IsQueue c q → (k : ℕ) → amount (amounts c (limit_of c q) q 1) k ≤ amount (capacity c) k
+could c w q is zero = w.pages q is
+could c w q is (suc i) =
+    let a = at_most (λ (r : ℕ). cond (r == q) 1 0) (length c.queues) i in
+    let g = get_printers c.queues i in
+    elim (test (suc i) q) [
+      | inl s ↦
+          let a' : get_or (map (λ (r : ℕ). cond (r == q) 1 0) (up_to (length c.queues))) i 0 ≤ 1 = rw s.1 at a in
+          let one = w.printers q is in
+          let e : q - 1 ≡ i = (let d : suc i ≡ q = s.0 in omega arith) in
+          let same : (queue_at c q).printers ≡ (slice_index_or c.queues i no_queue).printers = ap (λ (n : ℕ). (slice_index_or c.queues n no_queue).printers) e in
+          omega arith
+      | inr s ↦
+          let a' : get_or (map (λ (r : ℕ). cond (r == q) 1 0) (up_to (length c.queues))) i 0 ≤ 0 = rw s.1 at a in
+          omega arith
+    ]
+
+nothing_of : (c : Setup) (q k : ℕ) → amount (amounts c 0 q 0) k ≡ 0
+nothing_of c q zero = refl
+nothing_of c q (suc i) =
+    let a = at_most (λ (r : ℕ). cond (r == q) 0 0) (length c.queues) i in
+    elim (test (suc i) q) [
+      | inl s ↦ (let a' : get_or (map (λ (r : ℕ). cond (r == q) 0 0) (up_to (length c.queues))) i 0 ≤ 0 = rw s.1 at a in omega arith)
+      | inr s ↦ (let a' : get_or (map (λ (r : ℕ). cond (r == q) 0 0) (up_to (length c.queues))) i 0 ≤ 0 = rw s.1 at a in omega arith)
+    ]
+
+opened_same : {C : Type 0} (k s q : ℕ) (u : Job C) → change (OfJob k (Opened s q)) u ≡ u
+opened_same k s q u = elim (test k u.number) [ inl r ↦ rw r.1 refl | inr r ↦ rw r.1 refl ]
+
+all_rows : {C : Type 0} (P : Row → Type 0) (row : Job C → Row) (us : List (Job C)) → ((u : Job C) → Has u us → P (row u)) → AllByRecursion P (map row us)
+all_rows P row [] f = tt
+all_rows P row (u ∷ us) f = (f u (inl refl), all_rows P row us (λ v t. f v (inr t)))
+
+opened : {C : Type 0} (size : C → ℕ) (c : Setup) (h : List (Event C)) (k s q : ℕ) → EachCouldFinish c → IsLegal size c h → May size (now c h) (OfJob k (Opened s q)) → Stays c h → Stays c (OfJob k (Opened s q) ∷ h)
+opened {C} size c h k s q each l m st =
+    let e : Event C = OfJob k (Opened s q) in
+    let jobs = (now c h).jobs in
+    let w : Job C = new_job k s q in
+    let x = row_of c w in
+    let same : left (change e) jobs ≡ jobs = left_same (change e) jobs (λ u has. (opened_same k s q u, held_jobs c h u has)) in
+    let j : (now c (e ∷ h)).jobs ≡ jobs ++ w ∷ [] = ap (λ (v : State C). v.jobs) (moved size c h e l m) ∙ ap (λ (r : List (Job C)). r ++ w ∷ []) same in
+    let line : AllByRecursion (λ z. KeepsLine z x) (rows c jobs) = all_rows (λ z. KeepsLine z x) (row_of c) jobs (λ u has _.
+    (let kn = known c h u has in
+    let n = (facts size c h l).numbers kn.opening kn.there in
+    let u' : u.number ≡ kn.opening.job = ap (λ (v : Job C). v.number) kn.is in
+    let new = m.4 in
+    omega arith)) in
+    let fits = could c each q m.1 in
+    let last = safe_last (free c jobs) (rows c jobs) x (λ i. let f = fits i in let g : amount x.need i ≤ amount (amounts c (limit_of c q) q 1) i = amount_le c q (limit_of c q - 0) (limit_of c q) 1 1 (omega arith) (omega arith) i in omega arith) line st.safe in
+    let map' = map-append (row_of c) jobs (w ∷ []) in
+    let good : IsGood c (jobs ++ w ∷ []) = subst (HasFinishingOrder (free c (jobs ++ w ∷ []))) (sym map') (safe_more (free c jobs) (free c (jobs ++ w ∷ [])) (rows c jobs ++ x ∷ [])
+    (λ i. let z = nothing_of c q i in let sum = ap (holds i) map' ∙ holds_append i (rows c jobs) (x ∷ []) in omega arith) last) in
+    let sum0 = ap (holds 0) map' ∙ holds_append 0 (rows c jobs) (x ∷ []) in
+    let pages = st.pages in
+    let fewer : holds 0 (rows c (jobs ++ w ∷ [])) ≤ c.pages = omega arith in
+    record { safe = subst (λ (r : List (Job C)). IsGood c r) (sym j) good; pages = subst (λ (r : List (Job C)). holds 0 (rows c r) ≤ c.pages) (sym j) fewer }
+
+-- a page is handed to a printer: its job needs nothing more, and stands before all others of its sender and queue
+
+line_true : (u w : Row) → same_line w u ≡ true → (w.sender ≡ u.sender) × (w.queue ≡ u.queue)
+line_true u w e = (let a = and_true (w.sender == u.sender) (w.queue == u.queue) e in (let x = a.0 in grind (arith, nat_tests), let x = a.1 in grind (arith, nat_tests)))
+
+nothing_more : {C : Type 0} (c : Setup) (v : Job C) → pages_needed c v ≡ 0 → printers_needed v ≡ 0 → (k : ℕ) → amount (row_of c v).need k ≡ 0
+nothing_more c v p n k =
+    let a : amount (row_of c v).need k ≤ amount (amounts c 0 v.queue 0) k = amount_le c v.queue (pages_needed c v) 0 (printers_needed v) 0 (omega arith) (omega arith) k in
+    let z = nothing_of c v.queue k in
+    omega arith
+
+contains_at : {X : Type 0} (x : X) (xs : List X) → Has x xs → Rattle.std.specs.Prelude.Contains xs x
+contains_at x [] has = absurd has
+contains_at x (y ∷ ys) has = elim has [
+  | inl e ↦ (0, omega arith, e)
+  | inr t ↦ let r = contains_at x ys t in (suc r.0, (let lt = r.1 in omega arith), r.2)
+]
+
+-- of its sender and queue each other held job has a higher number
+line_of : {C : Type 0} (size : C → ℕ) (c : Setup) (h : List (Event C)) (sheet : Sheet C) → IsLegal size c h → (o : Opening) → Has o (openings h) → o.job ≡ sheet.job → EarlierAreGone h sheet
+    → (u : Job C) → Has u (now c h).jobs → u.number ≢ o.job → (o.sender ≡ u.sender) × (o.queue ≡ u.queue) → o.job < u.number
+line_of {C} size c h sheet l o there is gone u has ne line = by (nat_lt o.job u.number) refl
+  where
+    by : (b : Bool) → nat_lt o.job u.number ≡ b → o.job < u.number
+    by true e = grind (arith, nat_tests)
+    by false e =
+        let k = known c h u has in
+        let x = k.opening in
+        let n : u.number ≡ x.job = ap (λ (v : Job C). v.number) k.is in
+        let s : u.sender ≡ x.sender = ap (λ (v : Job C). v.sender) k.is in
+        let q : u.queue ≡ x.queue = ap (λ (v : Job C). v.queue) k.is in
+        let le : u.number ≤ o.job = grind (arith, nat_tests) in
+        let ne' : u.number ≢ o.job = ne in
+        let lt : x.job < o.job = omega arith in
+        let g : is_held (job_of h x) ≡ false = gone x o (contains_at x (openings h) k.there) (contains_at o (openings h) there) is lt (sym s ∙ sym line.0) (sym q ∙ sym line.1) in
+        absurd (clash (is_held (job_of h x)) (subst (λ (v : Job C). is_held v ≡ true) k.is k.held) g)
+
+handed : {C : Type 0} (size : C → ℕ) (c : Setup) (h : List (Event C)) (p : ℕ) (sheet : Sheet C) → IsLegal size c h → May size (now c h) (AtPrinter p sheet Handed) → Stays c h → Stays c (AtPrinter p sheet Handed ∷ h)
+handed {C} size c h p sheet l m st =
+    let e : Event C = AtPrinter p sheet Handed in
+    let jobs = (now c h).jobs in
+    let f = facts size c h l in
+    let t = turn_of_page c h p sheet m.0.0 m.0.1 m.1 in
+    let o : Opening = record { job = sheet.job; sender = t.at.sender; queue = t.at.queue } in
+    let w = job_of h o in
+    let w' : Job C = record w { handed = w.handed + 1 } in
+    let here : change e w ≡ w' = elim (test sheet.job sheet.job) [ inl r ↦ rw r.1 refl | inr r ↦ absurd (r.0 refl) ] in
+    let other : (u : Job C) → u.number ≢ sheet.job → change e u ≡ u = λ u ne. elim (test sheet.job u.number) [ inl r ↦ absurd (ne (sym r.0)) | inr r ↦ rw r.1 refl ] in
+    let goes : w.ended ≡ false = t.at.is.goes_on in
+    let received : is_received w ≡ true = elim t.why [ inl b ↦ received_if h sheet.job f (f.began p sheet.job b) | inr z ↦ z.1 ] in
+    let held : is_held (change e w) ≡ true = subst (λ (v : Job C). is_held v ≡ true) (sym here) (rw goes refl) in
+    let sp = split (change e) jobs w (has_kept h o (openings h) t.at.held t.at.there) (rising_jobs size c h l) other (held_jobs c h) held in
+    let j : (now c (e ∷ h)).jobs ≡ sp.a ++ w' ∷ sp.b = jobs_after size c h e l m refl ∙ (sp.is ∙ ap (λ (v : Job C). sp.a ++ v ∷ sp.b) here) in
+    let x = row_of c w in
+    let y = row_of c w' in
+    let more : (w.handed + 1 == 0) ≡ false = grind (arith, nat_tests) in
+    let ph : printers_held w' ≡ 1 = rw more refl in
+    let pn : printers_needed w' ≡ 0 = rw (goes, more) refl in
+    let pg : pages_needed c w' ≡ 0 = rw (goes, received) refl in
+    let small = printers_small w in
+    let hold : (k : ℕ) → amount x.held k ≤ amount y.held k = λ k. amount_le c w.queue (pages_held w) (pages_held w') (printers_held w) (printers_held w') (omega arith) (omega arith) k in
+    let none : (k : ℕ) → amount y.need k ≡ 0 = nothing_more c w' pg pn in
+    let A = rows c sp.a in
+    let B = rows c sp.b in
+    let gone = (each_in_order size c (e ∷ h) (m, l)).0 in
+    let line : AllByRecursion (KeepsLine y) (rows c (sp.a ++ sp.b)) = all_rows (KeepsLine y) (row_of c) (sp.a ++ sp.b) (λ u has tr. line_of size c h sheet l o t.at.there refl gone u (sp.others u has).0 (sp.others u has).1 (line_true (row_of c u) y tr)) in
+    let line' : AllByRecursion (KeepsLine y) (A ++ B) = subst (AllByRecursion (KeepsLine y)) (map-append (row_of c) sp.a sp.b) line in
+    let m1 = map-append (row_of c) sp.a (w ∷ sp.b) in
+    let m2 = map-append (row_of c) sp.a (w' ∷ sp.b) in
+    let was : rows c jobs ≡ A ++ x ∷ B = ap (rows c) sp.was ∙ m1 in
+    let f' = free c (sp.a ++ w' ∷ sp.b) in
+    let g1 : HasFinishingOrder (free c jobs) (A ++ x ∷ B) = subst (HasFinishingOrder (free c jobs)) was st.safe in
+    let g2 : HasFinishingOrder (freed (free c jobs) x) (A ++ B) = safe_without (free c jobs) A x B g1 in
+    let g3 : HasFinishingOrder (freed f' y) (A ++ B) = safe_more (freed (free c jobs) x) (freed f' y) (A ++ B) (λ k.
+    let s1 = ap (λ (r : List (Job C)). holds k (rows c r)) sp.was ∙ holds_at c k sp.a sp.b w in
+    let s2 = holds_at c k sp.a sp.b w' in
+    let hk = hold k in
+    omega arith) g2 in
+    let go : MayGo f' A y B = record { fits = λ k. let z = none k in omega arith; in_line = line' } in
+    let good : IsGood c (sp.a ++ w' ∷ sp.b) = subst (HasFinishingOrder f') (sym m2) (safe_first f' A y B go g3) in
+    let s1 = ap (λ (r : List (Job C)). holds 0 (rows c r)) sp.was ∙ holds_at c 0 sp.a sp.b w in
+    let s2 = holds_at c 0 sp.a sp.b w' in
+    let pages = st.pages in
+    let fewer : holds 0 (rows c (sp.a ++ w' ∷ sp.b)) ≤ c.pages = omega arith in
+    record { safe = subst (λ (r : List (Job C)). IsGood c r) (sym j) good; pages = subst (λ (r : List (Job C)). holds 0 (rows c r) ≤ c.pages) (sym j) fewer }
+
+step : {C : Type 0} (size : C → ℕ) (c : Setup) (h : List (Event C)) (e : Event C) → EachCouldFinish c → IsLegal size c h → May size (now c h) e → Stays c h → Stays c (e ∷ h)
+step size c h (OfJob k (Opened s q)) each l m st = opened size c h k s q each l m st
+step size c h (OfJob k Granted) each l m st = granted size c h k l m st
+step size c h (OfJob k (Began name count)) each l m st = quiet size c h (OfJob k (Began name count)) refl l m st
+step size c h (OfJob k (Put file number page)) each l m st = quiet size c h (OfJob k (Put file number page)) refl l m st
+step size c h (OfJob k (FileEnded file whole)) each l m st = quiet size c h (OfJob k (FileEnded file whole)) refl l m st
+step size c h (OfJob k (Controlled control whole)) each l m st = quiet size c h (OfJob k (Controlled control whole)) refl l m st
+step size c h (OfJob k Aborted) each l m st = quiet size c h (OfJob k Aborted) refl l m st
+step size c h (AtPrinter p sheet Handed) each l m st = handed size c h p sheet l m st
+step size c h (AtPrinter p sheet (Printed x)) each l m st = quiet size c h (AtPrinter p sheet (Printed x)) refl l m st
+step size c h (AtPrinter p sheet Failed) each l m st = quiet size c h (AtPrinter p sheet Failed) refl l m st
+step size c h (Removed q jobs) each l m st = quiet size c h (Removed q jobs) refl l m st
+step size c h (Started q) each l m st = quiet size c h (Started q) refl l m st
+step size c h Closed each l m st = quiet size c h Closed refl l m st
+
+stays_by : {C : Type 0} (size : C → ℕ) (c : Setup) (h : List (Event C)) → EachCouldFinish c → IsLegal size c h → Stays c h
+stays_by size c [] each l = record { safe = ([], record { each_once = refl; in_line = tt; fits = tt }); pages = omega arith }
+stays_by size c (e ∷ h) each l = step size c h e each l.1 l.0 (stays_by size c h each l.1)
+
+pub stays : {C : Type 0} (size : C → ℕ) (c : Setup) (h : List (Event C)) → EachCouldFinish c → IsLegal size c h → IsSafeNow (now c h)
+stays size c h each l = to_safe (now c h) (stays_by size c h each l).safe

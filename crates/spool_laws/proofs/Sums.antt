@@ -1,0 +1,459 @@
+-- The held jobs hold no more pages than there are.
+use Rattle.std.proofs.Common.{inl, inr, ◌≡◌, ◌==◌, ◌≢◌, ℕ, zero, suc, ◌+◌, ◌-◌, ◌≤◌, Bool, true, false, List, [], ◌∷◌, ◌++◌, length, map, take, refl, sym, ◌∙◌, ap, subst, arith}
+use Rattle.std.specs.Prelude.{◌&&◌, not, cond, filter, sum_by, is_some}
+use Rattle.std.specs.List.{list_any, list_all}
+use Rattle.std.proofs.lemmas.List.{append-nil, length_push, length-take}
+use Rattle.std.proofs.lemmas.List.Sums.{sum_by-cons, sum_by_push}
+use Rattle.std.proofs.lemmas.Bool.Decides.{nat_tests}
+use Rattle.claims.specs.declared.row.Row.{Row}
+use Rattle.counts.specs.Amounts.{amount}
+use Rattle.control_file.specs.Kept.{is_among}
+use Rattle.spool_history.specs.Events.{Act, Event, Sheet, Turn, Progress}
+use Rattle.spool_history.specs.Events.Act.{Opened, Granted, Began, Put, FileEnded, Controlled, Aborted}
+use Rattle.spool_history.specs.Events.Progress.{Going, Done, Ended}
+use Rattle.spool_history.specs.Events.Turn.{Handed, Printed, Failed}
+use Rattle.spool_history.specs.Events.Event.{OfJob, AtPrinter, Removed, Started, Closed}
+use Rattle.spool_history.specs.Setup.{Setup}
+use Rattle.spool_history.specs.Acts.{Page, granted_by, is_lent_by, files_by, control_by, prints_in, names_in, is_open_in}
+use Rattle.spool_history.specs.Said.{Opening, openings, acts_of, back_of, has_ended, ends_by_act}
+use Rattle.spool_history.specs.Now.{Job, now, job_of, is_held, is_received, has_page_out, places, pages_held, free_pages, row_of, up_to}
+use Rattle.spool_history.specs.Steps.{change, turned}
+use Rattle.spool_history.specs.Legal.{IsLegal, May}
+use Rattle.spool_laws.specs.Leaving.{places_of, sheets}
+use Rattle.spool_laws.specs.Sums.{held_pages, AddUp}
+use Rattle.spool_laws.proofs.Known.{has_at, filter_cons, test, clash, or_true}
+use Rattle.spool_laws.proofs.Changes.{changes}
+use Rattle.spool_laws.proofs.Facts.{facts, is_out, turn_of_page, handed_at, received_at}
+use Rattle.spool_laws.proofs.Places.{placed}
+use Rattle.spool_laws.proofs.Counts.{one_if, put_pages, total, places_within}
+use Rattle.spool_laws.proofs.Told.{told}
+use Rattle.spool_laws.proofs.PrintNames.{names_once}
+
+-- sums
+
+up_below : (f g : ℕ → ℕ) (n : ℕ) → ((q : ℕ) → q ≤ n → g q ≤ f q) → sum_by g (up_to n) ≤ sum_by f (up_to n)
+up_below f g zero le = omega arith
+up_below f g (suc n) le =
+    let ih = up_below f g n (λ q l. le q (omega arith)) in
+    let a = le (suc n) (omega arith) in
+    let k = sum_by_push f (up_to n) (suc n) in
+    let l = sum_by_push g (up_to n) (suc n) in
+    omega arith
+
+up_less : (f g : ℕ → ℕ) (n : ℕ) → ((q : ℕ) → g q ≤ f q) → sum_by g (up_to n) ≤ sum_by f (up_to n)
+up_less f g n le = up_below f g n (λ q l. le q)
+
+up_one : (f g : ℕ → ℕ) (p n : ℕ) → ((q : ℕ) → q ≢ p → g q ≤ f q) → g p ≤ f p + 1 → sum_by g (up_to n) ≤ sum_by f (up_to n) + 1
+up_one f g p zero le one = omega arith
+up_one f g p (suc n) le one =
+    let k = sum_by_push f (up_to n) (suc n) in
+    let l = sum_by_push g (up_to n) (suc n) in
+    elim (test (suc n) p) [
+      | inl s ↦
+          let s0 = s.0 in
+          let rest = up_below f g n (λ q l. le q (λ e. (let z : q ≡ p = e in omega arith))) in
+          let here : g (suc n) ≤ f (suc n) + 1 = subst (λ (i : ℕ). g i ≤ f i + 1) (sym s.0) one in
+          omega arith
+      | inr s ↦ let a = le (suc n) s.0 in let ih = up_one f g p n le one in omega arith
+    ]
+
+-- the pages that a job holds, if it is held
+
+abbrev weight : {C : Type 0} → Job C → ℕ
+weight v = cond (is_held v) (pages_held v) 0
+
+abbrev numbered : ℕ → Opening
+numbered j = record { job = j; sender = 0; queue = 0 }
+
+abbrev weight_at : {C : Type 0} → List (Event C) → ℕ → ℕ
+weight_at h j = weight (job_of h (numbered j))
+
+abbrev weights : {C : Type 0} → List (Event C) → ℕ
+weights h = sum_by (weight_at h) (up_to (length (openings h)))
+
+sum_held_by : {C : Type 0} (h : List (Event C)) (o : Opening) (os : List Opening) (b : Bool) → is_held (job_of h o) ≡ b
+    → sum_by (λ (v : Job C). pages_held v) (filter is_held (map (job_of h) os)) ≡ sum_by (λ (p : Opening). weight_at h p.job) os
+    → sum_by (λ (v : Job C). pages_held v) (filter is_held (map (job_of h) (o ∷ os))) ≡ sum_by (λ (p : Opening). weight_at h p.job) (o ∷ os)
+sum_held_by {C} h o os true e ih =
+    let a = ap (sum_by (λ (v : Job C). pages_held v)) (filter_cons true (job_of h o) (map (job_of h) os) e) in
+    let b = sum_by-cons (λ (v : Job C). pages_held v) (job_of h o) (filter is_held (map (job_of h) os)) in
+    let w : weight_at h o.job ≡ pages_held (job_of h o) = ap (λ (t : Bool). cond t (pages_held (job_of h o)) 0) e in
+    let k = sum_by-cons (λ (p : Opening). weight_at h p.job) o os in
+    a ∙ (b ∙ omega arith)
+sum_held_by {C} h o os false e ih =
+    let a = ap (sum_by (λ (v : Job C). pages_held v)) (filter_cons false (job_of h o) (map (job_of h) os) e) in
+    let w : weight_at h o.job ≡ 0 = ap (λ (t : Bool). cond t (pages_held (job_of h o)) 0) e in
+    let k = sum_by-cons (λ (p : Opening). weight_at h p.job) o os in
+    a ∙ omega arith
+
+sum_held : {C : Type 0} (h : List (Event C)) (os : List Opening) → sum_by (λ (v : Job C). pages_held v) (filter is_held (map (job_of h) os)) ≡ sum_by (λ (p : Opening). weight_at h p.job) os
+sum_held h [] = refl
+sum_held h (o ∷ os) = sum_held_by h o os (is_held (job_of h o)) refl (sum_held h os)
+
+-- the numbers of the accepted jobs are 1, 2 and so on
+
+abbrev Numbers : (ℕ → ℕ) → List Opening → Type 0
+Numbers f os = sum_by (λ (p : Opening). f p.job) os ≡ sum_by f (up_to (length os))
+
+same_numbers : (f : ℕ → ℕ) (os : List Opening) → Numbers f os → Numbers f (os ++ [])
+same_numbers f os n = subst (λ (l : List Opening). Numbers f l) (sym (append-nil os)) n
+
+more_numbers : (f : ℕ → ℕ) (os : List Opening) (x : Opening) → x.job ≡ length os + 1 → Numbers f os → Numbers f (os ++ x ∷ [])
+more_numbers f os x e n =
+    let l = length_push os x in
+    let m : length (os ++ x ∷ []) ≡ suc (length os) = omega arith in
+    let j : x.job ≡ suc (length os) = omega arith in
+    let fj : f x.job ≡ f (suc (length os)) = ap f j in
+    let a = sum_by_push (λ (p : Opening). f p.job) os x in
+    let b = sum_by_push f (up_to (length os)) (suc (length os)) in
+    let u : sum_by f (up_to (length (os ++ x ∷ []))) ≡ sum_by f (up_to (length os) ++ suc (length os) ∷ []) = ap (λ (i : ℕ). sum_by f (up_to i)) m in
+    omega arith
+
+numbers : {C : Type 0} (size : C → ℕ) (c : Setup) (h : List (Event C)) → IsLegal size c h → (f : ℕ → ℕ) → Numbers f (openings h)
+numbers size c [] l f = refl
+numbers size c (OfJob k (Opened s q) ∷ h) l f = more_numbers f (openings h) (record { job = k; sender = s; queue = q }) l.0.4 (numbers size c h l.1 f)
+numbers size c (OfJob k Granted ∷ h) l f = same_numbers f (openings h) (numbers size c h l.1 f)
+numbers size c (OfJob k (Began name count) ∷ h) l f = same_numbers f (openings h) (numbers size c h l.1 f)
+numbers size c (OfJob k (Put file number page) ∷ h) l f = same_numbers f (openings h) (numbers size c h l.1 f)
+numbers size c (OfJob k (FileEnded file whole) ∷ h) l f = same_numbers f (openings h) (numbers size c h l.1 f)
+numbers size c (OfJob k (Controlled control whole) ∷ h) l f = same_numbers f (openings h) (numbers size c h l.1 f)
+numbers size c (OfJob k Aborted ∷ h) l f = same_numbers f (openings h) (numbers size c h l.1 f)
+numbers size c (AtPrinter p sheet turn ∷ h) l f = numbers size c h l.1 f
+numbers size c (Removed q jobs ∷ h) l f = numbers size c h l.1 f
+numbers size c (Started q ∷ h) l f = numbers size c h l.1 f
+numbers size c (Closed ∷ h) l f = numbers size c h l.1 f
+
+held_weights : {C : Type 0} (size : C → ℕ) (c : Setup) (h : List (Event C)) → IsLegal size c h → held_pages c h ≡ weights h
+held_weights size c h l = sum_held h (openings h) ∙ numbers size c h l (weight_at h)
+
+-- a page is lent only while a file is open
+
+abbrev LentOpen : {C : Type 0} → List (Event C) → ℕ → Type 0
+LentOpen h j = is_lent_by (acts_of h j) ≡ true → is_open_in (files_by (acts_of h j)) ≡ true
+
+lent_act : {C : Type 0} (h : List (Event C)) (k : ℕ) (act : Act C) → (is_lent_by (act ∷ acts_of h k) ≡ true → is_open_in (files_by (act ∷ acts_of h k)) ≡ true) → ((j : ℕ) → LentOpen h j) → (j : ℕ) → LentOpen (OfJob k act ∷ h) j
+lent_act {C} h k act here ih j = elim (test k j) [
+  | inl s ↦ rw s.1 (subst (λ (i : ℕ). is_lent_by (act ∷ acts_of h i) ≡ true → is_open_in (files_by (act ∷ acts_of h i)) ≡ true) s.0 here)
+  | inr s ↦ rw s.1 (ih j)
+]
+
+lent_step : {C : Type 0} (size : C → ℕ) (c : Setup) (h : List (Event C)) (e : Event C) → May size (now c h) e → ((j : ℕ) → LentOpen h j) → (j : ℕ) → LentOpen (e ∷ h) j
+lent_step size c h (OfJob k (Opened s q)) m ih = lent_act h k (Opened s q) (ih k) ih
+lent_step size c h (OfJob k Granted) m ih = lent_act h k Granted (λ e. (has_at c h k _ m.0).is.1) ih
+lent_step size c h (OfJob k (Began name count)) m ih = lent_act h k (Began name count) (λ e. absurd (clash _ (ih k e) (has_at c h k _ m.1).is.1)) ih
+lent_step size c h (OfJob k (Put file number page)) m ih = lent_act h k (Put file number page) (λ e. absurd cc) ih
+lent_step size c h (OfJob k (FileEnded file whole)) m ih = lent_act h k (FileEnded file whole) (λ e. absurd (clash _ e (has_at c h k _ m).is.1)) ih
+lent_step size c h (OfJob k (Controlled control whole)) m ih = lent_act h k (Controlled control whole) (ih k) ih
+lent_step size c h (OfJob k Aborted) m ih = lent_act h k Aborted (λ e. absurd cc) ih
+lent_step size c h (AtPrinter p sheet turn) m ih = ih
+lent_step size c h (Removed q jobs) m ih = ih
+lent_step size c h (Started q) m ih = ih
+lent_step size c h Closed m ih = ih
+
+lent_open : {C : Type 0} (size : C → ℕ) (c : Setup) (h : List (Event C)) → IsLegal size c h → (j : ℕ) → LentOpen h j
+lent_open size c [] l j = λ e. absurd cc
+lent_open size c (e ∷ h) l j = lent_step size c h e l.0 (lent_open size c h l.1) j
+
+-- what holds of each job
+
+record Sound {C : Type 0} (v : Job C) : Type 0 where
+  pub lent : v.lent ≡ true → is_received v ≡ false
+  pub granted : v.lent ≡ true → 1 ≤ v.granted
+  pub begun : is_received v ≡ false → v.handed ≡ 0
+  pub back : v.back ≤ v.handed
+  pub handed : v.handed ≤ length (places v)
+  pub places : length (places v) ≤ v.granted
+
+open_whole : (a b d : Bool) → b ≡ true → (a && (not b && d)) ≡ false
+open_whole true b d e = rw e refl
+open_whole false b d e = refl
+
+length_sheets : {C : Type 0} (j n : ℕ) (xs : List (Page C)) → length (sheets j n xs) ≡ length xs
+length_sheets j n [] = refl
+length_sheets j n (x ∷ xs) = ap suc (length_sheets j (n + 1) xs)
+
+sound : {C : Type 0} (size : C → ℕ) (c : Setup) (h : List (Event C)) → IsLegal size c h → (j : ℕ) → Sound (job_of h (numbered j))
+sound {C} size c h l j =
+    let a = acts_of h j in
+    let f = facts size c h l in
+    let puts = (told size c h l j).acts.puts in
+    let p = put_pages a in
+    let all : length (places_of h j) ≤ total (files_by a) = places_within (files_by a) (prints_in (control_by a)) (names_once size c h l j) in
+    let some : handed_at h j ≤ length (places_of h j) =
+    (let e : handed_at h j ≡ length (take (handed_at h j) (places_of h j)) = ap length (placed size c h l j) ∙ length_sheets j 0 (take (handed_at h j) (places_of h j)) in
+    let m = length-take (handed_at h j) (places_of h j) in
+    omega arith) in
+    record {
+      lent = λ e. open_whole (is_some (control_by a)) (is_open_in (files_by a)) (list_all (λ (name : List ℕ). is_among name (names_in (files_by a))) (prints_in (control_by a))) (lent_open size c h l j e);
+      granted = λ e. (let z : one_if (is_lent_by a) ≡ 1 = ap one_if e in omega arith);
+      begun = λ e. f.begun j e;
+      back = f.back j;
+      handed = some;
+      places = omega arith;
+    }
+
+cond_true : (b : Bool) (n m : ℕ) → b ≡ true → cond b n m ≡ n
+cond_true b n m e = rw e refl
+
+cond_false : (b : Bool) (n m : ℕ) → b ≡ false → cond b n m ≡ m
+cond_false b n m e = rw e refl
+
+cond_one : (b : Bool) → cond b 1 0 ≤ 1
+cond_one true = omega arith
+cond_one false = omega arith
+
+weight_ended : {C : Type 0} (v : Job C) → v.ended ≡ true → weight v ≡ cond (has_page_out v) 1 0
+weight_ended v e = rw e refl
+
+weight_going : {C : Type 0} (v : Job C) → v.ended ≡ false → weight v ≡ cond (is_received v) (length (places v) - v.back) v.granted
+weight_going v e = rw e refl
+
+weight_received : {C : Type 0} (v : Job C) → v.ended ≡ false → is_received v ≡ true → weight v ≡ length (places v) - v.back
+weight_received v e r = weight_going v e ∙ cond_true (is_received v) (length (places v) - v.back) v.granted r
+
+weight_receiving : {C : Type 0} (v : Job C) → v.ended ≡ false → is_received v ≡ false → weight v ≡ v.granted
+weight_receiving v e r = weight_going v e ∙ cond_false (is_received v) (length (places v) - v.back) v.granted r
+
+-- a job that hasn't ended holds no more than was lent to it
+weight_granted : {C : Type 0} (v : Job C) (b : Bool) → is_received v ≡ b → v.ended ≡ false → Sound v → weight v ≤ v.granted
+weight_granted v true r e s = let w = weight_received v e r in let p = s.places in omega arith
+weight_granted v false r e s = let w = weight_receiving v e r in omega arith
+
+-- a page that is out is among those that the job holds
+out_one : {C : Type 0} (v : Job C) (e b l r : Bool) → v.ended ≡ e → has_page_out v ≡ b → v.lent ≡ l → is_received v ≡ r → Sound v → cond b 1 0 ≤ weight v
+out_one v true b l r e o le re s = let w : weight v ≡ cond b 1 0 = weight_ended v e ∙ ap (λ (t : Bool). cond t 1 0) o in omega arith
+out_one v false false l r e o le re s = omega arith
+out_one v false true true r e o le re s = let w = weight_receiving v e (s.lent le) in let g = s.granted le in omega arith
+out_one v false true false false e o le re s =
+    let z = s.begun re in
+    let b = s.back in
+    let same : (v.handed == v.back) ≡ true = grind (arith, nat_tests) in
+    let none : has_page_out v ≡ false = rw le (rw same refl) in
+    absurd (clash (has_page_out v) o none)
+out_one v false true false true e o le re s =
+    let w = weight_received v e re in
+    let n = s.handed in
+    let b = s.back in
+    elim (test v.handed v.back) [
+      | inl t ↦ (let none : has_page_out v ≡ false = rw le (rw t.1 refl) in absurd (clash (has_page_out v) o none))
+      | inr t ↦ let ne = t.0 in omega arith
+    ]
+
+-- a job that is ended holds no more than before
+ending : {C : Type 0} (v : Job C) → Sound v → weight (record v { ended = true }) ≤ weight v
+ending v s = out_one v v.ended (has_page_out v) v.lent (is_received v) refl refl refl refl s
+
+changed : {C : Type 0} (h : List (Event C)) (e : Event C) (j : ℕ) → weight_at (e ∷ h) j ≡ weight (change e (job_of h (numbered j)))
+changed {C} h e j = ap (λ (v : Job C). weight v) (changes h e (numbered j))
+
+-- acts of a job's session
+
+other_act : {C : Type 0} (h : List (Event C)) (k : ℕ) (act : Act C) (j : ℕ) → k ≢ j → weight_at (OfJob k act ∷ h) j ≡ weight_at h j
+other_act h k act j ne = changed h (OfJob k act) j ∙ elim (test k j) [ inl s ↦ absurd (ne s.0) | inr s ↦ rw s.1 refl ]
+
+act_less : {C : Type 0} (h : List (Event C)) (k : ℕ) (act : Act C) → weight_at (OfJob k act ∷ h) k ≤ weight_at h k → (j : ℕ) → weight_at (OfJob k act ∷ h) j ≤ weight_at h j
+act_less {C} h k act here j = elim (test k j) [
+  | inl s ↦ subst (λ (i : ℕ). weight_at (OfJob k act ∷ h) i ≤ weight_at h i) s.0 here
+  | inr s ↦ let o = other_act h k act j s.0 in omega arith
+]
+
+ended_same : {C : Type 0} (h : List (Event C)) (k : ℕ) (act : Act C) → ends_by_act act ≡ false → has_ended (OfJob k act ∷ h) k ≡ has_ended h k
+ended_same h k act e = elim (test k k) [ inl s ↦ rw (s.1, e) refl | inr s ↦ rw s.1 refl ]
+
+granted_here : {C : Type 0} (h : List (Event C)) (k : ℕ) (act : Act C) → granted_by (acts_of (OfJob k act ∷ h) k) ≡ granted_by (act ∷ acts_of h k)
+granted_here h k act = elim (test k k) [ inl s ↦ rw s.1 refl | inr s ↦ absurd (s.0 refl) ]
+
+-- an act on a job that is being received
+act_granted : {C : Type 0} (size : C → ℕ) (c : Setup) (h : List (Event C)) (k : ℕ) (act : Act C) (n : ℕ) → IsLegal size c (OfJob k act ∷ h) → ends_by_act act ≡ false → granted_by (act ∷ acts_of h k) ≡ granted_by (acts_of h k) + n → has_ended h k ≡ false → received_at h k ≡ false → weight_at (OfJob k act ∷ h) k ≤ weight_at h k + n
+act_granted {C} size c h k act n l ends is goes_on receiving =
+    let v : Job C = job_of (OfJob k act ∷ h) (numbered k) in
+    let w = weight_receiving (job_of h (numbered k)) goes_on receiving in
+    let g = granted_here h k act in
+    let u = weight_granted v (is_received v) refl (ended_same h k act ends ∙ goes_on) (sound size c (OfJob k act ∷ h) l k) in
+    omega arith
+
+weight_of_new : {C : Type 0} (h : List (Event C)) (j : ℕ) → acts_of h j ≡ [] → has_ended h j ≡ false → weight_at h j ≡ 0
+weight_of_new h j a e = rw (a, e) refl
+
+opened_same : {C : Type 0} (h : List (Event C)) (k s q j : ℕ) → weight_at (OfJob k (Opened s q) ∷ h) j ≡ weight_at h j
+opened_same h k s q j = changed h (OfJob k (Opened s q)) j ∙ elim (test k j) [ inl r ↦ rw r.1 refl | inr r ↦ rw r.1 refl ]
+
+abort_less : {C : Type 0} (v : Job C) (l : Bool) → v.lent ≡ l → weight (record v { lent = false; ended = true }) ≤ weight (record v { ended = true })
+abort_less v true e =
+    let w : weight (record v { ended = true }) ≡ 1 = rw e refl in
+    let u = weight_ended (record v { lent = false; ended = true }) refl in
+    let o = cond_one (has_page_out (record v { lent = false; ended = true })) in
+    omega arith
+abort_less v false e = let w : weight (record v { ended = true }) ≡ weight (record v { lent = false; ended = true }) = rw e refl in omega arith
+
+aborted_here : {C : Type 0} (h : List (Event C)) (k : ℕ) → weight_at (OfJob k Aborted ∷ h) k ≡ weight (record (job_of h (numbered k)) { lent = false; ended = true })
+aborted_here h k = changed h (OfJob k Aborted) k ∙ elim (test k k) [ inl s ↦ rw s.1 refl | inr s ↦ absurd (s.0 refl) ]
+
+-- turns of a printer
+
+handed_less : {C : Type 0} (v : Job C) → v.ended ≡ false → weight (record v { handed = v.handed + 1 }) ≤ weight v
+handed_less v e = let a = weight_going v e in let b = weight_going (record v { handed = v.handed + 1 }) e in omega arith
+
+page_out : {C : Type 0} (v : Job C) → v.handed ≡ v.back + 1 → has_page_out v ≡ true
+page_out v e = let ne : (v.handed == v.back) ≡ false = grind (arith, nat_tests) in rw ne (or_true v.lent)
+
+out_least : {C : Type 0} (v : Job C) → v.handed ≡ v.back + 1 → Sound v → 1 ≤ weight v
+out_least v e s =
+    let o = out_one v v.ended true v.lent (is_received v) refl (page_out v e) refl refl s in
+    omega arith
+
+back_ended : {C : Type 0} (v : Job C) → v.handed ≡ v.back + 1 → Sound v → weight (record v { back = v.back + 1; ended = true }) ≤ weight v
+back_ended v e s =
+    let w = weight_ended (record v { back = v.back + 1; ended = true }) refl in
+    let o = cond_one (has_page_out (record v { back = v.back + 1; ended = true })) in
+    let l = out_least v e s in
+    omega arith
+
+back_going : {C : Type 0} (v : Job C) (e r : Bool) → v.ended ≡ e → is_received v ≡ r → v.handed ≡ v.back + 1 → Sound v → weight (record v { back = v.back + 1 }) ≤ weight v
+back_going v true r is re out s =
+    let w = weight_ended (record v { back = v.back + 1 }) is in
+    let o = cond_one (has_page_out (record v { back = v.back + 1 })) in
+    let l = out_least v out s in
+    omega arith
+back_going v false true is re out s =
+    let a = weight_received v is re in
+    let b = weight_received (record v { back = v.back + 1 }) is re in
+    omega arith
+back_going v false false is re out s =
+    let a = weight_receiving v is re in
+    let b = weight_receiving (record v { back = v.back + 1 }) is re in
+    omega arith
+
+other_turn : {C : Type 0} (h : List (Event C)) (p : ℕ) (sheet : Sheet C) (turn : Turn) (j : ℕ) → sheet.job ≢ j → weight_at (AtPrinter p sheet turn ∷ h) j ≡ weight_at h j
+other_turn h p sheet turn j ne = changed h (AtPrinter p sheet turn) j ∙ elim (test sheet.job j) [ inl s ↦ absurd (ne s.0) | inr s ↦ rw s.1 refl ]
+
+turn_here : {C : Type 0} (h : List (Event C)) (p : ℕ) (sheet : Sheet C) (turn : Turn) → weight_at (AtPrinter p sheet turn ∷ h) sheet.job ≡ weight (turned turn (job_of h (numbered sheet.job)))
+turn_here h p sheet turn = changed h (AtPrinter p sheet turn) sheet.job ∙ elim (test sheet.job sheet.job) [ inl s ↦ rw s.1 refl | inr s ↦ absurd (s.0 refl) ]
+
+turn_less : {C : Type 0} (h : List (Event C)) (p : ℕ) (sheet : Sheet C) (turn : Turn) → weight (turned turn (job_of h (numbered sheet.job))) ≤ weight_at h sheet.job → (j : ℕ) → weight_at (AtPrinter p sheet turn ∷ h) j ≤ weight_at h j
+turn_less {C} h p sheet turn le j = elim (test sheet.job j) [
+  | inl s ↦
+      let t = turn_here h p sheet turn in
+      let here : weight_at (AtPrinter p sheet turn ∷ h) sheet.job ≤ weight_at h sheet.job = omega arith in
+      subst (λ (i : ℕ). weight_at (AtPrinter p sheet turn ∷ h) i ≤ weight_at h i) s.0 here
+  | inr s ↦ let o = other_turn h p sheet turn j s.0 in omega arith
+]
+
+printed_less : {C : Type 0} (size : C → ℕ) (c : Setup) (h : List (Event C)) (p : ℕ) (sheet : Sheet C) (x : Progress) → IsLegal size c h → handed_at h sheet.job ≡ back_of h sheet.job + 1 → weight (turned (Printed x) (job_of h (numbered sheet.job))) ≤ weight_at h sheet.job
+printed_less size c h p sheet Going l out = back_going (job_of h (numbered sheet.job)) _ _ refl refl out (sound size c h l sheet.job)
+printed_less size c h p sheet Done l out = back_ended (job_of h (numbered sheet.job)) out (sound size c h l sheet.job)
+printed_less size c h p sheet Ended l out = back_going (job_of h (numbered sheet.job)) _ _ refl refl out (sound size c h l sheet.job)
+
+removed_less : {C : Type 0} (h : List (Event C)) (q : ℕ) (jobs : List ℕ) (j : ℕ) (b : Bool) → list_any (λ (k : ℕ). k == j) jobs ≡ b → Sound (job_of h (numbered j)) → weight_at (Removed q jobs ∷ h) j ≤ weight_at h j
+removed_less h q jobs j true e s =
+    let w : weight_at (Removed q jobs ∷ h) j ≡ weight (record (job_of h (numbered j)) { ended = true }) = changed h (Removed q jobs) j ∙ rw e refl in
+    let n = ending (job_of h (numbered j)) s in
+    omega arith
+removed_less h q jobs j false e s =
+    let w : weight_at (Removed q jobs ∷ h) j ≡ weight_at h j = changed h (Removed q jobs) j ∙ rw e refl in
+    omega arith
+
+-- what is free
+
+rows_held : {C : Type 0} (c : Setup) (vs : List (Job C)) → sum_by (λ (row : Row). amount row.held 0) (map (row_of c) vs) ≡ sum_by (λ (v : Job C). pages_held v) vs
+rows_held c [] = refl
+rows_held {C} c (v ∷ vs) =
+    let ih = rows_held c vs in
+    let k = sum_by-cons (λ (row : Row). amount row.held 0) (row_of c v) (map (row_of c) vs) in
+    let l = sum_by-cons (λ (v : Job C). pages_held v) v vs in
+    let a : amount (row_of c v).held 0 ≡ pages_held v = refl in
+    omega arith
+
+free_rest : {C : Type 0} (c : Setup) (h : List (Event C)) → free_pages (now c h) ≡ c.pages - held_pages c h
+free_rest c h = ap (λ (n : ℕ). c.pages - n) (rows_held c (now c h).jobs)
+
+-- each event
+
+act_weights : {C : Type 0} (h : List (Event C)) (k : ℕ) (act : Act C) (m : ℕ) → openings (OfJob k act ∷ h) ≡ openings h → sum_by (weight_at (OfJob k act ∷ h)) (up_to (length (openings h))) ≤ m → weights (OfJob k act ∷ h) ≤ m
+act_weights {C} h k act m os le = subst (λ (l : List Opening). sum_by (weight_at (OfJob k act ∷ h)) (up_to (length l)) ≤ m) (sym os) le
+
+opened_weights : {C : Type 0} (h : List (Event C)) (k s q : ℕ) → weight_at h (suc (length (openings h))) ≡ 0 → weights (OfJob k (Opened s q) ∷ h) ≤ weights h
+opened_weights {C} h k s q none =
+    let e : Event C = OfJob k (Opened s q) in
+    let n = length (openings h) in
+    let l = length_push (openings h) (record { job = k; sender = s; queue = q }) in
+    let m : length (openings (e ∷ h)) ≡ suc (length (openings h)) = omega arith in
+    let u : weights (e ∷ h) ≡ sum_by (weight_at (e ∷ h)) (up_to (length (openings h)) ++ suc (length (openings h)) ∷ []) = ap (λ (i : ℕ). sum_by (weight_at (e ∷ h)) (up_to i)) m in
+    let b = sum_by_push (weight_at (e ∷ h)) (up_to (length (openings h))) (suc (length (openings h))) in
+    let last = opened_same h k s q (suc (length (openings h))) in
+    let le = up_less (weight_at h) (weight_at (e ∷ h)) (length (openings h)) (λ j. (let o = opened_same h k s q j in omega arith)) in
+    omega arith
+
+step_weights : {C : Type 0} (size : C → ℕ) (c : Setup) (h : List (Event C)) (e : Event C) → IsLegal size c h → May size (now c h) e → weights h ≤ c.pages → weights (e ∷ h) ≤ c.pages
+step_weights size c h (OfJob k (Opened s q)) l m w =
+    let u = (facts size c h l).fresh (suc (length (openings h))) (omega arith) in
+    let o = opened_weights h k s q (weight_of_new h (suc (length (openings h))) u.acts (u.ended m.0)) in
+    omega arith
+step_weights size c h (OfJob k Granted) l m w =
+    let a = has_at c h k _ m.0 in
+    let free = m.1.0 in
+    let f = free_rest c h in
+    let held = held_weights size c h l in
+    let one = act_granted size c h k Granted 1 (m, l) refl refl a.is.0.0 a.is.0.1 in
+    let s = up_one (weight_at h) (weight_at (OfJob k Granted ∷ h)) k (length (openings h)) (λ j ne. (let o = other_act h k Granted j (λ x. ne (sym x)) in omega arith)) one in
+    act_weights h k Granted c.pages (append-nil (openings h)) (omega arith)
+step_weights size c h (OfJob k (Began name count)) l m w =
+    let a = has_at c h k _ m.1 in
+    let here = act_granted size c h k (Began name count) 0 (m, l) refl (omega arith) a.is.0.0 a.is.0.1 in
+    let s = up_less (weight_at h) (weight_at (OfJob k (Began name count) ∷ h)) (length (openings h)) (act_less h k (Began name count) (omega arith)) in
+    act_weights h k (Began name count) c.pages (append-nil (openings h)) (omega arith)
+step_weights size c h (OfJob k (Put file number page)) l m w =
+    let a = has_at c h k _ m in
+    let here = act_granted size c h k (Put file number page) 0 (m, l) refl (omega arith) a.is.0.0 a.is.0.1 in
+    let s = up_less (weight_at h) (weight_at (OfJob k (Put file number page) ∷ h)) (length (openings h)) (act_less h k (Put file number page) (omega arith)) in
+    act_weights h k (Put file number page) c.pages (append-nil (openings h)) (omega arith)
+step_weights size c h (OfJob k (FileEnded file whole)) l m w =
+    let a = has_at c h k _ m in
+    let here = act_granted size c h k (FileEnded file whole) 0 (m, l) refl (omega arith) a.is.0.0 a.is.0.1 in
+    let s = up_less (weight_at h) (weight_at (OfJob k (FileEnded file whole) ∷ h)) (length (openings h)) (act_less h k (FileEnded file whole) (omega arith)) in
+    act_weights h k (FileEnded file whole) c.pages (append-nil (openings h)) (omega arith)
+step_weights size c h (OfJob k (Controlled control whole)) l m w =
+    let a = has_at c h k _ m.1 in
+    let here = act_granted size c h k (Controlled control whole) 0 (m, l) refl (omega arith) a.is.0.0 a.is.0.1 in
+    let s = up_less (weight_at h) (weight_at (OfJob k (Controlled control whole) ∷ h)) (length (openings h)) (act_less h k (Controlled control whole) (omega arith)) in
+    act_weights h k (Controlled control whole) c.pages (append-nil (openings h)) (omega arith)
+step_weights {C} size c h (OfJob k Aborted) l m w =
+    let v : Job C = job_of h (numbered k) in
+    let a = aborted_here h k in
+    let b = abort_less v v.lent refl in
+    let d = ending v (sound size c h l k) in
+    let s = up_less (weight_at h) (weight_at (OfJob k Aborted ∷ h)) (length (openings h)) (act_less h k Aborted (omega arith)) in
+    act_weights h k Aborted c.pages (append-nil (openings h)) (omega arith)
+step_weights {C} size c h (AtPrinter p sheet Handed) l m w =
+    let t = turn_of_page c h p sheet m.0.0 m.0.1 m.1 in
+    let v : Job C = job_of h (numbered sheet.job) in
+    let s = up_less (weight_at h) (weight_at (AtPrinter p sheet Handed ∷ h)) (length (openings h)) (turn_less h p sheet Handed (handed_less v t.at.is.goes_on)) in
+    omega arith
+step_weights size c h (AtPrinter p sheet (Printed x)) l m w =
+    let out = ((facts size c h l).out p sheet (is_out c h p sheet m.0 m.1.0)).1 in
+    let s = up_less (weight_at h) (weight_at (AtPrinter p sheet (Printed x) ∷ h)) (length (openings h)) (turn_less h p sheet (Printed x) (printed_less size c h p sheet x l out)) in
+    omega arith
+step_weights size c h (AtPrinter p sheet Failed) l m w =
+    let out = ((facts size c h l).out p sheet (is_out c h p sheet m.0 m.1)).1 in
+    let s = up_less (weight_at h) (weight_at (AtPrinter p sheet Failed ∷ h)) (length (openings h)) (turn_less h p sheet Failed (back_ended (job_of h (numbered sheet.job)) out (sound size c h l sheet.job))) in
+    omega arith
+step_weights size c h (Removed q jobs) l m w =
+    let s = up_less (weight_at h) (weight_at (Removed q jobs ∷ h)) (length (openings h)) (λ j. removed_less h q jobs j (list_any (λ (k : ℕ). k == j) jobs) refl (sound size c h l j)) in
+    omega arith
+step_weights size c h (Started q) l m w =
+    let s = up_less (weight_at h) (weight_at (Started q ∷ h)) (length (openings h)) (λ j. (let e = changed h (Started q) j in omega arith)) in
+    omega arith
+step_weights size c h Closed l m w =
+    let s = up_less (weight_at h) (weight_at (Closed ∷ h)) (length (openings h)) (λ j. (let e = changed h Closed j in let d = ending (job_of h (numbered j)) (sound size c h l j) in omega arith)) in
+    omega arith
+
+weights_within : {C : Type 0} (size : C → ℕ) (c : Setup) (h : List (Event C)) → IsLegal size c h → weights h ≤ c.pages
+weights_within size c [] l = omega arith
+weights_within size c (e ∷ h) l = step_weights size c h e l.1 l.0 (weights_within size c h l.1)
+
+pub pages_add_up : {C : Type 0} (size : C → ℕ) (c : Setup) (h : List (Event C)) → IsLegal size c h → AddUp c h
+pages_add_up size c h l =
+    let w = weights_within size c h l in
+    let e = held_weights size c h l in
+    let f = free_rest c h in
+    record { within = omega arith; all = omega arith }

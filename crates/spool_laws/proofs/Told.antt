@@ -1,0 +1,335 @@
+-- How often each thing may be told of a job.
+use Rattle.std.proofs.Common.{inl, inr, ◌≡◌, ◌==◌, ◌≢◌, ℕ, zero, suc, ◌+◌, ◌<◌, ◌≤◌, Bool, true, false, List, [], ◌∷◌, ◌++◌, length, take, refl, sym, ◌∙◌, ap, subst, arith}
+use Rattle.std.specs.Prelude.{nat_le, ◌&&◌, if◌then◌else◌}
+use Rattle.std.specs.List.{list_all, list_any, AllByRecursion}
+use Rattle.std.proofs.lemmas.List.{append-nil, length-take}
+use Rattle.control_file.specs.Kept.{all_differ, is_print_list}
+use Rattle.lpd_commands.specs.Name.{is_data_name}
+use Rattle.spool_history.specs.Events.{Act, Event, Sheet, Turn, Progress}
+use Rattle.spool_history.specs.Events.Act.{Opened, Granted, Began, Put, FileEnded, Controlled, Aborted}
+use Rattle.spool_history.specs.Events.Turn.{Handed, Printed, Failed}
+use Rattle.spool_history.specs.Events.Event.{OfJob, AtPrinter, Removed, Started, Closed}
+use Rattle.spool_history.specs.Setup.{Setup, limit_of, reserve_of}
+use Rattle.spool_history.specs.Acts.{Page, granted_by, files_by, control_by, prints_in}
+use Rattle.spool_history.specs.Said.{Opening, openings, opening_by, acts_of, is_failed, back_of, has_ended}
+use Rattle.spool_history.specs.Now.{Job, now}
+use Rattle.spool_history.specs.Legal.{HasJob, IsLegal, May}
+use Rattle.spool_laws.specs.Leaving.{places_of, sheets}
+use Rattle.spool_laws.proofs.Known.{Has, At, has_at, has_last, test, clash}
+use Rattle.spool_laws.proofs.Facts.{Facts, facts, is_out, Turn', turn_of_page, handed_at, handed_more, handed_same, acts_other, back_same, back_more, back_one}
+use Rattle.spool_laws.proofs.Places.{placed}
+use Rattle.spool_laws.proofs.Whole.{still_ended}
+use Rattle.spool_laws.proofs.Counts.{Fits, fits_none, fits_later, fits_opened, fits_granted, fits_began, fits_put, fits_ended, fits_controlled, fits_aborted, all_counted, began_files, put_pages, count_le, total, places_within}
+
+-- how often a page of a job failed, and how often the job was removed
+abbrev pub failed_of : {C : Type 0} → List (Event C) → ℕ → ℕ
+failed_of [] j = 0
+failed_of (AtPrinter p sheet turn ∷ h) j = if (sheet.job == j) && is_failed turn then failed_of h j + 1 else failed_of h j
+failed_of (_ ∷ h) j = failed_of h j
+
+abbrev pub removed_of : {C : Type 0} → List (Event C) → ℕ → ℕ
+removed_of [] j = 0
+removed_of (Removed q jobs ∷ h) j = if list_any (λ k. k == j) jobs then removed_of h j + 1 else removed_of h j
+removed_of (_ ∷ h) j = removed_of h j
+
+pub record Told {C : Type 0} (h : List (Event C)) (j : ℕ) : Type 0 where
+  pub acts : Fits (acts_of h j) (has_ended h j)
+  pub failed : failed_of h j ≤ 1
+  pub after : 0 < failed_of h j → (has_ended h j ≡ true) × (handed_at h j ≡ back_of h j)
+  pub removed : removed_of h j ≤ 1
+  pub gone : 0 < removed_of h j → has_ended h j ≡ true
+
+none_by : (n : ℕ) → (0 < n → ⊥) → n ≡ 0
+none_by zero f = refl
+none_by (suc n) f = absurd (f (omega arith))
+
+acts_here : {C : Type 0} (h : List (Event C)) (k : ℕ) (act : Act C) → acts_of (OfJob k act ∷ h) k ≡ act ∷ acts_of h k
+acts_here h k act = elim (test k k) [ inl s ↦ rw s.1 refl | inr s ↦ absurd (s.0 refl) ]
+
+told_act : {C : Type 0} (h : List (Event C)) (k : ℕ) (act : Act C) → Fits (act ∷ acts_of h k) (has_ended (OfJob k act ∷ h) k) → ((j : ℕ) → Told h j) → (j : ℕ) → Told (OfJob k act ∷ h) j
+told_act {C} h k act fits t j =
+    let u = t j in
+    record {
+      acts = elim (test k j) [
+        | inl s ↦
+            let here : Fits (acts_of (OfJob k act ∷ h) k) (has_ended (OfJob k act ∷ h) k) = subst (λ (a : List (Act C)). Fits a (has_ended (OfJob k act ∷ h) k)) (sym (acts_here h k act)) fits in
+            subst (λ (i : ℕ). Fits (acts_of (OfJob k act ∷ h) i) (has_ended (OfJob k act ∷ h) i)) s.0 here
+        | inr s ↦ subst (λ (a : List (Act C)). Fits a (has_ended (OfJob k act ∷ h) j)) (sym (acts_other h k act j s.0)) (fits_later (acts_of h j) (has_ended h j) (has_ended (OfJob k act ∷ h) j) (still_ended h (OfJob k act) j) u.acts)
+      ];
+      failed = u.failed;
+      after = λ p. (still_ended h (OfJob k act) j (u.after p).0, (u.after p).1);
+      removed = u.removed;
+      gone = λ p. still_ended h (OfJob k act) j (u.gone p);
+    }
+
+failed_same : {C : Type 0} (h : List (Event C)) (p : ℕ) (sheet : Sheet C) (turn : Turn) (j : ℕ) → is_failed turn ≡ false → failed_of (AtPrinter p sheet turn ∷ h) j ≡ failed_of h j
+failed_same h p sheet turn j e = elim (test sheet.job j) [ inl s ↦ rw (s.1, e) refl | inr s ↦ rw s.1 refl ]
+
+failed_other : {C : Type 0} (h : List (Event C)) (p : ℕ) (sheet : Sheet C) (turn : Turn) (j : ℕ) → sheet.job ≢ j → failed_of (AtPrinter p sheet turn ∷ h) j ≡ failed_of h j
+failed_other h p sheet turn j ne = elim (test sheet.job j) [ inl s ↦ absurd (ne s.0) | inr s ↦ rw s.1 refl ]
+
+pub failed_one : {C : Type 0} (h : List (Event C)) (p : ℕ) (sheet : Sheet C) (j : ℕ) → sheet.job ≡ j → failed_of (AtPrinter p sheet Failed ∷ h) j ≡ failed_of h j + 1
+failed_one h p sheet j e = elim (test sheet.job j) [ inl s ↦ rw s.1 refl | inr s ↦ absurd (s.0 e) ]
+
+ended_by_failure : {C : Type 0} (h : List (Event C)) (p : ℕ) (sheet : Sheet C) (j : ℕ) → sheet.job ≡ j → has_ended (AtPrinter p sheet Failed ∷ h) j ≡ true
+ended_by_failure h p sheet j e = elim (test sheet.job j) [ inl s ↦ rw s.1 refl | inr s ↦ absurd (s.0 e) ]
+
+told_turn : {C : Type 0} (h : List (Event C)) (p : ℕ) (sheet : Sheet C) (turn : Turn) (j : ℕ) → Told h j → failed_of (AtPrinter p sheet turn ∷ h) j ≤ 1
+    → (0 < failed_of (AtPrinter p sheet turn ∷ h) j → (has_ended (AtPrinter p sheet turn ∷ h) j ≡ true) × (handed_at (AtPrinter p sheet turn ∷ h) j ≡ back_of (AtPrinter p sheet turn ∷ h) j)) → Told (AtPrinter p sheet turn ∷ h) j
+told_turn h p sheet turn j u failed after = record {
+  acts = fits_later (acts_of h j) (has_ended h j) (has_ended (AtPrinter p sheet turn ∷ h) j) (still_ended h (AtPrinter p sheet turn) j) u.acts;
+  failed = failed;
+  after = after;
+  removed = u.removed;
+  gone = λ q. still_ended h (AtPrinter p sheet turn) j (u.gone q);
+}
+
+told_handed : {C : Type 0} (h : List (Event C)) (p : ℕ) (sheet : Sheet C) → Turn' h p sheet → ((j : ℕ) → Told h j) → (j : ℕ) → Told (AtPrinter p sheet Handed ∷ h) j
+told_handed h p sheet g t j =
+    let u = t j in
+    let n = failed_same h p sheet Handed j refl in
+    let old = u.failed in
+    told_turn h p sheet Handed j u (omega arith) (λ q.
+    let w = u.after (omega arith) in
+    elim (test sheet.job j) [
+      | inl s ↦ absurd (clash (has_ended h j) w.0 (subst (λ (i : ℕ). has_ended h i ≡ false) s.0 g.at.is.goes_on))
+      | inr s ↦ (still_ended h (AtPrinter p sheet Handed) j w.0, ap length (handed_more h p sheet j s.0) ∙ (w.1 ∙ sym (back_same h p sheet j)))
+    ])
+
+told_printed : {C : Type 0} (h : List (Event C)) (p : ℕ) (sheet : Sheet C) (x : Progress) → handed_at h sheet.job ≡ back_of h sheet.job + 1 → ((j : ℕ) → Told h j) → (j : ℕ) → Told (AtPrinter p sheet (Printed x) ∷ h) j
+told_printed h p sheet x out t j =
+    let u = t j in
+    let n = failed_same h p sheet (Printed x) j refl in
+    let old = u.failed in
+    told_turn h p sheet (Printed x) j u (omega arith) (λ q.
+    let w = u.after (omega arith) in
+    elim (test sheet.job j) [
+      | inl s ↦
+          let o : handed_at h j ≡ back_of h j + 1 = subst (λ (i : ℕ). handed_at h i ≡ back_of h i + 1) s.0 out in
+          let w1 = w.1 in
+          absurd (omega arith)
+      | inr s ↦ (still_ended h (AtPrinter p sheet (Printed x)) j w.0, ap length (handed_same h p sheet (Printed x) j refl) ∙ (w.1 ∙ sym (back_more h p sheet (Printed x) j s.0)))
+    ])
+
+told_failed : {C : Type 0} (h : List (Event C)) (p : ℕ) (sheet : Sheet C) → handed_at h sheet.job ≡ back_of h sheet.job + 1 → ((j : ℕ) → Told h j) → (j : ℕ) → Told (AtPrinter p sheet Failed ∷ h) j
+told_failed h p sheet out t j =
+    let u = t j in
+    elim (test sheet.job j) [
+      | inl s ↦
+          let o : handed_at h j ≡ back_of h j + 1 = subst (λ (i : ℕ). handed_at h i ≡ back_of h i + 1) s.0 out in
+          let none : failed_of h j ≡ 0 = none_by (failed_of h j) (λ q. let w = (u.after q).1 in omega arith) in
+          let n = failed_one h p sheet j s.0 in
+          told_turn h p sheet Failed j u (omega arith) (λ q. (ended_by_failure h p sheet j s.0, ap length (handed_same h p sheet Failed j refl) ∙ (o ∙ sym (back_one h p sheet Failed j refl s.0))))
+      | inr s ↦
+          let n = failed_other h p sheet Failed j s.0 in
+          let old = u.failed in
+          told_turn h p sheet Failed j u (omega arith) (λ q.
+          let w = u.after (omega arith) in
+          (still_ended h (AtPrinter p sheet Failed) j w.0, ap length (handed_same h p sheet Failed j refl) ∙ (w.1 ∙ sym (back_more h p sheet Failed j s.0))))
+    ]
+
+named_going : {C : Type 0} (c : Setup) (h : List (Event C)) (P : Job C → Type 0) (j : ℕ) (jobs : List ℕ) → ((v : Job C) → P v → v.ended ≡ false) → AllByRecursion (λ k. HasJob (now c h) k P) jobs → list_any (λ (k : ℕ). k == j) jobs ≡ true → has_ended h j ≡ false
+named_going c h P j [] going all e = absurd cc
+named_going {C} c h P j (k ∷ ks) going all e = elim (test k j) [
+  | inl s ↦ (let a = has_at c h k P all.0 in subst (λ (i : ℕ). has_ended h i ≡ false) s.0 (going _ a.is))
+  | inr s ↦ named_going c h P j ks going all.1 (rw s.1 at e)
+]
+
+told_removed : {C : Type 0} (h : List (Event C)) (q : ℕ) (jobs : List ℕ) (j : ℕ) (b : Bool) → list_any (λ (k : ℕ). k == j) jobs ≡ b → (b ≡ true → has_ended h j ≡ false) → Told h j → Told (Removed q jobs ∷ h) j
+told_removed h q jobs j true e going u =
+    let none : removed_of h j ≡ 0 = none_by (removed_of h j) (λ p. clash (has_ended h j) (u.gone p) (going refl)) in
+    let n : removed_of (Removed q jobs ∷ h) j ≡ removed_of h j + 1 = rw e refl in
+    let ended : has_ended (Removed q jobs ∷ h) j ≡ true = rw e refl in
+    record {
+      acts = fits_later (acts_of h j) (has_ended h j) (has_ended (Removed q jobs ∷ h) j) (still_ended h (Removed q jobs) j) u.acts;
+      failed = u.failed;
+      after = λ p. (ended, (u.after p).1);
+      removed = omega arith;
+      gone = λ p. ended;
+    }
+told_removed h q jobs j false e going u =
+    let n : removed_of (Removed q jobs ∷ h) j ≡ removed_of h j = rw e refl in
+    let old = u.removed in
+    record {
+      acts = fits_later (acts_of h j) (has_ended h j) (has_ended (Removed q jobs ∷ h) j) (still_ended h (Removed q jobs) j) u.acts;
+      failed = u.failed;
+      after = λ p. (still_ended h (Removed q jobs) j (u.after p).0, (u.after p).1);
+      removed = omega arith;
+      gone = λ p. still_ended h (Removed q jobs) j (u.gone (omega arith));
+    }
+
+told_closed : {C : Type 0} (h : List (Event C)) (j : ℕ) → Told h j → Told (Closed ∷ h) j
+told_closed h j u = record {
+  acts = fits_later (acts_of h j) (has_ended h j) true (λ e. refl) u.acts;
+  failed = u.failed;
+  after = λ p. (refl, (u.after p).1);
+  removed = u.removed;
+  gone = λ p. refl;
+}
+
+told_started : {C : Type 0} (h : List (Event C)) (q j : ℕ) → Told h j → Told (Started q ∷ h) j
+told_started h q j u = record { acts = u.acts; failed = u.failed; after = u.after; removed = u.removed; gone = u.gone }
+
+ended_aborted : {C : Type 0} (h : List (Event C)) (k : ℕ) → has_ended (OfJob k Aborted ∷ h) k ≡ true
+ended_aborted h k = elim (test k k) [ inl s ↦ rw s.1 refl | inr s ↦ absurd (s.0 refl) ]
+
+told_step : {C : Type 0} (size : C → ℕ) (c : Setup) (h : List (Event C)) (e : Event C) → IsLegal size c h → May size (now c h) e → ((j : ℕ) → Told h j) → (j : ℕ) → Told (e ∷ h) j
+told_step size c h (OfJob k (Opened s q)) l m t =
+    let n = m.4 in
+    told_act h k (Opened s q) (fits_opened (acts_of h k) s q _ ((facts size c h l).fresh k (omega arith)).acts) t
+told_step size c h (OfJob k Granted) l m t =
+    let a = has_at c h k _ m.0 in
+    told_act h k Granted (fits_granted (acts_of h k) (has_ended h k) _ (t k).acts a.is.0.0 a.is.2) t
+told_step size c h (OfJob k (Began name count)) l m t =
+    let a = has_at c h k _ m.1 in
+    told_act h k (Began name count) (fits_began (acts_of h k) name count (has_ended h k) _ (t k).acts a.is.0.0 a.is.3) t
+told_step size c h (OfJob k (Put file number page)) l m t =
+    let a = has_at c h k _ m in
+    told_act h k (Put file number page) (fits_put (acts_of h k) file number page (has_ended h k) _ (t k).acts a.is.0.0 a.is.1) t
+told_step size c h (OfJob k (FileEnded file whole)) l m t =
+    let a = has_at c h k _ m in
+    let o = a.is.2 in
+    told_act h k (FileEnded file whole) (fits_ended (acts_of h k) file whole o.0 o.1 (has_ended h k) _ (t k).acts a.is.0.0 o.2 o.4) t
+told_step size c h (OfJob k (Controlled control whole)) l m t =
+    let a = has_at c h k _ m.1 in
+    told_act h k (Controlled control whole) (fits_controlled (acts_of h k) control whole (has_ended h k) _ (t k).acts a.is.0.0 a.is.1) t
+told_step size c h (OfJob k Aborted) l m t =
+    let a = has_at c h k _ m in
+    told_act h k Aborted (fits_aborted (acts_of h k) (has_ended h k) _ (t k).acts (elim a.is [ inl x ↦ inl x.0 | inr x ↦ inr x.1 ]) (ended_aborted h k)) t
+told_step size c h (AtPrinter p sheet Handed) l m t = told_handed h p sheet (turn_of_page c h p sheet m.0.0 m.0.1 m.1) t
+told_step size c h (AtPrinter p sheet (Printed x)) l m t = told_printed h p sheet x ((facts size c h l).out p sheet (is_out c h p sheet m.0 m.1.0)).1 t
+told_step size c h (AtPrinter p sheet Failed) l m t = told_failed h p sheet ((facts size c h l).out p sheet (is_out c h p sheet m.0 m.1)).1 t
+told_step size c h (Removed q jobs) l m t = λ j. told_removed h q jobs j (list_any (λ (k : ℕ). k == j) jobs) refl (named_going c h _ j jobs (λ v x. x.2) m.4) (t j)
+told_step size c h (Started q) l m t = λ j. told_started h q j (t j)
+told_step size c h Closed l m t = λ j. told_closed h j (t j)
+
+pub told : {C : Type 0} (size : C → ℕ) (c : Setup) (h : List (Event C)) → IsLegal size c h → (j : ℕ) → Told h j
+told size c [] l j = record { acts = fits_none false; failed = omega arith; after = λ p. absurd (omega arith); removed = omega arith; gone = λ p. absurd (omega arith) }
+told size c (e ∷ h) l j = told_step size c h e l.1 l.0 (told size c h l.1) j
+
+-- pages within the limit
+
+abbrev Within : {C : Type 0} → Setup → List (Event C) → Type 0
+Within c h = (o : Opening) → Has o (openings h) → granted_by (acts_of h o.job) ≤ limit_of c o.queue
+
+within_act : {C : Type 0} (c : Setup) (h : List (Event C)) (k : ℕ) (act : Act C) → opening_by k act ≡ [] → ((o : Opening) → Has o (openings h) → k ≡ o.job → granted_by (act ∷ acts_of h o.job) ≤ limit_of c o.queue) → Within c h → Within c (OfJob k act ∷ h)
+within_act {C} c h k act none here w o has =
+    let os : openings h ++ opening_by k act ≡ openings h = ap (λ (l : List Opening). openings h ++ l) none ∙ append-nil (openings h) in
+    let has' : Has o (openings h) = subst (λ (l : List Opening). Has o l) os has in
+    elim (test k o.job) [ inl s ↦ rw s.1 (here o has' s.0) | inr s ↦ rw s.1 (w o has') ]
+
+within_granted : {C : Type 0} (c : Setup) (h : List (Event C)) (k : ℕ) (P : Job C → Type 0) → Facts h → (a : At h k P) → granted_by (acts_of h k) < limit_of c a.queue → Within c h → Within c (OfJob k Granted ∷ h)
+within_granted c h k P f a lt = within_act c h k Granted refl (λ o has same.
+    let e : record { job = k; sender = a.sender; queue = a.queue } ≡ o = f.once (record { job = k; sender = a.sender; queue = a.queue }) o a.there has same in
+    let b : granted_by (acts_of h o.job) < limit_of c o.queue = subst (λ (x : Opening). granted_by (acts_of h x.job) < limit_of c x.queue) e lt in
+    omega arith)
+
+within_opened : {C : Type 0} (c : Setup) (h : List (Event C)) (k s q : ℕ) → Facts h → k ≡ length (openings h) + 1 → Within c h → Within c (OfJob k (Opened s q) ∷ h)
+within_opened {C} c h k s q f is w o has =
+    let same : granted_by (acts_of (OfJob k (Opened s q) ∷ h) o.job) ≡ granted_by (acts_of h o.job) = elim (test k o.job) [ inl r ↦ rw r.1 refl | inr r ↦ rw r.1 refl ] in
+    elim (has_last o (openings h) (record { job = k; sender = s; queue = q }) has) [
+      | inl t ↦ let old = w o t in omega arith
+      | inr e ↦
+          let j : k ≡ o.job = ap (λ (y : Opening). y.job) e in
+          let z : granted_by (acts_of h o.job) ≡ 0 = ap granted_by (f.fresh o.job (omega arith)).acts in
+          omega arith
+    ]
+
+within_step : {C : Type 0} (size : C → ℕ) (c : Setup) (h : List (Event C)) (e : Event C) → IsLegal size c h → May size (now c h) e → Within c h → Within c (e ∷ h)
+within_step size c h (OfJob k (Opened s q)) l m w = within_opened c h k s q (facts size c h l) m.4 w
+within_step size c h (OfJob k Granted) l m w = let a = has_at c h k _ m.0 in within_granted c h k _ (facts size c h l) a a.is.3 w
+within_step size c h (OfJob k (Began name count)) l m w = within_act c h k (Began name count) refl (λ o has e. w o has) w
+within_step size c h (OfJob k (Put file number page)) l m w = within_act c h k (Put file number page) refl (λ o has e. w o has) w
+within_step size c h (OfJob k (FileEnded file whole)) l m w = within_act c h k (FileEnded file whole) refl (λ o has e. w o has) w
+within_step size c h (OfJob k (Controlled control whole)) l m w = within_act c h k (Controlled control whole) refl (λ o has e. w o has) w
+within_step size c h (OfJob k Aborted) l m w = within_act c h k Aborted refl (λ o has e. w o has) w
+within_step size c h (AtPrinter p sheet turn) l m w = w
+within_step size c h (Removed q jobs) l m w = w
+within_step size c h (Started q) l m w = w
+within_step size c h Closed l m w = w
+
+within : {C : Type 0} (size : C → ℕ) (c : Setup) (h : List (Event C)) → IsLegal size c h → Within c h
+within size c [] l = λ o has. absurd has
+within size c (e ∷ h) l = within_step size c h e l.1 l.0 (within size c h l.1)
+
+-- print names
+
+-- no control file of the history prints a name twice
+abbrev PrintNamesDiffer : {C : Type 0} → List (Event C) → Type 0
+PrintNamesDiffer [] = Unit {0}
+PrintNamesDiffer (OfJob job (Controlled control whole) ∷ h) = (all_differ control.prints ≡ true) × PrintNamesDiffer h
+PrintNamesDiffer (_ ∷ h) = PrintNamesDiffer h
+
+last_true : (a b c d : Bool) → (a && b && c && d) ≡ true → d ≡ true
+last_true true true true d e = e
+last_true true true false d e = absurd cc
+last_true true false c d e = absurd cc
+last_true false b c d e = absurd cc
+
+list_differs : (names : List (List ℕ)) → is_print_list names ≡ true → all_differ names ≡ true
+list_differs names e = last_true (nat_le 1 (length names)) (nat_le (length names) 52) (list_all is_data_name names) (all_differ names) e
+
+names_differ : {C : Type 0} (size : C → ℕ) (c : Setup) (h : List (Event C)) → IsLegal size c h → PrintNamesDiffer h
+names_differ size c [] l = tt
+names_differ size c (OfJob k (Opened s q) ∷ h) l = names_differ size c h l.1
+names_differ size c (OfJob k Granted ∷ h) l = names_differ size c h l.1
+names_differ size c (OfJob k (Began name count) ∷ h) l = names_differ size c h l.1
+names_differ size c (OfJob k (Put file number page) ∷ h) l = names_differ size c h l.1
+names_differ size c (OfJob k (FileEnded file whole) ∷ h) l = names_differ size c h l.1
+names_differ size c (OfJob k (Controlled control whole) ∷ h) l = (list_differs control.prints l.0.0.prints, names_differ size c h l.1)
+names_differ size c (OfJob k Aborted ∷ h) l = names_differ size c h l.1
+names_differ size c (AtPrinter p sheet turn ∷ h) l = names_differ size c h l.1
+names_differ size c (Removed q jobs ∷ h) l = names_differ size c h l.1
+names_differ size c (Started q ∷ h) l = names_differ size c h l.1
+names_differ size c (Closed ∷ h) l = names_differ size c h l.1
+
+abbrev Differ : {C : Type 0} → List (Event C) → ℕ → Type 0
+Differ h j = all_differ (prints_in (control_by (acts_of h j))) ≡ true
+
+differ : {C : Type 0} (h : List (Event C)) → PrintNamesDiffer h → (j : ℕ) → Differ h j
+differ [] d j = refl
+differ (OfJob k (Opened s q) ∷ h) d j = elim (test k j) [ inl r ↦ rw r.1 (differ h d j) | inr r ↦ rw r.1 (differ h d j) ]
+differ (OfJob k Granted ∷ h) d j = elim (test k j) [ inl r ↦ rw r.1 (differ h d j) | inr r ↦ rw r.1 (differ h d j) ]
+differ (OfJob k (Began name count) ∷ h) d j = elim (test k j) [ inl r ↦ rw r.1 (differ h d j) | inr r ↦ rw r.1 (differ h d j) ]
+differ (OfJob k (Put file number page) ∷ h) d j = elim (test k j) [ inl r ↦ rw r.1 (differ h d j) | inr r ↦ rw r.1 (differ h d j) ]
+differ (OfJob k (FileEnded file whole) ∷ h) d j = elim (test k j) [ inl r ↦ rw r.1 (differ h d j) | inr r ↦ rw r.1 (differ h d j) ]
+differ (OfJob k (Controlled control whole) ∷ h) d j = elim (test k j) [ inl r ↦ rw r.1 d.0 | inr r ↦ rw r.1 (differ h d.1 j) ]
+differ (OfJob k Aborted ∷ h) d j = elim (test k j) [ inl r ↦ rw r.1 (differ h d j) | inr r ↦ rw r.1 (differ h d j) ]
+differ (AtPrinter p sheet turn ∷ h) d j = differ h d j
+differ (Removed q jobs ∷ h) d j = differ h d j
+differ (Started q ∷ h) d j = differ h d j
+differ (Closed ∷ h) d j = differ h d j
+
+-- all that is told of a job is within its reserve
+abbrev pub used : {C : Type 0} → List (Event C) → ℕ → ℕ
+used h j = length (acts_of h j) + (handed_at h j + (back_of h j + (failed_of h j + removed_of h j)))
+
+length_sheets : {C : Type 0} (j n : ℕ) (xs : List (Page C)) → length (sheets j n xs) ≡ length xs
+length_sheets j n [] = refl
+length_sheets j n (x ∷ xs) = ap suc (length_sheets j (n + 1) xs)
+
+pub reserved : {C : Type 0} (size : C → ℕ) (c : Setup) (h : List (Event C)) → IsLegal size c h → (o : Opening) → Has o (openings h) → used h o.job ≤ reserve_of c o.queue
+reserved {C} size c h l o has =
+    let j = o.job in
+    let a = acts_of h j in
+    let t = told size c h l j in
+    let count = all_counted a in
+    let t1 = t.acts.opened in
+    let t2 = t.acts.puts in
+    let t3 = t.acts.files in
+    let t4 = t.acts.ended in
+    let t5 = t.acts.control in
+    let t6 = t.acts.aborted in
+    let t7 = t.failed in
+    let t8 = t.removed in
+    let b1 = began_files a in
+    let b2 = count_le (files_by a) in
+    let b3 = put_pages a in
+    let w = within size c h l o has in
+    let back = (facts size c h l).back j in
+    let some : handed_at h j ≤ length (places_of h j) =
+    (let e : handed_at h j ≡ length (take (handed_at h j) (places_of h j)) = ap length (placed size c h l j) ∙ length_sheets j 0 (take (handed_at h j) (places_of h j)) in
+    let m = length-take (handed_at h j) (places_of h j) in
+    omega arith) in
+    let all : length (places_of h j) ≤ total (files_by a) = places_within (files_by a) (prints_in (control_by a)) (differ h (names_differ size c h l) j) in
+    omega arith

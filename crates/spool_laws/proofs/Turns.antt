@@ -1,0 +1,101 @@
+-- What is known of the job whose page a printer gets.
+use Rattle.std.proofs.Common.{◌⊎◌, inl, inr, ◌≡◌, ◌==◌, ℕ, Bool, true, false, List, [], ◌∷◌, drop, refl, sym, ◌∙◌, ap, subst, arith}
+use Rattle.std.specs.Prelude.{◌&&◌, not, cond, find, Option, Some, None}
+use Rattle.std.specs.List.{list_any}
+use Rattle.std.proofs.lemmas.Bool.Decides.{nat_tests}
+use Rattle.spool_history.specs.Events.{Event, Sheet}
+use Rattle.spool_history.specs.Setup.{Setup}
+use Rattle.spool_history.specs.Acts.{Page}
+use Rattle.spool_history.specs.Now.{Job, Printer, State, now, is_received, places}
+use Rattle.spool_history.specs.Next.{Next, next_page, next_at, with_out, hand_of, hand_first, turn_of, or_first, first_ready, is_ready, is_before, printer_at}
+use Rattle.spool_history.specs.Next.Next.{Hands, Stops, Over}
+use Rattle.spool_laws.proofs.Known.{Has, At, known, known_at, find_has, and_true, not_true}
+
+-- the next place of a job that hasn't ended is this page
+pub record Gets {C : Type 0} (sheet : Sheet C) (v : Job C) : Type 0 where
+  pub goes_on : v.ended ≡ false
+  pub page : Page C
+  pub later : List (Page C)
+  pub left : drop v.handed (places v) ≡ page ∷ later
+  pub is : sheet ≡ record { job = v.number; place = v.handed; file = page.file; number = page.number; page = page.page }
+
+-- it is received, has no page handed, and stands in its queue behind no other of its sender
+pub record Begins {C : Type 0} (jobs : List (Job C)) (q : ℕ) (v : Job C) : Type 0 where
+  pub queue : v.queue ≡ q
+  pub received : is_received v ≡ true
+  pub unhanded : v.handed ≡ 0
+  pub first : list_any (is_before v) jobs ≡ false
+
+pub record TurnOf {C : Type 0} (jobs : List (Job C)) (p : Printer C) (v : Job C) : Type 0 where
+  pub there : Has v jobs
+  pub goes_on : v.ended ≡ false
+  pub why : (p.began ≡ Some v.number) ⊎ Begins jobs p.queue v
+
+first_by : {C : Type 0} (jobs : List (Job C)) (p : Printer C) (x : Job C) → first_ready jobs p.queue ≡ Some x → TurnOf jobs p x
+first_by {C} jobs p x e =
+    let f = find_has (λ (w : Job C). (w.queue == p.queue) && is_ready jobs w) x jobs e in
+    let a = and_true (x.queue == p.queue) (is_ready jobs x) f.1 in
+    let b = and_true (is_received x) (not x.ended && ((x.handed == 0) && not (list_any (is_before x) jobs))) a.1 in
+    let d = and_true (not x.ended) ((x.handed == 0) && not (list_any (is_before x) jobs)) b.1 in
+    let g = and_true (x.handed == 0) (not (list_any (is_before x) jobs)) d.1 in
+    let queue : x.queue ≡ p.queue = let z = a.0 in grind (arith, nat_tests) in
+    let none : x.handed ≡ 0 = let z = g.0 in grind (arith, nat_tests) in
+    record {
+      there = f.0;
+      goes_on = not_true x.ended d.0;
+      why = inr (record { queue = queue; received = b.0; unhanded = none; first = not_true (list_any (is_before x) jobs) g.1 });
+    }
+
+begun_by : {C : Type 0} (jobs : List (Job C)) (p : Printer C) (k : ℕ) (x : Job C) (found : Option (Job C)) → p.began ≡ Some k → find (λ (v : Job C). (v.number == k) && not v.ended) jobs ≡ found → or_first jobs p.queue found ≡ Some x → TurnOf jobs p x
+begun_by jobs p k x None b e h = first_by jobs p x h
+begun_by {C} jobs p k x (Some v) b e h =
+    let same : v ≡ x = cc in
+    let f = find_has (λ (v : Job C). (v.number == k) && not v.ended) v jobs e in
+    let a = and_true (v.number == k) (not v.ended) f.1 in
+    let n : v.number ≡ k = let z = a.0 in grind (arith, nat_tests) in
+    subst (λ (u : Job C). TurnOf jobs p u) same (record { there = f.0; goes_on = not_true v.ended a.1; why = inl (b ∙ ap (λ (i : ℕ). Some i) (sym n)) })
+
+turn_by : {C : Type 0} (jobs : List (Job C)) (p : Printer C) (x : Job C) (o : Option ℕ) → p.began ≡ o → turn_of jobs p.queue o ≡ Some x → TurnOf jobs p x
+turn_by jobs p x None b e = first_by jobs p x e
+turn_by {C} jobs p x (Some k) b e = begun_by jobs p k x (find (λ (v : Job C). (v.number == k) && not v.ended) jobs) b refl e
+
+open_by : {C : Type 0} (b : Bool) (x : Next C) (sheet : Sheet C) → cond b Over x ≡ Hands sheet → (b ≡ false) × (x ≡ Hands sheet)
+open_by true x sheet e = absurd cc
+open_by false x sheet e = (refl, e)
+
+runs_by : {C : Type 0} (b : Bool) (x : Next C) (sheet : Sheet C) → cond b Stops x ≡ Hands sheet → (b ≡ false) × (x ≡ Hands sheet)
+runs_by true x sheet e = absurd cc
+runs_by false x sheet e = (refl, e)
+
+idle_by : {C : Type 0} (jobs : List (Job C)) (p : Printer C) (o : Option (Sheet C)) (sheet : Sheet C) → with_out jobs p o ≡ Hands sheet → (o ≡ None) × (hand_of (turn_of jobs p.queue p.began) ≡ Hands sheet)
+idle_by jobs p (Some x) sheet e = absurd cc
+idle_by jobs p None sheet e = (refl, e)
+
+gets_by : {C : Type 0} (x : Job C) (xs : List (Page C)) (sheet : Sheet C) → x.ended ≡ false → drop x.handed (places x) ≡ xs → hand_first x.number x.handed xs ≡ Hands sheet → Gets sheet x
+gets_by x [] sheet goes_on left e = absurd cc
+gets_by x (y ∷ ys) sheet goes_on left e = record { goes_on = goes_on; page = y; later = ys; left = left; is = cc }
+
+pub record Given {C : Type 0} (jobs : List (Job C)) (p : Printer C) (sheet : Sheet C) : Type 0 where
+  pub idle : p.out ≡ None
+  pub job : Job C
+  pub turn : TurnOf jobs p job
+  pub gets : Gets sheet job
+
+given_by : {C : Type 0} (jobs : List (Job C)) (p : Printer C) (sheet : Sheet C) (t : Option (Job C)) → p.out ≡ None → turn_of jobs p.queue p.began ≡ t → hand_of t ≡ Hands sheet → Given jobs p sheet
+given_by jobs p sheet None idle is e = absurd cc
+given_by jobs p sheet (Some x) idle is e =
+    let t = turn_by jobs p x p.began refl is in
+    record { idle = idle; job = x; turn = t; gets = gets_by x (drop x.handed (places x)) sheet t.goes_on refl e }
+
+-- whom the next page of a printer is of
+pub given : {C : Type 0} (v : State C) (p : ℕ) (sheet : Sheet C) → next_page v p ≡ Hands sheet → (v.closed ≡ false) × Given v.jobs (printer_at v p) sheet
+given v p sheet e =
+    let o = open_by v.closed (next_at v.jobs (printer_at v p)) sheet e in
+    let r = runs_by (printer_at v p).stopped (with_out v.jobs (printer_at v p) (printer_at v p).out) sheet o.1 in
+    let i = idle_by v.jobs (printer_at v p) (printer_at v p).out sheet r.1 in
+    (o.0, given_by v.jobs (printer_at v p) sheet (turn_of v.jobs (printer_at v p).queue (printer_at v p).began) i.0 refl i.1)
+
+-- that job is an accepted one
+pub given_at : {C : Type 0} (c : Setup) (h : List (Event C)) (p : Printer C) (sheet : Sheet C) → Given (now c h).jobs p sheet → At h sheet.job (λ v. Gets sheet v)
+given_at {C} c h p sheet g =
+    known_at h g.job sheet.job (λ v. Gets sheet v) (known c h g.job g.turn.there) (sym (ap (λ (s : Sheet C). s.job) g.gets.is)) g.gets

@@ -1,0 +1,76 @@
+-- How pages leave: what holds of each page that is handed to a printer.
+use Rattle.std.specs.Prelude.{◌≡◌, ◌↔◌, ℕ, ◌+◌, ◌<◌, true, false, List, [], ◌∷◌, length, take, Contains}
+use Rattle.spool_history.specs.Events.{Sheet, Progress, Event}
+use Rattle.spool_history.specs.Events.Progress.{Done, Ended}
+use Rattle.spool_history.specs.Events.Turn.{Handed, Printed}
+use Rattle.spool_history.specs.Events.Event.{AtPrinter}
+use Rattle.spool_history.specs.Acts.{Page, control_by, files_by, places_in}
+use Rattle.spool_history.specs.Said.{Opening, openings, acts_of, handed_of, has_ended, is_closed, is_done}
+use Rattle.spool_history.specs.Setup.{Setup}
+use Rattle.spool_history.specs.Now.{is_held, job_of}
+use Rattle.spool_history.specs.Legal.{IsLegal}
+
+-- of each page that is handed, P holds of the events before it and of the page
+abbrev pub EachHanded : {C : Type 0} → (List (Event C) → Sheet C → Type 0) → List (Event C) → Type 0
+EachHanded P [] = Unit {0}
+EachHanded P (AtPrinter printer sheet Handed ∷ h) = P h sheet × EachHanded P h
+EachHanded P (_ ∷ h) = EachHanded P h
+
+-- the spool was not closed
+abbrev pub IsOpen : {C : Type 0} → List (Event C) → Sheet C → Type 0
+IsOpen h sheet = is_closed h ≡ false
+
+-- the job of the page had not ended
+abbrev pub HasNotEnded : {C : Type 0} → List (Event C) → Sheet C → Type 0
+HasNotEnded h sheet = has_ended h sheet.job ≡ false
+
+-- nothing is handed after the close
+abbrev pub NothingAfterTheClose : Type 0 → Type 0
+NothingAfterTheClose C = (size : C → ℕ) (c : Setup) (h : List (Event C)) → IsLegal size c h → EachHanded IsOpen h
+
+-- nothing of a job is handed after its end
+abbrev pub NothingAfterTheEnd : Type 0 → Type 0
+NothingAfterTheEnd C = (size : C → ℕ) (c : Setup) (h : List (Event C)) → IsLegal size c h → EachHanded HasNotEnded h
+
+-- of each page that is printed, P holds of the events before it, of the page and of what is said of its job
+abbrev pub EachPrinted : {C : Type 0} → (List (Event C) → Sheet C → Progress → Type 0) → List (Event C) → Type 0
+EachPrinted P [] = Unit {0}
+EachPrinted P (AtPrinter printer sheet (Printed progress) ∷ h) = P h sheet progress × EachPrinted P h
+EachPrinted P (_ ∷ h) = EachPrinted P h
+
+-- the places of the job of this number, in print order
+abbrev pub places_of : {C : Type 0} → List (Event C) → ℕ → List (Page C)
+places_of h j = places_in (control_by (acts_of h j)) (files_by (acts_of h j))
+
+-- the page is the last place of its job
+abbrev pub IsLastPlace : {C : Type 0} → List (Event C) → Sheet C → Type 0
+IsLastPlace h sheet = sheet.place + 1 ≡ length (places_of h sheet.job)
+
+-- "done" is said for the last place of a job that had not ended, and "ended" where it had
+pub record SaysWhatIs {C : Type 0} (h : List (Event C)) (sheet : Sheet C) (progress : Progress) : Type 0 where
+  pub done : (progress ≡ Done) ↔ ((has_ended h sheet.job ≡ false) × IsLastPlace h sheet)
+  pub ended : (progress ≡ Ended) ↔ (has_ended h sheet.job ≡ true)
+
+abbrev pub DoneForTheLastPlace : Type 0 → Type 0
+DoneForTheLastPlace C = (size : C → ℕ) (c : Setup) (h : List (Event C)) → IsLegal size c h → EachPrinted SaysWhatIs h
+
+-- places of a job as printers get them, the first of which has this number
+abbrev pub sheets : {C : Type 0} → (job place : ℕ) → List (Page C) → List (Sheet C)
+sheets job n [] = []
+sheets job n (x ∷ xs) = record { job = job; place = n; file = x.file; number = x.number; page = x.page } ∷ sheets job (n + 1) xs
+
+-- what was handed of a job are its first places, in order, each once and as it was put
+abbrev pub FirstPlacesInOrder : Type 0 → Type 0
+FirstPlacesInOrder C = (size : C → ℕ) (c : Setup) (h : List (Event C)) → IsLegal size c h → (j : ℕ) → handed_of h j ≡ sheets j 0 (take (length (handed_of h j)) (places_of h j))
+
+-- and all of them, where the job is done
+abbrev pub AllPlacesOfDone : Type 0 → Type 0
+AllPlacesOfDone C = (size : C → ℕ) (c : Setup) (h : List (Event C)) → IsLegal size c h → (j : ℕ) → is_done h j ≡ true → handed_of h j ≡ sheets j 0 (places_of h j)
+
+-- each earlier job of the same sender and queue was gone: it had ended, and no page of it was out
+abbrev pub EarlierAreGone : {C : Type 0} → List (Event C) → Sheet C → Type 0
+EarlierAreGone h sheet = (earlier later : Opening) → Contains (openings h) earlier → Contains (openings h) later → later.job ≡ sheet.job
+    → earlier.job < later.job → earlier.sender ≡ later.sender → earlier.queue ≡ later.queue → is_held (job_of h earlier) ≡ false
+
+abbrev pub InOrderOfAcceptance : Type 0 → Type 0
+InOrderOfAcceptance C = (size : C → ℕ) (c : Setup) (h : List (Event C)) → IsLegal size c h → EachHanded EarlierAreGone h

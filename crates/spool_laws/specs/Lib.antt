@@ -1,0 +1,6 @@
+pub mod Leaving
+pub mod Stepping
+pub mod Reserve
+pub mod Outline
+pub mod Sums
+pub mod Safety

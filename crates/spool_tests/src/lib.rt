@@ -1,0 +1,17 @@
+//! Tests that cross crates, through public items alone.
+#![tactic(auto)]
+
+#[cfg(test)]
+mod banker;
+#[cfg(test)]
+mod chain;
+#[cfg(test)]
+mod control;
+#[cfg(test)]
+mod core_calls;
+#[cfg(test)]
+mod lines;
+#[cfg(test)]
+mod pages;
+#[cfg(test)]
+mod sessions;
