@@ -9,7 +9,7 @@ use std::env;
 use std::rt::Clock;
 
 /// Prints a line for each number of rows and each case.
-fn run(rt: &(impl Alloc + Clock + Print)) -> Result<()> {
+fn run<R: AllocGlobal + Clock + Print>(rt: &R) -> Result<()> {
     for rows in [8, 64, 256, 1024] {
         for ladder in [Ladder::Flat, Ladder::Steep] {
             let (tests, took) = decide(rt, rt.alloc(), ladder, rows)?;
@@ -23,7 +23,7 @@ fn run(rt: &(impl Alloc + Clock + Print)) -> Result<()> {
 }
 
 fn main(rt: HostRuntime) -> Result<()> {
-    for word in env::args(&rt)? {
+    for word in env::args(&rt)?.skip(1) {
         if word.as_str() == "run" {
             run(&rt)?;
         }
