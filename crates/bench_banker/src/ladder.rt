@@ -1,13 +1,12 @@
 //! Tables of claims whose decisions are measured.
 
-use anyhow::{Result, bail};
 use claims::Table;
 use counts::Counts;
 use ordered_safety::{PAGES, Scratch, safe_after_page};
-use std::alloc::Global;
-use std::fmt;
+use std::alloc::{AllocError, Global};
 use std::rt::Clock;
 use std::time::{Duration, Instant};
+use std::{fmt, io};
 
 /// What the rows need beyond what they hold.
 #[derive(Clone, Copy)]
@@ -28,31 +27,34 @@ impl fmt::Display for Ladder {
 }
 
 /// So many of the one kind.
-fn pages(alloc: Global, amount: u32) -> Result<Counts> {
+fn pages(alloc: Global, amount: u32) -> Result<Counts, AllocError> {
     let mut counts = Counts::zero(alloc, 1)?;
     counts.set(PAGES, amount);
     Ok(counts)
 }
 
-/// Adds a row of a sender of its own that claims so many pages and, if `held`, holds one of them.
-fn add_row(table: &mut Table, sender: u32, claim: &Counts, held: bool) -> Result<()> {
+/// Adds a row of a sender of its own that claims so many pages and, if `held`, holds one of them. Answers whether it had
+/// a place.
+fn add_row(table: &mut Table, sender: u32, claim: &Counts, held: bool) -> bool {
     let number = u64::from(sender);
     let greater = table.rows().iter().all(|row| row.number < number);
     if !greater || claim.kinds() != table.capacity().kinds() {
-        bail!("row {number} has no place");
+        return false;
     }
-    table.open_row(number, sender, 0, claim)?;
+    if table.open_row(number, sender, 0, claim).is_err() {
+        return false;
+    }
     let row = table.len().saturating_sub(1);
     if held && row < table.len() && table.capacity().kinds() > PAGES {
         if table.free().get(PAGES) > 0 && table.rows()[row].need.get(PAGES) > 0 {
             table.grant(row, PAGES);
         }
     }
-    Ok(())
+    true
 }
 
 /// Rows of which all but the last hold one page, with one page free, which the last may ask for.
-fn table_of(alloc: Global, ladder: Ladder, rows: u32) -> Result<Table> {
+fn table_of(alloc: Global, ladder: Ladder, rows: u32) -> Result<Option<Table>, AllocError> {
     let mut table = Table::new(alloc, &pages(alloc, rows)?, rows)?;
     for row in 0..rows {
         let later = rows - 1 - row;
@@ -60,34 +62,33 @@ fn table_of(alloc: Global, ladder: Ladder, rows: u32) -> Result<Table> {
             Ladder::Flat => 0,
             Ladder::Steep => later,
         };
-        add_row(
-            &mut table,
-            row,
-            &pages(alloc, need.saturating_add(1))?,
-            later > 0,
-        )?;
+        let claim = pages(alloc, need.saturating_add(1))?;
+        if !add_row(&mut table, row, &claim, later > 0) {
+            return Ok(None);
+        }
     }
-    Ok(table)
+    Ok(Some(table))
 }
 
-/// How many comparisons one decision on a page takes, and how long.
-pub fn decide(
-    rt: &impl Clock,
-    alloc: Global,
+/// How many comparisons one decision on a page takes, and how long. None where the rows can't be made.
+pub fn decide<R: AllocGlobal + Clock>(
+    rt: &R,
     ladder: Ladder,
     rows: u32,
-) -> Result<(u64, Duration)> {
-    let table = table_of(alloc, ladder, rows)?;
-    let mut scratch = Scratch::with_room(alloc, table.len(), table.capacity().kinds())?;
+) -> io::Result<Option<(u64, Duration)>> {
+    let Some(table) = table_of(rt.alloc(), ladder, rows)? else {
+        return Ok(None);
+    };
+    let mut scratch = Scratch::with_room(rt.alloc(), table.len(), table.capacity().kinds())?;
     let last = table.len().saturating_sub(1);
     if last >= table.len() || table.capacity().kinds() == 0 {
-        bail!("no rows");
+        return Ok(None);
     }
     if table.free().get(PAGES) == 0 || table.rows()[last].need.get(PAGES) == 0 {
-        bail!("no page to ask for");
+        return Ok(None);
     }
     let start = Instant::now(rt)?;
     let verdict = safe_after_page(&mut scratch, &table, last);
     let took = start.elapsed(rt)?;
-    Ok((verdict.tests, took))
+    Ok(Some((verdict.tests, took)))
 }

@@ -50,10 +50,17 @@ fn readers_agree(rt: &impl Abort, alloc: Global, text: &[u8]) -> Result<(), Refu
     Ok(())
 }
 
-fn control_is(rt: &impl Abort, alloc: Global, text: &[u8], want: &[u8]) -> Result<(), Refusal> {
-    let shown = shown(alloc, text)?;
-    assert_eq!(rt; shown.as_slice(), want, "the control text {text:?}");
-    readers_agree(rt, alloc, text)
+/// The text of these octets and then as many times a piece is read so.
+fn control_is(
+    rt: &impl Abort,
+    alloc: Global,
+    row: (&[u8], &[u8], usize, &[u8]),
+) -> Result<(), Refusal> {
+    let (head, piece, times, want) = row;
+    let text = repeated(alloc, head, piece, times)?;
+    let shown = shown(alloc, text.as_slice())?;
+    assert_eq!(rt; shown.as_slice(), want, "the control text {head:?}");
+    readers_agree(rt, alloc, text.as_slice())
 }
 
 fn repeated(alloc: Global, head: &[u8], piece: &[u8], times: usize) -> Result<Vec<u8>, AllocError> {
@@ -86,88 +93,63 @@ fn read_and_written(rt: HostRuntime) -> Result<(), Fail> {
 fn texts_by_table(rt: HostRuntime) -> Result<(), Fail> {
     let alloc = rt.alloc();
     let plain = b"Hh1\nPann\nfdfA001h1\n";
-    control_is(&rt, alloc, plain, plain)?;
-    control_is(&rt, alloc, b"\n\nldfA001h1\n\nPann\nHh1", plain)?;
-    control_is(
-        &rt,
-        alloc,
-        b"Hh1\nHh2\nPann\nPbob\nfdfA001h1\nUdfA001h1\nNx\nJy\n",
-        plain,
-    )?;
-    control_is(&rt, alloc, b"Hh1\nPann\nfdfA001h1\nfdfA001h1\n", plain)?;
-    control_is(
-        &rt,
-        alloc,
-        b"Hh1\nPann\nfdfB001\ncdfA001h1\npdfB001\n",
-        b"Hh1\nPann\nfdfB001\nfdfA001h1\n",
-    )?;
-    control_is(
-        &rt,
-        alloc,
-        b"H h\xff 1\r\nPann b\nfdfA001h1",
-        b"H h\xff 1\r\nPann b\nfdfA001h1\n",
-    )?;
+    let rows: [(&[u8], &[u8], usize, &[u8]); 7] = [
+        (plain, b"", 0, plain),
+        (b"\n\nldfA001h1\n\nPann\nHh1", b"", 0, plain),
+        (
+            b"Hh1\nHh2\nPann\nPbob\nfdfA001h1\nUdfA001h1\nNx\nJy\n",
+            b"",
+            0,
+            plain,
+        ),
+        (b"Hh1\nPann\nfdfA001h1\nfdfA001h1\n", b"", 0, plain),
+        (
+            b"Hh1\nPann\nfdfB001\ncdfA001h1\npdfB001\n",
+            b"",
+            0,
+            b"Hh1\nPann\nfdfB001\nfdfA001h1\n",
+        ),
+        (
+            b"H h\xff 1\r\nPann b\nfdfA001h1",
+            b"",
+            0,
+            b"H h\xff 1\r\nPann b\nfdfA001h1\n",
+        ),
+        (b"Hh1\nPann\n", b"fdfA001h1\n", 52, plain),
+    ];
+    for row in rows {
+        control_is(&rt, alloc, row)?;
+    }
     Ok(())
 }
 
 #[test]
 fn refusals_in_order(rt: HostRuntime) -> Result<(), Fail> {
     let alloc = rt.alloc();
-    control_is(&rt, alloc, b"", &[0, 44])?;
-    control_is(
-        &rt,
-        alloc,
-        repeated(alloc, b"", b"\n", 8193)?.as_slice(),
-        &[0, 44],
-    )?;
-    control_is(
-        &rt,
-        alloc,
-        repeated(alloc, b"", b"\n", 8192)?.as_slice(),
-        &[0, 40],
-    )?;
-    control_is(&rt, alloc, b"Pann\nfdfA001h1\n", &[0, 40])?;
-    control_is(&rt, alloc, b"\nx\n", &[0, 40])?;
-    control_is(&rt, alloc, b"Hh1\nfdfA001h1\n", &[0, 41])?;
-    control_is(&rt, alloc, b"H\n", &[0, 41])?;
-    control_is(&rt, alloc, b"H\nPann\n", &[0, 44])?;
-    control_is(&rt, alloc, b"Hh1\nP\n", &[0, 44])?;
-    control_is(&rt, alloc, b"H\nHh1\nPann\nfdfA001h1\n", &[0, 44])?;
-    control_is(
-        &rt,
-        alloc,
-        repeated(alloc, b"Pann\nfdfA001h1\nHx", b"h", 255)?.as_slice(),
-        &[0, 44],
-    )?;
-    control_is(
-        &rt,
-        alloc,
-        repeated(alloc, b"Hh1\nfdfA001h1\nPx", b"p", 255)?.as_slice(),
-        &[0, 44],
-    )?;
-    control_is(&rt, alloc, b"Hh1\nPann\n", &[0, 42])?;
-    control_is(&rt, alloc, b"Hh1\nPann\nedfA001h1\n", &[0, 42])?;
-    control_is(
-        &rt,
-        alloc,
-        repeated(alloc, b"Hh1\nPann\n", b"fdfA001h1\n", 53)?.as_slice(),
-        &[0, 43],
-    )?;
-    control_is(
-        &rt,
-        alloc,
-        repeated(alloc, b"Hh1\nPann\n", b"fx\n", 53)?.as_slice(),
-        &[0, 43],
-    )?;
-    control_is(
-        &rt,
-        alloc,
-        repeated(alloc, b"Hh1\nPann\n", b"fdfA001h1\n", 52)?.as_slice(),
-        b"Hh1\nPann\nfdfA001h1\n",
-    )?;
-    control_is(&rt, alloc, b"Hh1\nPann\nfdfA001h1\nfdfA01\n", &[0, 34])?;
-    control_is(&rt, alloc, b"Hh1\nPann\nf\n", &[0, 34])?;
-    control_is(&rt, alloc, b"Hh1\nPann\nfcfA001h1\n", &[0, 34])?;
+    let rows: [(&[u8], &[u8], usize, &[u8]); 19] = [
+        (b"", b"", 0, &[0, 44]),
+        (b"", b"\n", 8193, &[0, 44]),
+        (b"", b"\n", 8192, &[0, 40]),
+        (b"Pann\nfdfA001h1\n", b"", 0, &[0, 40]),
+        (b"\nx\n", b"", 0, &[0, 40]),
+        (b"Hh1\nfdfA001h1\n", b"", 0, &[0, 41]),
+        (b"H\n", b"", 0, &[0, 41]),
+        (b"H\nPann\n", b"", 0, &[0, 44]),
+        (b"Hh1\nP\n", b"", 0, &[0, 44]),
+        (b"H\nHh1\nPann\nfdfA001h1\n", b"", 0, &[0, 44]),
+        (b"Pann\nfdfA001h1\nHx", b"h", 255, &[0, 44]),
+        (b"Hh1\nfdfA001h1\nPx", b"p", 255, &[0, 44]),
+        (b"Hh1\nPann\n", b"", 0, &[0, 42]),
+        (b"Hh1\nPann\nedfA001h1\n", b"", 0, &[0, 42]),
+        (b"Hh1\nPann\n", b"fdfA001h1\n", 53, &[0, 43]),
+        (b"Hh1\nPann\n", b"fx\n", 53, &[0, 43]),
+        (b"Hh1\nPann\nfdfA001h1\nfdfA01\n", b"", 0, &[0, 34]),
+        (b"Hh1\nPann\nf\n", b"", 0, &[0, 34]),
+        (b"Hh1\nPann\nfcfA001h1\n", b"", 0, &[0, 34]),
+    ];
+    for row in rows {
+        control_is(&rt, alloc, row)?;
+    }
     Ok(())
 }
 

@@ -24,24 +24,33 @@ fn sub_shown(alloc: Global, read: Result<Sub, Refusal>) -> Result<Vec<u8>, Alloc
     }
 }
 
-fn command_is(rt: &impl Abort, alloc: Global, line: &[u8], want: &[u8]) -> Result<(), AllocError> {
-    let shown = command_shown(alloc, parse_command(alloc, line))?;
-    assert_eq!(rt; shown.as_slice(), want, "the command line {line:?}");
+/// Both readers read the line alike as a command.
+fn commands_agree(rt: &impl Abort, alloc: Global, line: &[u8]) -> Result<(), AllocError> {
+    match (parse_command(alloc, line), plain_command(alloc, line)) {
+        (Err(refusal), Err(plain)) => assert_eq!(rt; refusal, plain, "the command line {line:?}"),
+        (read, plain) => {
+            let (read, plain) = (command_shown(alloc, read)?, command_shown(alloc, plain)?);
+            assert_eq!(rt; read.as_slice(), plain.as_slice(), "the command line {line:?}");
+        }
+    }
     Ok(())
 }
 
-fn sub_is(rt: &impl Abort, alloc: Global, line: &[u8], want: &[u8]) -> Result<(), AllocError> {
-    let shown = sub_shown(alloc, parse_sub(line))?;
-    assert_eq!(rt; shown.as_slice(), want, "the subcommand line {line:?}");
+/// Both readers read the line alike as a subcommand.
+fn subs_agree(rt: &impl Abort, alloc: Global, line: &[u8]) -> Result<(), AllocError> {
+    match (parse_sub(line), plain_sub(alloc, line)) {
+        (Err(refusal), Err(plain)) => assert_eq!(rt; refusal, plain, "the subcommand line {line:?}"),
+        (read, plain) => {
+            let (read, plain) = (sub_shown(alloc, read)?, sub_shown(alloc, plain)?);
+            assert_eq!(rt; read.as_slice(), plain.as_slice(), "the subcommand line {line:?}");
+        }
+    }
     Ok(())
 }
 
-/// Both readers read the line alike, as a command and as a subcommand.
 fn readers_agree(rt: &impl Abort, alloc: Global, line: &[u8]) -> Result<(), AllocError> {
-    let command = command_shown(alloc, plain_command(alloc, line))?;
-    command_is(rt, alloc, line, command.as_slice())?;
-    let sub = sub_shown(alloc, plain_sub(alloc, line))?;
-    sub_is(rt, alloc, line, sub.as_slice())
+    commands_agree(rt, alloc, line)?;
+    subs_agree(rt, alloc, line)
 }
 
 /// `head` and then as many octets as make the line this long.
@@ -53,118 +62,113 @@ fn filled(alloc: Global, head: &[u8], octet: u8, len: usize) -> Result<Vec<u8>, 
     Ok(line)
 }
 
+/// The command line of these octets and then as many of one octet as make it this long is read so.
+fn command_is(
+    rt: &impl Abort,
+    alloc: Global,
+    row: (&[u8], u8, usize, &[u8]),
+) -> Result<(), AllocError> {
+    let (head, octet, len, want) = row;
+    let line = filled(alloc, head, octet, len)?;
+    let shown = command_shown(alloc, parse_command(alloc, line.as_slice()))?;
+    assert_eq!(rt; shown.as_slice(), want, "the command line {head:?}");
+    commands_agree(rt, alloc, line.as_slice())
+}
+
+/// The subcommand line of these octets and then as many of one octet as make it this long is read so.
+fn sub_is(
+    rt: &impl Abort,
+    alloc: Global,
+    row: (&[u8], u8, usize, &[u8]),
+) -> Result<(), AllocError> {
+    let (head, octet, len, want) = row;
+    let line = filled(alloc, head, octet, len)?;
+    let shown = sub_shown(alloc, parse_sub(line.as_slice()))?;
+    assert_eq!(rt; shown.as_slice(), want, "the subcommand line {head:?}");
+    subs_agree(rt, alloc, line.as_slice())
+}
+
 #[test]
 fn commands_by_table(rt: HostRuntime) -> Result<(), Fail> {
     let alloc = rt.alloc();
-    command_is(&rt, alloc, b"\x03lp\tann  12", b"\x03lp ann 12\n")?;
-    command_is(&rt, alloc, b"\x01lp", b"\x01lp\n")?;
-    command_is(&rt, alloc, b"\x01lp passed over ", b"\x01lp\n")?;
-    command_is(&rt, alloc, b"\x02lp \x0b\x0c", b"\x02lp\n")?;
-    command_is(&rt, alloc, b"\x04lp", b"\x04lp\n")?;
-    command_is(&rt, alloc, b"\x05lp root ann 001", b"\x05lp root ann 001\n")?;
-    command_is(&rt, alloc, b"\x05lp\x0croot", b"\x05lp root\n")?;
-    command_is(&rt, alloc, b"\x02\x80\xff!~", b"\x02\x80\xff!~\n")?;
-    command_is(&rt, alloc, b"", &[0, 30])?;
-    command_is(&rt, alloc, b"\x00lp", &[0, 30])?;
-    command_is(&rt, alloc, b"\x06lp", &[0, 30])?;
-    command_is(&rt, alloc, b"\x06 \r", &[0, 30])?;
-    command_is(&rt, alloc, b"\x05lp", &[0, 31])?;
-    command_is(&rt, alloc, b"\x05lp \t", &[0, 31])?;
-    command_is(&rt, alloc, b"\x02", &[0, 31])?;
-    command_is(&rt, alloc, b"\x02 lp", &[0, 31])?;
-    command_is(&rt, alloc, b"\x02lp\r", &[0, 31])?;
-    command_is(&rt, alloc, b"\x02lp\x7f", &[0, 31])?;
-    command_is(&rt, alloc, b"\x02lp\n", &[0, 31])?;
-    command_is(
-        &rt,
-        alloc,
-        filled(alloc, b"\x02lp", b' ', 1023)?.as_slice(),
-        b"\x02lp\n",
-    )?;
-    command_is(
-        &rt,
-        alloc,
-        filled(alloc, b"\x02lp", b' ', 1024)?.as_slice(),
-        &[0, 32],
-    )?;
-    command_is(
-        &rt,
-        alloc,
-        filled(alloc, b"\x06", b'\r', 1024)?.as_slice(),
-        &[0, 32],
-    )?;
-    command_is(
-        &rt,
-        alloc,
-        filled(alloc, b"\x06", b'\r', 1023)?.as_slice(),
-        &[0, 30],
-    )?;
+    let rows: [(&[u8], u8, usize, &[u8]); 23] = [
+        (b"\x03lp\tann  12", 0, 0, b"\x03lp ann 12\n"),
+        (b"\x01lp", 0, 0, b"\x01lp\n"),
+        (b"\x01lp passed over ", 0, 0, b"\x01lp\n"),
+        (b"\x02lp \x0b\x0c", 0, 0, b"\x02lp\n"),
+        (b"\x04lp", 0, 0, b"\x04lp\n"),
+        (b"\x05lp root ann 001", 0, 0, b"\x05lp root ann 001\n"),
+        (b"\x05lp\x0croot", 0, 0, b"\x05lp root\n"),
+        (b"\x02\x80\xff!~", 0, 0, b"\x02\x80\xff!~\n"),
+        (b"", 0, 0, &[0, 30]),
+        (b"\x00lp", 0, 0, &[0, 30]),
+        (b"\x06lp", 0, 0, &[0, 30]),
+        (b"\x06 \r", 0, 0, &[0, 30]),
+        (b"\x05lp", 0, 0, &[0, 31]),
+        (b"\x05lp \t", 0, 0, &[0, 31]),
+        (b"\x02", 0, 0, &[0, 31]),
+        (b"\x02 lp", 0, 0, &[0, 31]),
+        (b"\x02lp\r", 0, 0, &[0, 31]),
+        (b"\x02lp\x7f", 0, 0, &[0, 31]),
+        (b"\x02lp\n", 0, 0, &[0, 31]),
+        (b"\x02lp", b' ', 1023, b"\x02lp\n"),
+        (b"\x02lp", b' ', 1024, &[0, 32]),
+        (b"\x06", b'\r', 1024, &[0, 32]),
+        (b"\x06", b'\r', 1023, &[0, 30]),
+    ];
+    for row in rows {
+        command_is(&rt, alloc, row)?;
+    }
     Ok(())
 }
 
 #[test]
 fn subcommands_by_table(rt: HostRuntime) -> Result<(), Fail> {
     let alloc = rt.alloc();
-    sub_is(&rt, alloc, b"\x01", b"\x01\n")?;
-    sub_is(&rt, alloc, b"\x01 \t\x0b\x0c", b"\x01\n")?;
-    sub_is(&rt, alloc, b"\x0311 dfA001h1", b"\x0311 dfA001h1\n")?;
-    sub_is(&rt, alloc, b"\x02007\t cfz999 ", b"\x027 cfz999\n")?;
-    sub_is(&rt, alloc, b"\x020 cfA001h1", b"\x020 cfA001h1\n")?;
-    sub_is(
-        &rt,
-        alloc,
-        b"\x039999999999999999999 dfA001",
-        b"\x039999999999999999999 dfA001\n",
-    )?;
-    sub_is(&rt, alloc, b"", &[0, 30])?;
-    sub_is(&rt, alloc, b"\x04", &[0, 30])?;
-    sub_is(&rt, alloc, b"\x01x", &[0, 31])?;
-    sub_is(&rt, alloc, b"\x028", &[0, 31])?;
-    sub_is(&rt, alloc, b"\x02 8 cfA001h1", &[0, 31])?;
-    sub_is(&rt, alloc, b"\x028 cfA001h1 x", &[0, 31])?;
-    sub_is(&rt, alloc, b"\x028 cfA001h1\r", &[0, 31])?;
-    sub_is(&rt, alloc, b"\x030 dfA001h1", &[0, 33])?;
-    sub_is(&rt, alloc, b"\x03000 dfA001h1", &[0, 33])?;
-    sub_is(&rt, alloc, b"\x0200000000000000000001 cfA001h1", &[0, 33])?;
-    sub_is(&rt, alloc, b"\x028x cfA001h1", &[0, 33])?;
-    sub_is(&rt, alloc, b"\x02x dfA001h1", &[0, 33])?;
-    sub_is(&rt, alloc, b"\x030 cfA001h1", &[0, 33])?;
-    sub_is(&rt, alloc, b"\x038 dfA01h1", &[0, 34])?;
-    sub_is(&rt, alloc, b"\x038 cfA001h1", &[0, 34])?;
-    sub_is(&rt, alloc, b"\x028 dfA001h1", &[0, 34])?;
-    sub_is(&rt, alloc, b"\x028 cf0001h1", &[0, 34])?;
-    sub_is(&rt, alloc, b"\x028 cfA00", &[0, 34])?;
-    let longest = filled(alloc, b"\x028 cfA001", b'x', 3 + 126)?;
-    sub_is(
-        &rt,
-        alloc,
-        longest.as_slice(),
-        filled(alloc, longest.as_slice(), b'\n', 3 + 127)?.as_slice(),
-    )?;
-    sub_is(
-        &rt,
-        alloc,
-        filled(alloc, b"\x028 cfA001", b'x', 3 + 127)?.as_slice(),
-        &[0, 34],
-    )?;
-    sub_is(
-        &rt,
-        alloc,
-        filled(alloc, b"\x01", b' ', 1024)?.as_slice(),
-        &[0, 32],
-    )?;
-    sub_is(
-        &rt,
-        alloc,
-        filled(alloc, b"\x01", b' ', 1023)?.as_slice(),
-        b"\x01\n",
-    )?;
-    sub_is(
-        &rt,
-        alloc,
-        filled(alloc, b"\x04", b'x', 1024)?.as_slice(),
-        &[0, 32],
-    )?;
+    let rows: [(&[u8], u8, usize, &[u8]); 29] = [
+        (b"\x01", 0, 0, b"\x01\n"),
+        (b"\x01 \t\x0b\x0c", 0, 0, b"\x01\n"),
+        (b"\x0311 dfA001h1", 0, 0, b"\x0311 dfA001h1\n"),
+        (b"\x02007\t cfz999 ", 0, 0, b"\x027 cfz999\n"),
+        (b"\x020 cfA001h1", 0, 0, b"\x020 cfA001h1\n"),
+        (b"\x039999999999999999999 dfA001", 0, 0, b"\x039999999999999999999 dfA001\n"),
+        (b"", 0, 0, &[0, 30]),
+        (b"\x04", 0, 0, &[0, 30]),
+        (b"\x01x", 0, 0, &[0, 31]),
+        (b"\x028", 0, 0, &[0, 31]),
+        (b"\x02 8 cfA001h1", 0, 0, &[0, 31]),
+        (b"\x028 cfA001h1 x", 0, 0, &[0, 31]),
+        (b"\x028 cfA001h1\r", 0, 0, &[0, 31]),
+        (b"\x030 dfA001h1", 0, 0, &[0, 33]),
+        (b"\x03000 dfA001h1", 0, 0, &[0, 33]),
+        (b"\x0200000000000000000001 cfA001h1", 0, 0, &[0, 33]),
+        (b"\x028x cfA001h1", 0, 0, &[0, 33]),
+        (b"\x02x dfA001h1", 0, 0, &[0, 33]),
+        (b"\x030 cfA001h1", 0, 0, &[0, 33]),
+        (b"\x038 dfA01h1", 0, 0, &[0, 34]),
+        (b"\x038 cfA001h1", 0, 0, &[0, 34]),
+        (b"\x028 dfA001h1", 0, 0, &[0, 34]),
+        (b"\x028 cf0001h1", 0, 0, &[0, 34]),
+        (b"\x028 cfA00", 0, 0, &[0, 34]),
+        (b"\x028 cfA001", b'x', 3 + 127, &[0, 34]),
+        (b"\x01", b' ', 1024, &[0, 32]),
+        (b"\x01", b' ', 1023, b"\x01\n"),
+        (b"\x04", b'x', 1024, &[0, 32]),
+        (b"\x04", b'x', 1023, &[0, 30]),
+    ];
+    for row in rows {
+        sub_is(&rt, alloc, row)?;
+    }
+    Ok(())
+}
+
+/// The longest name of a control file is taken.
+#[test]
+fn the_longest_name(rt: HostRuntime) -> Result<(), Fail> {
+    let alloc = rt.alloc();
+    let line = filled(alloc, b"\x028 cfA001", b'x', 3 + 126)?;
+    let written = filled(alloc, line.as_slice(), b'\n', 3 + 127)?;
+    sub_is(&rt, alloc, (line.as_slice(), 0, 0, written.as_slice()))?;
     Ok(())
 }
 
@@ -242,15 +246,28 @@ fn short_lines(rt: HostRuntime) -> Result<(), Fail> {
     Ok(())
 }
 
-/// All lines of three octets over the octets at the edges of each kind.
+/// All lines of three octets, as commands.
 #[test]
-fn three_octets(rt: HostRuntime) -> Result<(), Fail> {
+fn three_octet_commands(rt: HostRuntime) -> Result<(), Fail> {
     let alloc = rt.alloc();
-    let edges = b"\x00\x08\x09\x0a\x0b\x0c\x0d\x1f !/059:@AZ[`az{~\x7f\x80\xff";
-    for code in 0..=6u8 {
-        for second in edges {
-            for third in edges {
-                readers_agree(&rt, alloc, &[code, *second, *third])?;
+    for first in 0..=255u8 {
+        for second in 0..=255u8 {
+            for third in 0..=255u8 {
+                commands_agree(&rt, alloc, &[first, second, third])?;
+            }
+        }
+    }
+    Ok(())
+}
+
+/// All lines of three octets, as subcommands.
+#[test]
+fn three_octet_subcommands(rt: HostRuntime) -> Result<(), Fail> {
+    let alloc = rt.alloc();
+    for first in 0..=255u8 {
+        for second in 0..=255u8 {
+            for third in 0..=255u8 {
+                subs_agree(&rt, alloc, &[first, second, third])?;
             }
         }
     }
