@@ -1,6 +1,6 @@
 //! What stops the program: one line on standard error, and an exit status.
 
-use crate::settings::ConfigFault;
+use spool_config::ConfigFault;
 use std::alloc::AllocError;
 use thiserror::Error;
 

@@ -5,7 +5,6 @@ mod fault;
 mod run;
 mod script;
 mod session;
-mod settings;
 #[cfg(test)]
 mod tests;
 mod world;

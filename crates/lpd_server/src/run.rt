@@ -4,7 +4,6 @@ ghost use Rattle.std.specs.Prelude.{◌≤◌, length};
 
 use crate::fault::Fault;
 use crate::script::{LineFault, ScriptLine, parse_line};
-use crate::settings;
 use crate::world::{Stop, Told, World, Wrote};
 use spool_core::Printed;
 use std::alloc::Global;
@@ -33,7 +32,7 @@ pub fn run_input<R: Read, W: Write, E: Write>(
 fn run_all<R: Read, W: Write>(alloc: Global, input: &mut R, output: &mut W) -> Result<(), Fault> {
     let all = read_all(alloc, input)?;
     let (config, script) = parts(all.as_slice());
-    let config = settings::read(alloc, config)?;
+    let config = spool_config::read(alloc, config)?;
     let mut world = World::new(alloc, config)?;
     let mut number = 0u64;
     for line in script.split(|octet| *octet == b'\n') {

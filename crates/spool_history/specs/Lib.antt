@@ -14,3 +14,4 @@ pub mod Told
 pub mod Choice
 pub mod Texts
 pub mod TextRows
+pub mod Waiting

@@ -7,5 +7,5 @@ mod rows;
 
 pub use rows::{
     aborted_job, claims_meet, closed_spool, failed_page, filled_account, one_job, one_job_is_legal,
-    removed_job, two_jobs,
+    refused, removed_job, texts, two_jobs, waiting,
 };

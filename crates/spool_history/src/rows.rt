@@ -4,6 +4,7 @@ ghost use Rattle.spool_history.specs.Rows.{OneJob, OneJobIsLegal};
 ghost use Rattle.spool_history.specs.Claims.{ClaimsMeet};
 ghost use Rattle.spool_history.specs.Refused.{AreRefused};
 ghost use Rattle.spool_history.specs.TextRows.{TextsAre};
+ghost use Rattle.spool_history.specs.Waiting.{PagesAreRefused, Waiting};
 ghost use Rattle.spool_history.specs.MoreRows.{TwoJobs, AbortedJob, RemovedJob, FailedPage, ClosedSpool, FillsAccount};
 
 /// One job is received and printed, and the spool is closed.
@@ -14,6 +15,11 @@ pub fn one_job()
 /// Two jobs of one sender leave in order of acceptance.
 pub fn two_jobs()
     ensures { TwoJobs }
+{}
+
+/// A job waits for each earlier one of its sender, and until its open file has ended.
+pub fn waiting()
+    ensures { Waiting }
 {}
 
 /// A job that is aborted gives all its pages back.
@@ -51,9 +57,10 @@ pub fn one_job_is_legal()
     ensures { OneJobIsLegal }
 {}
 
-/// Events that may not come are not legal.
+/// Events that may not come are not legal, nor is a page that is shorter or longer than it must be.
 pub fn refused()
-    ensures { AreRefused }
+    ensures events { AreRefused }
+    ensures pages { PagesAreRefused }
 {}
 
 /// The texts for a queue's state and for removals, after a job was received.

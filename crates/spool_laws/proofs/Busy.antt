@@ -1,6 +1,6 @@
 -- Each held job that was begun has a printer of its queue, and no other job has that one.
 use Rattle.std.proofs.Common.{◌⊎◌, inl, inr, ◌≡◌, ◌==◌, ◌≢◌, ℕ, ◌+◌, ◌<◌, Bool, true, false, List, [], ◌∷◌, ◌++◌, length, map, refl, sym, ◌∙◌, ap, subst, arith}
-use Rattle.std.specs.Prelude.{◌&&◌, ◌||◌, not, cond, filter, find, Option, Some, None, is_some}
+use Rattle.std.specs.Prelude.{◌&&◌, ◌||◌, not, filter, find, Option, Some, None, is_some}
 use Rattle.std.proofs.lemmas.Bool.Decides.{nat_tests}
 use Rattle.std.proofs.lemmas.List.{append-nil}
 use Rattle.spool_history.specs.Events.{Act, Event, Sheet, Turn}
@@ -11,14 +11,14 @@ use Rattle.spool_history.specs.Setup.{Setup, queue_of}
 use Rattle.spool_history.specs.Acts.{is_lent_by, control_by}
 use Rattle.spool_history.specs.Said.{Opening, openings, opening_by, acts_of, is_handed, back_of, has_ended, began_at}
 use Rattle.spool_history.specs.Now.{Job, Printer, now, job_of, is_held}
-use Rattle.spool_history.specs.Next.{Next, next_page, next_at, with_out, hand_of, hand_first, turn_of, or_first, printer_at}
-use Rattle.spool_history.specs.Next.Next.{Hands, Stops, Over}
+use Rattle.spool_history.specs.Next.{next_page, next_at, with_out, hand_of, hand_first, turn_of, or_first, printer_at}
+use Rattle.spool_history.specs.Next.Next.{Hands}
 use Rattle.spool_history.specs.Acts.{Page}
 use Rattle.spool_history.specs.Legal.{IsPrinter, IsLegal, May}
-use Rattle.spool_laws.proofs.Known.{Has, has_last, has_kept, known, test, clash, and_true, and_false, filter_cons}
+use Rattle.spool_laws.proofs.Known.{Has, find_has, has_last, has_kept, known, test, clash, and_true, and_false, filter_cons}
 use Rattle.spool_laws.proofs.Printers.{at_printer}
-use Rattle.spool_laws.proofs.Turns.{given}
-use Rattle.spool_laws.proofs.Facts.{Facts, facts, turn_of_page, handed_at, received_at, handed_more, handed_same}
+use Rattle.spool_laws.proofs.Turns.{given, open_by, runs_by, idle_by}
+use Rattle.spool_laws.proofs.Facts.{Facts, facts, began_same, turn_of_page, handed_at, received_at, handed_more, handed_same}
 use Rattle.spool_laws.proofs.Moves.{steady}
 use Rattle.spool_laws.proofs.Held.{Keeps, keeps}
 use Rattle.spool_laws.proofs.Pigeons.{Rises, rises_push}
@@ -60,9 +60,6 @@ busy_opened {C} c h j s q f new st b o has held pos = elim (has_last o (openings
       absurd (omega arith)
 ]
 
-began_same : {C : Type 0} (h : List (Event C)) (p : ℕ) (sheet : Sheet C) (turn : Turn) (q : ℕ) → is_handed turn ≡ false → began_at (AtPrinter p sheet turn ∷ h) q ≡ began_at h q
-began_same h p sheet turn q e = elim (test p q) [ inl s ↦ rw (s.1, e) refl | inr s ↦ rw s.1 refl ]
-
 busy_back : {C : Type 0} (c : Setup) (h : List (Event C)) (p : ℕ) (sheet : Sheet C) (turn : Turn) → is_handed turn ≡ false → Steady h (AtPrinter p sheet turn) → AreBusy c h → AreBusy c (AtPrinter p sheet turn ∷ h)
 busy_back c h p sheet turn not' st b o has held pos =
     let m = ap length (handed_same h p sheet turn o.job not') in
@@ -71,18 +68,6 @@ busy_back c h p sheet turn not' st b o has held pos =
 
 -- a printer goes on with the job that it began while that one goes on
 
-open_by : {C : Type 0} (b : Bool) (x : Next C) (sheet : Sheet C) → cond b Over x ≡ Hands sheet → x ≡ Hands sheet
-open_by true x sheet e = absurd cc
-open_by false x sheet e = e
-
-runs_by : {C : Type 0} (b : Bool) (x : Next C) (sheet : Sheet C) → cond b Stops x ≡ Hands sheet → x ≡ Hands sheet
-runs_by true x sheet e = absurd cc
-runs_by false x sheet e = e
-
-idle_by : {C : Type 0} (jobs : List (Job C)) (p : Printer C) (o : Option (Sheet C)) (sheet : Sheet C) → with_out jobs p o ≡ Hands sheet → hand_of (turn_of jobs p.queue p.began) ≡ Hands sheet
-idle_by jobs p (Some x) sheet e = absurd cc
-idle_by jobs p None sheet e = e
-
 none_found_by : {X : Type 0} (t : X → Bool) (x y : X) (ys : List X) (b : Bool) → t y ≡ b → find t (y ∷ ys) ≡ None → (y ≡ x) ⊎ Has x ys → (find t ys ≡ None → Has x ys → t x ≡ false) → t x ≡ false
 none_found_by {X} t x y ys true is e has ih = (let z : ◌≡◌ {A = Option X} (Some y) None = rw is at e in absurd cc)
 none_found_by {X} t x y ys false is e has ih = (let z : find t ys ≡ None = rw is at e in elim has [ inl s ↦ subst (λ (v : X). t v ≡ false) s is | inr h ↦ ih z h ])
@@ -90,14 +75,6 @@ none_found_by {X} t x y ys false is e has ih = (let z : find t ys ≡ None = rw 
 none_found : {X : Type 0} (t : X → Bool) (x : X) (ys : List X) → find t ys ≡ None → Has x ys → t x ≡ false
 none_found t x [] e has = absurd has
 none_found t x (y ∷ ys) e has = none_found_by t x y ys (t y) refl e has (none_found t x ys)
-
-found_it : {X : Type 0} (t : X → Bool) (x y : X) (ys : List X) (b : Bool) → t y ≡ b → find t (y ∷ ys) ≡ Some x → (find t ys ≡ Some x → t x ≡ true) → t x ≡ true
-found_it {X} t x y ys true is e ih = (let z : Some y ≡ Some x = rw is at e in let same : y ≡ x = cc in subst (λ (v : X). t v ≡ true) same is)
-found_it {X} t x y ys false is e ih = ih (rw is at e)
-
-found : {X : Type 0} (t : X → Bool) (x : X) (ys : List X) → find t ys ≡ Some x → t x ≡ true
-found t x [] e = absurd cc
-found t x (y ∷ ys) e = found_it t x y ys (t y) refl e (found t x ys)
 
 first_is : {C : Type 0} (j place : ℕ) (xs : List (Page C)) (sheet : Sheet C) → hand_first j place xs ≡ Hands sheet → j ≡ sheet.job
 first_is j place [] sheet e = absurd cc
@@ -114,7 +91,7 @@ ended_by {C} jobs q j x sheet None e h ne has n =
     let a : (x.number == j) ≡ true = grind (arith, nat_tests) in
     ended_of (x.number == j) x.ended a none
 ended_by {C} jobs q j x sheet (Some v) e h ne has n =
-    let a = (and_true (v.number == j) (not v.ended) (found (λ (v : Job C). (v.number == j) && not v.ended) v jobs e)).0 in
+    let a = (and_true (v.number == j) (not v.ended) (find_has (λ (v : Job C). (v.number == j) && not v.ended) v jobs e).1).0 in
     let m : v.number ≡ j = grind (arith, nat_tests) in
     absurd (ne (sym (first_is v.number v.handed _ sheet h) ∙ m))
 
@@ -122,7 +99,7 @@ hands_by : {C : Type 0} (c : Setup) (h : List (Event C)) (p : ℕ) (sheet : Shee
 hands_by c h p sheet e =
     let v = now c h in
     let x = printer_at v p in
-    idle_by v.jobs x x.out sheet (runs_by x.stopped (with_out v.jobs x x.out) sheet (open_by v.closed (next_at v.jobs x) sheet e))
+    (idle_by v.jobs x x.out sheet (runs_by x.stopped (with_out v.jobs x x.out) sheet (open_by v.closed (next_at v.jobs x) sheet e).1).1).1
 
 gone_or_out : (e l : Bool) (a b : ℕ) → e ≡ true → l ≡ false → a ≡ b → (not e || (l || not (a == b))) ≡ true → ⊥
 gone_or_out e l a b e1 l1 ab held =

@@ -147,7 +147,7 @@ turn_of_page {C} c h p sheet one le e =
       ];
     }
 
-handed_now : {C : Type 0} (h : List (Event C)) (p : ℕ) (sheet : Sheet C) → Facts h → Turn' h p sheet → handed_at h sheet.job ≡ back_of h sheet.job
+pub handed_now : {C : Type 0} (h : List (Event C)) (p : ℕ) (sheet : Sheet C) → Facts h → Turn' h p sheet → handed_at h sheet.job ≡ back_of h sheet.job
 handed_now h p sheet f t = elim t.why [
   | inl b ↦ f.idle p sheet.job t.idle b
   | inr z ↦ let b = f.back sheet.job in let zero' = z.0 in omega arith
@@ -172,7 +172,7 @@ handed_more h p sheet j ne = elim (test sheet.job j) [ inl s ↦ absurd (ne s.0)
 pub handed_one : {C : Type 0} (h : List (Event C)) (p : ℕ) (sheet : Sheet C) (j : ℕ) → sheet.job ≡ j → handed_of (AtPrinter p sheet Handed ∷ h) j ≡ handed_of h j ++ sheet ∷ []
 handed_one h p sheet j e = elim (test sheet.job j) [ inl s ↦ rw s.1 refl | inr s ↦ absurd (s.0 e) ]
 
-count_more : {C : Type 0} (h : List (Event C)) (p : ℕ) (sheet : Sheet C) (j : ℕ) → sheet.job ≢ j → handed_at (AtPrinter p sheet Handed ∷ h) j ≡ handed_at h j
+pub count_more : {C : Type 0} (h : List (Event C)) (p : ℕ) (sheet : Sheet C) (j : ℕ) → sheet.job ≢ j → handed_at (AtPrinter p sheet Handed ∷ h) j ≡ handed_at h j
 count_more h p sheet j ne = ap length (handed_more h p sheet j ne)
 
 pub count_one : {C : Type 0} (h : List (Event C)) (p : ℕ) (sheet : Sheet C) (j : ℕ) → sheet.job ≡ j → handed_at (AtPrinter p sheet Handed ∷ h) j ≡ handed_at h j + 1
@@ -274,7 +274,7 @@ facts_handed {C} h p sheet f t =
 pub handed_same : {C : Type 0} (h : List (Event C)) (p : ℕ) (sheet : Sheet C) (turn : Turn) (j : ℕ) → is_handed turn ≡ false → handed_of (AtPrinter p sheet turn ∷ h) j ≡ handed_of h j
 handed_same h p sheet turn j e = elim (test sheet.job j) [ inl s ↦ rw (s.1, e) refl | inr s ↦ rw s.1 refl ]
 
-began_same : {C : Type 0} (h : List (Event C)) (p : ℕ) (sheet : Sheet C) (turn : Turn) (q : ℕ) → is_handed turn ≡ false → began_at (AtPrinter p sheet turn ∷ h) q ≡ began_at h q
+pub began_same : {C : Type 0} (h : List (Event C)) (p : ℕ) (sheet : Sheet C) (turn : Turn) (q : ℕ) → is_handed turn ≡ false → began_at (AtPrinter p sheet turn ∷ h) q ≡ began_at h q
 began_same h p sheet turn q e = elim (test p q) [ inl s ↦ rw (s.1, e) refl | inr s ↦ rw s.1 refl ]
 
 pub back_more : {C : Type 0} (h : List (Event C)) (p : ℕ) (sheet : Sheet C) (turn : Turn) (j : ℕ) → sheet.job ≢ j → back_of (AtPrinter p sheet turn ∷ h) j ≡ back_of h j
@@ -283,10 +283,10 @@ back_more h p sheet turn j ne = elim (test sheet.job j) [ inl s ↦ absurd (ne s
 pub back_one : {C : Type 0} (h : List (Event C)) (p : ℕ) (sheet : Sheet C) (turn : Turn) (j : ℕ) → is_handed turn ≡ false → sheet.job ≡ j → back_of (AtPrinter p sheet turn ∷ h) j ≡ back_of h j + 1
 back_one h p sheet turn j e same = elim (test sheet.job j) [ inl s ↦ rw (s.1, e) refl | inr s ↦ absurd (s.0 same) ]
 
-out_here : {C : Type 0} (h : List (Event C)) (p : ℕ) (sheet : Sheet C) (turn : Turn) (q : ℕ) → is_handed turn ≡ false → p ≡ q → out_at (AtPrinter p sheet turn ∷ h) q ≡ None
+pub out_here : {C : Type 0} (h : List (Event C)) (p : ℕ) (sheet : Sheet C) (turn : Turn) (q : ℕ) → is_handed turn ≡ false → p ≡ q → out_at (AtPrinter p sheet turn ∷ h) q ≡ None
 out_here h p sheet turn q e same = elim (test p q) [ inl s ↦ rw (s.1, e) refl | inr s ↦ absurd (s.0 same) ]
 
-out_there : {C : Type 0} (h : List (Event C)) (p : ℕ) (sheet : Sheet C) (turn : Turn) (q : ℕ) → p ≢ q → out_at (AtPrinter p sheet turn ∷ h) q ≡ out_at h q
+pub out_there : {C : Type 0} (h : List (Event C)) (p : ℕ) (sheet : Sheet C) (turn : Turn) (q : ℕ) → p ≢ q → out_at (AtPrinter p sheet turn ∷ h) q ≡ out_at h q
 out_there h p sheet turn q ne = elim (test p q) [ inl s ↦ absurd (ne s.0) | inr s ↦ rw s.1 refl ]
 
 -- a job of which a page is out was accepted

@@ -23,7 +23,7 @@ abbrev pub pages_in : {C : Type 0} → List (File C) → ℕ
 pages_in [] = 0
 pages_in (f ∷ fs) = length f.pages + pages_in fs
 
-pages_push : {C : Type 0} (fs : List (File C)) (name : List ℕ) (count : ℕ) → pages_in (fs ++ new_file name count ∷ []) ≡ pages_in fs
+pub pages_push : {C : Type 0} (fs : List (File C)) (name : List ℕ) (count : ℕ) → pages_in (fs ++ new_file name count ∷ []) ≡ pages_in fs
 pages_push [] name count = omega arith
 pages_push (f ∷ fs) name count = let ih = pages_push fs name count in omega arith
 
@@ -32,7 +32,7 @@ pages_put [] page = omega arith
 pages_put (f ∷ []) page = let e = length-append f.pages (page ∷ []) in omega arith
 pages_put (f ∷ g ∷ fs) page = let ih = pages_put (g ∷ fs) page in omega arith
 
-pages_ended : {C : Type 0} (fs : List (File C)) → pages_in (at_last (λ f. record f { ended = true }) fs) ≡ pages_in fs
+pub pages_ended : {C : Type 0} (fs : List (File C)) → pages_in (at_last (λ f. record f { ended = true }) fs) ≡ pages_in fs
 pages_ended [] = refl
 pages_ended (f ∷ []) = refl
 pages_ended (f ∷ g ∷ fs) = ap (λ (n : ℕ). length f.pages + n) (pages_ended (g ∷ fs))

@@ -15,11 +15,13 @@ pub mod Leaves
 pub mod Outlined
 pub mod OutlinedNext
 pub mod OutlinedMay
-pub mod PrintNames
+pub mod Adding
 pub mod Sums
 pub mod Busy
 pub mod Held
 pub mod Lowered
 pub mod Pigeons
 pub mod Sound
+pub mod Apart
+pub mod Enough
 pub mod Staying

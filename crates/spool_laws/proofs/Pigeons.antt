@@ -7,6 +7,7 @@ use Rattle.std.proofs.lemmas.List.Sums.{sum_by-cons}
 use Rattle.spool_history.specs.Setup.{Queue, served_from}
 use Rattle.spool_history.specs.Now.{up_to}
 use Rattle.spool_laws.proofs.Known.{Has, has_last, test}
+use Rattle.spool_laws.proofs.Adding.{length_up_to}
 
 -- the sum over 1 to n
 abbrev pub total : (ℕ → ℕ) → ℕ → ℕ
@@ -174,10 +175,6 @@ served_total n (q ∷ qs) (suc i) one =
     let ih = served_total (n + 1) qs i (omega arith) in
     let ih' : total (serves (n + 1) qs (n + suc i)) m ≤ get_or (map (λ (q : Queue). q.printers) qs) i 0 = subst (λ (k : ℕ). total (serves (n + 1) qs k) m ≤ get_or (map (λ (q : Queue). q.printers) qs) i 0) (sym same) ih in
     rw sum (omega arith)
-
-length_up_to : (f : ℕ → ℕ) (n : ℕ) → length (map f (up_to n)) ≡ n
-length_up_to f zero = refl
-length_up_to f (suc n) = ap length (map-append f (up_to n) (suc n ∷ [])) ∙ (length_push (map f (up_to n)) (f (suc n)) ∙ (let ih = length_up_to f n in omega arith))
 
 -- beyond a list there is nothing
 beyond : (xs : List ℕ) (i : ℕ) → length xs ≤ i → get_or xs i 0 ≡ 0

@@ -1,7 +1,7 @@
 -- What one more event makes of the printers.
 use Rattle.std.proofs.Common.{inl, inr, ◌≡◌, ◌==◌, ◌≢◌, ℕ, zero, suc, ◌-◌, ◌<◌, ◌≤◌, Bool, true, false, List, [], ◌∷◌, ◌++◌, length, get_or, set, map, refl, sym, ◌∙◌, ap, arith}
 use Rattle.std.specs.Prelude.{cond}
-use Rattle.std.proofs.lemmas.List.{map-append, length-set, same_lists, get_or-set_same, get_or-set_other, get_or_append_left, get_or_at, length_push}
+use Rattle.std.proofs.lemmas.List.{map-append, length-set, same_lists, get_or-set_same, get_or-set_other, get_or_append_left, get_or_at}
 use Rattle.std.proofs.lemmas.Bool.Decides.{nat_tests}
 use Rattle.spool_history.specs.Events.{Event, Sheet, Turn}
 use Rattle.spool_history.specs.Events.Turn.{Handed, Printed, Failed}
@@ -11,10 +11,7 @@ use Rattle.spool_history.specs.Now.{Printer, now, printer_of, up_to}
 use Rattle.spool_history.specs.Next.{printer_at, no_printer}
 use Rattle.spool_history.specs.Steps.{printer_turned, printers_after}
 use Rattle.spool_laws.proofs.Known.{test}
-
-length_up_to : {P : Type 0} (f : ℕ → P) (n : ℕ) → length (map f (up_to n)) ≡ n
-length_up_to f zero = refl
-length_up_to f (suc n) = ap length (map-append f (up_to n) (suc n ∷ [])) ∙ (length_push (map f (up_to n)) (f (suc n)) ∙ (let ih = length_up_to f n in omega arith))
+use Rattle.spool_laws.proofs.Adding.{length_up_to}
 
 get_last : {P : Type 0} (f : ℕ → P) (n i : ℕ) (d : P) (b : Bool) → (i == n) ≡ b → i < suc n → (i < n → get_or (map f (up_to n)) i d ≡ f (suc i)) → get_or (map f (up_to n) ++ f (suc n) ∷ []) i d ≡ f (suc i)
 get_last f n i d true e lt ih =

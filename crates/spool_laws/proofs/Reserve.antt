@@ -1,9 +1,9 @@
 -- The entries of a history are within the reserves of its accepted jobs, and one.
-use Rattle.std.proofs.Common.{inl, inr, ◌≡◌, ◌==◌, ◌≢◌, ℕ, zero, suc, ◌+◌, ◌<◌, ◌≤◌, Bool, true, false, List, [], ◌∷◌, ◌++◌, length, refl, sym, ◌∙◌, ap, subst, arith}
+use Rattle.std.proofs.Common.{inl, inr, ◌≡◌, ◌==◌, ◌≢◌, ℕ, suc, ◌+◌, ◌<◌, ◌≤◌, Bool, true, false, List, [], ◌∷◌, ◌++◌, length, refl, sym, ◌∙◌, ap, arith}
 use Rattle.std.specs.Prelude.{sum_by}
 use Rattle.std.specs.List.{list_any, AllByRecursion}
 use Rattle.std.proofs.lemmas.List.{append-nil}
-use Rattle.std.proofs.lemmas.List.Sums.{sum_by-cons, sum_by_push}
+use Rattle.std.proofs.lemmas.List.Sums.{sum_by_push}
 use Rattle.spool_history.specs.Events.{Act, Event, Sheet, Turn}
 use Rattle.spool_history.specs.Events.Act.{Opened, Granted, Began, Put, FileEnded, Controlled, Aborted}
 use Rattle.spool_history.specs.Events.Turn.{Handed, Printed, Failed}
@@ -15,77 +15,13 @@ use Rattle.spool_history.specs.Legal.{HasJob, IsLegal, May}
 use Rattle.spool_laws.proofs.Known.{Has, At, has_at, test}
 use Rattle.spool_laws.proofs.Printers.{at_printer}
 use Rattle.spool_laws.proofs.Facts.{facts, is_out, turn_of_page, handed_at, handed_more, handed_same, count_one, acts_other, back_same, back_more, back_one}
-use Rattle.spool_laws.proofs.Counts.{one_if}
+use Rattle.spool_laws.proofs.Counts.{one_if, one_le}
+use Rattle.spool_laws.proofs.Adding.{sum_less, sum_more, up_less, up_one, up_none, has_left, has_up_to}
 use Rattle.spool_laws.proofs.Told.{failed_of, removed_of, used, failed_one, reserved}
-
--- sums
-
-sum_less : {X : Type 0} (f g : X → ℕ) (xs : List X) → ((y : X) → Has y xs → f y ≤ g y) → sum_by f xs ≤ sum_by g xs
-sum_less f g [] le = omega arith
-sum_less f g (x ∷ xs) le =
-    let a = le x (inl refl) in
-    let ih = sum_less f g xs (λ y has. le y (inr has)) in
-    let k = sum_by-cons f x xs in
-    let l = sum_by-cons g x xs in
-    omega arith
-
-sum_more : {X : Type 0} (f g : X → ℕ) (n : ℕ) (x : X) (xs : List X) → Has x xs → ((y : X) → f y ≤ g y) → f x + n ≤ g x → sum_by f xs + n ≤ sum_by g xs
-sum_more f g n x [] has le more = absurd has
-sum_more {X} f g n x (y ∷ ys) has le more =
-    let k = sum_by-cons f y ys in
-    let l = sum_by-cons g y ys in
-    elim has [
-      | inl s ↦
-          let here : f y + n ≤ g y = subst (λ (z : X). f z + n ≤ g z) (sym s) more in
-          let rest = sum_less f g ys (λ z t. le z) in
-          omega arith
-      | inr t ↦ let a = le y in let ih = sum_more f g n x ys t le more in omega arith
-    ]
-
-up_less : (f g : ℕ → ℕ) (n : ℕ) → ((q : ℕ) → q ≤ n → g q ≤ f q) → sum_by g (up_to n) ≤ sum_by f (up_to n)
-up_less f g zero le = omega arith
-up_less f g (suc n) le =
-    let ih = up_less f g n (λ q l. le q (omega arith)) in
-    let a = le (suc n) (omega arith) in
-    let k = sum_by_push f (up_to n) (suc n) in
-    let l = sum_by_push g (up_to n) (suc n) in
-    omega arith
-
-up_one : (f g : ℕ → ℕ) (p n : ℕ) → ((q : ℕ) → q ≢ p → g q ≤ f q) → g p ≤ f p + 1 → sum_by g (up_to n) ≤ sum_by f (up_to n) + 1
-up_one f g p zero le one = omega arith
-up_one f g p (suc n) le one =
-    let k = sum_by_push f (up_to n) (suc n) in
-    let l = sum_by_push g (up_to n) (suc n) in
-    elim (test (suc n) p) [
-      | inl s ↦
-          let s0 = s.0 in
-          let rest = up_less f g n (λ q l. le q (λ e. (let z : q ≡ p = e in omega arith))) in
-          let here : g (suc n) ≤ f (suc n) + 1 = subst (λ (i : ℕ). g i ≤ f i + 1) (sym s.0) one in
-          omega arith
-      | inr s ↦ let a = le (suc n) s.0 in let ih = up_one f g p n le one in omega arith
-    ]
-
-has_left : {X : Type 0} (x : X) (xs ys : List X) → Has x xs → Has x (xs ++ ys)
-has_left x [] ys has = absurd has
-has_left x (z ∷ zs) ys has = elim has [ inl e ↦ inl e | inr t ↦ inr (has_left x zs ys t) ]
-
-has_end : {X : Type 0} (x : X) (xs : List X) → Has x (xs ++ x ∷ [])
-has_end x [] = inl refl
-has_end x (z ∷ zs) = inr (has_end x zs)
-
-has_up_to : (p n : ℕ) → 1 ≤ p → p ≤ n → Has p (up_to n)
-has_up_to p zero one le = absurd (omega arith)
-has_up_to p (suc n) one le = elim (test (suc n) p) [
-  | inl s ↦ subst (λ (i : ℕ). Has i (up_to n ++ suc n ∷ [])) s.0 (has_end (suc n) (up_to n))
-  | inr s ↦ let ne = s.0 in has_left p (up_to n) (suc n ∷ []) (has_up_to p n one (below n p ne le))
-]
-  where
-    below : (m p : ℕ) → suc m ≢ p → p ≤ suc m → p ≤ m
-    below m p ne le = omega arith
 
 -- a job of which a page was handed was accepted
 
-abbrev Accepted : {C : Type 0} → List (Event C) → ℕ → Type 0
+abbrev pub Accepted : {C : Type 0} → List (Event C) → ℕ → Type 0
 Accepted h j = (o : Opening) × Has o (openings h) × (o.job ≡ j)
 
 accepted_step : {C : Type 0} (size : C → ℕ) (c : Setup) (h : List (Event C)) (e : Event C) → IsLegal size c h → May size (now c h) e → ((j : ℕ) → 0 < handed_at h j → Accepted h j) → (j : ℕ) → 0 < handed_at (e ∷ h) j → Accepted (e ∷ h) j
@@ -100,7 +36,7 @@ accepted_step size c h (Removed q jobs) l m a j pos = a j pos
 accepted_step size c h (Started q) l m a j pos = a j pos
 accepted_step size c h Closed l m a j pos = a j pos
 
-accepted : {C : Type 0} (size : C → ℕ) (c : Setup) (h : List (Event C)) → IsLegal size c h → (j : ℕ) → 0 < handed_at h j → Accepted h j
+pub accepted : {C : Type 0} (size : C → ℕ) (c : Setup) (h : List (Event C)) → IsLegal size c h → (j : ℕ) → 0 < handed_at h j → Accepted h j
 accepted size c [] l j pos = absurd (omega arith)
 accepted size c (e ∷ h) l j pos = accepted_step size c h e l.1 l.0 (accepted size c h l.1) j pos
 
@@ -183,10 +119,6 @@ used_by h o = used h o.job
 abbrev all_used : {C : Type 0} → List (Event C) → List Opening → ℕ
 all_used h os = sum_by (used_by h) os
 
-one_le : (b : Bool) → one_if b ≤ 1
-one_le true = omega arith
-one_le false = omega arith
-
 stop_same : {C : Type 0} (c : Setup) (h : List (Event C)) (r : ℕ) (sheet : Sheet C) (turn : Turn) (p : ℕ) → is_failed turn ≡ false → stop c (AtPrinter r sheet turn ∷ h) p ≤ stop c h p
 stop_same c h r sheet turn p e =
     let n : stop c (AtPrinter r sheet turn ∷ h) p ≡ stop c h p = elim (test r p) [ inl s ↦ rw (s.1, e) refl | inr s ↦ rw s.1 refl ] in
@@ -232,7 +164,7 @@ opened_told {C} c h k s q t =
 turn_told : {C : Type 0} (c : Setup) (h : List (Event C)) (p : ℕ) (sheet : Sheet C) (turn : Turn) (o : Opening) → Has o (openings h) → is_failed turn ≡ false → ((j : ℕ) → used h j ≤ used (AtPrinter p sheet turn ∷ h) j) → used h o.job + 1 ≤ used (AtPrinter p sheet turn ∷ h) o.job → Told' c h → Told' c (AtPrinter p sheet turn ∷ h)
 turn_told c h p sheet turn o has is le one t =
     let s = sum_more (used_by h) (used_by (AtPrinter p sheet turn ∷ h)) 1 o (openings h) has (λ x. le x.job) one in
-    let z = up_less (stop c h) (stop c (AtPrinter p sheet turn ∷ h)) (printer_count c) (λ q l. stop_same c h p sheet turn q is) in
+    let z = up_less (stop c h) (stop c (AtPrinter p sheet turn ∷ h)) (printer_count c) (λ q. stop_same c h p sheet turn q is) in
     omega arith
 
 failed_told : {C : Type 0} (c : Setup) (h : List (Event C)) (p : ℕ) (sheet : Sheet C) (o : Opening) → Has o (openings h) → sheet.job ≡ o.job → Told' c h → Told' c (AtPrinter p sheet Failed ∷ h)
@@ -263,12 +195,8 @@ closed_told c h e t =
     let m = sum_less (used_by h) (used_by (Closed ∷ h)) (openings h) (λ o has. omega arith) in
     omega arith
 
-abbrev no_events : (C : Type 0) → List (Event C)
+abbrev pub no_events : (C : Type 0) → List (Event C)
 no_events C = []
-
-none_stopped : (C : Type 0) (c : Setup) (n : ℕ) → sum_by (stop c (no_events C)) (up_to n) ≡ 0
-none_stopped C c zero = refl
-none_stopped C c (suc n) = let ih = none_stopped C c n in let k = sum_by_push (stop c (no_events C)) (up_to n) (suc n) in omega arith
 
 told_step : {C : Type 0} (size : C → ℕ) (c : Setup) (h : List (Event C)) (e : Event C) → IsLegal size c h → May size (now c h) e → Told' c h → Told' c (e ∷ h)
 told_step size c h (OfJob k (Opened s q)) l m t = opened_told c h k s q t
@@ -296,7 +224,7 @@ told_step {C} size c h (Started q) l m t =
 told_step size c h Closed l m t = closed_told c h m t
 
 told_of : {C : Type 0} (size : C → ℕ) (c : Setup) (h : List (Event C)) → IsLegal size c h → Told' c h
-told_of {C} size c [] l = let z = none_stopped C c (printer_count c) in omega arith
+told_of {C} size c [] l = let z = up_none (stop c (no_events C)) (printer_count c) (λ p. refl) in omega arith
 told_of size c (e ∷ h) l = told_step size c h e l.1 l.0 (told_of size c h l.1)
 
 pub reserve_is_enough : {C : Type 0} (size : C → ℕ) (c : Setup) (h : List (Event C)) → IsLegal size c h → length h ≤ (now c h).reserved + 1

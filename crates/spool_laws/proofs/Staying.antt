@@ -12,24 +12,22 @@ use Rattle.spool_history.specs.Events.{Event, Sheet}
 use Rattle.spool_history.specs.Events.Act.{Opened, Granted, Began, Put, FileEnded, Controlled, Aborted}
 use Rattle.spool_history.specs.Events.Turn.{Handed, Printed, Failed}
 use Rattle.spool_history.specs.Events.Event.{OfJob, AtPrinter, Removed, Started, Closed}
-use Rattle.spool_history.specs.Setup.{Setup, Queue, limit_of, queue_at, queue_of, printer_count, no_queue}
-use Rattle.spool_history.specs.Said.{Opening, openings, began_at}
+use Rattle.spool_history.specs.Setup.{Setup, limit_of, queue_at, no_queue}
+use Rattle.spool_history.specs.Said.{Opening, openings}
 use Rattle.spool_history.specs.Now.{Job, State, now, job_of, is_held, is_received, amounts, row_of, capacity, free_amount, pages_held, printers_held, pages_needed, printers_needed, IsSafeNow, up_to}
-use Rattle.spool_history.specs.Steps.{change, acted, new_job, accepted_by}
+use Rattle.spool_history.specs.Steps.{change, new_job, accepted_by}
 use Rattle.spool_history.specs.Legal.{IsLegal, May, IsQueue}
 use Rattle.spool_laws.specs.Safety.{EachCouldFinish}
 use Rattle.spool_laws.specs.Leaving.{EarlierAreGone}
-use Rattle.spool_laws.proofs.Known.{Has, known, has_at, has_kept, test, clash, and_true, filter_cons}
+use Rattle.spool_laws.proofs.Known.{Has, known, has_kept, test, clash, and_true, filter_cons}
 use Rattle.spool_laws.proofs.Facts.{facts, turn_of_page}
 use Rattle.spool_laws.proofs.Moves.{moved}
 use Rattle.spool_laws.proofs.Behind.{each_in_order}
-use Rattle.spool_laws.proofs.Lowered.{Lower, Lowers, left, lowers, holds, holds_sum, holds_append, holds_less, safe_last}
-use Rattle.spool_laws.proofs.Pigeons.{Rises, Place, pigeons, tally, serves, served_total, at_most}
-use Rattle.spool_laws.proofs.Busy.{busy, rising_jobs, received_if}
+use Rattle.spool_laws.proofs.Lowered.{Lower, Lowers, left, lowers, holds, holds_sum, holds_append, safe_last}
+use Rattle.spool_laws.proofs.Pigeons.{Rises, at_most}
+use Rattle.spool_laws.proofs.Busy.{rising_jobs, received_if}
+use Rattle.spool_laws.proofs.Enough.{rows, printers_small, get_printers, kind_within}
 use Rattle.spool_laws.proofs.Sound.{amount_le, is_quiet, lowers_all}
-
-abbrev rows : {C : Type 0} → Setup → List (Job C) → List Row
-rows c jobs = map (row_of c) jobs
 
 abbrev free : {C : Type 0} → Setup → List (Job C) → ℕ → ℕ
 free c jobs k = amount (capacity c) k - holds k (rows c jobs)
@@ -42,76 +40,6 @@ to_safe v g = safe_more (free v.setup v.jobs) (free_amount v) (rows v.setup v.jo
 
 of_safe : {C : Type 0} (v : State C) → IsSafeNow v → IsGood v.setup v.jobs
 of_safe v g = safe_more (free_amount v) (free v.setup v.jobs) (rows v.setup v.jobs) (λ k. let e = holds_sum k (rows v.setup v.jobs) in omega arith) g
-
-record Stays {C : Type 0} (c : Setup) (h : List (Event C)) : Type 0 where
-  pub safe : IsGood c (now c h).jobs
-  pub pages : holds 0 (rows c (now c h).jobs) ≤ c.pages
-
--- no more printers are held than there are
-
-abbrev weight : {C : Type 0} → ℕ → Job C → ℕ
-weight i v = cond (suc i == v.queue) (printers_held v) 0
-
-printers_small : {C : Type 0} (v : Job C) → printers_held v ≤ 1
-printers_small v = elim (test v.handed 0) [ inl s ↦ rw s.1 (omega arith) | inr s ↦ rw s.1 (omega arith) ]
-
-weight_small : {C : Type 0} (i : ℕ) (v : Job C) → weight i v ≤ 1
-weight_small i v = elim (test (suc i) v.queue) [ inl s ↦ rw s.1 (printers_small v) | inr s ↦ rw s.1 (omega arith) ]
-
-holds_weight : {C : Type 0} (c : Setup) (i : ℕ) (jobs : List (Job C)) → holds (suc i) (rows c jobs) ≤ tally (weight i) jobs
-holds_weight c i [] = omega arith
-holds_weight c i (v ∷ vs) =
-    let ih = holds_weight c i vs in
-    let a = at_most (λ (r : ℕ). cond (r == v.queue) (printers_held v) 0) (length c.queues) i in
-    omega arith
-
-begun_if : {C : Type 0} (i : ℕ) (v : Job C) → 0 < weight i v → (v.queue ≡ suc i) × (0 < v.handed)
-begun_if i v pos = elim (test (suc i) v.queue) [
-  | inl s ↦ (
-    sym s.0,
-    (let p : 0 < printers_held v = rw s.1 at pos in elim (test v.handed 0) [
-      | inl t ↦ (let q : 0 < 0 = rw t.1 at p in absurd (omega arith))
-      | inr t ↦ (let ne : v.handed ≢ 0 = t.0 in omega arith)
-    ]),
-  )
-  | inr s ↦ (let q : 0 < 0 = rw s.1 at pos in absurd (omega arith))
-]
-
-some_one : (j k : ℕ) → ◌≡◌ {A = Rattle.std.specs.Prelude.Option ℕ} (Some j) (Some k) → j ≡ k
-some_one j k e = cc
-
-abbrev Tied : {C : Type 0} → List (Event C) → ℕ → ℕ → Type 0
-Tied h p j = began_at h p ≡ Some j
-
-place_at : {C : Type 0} (size : C → ℕ) (c : Setup) (h : List (Event C)) (i : ℕ) → IsLegal size c h → (o : Opening) → Has o (openings h) → is_held (job_of h o) ≡ true → 0 < weight i (job_of h o) → Place (Tied h) (serves 1 c.queues (1 + i)) (printer_count c) o.job
-place_at size c h i l o has held pos =
-    let g = begun_if i (job_of h o) pos in
-    let b = busy size c h l o has held g.1 in
-    let q : queue_of c b.at ≡ 1 + i = (let e : o.queue ≡ suc i = g.0 in let d = b.queue in omega arith) in
-    let is = b.is in
-    record {
-      at = b.at;
-      one = b.is.0;
-      le = b.is.1;
-      counts = elim (test (queue_of c b.at) (1 + i)) [ inl s ↦ rw s.1 (omega arith) | inr s ↦ absurd (s.0 q) ];
-      tied = b.began;
-    }
-
-printers_within : {C : Type 0} (size : C → ℕ) (c : Setup) (h : List (Event C)) (i : ℕ) → IsLegal size c h → holds (suc i) (rows c (now c h).jobs) ≤ amount (capacity c) (suc i)
-printers_within {C} size c h i l =
-    let jobs = (now c h).jobs in
-    let place : (v : Job C) → Has v jobs → 0 < weight i v → Place (Tied h) (serves 1 c.queues (1 + i)) (printer_count c) v.number = λ v has pos.
-    (let k = known c h v has in
-    subst (λ (u : Job C). Place (Tied h) (serves 1 c.queues (1 + i)) (printer_count c) u.number) (sym k.is)
-    (place_at size c h i l k.opening k.there (subst (λ (u : Job C). is_held u ≡ true) k.is k.held) (subst (λ (u : Job C). 0 < weight i u) k.is pos))) in
-    let a = holds_weight c i jobs in
-    let b = pigeons (Tied h) (λ p j k x y. some_one j k (sym x ∙ y)) (weight i) (λ (v : Job C). v.number) (printer_count c) (serves 1 c.queues (1 + i)) jobs (weight_small i) (rising_jobs size c h l) place in
-    let d = served_total 1 c.queues i (omega arith) in
-    omega arith
-
-roomy : {C : Type 0} (size : C → ℕ) (c : Setup) (h : List (Event C)) → IsLegal size c h → Stays c h → (k : ℕ) → holds k (rows c (now c h).jobs) ≤ amount (capacity c) k
-roomy size c h l s zero = s.pages
-roomy size c h l s (suc i) = printers_within size c h i l
 
 -- an event by which no job gets or accepts anything
 
@@ -136,19 +64,16 @@ all_of : {X : Type 0} (P : X → Type 0) (xs : List X) → ((x : X) → Has x xs
 all_of P [] f = tt
 all_of P (x ∷ xs) f = (f x (inl refl), all_of P xs (λ y t. f y (inr t)))
 
-quiet : {C : Type 0} (size : C → ℕ) (c : Setup) (h : List (Event C)) (e : Event C) → is_quiet e ≡ true → IsLegal size c h → May size (now c h) e → Stays c h → Stays c (e ∷ h)
+quiet : {C : Type 0} (size : C → ℕ) (c : Setup) (h : List (Event C)) (e : Event C) → is_quiet e ≡ true → IsLegal size c h → May size (now c h) e → IsGood c (now c h).jobs → IsGood c (now c (e ∷ h)).jobs
 quiet {C} size c h e is l m s =
     let jobs = (now c h).jobs in
     let later = left (change e) jobs in
     let P : Job C → Type 0 = λ (v : Job C). is_held (change e v) ≡ true → Lower (row_of c v) (row_of c (change e v)) in
     let each : Lowers (row_of c) (change e) jobs = all_of P jobs (λ v has. (let k = known c h v has in subst P (sym k.is) (lowers_all size c h e is l m k.opening k.there))) in
     let j = jobs_after size c h e l m (quiet_accepts e is) in
-    let room = roomy size c h l s in
-    let good : IsGood c later = lowers (row_of c) (change e) jobs each [] (free c jobs) (free c later) (λ k. let r = room k in omega arith) s.safe in
-    let less = holds_less (row_of c) (change e) 0 jobs each in
-    let pages = s.pages in
-    let fewer : holds 0 (rows c later) ≤ c.pages = omega arith in
-    record { safe = subst (λ (r : List (Job C)). IsGood c r) (sym j) good; pages = subst (λ (r : List (Job C)). holds 0 (rows c r) ≤ c.pages) (sym j) fewer }
+    let room = kind_within size c h l in
+    let good : IsGood c later = lowers (row_of c) (change e) jobs each [] (free c jobs) (free c later) (λ k. let r = room k in omega arith) s in
+    subst (λ (r : List (Job C)). IsGood c r) (sym j) good
 
 -- an event that changes one job
 
@@ -203,39 +128,10 @@ holds_at c k a b w = ap (holds k) (map-append (row_of c) a (w ∷ b)) ∙ holds_
 
 -- a page is lent
 
-granted : {C : Type 0} (size : C → ℕ) (c : Setup) (h : List (Event C)) (k : ℕ) → IsLegal size c h → May size (now c h) (OfJob k Granted) → Stays c h → Stays c (OfJob k Granted ∷ h)
-granted {C} size c h k l m s =
-    let e : Event C = OfJob k Granted in
-    let jobs = (now c h).jobs in
-    let a = has_at c h k _ m.0 in
-    let o : Opening = record { job = k; sender = a.sender; queue = a.queue } in
-    let w = job_of h o in
-    let here : change e w ≡ acted Granted w = elim (test k k) [ inl r ↦ rw r.1 refl | inr r ↦ absurd (r.0 refl) ] in
-    let other : (u : Job C) → u.number ≢ k → change e u ≡ u = λ u ne. elim (test k u.number) [ inl r ↦ absurd (ne (sym r.0)) | inr r ↦ rw r.1 refl ] in
-    let goes : w.ended ≡ false = a.is.0.0 in
-    let unreceived : is_received w ≡ false = a.is.0.1 in
-    let held : is_held (change e w) ≡ true = subst (λ (v : Job C). is_held v ≡ true) (sym here) (rw goes refl) in
-    let sp = split (change e) jobs w (has_kept h o (openings h) a.held a.there) (rising_jobs size c h l) other (held_jobs c h) held in
-    let j = jobs_after size c h e l m refl in
-    let p1 : pages_held w ≡ w.granted = rw (goes, unreceived) refl in
-    let p2 : pages_held (acted Granted w) ≡ w.granted + 1 = rw (goes, unreceived) refl in
-    let p3 : pages_held (change e w) ≡ pages_held (acted Granted w) = ap pages_held here in
-    let h1 = ap (λ (r : List (Job C)). holds 0 (rows c r)) sp.was ∙ holds_at c 0 sp.a sp.b w in
-    let h2 = ap (λ (r : List (Job C)). holds 0 (rows c r)) (j ∙ sp.is) ∙ holds_at c 0 sp.a sp.b (change e w) in
-    let sum = holds_sum 0 (rows c jobs) in
-    let some = m.1.0 in
-    let pages = s.pages in
-    record {
-      safe = of_safe (now c (e ∷ h)) (subst (λ (v : State C). IsSafeNow v) (sym (moved size c h e l m)) m.1.1);
-      pages = omega arith;
-    }
+granted : {C : Type 0} (size : C → ℕ) (c : Setup) (h : List (Event C)) (k : ℕ) → IsLegal size c h → May size (now c h) (OfJob k Granted) → IsGood c (now c (OfJob k Granted ∷ h)).jobs
+granted {C} size c h k l m = of_safe (now c (OfJob k Granted ∷ h)) (subst (λ (v : State C). IsSafeNow v) (sym (moved size c h (OfJob k Granted) l m)) m.1.1)
 
 -- a job is accepted
-
-get_printers : (qs : List Queue) (i : ℕ) → get_or (map (λ (q : Queue). q.printers) qs) i 0 ≡ (slice_index_or qs i no_queue).printers
-get_printers [] i = refl
-get_printers (q ∷ qs) zero = refl
-get_printers (q ∷ qs) (suc i) = get_printers qs i
 
 could : (c : Setup) → EachCouldFinish c → (q : ℕ) → IsQueue c q → (k : ℕ) → amount (amounts c (limit_of c q) q 1) k ≤ amount (capacity c) k
 could c w q is zero = w.pages q is
@@ -270,7 +166,7 @@ all_rows : {C : Type 0} (P : Row → Type 0) (row : Job C → Row) (us : List (J
 all_rows P row [] f = tt
 all_rows P row (u ∷ us) f = (f u (inl refl), all_rows P row us (λ v t. f v (inr t)))
 
-opened : {C : Type 0} (size : C → ℕ) (c : Setup) (h : List (Event C)) (k s q : ℕ) → EachCouldFinish c → IsLegal size c h → May size (now c h) (OfJob k (Opened s q)) → Stays c h → Stays c (OfJob k (Opened s q) ∷ h)
+opened : {C : Type 0} (size : C → ℕ) (c : Setup) (h : List (Event C)) (k s q : ℕ) → EachCouldFinish c → IsLegal size c h → May size (now c h) (OfJob k (Opened s q)) → IsGood c (now c h).jobs → IsGood c (now c (OfJob k (Opened s q) ∷ h)).jobs
 opened {C} size c h k s q each l m st =
     let e : Event C = OfJob k (Opened s q) in
     let jobs = (now c h).jobs in
@@ -285,14 +181,11 @@ opened {C} size c h k s q each l m st =
     let new = m.4 in
     omega arith)) in
     let fits = could c each q m.1 in
-    let last = safe_last (free c jobs) (rows c jobs) x (λ i. let f = fits i in let g : amount x.need i ≤ amount (amounts c (limit_of c q) q 1) i = amount_le c q (limit_of c q - 0) (limit_of c q) 1 1 (omega arith) (omega arith) i in omega arith) line st.safe in
+    let last = safe_last (free c jobs) (rows c jobs) x (λ i. let f = fits i in let g : amount x.need i ≤ amount (amounts c (limit_of c q) q 1) i = amount_le c q (limit_of c q - 0) (limit_of c q) 1 1 (omega arith) (omega arith) i in omega arith) line st in
     let map' = map-append (row_of c) jobs (w ∷ []) in
     let good : IsGood c (jobs ++ w ∷ []) = subst (HasFinishingOrder (free c (jobs ++ w ∷ []))) (sym map') (safe_more (free c jobs) (free c (jobs ++ w ∷ [])) (rows c jobs ++ x ∷ [])
     (λ i. let z = nothing_of c q i in let sum = ap (holds i) map' ∙ holds_append i (rows c jobs) (x ∷ []) in omega arith) last) in
-    let sum0 = ap (holds 0) map' ∙ holds_append 0 (rows c jobs) (x ∷ []) in
-    let pages = st.pages in
-    let fewer : holds 0 (rows c (jobs ++ w ∷ [])) ≤ c.pages = omega arith in
-    record { safe = subst (λ (r : List (Job C)). IsGood c r) (sym j) good; pages = subst (λ (r : List (Job C)). holds 0 (rows c r) ≤ c.pages) (sym j) fewer }
+    subst (λ (r : List (Job C)). IsGood c r) (sym j) good
 
 -- a page is handed to a printer: its job needs nothing more, and stands before all others of its sender and queue
 
@@ -331,7 +224,7 @@ line_of {C} size c h sheet l o there is gone u has ne line = by (nat_lt o.job u.
         let g : is_held (job_of h x) ≡ false = gone x o (contains_at x (openings h) k.there) (contains_at o (openings h) there) is lt (sym s ∙ sym line.0) (sym q ∙ sym line.1) in
         absurd (clash (is_held (job_of h x)) (subst (λ (v : Job C). is_held v ≡ true) k.is k.held) g)
 
-handed : {C : Type 0} (size : C → ℕ) (c : Setup) (h : List (Event C)) (p : ℕ) (sheet : Sheet C) → IsLegal size c h → May size (now c h) (AtPrinter p sheet Handed) → Stays c h → Stays c (AtPrinter p sheet Handed ∷ h)
+handed : {C : Type 0} (size : C → ℕ) (c : Setup) (h : List (Event C)) (p : ℕ) (sheet : Sheet C) → IsLegal size c h → May size (now c h) (AtPrinter p sheet Handed) → IsGood c (now c h).jobs → IsGood c (now c (AtPrinter p sheet Handed ∷ h)).jobs
 handed {C} size c h p sheet l m st =
     let e : Event C = AtPrinter p sheet Handed in
     let jobs = (now c h).jobs in
@@ -365,7 +258,7 @@ handed {C} size c h p sheet l m st =
     let m2 = map-append (row_of c) sp.a (w' ∷ sp.b) in
     let was : rows c jobs ≡ A ++ x ∷ B = ap (rows c) sp.was ∙ m1 in
     let f' = free c (sp.a ++ w' ∷ sp.b) in
-    let g1 : HasFinishingOrder (free c jobs) (A ++ x ∷ B) = subst (HasFinishingOrder (free c jobs)) was st.safe in
+    let g1 : HasFinishingOrder (free c jobs) (A ++ x ∷ B) = subst (HasFinishingOrder (free c jobs)) was st in
     let g2 : HasFinishingOrder (freed (free c jobs) x) (A ++ B) = safe_without (free c jobs) A x B g1 in
     let g3 : HasFinishingOrder (freed f' y) (A ++ B) = safe_more (freed (free c jobs) x) (freed f' y) (A ++ B) (λ k.
     let s1 = ap (λ (r : List (Job C)). holds k (rows c r)) sp.was ∙ holds_at c k sp.a sp.b w in
@@ -374,15 +267,11 @@ handed {C} size c h p sheet l m st =
     omega arith) g2 in
     let go : MayGo f' A y B = record { fits = λ k. let z = none k in omega arith; in_line = line' } in
     let good : IsGood c (sp.a ++ w' ∷ sp.b) = subst (HasFinishingOrder f') (sym m2) (safe_first f' A y B go g3) in
-    let s1 = ap (λ (r : List (Job C)). holds 0 (rows c r)) sp.was ∙ holds_at c 0 sp.a sp.b w in
-    let s2 = holds_at c 0 sp.a sp.b w' in
-    let pages = st.pages in
-    let fewer : holds 0 (rows c (sp.a ++ w' ∷ sp.b)) ≤ c.pages = omega arith in
-    record { safe = subst (λ (r : List (Job C)). IsGood c r) (sym j) good; pages = subst (λ (r : List (Job C)). holds 0 (rows c r) ≤ c.pages) (sym j) fewer }
+    subst (λ (r : List (Job C)). IsGood c r) (sym j) good
 
-step : {C : Type 0} (size : C → ℕ) (c : Setup) (h : List (Event C)) (e : Event C) → EachCouldFinish c → IsLegal size c h → May size (now c h) e → Stays c h → Stays c (e ∷ h)
+step : {C : Type 0} (size : C → ℕ) (c : Setup) (h : List (Event C)) (e : Event C) → EachCouldFinish c → IsLegal size c h → May size (now c h) e → IsGood c (now c h).jobs → IsGood c (now c (e ∷ h)).jobs
 step size c h (OfJob k (Opened s q)) each l m st = opened size c h k s q each l m st
-step size c h (OfJob k Granted) each l m st = granted size c h k l m st
+step size c h (OfJob k Granted) each l m st = granted size c h k l m
 step size c h (OfJob k (Began name count)) each l m st = quiet size c h (OfJob k (Began name count)) refl l m st
 step size c h (OfJob k (Put file number page)) each l m st = quiet size c h (OfJob k (Put file number page)) refl l m st
 step size c h (OfJob k (FileEnded file whole)) each l m st = quiet size c h (OfJob k (FileEnded file whole)) refl l m st
@@ -395,9 +284,9 @@ step size c h (Removed q jobs) each l m st = quiet size c h (Removed q jobs) ref
 step size c h (Started q) each l m st = quiet size c h (Started q) refl l m st
 step size c h Closed each l m st = quiet size c h Closed refl l m st
 
-stays_by : {C : Type 0} (size : C → ℕ) (c : Setup) (h : List (Event C)) → EachCouldFinish c → IsLegal size c h → Stays c h
-stays_by size c [] each l = record { safe = ([], record { each_once = refl; in_line = tt; fits = tt }); pages = omega arith }
+stays_by : {C : Type 0} (size : C → ℕ) (c : Setup) (h : List (Event C)) → EachCouldFinish c → IsLegal size c h → IsGood c (now c h).jobs
+stays_by size c [] each l = ([], record { each_once = refl; in_line = tt; fits = tt })
 stays_by size c (e ∷ h) each l = step size c h e each l.1 l.0 (stays_by size c h each l.1)
 
 pub stays : {C : Type 0} (size : C → ℕ) (c : Setup) (h : List (Event C)) → EachCouldFinish c → IsLegal size c h → IsSafeNow (now c h)
-stays size c h each l = to_safe (now c h) (stays_by size c h each l).safe
+stays size c h each l = to_safe (now c h) (stays_by size c h each l)

@@ -1,68 +1,36 @@
 -- The held jobs hold no more pages than there are.
-use Rattle.std.proofs.Common.{inl, inr, ◌≡◌, ◌==◌, ◌≢◌, ℕ, zero, suc, ◌+◌, ◌-◌, ◌≤◌, Bool, true, false, List, [], ◌∷◌, ◌++◌, length, map, take, refl, sym, ◌∙◌, ap, subst, arith}
-use Rattle.std.specs.Prelude.{◌&&◌, not, cond, filter, sum_by, is_some}
-use Rattle.std.specs.List.{list_any, list_all}
-use Rattle.std.proofs.lemmas.List.{append-nil, length_push, length-take}
+use Rattle.std.proofs.Common.{inl, inr, ◌≡◌, ◌==◌, ◌≢◌, ℕ, suc, ◌+◌, ◌-◌, ◌≤◌, Bool, true, false, List, [], ◌∷◌, ◌++◌, length, map, refl, sym, ◌∙◌, ap, subst, arith}
+use Rattle.std.specs.Prelude.{cond, filter, sum_by}
+use Rattle.std.specs.List.{list_any}
+use Rattle.std.proofs.lemmas.List.{append-nil, length_push}
 use Rattle.std.proofs.lemmas.List.Sums.{sum_by-cons, sum_by_push}
 use Rattle.std.proofs.lemmas.Bool.Decides.{nat_tests}
 use Rattle.claims.specs.declared.row.Row.{Row}
 use Rattle.counts.specs.Amounts.{amount}
-use Rattle.control_file.specs.Kept.{is_among}
 use Rattle.spool_history.specs.Events.{Act, Event, Sheet, Turn, Progress}
 use Rattle.spool_history.specs.Events.Act.{Opened, Granted, Began, Put, FileEnded, Controlled, Aborted}
 use Rattle.spool_history.specs.Events.Progress.{Going, Done, Ended}
 use Rattle.spool_history.specs.Events.Turn.{Handed, Printed, Failed}
 use Rattle.spool_history.specs.Events.Event.{OfJob, AtPrinter, Removed, Started, Closed}
 use Rattle.spool_history.specs.Setup.{Setup}
-use Rattle.spool_history.specs.Acts.{Page, granted_by, is_lent_by, files_by, control_by, prints_in, names_in, is_open_in}
+use Rattle.spool_history.specs.Acts.{granted_by}
 use Rattle.spool_history.specs.Said.{Opening, openings, acts_of, back_of, has_ended, ends_by_act}
 use Rattle.spool_history.specs.Now.{Job, now, job_of, is_held, is_received, has_page_out, places, pages_held, free_pages, row_of, up_to}
 use Rattle.spool_history.specs.Steps.{change, turned}
 use Rattle.spool_history.specs.Legal.{IsLegal, May}
-use Rattle.spool_laws.specs.Leaving.{places_of, sheets}
 use Rattle.spool_laws.specs.Sums.{held_pages, AddUp}
-use Rattle.spool_laws.proofs.Known.{has_at, filter_cons, test, clash, or_true}
+use Rattle.spool_laws.proofs.Known.{has_at, test, clash, or_true}
 use Rattle.spool_laws.proofs.Changes.{changes}
 use Rattle.spool_laws.proofs.Facts.{facts, is_out, turn_of_page, handed_at, received_at}
-use Rattle.spool_laws.proofs.Places.{placed}
-use Rattle.spool_laws.proofs.Counts.{one_if, put_pages, total, places_within}
-use Rattle.spool_laws.proofs.Told.{told}
-use Rattle.spool_laws.proofs.PrintNames.{names_once}
-
--- sums
-
-up_below : (f g : ℕ → ℕ) (n : ℕ) → ((q : ℕ) → q ≤ n → g q ≤ f q) → sum_by g (up_to n) ≤ sum_by f (up_to n)
-up_below f g zero le = omega arith
-up_below f g (suc n) le =
-    let ih = up_below f g n (λ q l. le q (omega arith)) in
-    let a = le (suc n) (omega arith) in
-    let k = sum_by_push f (up_to n) (suc n) in
-    let l = sum_by_push g (up_to n) (suc n) in
-    omega arith
-
-up_less : (f g : ℕ → ℕ) (n : ℕ) → ((q : ℕ) → g q ≤ f q) → sum_by g (up_to n) ≤ sum_by f (up_to n)
-up_less f g n le = up_below f g n (λ q l. le q)
-
-up_one : (f g : ℕ → ℕ) (p n : ℕ) → ((q : ℕ) → q ≢ p → g q ≤ f q) → g p ≤ f p + 1 → sum_by g (up_to n) ≤ sum_by f (up_to n) + 1
-up_one f g p zero le one = omega arith
-up_one f g p (suc n) le one =
-    let k = sum_by_push f (up_to n) (suc n) in
-    let l = sum_by_push g (up_to n) (suc n) in
-    elim (test (suc n) p) [
-      | inl s ↦
-          let s0 = s.0 in
-          let rest = up_below f g n (λ q l. le q (λ e. (let z : q ≡ p = e in omega arith))) in
-          let here : g (suc n) ≤ f (suc n) + 1 = subst (λ (i : ℕ). g i ≤ f i + 1) (sym s.0) one in
-          omega arith
-      | inr s ↦ let a = le (suc n) s.0 in let ih = up_one f g p n le one in omega arith
-    ]
+use Rattle.spool_laws.proofs.Adding.{sum_filter, sum_map, up_less, up_one}
+use Rattle.spool_laws.proofs.Sound.{Sound, sound}
 
 -- the pages that a job holds, if it is held
 
 abbrev weight : {C : Type 0} → Job C → ℕ
 weight v = cond (is_held v) (pages_held v) 0
 
-abbrev numbered : ℕ → Opening
+abbrev pub numbered : ℕ → Opening
 numbered j = record { job = j; sender = 0; queue = 0 }
 
 abbrev weight_at : {C : Type 0} → List (Event C) → ℕ → ℕ
@@ -71,24 +39,8 @@ weight_at h j = weight (job_of h (numbered j))
 abbrev weights : {C : Type 0} → List (Event C) → ℕ
 weights h = sum_by (weight_at h) (up_to (length (openings h)))
 
-sum_held_by : {C : Type 0} (h : List (Event C)) (o : Opening) (os : List Opening) (b : Bool) → is_held (job_of h o) ≡ b
-    → sum_by (λ (v : Job C). pages_held v) (filter is_held (map (job_of h) os)) ≡ sum_by (λ (p : Opening). weight_at h p.job) os
-    → sum_by (λ (v : Job C). pages_held v) (filter is_held (map (job_of h) (o ∷ os))) ≡ sum_by (λ (p : Opening). weight_at h p.job) (o ∷ os)
-sum_held_by {C} h o os true e ih =
-    let a = ap (sum_by (λ (v : Job C). pages_held v)) (filter_cons true (job_of h o) (map (job_of h) os) e) in
-    let b = sum_by-cons (λ (v : Job C). pages_held v) (job_of h o) (filter is_held (map (job_of h) os)) in
-    let w : weight_at h o.job ≡ pages_held (job_of h o) = ap (λ (t : Bool). cond t (pages_held (job_of h o)) 0) e in
-    let k = sum_by-cons (λ (p : Opening). weight_at h p.job) o os in
-    a ∙ (b ∙ omega arith)
-sum_held_by {C} h o os false e ih =
-    let a = ap (sum_by (λ (v : Job C). pages_held v)) (filter_cons false (job_of h o) (map (job_of h) os) e) in
-    let w : weight_at h o.job ≡ 0 = ap (λ (t : Bool). cond t (pages_held (job_of h o)) 0) e in
-    let k = sum_by-cons (λ (p : Opening). weight_at h p.job) o os in
-    a ∙ omega arith
-
 sum_held : {C : Type 0} (h : List (Event C)) (os : List Opening) → sum_by (λ (v : Job C). pages_held v) (filter is_held (map (job_of h) os)) ≡ sum_by (λ (p : Opening). weight_at h p.job) os
-sum_held h [] = refl
-sum_held h (o ∷ os) = sum_held_by h o os (is_held (job_of h o)) refl (sum_held h os)
+sum_held {C} h os = sum_filter (λ (v : Job C). pages_held v) is_held (map (job_of h) os) ∙ sum_map (λ (v : Job C). weight v) (job_of h) os
 
 -- the numbers of the accepted jobs are 1, 2 and so on
 
@@ -109,7 +61,7 @@ more_numbers f os x e n =
     let u : sum_by f (up_to (length (os ++ x ∷ []))) ≡ sum_by f (up_to (length os) ++ suc (length os) ∷ []) = ap (λ (i : ℕ). sum_by f (up_to i)) m in
     omega arith
 
-numbers : {C : Type 0} (size : C → ℕ) (c : Setup) (h : List (Event C)) → IsLegal size c h → (f : ℕ → ℕ) → Numbers f (openings h)
+pub numbers : {C : Type 0} (size : C → ℕ) (c : Setup) (h : List (Event C)) → IsLegal size c h → (f : ℕ → ℕ) → Numbers f (openings h)
 numbers size c [] l f = refl
 numbers size c (OfJob k (Opened s q) ∷ h) l f = more_numbers f (openings h) (record { job = k; sender = s; queue = q }) l.0.4 (numbers size c h l.1 f)
 numbers size c (OfJob k Granted ∷ h) l f = same_numbers f (openings h) (numbers size c h l.1 f)
@@ -125,72 +77,6 @@ numbers size c (Closed ∷ h) l f = numbers size c h l.1 f
 
 held_weights : {C : Type 0} (size : C → ℕ) (c : Setup) (h : List (Event C)) → IsLegal size c h → held_pages c h ≡ weights h
 held_weights size c h l = sum_held h (openings h) ∙ numbers size c h l (weight_at h)
-
--- a page is lent only while a file is open
-
-abbrev LentOpen : {C : Type 0} → List (Event C) → ℕ → Type 0
-LentOpen h j = is_lent_by (acts_of h j) ≡ true → is_open_in (files_by (acts_of h j)) ≡ true
-
-lent_act : {C : Type 0} (h : List (Event C)) (k : ℕ) (act : Act C) → (is_lent_by (act ∷ acts_of h k) ≡ true → is_open_in (files_by (act ∷ acts_of h k)) ≡ true) → ((j : ℕ) → LentOpen h j) → (j : ℕ) → LentOpen (OfJob k act ∷ h) j
-lent_act {C} h k act here ih j = elim (test k j) [
-  | inl s ↦ rw s.1 (subst (λ (i : ℕ). is_lent_by (act ∷ acts_of h i) ≡ true → is_open_in (files_by (act ∷ acts_of h i)) ≡ true) s.0 here)
-  | inr s ↦ rw s.1 (ih j)
-]
-
-lent_step : {C : Type 0} (size : C → ℕ) (c : Setup) (h : List (Event C)) (e : Event C) → May size (now c h) e → ((j : ℕ) → LentOpen h j) → (j : ℕ) → LentOpen (e ∷ h) j
-lent_step size c h (OfJob k (Opened s q)) m ih = lent_act h k (Opened s q) (ih k) ih
-lent_step size c h (OfJob k Granted) m ih = lent_act h k Granted (λ e. (has_at c h k _ m.0).is.1) ih
-lent_step size c h (OfJob k (Began name count)) m ih = lent_act h k (Began name count) (λ e. absurd (clash _ (ih k e) (has_at c h k _ m.1).is.1)) ih
-lent_step size c h (OfJob k (Put file number page)) m ih = lent_act h k (Put file number page) (λ e. absurd cc) ih
-lent_step size c h (OfJob k (FileEnded file whole)) m ih = lent_act h k (FileEnded file whole) (λ e. absurd (clash _ e (has_at c h k _ m).is.1)) ih
-lent_step size c h (OfJob k (Controlled control whole)) m ih = lent_act h k (Controlled control whole) (ih k) ih
-lent_step size c h (OfJob k Aborted) m ih = lent_act h k Aborted (λ e. absurd cc) ih
-lent_step size c h (AtPrinter p sheet turn) m ih = ih
-lent_step size c h (Removed q jobs) m ih = ih
-lent_step size c h (Started q) m ih = ih
-lent_step size c h Closed m ih = ih
-
-lent_open : {C : Type 0} (size : C → ℕ) (c : Setup) (h : List (Event C)) → IsLegal size c h → (j : ℕ) → LentOpen h j
-lent_open size c [] l j = λ e. absurd cc
-lent_open size c (e ∷ h) l j = lent_step size c h e l.0 (lent_open size c h l.1) j
-
--- what holds of each job
-
-record Sound {C : Type 0} (v : Job C) : Type 0 where
-  pub lent : v.lent ≡ true → is_received v ≡ false
-  pub granted : v.lent ≡ true → 1 ≤ v.granted
-  pub begun : is_received v ≡ false → v.handed ≡ 0
-  pub back : v.back ≤ v.handed
-  pub handed : v.handed ≤ length (places v)
-  pub places : length (places v) ≤ v.granted
-
-open_whole : (a b d : Bool) → b ≡ true → (a && (not b && d)) ≡ false
-open_whole true b d e = rw e refl
-open_whole false b d e = refl
-
-length_sheets : {C : Type 0} (j n : ℕ) (xs : List (Page C)) → length (sheets j n xs) ≡ length xs
-length_sheets j n [] = refl
-length_sheets j n (x ∷ xs) = ap suc (length_sheets j (n + 1) xs)
-
-sound : {C : Type 0} (size : C → ℕ) (c : Setup) (h : List (Event C)) → IsLegal size c h → (j : ℕ) → Sound (job_of h (numbered j))
-sound {C} size c h l j =
-    let a = acts_of h j in
-    let f = facts size c h l in
-    let puts = (told size c h l j).acts.puts in
-    let p = put_pages a in
-    let all : length (places_of h j) ≤ total (files_by a) = places_within (files_by a) (prints_in (control_by a)) (names_once size c h l j) in
-    let some : handed_at h j ≤ length (places_of h j) =
-    (let e : handed_at h j ≡ length (take (handed_at h j) (places_of h j)) = ap length (placed size c h l j) ∙ length_sheets j 0 (take (handed_at h j) (places_of h j)) in
-    let m = length-take (handed_at h j) (places_of h j) in
-    omega arith) in
-    record {
-      lent = λ e. open_whole (is_some (control_by a)) (is_open_in (files_by a)) (list_all (λ (name : List ℕ). is_among name (names_in (files_by a))) (prints_in (control_by a))) (lent_open size c h l j e);
-      granted = λ e. (let z : one_if (is_lent_by a) ≡ 1 = ap one_if e in omega arith);
-      begun = λ e. f.begun j e;
-      back = f.back j;
-      handed = some;
-      places = omega arith;
-    }
 
 cond_true : (b : Bool) (n m : ℕ) → b ≡ true → cond b n m ≡ n
 cond_true b n m e = rw e refl
@@ -216,14 +102,14 @@ weight_receiving v e r = weight_going v e ∙ cond_false (is_received v) (length
 
 -- a job that hasn't ended holds no more than was lent to it
 weight_granted : {C : Type 0} (v : Job C) (b : Bool) → is_received v ≡ b → v.ended ≡ false → Sound v → weight v ≤ v.granted
-weight_granted v true r e s = let w = weight_received v e r in let p = s.places in omega arith
+weight_granted v true r e s = let w = weight_received v e r in let p = s.within in omega arith
 weight_granted v false r e s = let w = weight_receiving v e r in omega arith
 
 -- a page that is out is among those that the job holds
 out_one : {C : Type 0} (v : Job C) (e b l r : Bool) → v.ended ≡ e → has_page_out v ≡ b → v.lent ≡ l → is_received v ≡ r → Sound v → cond b 1 0 ≤ weight v
 out_one v true b l r e o le re s = let w : weight v ≡ cond b 1 0 = weight_ended v e ∙ ap (λ (t : Bool). cond t 1 0) o in omega arith
 out_one v false false l r e o le re s = omega arith
-out_one v false true true r e o le re s = let w = weight_receiving v e (s.lent le) in let g = s.granted le in omega arith
+out_one v false true true r e o le re s = let w = weight_receiving v e (s.lent le) in let g = s.one le in omega arith
 out_one v false true false false e o le re s =
     let z = s.begun re in
     let b = s.back in
@@ -269,7 +155,7 @@ act_granted {C} size c h k act n l ends is goes_on receiving =
     let v : Job C = job_of (OfJob k act ∷ h) (numbered k) in
     let w = weight_receiving (job_of h (numbered k)) goes_on receiving in
     let g = granted_here h k act in
-    let u = weight_granted v (is_received v) refl (ended_same h k act ends ∙ goes_on) (sound size c (OfJob k act ∷ h) l k) in
+    let u = weight_granted v (is_received v) refl (ended_same h k act ends ∙ goes_on) (sound size c (OfJob k act ∷ h) l (numbered k)) in
     omega arith
 
 weight_of_new : {C : Type 0} (h : List (Event C)) (j : ℕ) → acts_of h j ≡ [] → has_ended h j ≡ false → weight_at h j ≡ 0
@@ -340,9 +226,9 @@ turn_less {C} h p sheet turn le j = elim (test sheet.job j) [
 ]
 
 printed_less : {C : Type 0} (size : C → ℕ) (c : Setup) (h : List (Event C)) (p : ℕ) (sheet : Sheet C) (x : Progress) → IsLegal size c h → handed_at h sheet.job ≡ back_of h sheet.job + 1 → weight (turned (Printed x) (job_of h (numbered sheet.job))) ≤ weight_at h sheet.job
-printed_less size c h p sheet Going l out = back_going (job_of h (numbered sheet.job)) _ _ refl refl out (sound size c h l sheet.job)
-printed_less size c h p sheet Done l out = back_ended (job_of h (numbered sheet.job)) out (sound size c h l sheet.job)
-printed_less size c h p sheet Ended l out = back_going (job_of h (numbered sheet.job)) _ _ refl refl out (sound size c h l sheet.job)
+printed_less size c h p sheet Going l out = back_going (job_of h (numbered sheet.job)) _ _ refl refl out (sound size c h l (numbered sheet.job))
+printed_less size c h p sheet Done l out = back_ended (job_of h (numbered sheet.job)) out (sound size c h l (numbered sheet.job))
+printed_less size c h p sheet Ended l out = back_going (job_of h (numbered sheet.job)) _ _ refl refl out (sound size c h l (numbered sheet.job))
 
 removed_less : {C : Type 0} (h : List (Event C)) (q : ℕ) (jobs : List ℕ) (j : ℕ) (b : Bool) → list_any (λ (k : ℕ). k == j) jobs ≡ b → Sound (job_of h (numbered j)) → weight_at (Removed q jobs ∷ h) j ≤ weight_at h j
 removed_less h q jobs j true e s =
@@ -355,7 +241,7 @@ removed_less h q jobs j false e s =
 
 -- what is free
 
-rows_held : {C : Type 0} (c : Setup) (vs : List (Job C)) → sum_by (λ (row : Row). amount row.held 0) (map (row_of c) vs) ≡ sum_by (λ (v : Job C). pages_held v) vs
+pub rows_held : {C : Type 0} (c : Setup) (vs : List (Job C)) → sum_by (λ (row : Row). amount row.held 0) (map (row_of c) vs) ≡ sum_by (λ (v : Job C). pages_held v) vs
 rows_held c [] = refl
 rows_held {C} c (v ∷ vs) =
     let ih = rows_held c vs in
@@ -364,7 +250,7 @@ rows_held {C} c (v ∷ vs) =
     let a : amount (row_of c v).held 0 ≡ pages_held v = refl in
     omega arith
 
-free_rest : {C : Type 0} (c : Setup) (h : List (Event C)) → free_pages (now c h) ≡ c.pages - held_pages c h
+pub free_rest : {C : Type 0} (c : Setup) (h : List (Event C)) → free_pages (now c h) ≡ c.pages - held_pages c h
 free_rest c h = ap (λ (n : ℕ). c.pages - n) (rows_held c (now c h).jobs)
 
 -- each event
@@ -421,7 +307,7 @@ step_weights {C} size c h (OfJob k Aborted) l m w =
     let v : Job C = job_of h (numbered k) in
     let a = aborted_here h k in
     let b = abort_less v v.lent refl in
-    let d = ending v (sound size c h l k) in
+    let d = ending v (sound size c h l (numbered k)) in
     let s = up_less (weight_at h) (weight_at (OfJob k Aborted ∷ h)) (length (openings h)) (act_less h k Aborted (omega arith)) in
     act_weights h k Aborted c.pages (append-nil (openings h)) (omega arith)
 step_weights {C} size c h (AtPrinter p sheet Handed) l m w =
@@ -435,16 +321,16 @@ step_weights size c h (AtPrinter p sheet (Printed x)) l m w =
     omega arith
 step_weights size c h (AtPrinter p sheet Failed) l m w =
     let out = ((facts size c h l).out p sheet (is_out c h p sheet m.0 m.1)).1 in
-    let s = up_less (weight_at h) (weight_at (AtPrinter p sheet Failed ∷ h)) (length (openings h)) (turn_less h p sheet Failed (back_ended (job_of h (numbered sheet.job)) out (sound size c h l sheet.job))) in
+    let s = up_less (weight_at h) (weight_at (AtPrinter p sheet Failed ∷ h)) (length (openings h)) (turn_less h p sheet Failed (back_ended (job_of h (numbered sheet.job)) out (sound size c h l (numbered sheet.job)))) in
     omega arith
 step_weights size c h (Removed q jobs) l m w =
-    let s = up_less (weight_at h) (weight_at (Removed q jobs ∷ h)) (length (openings h)) (λ j. removed_less h q jobs j (list_any (λ (k : ℕ). k == j) jobs) refl (sound size c h l j)) in
+    let s = up_less (weight_at h) (weight_at (Removed q jobs ∷ h)) (length (openings h)) (λ j. removed_less h q jobs j (list_any (λ (k : ℕ). k == j) jobs) refl (sound size c h l (numbered j))) in
     omega arith
 step_weights size c h (Started q) l m w =
     let s = up_less (weight_at h) (weight_at (Started q ∷ h)) (length (openings h)) (λ j. (let e = changed h (Started q) j in omega arith)) in
     omega arith
 step_weights size c h Closed l m w =
-    let s = up_less (weight_at h) (weight_at (Closed ∷ h)) (length (openings h)) (λ j. (let e = changed h Closed j in let d = ending (job_of h (numbered j)) (sound size c h l j) in omega arith)) in
+    let s = up_less (weight_at h) (weight_at (Closed ∷ h)) (length (openings h)) (λ j. (let e = changed h Closed j in let d = ending (job_of h (numbered j)) (sound size c h l (numbered j)) in omega arith)) in
     omega arith
 
 weights_within : {C : Type 0} (size : C → ℕ) (c : Setup) (h : List (Event C)) → IsLegal size c h → weights h ≤ c.pages

@@ -1,25 +1,22 @@
 -- How often each thing may be told of a job.
-use Rattle.std.proofs.Common.{inl, inr, ◌≡◌, ◌==◌, ◌≢◌, ℕ, zero, suc, ◌+◌, ◌<◌, ◌≤◌, Bool, true, false, List, [], ◌∷◌, ◌++◌, length, take, refl, sym, ◌∙◌, ap, subst, arith}
-use Rattle.std.specs.Prelude.{nat_le, ◌&&◌, if◌then◌else◌}
-use Rattle.std.specs.List.{list_all, list_any, AllByRecursion}
-use Rattle.std.proofs.lemmas.List.{append-nil, length-take}
-use Rattle.control_file.specs.Kept.{all_differ, is_print_list}
-use Rattle.lpd_commands.specs.Name.{is_data_name}
+use Rattle.std.proofs.Common.{inl, inr, ◌≡◌, ◌==◌, ◌≢◌, ℕ, ◌+◌, ◌<◌, ◌≤◌, Bool, true, false, List, [], ◌∷◌, ◌++◌, length, refl, sym, ◌∙◌, ap, subst, arith}
+use Rattle.std.specs.Prelude.{◌&&◌, if◌then◌else◌}
+use Rattle.std.specs.List.{list_any, AllByRecursion}
+use Rattle.std.proofs.lemmas.List.{append-nil}
 use Rattle.spool_history.specs.Events.{Act, Event, Sheet, Turn, Progress}
 use Rattle.spool_history.specs.Events.Act.{Opened, Granted, Began, Put, FileEnded, Controlled, Aborted}
 use Rattle.spool_history.specs.Events.Turn.{Handed, Printed, Failed}
 use Rattle.spool_history.specs.Events.Event.{OfJob, AtPrinter, Removed, Started, Closed}
 use Rattle.spool_history.specs.Setup.{Setup, limit_of, reserve_of}
-use Rattle.spool_history.specs.Acts.{Page, granted_by, files_by, control_by, prints_in}
+use Rattle.spool_history.specs.Acts.{granted_by, files_by}
 use Rattle.spool_history.specs.Said.{Opening, openings, opening_by, acts_of, is_failed, back_of, has_ended}
 use Rattle.spool_history.specs.Now.{Job, now}
 use Rattle.spool_history.specs.Legal.{HasJob, IsLegal, May}
-use Rattle.spool_laws.specs.Leaving.{places_of, sheets}
 use Rattle.spool_laws.proofs.Known.{Has, At, has_at, has_last, test, clash}
 use Rattle.spool_laws.proofs.Facts.{Facts, facts, is_out, Turn', turn_of_page, handed_at, handed_more, handed_same, acts_other, back_same, back_more, back_one}
-use Rattle.spool_laws.proofs.Places.{placed}
 use Rattle.spool_laws.proofs.Whole.{still_ended}
-use Rattle.spool_laws.proofs.Counts.{Fits, fits_none, fits_later, fits_opened, fits_granted, fits_began, fits_put, fits_ended, fits_controlled, fits_aborted, all_counted, began_files, put_pages, count_le, total, places_within}
+use Rattle.spool_laws.proofs.Counts.{none_by, Fits, fits_none, fits_later, fits_opened, fits_granted, fits_began, fits_put, fits_ended, fits_controlled, fits_aborted, all_counted, began_files, count_le}
+use Rattle.spool_laws.proofs.Sound.{sound}
 
 -- how often a page of a job failed, and how often the job was removed
 abbrev pub failed_of : {C : Type 0} → List (Event C) → ℕ → ℕ
@@ -38,10 +35,6 @@ pub record Told {C : Type 0} (h : List (Event C)) (j : ℕ) : Type 0 where
   pub after : 0 < failed_of h j → (has_ended h j ≡ true) × (handed_at h j ≡ back_of h j)
   pub removed : removed_of h j ≤ 1
   pub gone : 0 < removed_of h j → has_ended h j ≡ true
-
-none_by : (n : ℕ) → (0 < n → ⊥) → n ≡ 0
-none_by zero f = refl
-none_by (suc n) f = absurd (f (omega arith))
 
 acts_here : {C : Type 0} (h : List (Event C)) (k : ℕ) (act : Act C) → acts_of (OfJob k act ∷ h) k ≡ act ∷ acts_of h k
 acts_here h k act = elim (test k k) [ inl s ↦ rw s.1 refl | inr s ↦ absurd (s.0 refl) ]
@@ -252,61 +245,9 @@ within : {C : Type 0} (size : C → ℕ) (c : Setup) (h : List (Event C)) → Is
 within size c [] l = λ o has. absurd has
 within size c (e ∷ h) l = within_step size c h e l.1 l.0 (within size c h l.1)
 
--- print names
-
--- no control file of the history prints a name twice
-abbrev PrintNamesDiffer : {C : Type 0} → List (Event C) → Type 0
-PrintNamesDiffer [] = Unit {0}
-PrintNamesDiffer (OfJob job (Controlled control whole) ∷ h) = (all_differ control.prints ≡ true) × PrintNamesDiffer h
-PrintNamesDiffer (_ ∷ h) = PrintNamesDiffer h
-
-last_true : (a b c d : Bool) → (a && b && c && d) ≡ true → d ≡ true
-last_true true true true d e = e
-last_true true true false d e = absurd cc
-last_true true false c d e = absurd cc
-last_true false b c d e = absurd cc
-
-list_differs : (names : List (List ℕ)) → is_print_list names ≡ true → all_differ names ≡ true
-list_differs names e = last_true (nat_le 1 (length names)) (nat_le (length names) 52) (list_all is_data_name names) (all_differ names) e
-
-names_differ : {C : Type 0} (size : C → ℕ) (c : Setup) (h : List (Event C)) → IsLegal size c h → PrintNamesDiffer h
-names_differ size c [] l = tt
-names_differ size c (OfJob k (Opened s q) ∷ h) l = names_differ size c h l.1
-names_differ size c (OfJob k Granted ∷ h) l = names_differ size c h l.1
-names_differ size c (OfJob k (Began name count) ∷ h) l = names_differ size c h l.1
-names_differ size c (OfJob k (Put file number page) ∷ h) l = names_differ size c h l.1
-names_differ size c (OfJob k (FileEnded file whole) ∷ h) l = names_differ size c h l.1
-names_differ size c (OfJob k (Controlled control whole) ∷ h) l = (list_differs control.prints l.0.0.prints, names_differ size c h l.1)
-names_differ size c (OfJob k Aborted ∷ h) l = names_differ size c h l.1
-names_differ size c (AtPrinter p sheet turn ∷ h) l = names_differ size c h l.1
-names_differ size c (Removed q jobs ∷ h) l = names_differ size c h l.1
-names_differ size c (Started q ∷ h) l = names_differ size c h l.1
-names_differ size c (Closed ∷ h) l = names_differ size c h l.1
-
-abbrev Differ : {C : Type 0} → List (Event C) → ℕ → Type 0
-Differ h j = all_differ (prints_in (control_by (acts_of h j))) ≡ true
-
-differ : {C : Type 0} (h : List (Event C)) → PrintNamesDiffer h → (j : ℕ) → Differ h j
-differ [] d j = refl
-differ (OfJob k (Opened s q) ∷ h) d j = elim (test k j) [ inl r ↦ rw r.1 (differ h d j) | inr r ↦ rw r.1 (differ h d j) ]
-differ (OfJob k Granted ∷ h) d j = elim (test k j) [ inl r ↦ rw r.1 (differ h d j) | inr r ↦ rw r.1 (differ h d j) ]
-differ (OfJob k (Began name count) ∷ h) d j = elim (test k j) [ inl r ↦ rw r.1 (differ h d j) | inr r ↦ rw r.1 (differ h d j) ]
-differ (OfJob k (Put file number page) ∷ h) d j = elim (test k j) [ inl r ↦ rw r.1 (differ h d j) | inr r ↦ rw r.1 (differ h d j) ]
-differ (OfJob k (FileEnded file whole) ∷ h) d j = elim (test k j) [ inl r ↦ rw r.1 (differ h d j) | inr r ↦ rw r.1 (differ h d j) ]
-differ (OfJob k (Controlled control whole) ∷ h) d j = elim (test k j) [ inl r ↦ rw r.1 d.0 | inr r ↦ rw r.1 (differ h d.1 j) ]
-differ (OfJob k Aborted ∷ h) d j = elim (test k j) [ inl r ↦ rw r.1 (differ h d j) | inr r ↦ rw r.1 (differ h d j) ]
-differ (AtPrinter p sheet turn ∷ h) d j = differ h d j
-differ (Removed q jobs ∷ h) d j = differ h d j
-differ (Started q ∷ h) d j = differ h d j
-differ (Closed ∷ h) d j = differ h d j
-
 -- all that is told of a job is within its reserve
 abbrev pub used : {C : Type 0} → List (Event C) → ℕ → ℕ
 used h j = length (acts_of h j) + (handed_at h j + (back_of h j + (failed_of h j + removed_of h j)))
-
-length_sheets : {C : Type 0} (j n : ℕ) (xs : List (Page C)) → length (sheets j n xs) ≡ length xs
-length_sheets j n [] = refl
-length_sheets j n (x ∷ xs) = ap suc (length_sheets j (n + 1) xs)
 
 pub reserved : {C : Type 0} (size : C → ℕ) (c : Setup) (h : List (Event C)) → IsLegal size c h → (o : Opening) → Has o (openings h) → used h o.job ≤ reserve_of c o.queue
 reserved {C} size c h l o has =
@@ -324,12 +265,9 @@ reserved {C} size c h l o has =
     let t8 = t.removed in
     let b1 = began_files a in
     let b2 = count_le (files_by a) in
-    let b3 = put_pages a in
     let w = within size c h l o has in
-    let back = (facts size c h l).back j in
-    let some : handed_at h j ≤ length (places_of h j) =
-    (let e : handed_at h j ≡ length (take (handed_at h j) (places_of h j)) = ap length (placed size c h l j) ∙ length_sheets j 0 (take (handed_at h j) (places_of h j)) in
-    let m = length-take (handed_at h j) (places_of h j) in
-    omega arith) in
-    let all : length (places_of h j) ≤ total (files_by a) = places_within (files_by a) (prints_in (control_by a)) (differ h (names_differ size c h l) j) in
+    let s = sound size c h l o in
+    let back = s.back in
+    let handed = s.handed in
+    let places = s.within in
     omega arith

@@ -59,15 +59,15 @@ turn_by : {C : Type 0} (jobs : List (Job C)) (p : Printer C) (x : Job C) (o : Op
 turn_by jobs p x None b e = first_by jobs p x e
 turn_by {C} jobs p x (Some k) b e = begun_by jobs p k x (find (λ (v : Job C). (v.number == k) && not v.ended) jobs) b refl e
 
-open_by : {C : Type 0} (b : Bool) (x : Next C) (sheet : Sheet C) → cond b Over x ≡ Hands sheet → (b ≡ false) × (x ≡ Hands sheet)
+pub open_by : {C : Type 0} (b : Bool) (x : Next C) (sheet : Sheet C) → cond b Over x ≡ Hands sheet → (b ≡ false) × (x ≡ Hands sheet)
 open_by true x sheet e = absurd cc
 open_by false x sheet e = (refl, e)
 
-runs_by : {C : Type 0} (b : Bool) (x : Next C) (sheet : Sheet C) → cond b Stops x ≡ Hands sheet → (b ≡ false) × (x ≡ Hands sheet)
+pub runs_by : {C : Type 0} (b : Bool) (x : Next C) (sheet : Sheet C) → cond b Stops x ≡ Hands sheet → (b ≡ false) × (x ≡ Hands sheet)
 runs_by true x sheet e = absurd cc
 runs_by false x sheet e = (refl, e)
 
-idle_by : {C : Type 0} (jobs : List (Job C)) (p : Printer C) (o : Option (Sheet C)) (sheet : Sheet C) → with_out jobs p o ≡ Hands sheet → (o ≡ None) × (hand_of (turn_of jobs p.queue p.began) ≡ Hands sheet)
+pub idle_by : {C : Type 0} (jobs : List (Job C)) (p : Printer C) (o : Option (Sheet C)) (sheet : Sheet C) → with_out jobs p o ≡ Hands sheet → (o ≡ None) × (hand_of (turn_of jobs p.queue p.began) ≡ Hands sheet)
 idle_by jobs p (Some x) sheet e = absurd cc
 idle_by jobs p None sheet e = (refl, e)
 

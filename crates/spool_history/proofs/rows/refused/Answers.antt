@@ -1,14 +1,16 @@
 use Rattle.std.proofs.Common.{◌≡◌, ℕ, zero, suc, ◌≤◌, ◌<◌, true, false, List, [], ◌∷◌, ◌++◌, Option, Some, None, refl, sym, ◌∙◌, ap, subst, arith, drop, length}
-use Rattle.std.specs.Prelude.{slice_index_or}
+use Rattle.std.specs.Prelude.{◌-◌, ◌*◌, min, slice_index_or}
 use Rattle.spool_history.specs.Events.{Sheet}
+use Rattle.spool_history.specs.Events.Act.{Put}
+use Rattle.spool_history.specs.Events.Event.{OfJob}
 use Rattle.spool_history.specs.Events.Progress.{Going, Done}
 use Rattle.spool_history.specs.Acts.{File, new_file}
 use Rattle.spool_history.specs.Now.{Job, State, now}
 use Rattle.spool_history.specs.Next.{Next, printer_at}
 use Rattle.spool_history.specs.Next.Next.{Hands}
 use Rattle.spool_history.specs.Steps.{new_job}
-use Rattle.spool_history.specs.Legal.{HasJob}
-use Rattle.spool_history.specs.Rows.{small, one_job}
+use Rattle.spool_history.specs.Legal.{HasJob, May}
+use Rattle.spool_history.specs.Rows.{small, hello, rld, one_job}
 use Rattle.spool_history.proofs.rows.refused.Goals as goal
 
 true_is_not_false : true ≡ false → ⊥
@@ -69,7 +71,7 @@ single v a j P one h =
 
 -- of one file the second isn't the last
 second_of_one : (files : List (File (List ℕ))) (f : File (List ℕ)) (before : List (File (List ℕ))) (last : File (List ℕ)) → files ≡ f ∷ [] → files ≡ before ++ last ∷ [] → length before ≡ 1 → ⊥
-second_of_one files f [] last one e n = let m : 0 ≡ 1 = n in omega arith
+second_of_one files f [] last one e n = let m : ◌≡◌ {A = ℕ} 0 1 = n in omega arith
 second_of_one files f (x ∷ []) last one e n = let r : f ∷ [] ≡ x ∷ last ∷ [] = sym one ∙ e in cc
 second_of_one files f (x ∷ y ∷ before) last one e n = let r : f ∷ [] ≡ x ∷ y ∷ (before ++ last ∷ []) = sym one ∙ e in cc
 
@@ -79,8 +81,8 @@ not_stopped zero low high h = omega arith
 not_stopped (suc zero) low high h = let e : false ≡ true = h in cc
 not_stopped (suc (suc p)) low high h = omega arith
 
-pub returns : goal.returns
-returns c = record {
+pub returns-clause-events : goal.returns-clause-events
+returns-clause-events c = record {
   close_twice = λ h. true_is_not_false h;
   opened_after_close = λ h. true_is_not_false h.0;
   handed_after_close = λ h. other_place 9 0 (ap place_of h.1) (λ e. omega arith);
@@ -123,4 +125,25 @@ returns c = record {
   removed_nobody = λ h. let e : 0 < 0 = h.2 in omega arith;
   removed_while_received = λ h. let s = single (now small (drop 6 one_job)) (mine 6) 1 _ refl h.4.0 in false_is_not_true s.1.1;
   started_unstopped = λ h. not_stopped h.2 h.3.0 h.3.1 h.5;
+}
+
+-- the last of one file is that one
+last_of_one : (files : List (File (List ℕ))) (f : File (List ℕ)) (before : List (File (List ℕ))) (last : File (List ℕ)) → files ≡ f ∷ [] → files ≡ before ++ last ∷ [] → f ≡ last
+last_of_one files f [] last one e = let r : f ∷ [] ≡ last ∷ [] = sym one ∙ e in cc
+last_of_one files f (x ∷ []) last one e = let r : f ∷ [] ≡ x ∷ last ∷ [] = sym one ∙ e in absurd cc
+last_of_one files f (x ∷ y ∷ before) last one e = let r : f ∷ [] ≡ x ∷ y ∷ (before ++ last ∷ []) = sym one ∙ e in absurd cc
+
+-- a page that may be put into the one file of a state is as long as what the file lacks, and at most 8 octets
+due : (n number : ℕ) (page : List ℕ) → let v : State (List ℕ) = now small (drop n one_job) in
+    v.jobs ≡ mine n ∷ [] → (mine n).files ≡ file n ∷ [] → May length v (OfJob 1 (Put 0 number page)) → length page ≡ min 8 ((file n).count - number * 8)
+due n number page one files h =
+    let s = single (now small (drop n one_job)) (mine n) 1 _ one h in
+    let o = s.1.2 in
+    let last = last_of_one (mine n).files (file n) o.0 o.1 files o.2 in
+    subst (λ (f : File (List ℕ)). length page ≡ min 8 (f.count - number * 8)) (sym last) o.5.2
+
+pub returns-clause-pages : goal.returns-clause-pages
+returns-clause-pages c = record {
+  too_short = λ h. let e : 3 ≡ 8 = due 10 0 rld refl refl h in other_place 3 8 e (λ x. omega arith);
+  too_long = λ h. let e : 8 ≡ 3 = due 8 1 hello refl refl h in other_place 8 3 e (λ x. omega arith);
 }

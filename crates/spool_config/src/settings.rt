@@ -1,4 +1,4 @@
-//! The configuration, read from TOML text.
+//! A configuration: its keys, their ranges and its faults.
 
 ghost use Rattle.std.specs.Prelude.{◌≡◌, ◌≢◌, ◌≤◌, All, IfOk, length, string_bytes, vec_len, false, true};
 ghost use Rattle.spool_core.specs.Config.{IsConfig, IsQueue, IsQueueName, HaveOwnNames};

@@ -1,6 +1,6 @@
 use Rattle.std.proofs.Common.{◌≡◌, All, vec_len}
 use Rattle.spool_core.specs.Config.{IsQueue}
-use Rattle.lpd_server.proofs.settings.queues.Given as goal
+use Rattle.spool_config.proofs.settings.queues.Given as goal
 
 abbrev pub invariant-loop-row : goal.invariant-loop-row
 invariant-loop-row l = record {

@@ -1,0 +1,6 @@
+//! The configuration of a spool, read from TOML text.
+#![tactic(auto)]
+
+mod settings;
+
+pub use settings::{ConfigFault, Key, read};

@@ -1,0 +1,311 @@
+-- Each page is in a chain, lent, at a printer or free.
+use Rattle.std.proofs.Common.{inl, inr, ◌≡◌, ◌==◌, ◌≢◌, ℕ, suc, ◌+◌, ◌-◌, ◌≤◌, ◌<◌, Bool, true, false, List, [], ◌∷◌, ◌++◌, length, map, refl, sym, ◌∙◌, ap, subst, arith}
+use Rattle.std.specs.Prelude.{not, cond, sum_by, Option, Some, is_some}
+use Rattle.std.proofs.lemmas.List.{append-nil, length_push}
+use Rattle.std.proofs.lemmas.List.Sums.{sum_by-cons, sum_by_push}
+use Rattle.std.proofs.lemmas.Bool.Decides.{nat_tests}
+use Rattle.spool_history.specs.Events.{Act, Event, Sheet, Turn}
+use Rattle.spool_history.specs.Events.Act.{Opened, Granted, Began, Put, FileEnded, Controlled, Aborted}
+use Rattle.spool_history.specs.Events.Turn.{Handed, Printed, Failed}
+use Rattle.spool_history.specs.Events.Event.{OfJob, AtPrinter, Removed, Started, Closed}
+use Rattle.spool_history.specs.Setup.{Setup, printer_count}
+use Rattle.spool_history.specs.Acts.{File, at_last, granted_by, is_lent_by, files_by}
+use Rattle.spool_history.specs.Said.{Opening, openings, opening_by, acts_of, is_handed, back_of, has_ended, ends, out_at}
+use Rattle.spool_history.specs.Now.{Job, Printer, now, job_of, is_held, is_received, has_page_out, pages_held, free_pages, printer_of, up_to}
+use Rattle.spool_history.specs.Legal.{IsLegal, May}
+use Rattle.spool_laws.specs.Sums.{chained_of, chained, lent, at_printers}
+use Rattle.spool_laws.proofs.Known.{Has, has_at, has_last, known, test, clash, or_false}
+use Rattle.spool_laws.proofs.Facts.{Facts, facts, Turn', turn_of_page, handed_now, handed_number, handed_at, handed_same, is_out, count_one, count_more, back_same, back_more, back_one, out_here, out_there}
+use Rattle.spool_laws.proofs.Counts.{with_page, last_push}
+use Rattle.spool_laws.proofs.Held.{pages_in, pages_push, pages_ended}
+use Rattle.spool_laws.proofs.Adding.{sum_same, sum_parts, sum_filter, sum_map, up_none, up_once}
+use Rattle.spool_laws.proofs.Reserve.{accepted, no_events}
+use Rattle.spool_laws.proofs.Sound.{Sound, sound}
+use Rattle.spool_laws.proofs.Sums.{numbers, pages_add_up}
+
+abbrev one_for : Bool → ℕ
+one_for b = cond b 1 0
+
+-- until a job ends, what was lent to it is in its files, or still lent
+
+abbrev Filled : {C : Type 0} → List (Act C) → Type 0
+Filled a = pages_in (files_by a) + one_for (is_lent_by a) ≡ granted_by a
+
+abbrev FilledAt : {C : Type 0} → List (Event C) → ℕ → Type 0
+FilledAt h j = has_ended h j ≡ false → Filled (acts_of h j)
+
+ended_before : {C : Type 0} (h : List (Event C)) (e : Event C) (j : ℕ) → has_ended (e ∷ h) j ≡ false → has_ended h j ≡ false
+ended_before h e j goes_on = (or_false (ends j e) (has_ended h j) goes_on).1
+
+filled_act : {C : Type 0} (h : List (Event C)) (k : ℕ) (act : Act C) → (has_ended (OfJob k act ∷ h) k ≡ false → Filled (acts_of h k) → Filled (act ∷ acts_of h k)) → ((j : ℕ) → FilledAt h j) → (j : ℕ) → FilledAt (OfJob k act ∷ h) j
+filled_act {C} h k act more f j goes_on =
+    let old : Filled (acts_of h j) = f j (ended_before h (OfJob k act) j goes_on) in
+    elim (test k j) [
+      | inl s ↦
+          let new : Filled (act ∷ acts_of h j) = subst (λ (i : ℕ). has_ended (OfJob k act ∷ h) i ≡ false → Filled (acts_of h i) → Filled (act ∷ acts_of h i)) s.0 more goes_on old in
+          rw s.1 new
+      | inr s ↦ rw s.1 old
+    ]
+
+pages_last : {C : Type 0} (before : List (File C)) (last : File C) → pages_in (before ++ last ∷ []) ≡ pages_in before + length last.pages
+pages_last [] last = omega arith
+pages_last (f ∷ fs) last = let ih = pages_last fs last in omega arith
+
+filled_put : {C : Type 0} (a : List (Act C)) (file number : ℕ) (page : C) (before : List (File C)) (last : File C) → files_by a ≡ before ++ last ∷ [] → is_lent_by a ≡ true → Filled a → Filled (Put file number page ∷ a)
+filled_put {C} a file number page before last e was f =
+    let one : one_for (is_lent_by a) ≡ 1 = rw was refl in
+    let now' : files_by (Put file number page ∷ a) ≡ before ++ with_page page last ∷ [] = ap (λ (l : List (File C)). at_last (with_page page) l) e ∙ last_push (with_page page) before last in
+    let n = ap pages_in now' ∙ pages_last before (with_page page last) in
+    let m = ap pages_in e ∙ pages_last before last in
+    let p = length_push last.pages page in
+    omega arith
+
+filled_step : {C : Type 0} (size : C → ℕ) (c : Setup) (h : List (Event C)) (e : Event C) → May size (now c h) e → ((j : ℕ) → FilledAt h j) → (j : ℕ) → FilledAt (e ∷ h) j
+filled_step size c h (OfJob k (Opened s q)) m f = filled_act h k (Opened s q) (λ g old. old) f
+filled_step size c h (OfJob k Granted) m f = filled_act h k Granted (λ g old. (let z : one_for (is_lent_by (acts_of h k)) ≡ 0 = rw (has_at c h k _ m.0).is.2 refl in omega arith)) f
+filled_step size c h (OfJob k (Began name count)) m f = filled_act h k (Began name count) (λ g old. (let p = pages_push (files_by (acts_of h k)) name count in omega arith)) f
+filled_step size c h (OfJob k (Put file number page)) m f =
+    let a = (has_at c h k _ m).is in
+    let o = a.2 in
+    filled_act h k (Put file number page) (λ g old. filled_put (acts_of h k) file number page o.0 o.1 o.2 a.1 old) f
+filled_step size c h (OfJob k (FileEnded file whole)) m f = filled_act h k (FileEnded file whole) (λ g old. (let p = pages_ended (files_by (acts_of h k)) in omega arith)) f
+filled_step size c h (OfJob k (Controlled control whole)) m f = filled_act h k (Controlled control whole) (λ g old. old) f
+filled_step size c h (OfJob k Aborted) m f = filled_act h k Aborted (λ g old. absurd (clash (has_ended (OfJob k Aborted ∷ h) k) (aborted_ends h k) g)) f
+  where
+    aborted_ends : {C : Type 0} (h : List (Event C)) (k : ℕ) → has_ended (OfJob k Aborted ∷ h) k ≡ true
+    aborted_ends h k = elim (test k k) [ inl s ↦ rw s.1 refl | inr s ↦ absurd (s.0 refl) ]
+filled_step size c h (AtPrinter p sheet turn) m f = λ j g. f j (ended_before h (AtPrinter p sheet turn) j g)
+filled_step size c h (Removed q jobs) m f = λ j g. f j (ended_before h (Removed q jobs) j g)
+filled_step size c h (Started q) m f = λ j g. f j (ended_before h (Started q) j g)
+filled_step size c h Closed m f = λ j g. f j (ended_before h Closed j g)
+
+filled : {C : Type 0} (size : C → ℕ) (c : Setup) (h : List (Event C)) → IsLegal size c h → (j : ℕ) → FilledAt h j
+filled size c [] l j = λ goes_on. refl
+filled size c (e ∷ h) l j = filled_step size c h e l.0 (filled size c h l.1) j
+
+-- of a job at most one page is at a printer
+
+abbrev OneOut : {C : Type 0} → List (Event C) → ℕ → Type 0
+OneOut h j = handed_at h j ≤ back_of h j + 1
+
+one_out_handed : {C : Type 0} (h : List (Event C)) (p : ℕ) (sheet : Sheet C) → Facts h → Turn' h p sheet → ((j : ℕ) → OneOut h j) → (j : ℕ) → OneOut (AtPrinter p sheet Handed ∷ h) j
+one_out_handed {C} h p sheet f t o j =
+    let b = back_same h p sheet j in
+    elim (test sheet.job j) [
+      | inl s ↦
+          let n = count_one h p sheet j s.0 in
+          let here : handed_at h j ≡ back_of h j = subst (λ (i : ℕ). handed_at h i ≡ back_of h i) s.0 (handed_now h p sheet f t) in
+          omega arith
+      | inr s ↦ let n = count_more h p sheet j s.0 in let old = o j in omega arith
+    ]
+
+one_out_back : {C : Type 0} (h : List (Event C)) (p : ℕ) (sheet : Sheet C) (turn : Turn) → is_handed turn ≡ false → ((j : ℕ) → OneOut h j) → (j : ℕ) → OneOut (AtPrinter p sheet turn ∷ h) j
+one_out_back h p sheet turn is o j =
+    let n = ap length (handed_same h p sheet turn j is) in
+    let old = o j in
+    elim (test sheet.job j) [
+      | inl s ↦ let b = back_one h p sheet turn j is s.0 in omega arith
+      | inr s ↦ let b = back_more h p sheet turn j s.0 in omega arith
+    ]
+
+one_out : {C : Type 0} (size : C → ℕ) (c : Setup) (h : List (Event C)) → IsLegal size c h → (j : ℕ) → OneOut h j
+one_out size c [] l = λ j. omega arith
+one_out size c (OfJob k act ∷ h) l = one_out size c h l.1
+one_out size c (AtPrinter p sheet Handed ∷ h) l = one_out_handed h p sheet (facts size c h l.1) (turn_of_page c h p sheet l.0.0.0 l.0.0.1 l.0.1) (one_out size c h l.1)
+one_out size c (AtPrinter p sheet (Printed x) ∷ h) l = one_out_back h p sheet (Printed x) refl (one_out size c h l.1)
+one_out size c (AtPrinter p sheet Failed ∷ h) l = one_out_back h p sheet Failed refl (one_out size c h l.1)
+one_out size c (Removed q jobs ∷ h) l = one_out size c h l.1
+one_out size c (Started q ∷ h) l = one_out size c h l.1
+one_out size c (Closed ∷ h) l = one_out size c h l.1
+
+-- what a held job holds
+
+record Apart {C : Type 0} (v : Job C) : Type 0 where
+  pub sound : Sound v
+  pub filled : v.ended ≡ false → pages_in v.files + one_for v.lent ≡ v.granted
+  pub one : v.handed ≤ v.back + 1
+
+pages_sum : {C : Type 0} (fs : List (File C)) → sum_by (λ (f : File C). length f.pages) fs ≡ pages_in fs
+pages_sum [] = refl
+pages_sum {C} (f ∷ fs) = let ih = pages_sum fs in let k = sum_by-cons (λ (g : File C). length g.pages) f fs in omega arith
+
+apart_by : {C : Type 0} (v : Job C) (e r l b : Bool) → v.ended ≡ e → is_received v ≡ r → v.lent ≡ l → (v.handed == v.back) ≡ b → is_held v ≡ true → Apart v → pages_held v ≡ chained_of v + (one_for v.lent + (v.handed - v.back))
+apart_by v true r true b ended received is_lent same held a =
+    let none = a.sound.begun (a.sound.lent is_lent) in
+    let back = a.sound.back in
+    rw (ended, is_lent) (omega arith)
+apart_by v true r false true ended received is_lent same held a = absurd (clash (is_held v) held (rw (ended, is_lent, same) refl))
+apart_by v true r false false ended received is_lent same held a =
+    let differ : v.handed ≢ v.back = grind (arith, nat_tests) in
+    let back = a.sound.back in
+    let one = a.one in
+    rw (ended, is_lent) (omega arith)
+apart_by v false true true b ended received is_lent same held a = absurd (clash (is_received v) received (a.sound.lent is_lent))
+apart_by v false true false b ended received is_lent same held a =
+    let back = a.sound.back in
+    let handed = a.sound.handed in
+    rw (ended, received, is_lent) (omega arith)
+apart_by v false false l b ended received is_lent same held a =
+    let none = a.sound.begun received in
+    let all = a.filled ended in
+    let sum = pages_sum v.files in
+    rw (ended, received) (omega arith)
+
+apart : {C : Type 0} (size : C → ℕ) (c : Setup) (h : List (Event C)) → IsLegal size c h → (o : Opening) → Apart (job_of h o)
+apart size c h l o = record { sound = sound size c h l o; filled = filled size c h l o.job; one = one_out size c h l o.job }
+
+held_apart : {C : Type 0} (size : C → ℕ) (c : Setup) (h : List (Event C)) → IsLegal size c h → (v : Job C) → Has v (now c h).jobs → pages_held v ≡ chained_of v + (one_for v.lent + (v.handed - v.back))
+held_apart {C} size c h l v has =
+    let k = known c h v has in
+    apart_by v v.ended (is_received v) v.lent (v.handed == v.back) refl refl refl refl k.held (subst (λ (u : Job C). Apart u) (sym k.is) (apart size c h l k.opening))
+
+-- the pages of all jobs that are at printers
+
+abbrev outs : {C : Type 0} → List (Event C) → ℕ → ℕ
+outs h j = handed_at h j - back_of h j
+
+abbrev out_of : {C : Type 0} → List (Event C) → ℕ → ℕ
+out_of h p = one_for (is_some (out_at h p))
+
+out_if_held : {C : Type 0} (v : Job C) (b : Bool) → is_held v ≡ b → cond (is_held v) (v.handed - v.back) 0 ≡ v.handed - v.back
+out_if_held v true e = rw e refl
+out_if_held v false e = elim (test v.handed v.back) [
+  | inl s ↦ (let same : v.handed ≡ v.back = s.0 in rw e (omega arith))
+  | inr s ↦ absurd (clash false (sym (or_false v.lent true (rw s.1 at (or_false (not v.ended) (has_page_out v) e).1)).1) refl)
+]
+
+outs_of_jobs : {C : Type 0} (size : C → ℕ) (c : Setup) (h : List (Event C)) → IsLegal size c h → sum_by (λ (v : Job C). v.handed - v.back) (now c h).jobs ≡ sum_by (outs h) (up_to (length (openings h)))
+outs_of_jobs {C} size c h l =
+    sum_filter (λ (v : Job C). v.handed - v.back) is_held (map (job_of h) (openings h))
+    ∙ (sum_map (λ (v : Job C). cond (is_held v) (v.handed - v.back) 0) (job_of h) (openings h)
+    ∙ (sum_same (λ (o : Opening). cond (is_held (job_of h o)) ((job_of h o).handed - (job_of h o).back) 0) (λ (o : Opening). outs h o.job) (openings h) (λ o. out_if_held (job_of h o) (is_held (job_of h o)) refl)
+    ∙ numbers size c h l (outs h)))
+
+-- they are as many as the printers at which one is
+
+abbrev Balanced : {C : Type 0} → Setup → List (Event C) → Type 0
+Balanced c h = sum_by (outs h) (up_to (length (openings h))) ≡ sum_by (out_of h) (up_to (printer_count c))
+
+abbrev Positive : {C : Type 0} → List (Event C) → Type 0
+Positive h = (o : Opening) → Has o (openings h) → 1 ≤ o.job
+
+positive_act : {C : Type 0} (h : List (Event C)) (k : ℕ) (act : Act C) → opening_by k act ≡ [] → Positive h → Positive (OfJob k act ∷ h)
+positive_act h k act none p o has = p o (subst (λ (l : List Opening). Has o l) (ap (λ (l : List Opening). openings h ++ l) none ∙ append-nil (openings h)) has)
+
+-- the numbers of jobs are at least 1
+positive : {C : Type 0} (size : C → ℕ) (c : Setup) (h : List (Event C)) → IsLegal size c h → Positive h
+positive size c [] l = λ o has. absurd has
+positive size c (OfJob k (Opened s q) ∷ h) l = λ o has. elim (has_last o (openings h) (record { job = k; sender = s; queue = q }) has) [
+  | inl t ↦ positive size c h l.1 o t
+  | inr e ↦ let j : k ≡ o.job = ap (λ (x : Opening). x.job) e in let n = l.0.4 in omega arith
+]
+positive size c (OfJob k Granted ∷ h) l = positive_act h k Granted refl (positive size c h l.1)
+positive size c (OfJob k (Began name count) ∷ h) l = positive_act h k (Began name count) refl (positive size c h l.1)
+positive size c (OfJob k (Put file number page) ∷ h) l = positive_act h k (Put file number page) refl (positive size c h l.1)
+positive size c (OfJob k (FileEnded file whole) ∷ h) l = positive_act h k (FileEnded file whole) refl (positive size c h l.1)
+positive size c (OfJob k (Controlled control whole) ∷ h) l = positive_act h k (Controlled control whole) refl (positive size c h l.1)
+positive size c (OfJob k Aborted ∷ h) l = positive_act h k Aborted refl (positive size c h l.1)
+positive size c (AtPrinter p sheet turn ∷ h) l = positive size c h l.1
+positive size c (Removed q jobs ∷ h) l = positive size c h l.1
+positive size c (Started q ∷ h) l = positive size c h l.1
+positive size c (Closed ∷ h) l = positive size c h l.1
+
+balanced_act : {C : Type 0} (c : Setup) (h : List (Event C)) (k : ℕ) (act : Act C) → opening_by k act ≡ [] → Balanced c h → Balanced c (OfJob k act ∷ h)
+balanced_act {C} c h k act none b =
+    ap (λ (l : List Opening). sum_by (outs h) (up_to (length (openings h ++ l)))) none
+    ∙ (ap (λ (l : List Opening). sum_by (outs h) (up_to (length l))) (append-nil (openings h)) ∙ b)
+
+balanced_opened : {C : Type 0} (c : Setup) (h : List (Event C)) (k s q : ℕ) → Facts h → Balanced c h → Balanced c (OfJob k (Opened s q) ∷ h)
+balanced_opened {C} c h k s q f b =
+    let n = length (openings h) in
+    let new = f.fresh (suc n) (omega arith) in
+    let none = ap length new.handed in
+    let u : sum_by (outs h) (up_to (length (openings h ++ record { job = k; sender = s; queue = q } ∷ []))) ≡ sum_by (outs h) (up_to n ++ suc n ∷ []) =
+    ap (λ (i : ℕ). sum_by (outs h) (up_to i)) (length_push (openings h) (record { job = k; sender = s; queue = q }) ∙ next n) in
+    let p = sum_by_push (outs h) (up_to n) (suc n) in
+    u ∙ omega arith
+  where
+    next : (n : ℕ) → n + 1 ≡ suc n
+    next n = omega arith
+
+out_other : {C : Type 0} (h : List (Event C)) (p : ℕ) (sheet : Sheet C) (turn : Turn) (q : ℕ) → q ≢ p → out_of (AtPrinter p sheet turn ∷ h) q ≡ out_of h q
+out_other {C} h p sheet turn q ne = ap (λ (o : Option (Sheet C)). one_for (is_some o)) (out_there h p sheet turn q (λ e. ne (sym e)))
+
+handed_out : {C : Type 0} (h : List (Event C)) (p : ℕ) (sheet : Sheet C) → out_at (AtPrinter p sheet Handed ∷ h) p ≡ Some sheet
+handed_out h p sheet = elim (test p p) [ inl s ↦ rw s.1 refl | inr s ↦ absurd (s.0 refl) ]
+
+balanced_handed : {C : Type 0} (c : Setup) (h : List (Event C)) (p : ℕ) (sheet : Sheet C) → Facts h → Positive h → 1 ≤ p → p ≤ printer_count c → Turn' h p sheet → Balanced c h → Balanced c (AtPrinter p sheet Handed ∷ h)
+balanced_handed {C} c h p sheet f pos one le t b =
+    let e : Event C = AtPrinter p sheet Handed in
+    let o : Opening = record { job = sheet.job; sender = t.at.sender; queue = t.at.queue } in
+    let first : 1 ≤ sheet.job = pos o t.at.there in
+    let last : sheet.job ≤ length (openings h) = f.numbers o t.at.there in
+    let here = handed_now h p sheet f t in
+    let n = count_one h p sheet sheet.job refl in
+    let d = back_same h p sheet sheet.job in
+    let jobs = up_once (outs h) (outs (e ∷ h)) sheet.job (length (openings h)) first last (λ j ne. (
+    let m = count_more h p sheet j (λ s. ne (sym s)) in
+    let k = back_same h p sheet j in
+    omega arith)) (omega arith) in
+    let was : out_of h p ≡ 0 = ap (λ (x : Option (Sheet C)). one_for (is_some x)) t.idle in
+    let is : out_of (e ∷ h) p ≡ 1 = ap (λ (x : Option (Sheet C)). one_for (is_some x)) (handed_out h p sheet) in
+    let printers = up_once (out_of h) (out_of (e ∷ h)) p (printer_count c) one le (λ q ne. out_other h p sheet Handed q ne) (omega arith) in
+    omega arith
+
+balanced_back : {C : Type 0} (c : Setup) (h : List (Event C)) (p : ℕ) (sheet : Sheet C) (turn : Turn) → is_handed turn ≡ false → Facts h → 1 ≤ sheet.job → 1 ≤ p → p ≤ printer_count c → out_at h p ≡ Some sheet → Balanced c h → Balanced c (AtPrinter p sheet turn ∷ h)
+balanced_back {C} c h p sheet turn back f first one le out b =
+    let e : Event C = AtPrinter p sheet turn in
+    let x = (f.out p sheet out).1 in
+    let last = handed_number h sheet.job f (omega arith) in
+    let n = ap length (handed_same h p sheet turn sheet.job back) in
+    let d = back_one h p sheet turn sheet.job back refl in
+    let jobs = up_once (outs (e ∷ h)) (outs h) sheet.job (length (openings h)) first last (λ j ne. (
+    let m = ap length (handed_same h p sheet turn j back) in
+    let k = back_more h p sheet turn j (λ s. ne (sym s)) in
+    omega arith)) (omega arith) in
+    let was : out_of h p ≡ 1 = ap (λ (x : Option (Sheet C)). one_for (is_some x)) out in
+    let is : out_of (e ∷ h) p ≡ 0 = ap (λ (x : Option (Sheet C)). one_for (is_some x)) (out_here h p sheet turn p back refl) in
+    let printers = up_once (out_of (e ∷ h)) (out_of h) p (printer_count c) one le (λ q ne. sym (out_other h p sheet turn q ne)) (omega arith) in
+    omega arith
+
+-- a job of which a page is out has a number from 1 on
+first_of : {C : Type 0} (size : C → ℕ) (c : Setup) (h : List (Event C)) (j : ℕ) → IsLegal size c h → 0 < handed_at h j → 1 ≤ j
+first_of size c h j l out =
+    let o = accepted size c h l j out in
+    let e = o.2 in
+    let p = positive size c h l o.0 o.1 in
+    omega arith
+
+came_back : {C : Type 0} (size : C → ℕ) (c : Setup) (h : List (Event C)) (p : ℕ) (sheet : Sheet C) (turn : Turn) → is_handed turn ≡ false → IsLegal size c h → 1 ≤ p → p ≤ printer_count c → out_at h p ≡ Some sheet → Balanced c h → Balanced c (AtPrinter p sheet turn ∷ h)
+came_back size c h p sheet turn back l one le out b =
+    let f = facts size c h l in
+    let x = (f.out p sheet out).1 in
+    balanced_back c h p sheet turn back f (first_of size c h sheet.job l (omega arith)) one le out b
+
+balanced : {C : Type 0} (size : C → ℕ) (c : Setup) (h : List (Event C)) → IsLegal size c h → Balanced c h
+balanced {C} size c [] l = sym (up_none (out_of (no_events C)) (printer_count c) (λ p. refl))
+balanced size c (OfJob k (Opened s q) ∷ h) l = balanced_opened c h k s q (facts size c h l.1) (balanced size c h l.1)
+balanced size c (OfJob k Granted ∷ h) l = balanced_act c h k Granted refl (balanced size c h l.1)
+balanced size c (OfJob k (Began name count) ∷ h) l = balanced_act c h k (Began name count) refl (balanced size c h l.1)
+balanced size c (OfJob k (Put file number page) ∷ h) l = balanced_act c h k (Put file number page) refl (balanced size c h l.1)
+balanced size c (OfJob k (FileEnded file whole) ∷ h) l = balanced_act c h k (FileEnded file whole) refl (balanced size c h l.1)
+balanced size c (OfJob k (Controlled control whole) ∷ h) l = balanced_act c h k (Controlled control whole) refl (balanced size c h l.1)
+balanced size c (OfJob k Aborted ∷ h) l = balanced_act c h k Aborted refl (balanced size c h l.1)
+balanced size c (AtPrinter p sheet Handed ∷ h) l =
+    balanced_handed c h p sheet (facts size c h l.1) (positive size c h l.1) l.0.0.0 l.0.0.1 (turn_of_page c h p sheet l.0.0.0 l.0.0.1 l.0.1) (balanced size c h l.1)
+balanced size c (AtPrinter p sheet (Printed x) ∷ h) l = came_back size c h p sheet (Printed x) refl l.1 l.0.0.0 l.0.0.1 (is_out c h p sheet l.0.0 l.0.1.0) (balanced size c h l.1)
+balanced size c (AtPrinter p sheet Failed ∷ h) l = came_back size c h p sheet Failed refl l.1 l.0.0.0 l.0.0.1 (is_out c h p sheet l.0.0 l.0.1) (balanced size c h l.1)
+balanced size c (Removed q jobs ∷ h) l = balanced size c h l.1
+balanced size c (Started q ∷ h) l = balanced size c h l.1
+balanced size c (Closed ∷ h) l = balanced size c h l.1
+
+pub each_has_a_place : {C : Type 0} (size : C → ℕ) (c : Setup) (h : List (Event C)) → IsLegal size c h
+    → chained (now c h) + lent (now c h) + at_printers (now c h) + free_pages (now c h) ≡ c.pages
+each_has_a_place {C} size c h l =
+    let jobs = (now c h).jobs in
+    let parts = sum_parts (λ (v : Job C). pages_held v) (λ (v : Job C). chained_of v) (λ (v : Job C). one_for v.lent) (λ (v : Job C). v.handed - v.back) jobs (held_apart size c h l) in
+    let out = outs_of_jobs size c h l in
+    let same = balanced size c h l in
+    let printers : at_printers (now c h) ≡ sum_by (out_of h) (up_to (printer_count c)) = sum_map (λ (p : Printer C). one_for (is_some p.out)) (printer_of c h) (up_to (printer_count c)) in
+    let all = (pages_add_up size c h l).all in
+    omega arith
