@@ -2,6 +2,7 @@
 
 use crate::run::run_input;
 use std::alloc::{AllocError, Global};
+use std::process::Abort;
 use std::test::Fail;
 
 const CONFIG: &str =
@@ -31,15 +32,21 @@ fn run(alloc: Global, input: &str) -> Outcome {
     }
 }
 
-/// A script that connects and sends these octets, in pieces of so many octets.
-fn sending(alloc: Global, octets: &[u8], piece: usize) -> Result<String, AllocError> {
-    let mut script = format!(in alloc; "{CONFIG}%%\nconnect h1\n")?;
+/// Puts lines behind a script that send these octets, in pieces of so many octets.
+fn send(alloc: Global, script: &mut String, octets: &[u8], piece: usize) -> Result<(), AllocError> {
     for part in octets.chunks(piece.max(1)) {
         let digits = hex::encode(alloc, part)?;
         script.push_str("send 1 ")?;
         script.push_str(digits.as_str())?;
         script.push_str("\n")?;
     }
+    Ok(())
+}
+
+/// A script that connects and sends these octets, in pieces of so many octets.
+fn sending(alloc: Global, octets: &[u8], piece: usize) -> Result<String, AllocError> {
+    let mut script = format!(in alloc; "{CONFIG}%%\nconnect h1\n")?;
+    send(alloc, &mut script, octets, piece)?;
     Ok(script)
 }
 
@@ -223,7 +230,7 @@ fn written(alloc: Global, output: &[u8]) -> Result<String, AllocError> {
     for line in text.lines() {
         if let Some(rest) = line.strip_prefix("1: ") {
             let word = rest.split(' ').next().unwrap_or("-");
-            if word != "-" {
+            if word != "-" && word != "gone" {
                 digits.push_str(word)?;
             }
         }
@@ -266,6 +273,73 @@ fn sessions_are_the_same_in_any_two_pieces(rt: HostRuntime) -> Result<(), Fail> 
             );
         }
     }
+    Ok(())
+}
+
+/// The octets, whole and octet by octet, are answered so.
+fn is_answered_so(
+    rt: &impl Abort,
+    alloc: Global,
+    octets: &[u8],
+    answers: &str,
+) -> Result<(), AllocError> {
+    for piece in [octets.len(), 1] {
+        let script = sending(alloc, octets, piece)?;
+        let came = run(alloc, script.as_str());
+        let digits = written(alloc, came.output.as_slice())?;
+        assert_eq!(rt; digits.as_str(), answers, "in pieces of {piece}");
+    }
+    Ok(())
+}
+
+#[test]
+fn sessions_are_the_same_octet_by_octet(rt: HostRuntime) -> Result<(), Fail> {
+    let alloc = rt.alloc();
+    let rows: [(&[u8], &str); 8] = [
+        (STREAM, "0000000000"),
+        (CONTROL_FIRST, "0000000000"),
+        (ABORTED, "0000000000000000"),
+        (b"\x02lp\n\x0325 dfA001h1\n", "0001"),
+        (b"\x02lp\n\x0324 dfA001h1\n", "0000"),
+        (b"\x02lp\n\x030 dfA001h1\n", "0001"),
+        (b"\x02lp\n\x0311 dfA001h1\nhello world\x01\x00", "000001"),
+        (&STREAM[..26], "0000"),
+    ];
+    for (octets, answers) in rows {
+        is_answered_so(&rt, alloc, octets, answers)?;
+    }
+    Ok(())
+}
+
+/// A line of 1,023 octets is taken, and one of 1,024 is refused before its end came.
+#[test]
+fn the_longest_line_is_taken(rt: HostRuntime) -> Result<(), Fail> {
+    let alloc = rt.alloc();
+    let mut line = Vec::from_slice(alloc, b"\x02lp")?;
+    line.extend_from_slice(&[b' '; 1020])?;
+    line.push(b'\n')?;
+    is_answered_so(&rt, alloc, line.as_slice(), "00")?;
+    line.clear();
+    line.extend_from_slice(b"\x02lp")?;
+    line.extend_from_slice(&[b' '; 1021])?;
+    is_answered_so(&rt, alloc, line.as_slice(), "01")?;
+    Ok(())
+}
+
+/// Two jobs on one connection, octet by octet, the first of which is printed before the second comes.
+#[test]
+fn two_jobs_octet_by_octet(rt: HostRuntime) -> Result<(), Fail> {
+    let alloc = rt.alloc();
+    let second = b"\x038 dfA002h1\nabcdefgh\x00\x0219 cfA002h1\nHh1\nPann\nfdfA002h1\n\x00";
+    let mut script = sending(alloc, STREAM, 1)?;
+    script.push_str("next 1\nprinted 1\nnext 1\nprinted 1\n")?;
+    send(alloc, &mut script, second, 1)?;
+    script.push_str("next 1\nprinted 1\nfree\n")?;
+    let came = run(alloc, script.as_str());
+    let digits = written(alloc, came.output.as_slice())?;
+    assert_eq!(rt; digits.as_str(), "000000000000000000");
+    let printed = "printer 1: job 2 place 0 6162636465666768\nprinter 1: done\nfree 4\n";
+    assert!(rt; came.output.as_slice().ends_with(printed.as_bytes()));
     Ok(())
 }
 
