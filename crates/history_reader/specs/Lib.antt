@@ -1,0 +1,3 @@
+pub mod Seen
+pub mod Claimed
+pub mod Asked
