@@ -30,7 +30,11 @@ fn commands_agree(rt: &impl Abort, alloc: Global, line: &[u8]) -> Result<(), All
         (Err(refusal), Err(plain)) => assert_eq!(rt; refusal, plain, "the command line {line:?}"),
         (read, plain) => {
             let (read, plain) = (command_shown(alloc, read)?, command_shown(alloc, plain)?);
-            assert_eq!(rt; read.as_slice(), plain.as_slice(), "the command line {line:?}");
+            assert_eq!(rt;
+                read.as_slice(),
+                plain.as_slice(),
+                "the command line {line:?}"
+            );
         }
     }
     Ok(())
@@ -39,10 +43,18 @@ fn commands_agree(rt: &impl Abort, alloc: Global, line: &[u8]) -> Result<(), All
 /// Both readers read the line alike as a subcommand.
 fn subs_agree(rt: &impl Abort, alloc: Global, line: &[u8]) -> Result<(), AllocError> {
     match (parse_sub(line), plain_sub(alloc, line)) {
-        (Err(refusal), Err(plain)) => assert_eq!(rt; refusal, plain, "the subcommand line {line:?}"),
+        (Err(refusal), Err(plain)) => assert_eq!(rt;
+            refusal,
+            plain,
+            "the subcommand line {line:?}"
+        ),
         (read, plain) => {
             let (read, plain) = (sub_shown(alloc, read)?, sub_shown(alloc, plain)?);
-            assert_eq!(rt; read.as_slice(), plain.as_slice(), "the subcommand line {line:?}");
+            assert_eq!(rt;
+                read.as_slice(),
+                plain.as_slice(),
+                "the subcommand line {line:?}"
+            );
         }
     }
     Ok(())
@@ -131,7 +143,12 @@ fn subcommands_by_table(rt: HostRuntime) -> Result<(), Fail> {
         (b"\x0311 dfA001h1", 0, 0, b"\x0311 dfA001h1\n"),
         (b"\x02007\t cfz999 ", 0, 0, b"\x027 cfz999\n"),
         (b"\x020 cfA001h1", 0, 0, b"\x020 cfA001h1\n"),
-        (b"\x039999999999999999999 dfA001", 0, 0, b"\x039999999999999999999 dfA001\n"),
+        (
+            b"\x039999999999999999999 dfA001",
+            0,
+            0,
+            b"\x039999999999999999999 dfA001\n",
+        ),
         (b"", 0, 0, &[0, 30]),
         (b"\x04", 0, 0, &[0, 30]),
         (b"\x01x", 0, 0, &[0, 31]),
