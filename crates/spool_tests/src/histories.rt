@@ -2,7 +2,7 @@
 
 use control_file::Control;
 use history_reader::{
-    Act, Event, Next, Outline, Progress, Queue, Setup, Sheet, Turn, free_pages, is_legal,
+    Act, Event, Next, Outline, Progress, Queue, Setup, Sheet, State, Turn, free_pages, is_legal,
     is_safe_now, may, next_page, now, removal_text, state_text,
 };
 use lpd_commands::{FileName, Octets, Refusal};
@@ -115,14 +115,17 @@ fn receive_short(
     Ok(())
 }
 
-/// A digit for a number of pages, of which there are at most four.
-fn digit(pages: u64) -> u8 {
-    match pages {
+/// A digit for a number of at most seven.
+fn digit(number: u64) -> u8 {
+    match number {
         0 => b'0',
         1 => b'1',
         2 => b'2',
         3 => b'3',
         4 => b'4',
+        5 => b'5',
+        6 => b'6',
+        7 => b'7',
         _ => b'x',
     }
 }
@@ -140,32 +143,47 @@ fn letter(next: Next) -> u8 {
     }
 }
 
-/// After each event, the oldest first, the history is legal, and this is free and this is next; before the first event
-/// four pages are free.
+/// Which of the first three jobs may be lent a page: 1, 2 and 4 for them, added up, as a digit.
+fn lendable(alloc: Global, setup: &Setup, state: &State) -> Result<u8, AllocError> {
+    let mut sum = 0u64;
+    for (number, weight) in [(1, 1), (2, 2), (3, 4)] {
+        if may(alloc, setup, state, &Event::OfJob(number, Act::Granted))? {
+            sum = sum.saturating_add(weight);
+        }
+    }
+    Ok(digit(sum))
+}
+
+/// After each event, the oldest first, the history is legal and safe, and this is free, this is next, and these jobs may
+/// be lent a page.
 fn is_read_so(
     rt: &impl Abort,
     alloc: Global,
     setup: &Setup,
     mut events: Vec<Event>,
-    free: &[u8],
-    next: &[u8],
+    want: (&[u8], &[u8], &[u8]),
 ) -> Result<(), AllocError> {
+    let (free, next, lent) = want;
     events.reverse();
     let history = events.as_slice();
     let mut frees = Vec::new(alloc);
     let mut nexts = Vec::new(alloc);
+    let mut lents = Vec::new(alloc);
     for newer in 0..history.len() {
         let rest = &history[newer..];
         let state = now(alloc, setup, rest)?;
         frees.push(digit(free_pages(alloc, setup, &state)?))?;
         nexts.push(letter(next_page(alloc, setup, &state, 1)?))?;
+        lents.push(lendable(alloc, setup, &state)?)?;
         assert!(rt; is_legal(alloc, setup, rest)?, "it is not legal");
         assert!(rt; is_safe_now(alloc, setup, &state)?, "it is not safe");
     }
     frees.reverse();
     nexts.reverse();
+    lents.reverse();
     assert_eq!(rt; frees.as_slice(), free, "what is free");
     assert_eq!(rt; nexts.as_slice(), next, "what is next");
+    assert_eq!(rt; lents.as_slice(), lent, "who may be lent a page");
     Ok(())
 }
 
@@ -185,8 +203,7 @@ fn one_job(rt: HostRuntime) -> Result<(), Fail> {
         alloc,
         &setup,
         events,
-        b"4433222223344",
-        b"-------0b1b-o",
+        (b"4433222223344", b"-------0b1b-o", b"0101010000000"),
     )?;
     Ok(())
 }
@@ -210,8 +227,11 @@ fn two_jobs_of_one_sender(rt: HostRuntime) -> Result<(), Fail> {
         alloc,
         &setup,
         events,
-        b"44332222221111122334",
-        b"-------0000000b1b2b-",
+        (
+            b"44332222221111122334",
+            b"-------0000000b1b2b-",
+            b"01010100020200000000",
+        ),
     )?;
     Ok(())
 }
@@ -225,7 +245,13 @@ fn an_aborted_job(rt: HostRuntime) -> Result<(), Fail> {
     events.push(Event::OfJob(1, Act::Granted))?;
     events.push(Event::OfJob(1, Act::Aborted))?;
     let setup = small(alloc, 1000)?;
-    is_read_so(&rt, alloc, &setup, events, b"443324", b"------")?;
+    is_read_so(
+        &rt,
+        alloc,
+        &setup,
+        events,
+        (b"443324", b"------", b"010100"),
+    )?;
     Ok(())
 }
 
@@ -247,8 +273,11 @@ fn a_removed_job(rt: HostRuntime) -> Result<(), Fail> {
         alloc,
         &setup,
         events,
-        b"44332222221111123",
-        b"-------0000000bb2",
+        (
+            b"44332222221111123",
+            b"-------0000000bb2",
+            b"01010100020200000",
+        ),
     )?;
     Ok(())
 }
@@ -263,7 +292,13 @@ fn a_failed_page(rt: HostRuntime) -> Result<(), Fail> {
     events.push(at_printer(sheet(1, 0, 8), Turn::Failed))?;
     events.push(Event::Started(1))?;
     let setup = small(alloc, 1000)?;
-    is_read_so(&rt, alloc, &setup, events, b"44332222244", b"-------0bs-")?;
+    is_read_so(
+        &rt,
+        alloc,
+        &setup,
+        events,
+        (b"44332222244", b"-------0bs-", b"01010100000"),
+    )?;
     Ok(())
 }
 
@@ -285,8 +320,11 @@ fn a_closed_spool(rt: HostRuntime) -> Result<(), Fail> {
         alloc,
         &setup,
         events,
-        b"4433333332222221134",
-        b"-----0bbbbbbbbbbboo",
+        (
+            b"4433333332222221134",
+            b"-----0bbbbbbbbbbboo",
+            b"0101000020200040400",
+        ),
     )?;
     Ok(())
 }
@@ -304,7 +342,13 @@ fn claims_that_meet(rt: HostRuntime) -> Result<(), Fail> {
     send_page(&mut events, 2, 1, 8)?;
     events.push(Event::OfJob(2, Act::Granted))?;
     let setup = small(alloc, 1000)?;
-    is_read_so(&rt, alloc, &setup, events, b"44333322110", b"-----------")?;
+    is_read_so(
+        &rt,
+        alloc,
+        &setup,
+        events,
+        (b"44333322110", b"-----------", b"01011313020"),
+    )?;
     Ok(())
 }
 
