@@ -29,7 +29,9 @@ impl fmt::Display for Ladder {
 /// So many of the one kind.
 fn pages(alloc: Global, amount: u32) -> Result<Counts, AllocError> {
     let mut counts = Counts::zero(alloc, 1)?;
-    counts.set(PAGES, amount);
+    if PAGES < counts.kinds() {
+        counts.set(PAGES, amount);
+    }
     Ok(counts)
 }
 
