@@ -3,7 +3,7 @@
 use std::alloc::{AllocError, Global};
 
 /// What a line of a script asks for. Sessions and printers have their numbers from 1.
-#[derive(Debug, Drop)]
+#[derive(Drop)]
 pub enum ScriptLine {
     /// An empty line, or a comment.
     Nothing,
@@ -24,7 +24,7 @@ pub enum ScriptLine {
 }
 
 /// Why a line wasn't read.
-#[derive(Clone, Copy, Debug, PartialEq, Eq)]
+#[derive(Clone, Copy)]
 pub enum LineFault {
     /// It is no line of a script.
     Bad,

@@ -14,7 +14,7 @@ use spool_core::{AbortRefused, Asked, Core, JobNumber, PutRefused, Receipt};
 use std::alloc::{AllocError, Global};
 
 /// What a turn of a session came to.
-#[derive(Clone, Copy, Debug, PartialEq, Eq)]
+#[derive(Clone, Copy)]
 pub enum Turn {
     /// It goes on.
     Went,

@@ -8,14 +8,14 @@ use spool_core::{Config, Core, Foreign, HandedPage, Next, Printed};
 use std::alloc::{AllocError, AllocFailed, Global};
 
 /// What a session wrote, and why it stopped.
-#[derive(Debug, Drop)]
+#[derive(Drop)]
 pub struct Wrote {
     pub octets: Vec<u8>,
     pub stop: Stop,
 }
 
 /// Why a session stopped.
-#[derive(Clone, Copy, Debug, PartialEq, Eq)]
+#[derive(Clone, Copy)]
 pub enum Stop {
     /// It waits for octets.
     Waiting,
@@ -26,7 +26,7 @@ pub enum Stop {
 }
 
 /// What a printer was told.
-#[derive(Clone, Copy, Debug, PartialEq, Eq)]
+#[derive(Clone, Copy)]
 pub enum Told {
     /// It has the next page.
     Handed,
