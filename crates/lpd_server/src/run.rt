@@ -7,7 +7,7 @@ use crate::script::{LineFault, ScriptLine, parse_line};
 use crate::world::{Stop, Told, World, Wrote};
 use spool_core::Printed;
 use std::alloc::Global;
-use std::io::{Read, Write};
+use std::io::{ErrorKind, Read, Write};
 
 /// Reads a configuration, a line `%%` and a script from the input, and runs the script.
 ///
@@ -42,18 +42,14 @@ fn run_all<R: Read, W: Write>(alloc: Global, input: &mut R, output: &mut W) -> R
     Ok(())
 }
 
-/// All octets of the input, by at most 4,294,967,295 reads.
+/// All octets of the input.
 fn read_all<R: Read>(alloc: Global, input: &mut R) -> Result<Vec<u8>, Fault> {
     let mut all = Vec::new(alloc);
-    let mut buffer = [0u8; 4096];
-    for _ in 0..u32::MAX {
-        match input.read(&mut buffer) {
-            Ok(0) => return Ok(all),
-            Ok(count) => all.extend_from_slice(&buffer[..count])?,
-            Err(_) => return Err(Fault::ReadFile),
-        }
+    match input.read_to_end(&mut all) {
+        Ok(_) => Ok(all),
+        Err(error) if error.kind() == ErrorKind::OutOfMemory => Err(Fault::Memory),
+        Err(_) => Err(Fault::ReadFile),
     }
-    Err(Fault::ReadFile)
 }
 
 /// Where the line that begins at `start` ends: at its LF, or with the text.

@@ -76,7 +76,7 @@ fn is_host(word: &str) -> bool {
     let octets = word.as_bytes();
     !octets.is_empty()
         && octets.len() <= 64
-        && octets.iter().all(|octet| *octet >= 0x21 && *octet <= 0x7e)
+        && octets.iter().all(|octet| octet.is_ascii_graphic())
 }
 
 /// A decimal number of 1 to 9 digits. 0 names nothing.

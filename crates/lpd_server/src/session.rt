@@ -199,7 +199,10 @@ impl Session {
 
     /// Whether the session isn't over.
     pub fn is_open(&self) -> bool {
-        self.receiver.is_some()
+        match &self.receiver {
+            Some(_) => true,
+            None => false,
+        }
     }
 
     /// Octets arrive.
