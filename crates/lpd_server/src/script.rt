@@ -74,9 +74,7 @@ pub fn parse_line(alloc: Global, line: &[u8]) -> Result<ScriptLine, LineFault> {
 /// Whether a word may name a host: 1 to 64 octets, each from 21 to 7E in hexadecimal.
 fn is_host(word: &str) -> bool {
     let octets = word.as_bytes();
-    !octets.is_empty()
-        && octets.len() <= 64
-        && octets.iter().all(|octet| octet.is_ascii_graphic())
+    !octets.is_empty() && octets.len() <= 64 && octets.iter().all(|octet| octet.is_ascii_graphic())
 }
 
 /// A decimal number of 1 to 9 digits. 0 names nothing.

@@ -1,19 +1,43 @@
-use claims::{OpenError, Table};
+//! The claims of jobs and the decision whether all can finish: by table, and compared with a trial of all orders.
+
+ghost use Rattle.std.specs.Prelude.{◌<◌};
+
+use crate::rows::{expect, sides};
+use claims::{OpenError, Row, Table};
 use counts::{Counts, TooLarge};
-use ordered_safety::{Order, PAGES, Scratch, check_order, find_order, is_safe, safe_after_page};
-use std::alloc::Global;
+use ordered_safety::{
+    Order, PAGES, Scratch, Verdict, check_order, find_order, is_safe, safe_after_page,
+};
+use std::alloc::{AllocError, Global};
 use std::process::Abort;
 use std::test::Fail;
 
-/// A row as a test writes it.
-#[derive(Clone, Copy, Debug)]
+/// What a job claims of two kinds, the first of which is pages.
+#[derive(Clone, Copy)]
 struct Claim {
     sender: u32,
     held: [u32; 2],
     need: [u32; 2],
 }
 
-fn counts(alloc: Global, amounts: [u32; 2]) -> Result<Counts, Fail> {
+/// The number at a place of a text, or 0 where there is none.
+fn number(text: &str, place: usize) -> u32 {
+    match text.split_whitespace().nth(place) {
+        Some(word) => word.parse().unwrap_or(0),
+        None => 0,
+    }
+}
+
+/// The claim that a test writes as `sender held held need need`.
+fn read_claim(text: &str) -> Claim {
+    Claim {
+        sender: number(text, 0),
+        held: [number(text, 1), number(text, 2)],
+        need: [number(text, 3), number(text, 4)],
+    }
+}
+
+fn counts(alloc: Global, amounts: [u32; 2]) -> Result<Counts, AllocError> {
     let mut made = Counts::zero(alloc, 2)?;
     if made.kinds() == 2 {
         made.set(0, amounts[0]);
@@ -22,305 +46,350 @@ fn counts(alloc: Global, amounts: [u32; 2]) -> Result<Counts, Fail> {
     Ok(made)
 }
 
-/// Adds a row with the greatest number, if memory allows.
-fn open(table: &mut Table, sender: u32, need: &Counts) -> Result<(), Fail> {
-    let number = (table.len() as u64).saturating_add(1);
-    let fresh = table.rows().iter().all(|row| row.number < number);
-    if !fresh || need.kinds() != table.capacity().kinds() {
-        return Err("no number is left")?;
-    }
-    table.open_row(number, sender, 0, need)?;
-    Ok(())
-}
-
-/// Grants one of a kind, where that may be asked.
-fn grant(table: &mut Table, row: usize, kind: usize) -> Result<(), Fail> {
-    if row >= table.len() || kind >= table.capacity().kinds() {
-        return Err("no such row or kind")?;
-    }
-    let free = table.free().get(kind);
-    let need = table.rows()[row].need.get(kind);
-    if free == 0 || need == 0 {
-        return Err("nothing to grant")?;
-    }
-    table.grant(row, kind);
-    Ok(())
-}
-
-/// Takes so many of a kind back, where the row holds them.
-fn give_back(table: &mut Table, row: usize, kind: usize, n: u32) -> Result<(), Fail> {
-    if row >= table.len() || kind >= table.capacity().kinds() {
-        return Err("no such row or kind")?;
-    }
-    if table.rows()[row].held.get(kind) < n {
-        return Err("not held")?;
-    }
-    table.give_back(row, kind, n);
-    Ok(())
-}
-
-/// Ends a row's need of a kind.
-fn end_need(table: &mut Table, row: usize, kind: usize) -> Result<(), Fail> {
-    if row >= table.len() || kind >= table.capacity().kinds() {
-        return Err("no such row or kind")?;
-    }
-    table.need_ends(row, kind);
-    Ok(())
-}
-
-/// Closes a row that is there.
-fn close(table: &mut Table, row: usize) -> Result<(), Fail> {
-    if row >= table.len() {
-        return Err("no such row")?;
-    }
-    table.close_row(row);
-    Ok(())
-}
-
-/// What the row at a place holds and needs.
-fn amounts(table: &Table, row: usize) -> Result<([u32; 2], [u32; 2]), Fail> {
-    if row >= table.len() || table.capacity().kinds() != 2 {
-        return Err("no such row or kind")?;
-    }
-    let row = &table.rows()[row];
-    let held = [row.held.get(0), row.held.get(1)];
-    Ok((held, [row.need.get(0), row.need.get(1)]))
+fn read_counts(alloc: Global, text: &str) -> Result<Counts, AllocError> {
+    counts(alloc, [number(text, 0), number(text, 1)])
 }
 
 /// Asks for a row with the greatest number.
-fn try_open(table: &mut Table, need: &Counts) -> Result<Result<(), OpenError>, Fail> {
+fn open(table: &mut Table, sender: u32, need: &Counts) -> Result<(), OpenError> {
     let number = (table.len() as u64).saturating_add(1);
     let fresh = table.rows().iter().all(|row| row.number < number);
     if !fresh || need.kinds() != table.capacity().kinds() {
-        return Err("no number is left")?;
+        return Err(OpenError::Full);
     }
-    Ok(table.open_row(number, 1, 0, need))
+    table.open_row(number, sender, 0, need)
 }
 
-/// Asks for a sum of amounts of the same kinds.
-fn try_sum(sum: &mut Counts, more: &Counts) -> Result<Result<(), TooLarge>, Fail> {
-    if sum.kinds() != more.kinds() {
-        return Err("other kinds")?;
+/// Grants one of a kind. False where that may not be asked.
+fn grant(table: &mut Table, row: usize, kind: usize) -> bool {
+    if row >= table.len() || kind >= table.capacity().kinds() {
+        return false;
     }
-    Ok(sum.try_add(more))
+    let granted = table.free().get(kind) > 0 && table.rows()[row].need.get(kind) > 0;
+    if granted {
+        table.grant(row, kind);
+    }
+    granted
 }
 
-/// Takes amounts away that are there.
-fn take_away(sum: &mut Counts, less: &Counts) -> Result<(), Fail> {
-    if sum.kinds() != less.kinds() || !less.le(sum) {
-        return Err("not there")?;
+/// Takes so many of a kind back. False where the row doesn't hold them.
+fn give_back(table: &mut Table, row: usize, kind: usize, n: u32) -> bool {
+    if row >= table.len() || kind >= table.capacity().kinds() {
+        return false;
     }
-    sum.sub(less);
+    let given = n <= table.rows()[row].held.get(kind);
+    if given {
+        table.give_back(row, kind, n);
+    }
+    given
+}
+
+/// Ends a row's need of a kind. False where there is no such row or kind.
+fn end_need(table: &mut Table, row: usize, kind: usize) -> bool {
+    let there = row < table.len() && kind < table.capacity().kinds();
+    if there {
+        table.need_ends(row, kind);
+    }
+    there
+}
+
+/// Closes a row. False where there is none.
+fn close(table: &mut Table, row: usize) -> bool {
+    let there = row < table.len();
+    if there {
+        table.close_row(row);
+    }
+    there
+}
+
+/// Opens a row for the claim, and grants what it holds.
+fn add(alloc: Global, table: &mut Table, claim: Claim) -> Result<(), AllocError> {
+    let [pages, printers] = claim.held;
+    let whole = [
+        pages.saturating_add(claim.need[0]),
+        printers.saturating_add(claim.need[1]),
+    ];
+    let row = table.len();
+    if open(table, claim.sender, &counts(alloc, whole)?).is_ok() {
+        for _ in 0..pages {
+            grant(table, row, 0);
+        }
+        for _ in 0..printers {
+            grant(table, row, 1);
+        }
+    }
     Ok(())
 }
 
-/// A table with these rows, numbered from 1, and so much free.
-fn table_of(alloc: Global, free: [u32; 2], claims: &[Claim]) -> Result<Table, Fail> {
-    let mut capacity = free;
-    for claim in claims {
-        capacity = [
-            capacity[0].saturating_add(claim.held[0]),
-            capacity[1].saturating_add(claim.held[1]),
-        ];
-    }
-    table_within(alloc, capacity, claims)
+/// A table without rows, and with room for eight.
+fn empty_table(alloc: Global, capacity: [u32; 2]) -> Result<Table, AllocError> {
+    let capacity = counts(alloc, capacity)?;
+    Table::new(alloc, &capacity, 8)
 }
 
-/// A table with these rows, numbered from 1, and this capacity.
-fn table_within(alloc: Global, capacity: [u32; 2], claims: &[Claim]) -> Result<Table, Fail> {
-    let mut table = Table::new(alloc, &counts(alloc, capacity)?, 8)?;
-    for claim in claims {
-        let whole = [
-            claim.held[0].saturating_add(claim.need[0]),
-            claim.held[1].saturating_add(claim.need[1]),
-        ];
-        open(&mut table, claim.sender, &counts(alloc, whole)?)?;
-        let row = table.len().saturating_sub(1);
-        for kind in 0..2 {
-            for _ in 0..claim.held[kind] {
-                grant(&mut table, row, kind)?;
-            }
-        }
+/// The table that a test writes as `capacity | claim | claim`, its rows numbered from 1.
+fn read_table(alloc: Global, text: &str) -> Result<Table, AllocError> {
+    let mut parts = text.split(" | ");
+    let capacity = parts.next().unwrap_or("");
+    let mut table = empty_table(alloc, [number(capacity, 0), number(capacity, 1)])?;
+    for claim in parts {
+        add(alloc, &mut table, read_claim(claim))?;
     }
     Ok(table)
 }
 
-fn decided(alloc: Global, table: &Table) -> Result<(bool, u64), Fail> {
-    let mut scratch = Scratch::with_room(alloc, table.len(), table.capacity().kinds())?;
-    let verdict = is_safe(&mut scratch, table);
-    Ok((verdict.safe, verdict.tests))
+/// What is free and what all claims hold, of one kind.
+fn capacity_of(free: [u32; 2], claims: &[Claim], kind: usize) -> u32
+    requires { kind < 2 }
+{
+    let mut capacity = free[kind];
+    for claim in claims {
+        capacity = capacity.saturating_add(claim.held[kind]);
+    }
+    capacity
 }
 
-fn decided_after_page(alloc: Global, table: &Table, row: usize) -> Result<(bool, u64), Fail> {
-    let mut scratch = Scratch::with_room(alloc, table.len(), table.capacity().kinds())?;
-    if row >= table.len() || table.capacity().kinds() == 0 {
-        return Err("no such row")?;
+/// A table with these claims, numbered from 1, and so much free.
+fn table_of(alloc: Global, free: [u32; 2], claims: &[Claim]) -> Result<Table, AllocError> {
+    let capacity = [capacity_of(free, claims, 0), capacity_of(free, claims, 1)];
+    let mut table = empty_table(alloc, capacity)?;
+    for &claim in claims {
+        add(alloc, &mut table, claim)?;
     }
-    if table.free().get(PAGES) == 0 || table.rows()[row].need.get(PAGES) == 0 {
-        return Err("no page to grant")?;
-    }
-    let verdict = safe_after_page(&mut scratch, table, row);
-    Ok((verdict.safe, verdict.tests))
+    Ok(table)
 }
 
-fn checked(alloc: Global, table: &Table, numbers: &[u64]) -> Result<(bool, u64), Fail> {
+fn show_row(text: &mut String, row: &Row) -> Result<(), AllocError> {
+    let (held, need) = (row.held.as_slice(), row.need.as_slice());
+    write!(text, "; {} holds {held:?}, needs {need:?}", row.number)
+}
+
+/// Writes what is free of the capacity, and what each row holds and needs.
+fn show(text: &mut String, table: &Table) -> Result<(), AllocError> {
+    let (free, capacity) = (table.free().as_slice(), table.capacity().as_slice());
+    write!(text, "free {free:?} of {capacity:?}")?;
+    for row in table.rows() {
+        show_row(text, row)?;
+    }
+    write!(text, "\n")
+}
+
+fn decided(alloc: Global, table: &Table) -> Result<Verdict, AllocError> {
     let mut scratch = Scratch::with_room(alloc, table.len(), table.capacity().kinds())?;
+    Ok(is_safe(&mut scratch, table))
+}
+
+/// What is decided on a page for the row. None where it may not be asked.
+fn decided_after_page(
+    alloc: Global,
+    table: &Table,
+    row: usize,
+) -> Result<Option<Verdict>, AllocError> {
+    if row >= table.len()
+        || table.capacity().kinds() == 0
+        || table.free().get(PAGES) == 0
+        || table.rows()[row].need.get(PAGES) == 0
+    {
+        return Ok(None);
+    }
+    let mut scratch = Scratch::with_room(alloc, table.len(), table.capacity().kinds())?;
+    Ok(Some(safe_after_page(&mut scratch, table, row)))
+}
+
+fn checked(alloc: Global, table: &Table, numbers: &[u64]) -> Result<Verdict, AllocError> {
     let order = Order::copy_of(alloc, numbers)?;
-    let verdict = check_order(&mut scratch, table, &order);
-    Ok((verdict.safe, verdict.tests))
+    let mut scratch = Scratch::with_room(alloc, table.len(), table.capacity().kinds())?;
+    Ok(check_order(&mut scratch, table, &order))
 }
 
-fn found(alloc: Global, table: &Table) -> Result<(Option<Order>, u64), Fail> {
+fn found(alloc: Global, table: &Table) -> Result<(Option<Order>, u64), AllocError> {
     let mut scratch = Scratch::with_room(alloc, table.len(), table.capacity().kinds())?;
-    Ok(find_order(alloc, &mut scratch, table)?)
+    find_order(alloc, &mut scratch, table)
 }
 
 /// Two jobs of which the second has to finish first.
-const CROSSED: [Claim; 2] = [
-    Claim {
-        sender: 2,
-        held: [1, 0],
-        need: [2, 1],
-    },
-    Claim {
-        sender: 1,
-        held: [3, 0],
-        need: [0, 1],
-    },
-];
+const CROSSED: &str = "4 1 | 2 1 0 2 1 | 1 3 0 0 1";
 
-#[test]
-fn the_second_finishes_first(rt: HostRuntime) -> Result<(), Fail> {
-    let alloc = rt.alloc();
-    let table = table_within(alloc, [4, 1], &CROSSED)?;
-    assert_eq!(rt; table.free().as_slice(), [0, 1].as_slice());
-    let (order, tests) = found(alloc, &table)?;
-    let order = order.ok_or("no order")?;
-    assert_eq!(rt; order.as_slice(), [2, 1].as_slice());
-    assert_eq!(rt; order.len(), 2);
-    assert_eq!(rt; tests, 3);
-    Ok(())
+/// Tables, and what is free in them, whether they are safe, and a finishing order of so many rows, each with the
+/// comparisons that it took.
+const ORDERS: &str = "
+4 1 | 2 1 0 2 1 | 1 3 0 0 1 => free [0, 1], empty false, true after 3, [2, 1] of 2 after 3
+4 1 => free [4, 1], empty true, true after 0, [] of 0 after 0
+";
+
+fn show_decision(alloc: Global, text: &mut String, table: &Table) -> Result<(), AllocError> {
+    let Verdict { safe, tests } = decided(alloc, table)?;
+    let (free, empty) = (table.free().as_slice(), table.is_empty());
+    write!(text, "free {free:?}, empty {empty}, {safe} after {tests}")
+}
+
+fn show_order(alloc: Global, text: &mut String, table: &Table) -> Result<(), AllocError> {
+    let (order, tests) = found(alloc, table)?;
+    match order {
+        Some(order) => show_numbers(text, &order, tests),
+        None => Ok(()),
+    }
+}
+
+fn show_numbers(text: &mut String, order: &Order, tests: u64) -> Result<(), AllocError> {
+    let (numbers, rows) = (order.as_slice(), order.len());
+    write!(text, ", {numbers:?} of {rows} after {tests}")
+}
+
+fn order_shown(alloc: Global, text: &str) -> Result<String, AllocError> {
+    let table = read_table(alloc, text)?;
+    let mut shown = String::new(alloc);
+    show_decision(alloc, &mut shown, &table)?;
+    show_order(alloc, &mut shown, &table)?;
+    Ok(shown)
 }
 
 #[test]
-fn a_decision_counts_its_comparisons(rt: HostRuntime) -> Result<(), Fail> {
-    let alloc = rt.alloc();
-    let table = table_within(alloc, [4, 1], &CROSSED)?;
-    assert_eq!(rt; decided(alloc, &table)?, (true, 3));
+fn orders_by_table(rt: HostRuntime) -> Result<(), Fail> {
+    for row in ORDERS.trim().lines() {
+        let (asked, wanted) = sides(row);
+        let answer = order_shown(rt.alloc(), asked)?;
+        expect(&rt, asked.as_bytes(), answer.as_bytes(), wanted.as_bytes());
+    }
     Ok(())
 }
 
-/// What `check_order` says of these numbers for the two crossed jobs.
-fn crossed(alloc: Global, numbers: &[u64]) -> Result<(bool, u64), Fail> {
-    let table = table_within(alloc, [4, 1], &CROSSED)?;
-    checked(alloc, &table, numbers)
+/// Numbers of rows, and whether the two crossed jobs finish in this order. It stops at the first that fails, and a list
+/// that is no order of all rows needs no more comparisons.
+const CHECKED: &str = "
+2 1 => true after 2
+1 2 => false after 1
+2 => false after 1
+2 2 => false after 1
+3 2 1 => false after 0
+";
+
+fn read_order(alloc: Global, text: &str) -> Result<Vec<u64>, AllocError> {
+    let mut numbers = Vec::new(alloc);
+    for word in text.split_whitespace() {
+        numbers.push(word.parse().unwrap_or(0))?;
+    }
+    Ok(numbers)
+}
+
+fn check_shown(alloc: Global, text: &str) -> Result<String, AllocError> {
+    let numbers = read_order(alloc, text)?;
+    let table = read_table(alloc, CROSSED)?;
+    let Verdict { safe, tests } = checked(alloc, &table, numbers.as_slice())?;
+    format!(in alloc; "{safe} after {tests}")
 }
 
 #[test]
-fn a_checked_order_stops_at_the_first_that_fails(rt: HostRuntime) -> Result<(), Fail> {
-    let alloc = rt.alloc();
-    assert_eq!(rt; crossed(alloc, &[2, 1])?, (true, 2));
-    assert_eq!(rt; crossed(alloc, &[1, 2])?, (false, 1));
-    assert_eq!(rt; crossed(alloc, &[2])?, (false, 1));
+fn checked_by_table(rt: HostRuntime) -> Result<(), Fail> {
+    for row in CHECKED.trim().lines() {
+        let (asked, wanted) = sides(row);
+        let answer = check_shown(rt.alloc(), asked)?;
+        expect(&rt, asked.as_bytes(), answer.as_bytes(), wanted.as_bytes());
+    }
     Ok(())
 }
 
-#[test]
-fn a_list_that_is_no_order_needs_no_comparison(rt: HostRuntime) -> Result<(), Fail> {
-    let alloc = rt.alloc();
-    assert_eq!(rt; crossed(alloc, &[2, 2])?, (false, 1));
-    assert_eq!(rt; crossed(alloc, &[3, 2, 1])?, (false, 0));
-    Ok(())
-}
+/// Two jobs alike, of one sender and of two. A page for the second is decided on and not granted.
+const AFTER_PAGE: &str = "
+4 1 | 1 1 0 2 1 | 1 1 0 2 1 => false after 1, free [2, 1]
+4 1 | 1 1 0 2 1 | 2 1 0 2 1 => true after 3, free [2, 1]
+";
 
-#[test]
-fn no_rows_are_safe(rt: HostRuntime) -> Result<(), Fail> {
-    let alloc = rt.alloc();
-    let table = table_within(alloc, [4, 1], &[])?;
-    assert!(rt; table.is_empty());
-    assert_eq!(rt; decided(alloc, &table)?, (true, 0));
-    let (order, tests) = found(alloc, &table)?;
-    let order = order.ok_or("no order")?;
-    assert_eq!(rt; order.len(), 0);
-    assert_eq!(rt; tests, 0);
-    Ok(())
-}
-
-/// Two jobs alike, of these senders, and (2, 1) free.
-fn alike(alloc: Global, first: u32, second: u32) -> Result<Table, Fail> {
-    let claim = Claim {
-        sender: first,
-        held: [1, 0],
-        need: [2, 1],
-    };
-    let other = Claim {
-        sender: second,
-        held: [1, 0],
-        need: [2, 1],
-    };
-    table_of(alloc, [2, 1], &[claim, other])
+fn page_shown(alloc: Global, text: &str) -> Result<String, AllocError> {
+    let table = read_table(alloc, text)?;
+    match decided_after_page(alloc, &table, 1)? {
+        Some(Verdict { safe, tests }) => {
+            let free = table.free().as_slice();
+            format!(in alloc; "{safe} after {tests}, free {free:?}")
+        }
+        None => String::from_str(alloc, "no page"),
+    }
 }
 
 #[test]
 fn a_senders_order_is_kept(rt: HostRuntime) -> Result<(), Fail> {
-    let alloc = rt.alloc();
-    let one = alike(alloc, 1, 1)?;
-    assert_eq!(rt; decided_after_page(alloc, &one, 1)?, (false, 1));
-    let two = alike(alloc, 1, 2)?;
-    assert_eq!(rt; decided_after_page(alloc, &two, 1)?, (true, 3));
-    assert_eq!(rt; two.free().as_slice(), [2, 1].as_slice(), "only asked");
+    for row in AFTER_PAGE.trim().lines() {
+        let (asked, wanted) = sides(row);
+        let answer = page_shown(rt.alloc(), asked)?;
+        expect(&rt, asked.as_bytes(), answer.as_bytes(), wanted.as_bytes());
+    }
     Ok(())
+}
+
+/// Sums, and what is left when the second is taken away again. A sum that is too large changes nothing.
+const SUMS: &str = "
+0 4294967295 + 1 1 => Err(TooLarge) [0, 4294967295]
+0 4294967295 + 1 0 => Ok(()) [1, 4294967295] [0, 4294967295]
+";
+
+/// Asks for a sum of amounts of the same kinds.
+fn try_sum(sum: &mut Counts, more: &Counts) -> Result<(), TooLarge> {
+    if sum.kinds() == more.kinds() {
+        sum.try_add(more)
+    } else {
+        Err(TooLarge)
+    }
+}
+
+/// Takes amounts away. False where they aren't there.
+fn take_away(sum: &mut Counts, less: &Counts) -> bool {
+    let there = sum.kinds() == less.kinds() && less.le(sum);
+    if there {
+        sum.sub(less);
+    }
+    there
+}
+
+fn sum_shown(alloc: Global, text: &str) -> Result<String, AllocError> {
+    let (sum, more) = text.split_once(" + ").unwrap_or((text, ""));
+    let (mut sum, more) = (read_counts(alloc, sum)?, read_counts(alloc, more)?);
+    let added = try_sum(&mut sum, &more);
+    let mut text = format!(in alloc; "{added:?} {:?}", sum.as_slice())?;
+    if added.is_ok() && take_away(&mut sum, &more) {
+        write!(text, " {:?}", sum.as_slice())?;
+    }
+    Ok(text)
 }
 
 #[test]
-fn sums_past_the_limit_are_refused(rt: HostRuntime) -> Result<(), Fail> {
-    let alloc = rt.alloc();
-    let mut sum = counts(alloc, [0, u32::MAX])?;
-    let one = counts(alloc, [1, 1])?;
-    let refused = try_sum(&mut sum, &one)?;
-    assert_eq!(rt; refused, Err(TooLarge));
-    assert_eq!(rt; sum.as_slice(), [0, 4_294_967_295].as_slice());
+fn sums_by_table(rt: HostRuntime) -> Result<(), Fail> {
+    for row in SUMS.trim().lines() {
+        let (asked, wanted) = sides(row);
+        let answer = sum_shown(rt.alloc(), asked)?;
+        expect(&rt, asked.as_bytes(), answer.as_bytes(), wanted.as_bytes());
+    }
     Ok(())
 }
 
-#[test]
-fn sums_within_the_limit_are_made(rt: HostRuntime) -> Result<(), Fail> {
-    let alloc = rt.alloc();
-    let mut sum = counts(alloc, [0, u32::MAX])?;
-    let pages = counts(alloc, [1, 0])?;
-    let added = try_sum(&mut sum, &pages)?;
-    assert_eq!(rt; added, Ok(()));
-    assert_eq!(rt; sum.as_slice(), [1, 4_294_967_295].as_slice());
-    take_away(&mut sum, &pages)?;
-    assert_eq!(rt; sum.as_slice(), [0, 4_294_967_295].as_slice());
-    Ok(())
-}
+/// What rows need, one after another, and how a table with a capacity of 4 and 1 and room for one row answers.
+const OPENED: &str = "
+5 1 => Err(OverCapacity), rows 0
+4 1 => Ok(()), rows 1
+5 1 => Err(OverCapacity), rows 1
+4 1 => Err(Full), rows 1
+";
 
-/// A table with room for one row.
-fn small_table(alloc: Global) -> Result<Table, Fail> {
+fn small_table(alloc: Global) -> Result<Table, AllocError> {
     let capacity = counts(alloc, [4, 1])?;
-    Ok(Table::new(alloc, &capacity, 1)?)
+    Table::new(alloc, &capacity, 1)
 }
 
-/// Asks a table for a row that needs so much.
-fn answer(alloc: Global, table: &mut Table, need: [u32; 2]) -> Result<Result<(), OpenError>, Fail> {
-    let need = counts(alloc, need)?;
-    try_open(table, &need)
+/// The table answers a row of the test as it says.
+fn open_is(rt: &impl Abort, alloc: Global, table: &mut Table, row: &str) -> Result<(), AllocError> {
+    let (asked, wanted) = sides(row);
+    let answer = open(table, 1, &read_counts(alloc, asked)?);
+    let text = format!(in alloc; "{answer:?}, rows {}", table.len())?;
+    expect(rt, asked.as_bytes(), text.as_bytes(), wanted.as_bytes());
+    Ok(())
 }
 
 #[test]
 fn rows_that_have_no_place_are_refused(rt: HostRuntime) -> Result<(), Fail> {
     let alloc = rt.alloc();
     let mut table = small_table(alloc)?;
-    let over = answer(alloc, &mut table, [5, 1])?;
-    assert_eq!(rt; over, Err(OpenError::OverCapacity));
-    let opened = answer(alloc, &mut table, [4, 1])?;
-    assert_eq!(rt; opened, Ok(()));
-    let over = answer(alloc, &mut table, [5, 1])?;
-    assert_eq!(rt; over, Err(OpenError::OverCapacity));
-    let full = answer(alloc, &mut table, [4, 1])?;
-    assert_eq!(rt; full, Err(OpenError::Full));
-    assert_eq!(rt; table.len(), 1);
+    for row in OPENED.trim().lines() {
+        open_is(&rt, alloc, &mut table, row)?;
+    }
     Ok(())
 }
 
@@ -336,28 +405,47 @@ fn refusals_have_their_numbers(rt: HostRuntime) -> Result<(), Fail> {
     Ok(())
 }
 
-#[test]
-fn pages_come_back(rt: HostRuntime) -> Result<(), Fail> {
-    let alloc = rt.alloc();
-    let mut table = table_within(alloc, [4, 1], &CROSSED)?;
-    assert_eq!(rt; table.position(2), Some(1));
-    assert_eq!(rt; table.position(3), None);
-    give_back(&mut table, 1, PAGES, 2)?;
-    assert_eq!(rt; table.free().as_slice(), [2, 1].as_slice());
-    assert_eq!(rt; amounts(&table, 1)?, ([1, 0], [0, 1]));
-    Ok(())
+/// The crossed jobs, and what is free and held after each change.
+const CHANGED: &str = "\
+places Some(1) None, given back true
+free [2, 1] of [4, 1]; 1 holds [1, 0], needs [2, 1]; 2 holds [1, 0], needs [0, 1]
+need ended true
+free [0, 1] of [4, 1]; 1 holds [1, 0], needs [2, 1]; 2 holds [3, 0], needs [0, 0]
+closed true, rows 1
+free [3, 1] of [4, 1]; 1 holds [1, 0], needs [2, 1]
+";
+
+fn give_two_back(table: &mut Table, text: &mut String) -> Result<(), AllocError> {
+    let (second, third) = (table.position(2), table.position(3));
+    let given = give_back(table, 1, PAGES, 2);
+    write!(text, "places {second:?} {third:?}, given back {given}\n")?;
+    show(text, table)
+}
+
+fn given_back(alloc: Global, text: &mut String) -> Result<(), AllocError> {
+    let mut table = read_table(alloc, CROSSED)?;
+    give_two_back(&mut table, text)
+}
+
+fn end_and_close(table: &mut Table, text: &mut String) -> Result<(), AllocError> {
+    write!(text, "need ended {}\n", end_need(table, 1, 1))?;
+    show(text, table)?;
+    write!(text, "closed {}, rows {}\n", close(table, 1), table.len())?;
+    show(text, table)
+}
+
+fn ended_and_closed(alloc: Global, text: &mut String) -> Result<(), AllocError> {
+    let mut table = read_table(alloc, CROSSED)?;
+    end_and_close(&mut table, text)
 }
 
 #[test]
-fn a_closed_row_gives_all_back(rt: HostRuntime) -> Result<(), Fail> {
+fn what_is_given_back_is_free(rt: HostRuntime) -> Result<(), Fail> {
     let alloc = rt.alloc();
-    let mut table = table_within(alloc, [4, 1], &CROSSED)?;
-    end_need(&mut table, 1, 1)?;
-    assert_eq!(rt; amounts(&table, 1)?, ([3, 0], [0, 0]));
-    close(&mut table, 1)?;
-    assert_eq!(rt; table.free().as_slice(), [3, 1].as_slice());
-    assert_eq!(rt; table.len(), 1);
-    assert_eq!(rt; table.capacity().as_slice(), [4, 1].as_slice());
+    let mut text = String::new(alloc);
+    given_back(alloc, &mut text)?;
+    ended_and_closed(alloc, &mut text)?;
+    assert_eq!(rt; text.as_str(), CHANGED);
     Ok(())
 }
 
@@ -414,47 +502,58 @@ fn claim_of(code: usize) -> Claim {
     }
 }
 
-/// Compares the scan with the trial of all orders on one table.
-fn agree(rt: &impl Abort, alloc: Global, free: [u32; 2], claims: &[Claim]) -> Result<(), Fail> {
+/// Whether an order was found, and where it was, whether it holds after one comparison a row.
+fn found_holds(alloc: Global, table: &Table) -> Result<Option<bool>, AllocError> {
+    match found(alloc, table)? {
+        (Some(order), _) => {
+            let verdict = checked(alloc, table, order.as_slice())?;
+            Ok(Some(verdict.safe && verdict.tests == table.len() as u64))
+        }
+        (None, _) => Ok(None),
+    }
+}
+
+/// Whether the scan of a table agrees with the trial of all orders.
+fn scan_agrees(alloc: Global, free: [u32; 2], claims: &[Claim]) -> Result<bool, AllocError> {
     let table = table_of(alloc, free, claims)?;
     let most = claims.len().saturating_mul(claims.len().saturating_add(1)) as u64;
     let wanted = some_order_finishes(free, claims);
-    let (safe, tests) = decided(alloc, &table)?;
-    assert_eq!(rt; safe, wanted, "{claims:?} with {free:?}");
-    assert!(rt; tests.saturating_mul(2) <= most, "{claims:?}");
-    let (order, _) = found(alloc, &table)?;
-    match order {
-        Some(order) => {
-            assert!(rt; wanted, "{claims:?}");
-            let expected = (true, claims.len() as u64);
-            assert_eq!(rt;
-                checked(alloc, &table, order.as_slice())?,
-                expected,
-                "{claims:?}"
-            );
-        }
-        None => assert!(rt; !wanted, "{claims:?}"),
-    }
-    Ok(())
+    let verdict = decided(alloc, &table)?;
+    let holds = found_holds(alloc, &table)?;
+    let as_claimed = table.len() == claims.len() && table.free().as_slice() == free.as_slice();
+    Ok(
+        as_claimed
+            && verdict.safe == wanted
+            && verdict.tests.saturating_mul(2) <= most
+            && holds.is_some() == wanted
+            && holds != Some(false),
+    )
 }
 
-/// Compares a decision on a page with one on the table that has it.
-fn agree_after_page(
-    rt: &impl Abort,
+/// Whether a decision on a page for a row is the one on the table that has it.
+fn page_agrees(
     alloc: Global,
     free: [u32; 2],
     claims: &[Claim],
-) -> Result<(), Fail> {
-    let table = table_of(alloc, free, claims)?;
+    row: usize,
+) -> Result<bool, AllocError> {
+    let mut table = table_of(alloc, free, claims)?;
+    let asked = decided_after_page(alloc, &table, row)?;
+    let granted = grant(&mut table, row, PAGES);
+    let after = decided(alloc, &table)?;
+    Ok(match asked {
+        Some(asked) => granted && asked == after,
+        None => !granted,
+    })
+}
+
+/// Whether both comparisons agree on a table.
+fn agrees(alloc: Global, free: [u32; 2], claims: &[Claim]) -> Result<bool, AllocError> {
+    let mut agrees = scan_agrees(alloc, free, claims)?;
     for row in 0..claims.len() {
-        if free[0] > 0 && claims[row].need[0] > 0 {
-            let mut granted = table_of(alloc, free, claims)?;
-            grant(&mut granted, row, PAGES)?;
-            let after = decided_after_page(alloc, &table, row)?;
-            assert_eq!(rt; after, decided(alloc, &granted)?, "{row} of {claims:?}");
-        }
+        agrees &= page_agrees(alloc, free, claims, row)?;
     }
-    Ok(())
+    Ok(agrees)
 }
 
 /// Whether no claim passes the capacity, so that there is a table with these rows.
@@ -480,7 +579,7 @@ fn all_agree(
     rows: usize,
     tables: usize,
     step: usize,
-) -> Result<(), Fail> {
+) -> Result<(), AllocError> {
     for index in 0..tables {
         let code = index.saturating_mul(step);
         let claims = [
@@ -491,8 +590,8 @@ fn all_agree(
         ];
         let free = [(index % 3) as u32, 1];
         if rows <= 4 && is_possible(free, &claims[..rows]) {
-            agree(rt, alloc, free, &claims[..rows])?;
-            agree_after_page(rt, alloc, free, &claims[..rows])?;
+            let agrees = agrees(alloc, free, &claims[..rows])?;
+            assert!(rt; agrees, "table {index} of {rows} rows");
         }
     }
     Ok(())
@@ -505,5 +604,6 @@ fn the_scan_agrees_with_all_orders(rt: HostRuntime) -> Result<(), Fail> {
     all_agree(&rt, alloc, 1, 36, 1)?;
     all_agree(&rt, alloc, 2, 432, 1)?;
     all_agree(&rt, alloc, 3, 1728, 1)?;
-    all_agree(&rt, alloc, 4, 2962, 7)
+    all_agree(&rt, alloc, 4, 2962, 7)?;
+    Ok(())
 }

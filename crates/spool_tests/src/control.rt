@@ -1,155 +1,146 @@
-//! Control files: by table.
+//! Control files: by table, and compared with the plain reader.
 
-use control_file::{Control, FileNames, plain_control};
+use crate::rows::{expect, octets, refused, sides};
+use control_file::{Control, FileNames, PlainControl, plain_control};
 use lpd_commands::{FileName, Octets, Refusal};
 use std::alloc::{AllocError, Global};
 use std::process::Abort;
 use std::test::Fail;
 
-/// The control file as it is written, or 0 and the number of the refusal.
+/// The control file as it is written, or the refusal.
 fn shown(alloc: Global, text: &[u8]) -> Result<Vec<u8>, Refusal> {
     let name = FileName::read(b"cfA001h1")?;
     match Control::parse(alloc, &name, text) {
         Ok(control) => Ok(control.write(alloc)?.into_vec()),
-        Err(refusal) => Ok(Vec::from_slice(alloc, &[0, refusal.number()])?),
+        Err(refusal) => Ok(refused(alloc, refusal)?),
+    }
+}
+
+/// Whether both say the same, of as many names.
+fn is_alike(control: &Control, plain: &PlainControl) -> bool {
+    let mut is_alike = control.host.as_slice() == plain.host.as_slice()
+        && control.user.as_slice() == plain.user.as_slice()
+        && control.number == plain.number
+        && control.prints.len() == plain.prints.len();
+    for name in control.prints.as_slice() {
+        is_alike &= plain.prints.contains(name);
+    }
+    is_alike
+}
+
+/// Whether both readers read the text alike, but for memory.
+fn readers_agree(alloc: Global, name: &FileName, text: &[u8]) -> bool {
+    match (
+        Control::parse(alloc, name, text),
+        plain_control(alloc, name, text),
+    ) {
+        (Ok(control), Ok(plain)) => is_alike(&control, &plain),
+        (Err(refusal), Err(plain)) => refusal == plain,
+        (Ok(_), Err(refusal)) | (Err(refusal), Ok(_)) => refusal == Refusal::Memory,
     }
 }
 
 /// Both readers read the text alike.
-fn readers_agree(rt: &impl Abort, alloc: Global, text: &[u8]) -> Result<(), Refusal> {
+fn agree(rt: &impl Abort, alloc: Global, text: &[u8]) -> Result<(), Refusal> {
     let name = FileName::read(b"cfA001h1")?;
-    match (
-        Control::parse(alloc, &name, text),
-        plain_control(alloc, &name, text),
-    ) {
-        (Ok(control), Ok(plain)) => {
-            assert_eq!(rt;
-                control.host.as_slice(),
-                plain.host.as_slice(),
-                "the host of {text:?}"
-            );
-            assert_eq!(rt;
-                control.user.as_slice(),
-                plain.user.as_slice(),
-                "the user of {text:?}"
-            );
-            assert_eq!(rt; control.number, plain.number, "the number of {text:?}");
-            assert_eq!(rt;
-                control.prints.len(),
-                plain.prints.len(),
-                "the names of {text:?}"
-            );
-            for name in control.prints.as_slice() {
-                assert!(rt; plain.prints.contains(name), "a name of {text:?}");
-            }
-        }
-        (Err(refusal), Err(plain)) => assert_eq!(rt; refusal, plain, "the refusal of {text:?}"),
-        (Ok(_), Err(plain)) => assert_eq!(rt; Refusal::Memory, plain, "{text:?} is refused"),
-        (Err(refusal), Ok(_)) => assert_eq!(rt; refusal, Refusal::Memory, "{text:?} is taken"),
-    }
+    let agree = readers_agree(alloc, &name, text);
+    assert!(rt; agree, "{}", text.escape_ascii());
     Ok(())
 }
 
-/// The text of these octets and then as many times a piece is read so.
-fn control_is(
-    rt: &impl Abort,
-    alloc: Global,
-    row: (&[u8], &[u8], usize, &[u8]),
-) -> Result<(), Refusal> {
-    let (head, piece, times, want) = row;
-    let text = repeated(alloc, head, piece, times)?;
+fn text_row(rt: &impl Abort, alloc: Global, row: &str) -> Result<(), Refusal> {
+    let (asked, wanted) = sides(row);
+    let text = octets(alloc, asked)?;
+    let wanted = octets(alloc, wanted)?;
     let shown = shown(alloc, text.as_slice())?;
-    assert_eq!(rt; shown.as_slice(), want, "the control text {head:?}");
-    readers_agree(rt, alloc, text.as_slice())
+    expect(rt, text.as_slice(), shown.as_slice(), wanted.as_slice());
+    agree(rt, alloc, text.as_slice())
 }
 
-fn repeated(alloc: Global, head: &[u8], piece: &[u8], times: usize) -> Result<Vec<u8>, AllocError> {
-    let mut text = Vec::from_slice(alloc, head)?;
-    for _ in 0..times {
-        text.extend_from_slice(piece)?;
-    }
-    Ok(text)
-}
+/// Texts, and the control files as they are written.
+const TEXTS: &str = r"
+Hh1\nPann\nfdfA001h1\n => Hh1\nPann\nfdfA001h1\n
+\n\nldfA001h1\n\nPann\nHh1 => Hh1\nPann\nfdfA001h1\n
+Hh1\nHh2\nPann\nPbob\nfdfA001h1\nUdfA001h1\nNx\nJy\n => Hh1\nPann\nfdfA001h1\n
+Hh1\nPann\nfdfA001h1\nfdfA001h1\n => Hh1\nPann\nfdfA001h1\n
+Hh1\nPann\nfdfB001\ncdfA001h1\npdfB001\n => Hh1\nPann\nfdfB001\nfdfA001h1\n
+H h\xff 1\r\nPann b\nfdfA001h1 => H h\xff 1\r\nPann b\nfdfA001h1\n
+Hh1\nPann\n and 52 times fdfA001h1\n => Hh1\nPann\nfdfA001h1\n
+";
 
-#[test]
-fn read_and_written(rt: HostRuntime) -> Result<(), Fail> {
-    let alloc = rt.alloc();
-    let name = FileName::read(b"cfA042h1")?;
-    let control = Control::parse(alloc, &name, b"Hh1\nPann\nfdfA001h1\n")?;
-    assert_eq!(rt; control.number, 42);
-    assert_eq!(rt; control.host.as_slice(), b"h1".as_slice());
-    assert_eq!(rt; control.user.as_slice(), b"ann".as_slice());
-    assert_eq!(rt; control.prints.len(), 1);
-    assert!(rt; !control.prints.is_empty());
-    let copy = control.copy(alloc)?;
-    let text = copy.write(alloc)?;
-    assert_eq!(rt; text.as_slice(), b"Hh1\nPann\nfdfA001h1\n".as_slice());
-    assert_eq!(rt; text.as_slice().len(), 19);
-    assert_eq!(rt; copy.number, 42);
-    Ok(())
-}
+/// Texts that are refused, each for the first refusal that fits.
+const REFUSED: &str = r"
+0 times x => refused 44
+8193 times \n => refused 44
+8192 times \n => refused 40
+Pann\nfdfA001h1\n => refused 40
+\nx\n => refused 40
+Hh1\nfdfA001h1\n => refused 41
+H\n => refused 41
+H\nPann\n => refused 44
+Hh1\nP\n => refused 44
+H\nHh1\nPann\nfdfA001h1\n => refused 44
+Pann\nfdfA001h1\nHx and 255 times h => refused 44
+Hh1\nfdfA001h1\nPx and 255 times p => refused 44
+Hh1\nPann\n => refused 42
+Hh1\nPann\nedfA001h1\n => refused 42
+Hh1\nPann\n and 53 times fdfA001h1\n => refused 43
+Hh1\nPann\n and 53 times fx\n => refused 43
+Hh1\nPann\nfdfA001h1\nfdfA01\n => refused 34
+Hh1\nPann\nf\n => refused 34
+Hh1\nPann\nfcfA001h1\n => refused 34
+";
 
 #[test]
 fn texts_by_table(rt: HostRuntime) -> Result<(), Fail> {
-    let alloc = rt.alloc();
-    let plain = b"Hh1\nPann\nfdfA001h1\n";
-    let rows: [(&[u8], &[u8], usize, &[u8]); 7] = [
-        (plain, b"", 0, plain),
-        (b"\n\nldfA001h1\n\nPann\nHh1", b"", 0, plain),
-        (
-            b"Hh1\nHh2\nPann\nPbob\nfdfA001h1\nUdfA001h1\nNx\nJy\n",
-            b"",
-            0,
-            plain,
-        ),
-        (b"Hh1\nPann\nfdfA001h1\nfdfA001h1\n", b"", 0, plain),
-        (
-            b"Hh1\nPann\nfdfB001\ncdfA001h1\npdfB001\n",
-            b"",
-            0,
-            b"Hh1\nPann\nfdfB001\nfdfA001h1\n",
-        ),
-        (
-            b"H h\xff 1\r\nPann b\nfdfA001h1",
-            b"",
-            0,
-            b"H h\xff 1\r\nPann b\nfdfA001h1\n",
-        ),
-        (b"Hh1\nPann\n", b"fdfA001h1\n", 52, plain),
-    ];
-    for row in rows {
-        control_is(&rt, alloc, row)?;
+    for row in TEXTS.trim().lines() {
+        text_row(&rt, rt.alloc(), row)?;
     }
     Ok(())
 }
 
 #[test]
 fn refusals_in_order(rt: HostRuntime) -> Result<(), Fail> {
-    let alloc = rt.alloc();
-    let rows: [(&[u8], &[u8], usize, &[u8]); 19] = [
-        (b"", b"", 0, &[0, 44]),
-        (b"", b"\n", 8193, &[0, 44]),
-        (b"", b"\n", 8192, &[0, 40]),
-        (b"Pann\nfdfA001h1\n", b"", 0, &[0, 40]),
-        (b"\nx\n", b"", 0, &[0, 40]),
-        (b"Hh1\nfdfA001h1\n", b"", 0, &[0, 41]),
-        (b"H\n", b"", 0, &[0, 41]),
-        (b"H\nPann\n", b"", 0, &[0, 44]),
-        (b"Hh1\nP\n", b"", 0, &[0, 44]),
-        (b"H\nHh1\nPann\nfdfA001h1\n", b"", 0, &[0, 44]),
-        (b"Pann\nfdfA001h1\nHx", b"h", 255, &[0, 44]),
-        (b"Hh1\nfdfA001h1\nPx", b"p", 255, &[0, 44]),
-        (b"Hh1\nPann\n", b"", 0, &[0, 42]),
-        (b"Hh1\nPann\nedfA001h1\n", b"", 0, &[0, 42]),
-        (b"Hh1\nPann\n", b"fdfA001h1\n", 53, &[0, 43]),
-        (b"Hh1\nPann\n", b"fx\n", 53, &[0, 43]),
-        (b"Hh1\nPann\nfdfA001h1\nfdfA01\n", b"", 0, &[0, 34]),
-        (b"Hh1\nPann\nf\n", b"", 0, &[0, 34]),
-        (b"Hh1\nPann\nfcfA001h1\n", b"", 0, &[0, 34]),
-    ];
-    for row in rows {
-        control_is(&rt, alloc, row)?;
+    for row in REFUSED.trim().lines() {
+        text_row(&rt, rt.alloc(), row)?;
     }
+    Ok(())
+}
+
+fn show_fields(text: &mut String, control: &Control) -> Result<(), AllocError> {
+    let host = control.host.as_slice().escape_ascii();
+    let user = control.user.as_slice().escape_ascii();
+    let (names, none) = (control.prints.len(), control.prints.is_empty());
+    write!(text, "{} {host} {user} {names} {none}\n", control.number)
+}
+
+/// Writes the fields of a control file, and the number and the text of a copy.
+fn show_control(alloc: Global, text: &mut String, control: &Control) -> Result<(), AllocError> {
+    show_fields(text, control)?;
+    let copy = control.copy(alloc)?;
+    let written = copy.write(alloc)?;
+    let octets = written.as_slice();
+    write!(
+        text,
+        "{} {} {}",
+        copy.number,
+        octets.len(),
+        octets.escape_ascii()
+    )
+}
+
+/// The number, host and user, how many names there are and whether there are none, and then a copy.
+const FIELDS: &str = r"42 h1 ann 1 false
+42 19 Hh1\nPann\nfdfA001h1\n";
+
+#[test]
+fn read_and_written(rt: HostRuntime) -> Result<(), Fail> {
+    let alloc = rt.alloc();
+    let name = FileName::read(b"cfA042h1")?;
+    let control = Control::parse(alloc, &name, b"Hh1\nPann\nfdfA001h1\n")?;
+    let mut text = String::new(alloc);
+    show_control(alloc, &mut text, &control)?;
+    expect(&rt, b"fields", text.as_bytes(), FIELDS.as_bytes());
     Ok(())
 }
 
@@ -186,23 +177,36 @@ fn generated_texts(rt: HostRuntime) -> Result<(), Fail> {
                 text.extend_from_slice(part)?;
             }
         }
-        readers_agree(&rt, alloc, text.as_slice())?;
+        agree(&rt, alloc, text.as_slice())?;
     }
     Ok(())
+}
+
+fn list_of(alloc: Global, first: FileName, second: FileName) -> Result<FileNames, AllocError> {
+    let mut names = FileNames::new(alloc);
+    names.push(first)?;
+    names.push(second)?;
+    Ok(names)
 }
 
 #[test]
 fn lists_of_names(rt: HostRuntime) -> Result<(), Fail> {
     let alloc = rt.alloc();
-    let mut names = FileNames::new(alloc);
-    assert!(rt; names.is_empty());
-    names.push(FileName::read(b"dfA001")?)?;
-    names.push(FileName::read(b"dfB001")?)?;
-    assert_eq!(rt; names.as_slice().len(), 2);
-    assert!(rt; names.contains(&FileName::read(b"dfB001")?));
-    assert!(rt; !names.contains(&FileName::read(b"dfB002")?));
-    assert_eq!(rt; names.copy(alloc)?.len(), 2);
-    let host = Octets::copy_of(alloc, b"h1")?;
-    assert_eq!(rt; host.into_vec().len(), 2);
+    let none = FileNames::new(alloc).is_empty();
+    let (first, second) = (FileName::read(b"dfA001")?, FileName::read(b"dfB001")?);
+    let other = FileName::read(b"dfB002")?;
+    let names = list_of(alloc, first, second)?;
+    let len = names.as_slice().len();
+    let (has_second, has_other) = (names.contains(&second), names.contains(&other));
+    let copied = names.copy(alloc)?.len();
+    let text = format!(in alloc; "{none} {len} {has_second} {has_other} {copied}")?;
+    assert_eq!(rt; text.as_str(), "true 2 true false 2");
+    Ok(())
+}
+
+#[test]
+fn octets_are_taken_out(rt: HostRuntime) -> Result<(), Fail> {
+    let host = Octets::copy_of(rt.alloc(), b"h1")?.into_vec();
+    assert_eq!(rt; host.len(), 2);
     Ok(())
 }

@@ -1,4 +1,9 @@
 //! Worked histories, entry by entry, as the plain reader reads them.
+//!
+//! A history is a text with a row for each entry: `WHO NUMBER VERB` and then up to three times `NAME VALUE`, and behind
+//! the bar what the reader says once the entry came, which has to be legal and safe. This is the count of free pages, what
+//! the printer gets next (a page as its job and place, or a word) and the jobs that may be lent a page, as the digits of
+//! one number. An entry that may not come is `refused`, and the next row goes on without it.
 
 use control_file::Control;
 use history_reader::{
@@ -9,6 +14,222 @@ use lpd_commands::{FileName, Octets, Refusal};
 use std::alloc::{AllocError, Global};
 use std::process::Abort;
 use std::test::Fail;
+
+/// A job is received, printed and done, and the spool is closed.
+const ONE_JOB: &str = "\
+job 1 opened by 1 in 1                       | 4 nothing 0
+job 1 began file dfA001 of 11                | 4 nothing 1
+job 1 granted                                | 3 nothing 0
+job 1 put file 0 page 0 of 8                 | 3 nothing 1
+job 1 granted                                | 2 nothing 0
+job 1 put file 0 page 1 of 3                 | 2 nothing 1
+job 1 ended file 0 whole 0                   | 2 nothing 0
+job 1 controlled by cfA001 of dfA001 whole 1 | 2 1.0 0
+printer 1 handed job 1 place 0 of 8          | 2 busy 0
+printer 1 going job 1 place 0 of 8           | 3 1.1 0
+printer 1 handed job 1 place 1 of 3          | 3 busy 0
+printer 1 done job 1 place 1 of 3            | 4 nothing 0
+spool is closed                              | 4 over 0
+";
+
+/// The pages of the first job leave, and then that of the second of the same sender.
+const TWO_JOBS_OF_ONE_SENDER: &str = "\
+job 1 opened by 1 in 1                       | 4 nothing 0
+job 1 began file dfA001 of 11                | 4 nothing 1
+job 1 granted                                | 3 nothing 0
+job 1 put file 0 page 0 of 8                 | 3 nothing 1
+job 1 granted                                | 2 nothing 0
+job 1 put file 0 page 1 of 3                 | 2 nothing 1
+job 1 ended file 0 whole 0                   | 2 nothing 0
+job 1 controlled by cfA001 of dfA001 whole 1 | 2 1.0 0
+job 2 opened by 1 in 1                       | 2 1.0 0
+job 2 began file dfA002 of 5                 | 2 1.0 2
+job 2 granted                                | 1 1.0 0
+job 2 put file 0 page 0 of 5                 | 1 1.0 2
+job 2 ended file 0 whole 0                   | 1 1.0 0
+job 2 controlled by cfA002 of dfA002 whole 1 | 1 1.0 0
+printer 1 handed job 1 place 0 of 8          | 1 busy 0
+printer 1 going job 1 place 0 of 8           | 2 1.1 0
+printer 1 handed job 1 place 1 of 3          | 2 busy 0
+printer 1 done job 1 place 1 of 3            | 3 2.0 0
+printer 1 handed job 2 place 0 of 5          | 3 busy 0
+printer 1 done job 2 place 0 of 5            | 4 nothing 0
+";
+
+/// A job is aborted with a page lent to it.
+const AN_ABORTED_JOB: &str = "\
+job 1 opened by 1 in 1                       | 4 nothing 0
+job 1 began file dfA001 of 11                | 4 nothing 1
+job 1 granted                                | 3 nothing 0
+job 1 put file 0 page 0 of 8                 | 3 nothing 1
+job 1 granted                                | 2 nothing 0
+job 1 aborted                                | 4 nothing 0
+";
+
+/// A job is removed while a page of it is at the printer: it ends undone, and the next one begins only after that.
+const A_REMOVED_JOB: &str = "\
+job 1 opened by 1 in 1                       | 4 nothing 0
+job 1 began file dfA001 of 11                | 4 nothing 1
+job 1 granted                                | 3 nothing 0
+job 1 put file 0 page 0 of 8                 | 3 nothing 1
+job 1 granted                                | 2 nothing 0
+job 1 put file 0 page 1 of 3                 | 2 nothing 1
+job 1 ended file 0 whole 0                   | 2 nothing 0
+job 1 controlled by cfA001 of dfA001 whole 1 | 2 1.0 0
+job 2 opened by 1 in 1                       | 2 1.0 0
+job 2 began file dfA002 of 5                 | 2 1.0 2
+job 2 granted                                | 1 1.0 0
+job 2 put file 0 page 0 of 5                 | 1 1.0 2
+job 2 ended file 0 whole 0                   | 1 1.0 0
+job 2 controlled by cfA002 of dfA002 whole 1 | 1 1.0 0
+printer 1 handed job 1 place 0 of 8          | 1 busy 0
+queue 1 removed job 1                        | 2 busy 0
+printer 1 ended job 1 place 0 of 8           | 3 2.0 0
+";
+
+/// A page fails: its job ends, and the printer stops until its queue is started.
+const A_FAILED_PAGE: &str = "\
+job 1 opened by 1 in 1                       | 4 nothing 0
+job 1 began file dfA001 of 11                | 4 nothing 1
+job 1 granted                                | 3 nothing 0
+job 1 put file 0 page 0 of 8                 | 3 nothing 1
+job 1 granted                                | 2 nothing 0
+job 1 put file 0 page 1 of 3                 | 2 nothing 1
+job 1 ended file 0 whole 0                   | 2 nothing 0
+job 1 controlled by cfA001 of dfA001 whole 1 | 2 1.0 0
+printer 1 handed job 1 place 0 of 8          | 2 busy 0
+printer 1 failed job 1 place 0 of 8          | 4 stops 0
+queue 1 started                              | 4 nothing 0
+";
+
+/// The spool is closed with a page at the printer, a job that waits and a job that is being received.
+const A_CLOSED_SPOOL: &str = "\
+job 1 opened by 1 in 1                       | 4 nothing 0
+job 1 began file dfA001 of 5                 | 4 nothing 1
+job 1 granted                                | 3 nothing 0
+job 1 put file 0 page 0 of 5                 | 3 nothing 1
+job 1 ended file 0 whole 0                   | 3 nothing 0
+job 1 controlled by cfA001 of dfA001 whole 1 | 3 1.0 0
+printer 1 handed job 1 place 0 of 5          | 3 busy 0
+job 2 opened by 2 in 1                       | 3 busy 0
+job 2 began file dfA002 of 5                 | 3 busy 2
+job 2 granted                                | 2 busy 0
+job 2 put file 0 page 0 of 5                 | 2 busy 2
+job 2 ended file 0 whole 0                   | 2 busy 0
+job 2 controlled by cfA002 of dfA002 whole 1 | 2 busy 0
+job 3 opened by 3 in 1                       | 2 busy 0
+job 3 began file dfA003 of 16                | 2 busy 3
+job 3 granted                                | 1 busy 0
+job 3 put file 0 page 0 of 8                 | 1 busy 3
+spool is closed                              | 3 over 0
+printer 1 ended job 1 place 0 of 5           | 4 over 0
+";
+
+/// Two jobs may hold three pages each, of four: the last page goes to the second job, which can finish first, where the
+/// first is of another sender.
+const CLAIMS_THAT_MEET: &str = "\
+job 1 opened by 2 in 1                       | 4 nothing 0
+job 1 began file dfA001 of 24                | 4 nothing 1
+job 1 granted                                | 3 nothing 0
+job 1 put file 0 page 0 of 8                 | 3 nothing 1
+job 2 opened by 1 in 1                       | 3 nothing 1
+job 2 began file dfA002 of 24                | 3 nothing 12
+job 2 granted                                | 2 nothing 1
+job 2 put file 0 page 0 of 8                 | 2 nothing 12
+job 2 granted                                | 1 nothing 0
+job 2 put file 0 page 1 of 8                 | 1 nothing 2
+job 2 granted                                | 0 nothing 0
+";
+
+/// Where each of two jobs of one sender holds one page of four, and may hold three, the second is lent no other, for
+/// the first must finish first.
+const A_PAGE_THAT_IS_NOT_SAFE: &str = "\
+job 1 opened by 1 in 1                       | 4 nothing 0
+job 1 began file dfA001 of 24                | 4 nothing 1
+job 1 granted                                | 3 nothing 0
+job 1 put file 0 page 0 of 8                 | 3 nothing 1
+job 2 opened by 1 in 1                       | 3 nothing 1
+job 2 began file dfA002 of 24                | 3 nothing 12
+job 2 granted                                | 2 nothing 1
+job 2 put file 0 page 0 of 8                 | 2 nothing 1
+job 2 granted                                | refused
+";
+
+/// Where they are of two senders, the second is lent another, for it can finish first.
+const A_PAGE_THAT_IS_SAFE: &str = "\
+job 1 opened by 1 in 1                       | 4 nothing 0
+job 1 began file dfA001 of 24                | 4 nothing 1
+job 1 granted                                | 3 nothing 0
+job 1 put file 0 page 0 of 8                 | 3 nothing 1
+job 2 opened by 2 in 1                       | 3 nothing 1
+job 2 began file dfA002 of 24                | 3 nothing 12
+job 2 granted                                | 2 nothing 1
+job 2 put file 0 page 0 of 8                 | 2 nothing 12
+job 2 granted                                | 1 nothing 0
+";
+
+/// Two jobs of this queue may need 248 entries, and the close one more: where the account may have 248, a second job may
+/// not come.
+const AN_ACCOUNT_THAT_IS_FULL: &str = "\
+job 1 opened by 1 in 1                       | 4 nothing 0
+job 2 opened by 1 in 1                       | refused
+";
+
+/// Where the account may have 249, it may.
+const AN_ACCOUNT_WITH_ROOM: &str = "\
+job 1 opened by 1 in 1                       | 4 nothing 0
+job 2 opened by 1 in 1                       | 4 nothing 0
+";
+
+/// Events that may not come once a job of 11 octets was received.
+const EVENTS_THAT_MAY_NOT_COME: &str = "\
+job 1 opened by 1 in 1                       | 4 nothing 0
+job 1 began file dfA001 of 11                | 4 nothing 1
+job 1 granted                                | 3 nothing 0
+job 1 put file 0 page 0 of 8                 | 3 nothing 1
+job 1 granted                                | 2 nothing 0
+job 1 put file 0 page 1 of 3                 | 2 nothing 1
+job 1 ended file 0 whole 0                   | 2 nothing 0
+job 1 controlled by cfA001 of dfA001 whole 1 | 2 1.0 0
+printer 1 handed job 1 place 1 of 3          | refused
+printer 1 handed job 1 place 0 of 3          | refused
+printer 1 going job 1 place 0 of 8           | refused
+printer 1 failed job 1 place 0 of 8          | refused
+printer 2 handed job 1 place 0 of 8          | refused
+printer 0 handed job 1 place 0 of 8          | refused
+job 1 opened by 1 in 1                       | refused
+job 2 opened by 1 in 2                       | refused
+job 1 granted                                | refused
+job 1 put file 0 page 2 of 8                 | refused
+job 1 ended file 0 whole 1                   | refused
+job 1 aborted                                | refused
+queue 1 removed job none                     | refused
+queue 1 started                              | refused
+";
+
+/// A job of 11 octets is received.
+const A_RECEIVED_JOB: &str = "\
+job 1 opened by 1 in 1                       | 4 nothing 0
+job 1 began file dfA001 of 11                | 4 nothing 1
+job 1 granted                                | 3 nothing 0
+job 1 put file 0 page 0 of 8                 | 3 nothing 1
+job 1 granted                                | 2 nothing 0
+job 1 put file 0 page 1 of 3                 | 2 nothing 1
+job 1 ended file 0 whole 0                   | 2 nothing 0
+job 1 controlled by cfA001 of dfA001 whole 1 | 2 1.0 0
+";
+
+/// What the reader answers about the queue once the job was received: its state in short and at length, and removals by
+/// `root` and by `bob`.
+const QUEUE_TEXTS: &str = "\
+queue lp jobs 1 printers 1 stopped 0
+waiting 001 ann h1 pages 2
+queue lp jobs 1 printers 1 stopped 0
+waiting 001 ann h1 pages 2
+  dfA001 11
+removed 001 ann
+nothing removed
+";
 
 /// Four pages of eight octets, and one queue `lp` whose jobs may hold three pages, with one printer.
 fn small(alloc: Global, account: u64) -> Result<Setup, AllocError> {
@@ -27,6 +248,24 @@ fn small(alloc: Global, account: u64) -> Result<Setup, AllocError> {
     })
 }
 
+/// The first word, and what follows it.
+fn word(text: &str) -> (&str, &str) {
+    match text.split_once(' ') {
+        Some(parts) => parts,
+        None => (text, ""),
+    }
+}
+
+/// The second word, which is the value behind its name, and what follows it.
+fn value(text: &str) -> (&str, &str) {
+    word(word(text).1)
+}
+
+/// The number that a word spells, or 0.
+fn number(word: &str) -> u8 {
+    word.parse::<u8>().unwrap_or(0)
+}
+
 /// A page of so many octets.
 fn page(length: u8) -> Outline {
     Outline {
@@ -35,420 +274,291 @@ fn page(length: u8) -> Outline {
     }
 }
 
-/// The data file of a job begins.
-fn began(job: u64, count: u64) -> Result<Event, Refusal> {
-    let name = FileName::read(match job {
-        1 => b"dfA001",
-        2 => b"dfA002",
-        _ => b"dfA003",
-    })?;
-    Ok(Event::OfJob(job, Act::Began(name, count)))
+/// A control file of this name that prints a file.
+fn control(alloc: Global, name: &str, prints: &str) -> Result<Control, Refusal> {
+    let name = FileName::read(name.as_bytes())?;
+    let text = format!(in alloc; "Hh1\nPann\nf{prints}\n")?;
+    Control::parse(alloc, &name, text.as_bytes())
 }
 
-/// The control file of a job comes, which makes it whole or not.
-fn controlled(alloc: Global, job: u64, whole: bool) -> Result<Event, Refusal> {
-    let (name, text): (&[u8], &[u8]) = match job {
-        1 => (b"cfA001", b"Hh1\nPann\nfdfA001\n"),
-        2 => (b"cfA002", b"Hh1\nPann\nfdfA002\n"),
-        _ => (b"cfA003", b"Hh1\nPann\nfdfA003\n"),
-    };
-    let control = Control::parse(alloc, &FileName::read(name)?, text)?;
-    Ok(Event::OfJob(job, Act::Controlled(control, whole)))
+/// What the session of a job did.
+fn act(alloc: Global, verb: &str, values: [&str; 3]) -> Result<Act, Refusal> {
+    let [name, prints, _] = values;
+    let first = number(values[0]);
+    let second = number(values[1]);
+    let third = number(values[2]);
+    match verb {
+        "opened" => Ok(Act::Opened(u32::from(first), u32::from(second))),
+        "began" => Ok(Act::Began(FileName::read(name.as_bytes())?, u64::from(second))),
+        "granted" => Ok(Act::Granted),
+        "put" => Ok(Act::Put(u64::from(first), u64::from(second), page(third))),
+        "ended" => Ok(Act::FileEnded(u64::from(first), second == 1)),
+        "controlled" => Ok(Act::Controlled(control(alloc, name, prints)?, third == 1)),
+        "aborted" => Ok(Act::Aborted),
+        _ => Err(Refusal::BadLine),
+    }
 }
 
-/// The page at this place of a job, which is of so many octets.
-fn sheet(job: u64, place: u64, length: u8) -> Sheet {
+/// What became of a page at a printer: it was handed to it, failed, or was printed and this is said of its job.
+fn turn(verb: &str) -> Result<Turn, Refusal> {
+    match verb {
+        "handed" => Ok(Turn::Handed),
+        "going" => Ok(Turn::Printed(Progress::Going)),
+        "done" => Ok(Turn::Printed(Progress::Done)),
+        "ended" => Ok(Turn::Printed(Progress::Ended)),
+        "failed" => Ok(Turn::Failed),
+        _ => Err(Refusal::BadLine),
+    }
+}
+
+/// The page of this job and place, of so many octets.
+fn sheet(values: [&str; 3]) -> Sheet {
+    let [job, place, length] = values;
     Sheet {
-        job,
-        place,
+        job: u64::from(number(job)),
+        place: u64::from(number(place)),
         file: 0,
-        number: place,
-        page: page(length),
+        number: u64::from(number(place)),
+        page: page(number(length)),
     }
 }
 
-fn at_printer(sheet: Sheet, turn: Turn) -> Event {
-    Event::AtPrinter(1, sheet, turn)
+/// A job of a queue was removed, or none where its number is 0.
+fn removed(alloc: Global, queue: u32, job: u64) -> Result<Event, AllocError> {
+    let mut jobs = Vec::new(alloc);
+    if job != 0 {
+        jobs.push(job)?;
+    }
+    Ok(Event::Removed(queue, jobs))
 }
 
-/// Puts an event behind these, the oldest first.
-fn note(events: &mut Vec<Event>, event: Event) -> Result<(), AllocError> {
-    events.push(event)?;
-    Ok(())
-}
-
-/// Puts a page into the file of a job once it was lent.
-fn send_page(events: &mut Vec<Event>, job: u64, number: u64, length: u8) -> Result<(), AllocError> {
-    note(events, Event::OfJob(job, Act::Granted))?;
-    note(events, Event::OfJob(job, Act::Put(0, number, page(length))))?;
-    Ok(())
-}
-
-/// A job of this sender that has begun a file of so many octets.
-fn begin(events: &mut Vec<Event>, job: u64, sender: u32, count: u64) -> Result<(), Refusal> {
-    note(events, Event::OfJob(job, Act::Opened(sender, 1)))?;
-    note(events, began(job, count)?)?;
-    Ok(())
-}
-
-/// A job of 11 octets of this sender is received.
-fn receive(events: &mut Vec<Event>, alloc: Global, job: u64, sender: u32) -> Result<(), Refusal> {
-    begin(events, job, sender, 11)?;
-    send_page(events, job, 0, 8)?;
-    send_page(events, job, 1, 3)?;
-    note(events, Event::OfJob(job, Act::FileEnded(0, false)))?;
-    note(events, controlled(alloc, job, true)?)?;
-    Ok(())
-}
-
-/// A job of 5 octets of this sender is received.
-fn receive_short(
-    events: &mut Vec<Event>,
-    alloc: Global,
-    job: u64,
-    sender: u32,
-) -> Result<(), Refusal> {
-    begin(events, job, sender, 5)?;
-    send_page(events, job, 0, 5)?;
-    note(events, Event::OfJob(job, Act::FileEnded(0, false)))?;
-    note(events, controlled(alloc, job, true)?)?;
-    Ok(())
-}
-
-/// A digit for a number of at most seven.
-fn digit(number: u64) -> u8 {
-    match number {
-        0 => b'0',
-        1 => b'1',
-        2 => b'2',
-        3 => b'3',
-        4 => b'4',
-        5 => b'5',
-        6 => b'6',
-        7 => b'7',
-        _ => b'x',
+/// The event that an entry tells.
+fn event(alloc: Global, entry: &str) -> Result<Event, Refusal> {
+    let (who, rest) = word(entry);
+    let (which, rest) = word(rest);
+    let (verb, rest) = word(rest);
+    let (first, rest) = value(rest);
+    let (second, rest) = value(rest);
+    let (third, _) = value(rest);
+    let values = [first, second, third];
+    let which = u32::from(number(which));
+    match (who, verb) {
+        ("job", _) => Ok(Event::OfJob(u64::from(which), act(alloc, verb, values)?)),
+        ("printer", _) => Ok(Event::AtPrinter(which, sheet(values), turn(verb)?)),
+        ("queue", "removed") => Ok(removed(alloc, which, u64::from(number(first)))?),
+        ("queue", "started") => Ok(Event::Started(which)),
+        ("spool", "closed") => Ok(Event::Closed),
+        _ => Err(Refusal::BadLine),
     }
 }
 
-/// A letter for what a printer gets, or the place of the page that it gets.
-fn letter(next: Next) -> u8 {
+/// What a printer gets: a page as its job and place, or a word.
+fn next_word(alloc: Global, next: Next) -> Result<String, AllocError> {
     match next {
-        Next::Hands(sheet) if sheet.job == 1 && sheet.place == 0 => b'0',
-        Next::Hands(sheet) if sheet.job == 1 => b'1',
-        Next::Hands(_) => b'2',
-        Next::Nothing => b'-',
-        Next::Stops => b's',
-        Next::Busy => b'b',
-        Next::Over => b'o',
+        Next::Hands(sheet) => format!(in alloc; "{}.{}", sheet.job, sheet.place),
+        Next::Nothing => String::from_str(alloc, "nothing"),
+        Next::Stops => String::from_str(alloc, "stops"),
+        Next::Busy => String::from_str(alloc, "busy"),
+        Next::Over => String::from_str(alloc, "over"),
     }
 }
 
-/// Which of the first three jobs may be lent a page: 1, 2 and 4 for them, added up, as a digit.
-fn lendable(alloc: Global, setup: &Setup, state: &State) -> Result<u8, AllocError> {
-    let mut sum = 0u64;
-    for (number, weight) in [(1, 1), (2, 2), (3, 4)] {
-        if may(alloc, setup, state, &Event::OfJob(number, Act::Granted))? {
-            sum = sum.saturating_add(weight);
+/// Whether a job may be lent a page.
+fn may_lend(alloc: Global, setup: &Setup, state: &State, job: u64) -> Result<bool, AllocError> {
+    may(alloc, setup, state, &Event::OfJob(job, Act::Granted))
+}
+
+/// Which of the first three jobs may be lent a page, as the digits of a number.
+fn lendable(alloc: Global, setup: &Setup, state: &State) -> Result<u64, AllocError> {
+    let mut digits = 0u64;
+    for job in 1..4 {
+        if may_lend(alloc, setup, state, job)? {
+            digits = digits.saturating_mul(10).saturating_add(job);
         }
     }
-    Ok(digit(sum))
+    Ok(digits)
 }
 
-/// After each event, the oldest first, the history is legal and safe, and this is free, this is next, and these jobs may
-/// be lent a page.
-fn is_read_so(
+/// What the reader says of a spool that stands like this.
+fn standing(alloc: Global, setup: &Setup, state: &State) -> Result<String, AllocError> {
+    if !is_safe_now(alloc, setup, state)? {
+        return String::from_str(alloc, "not safe");
+    }
+    let free = free_pages(alloc, setup, state)?;
+    let lend = lendable(alloc, setup, state)?;
+    let next = next_word(alloc, next_page(alloc, setup, state, 1)?)?;
+    format!(in alloc; "{free} {next} {lend}")
+}
+
+/// What the reader says after these events.
+fn said_after(alloc: Global, setup: &Setup, events: &[Event]) -> Result<String, AllocError> {
+    if !is_legal(alloc, setup, events)? {
+        return String::from_str(alloc, "not legal");
+    }
+    let state = now(alloc, setup, events)?;
+    standing(alloc, setup, &state)
+}
+
+/// Whether an event may come after these.
+fn may_come(
+    alloc: Global,
+    setup: &Setup,
+    events: &[Event],
+    event: &Event,
+) -> Result<bool, AllocError> {
+    let state = now(alloc, setup, events)?;
+    may(alloc, setup, &state, event)
+}
+
+/// What the reader says once an event came, if it may. The newest event stands first.
+fn answer(
+    alloc: Global,
+    setup: &Setup,
+    events: &mut Vec<Event>,
+    event: Event,
+) -> Result<String, AllocError> {
+    if !may_come(alloc, setup, events.as_slice(), &event)? {
+        return String::from_str(alloc, "refused");
+    }
+    events.insert(0, event)?;
+    said_after(alloc, setup, events.as_slice())
+}
+
+/// The entry of a row comes, and the reader says what stands behind the bar.
+fn follow_row(
     rt: &impl Abort,
     alloc: Global,
     setup: &Setup,
-    mut events: Vec<Event>,
-    want: (&[u8], &[u8], &[u8]),
-) -> Result<(), AllocError> {
-    let (free, next, lent) = want;
-    events.reverse();
-    let history = events.as_slice();
-    let mut frees = Vec::new(alloc);
-    let mut nexts = Vec::new(alloc);
-    let mut lents = Vec::new(alloc);
-    for newer in 0..history.len() {
-        let rest = &history[newer..];
-        let state = now(alloc, setup, rest)?;
-        frees.push(digit(free_pages(alloc, setup, &state)?))?;
-        nexts.push(letter(next_page(alloc, setup, &state, 1)?))?;
-        lents.push(lendable(alloc, setup, &state)?)?;
-        assert!(rt; is_legal(alloc, setup, rest)?, "it is not legal");
-        assert!(rt; is_safe_now(alloc, setup, &state)?, "it is not safe");
+    events: &mut Vec<Event>,
+    row: &str,
+) -> Result<(), Fail> {
+    let Some((entry, said)) = row.split_once("| ") else {
+        return Err("a row has no bar")?;
+    };
+    let event = event(alloc, entry)?;
+    let answer = answer(alloc, setup, events, event)?;
+    assert_eq!(rt; answer.as_str(), said, "after {entry}");
+    Ok(())
+}
+
+/// The rows of a history come one after another, into an empty spool.
+fn follow_rows(
+    rt: &impl Abort,
+    alloc: Global,
+    setup: &Setup,
+    rows: &str,
+) -> Result<Vec<Event>, Fail> {
+    let mut events = Vec::new(alloc);
+    for row in rows.lines() {
+        follow_row(rt, alloc, setup, &mut events, row)?;
     }
-    frees.reverse();
-    nexts.reverse();
-    lents.reverse();
-    assert_eq!(rt; frees.as_slice(), free, "what is free");
-    assert_eq!(rt; nexts.as_slice(), next, "what is next");
-    assert_eq!(rt; lents.as_slice(), lent, "who may be lent a page");
+    Ok(events)
+}
+
+/// A history is as its rows say, where the account may have so many entries.
+fn follow(rt: &impl Abort, alloc: Global, account: u64, rows: &str) -> Result<(), Fail> {
+    let setup = small(alloc, account)?;
+    follow_rows(rt, alloc, &setup, rows)?;
     Ok(())
 }
 
 #[test]
 fn one_job(rt: HostRuntime) -> Result<(), Fail> {
-    let alloc = rt.alloc();
-    let mut events = Vec::new(alloc);
-    receive(&mut events, alloc, 1, 1)?;
-    events.push(at_printer(sheet(1, 0, 8), Turn::Handed))?;
-    events.push(at_printer(sheet(1, 0, 8), Turn::Printed(Progress::Going)))?;
-    events.push(at_printer(sheet(1, 1, 3), Turn::Handed))?;
-    events.push(at_printer(sheet(1, 1, 3), Turn::Printed(Progress::Done)))?;
-    events.push(Event::Closed)?;
-    let setup = small(alloc, 1000)?;
-    is_read_so(
-        &rt,
-        alloc,
-        &setup,
-        events,
-        (b"4433222223344", b"-------0b1b-o", b"0101010000000"),
-    )?;
-    Ok(())
+    follow(&rt, rt.alloc(), 1000, ONE_JOB)
 }
 
-/// The pages of the first job leave, and then that of the second of the same sender.
 #[test]
 fn two_jobs_of_one_sender(rt: HostRuntime) -> Result<(), Fail> {
-    let alloc = rt.alloc();
-    let mut events = Vec::new(alloc);
-    receive(&mut events, alloc, 1, 1)?;
-    receive_short(&mut events, alloc, 2, 1)?;
-    events.push(at_printer(sheet(1, 0, 8), Turn::Handed))?;
-    events.push(at_printer(sheet(1, 0, 8), Turn::Printed(Progress::Going)))?;
-    events.push(at_printer(sheet(1, 1, 3), Turn::Handed))?;
-    events.push(at_printer(sheet(1, 1, 3), Turn::Printed(Progress::Done)))?;
-    events.push(at_printer(sheet(2, 0, 5), Turn::Handed))?;
-    events.push(at_printer(sheet(2, 0, 5), Turn::Printed(Progress::Done)))?;
-    let setup = small(alloc, 1000)?;
-    is_read_so(
-        &rt,
-        alloc,
-        &setup,
-        events,
-        (
-            b"44332222221111122334",
-            b"-------0000000b1b2b-",
-            b"01010100020200000000",
-        ),
-    )?;
-    Ok(())
+    follow(&rt, rt.alloc(), 1000, TWO_JOBS_OF_ONE_SENDER)
 }
 
 #[test]
 fn an_aborted_job(rt: HostRuntime) -> Result<(), Fail> {
-    let alloc = rt.alloc();
-    let mut events = Vec::new(alloc);
-    begin(&mut events, 1, 1, 11)?;
-    send_page(&mut events, 1, 0, 8)?;
-    events.push(Event::OfJob(1, Act::Granted))?;
-    events.push(Event::OfJob(1, Act::Aborted))?;
-    let setup = small(alloc, 1000)?;
-    is_read_so(
-        &rt,
-        alloc,
-        &setup,
-        events,
-        (b"443324", b"------", b"010100"),
-    )?;
-    Ok(())
+    follow(&rt, rt.alloc(), 1000, AN_ABORTED_JOB)
 }
 
-/// A job is removed while a page of it is at the printer: it ends undone, and the next one begins only after that.
 #[test]
 fn a_removed_job(rt: HostRuntime) -> Result<(), Fail> {
-    let alloc = rt.alloc();
-    let mut events = Vec::new(alloc);
-    receive(&mut events, alloc, 1, 1)?;
-    receive_short(&mut events, alloc, 2, 1)?;
-    events.push(at_printer(sheet(1, 0, 8), Turn::Handed))?;
-    let mut jobs = Vec::new(alloc);
-    jobs.push(1)?;
-    events.push(Event::Removed(1, jobs))?;
-    events.push(at_printer(sheet(1, 0, 8), Turn::Printed(Progress::Ended)))?;
-    let setup = small(alloc, 1000)?;
-    is_read_so(
-        &rt,
-        alloc,
-        &setup,
-        events,
-        (
-            b"44332222221111123",
-            b"-------0000000bb2",
-            b"01010100020200000",
-        ),
-    )?;
-    Ok(())
+    follow(&rt, rt.alloc(), 1000, A_REMOVED_JOB)
 }
 
-/// A page fails: its job ends, and the printer stops until its queue is started.
 #[test]
 fn a_failed_page(rt: HostRuntime) -> Result<(), Fail> {
-    let alloc = rt.alloc();
-    let mut events = Vec::new(alloc);
-    receive(&mut events, alloc, 1, 1)?;
-    events.push(at_printer(sheet(1, 0, 8), Turn::Handed))?;
-    events.push(at_printer(sheet(1, 0, 8), Turn::Failed))?;
-    events.push(Event::Started(1))?;
-    let setup = small(alloc, 1000)?;
-    is_read_so(
-        &rt,
-        alloc,
-        &setup,
-        events,
-        (b"44332222244", b"-------0bs-", b"01010100000"),
-    )?;
-    Ok(())
+    follow(&rt, rt.alloc(), 1000, A_FAILED_PAGE)
 }
 
-/// The spool is closed with a page at the printer, a job that waits and a job that is being received.
 #[test]
 fn a_closed_spool(rt: HostRuntime) -> Result<(), Fail> {
-    let alloc = rt.alloc();
-    let mut events = Vec::new(alloc);
-    receive_short(&mut events, alloc, 1, 1)?;
-    events.push(at_printer(sheet(1, 0, 5), Turn::Handed))?;
-    receive_short(&mut events, alloc, 2, 2)?;
-    begin(&mut events, 3, 3, 16)?;
-    send_page(&mut events, 3, 0, 8)?;
-    events.push(Event::Closed)?;
-    events.push(at_printer(sheet(1, 0, 5), Turn::Printed(Progress::Ended)))?;
-    let setup = small(alloc, 1000)?;
-    is_read_so(
-        &rt,
-        alloc,
-        &setup,
-        events,
-        (
-            b"4433333332222221134",
-            b"-----0bbbbbbbbbbboo",
-            b"0101000020200040400",
-        ),
-    )?;
-    Ok(())
+    follow(&rt, rt.alloc(), 1000, A_CLOSED_SPOOL)
 }
 
-/// Two jobs may hold three pages each, of four: the last page goes to the second job, which can finish first, where the
-/// first is of another sender.
 #[test]
 fn claims_that_meet(rt: HostRuntime) -> Result<(), Fail> {
-    let alloc = rt.alloc();
-    let mut events = Vec::new(alloc);
-    begin(&mut events, 1, 2, 24)?;
-    send_page(&mut events, 1, 0, 8)?;
-    begin(&mut events, 2, 1, 24)?;
-    send_page(&mut events, 2, 0, 8)?;
-    send_page(&mut events, 2, 1, 8)?;
-    events.push(Event::OfJob(2, Act::Granted))?;
-    let setup = small(alloc, 1000)?;
-    is_read_so(
-        &rt,
-        alloc,
-        &setup,
-        events,
-        (b"44333322110", b"-----------", b"01011313020"),
-    )?;
-    Ok(())
+    follow(&rt, rt.alloc(), 1000, CLAIMS_THAT_MEET)
 }
 
-/// After these events this one may come, or may not.
-fn may_come(
-    rt: &impl Abort,
-    alloc: Global,
-    setup: &Setup,
-    mut events: Vec<Event>,
-    event: Event,
-    want: bool,
-) -> Result<(), AllocError> {
-    events.reverse();
-    let state = now(alloc, setup, events.as_slice())?;
-    assert_eq!(rt; may(alloc, setup, &state, &event)?, want);
-    Ok(())
-}
-
-/// Where each of two jobs holds one page of four, and may hold three, the second is lent another only where the first is
-/// of another sender, for it must finish first where it is of the same.
 #[test]
 fn a_page_that_is_not_safe(rt: HostRuntime) -> Result<(), Fail> {
-    let alloc = rt.alloc();
-    let setup = small(alloc, 1000)?;
-    for (sender, want) in [(1, false), (2, true)] {
-        let mut events = Vec::new(alloc);
-        begin(&mut events, 1, 1, 24)?;
-        send_page(&mut events, 1, 0, 8)?;
-        begin(&mut events, 2, sender, 24)?;
-        send_page(&mut events, 2, 0, 8)?;
-        let granted = Event::OfJob(2, Act::Granted);
-        may_come(&rt, alloc, &setup, events, granted, want)?;
-    }
-    Ok(())
+    follow(&rt, rt.alloc(), 1000, A_PAGE_THAT_IS_NOT_SAFE)?;
+    follow(&rt, rt.alloc(), 1000, A_PAGE_THAT_IS_SAFE)
 }
 
-/// Two jobs of this queue may need 248 entries, and the close one more.
 #[test]
 fn an_account_that_is_full(rt: HostRuntime) -> Result<(), Fail> {
-    let alloc = rt.alloc();
-    for (account, want) in [(248, false), (249, true)] {
-        let setup = small(alloc, account)?;
-        let mut events = Vec::new(alloc);
-        events.push(Event::OfJob(1, Act::Opened(1, 1)))?;
-        let opened = Event::OfJob(2, Act::Opened(1, 1));
-        may_come(&rt, alloc, &setup, events, opened, want)?;
-    }
-    Ok(())
+    follow(&rt, rt.alloc(), 248, AN_ACCOUNT_THAT_IS_FULL)?;
+    follow(&rt, rt.alloc(), 249, AN_ACCOUNT_WITH_ROOM)
 }
 
-/// Events that may not come, each after a job of 11 octets was received.
 #[test]
 fn events_that_may_not_come(rt: HostRuntime) -> Result<(), Fail> {
-    let alloc = rt.alloc();
+    follow(&rt, rt.alloc(), 1000, EVENTS_THAT_MAY_NOT_COME)
+}
+
+/// Puts a text behind these.
+fn put(texts: &mut Vec<u8>, text: Vec<u8>) -> Result<(), AllocError> {
+    texts.extend_from_slice(text.as_slice())
+}
+
+/// Puts what the reader answers about the queue behind these texts.
+fn put_queue_texts(
+    alloc: Global,
+    setup: &Setup,
+    state: &State,
+    list: &[Octets],
+    texts: &mut Vec<u8>,
+) -> Result<(), AllocError> {
+    put(texts, state_text(alloc, setup, state, 1, &[], false)?)?;
+    put(texts, state_text(alloc, setup, state, 1, list, true)?)?;
+    put(texts, removal_text(alloc, setup, state, 1, b"root", list)?)?;
+    put(texts, removal_text(alloc, setup, state, 1, b"bob", list)?)
+}
+
+/// A list of the job 1 alone.
+fn job_list(alloc: Global) -> Result<Vec<Octets>, AllocError> {
+    let mut list = Vec::new(alloc);
+    list.push(Octets::copy_of(alloc, b"0001")?)?;
+    Ok(list)
+}
+
+/// What the reader answers about the queue after these events.
+fn queue_texts(alloc: Global, setup: &Setup, events: &[Event]) -> Result<String, AllocError> {
+    let mut texts = Vec::new(alloc);
+    let state = now(alloc, setup, events)?;
+    let list = job_list(alloc)?;
+    put_queue_texts(alloc, setup, &state, list.as_slice(), &mut texts)?;
+    String::from_utf8_lossy(alloc, texts.as_slice())
+}
+
+/// What the reader answers about the queue after a history.
+fn queue_texts_after(rt: &impl Abort, alloc: Global, rows: &str) -> Result<String, Fail> {
     let setup = small(alloc, 1000)?;
-    let wrong = [
-        at_printer(sheet(1, 1, 3), Turn::Handed),
-        at_printer(sheet(1, 0, 3), Turn::Handed),
-        at_printer(sheet(1, 0, 8), Turn::Printed(Progress::Going)),
-        at_printer(sheet(1, 0, 8), Turn::Failed),
-        Event::AtPrinter(2, sheet(1, 0, 8), Turn::Handed),
-        Event::AtPrinter(0, sheet(1, 0, 8), Turn::Handed),
-        Event::OfJob(1, Act::Opened(1, 1)),
-        Event::OfJob(2, Act::Opened(1, 2)),
-        Event::OfJob(1, Act::Granted),
-        Event::OfJob(1, Act::Put(0, 2, page(8))),
-        Event::OfJob(1, Act::FileEnded(0, true)),
-        Event::OfJob(1, Act::Aborted),
-        Event::Removed(1, Vec::new(alloc)),
-        Event::Started(1),
-    ];
-    for event in wrong {
-        let mut events = Vec::new(alloc);
-        receive(&mut events, alloc, 1, 1)?;
-        may_come(&rt, alloc, &setup, events, event, false)?;
-    }
-    Ok(())
+    let events = follow_rows(rt, alloc, &setup, rows)?;
+    Ok(queue_texts(alloc, &setup, events.as_slice())?)
 }
 
 #[test]
 fn texts_of_a_queue(rt: HostRuntime) -> Result<(), Fail> {
-    let alloc = rt.alloc();
-    let setup = small(alloc, 1000)?;
-    let mut events = Vec::new(alloc);
-    receive(&mut events, alloc, 1, 1)?;
-    events.reverse();
-    let state = now(alloc, &setup, events.as_slice())?;
-    let head = "queue lp jobs 1 printers 1 stopped 0\nwaiting 001 ann h1 pages 2\n";
-    let text = state_text(alloc, &setup, &state, 1, &[], false)?;
-    assert_eq!(rt; text.as_slice(), head.as_bytes());
-    let mut list = Vec::new(alloc);
-    list.push(Octets::copy_of(alloc, b"0001")?)?;
-    let text = state_text(alloc, &setup, &state, 1, list.as_slice(), true)?;
-    assert_eq!(rt;
-        text.as_slice(),
-        format!(in alloc; "{head}  dfA001 11\n")?.as_bytes()
-    );
-    let text = removal_text(alloc, &setup, &state, 1, b"root", list.as_slice())?;
-    assert_eq!(rt; text.as_slice(), b"removed 001 ann\n".as_slice());
-    let text = removal_text(alloc, &setup, &state, 1, b"bob", list.as_slice())?;
-    assert_eq!(rt; text.as_slice(), b"nothing removed\n".as_slice());
+    let texts = queue_texts_after(&rt, rt.alloc(), A_RECEIVED_JOB)?;
+    assert_eq!(rt; texts.as_str(), QUEUE_TEXTS);
     Ok(())
 }

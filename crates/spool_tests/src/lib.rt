@@ -16,4 +16,6 @@ mod lines;
 #[cfg(test)]
 mod pages;
 #[cfg(test)]
+mod rows;
+#[cfg(test)]
 mod sessions;

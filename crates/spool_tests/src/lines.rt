@@ -1,5 +1,6 @@
 //! Command lines and subcommand lines: by table, and compared with the plain readers.
 
+use crate::rows::{expect, octets, refused, sides};
 use lpd_commands::{
     Command, FileName, Octets, Refusal, Sub, Words, parse_command, parse_sub, plain_command,
     plain_sub, write_command, write_sub,
@@ -8,56 +9,61 @@ use std::alloc::{AllocError, Global};
 use std::process::Abort;
 use std::test::Fail;
 
-/// The command as it is written, or 0 and the number of the refusal.
+/// The command as it is written, or the refusal.
 fn command_shown(alloc: Global, read: Result<Command, Refusal>) -> Result<Vec<u8>, AllocError> {
     match read {
         Ok(command) => Ok(write_command(alloc, &command)?.into_vec()),
-        Err(refusal) => Vec::from_slice(alloc, &[0, refusal.number()]),
+        Err(refusal) => refused(alloc, refusal),
     }
 }
 
-/// The subcommand as it is written, or 0 and the number of the refusal.
+/// The subcommand as it is written, or the refusal.
 fn sub_shown(alloc: Global, read: Result<Sub, Refusal>) -> Result<Vec<u8>, AllocError> {
     match read {
         Ok(sub) => Ok(write_sub(alloc, &sub)?.into_vec()),
-        Err(refusal) => Vec::from_slice(alloc, &[0, refusal.number()]),
+        Err(refusal) => refused(alloc, refusal),
     }
 }
 
-/// Both readers read the line alike as a command.
-fn commands_agree(rt: &impl Abort, alloc: Global, line: &[u8]) -> Result<(), AllocError> {
-    match (parse_command(alloc, line), plain_command(alloc, line)) {
-        (Err(refusal), Err(plain)) => assert_eq!(rt; refusal, plain, "the command line {line:?}"),
-        (read, plain) => {
-            let (read, plain) = (command_shown(alloc, read)?, command_shown(alloc, plain)?);
-            assert_eq!(rt;
-                read.as_slice(),
-                plain.as_slice(),
-                "the command line {line:?}"
-            );
-        }
-    }
+/// The line is read so as a command.
+fn command_is(
+    rt: &impl Abort,
+    alloc: Global,
+    line: &[u8],
+    wanted: &[u8],
+) -> Result<(), AllocError> {
+    let read = command_shown(alloc, parse_command(alloc, line))?;
+    expect(rt, line, read.as_slice(), wanted);
     Ok(())
+}
+
+/// The line is read so as a subcommand.
+fn sub_is(rt: &impl Abort, alloc: Global, line: &[u8], wanted: &[u8]) -> Result<(), AllocError> {
+    let read = sub_shown(alloc, parse_sub(line))?;
+    expect(rt, line, read.as_slice(), wanted);
+    Ok(())
+}
+
+/// Both readers read the line alike as a command. Most lines are refused by both, and then no text is made.
+fn commands_agree(rt: &impl Abort, alloc: Global, line: &[u8]) -> Result<(), AllocError> {
+    let plain = plain_command(alloc, line);
+    match (&plain, parse_command(alloc, line)) {
+        (Err(plain), Err(refusal)) if *plain == refusal => return Ok(()),
+        _ => {}
+    }
+    let plain = command_shown(alloc, plain)?;
+    command_is(rt, alloc, line, plain.as_slice())
 }
 
 /// Both readers read the line alike as a subcommand.
 fn subs_agree(rt: &impl Abort, alloc: Global, line: &[u8]) -> Result<(), AllocError> {
-    match (parse_sub(line), plain_sub(alloc, line)) {
-        (Err(refusal), Err(plain)) => assert_eq!(rt;
-            refusal,
-            plain,
-            "the subcommand line {line:?}"
-        ),
-        (read, plain) => {
-            let (read, plain) = (sub_shown(alloc, read)?, sub_shown(alloc, plain)?);
-            assert_eq!(rt;
-                read.as_slice(),
-                plain.as_slice(),
-                "the subcommand line {line:?}"
-            );
-        }
+    let plain = plain_sub(alloc, line);
+    match (&plain, parse_sub(line)) {
+        (Err(plain), Err(refusal)) if *plain == refusal => return Ok(()),
+        _ => {}
     }
-    Ok(())
+    let plain = sub_shown(alloc, plain)?;
+    sub_is(rt, alloc, line, plain.as_slice())
 }
 
 fn readers_agree(rt: &impl Abort, alloc: Global, line: &[u8]) -> Result<(), AllocError> {
@@ -65,185 +71,189 @@ fn readers_agree(rt: &impl Abort, alloc: Global, line: &[u8]) -> Result<(), Allo
     subs_agree(rt, alloc, line)
 }
 
-/// `head` and then as many octets as make the line this long.
-fn filled(alloc: Global, head: &[u8], octet: u8, len: usize) -> Result<Vec<u8>, AllocError> {
-    let mut line = Vec::from_slice(alloc, head)?;
-    for _ in head.len()..len {
-        line.push(octet)?;
-    }
-    Ok(line)
-}
+/// Command lines, and the commands as they are written or the refusals.
+const COMMANDS: &str = r"
+\x03lp\tann  12 => \x03lp ann 12\n
+\x01lp => \x01lp\n
+\x01lp passed over\x20 => \x01lp\n
+\x02lp \x0b\x0c => \x02lp\n
+\x04lp => \x04lp\n
+\x05lp root ann 001 => \x05lp root ann 001\n
+\x05lp\x0croot => \x05lp root\n
+\x02\x80\xff!~ => \x02\x80\xff!~\n
+0 times x => refused 30
+\x00lp => refused 30
+\x06lp => refused 30
+\x06 \r => refused 30
+\x05lp => refused 31
+\x05lp \t => refused 31
+\x02 => refused 31
+\x02 lp => refused 31
+\x02lp\r => refused 31
+\x02lp\x7f => refused 31
+\x02lp\n => refused 31
+\x02lp and 1020 times \x20 => \x02lp\n
+\x02lp and 1021 times \x20 => refused 32
+\x06 and 1023 times \r => refused 32
+\x06 and 1022 times \r => refused 30
+";
 
-/// The command line of these octets and then as many of one octet as make it this long is read so.
-fn command_is(
-    rt: &impl Abort,
-    alloc: Global,
-    row: (&[u8], u8, usize, &[u8]),
-) -> Result<(), AllocError> {
-    let (head, octet, len, want) = row;
-    let line = filled(alloc, head, octet, len)?;
-    let shown = command_shown(alloc, parse_command(alloc, line.as_slice()))?;
-    assert_eq!(rt; shown.as_slice(), want, "the command line {head:?}");
+/// Subcommand lines, and the subcommands as they are written or the refusals. A name has at most 126 octets.
+const SUBCOMMANDS: &str = r"
+\x01 => \x01\n
+\x01 \t\x0b\x0c => \x01\n
+\x0311 dfA001h1 => \x0311 dfA001h1\n
+\x02007\t cfz999\x20 => \x027 cfz999\n
+\x020 cfA001h1 => \x020 cfA001h1\n
+\x039999999999999999999 dfA001 => \x039999999999999999999 dfA001\n
+0 times x => refused 30
+\x04 => refused 30
+\x01x => refused 31
+\x028 => refused 31
+\x02 8 cfA001h1 => refused 31
+\x028 cfA001h1 x => refused 31
+\x028 cfA001h1\r => refused 31
+\x030 dfA001h1 => refused 33
+\x03000 dfA001h1 => refused 33
+\x0200000000000000000001 cfA001h1 => refused 33
+\x028x cfA001h1 => refused 33
+\x02x dfA001h1 => refused 33
+\x030 cfA001h1 => refused 33
+\x038 dfA01h1 => refused 34
+\x038 cfA001h1 => refused 34
+\x028 dfA001h1 => refused 34
+\x028 cf0001h1 => refused 34
+\x028 cfA00 => refused 34
+\x028 cfA001 and 120 times x => \x028 cfA001 and 120 times x and \n
+\x028 cfA001 and 121 times x => refused 34
+\x01 and 1023 times \x20 => refused 32
+\x01 and 1022 times \x20 => \x01\n
+\x04 and 1023 times x => refused 32
+\x04 and 1022 times x => refused 30
+";
+
+fn command_row(rt: &impl Abort, alloc: Global, row: &str) -> Result<(), AllocError> {
+    let (asked, wanted) = sides(row);
+    let line = octets(alloc, asked)?;
+    let wanted = octets(alloc, wanted)?;
+    command_is(rt, alloc, line.as_slice(), wanted.as_slice())?;
     commands_agree(rt, alloc, line.as_slice())
 }
 
-/// The subcommand line of these octets and then as many of one octet as make it this long is read so.
-fn sub_is(
-    rt: &impl Abort,
-    alloc: Global,
-    row: (&[u8], u8, usize, &[u8]),
-) -> Result<(), AllocError> {
-    let (head, octet, len, want) = row;
-    let line = filled(alloc, head, octet, len)?;
-    let shown = sub_shown(alloc, parse_sub(line.as_slice()))?;
-    assert_eq!(rt; shown.as_slice(), want, "the subcommand line {head:?}");
+fn sub_row(rt: &impl Abort, alloc: Global, row: &str) -> Result<(), AllocError> {
+    let (asked, wanted) = sides(row);
+    let line = octets(alloc, asked)?;
+    let wanted = octets(alloc, wanted)?;
+    sub_is(rt, alloc, line.as_slice(), wanted.as_slice())?;
     subs_agree(rt, alloc, line.as_slice())
 }
 
 #[test]
 fn commands_by_table(rt: HostRuntime) -> Result<(), Fail> {
-    let alloc = rt.alloc();
-    let rows: [(&[u8], u8, usize, &[u8]); 23] = [
-        (b"\x03lp\tann  12", 0, 0, b"\x03lp ann 12\n"),
-        (b"\x01lp", 0, 0, b"\x01lp\n"),
-        (b"\x01lp passed over ", 0, 0, b"\x01lp\n"),
-        (b"\x02lp \x0b\x0c", 0, 0, b"\x02lp\n"),
-        (b"\x04lp", 0, 0, b"\x04lp\n"),
-        (b"\x05lp root ann 001", 0, 0, b"\x05lp root ann 001\n"),
-        (b"\x05lp\x0croot", 0, 0, b"\x05lp root\n"),
-        (b"\x02\x80\xff!~", 0, 0, b"\x02\x80\xff!~\n"),
-        (b"", 0, 0, &[0, 30]),
-        (b"\x00lp", 0, 0, &[0, 30]),
-        (b"\x06lp", 0, 0, &[0, 30]),
-        (b"\x06 \r", 0, 0, &[0, 30]),
-        (b"\x05lp", 0, 0, &[0, 31]),
-        (b"\x05lp \t", 0, 0, &[0, 31]),
-        (b"\x02", 0, 0, &[0, 31]),
-        (b"\x02 lp", 0, 0, &[0, 31]),
-        (b"\x02lp\r", 0, 0, &[0, 31]),
-        (b"\x02lp\x7f", 0, 0, &[0, 31]),
-        (b"\x02lp\n", 0, 0, &[0, 31]),
-        (b"\x02lp", b' ', 1023, b"\x02lp\n"),
-        (b"\x02lp", b' ', 1024, &[0, 32]),
-        (b"\x06", b'\r', 1024, &[0, 32]),
-        (b"\x06", b'\r', 1023, &[0, 30]),
-    ];
-    for row in rows {
-        command_is(&rt, alloc, row)?;
+    for row in COMMANDS.trim().lines() {
+        command_row(&rt, rt.alloc(), row)?;
     }
     Ok(())
 }
 
 #[test]
 fn subcommands_by_table(rt: HostRuntime) -> Result<(), Fail> {
-    let alloc = rt.alloc();
-    let rows: [(&[u8], u8, usize, &[u8]); 29] = [
-        (b"\x01", 0, 0, b"\x01\n"),
-        (b"\x01 \t\x0b\x0c", 0, 0, b"\x01\n"),
-        (b"\x0311 dfA001h1", 0, 0, b"\x0311 dfA001h1\n"),
-        (b"\x02007\t cfz999 ", 0, 0, b"\x027 cfz999\n"),
-        (b"\x020 cfA001h1", 0, 0, b"\x020 cfA001h1\n"),
-        (
-            b"\x039999999999999999999 dfA001",
-            0,
-            0,
-            b"\x039999999999999999999 dfA001\n",
-        ),
-        (b"", 0, 0, &[0, 30]),
-        (b"\x04", 0, 0, &[0, 30]),
-        (b"\x01x", 0, 0, &[0, 31]),
-        (b"\x028", 0, 0, &[0, 31]),
-        (b"\x02 8 cfA001h1", 0, 0, &[0, 31]),
-        (b"\x028 cfA001h1 x", 0, 0, &[0, 31]),
-        (b"\x028 cfA001h1\r", 0, 0, &[0, 31]),
-        (b"\x030 dfA001h1", 0, 0, &[0, 33]),
-        (b"\x03000 dfA001h1", 0, 0, &[0, 33]),
-        (b"\x0200000000000000000001 cfA001h1", 0, 0, &[0, 33]),
-        (b"\x028x cfA001h1", 0, 0, &[0, 33]),
-        (b"\x02x dfA001h1", 0, 0, &[0, 33]),
-        (b"\x030 cfA001h1", 0, 0, &[0, 33]),
-        (b"\x038 dfA01h1", 0, 0, &[0, 34]),
-        (b"\x038 cfA001h1", 0, 0, &[0, 34]),
-        (b"\x028 dfA001h1", 0, 0, &[0, 34]),
-        (b"\x028 cf0001h1", 0, 0, &[0, 34]),
-        (b"\x028 cfA00", 0, 0, &[0, 34]),
-        (b"\x028 cfA001", b'x', 3 + 127, &[0, 34]),
-        (b"\x01", b' ', 1024, &[0, 32]),
-        (b"\x01", b' ', 1023, b"\x01\n"),
-        (b"\x04", b'x', 1024, &[0, 32]),
-        (b"\x04", b'x', 1023, &[0, 30]),
-    ];
-    for row in rows {
-        sub_is(&rt, alloc, row)?;
+    for row in SUBCOMMANDS.trim().lines() {
+        sub_row(&rt, rt.alloc(), row)?;
     }
     Ok(())
 }
 
-/// The longest name of a control file is taken.
-#[test]
-fn the_longest_name(rt: HostRuntime) -> Result<(), Fail> {
-    let alloc = rt.alloc();
-    let line = filled(alloc, b"\x028 cfA001", b'x', 3 + 126)?;
-    let written = filled(alloc, line.as_slice(), b'\n', 3 + 127)?;
-    sub_is(&rt, alloc, (line.as_slice(), 0, 0, written.as_slice()))?;
+/// File names, with whether they are of control files, and their numbers.
+const NAMES: &str = r"
+cfA042host => cfA042host true 42
+dfz999 => dfz999 false 999
+dfz99 => 34 BadName
+efA001 => 34 BadName
+dgA001 => 34 BadName
+dfA001\x7f => 34 BadName
+";
+
+fn name_shown(alloc: Global, octets: &[u8]) -> Result<String, AllocError> {
+    match FileName::read(octets) {
+        Ok(name) => {
+            let octets = name.octets().escape_ascii();
+            format!(in alloc; "{octets} {} {}", name.is_control(), name.number())
+        }
+        Err(refusal) => format!(in alloc; "{refusal}"),
+    }
+}
+
+fn name_row(rt: &impl Abort, alloc: Global, row: &str) -> Result<(), AllocError> {
+    let (asked, wanted) = sides(row);
+    let name = octets(alloc, asked)?;
+    let shown = name_shown(alloc, name.as_slice())?;
+    expect(rt, asked.as_bytes(), shown.as_bytes(), wanted.as_bytes());
     Ok(())
 }
 
 #[test]
-fn file_names(rt: HostRuntime) -> Result<(), Fail> {
-    let name = FileName::read(b"cfA042host")?;
-    assert_eq!(rt; name.octets(), b"cfA042host".as_slice());
-    assert!(rt; name.is_control());
-    assert_eq!(rt; name.number(), 42);
-    let name = FileName::read(b"dfz999")?;
-    assert!(rt; !name.is_control());
-    assert_eq!(rt; name.number(), 999);
-    assert!(rt; FileName::read(b"dfz99").is_err());
-    assert!(rt; FileName::read(b"efA001").is_err());
-    assert!(rt; FileName::read(b"dgA001").is_err());
-    assert!(rt; FileName::read(b"dfA001\x7f").is_err());
+fn names_by_table(rt: HostRuntime) -> Result<(), Fail> {
+    for row in NAMES.trim().lines() {
+        name_row(&rt, rt.alloc(), row)?;
+    }
     Ok(())
 }
+
+/// Refusals as they are printed, with their numbers and the octets that are sent.
+const REFUSALS: &str = "\
+1 UnknownQueue: 1 1
+12 Memory: 12 2
+44 BadLength: 44 1
+10 NotOpen: 10 2
+6 ControlTwice: 6 1
+35 NoZero: 35 1
+";
 
 #[test]
 fn refusals(rt: HostRuntime) -> Result<(), Fail> {
-    let alloc = rt.alloc();
-    assert_eq!(rt;
-        format!(in alloc; "{}", Refusal::UnknownQueue)?.as_str(),
-        "1 UnknownQueue"
-    );
-    assert_eq!(rt;
-        format!(in alloc; "{}", Refusal::Memory)?.as_str(),
-        "12 Memory"
-    );
-    assert_eq!(rt;
-        format!(in alloc; "{}", Refusal::BadLength)?.as_str(),
-        "44 BadLength"
-    );
-    assert_eq!(rt; Refusal::Memory.octet(), 2);
-    assert_eq!(rt; Refusal::NotOpen.octet(), 2);
-    assert_eq!(rt; Refusal::ControlTwice.octet(), 1);
-    assert_eq!(rt; Refusal::NoZero.number(), 35);
+    let mut text = String::new(rt.alloc());
+    for refusal in [
+        Refusal::UnknownQueue,
+        Refusal::Memory,
+        Refusal::BadLength,
+        Refusal::NotOpen,
+        Refusal::ControlTwice,
+        Refusal::NoZero,
+    ] {
+        write!(
+            text,
+            "{refusal}: {} {}\n",
+            refusal.number(),
+            refusal.octet()
+        )?;
+    }
+    assert_eq!(rt; text.as_str(), REFUSALS);
     Ok(())
+}
+
+fn two_words(alloc: Global) -> Result<Words, AllocError> {
+    let mut words = Words::new(alloc);
+    words.push(Octets::copy_of(alloc, b"ann")?)?;
+    words.push(Octets::from_vec(Vec::from_slice(alloc, b"12")?))?;
+    Ok(words)
+}
+
+/// The state of the queue `lp` is asked for, of two words.
+fn state_of(alloc: Global) -> Result<Command, AllocError> {
+    Ok(Command::State {
+        queue: Octets::copy_of(alloc, b"lp")?,
+        list: two_words(alloc)?,
+        long: true,
+    })
 }
 
 #[test]
 fn lists_of_words(rt: HostRuntime) -> Result<(), Fail> {
     let alloc = rt.alloc();
-    let mut words = Words::new(alloc);
-    words.push(Octets::copy_of(alloc, b"ann")?)?;
-    words.push(Octets::from_vec(Vec::from_slice(alloc, b"12")?))?;
-    assert_eq!(rt; words.as_slice().len(), 2);
-    let queue = Octets::copy_of(alloc, b"lp")?;
-    let line = write_command(
-        alloc,
-        &Command::State {
-            queue,
-            list: words,
-            long: true,
-        },
-    )?;
-    assert_eq!(rt; line.as_slice(), b"\x04lp ann 12\n".as_slice());
+    assert_eq!(rt; two_words(alloc)?.as_slice().len(), 2);
+    let line = command_shown(alloc, Ok(state_of(alloc)?))?;
+    expect(&rt, b"state", line.as_slice(), b"\x04lp ann 12\n");
     Ok(())
 }
 

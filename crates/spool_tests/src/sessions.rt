@@ -4,9 +4,12 @@ ghost use Rattle.std.specs.Prelude.{◌≡◌, ◌≤◌, ◌<◌, length, IfOk,
 ghost use Rattle.receiver.specs.Script.{Yes};
 ghost use Rattle.receiver.specs.Reading.{IsFitting, Lending, Ending, Plain};
 
+use crate::rows::octets;
 use page_pool::{FilledPage, Pool};
 use receiver::{Answer, Need, Receiver};
 use std::alloc::{AllocError, Global};
+use std::process::Abort;
+use std::test::Fail;
 
 /// What a session wrote, and a letter for each request, with the octets of each page.
 #[derive(Drop)]
@@ -142,14 +145,14 @@ fn feed_cut(
     Ok(())
 }
 
-/// The whole session over the text, cut so.
+/// What a session over the text asks and, after a bar, what it writes.
 fn session(
     alloc: Global,
     pool: &mut Pool,
     text: &[u8],
     cut: usize,
     step: usize,
-) -> Result<Shown, AllocError>
+) -> Result<Vec<u8>, AllocError>
     requires some { 0 < step }
     requires within { cut ≤ length text.now }
 {
@@ -164,153 +167,157 @@ fn session(
         ticket.surrender();
     }
     fed?;
-    Ok(shown)
+    joined(alloc, shown.asked.as_slice(), shown.written.as_slice())
 }
 
-#[cfg(test)]
-mod tests {
-    use super::*;
-    use std::process::Abort;
-    use std::test::Fail;
+fn joined(alloc: Global, asked: &[u8], written: &[u8]) -> Result<Vec<u8>, AllocError> {
+    let mut both = Vec::from_slice(alloc, asked)?;
+    both.push(b'|')?;
+    both.extend_from_slice(written)?;
+    Ok(both)
+}
 
-    const QUEUE: &[u8] = b"\x02lp\n";
+/// The session comes to this, cut so.
+fn comes_to(
+    rt: &impl Abort,
+    alloc: Global,
+    text: &[u8],
+    cut: usize,
+    step: usize,
+    wanted: &[u8],
+) -> Result<(), Fail>
+    requires some { 0 < step }
+    requires within { cut ≤ length text.now }
+{
+    let mut pool = Pool::new(alloc, 8, 8)?;
+    let shown = session(alloc, &mut pool, text, cut, step)?;
+    assert!(rt;
+        shown.as_slice() == wanted,
+        "{} cut at {cut}, in pieces of {step}, gives {}",
+        text.escape_ascii(),
+        shown.as_slice().escape_ascii()
+    );
+    Ok(())
+}
 
-    const DATA: &[u8] = b"\x0311 dfA001h1\nhello world\x00";
+/// The session comes to this, whole and octet by octet.
+fn whole_and_octets(
+    rt: &impl Abort,
+    alloc: Global,
+    text: &[u8],
+    wanted: &[u8],
+) -> Result<(), Fail> {
+    comes_to(rt, alloc, text, 0, 10_000, wanted)?;
+    comes_to(rt, alloc, text, 0, 1, wanted)
+}
 
-    const CONTROL: &[u8] = b"\x0219 cfA001h1\nHh1\nPann\nfdfA001h1\n\x00";
+/// The same, and in every cut into two pieces.
+fn all_cuts(rt: &impl Abort, alloc: Global, text: &[u8], wanted: &[u8]) -> Result<(), Fail> {
+    whole_and_octets(rt, alloc, text, wanted)?;
+    for cut in 0..text.len() {
+        comes_to(rt, alloc, text, cut, 10_000, wanted)?;
+    }
+    Ok(())
+}
 
-    fn joined(alloc: Global, parts: &[&[u8]]) -> Result<Vec<u8>, AllocError> {
-        let mut text = Vec::new(alloc);
-        for part in parts {
-            text.extend_from_slice(part)?;
+/// Jobs: the lines of a session, and then what it asks with the octets of its pages, a bar, and what it writes.
+const JOBS: &str = r"
+\x02lp\n
+\x0311 dfA001h1\nhello world\x00
+\x0219 cfA001h1\nHh1\nPann\nfdfA001h1\n\x00
+=> QOBPhello woFPrldFEC| and 5 times \x00
+
+\x02lp\n
+\x0219 cfA001h1\nHh1\nPann\nfdfA001h1\n\x00
+\x0311 dfA001h1\nhello world\x00
+=> QOCBPhello woFPrldFE| and 5 times \x00
+
+\x02lp\n
+\x0311 dfA001h1\nhello world\x00
+\x01\n
+\x0311 dfA001h1\nhello world\x00
+\x0219 cfA001h1\nHh1\nPann\nfdfA001h1\n\x00
+=> QOBPhello woFPrldFEAOBPhello woFPrldFEC| and 8 times \x00
+";
+
+/// Other sessions, in the same form.
+const OTHERS: &str = r"
+\x02lp\n
+\x0311 dfA001h1\nhello world\x00
+\x0219 cfA001h1\nHh1\nPann\nfdfA001h1\n\x00
+\x038 dfA002h1\nabcdefgh\x00
+\x0219 cfA002h1\nHh1\nPann\nfdfA002h1\n\x00
+=> QOBPhello woFPrldFECOBPabcdefghFEC| and 9 times \x00
+
+\x02lp\n
+\x01\n
+=> Q|\x00\x00
+
+\x02lp\n
+\x030 dfA001h1\n
+=> Q|\x00\x01
+
+\x02lp\n
+\x0311 dfA001h1\nhello world\x01
+=> QOBPhello woFPrldF|\x00\x00\x01
+
+\x02lp\n
+\x0214 cfA001h1\nHh1\nfdfA001h1\n\x00
+=> QO|\x00\x00\x01
+
+\x02lp\n
+\x020 cfA001h1\n
+=> Q|\x00\x01
+
+\x01lp\n
+=> 1|
+
+\x03lp\tann  12\n
+=> 3|
+
+\x05lp ann 001\n
+=> 5|
+
+\x02lp and 1020 times \x20 and \n
+=> Q|\x00
+
+\x02lp and 1021 times \x20
+=> |\x01
+";
+
+/// Reads a line of a table into the text of a session. What the session comes to, once the line says that.
+fn read_line(alloc: Global, text: &mut Vec<u8>, line: &str) -> Result<Option<Vec<u8>>, AllocError> {
+    match line.strip_prefix("=> ") {
+        Some(wanted) => Ok(Some(octets(alloc, wanted)?)),
+        None => {
+            text.extend_from_slice(octets(alloc, line)?.as_slice())?;
+            Ok(None)
         }
-        Ok(text)
     }
+}
 
-    /// The session comes to this, cut so.
-    fn comes_to(
-        rt: &impl Abort,
-        alloc: Global,
-        text: &[u8],
-        cut: usize,
-        step: usize,
-        asked: &[u8],
-        written: &[u8],
-    ) -> Result<(), Fail>
-        requires some { 0 < step }
-        requires within { cut ≤ length text.now }
-    {
-        let mut pool = Pool::new(alloc, 8, 8)?;
-        let shown = session(alloc, &mut pool, text, cut, step)?;
-        assert_eq!(rt;
-            shown.asked.as_slice(),
-            asked,
-            "cut at {cut}, pieces of {step}"
-        );
-        assert_eq!(rt;
-            shown.written.as_slice(),
-            written,
-            "cut at {cut}, pieces of {step}"
-        );
-        Ok(())
-    }
-
-    /// The session comes to this, whole and octet by octet.
-    fn whole_and_octets(
-        rt: &impl Abort,
-        alloc: Global,
-        text: &[u8],
-        asked: &[u8],
-        written: &[u8],
-    ) -> Result<(), Fail> {
-        comes_to(rt, alloc, text, 0, 10_000, asked, written)?;
-        comes_to(rt, alloc, text, 0, 1, asked, written)
-    }
-
-    /// The same, and in every cut into two pieces.
-    fn all_cuts(
-        rt: &impl Abort,
-        alloc: Global,
-        text: &[u8],
-        asked: &[u8],
-        written: &[u8],
-    ) -> Result<(), Fail> {
-        whole_and_octets(rt, alloc, text, asked, written)?;
-        for cut in 0..text.len() {
-            comes_to(rt, alloc, text, cut, 10_000, asked, written)?;
+#[test]
+fn jobs_in_any_pieces(rt: HostRuntime) -> Result<(), Fail> {
+    let alloc = rt.alloc();
+    let mut text = Vec::new(alloc);
+    for line in JOBS.lines() {
+        if let Some(wanted) = read_line(alloc, &mut text, line)? {
+            all_cuts(&rt, alloc, text.as_slice(), wanted.as_slice())?;
+            text.clear();
         }
-        Ok(())
     }
+    Ok(())
+}
 
-    #[test]
-    fn jobs_in_any_pieces(rt: HostRuntime) -> Result<(), Fail> {
-        let alloc = rt.alloc();
-        let data_first = joined(alloc, &[QUEUE, DATA, CONTROL])?;
-        all_cuts(
-            &rt,
-            alloc,
-            data_first.as_slice(),
-            b"QOBPhello woFPrldFEC",
-            &[0; 5],
-        )?;
-        let control_first = joined(alloc, &[QUEUE, CONTROL, DATA])?;
-        all_cuts(
-            &rt,
-            alloc,
-            control_first.as_slice(),
-            b"QOCBPhello woFPrldFE",
-            &[0; 5],
-        )?;
-        let again = joined(alloc, &[QUEUE, DATA, b"\x01\n", DATA, CONTROL])?;
-        all_cuts(
-            &rt,
-            alloc,
-            again.as_slice(),
-            b"QOBPhello woFPrldFEAOBPhello woFPrldFEC",
-            &[0; 8],
-        )
-    }
-
-    #[test]
-    fn other_sessions(rt: HostRuntime) -> Result<(), Fail> {
-        let alloc = rt.alloc();
-        let second = b"\x038 dfA002h1\nabcdefgh\x00\x0219 cfA002h1\nHh1\nPann\nfdfA002h1\n\x00";
-        let two = joined(alloc, &[QUEUE, DATA, CONTROL, second])?;
-        let rows: [(&[u8], &[u8], &[u8]); 9] = [
-            (
-                two.as_slice(),
-                b"QOBPhello woFPrldFECOBPabcdefghFEC",
-                &[0; 9],
-            ),
-            (b"\x02lp\n\x01\n", b"Q", &[0; 2]),
-            (b"\x02lp\n\x030 dfA001h1\n", b"Q", &[0, 1]),
-            (
-                b"\x02lp\n\x0311 dfA001h1\nhello world\x01",
-                b"QOBPhello woFPrldF",
-                &[0, 0, 1],
-            ),
-            (
-                b"\x02lp\n\x0214 cfA001h1\nHh1\nfdfA001h1\n\x00",
-                b"QO",
-                &[0, 0, 1],
-            ),
-            (b"\x02lp\n\x020 cfA001h1\n", b"Q", &[0, 1]),
-            (b"\x01lp\n", b"1", b""),
-            (b"\x03lp\tann  12\n", b"3", b""),
-            (b"\x05lp ann 001\n", b"5", b""),
-        ];
-        for (text, asked, written) in rows {
-            whole_and_octets(&rt, alloc, text, asked, written)?;
+#[test]
+fn other_sessions(rt: HostRuntime) -> Result<(), Fail> {
+    let alloc = rt.alloc();
+    let mut text = Vec::new(alloc);
+    for line in OTHERS.lines() {
+        if let Some(wanted) = read_line(alloc, &mut text, line)? {
+            whole_and_octets(&rt, alloc, text.as_slice(), wanted.as_slice())?;
+            text.clear();
         }
-        Ok(())
     }
-
-    #[test]
-    fn the_longest_line(rt: HostRuntime) -> Result<(), Fail> {
-        let alloc = rt.alloc();
-        let taken = joined(alloc, &[b"\x02lp", &[b' '; 1020], b"\n"])?;
-        whole_and_octets(&rt, alloc, taken.as_slice(), b"Q", &[0])?;
-        let refused = joined(alloc, &[b"\x02lp", &[b' '; 1021]])?;
-        whole_and_octets(&rt, alloc, refused.as_slice(), b"", &[1])
-    }
+    Ok(())
 }
