@@ -1,6 +1,6 @@
 //! A host's connection: its octets, and its requests of the core.
 
-ghost use Rattle.std.specs.Prelude.{◌≡◌, Some, None};
+ghost use Rattle.std.specs.Prelude.{◌≡◌, IfOk, IfSome, Some, None, []};
 ghost use Rattle.std.specs.Option.{ForSome};
 ghost use Rattle.receiver.specs.Reading.{Progress, Opening, Lending, Ending, Plain, IsFitting};
 ghost use Rattle.receiver.specs.View.{asked};
@@ -104,14 +104,24 @@ fn begin_file(core: &mut Core, job: JobNumber, name: FileName, count: u64) -> Re
     core.begin_file(job, name, count)
 }
 
+/// The page that the core lends, an empty ticket, or None where none is free.
+fn lent(core: &mut Core, job: JobNumber) -> Result<Option<PageTicket>, Refusal>
+    ensures { IfOk result (λ lent. IfSome lent (λ ticket. ticket.octets ≡ [])) }
+{
+    match core.ask(job)? {
+        Asked::Page(ticket) => Ok(Some(ticket)),
+        Asked::Later => Ok(None),
+    }
+}
+
 /// Asks the core for a page.
 fn ask(receiver: &mut Receiver, core: &mut Core, job: JobNumber) -> Turn
     requires { receiver.old.owed ≡ Some Lending }
     ensures { receiver.new.owed ≡ None }
 {
-    match core.ask(job) {
-        Ok(Asked::Page(ticket)) => receiver.reply(Answer::Ticket(ticket)),
-        Ok(Asked::Later) => {
+    match lent(core, job) {
+        Ok(Some(ticket)) => receiver.reply(Answer::Ticket(ticket)),
+        Ok(None) => {
             receiver.reply(Answer::Later);
             return Turn::Later;
         }

@@ -295,15 +295,23 @@ const AFTER_PAGE: &str = "
 4 1 | 1 1 0 2 1 | 2 1 0 2 1 => true after 3, free [2, 1]
 ";
 
+fn show_page(alloc: Global, text: &mut String, table: &Table) -> Result<(), AllocError> {
+    match decided_after_page(alloc, table, 1)? {
+        Some(verdict) => show_verdict(text, verdict, table.free()),
+        None => text.push_str("no page"),
+    }
+}
+
+fn show_verdict(text: &mut String, verdict: Verdict, free: &Counts) -> Result<(), AllocError> {
+    let Verdict { safe, tests } = verdict;
+    write!(text, "{safe} after {tests}, free {:?}", free.as_slice())
+}
+
 fn page_shown(alloc: Global, text: &str) -> Result<String, AllocError> {
     let table = read_table(alloc, text)?;
-    match decided_after_page(alloc, &table, 1)? {
-        Some(Verdict { safe, tests }) => {
-            let free = table.free().as_slice();
-            format!(in alloc; "{safe} after {tests}, free {free:?}")
-        }
-        None => String::from_str(alloc, "no page"),
-    }
+    let mut shown = String::new(alloc);
+    show_page(alloc, &mut shown, &table)?;
+    Ok(shown)
 }
 
 #[test]
@@ -340,15 +348,22 @@ fn take_away(sum: &mut Counts, less: &Counts) -> bool {
     there
 }
 
+/// Writes what comes of the sum, and where it was made, what is left when the second is taken away again.
+fn show_sum(text: &mut String, sum: &mut Counts, more: &Counts) -> Result<(), AllocError> {
+    let added = try_sum(sum, more);
+    write!(text, "{added:?} {:?}", sum.as_slice())?;
+    if added.is_ok() && take_away(sum, more) {
+        write!(text, " {:?}", sum.as_slice())?;
+    }
+    Ok(())
+}
+
 fn sum_shown(alloc: Global, text: &str) -> Result<String, AllocError> {
     let (sum, more) = text.split_once(" + ").unwrap_or((text, ""));
     let (mut sum, more) = (read_counts(alloc, sum)?, read_counts(alloc, more)?);
-    let added = try_sum(&mut sum, &more);
-    let mut text = format!(in alloc; "{added:?} {:?}", sum.as_slice())?;
-    if added.is_ok() && take_away(&mut sum, &more) {
-        write!(text, " {:?}", sum.as_slice())?;
-    }
-    Ok(text)
+    let mut shown = String::new(alloc);
+    show_sum(&mut shown, &mut sum, &more)?;
+    Ok(shown)
 }
 
 #[test]
