@@ -209,10 +209,7 @@ impl Session {
 
     /// Whether the session isn't over.
     pub fn is_open(&self) -> bool {
-        match &self.receiver {
-            Some(_) => true,
-            None => false,
-        }
+        self.receiver.is_some()
     }
 
     /// Octets arrive.
