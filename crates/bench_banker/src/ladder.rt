@@ -1,8 +1,10 @@
 //! Tables of claims whose decisions are measured.
 
+ghost use Rattle.std.specs.Prelude.{◌≡◌, ◌≤◌, length};
+
 use claims::Table;
 use counts::Counts;
-use ordered_safety::{PAGES, Scratch, safe_after_page};
+use ordered_safety::{PAGES, Scratch, Verdict, safe_after_page};
 use std::alloc::{AllocError, Global};
 use std::rt::Clock;
 use std::time::{Duration, Instant};
@@ -78,19 +80,46 @@ pub fn decide<R: AllocGlobal + Clock>(
     ladder: Ladder,
     rows: u32,
 ) -> io::Result<Option<(u64, Duration)>> {
-    let Some(table) = table_of(rt.alloc(), ladder, rows)? else {
+    match table_of(rt.alloc(), ladder, rows)? {
+        Some(table) => measure(rt, &table),
+        None => Ok(None),
+    }
+}
+
+/// How many comparisons the decision on this table takes, and how long.
+fn measure<R: AllocGlobal + Clock>(rt: &R, table: &Table) -> io::Result<Option<(u64, Duration)>> {
+    let mut scratch = Scratch::with_room(rt.alloc(), table.len(), table.capacity().kinds())?;
+    timed(rt, &mut scratch, table)
+}
+
+/// The decision, with the clock read before and after it.
+fn timed<R: Clock>(
+    rt: &R,
+    scratch: &mut Scratch,
+    table: &Table,
+) -> io::Result<Option<(u64, Duration)>>
+    requires rows { length table.now.rows ≤ scratch.old.rows }
+    requires kinds { length table.now.capacity ≡ scratch.old.kinds }
+{
+    let start = Instant::now(rt)?;
+    let Some(verdict) = decide_last(scratch, table) else {
         return Ok(None);
     };
-    let mut scratch = Scratch::with_room(rt.alloc(), table.len(), table.capacity().kinds())?;
-    let last = table.len().saturating_sub(1);
-    if last >= table.len() || table.capacity().kinds() == 0 {
-        return Ok(None);
-    }
-    if table.free().get(PAGES) == 0 || table.rows()[last].need.get(PAGES) == 0 {
-        return Ok(None);
-    }
-    let start = Instant::now(rt)?;
-    let verdict = safe_after_page(&mut scratch, &table, last);
     let took = start.elapsed(rt)?;
     Ok(Some((verdict.tests, took)))
+}
+
+/// Decides whether the last row may have a page. None where it can't ask for one.
+fn decide_last(scratch: &mut Scratch, table: &Table) -> Option<Verdict>
+    requires rows { length table.now.rows ≤ scratch.old.rows }
+    requires kinds { length table.now.capacity ≡ scratch.old.kinds }
+{
+    let last = table.len().checked_sub(1)?;
+    if table.capacity().kinds() == 0 || table.free().get(PAGES) == 0 {
+        return None;
+    }
+    if table.rows()[last].need.get(PAGES) == 0 {
+        return None;
+    }
+    Some(safe_after_page(scratch, table, last))
 }

@@ -47,7 +47,12 @@ pub fn parse_line(alloc: Global, line: &[u8]) -> Result<ScriptLine, LineFault> {
         return Err(LineFault::Bad);
     };
     let words: Vec<&str> = text.split(' ').collect(alloc)?;
-    match words.as_slice() {
+    parse_words(alloc, words.as_slice())
+}
+
+/// Reads the words of a line.
+fn parse_words(alloc: Global, words: &[&str]) -> Result<ScriptLine, LineFault> {
+    match words {
         ["connect", host] if is_host(host) => Ok(ScriptLine::Connect),
         ["send", session, octets] => {
             let session = number(session)?;
