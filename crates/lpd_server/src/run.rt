@@ -4,8 +4,8 @@ ghost use Rattle.std.specs.Prelude.{◌≤◌, length};
 
 use crate::fault::Fault;
 use crate::script::{LineFault, ScriptLine, parse_line};
-use crate::world::{Stop, Told, World, Wrote};
-use spool_core::Printed;
+use crate::world::{Stop, Told, World};
+use spool_core::{HandedPage, Printed};
 use std::alloc::Global;
 use std::io::{ErrorKind, Read, Write};
 
@@ -31,13 +31,28 @@ pub fn run_input<R: Read, W: Write, E: Write>(
 
 fn run_all<R: Read, W: Write>(alloc: Global, input: &mut R, output: &mut W) -> Result<(), Fault> {
     let all = read_all(alloc, input)?;
-    let (config, script) = parts(all.as_slice());
+    run_text(alloc, all.as_slice(), output)
+}
+
+/// Runs the script of a text on the spool that its configuration gives.
+fn run_text<W: Write>(alloc: Global, text: &[u8], output: &mut W) -> Result<(), Fault> {
+    let (config, script) = parts(text);
     let config = spool_config::read(alloc, config)?;
     let mut world = World::new(alloc, config)?;
+    run_script(alloc, &mut world, script, output)
+}
+
+/// Runs a script line by line.
+fn run_script<W: Write>(
+    alloc: Global,
+    world: &mut World,
+    script: &[u8],
+    output: &mut W,
+) -> Result<(), Fault> {
     let mut number = 0u64;
     for line in script.split(|octet| *octet == b'\n') {
         number = number.saturating_add(1);
-        run_line(alloc, &mut world, line, number, output)?;
+        run_line(alloc, world, line, number, output)?;
     }
     Ok(())
 }
@@ -136,12 +151,23 @@ fn send<W: Write>(
         return writeln!(output, "1: gone").map_err(|_| Fault::WriteFile);
     }
     world.arrive(octets)?;
-    let Wrote { octets, stop } = world.go()?;
-    let wrote = hex::encode(alloc, octets.as_slice())?;
-    let text = if octets.is_empty() {
+    let mut wrote = Vec::new(alloc);
+    let stop = world.go(&mut wrote)?;
+    print_written(alloc, wrote.as_slice(), stop, output)
+}
+
+/// Prints what the session wrote, and why it stopped.
+fn print_written<W: Write>(
+    alloc: Global,
+    wrote: &[u8],
+    stop: Stop,
+    output: &mut W,
+) -> Result<(), Fault> {
+    let octets = hex::encode(alloc, wrote)?;
+    let text = if wrote.is_empty() {
         "-"
     } else {
-        wrote.as_str()
+        octets.as_str()
     };
     let end = match stop {
         Stop::Waiting => "",
@@ -166,20 +192,29 @@ fn next<W: Write>(
     output: &mut W,
 ) -> Result<(), Fault> {
     let told = world.next(printer);
-    let written = match (told, world.page_at(printer)) {
-        (Told::Handed, Some(page)) => {
-            let octets = hex::encode(alloc, page.bytes())?;
-            let job = page.job();
-            let place = page.place();
-            writeln!(
-                output,
-                "printer {printer}: job {job} place {place} {octets}"
-            )
+    match (told, world.page_at(printer)) {
+        (Told::Handed, Some(page)) => print_page(alloc, printer, page, output),
+        (Told::Busy, _) => {
+            writeln!(output, "printer {printer}: busy").map_err(|_| Fault::WriteFile)
         }
-        (Told::Busy, _) => writeln!(output, "printer {printer}: busy"),
-        _ => writeln!(output, "printer {printer}: nothing"),
-    };
-    written.map_err(|_| Fault::WriteFile)
+        _ => writeln!(output, "printer {printer}: nothing").map_err(|_| Fault::WriteFile),
+    }
+}
+
+/// Prints the page that a printer gets.
+fn print_page<W: Write>(
+    alloc: Global,
+    printer: u32,
+    page: &HandedPage,
+    output: &mut W,
+) -> Result<(), Fault> {
+    let octets = hex::encode(alloc, page.bytes())?;
+    let (job, place) = (page.job(), page.place());
+    writeln!(
+        output,
+        "printer {printer}: job {job} place {place} {octets}"
+    )
+    .map_err(|_| Fault::WriteFile)
 }
 
 /// A printer has printed its page.

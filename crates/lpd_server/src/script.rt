@@ -54,24 +54,23 @@ pub fn parse_line(alloc: Global, line: &[u8]) -> Result<ScriptLine, LineFault> {
 fn parse_words(alloc: Global, words: &[&str]) -> Result<ScriptLine, LineFault> {
     match words {
         ["connect", host] if is_host(host) => Ok(ScriptLine::Connect),
-        ["send", session, octets] => {
-            let session = number(session)?;
-            let octets = octets_of(alloc, octets)?;
-            Ok(ScriptLine::Send { session, octets })
-        }
-        ["go", session] => Ok(ScriptLine::Go {
+        ["send", session, octets] => Ok(ScriptLine::Send {
             session: number(session)?,
-        }),
-        ["break", session] => Ok(ScriptLine::Break {
-            session: number(session)?,
-        }),
-        ["next", printer] => Ok(ScriptLine::Next {
-            printer: number(printer)?,
-        }),
-        ["printed", printer] => Ok(ScriptLine::Printed {
-            printer: number(printer)?,
+            octets: octets_of(alloc, octets)?,
         }),
         ["free"] => Ok(ScriptLine::Free),
+        [word, operand] => parse_numbered(word, number(operand)?),
+        _ => Err(LineFault::Bad),
+    }
+}
+
+/// Reads a line of a word and the number of a session or a printer.
+fn parse_numbered(word: &str, number: u32) -> Result<ScriptLine, LineFault> {
+    match word {
+        "go" => Ok(ScriptLine::Go { session: number }),
+        "break" => Ok(ScriptLine::Break { session: number }),
+        "next" => Ok(ScriptLine::Next { printer: number }),
+        "printed" => Ok(ScriptLine::Printed { printer: number }),
         _ => Err(LineFault::Bad),
     }
 }

@@ -7,13 +7,6 @@ use crate::session::{Session, Turn};
 use spool_core::{Config, Core, Foreign, HandedPage, Next, Printed};
 use std::alloc::{AllocError, AllocFailed, Global};
 
-/// What a session wrote, and why it stopped.
-#[derive(Drop)]
-pub struct Wrote {
-    pub octets: Vec<u8>,
-    pub stop: Stop,
-}
-
 /// Why a session stopped.
 #[derive(Clone, Copy)]
 pub enum Stop {
@@ -151,30 +144,22 @@ impl World {
         }
     }
 
-    /// The session goes on until it waits or is over.
-    pub fn go(&mut self) -> Result<Wrote, AllocError> {
-        let mut octets = Vec::new(self.alloc);
+    /// The session goes on until it waits or is over. What it writes is put behind these octets.
+    pub fn go(&mut self, wrote: &mut Vec<u8>) -> Result<Stop, AllocError> {
         for _ in 0..u64::MAX {
             let turn = match &mut self.session {
                 Some(session) => session.turn(&mut self.core),
                 None => Turn::Over,
             };
-            let stop = match turn {
-                Turn::Went => continue,
-                Turn::Wrote(octet) => {
-                    octets.push(octet)?;
-                    continue;
-                }
-                Turn::Waiting => Stop::Waiting,
-                Turn::Later => Stop::Later,
-                Turn::Over => Stop::Ended,
-            };
-            return Ok(Wrote { octets, stop });
+            match turn {
+                Turn::Went => {}
+                Turn::Wrote(octet) => wrote.push(octet)?,
+                Turn::Waiting => return Ok(Stop::Waiting),
+                Turn::Later => return Ok(Stop::Later),
+                Turn::Over => return Ok(Stop::Ended),
+            }
         }
-        Ok(Wrote {
-            octets,
-            stop: Stop::Later,
-        })
+        Ok(Stop::Later)
     }
 
     /// The session's connection breaks.
