@@ -18,4 +18,6 @@ mod pages;
 #[cfg(test)]
 mod rows;
 #[cfg(test)]
+mod scripts;
+#[cfg(test)]
 mod sessions;

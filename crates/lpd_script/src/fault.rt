@@ -1,5 +1,7 @@
 //! What stops the program: one line on standard error, and an exit status.
 
+ghost use Rattle.std.specs.Prelude.{◌≤◌};
+
 use spool_config::ConfigFault;
 use std::alloc::AllocError;
 use thiserror::Error;
@@ -38,7 +40,9 @@ impl From<ConfigFault> for Fault {
 
 impl Fault {
     /// The exit status: 2 for the configuration, 3 for the script, 4 for the rest.
-    pub fn status(self) -> u8 {
+    pub fn status(self) -> u8
+        ensures { result ≤ 4 }
+    {
         match self {
             Fault::Config(ConfigFault::Memory) => 4,
             Fault::Config(_) => 2,

@@ -1,6 +1,6 @@
 //! The main job, from its input to its output, by book: each script stands beside what it prints.
 
-use crate::run::run_input;
+use lpd_script::run_input;
 use std::alloc::{AllocError, Global};
 use std::process::Abort;
 use std::test::Fail;

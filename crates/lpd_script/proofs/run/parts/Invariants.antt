@@ -1,5 +1,5 @@
 use Rattle.std.proofs.Common.{◌≤◌, ◌-◌, length}
-use Rattle.lpd_server.proofs.run.parts.Given as goal
+use Rattle.lpd_script.proofs.run.parts.Given as goal
 
 abbrev pub invariant-loop-start : goal.invariant-loop-start
 invariant-loop-start l = l.start ≤ length l.text

@@ -19,7 +19,9 @@ pub fn run_input<R: Read, W: Write, E: Write>(
     input: &mut R,
     output: &mut W,
     faults: &mut E,
-) -> u8 {
+) -> u8
+    ensures { result ≤ 4 }
+{
     match run_all(alloc, input, output) {
         Ok(()) => 0,
         Err(fault) => {
@@ -128,16 +130,21 @@ fn run_line<W: Write>(
         }
         ScriptLine::Free => {
             let free = world.free();
-            writeln!(output, "free {free}").map_err(|_| Fault::WriteFile)
+            written(writeln!(output, "free {free}"))
         }
         _ => Err(Fault::BadScript(number)),
     }
 }
 
+/// A line that can't be written is a fault.
+fn written(line: std::io::Result<()>) -> Result<(), Fault> {
+    line.map_err(|_| Fault::WriteFile)
+}
+
 /// A host connects.
 fn connect<W: Write>(world: &mut World, output: &mut W) -> Result<(), Fault> {
     world.connect()?;
-    writeln!(output, "session 1").map_err(|_| Fault::WriteFile)
+    written(writeln!(output, "session 1"))
 }
 
 /// Octets arrive for the session, which goes on as far as it can.
@@ -148,7 +155,7 @@ fn send<W: Write>(
     output: &mut W,
 ) -> Result<(), Fault> {
     if !world.is_open() {
-        return writeln!(output, "1: gone").map_err(|_| Fault::WriteFile);
+        return written(writeln!(output, "1: gone"));
     }
     world.arrive(octets)?;
     let mut wrote = Vec::new(alloc);
@@ -174,14 +181,14 @@ fn print_written<W: Write>(
         Stop::Later => " later",
         Stop::Ended => " ended",
     };
-    writeln!(output, "1: {text}{end}").map_err(|_| Fault::WriteFile)
+    written(writeln!(output, "1: {text}{end}"))
 }
 
 /// The session's connection breaks.
 fn break_off<W: Write>(world: &mut World, output: &mut W) -> Result<(), Fault> {
     let told = if world.is_open() { "broken" } else { "gone" };
     world.break_off();
-    writeln!(output, "1: {told}").map_err(|_| Fault::WriteFile)
+    written(writeln!(output, "1: {told}"))
 }
 
 /// A printer asks for its next page.
@@ -194,10 +201,8 @@ fn next<W: Write>(
     let told = world.next(printer);
     match (told, world.page_at(printer)) {
         (Told::Handed, Some(page)) => print_page(alloc, printer, page, output),
-        (Told::Busy, _) => {
-            writeln!(output, "printer {printer}: busy").map_err(|_| Fault::WriteFile)
-        }
-        _ => writeln!(output, "printer {printer}: nothing").map_err(|_| Fault::WriteFile),
+        (Told::Busy, _) => written(writeln!(output, "printer {printer}: busy")),
+        _ => written(writeln!(output, "printer {printer}: nothing")),
     }
 }
 
@@ -210,11 +215,10 @@ fn print_page<W: Write>(
 ) -> Result<(), Fault> {
     let octets = hex::encode(alloc, page.bytes())?;
     let (job, place) = (page.job(), page.place());
-    writeln!(
+    written(writeln!(
         output,
         "printer {printer}: job {job} place {place} {octets}"
-    )
-    .map_err(|_| Fault::WriteFile)
+    ))
 }
 
 /// A printer has printed its page.
@@ -224,5 +228,5 @@ fn printed<W: Write>(world: &mut World, printer: u32, output: &mut W) -> Result<
         Some(Printed::Done) => "done",
         None => "no page",
     };
-    writeln!(output, "printer {printer}: {told}").map_err(|_| Fault::WriteFile)
+    written(writeln!(output, "printer {printer}: {told}"))
 }
