@@ -20,25 +20,22 @@ fn is_named(number: u64, jobs: &[u64]) -> bool
 }
 
 /// Puts a page at the end of the last file.
-fn put_in_last(files: &mut Vec<File>, page: Outline) -> Result<(), AllocError>
-    ensures { OnOk result (map file_seen files.new.items ≡ A.at_last (λ f. record f { pages = f.pages ++ page ∷ [] }) (map file_seen files.old.items)) }
+fn put_in_last(files: &mut [File], page: Outline) -> Result<(), AllocError>
+    ensures { OnOk result (map file_seen files.new ≡ A.at_last (λ f. record f { pages = f.pages ++ page ∷ [] }) (map file_seen files.old)) }
 {
-    if let Some(mut file) = files.pop() {
+    if let Some(file) = files.last_mut() {
         file.pages.push(page)?;
-        files.push(file)?;
     }
     Ok(())
 }
 
 /// Ends the last file.
-fn end_last(files: &mut Vec<File>) -> Result<(), AllocError>
-    ensures { OnOk result (map file_seen files.new.items ≡ A.at_last (λ f. record f { ended = true }) (map file_seen files.old.items)) }
+fn end_last(files: &mut [File])
+    ensures { map file_seen files.new ≡ A.at_last (λ f. record f { ended = true }) (map file_seen files.old) }
 {
-    if let Some(mut file) = files.pop() {
+    if let Some(file) = files.last_mut() {
         file.ended = true;
-        files.push(file)?;
     }
-    Ok(())
 }
 
 impl Job {
@@ -64,9 +61,9 @@ impl Job {
             })?,
             Act::Put(_, _, page) => {
                 self.lent = false;
-                put_in_last(&mut self.files, *page)?;
+                put_in_last(self.files.as_mut_slice(), *page)?;
             }
-            Act::FileEnded(_, _) => end_last(&mut self.files)?,
+            Act::FileEnded(_, _) => end_last(self.files.as_mut_slice()),
             Act::Controlled(control, _) => self.control = Some(control.copy(alloc)?),
             Act::Aborted => {
                 self.lent = false;
