@@ -6,8 +6,8 @@ use Rattle.std.proofs.lemmas.List.{take-append-drop, map-append, get_or_default}
 use Rattle.std.proofs.lemmas.List.Sums.{sum_by_push}
 use Rattle.counts.specs.Amounts.{amount, Fits}
 use Rattle.claims.specs.declared.row.Row.{Row}
-use Rattle.ordered_safety.specs.Safety.{KeepsLine, HasFinishingOrder, freed}
-use Rattle.ordered_safety.proofs.Orders.{safe_first, safe_without, safe_more, some_first}
+use Rattle.claims.specs.Safety.{KeepsLine, HasFinishingOrder, freed}
+use Rattle.claims.proofs.Orders.{safe_first, safe_without, safe_more, some_first}
 use Rattle.spool_history.specs.Setup as S
 use Rattle.history_reader.specs.declared.orders.Claim.{Claim}
 use Rattle.history_reader.specs.Claimed.{row_seen, rows_seen, with_back, claim_at, no_claim, GoesAt}

@@ -3,7 +3,7 @@ use Rattle.std.specs.Prelude.{ℕ, ◌+◌, ◌-◌, List, map, remove, sum_by, 
 use Rattle.std.specs.List.{AllByRecursion}
 use Rattle.counts.specs.Amounts.{amount, Fits}
 use Rattle.claims.specs.declared.row.Row.{Row}
-use Rattle.ordered_safety.specs.Safety.{KeepsLine, HasFinishingOrder, freed}
+use Rattle.claims.specs.Safety.{KeepsLine, HasFinishingOrder, freed}
 use Rattle.spool_history.specs.Setup as S
 use Rattle.spool_history.specs.Now.{Job, amounts, capacity}
 use Rattle.history_reader.specs.declared.orders.Claim.{Claim}

@@ -32,7 +32,7 @@ pub(crate) fn printer_at(printers: &[Printer], place: usize) -> Printer
 
 /// Whether one of these jobs is of the same sender and queue and came earlier.
 fn has_earlier(job: &Job, jobs: &[Job]) -> bool
-    ensures { result ≡ list_any (X.is_before (job_seen job.now)) (map job_seen jobs.now) }
+    ensures { result ≡ list_any (X.is_preceded_by (job_seen job.now)) (map job_seen jobs.now) }
 {
     let Some((first, rest)) = jobs.split_first() else {
         return false;

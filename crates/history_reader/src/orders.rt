@@ -3,7 +3,7 @@
 ghost use Rattle.std.specs.Prelude.{◌≡◌, ◌+◌, ◌-◌, ◌↔◌, IfOk, IsTrue, length};
 ghost use Rattle.std.specs.List.{AllByRecursion};
 ghost use Rattle.counts.specs.Amounts.{amount, Fits};
-ghost use Rattle.ordered_safety.specs.Safety.{KeepsLine, HasFinishingOrder};
+ghost use Rattle.claims.specs.Safety.{KeepsLine, HasFinishingOrder};
 ghost use Rattle.history_reader.specs.Seen.{setup_seen};
 ghost use Rattle.spool_history.specs.Now.{amounts};
 ghost use Rattle.history_reader.specs.Claimed.{row_seen, rows_seen, held_in, with_back};

@@ -9,9 +9,9 @@ use Rattle.counts.specs.Amounts.{amount, Fits}
 use Rattle.claims.specs.declared.row.Row.{Row}
 use Rattle.claims.specs.Claims.{Pairwise, IsLower, row_at, no_row, held_of}
 use Rattle.claims.proofs.Tables.{pairwise_without}
-use Rattle.ordered_safety.specs.Safety.{freed, KeepsLine, same_line, HasFinishingOrder, AreFinishing}
+use Rattle.claims.specs.Safety.{freed, KeepsLine, same_line, HasFinishingOrder, AreFinishing}
 use Rattle.ordered_safety.specs.Scan.{rows_at, row_of, MayGoAt, HasTurn}
-use Rattle.ordered_safety.proofs.Orders.{MayGo, GoesFirst, safe_first, safe_without, safe_more, some_first, numbers_first, numbers_more, numbers_after, number_there}
+use Rattle.claims.proofs.Orders.{MayGo, GoesFirst, safe_first, safe_without, safe_more, some_first, numbers_first, numbers_more, numbers_after, number_there}
 
 abbrev pub front : List Row → List ℕ → ℕ → List Row
 front rows left at = rows_at rows (take at left)

@@ -7,9 +7,9 @@ use Rattle.counts.specs.Amounts.{amount, sum_of}
 use Rattle.counts.proofs.Sums.{amount-sum_of}
 use Rattle.claims.specs.declared.row.Row.{Row}
 use Rattle.claims.specs.Claims.{HaveKinds, row_at, no_row}
-use Rattle.ordered_safety.specs.Safety.{AreFinishing}
+use Rattle.claims.specs.Safety.{AreFinishing}
 use Rattle.ordered_safety.specs.Scan.{rows_at, row_of, MayGoAt}
-use Rattle.ordered_safety.proofs.Orders.{no_rows}
+use Rattle.claims.proofs.Orders.{no_rows}
 use Rattle.ordered_safety.proofs.Picks.{get_or_map, Gives}
 
 -- all places give all rows

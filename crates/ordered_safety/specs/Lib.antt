@@ -1,4 +1,4 @@
-pub mod Safety
 pub mod Changed
 pub mod Scan
 pub mod Room
+pub use Rattle.claims.specs.Safety

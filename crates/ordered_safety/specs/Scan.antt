@@ -3,7 +3,7 @@ use Rattle.std.specs.Prelude.{◌≡◌, ℕ, ◌+◌, ◌<◌, ◌^◌, false, 
 use Rattle.counts.specs.Amounts.{amount, Fits}
 use Rattle.claims.specs.declared.row.Row.{Row}
 use Rattle.claims.specs.Claims.{row_at, held_of}
-use Rattle.ordered_safety.specs.Safety.{same_line}
+use Rattle.claims.specs.Safety.{same_line}
 
 -- the rows at these places
 abbrev pub rows_at : List Row → List ℕ → List Row

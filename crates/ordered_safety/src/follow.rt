@@ -1,7 +1,7 @@
 ghost use Rattle.std.specs.Prelude.{◌≡◌, ℕ, ◌<◌, ◌≤◌, ◌^◌, ◌↔◌, IsTrue, IfSome, IfNone, length, vec_capacity, All};
 ghost use Rattle.counts.specs.Amounts.{amount};
 ghost use Rattle.claims.specs.Claims.{IsLower, Pairwise, HaveKinds};
-ghost use Rattle.ordered_safety.specs.Safety.{AreFinishing};
+ghost use Rattle.claims.specs.Safety.{AreFinishing};
 ghost use Rattle.ordered_safety.specs.Scan.{HasTurn, StaysSmall};
 
 use crate::rows::Rows;

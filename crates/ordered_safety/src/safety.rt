@@ -2,7 +2,7 @@ ghost use Rattle.std.specs.Prelude.{◌≡◌, ◌+◌, ◌*◌, ◌<◌, ◌≤
 ghost use Rattle.counts.specs.Amounts.{amount};
 ghost use Rattle.claims.specs.Claims.{row_at};
 ghost use Rattle.claims.specs.Changes.{granted, granted_row};
-ghost use Rattle.ordered_safety.specs.Safety.{IsSafe, FinishesBy};
+ghost use Rattle.claims.specs.Safety.{IsSafe, FinishesBy};
 
 use crate::follow::follow;
 use crate::order::Order;

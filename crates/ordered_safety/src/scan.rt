@@ -1,7 +1,7 @@
 ghost use Rattle.std.specs.Prelude.{◌≡◌, ℕ, ◌+◌, ◌*◌, ◌<◌, ◌≤◌, ◌^◌, ◌↔◌, false, IsTrue, IfSome, IfNone, length, slice_index, vec_capacity, All};
 ghost use Rattle.counts.specs.Amounts.{amount};
 ghost use Rattle.claims.specs.Claims.{IsLower, Pairwise, HaveKinds};
-ghost use Rattle.ordered_safety.specs.Safety.{HasFinishingOrder, AreFinishing};
+ghost use Rattle.claims.specs.Safety.{HasFinishingOrder, AreFinishing};
 ghost use Rattle.ordered_safety.specs.Scan.{IsHead, MayGoAt, StaysSmall, rows_at};
 
 use crate::rows::Rows;

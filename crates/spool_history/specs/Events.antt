@@ -2,10 +2,8 @@
 use Rattle.std.specs.Prelude.{ℕ, Bool, List}
 use Rattle.control_file.specs.Text.{Contents}
 
--- what the session of a job does; C is what a page holds
+-- what the session of an accepted job does; C is what a page holds
 pub data Act (C : Type 0) : Type 0 where
-  -- the job was accepted, from a sender for a queue
-  Opened : (sender queue : ℕ) → Act C
   -- an empty page was lent to it
   Granted : Act C
   -- a data file began: its name, and its length in octets
@@ -40,6 +38,8 @@ pub data Turn : Type 0 where
   Failed : Turn
 
 pub data Event (C : Type 0) : Type 0 where
+  -- a job was accepted, from a sender for a queue
+  Opened : (job sender queue : ℕ) → Event C
   OfJob : (job : ℕ) (act : Act C) → Event C
   AtPrinter : (printer : ℕ) (sheet : Sheet C) (turn : Turn) → Event C
   -- jobs of a queue were removed

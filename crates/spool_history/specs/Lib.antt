@@ -1,4 +1,3 @@
-pub mod Setup
 pub mod Events
 pub mod Acts
 pub mod Said
@@ -6,12 +5,6 @@ pub mod Now
 pub mod Next
 pub mod Steps
 pub mod Legal
-pub mod Rows
-pub mod MoreRows
-pub mod Claims
-pub mod Refused
 pub mod Told
 pub mod Choice
 pub mod Texts
-pub mod TextRows
-pub mod Waiting

@@ -1,5 +1,5 @@
 -- Which page a printer gets next.
-use Rattle.std.specs.Prelude.{ℕ, ◌-◌, ◌==◌, ◌&&◌, not, nat_lt, Bool, false, List, [], ◌∷◌, Option, Some, None, drop, find, if◌then◌else◌, slice_index_or}
+use Rattle.std.specs.Prelude.{ℕ, ◌==◌, ◌&&◌, not, nat_lt, Bool, false, List, [], ◌∷◌, Option, Some, None, drop, find, if◌then◌else◌, slice_index_or}
 use Rattle.std.specs.List.{list_any}
 use Rattle.spool_history.specs.Events.{Sheet}
 use Rattle.spool_history.specs.Acts.{Page}
@@ -22,13 +22,13 @@ abbrev pub hand_of : {C : Type 0} → Option (Job C) → Next C
 hand_of None = Nothing
 hand_of (Some v) = hand_first v.number v.handed (drop v.handed (places v))
 
--- an earlier job of the same sender and queue
-abbrev pub is_before : {C : Type 0} → Job C → Job C → Bool
-is_before w v = (v.sender == w.sender) && ((v.queue == w.queue) && nat_lt v.number w.number)
+-- whether the second is an earlier job of the first's sender and queue
+abbrev pub is_preceded_by : {C : Type 0} → Job C → Job C → Bool
+is_preceded_by w v = (v.sender == w.sender) && ((v.queue == w.queue) && nat_lt v.number w.number)
 
 -- received and not ended, with no page handed, and all earlier jobs of its sender and queue are gone
 abbrev pub is_ready : {C : Type 0} → List (Job C) → Job C → Bool
-is_ready jobs w = is_received w && (not w.ended && ((w.handed == 0) && not (list_any (is_before w) jobs)))
+is_ready jobs w = is_received w && (not w.ended && ((w.handed == 0) && not (list_any (is_preceded_by w) jobs)))
 
 -- the least-numbered ready job of a queue
 abbrev pub first_ready : {C : Type 0} → List (Job C) → ℕ → Option (Job C)
@@ -54,8 +54,9 @@ next_at jobs p = if p.stopped then Stops else with_out jobs p p.out
 abbrev pub no_printer : {C : Type 0} → Printer C
 no_printer = record { queue = 0; out = None; began = None; stopped = false }
 
+-- the printer of a number; 0 is the number of none
 abbrev pub printer_at : {C : Type 0} → State C → ℕ → Printer C
-printer_at v p = slice_index_or v.printers (p - 1) no_printer
+printer_at v p = slice_index_or (no_printer ∷ v.printers) p no_printer
 
 -- after the close nothing is handed
 abbrev pub next_page : {C : Type 0} → State C → ℕ → Next C

@@ -1,11 +1,11 @@
 -- Where a history leaves a spool: its held jobs, its printers, and what they hold and may still need.
-use Rattle.std.specs.Prelude.{ℕ, zero, suc, ◌-◌, ◌==◌, ◌||◌, not, Bool, List, [], ◌∷◌, ◌++◌, Option, map, filter, length, sum_by, if◌then◌else◌}
+use Rattle.std.specs.Prelude.{ℕ, zero, suc, ◌+◌, ◌-◌, ◌==◌, ◌||◌, not, Bool, List, [], ◌∷◌, ◌++◌, Option, map, filter, length, sum_by, if◌then◌else◌}
 use Rattle.counts.specs.Amounts.{amount}
 use Rattle.claims.specs.declared.row.Row.{Row}
-use Rattle.ordered_safety.specs.Safety.{HasFinishingOrder}
+use Rattle.claims.specs.Safety.{HasFinishingOrder}
 use Rattle.control_file.specs.Text.{Contents}
 use Rattle.spool_history.specs.Events.{Event, Sheet}
-use Rattle.spool_history.specs.Setup.{Setup, Queue, limit_of, printer_count, queue_of, reserve_of}
+use Rattle.config_values.specs.Config.{Config, Queue, limit_of, printer_count, queue_of, reserve_of}
 use Rattle.spool_history.specs.Acts.{File, Page, granted_by, is_lent_by, files_by, control_by, is_whole, places_in}
 use Rattle.spool_history.specs.Said.{Opening, openings, acts_of, handed_of, back_of, has_ended, out_at, began_at, is_stopped_at, is_closed}
 
@@ -61,7 +61,7 @@ pub record Printer (C : Type 0) : Type 0 where
   pub began : Option ℕ
   pub stopped : Bool
 
-abbrev pub printer_of : {C : Type 0} → Setup → List (Event C) → ℕ → Printer C
+abbrev pub printer_of : {C : Type 0} → Config → List (Event C) → ℕ → Printer C
 printer_of c h p = record {
   queue = queue_of c p;
   out = out_at h p;
@@ -75,7 +75,7 @@ up_to zero = []
 up_to (suc n) = up_to n ++ suc n ∷ []
 
 pub record State (C : Type 0) : Type 0 where
-  pub setup : Setup
+  pub config : Config
   -- the held jobs, in order of acceptance
   pub jobs : List (Job C)
   -- how many jobs were accepted, and the reserves of them all
@@ -84,9 +84,9 @@ pub record State (C : Type 0) : Type 0 where
   pub printers : List (Printer C)
   pub closed : Bool
 
-abbrev pub now : {C : Type 0} → Setup → List (Event C) → State C
+abbrev pub now : {C : Type 0} → Config → List (Event C) → State C
 now c h = record {
-  setup = c;
+  config = c;
   jobs = filter is_held (map (job_of h) (openings h));
   accepted = length (openings h);
   reserved = sum_by (λ (o : Opening). reserve_of c o.queue) (openings h);
@@ -94,26 +94,30 @@ now c h = record {
   closed = is_closed h;
 }
 
--- the pages that a held job holds: what was lent to it; once received, the places that haven't come back; once ended, the one that is out
+-- the pages of a job that are out: one where one is lent to its session, and one for each that is at a printer
+abbrev pub pages_out : {C : Type 0} → Job C → ℕ
+pages_out v = (if v.lent then 1 else 0) + (v.handed - v.back)
+
+-- the pages that a held job holds: what was lent to it; once received, the places that haven't come back; once ended, those that are out
 abbrev pub pages_held : {C : Type 0} → Job C → ℕ
-pages_held v = if v.ended then 1 else (if is_received v then length (places v) - v.back else v.granted)
+pages_held v = if v.ended then pages_out v else (if is_received v then length (places v) - v.back else v.granted)
 
 -- the printers of its queue that it holds: one from its first page on
 abbrev pub printers_held : {C : Type 0} → Job C → ℕ
 printers_held v = if v.handed == 0 then 0 else 1
 
 -- what it may still need (Habermann: its claim less what it holds)
-abbrev pub pages_needed : {C : Type 0} → Setup → Job C → ℕ
+abbrev pub pages_needed : {C : Type 0} → Config → Job C → ℕ
 pages_needed c v = if v.ended || is_received v then 0 else limit_of c v.queue - v.granted
 
 abbrev pub printers_needed : {C : Type 0} → Job C → ℕ
 printers_needed v = if v.ended then 0 else (if v.handed == 0 then 1 else 0)
 
 -- an amount for pages, and then one for each queue's printers, all but the job's own queue's 0
-abbrev pub amounts : Setup → ℕ → (queue printers : ℕ) → List ℕ
+abbrev pub amounts : Config → ℕ → (queue printers : ℕ) → List ℕ
 amounts c pages queue printers = pages ∷ map (λ (q : ℕ). if q == queue then printers else 0) (up_to (length c.queues))
 
-abbrev pub row_of : {C : Type 0} → Setup → Job C → Row
+abbrev pub row_of : {C : Type 0} → Config → Job C → Row
 row_of c v = record {
   number = v.number;
   sender = v.sender;
@@ -123,16 +127,16 @@ row_of c v = record {
 }
 
 -- what there is of each kind
-abbrev pub capacity : Setup → List ℕ
+abbrev pub capacity : Config → List ℕ
 capacity c = c.pages ∷ map (λ (q : Queue). q.printers) c.queues
 
 -- what is free of each kind: what no held job holds
 abbrev pub free_amount : {C : Type 0} → State C → ℕ → ℕ
-free_amount v kind = amount (capacity v.setup) kind - sum_by (λ (row : Row). amount row.held kind) (map (row_of v.setup) v.jobs)
+free_amount v kind = amount (capacity v.config) kind - sum_by (λ (row : Row). amount row.held kind) (map (row_of v.config) v.jobs)
 
 abbrev pub free_pages : {C : Type 0} → State C → ℕ
 free_pages v = free_amount v 0
 
 -- a finishing order of the held jobs exists
 abbrev pub IsSafeNow : {C : Type 0} → State C → Type 0
-IsSafeNow v = HasFinishingOrder (free_amount v) (map (row_of v.setup) v.jobs)
+IsSafeNow v = HasFinishingOrder (free_amount v) (map (row_of v.config) v.jobs)

@@ -2,10 +2,10 @@
 use Rattle.std.specs.Prelude.{ℕ, ◌+◌, ◌==◌, ◌||◌, ◌&&◌, not, Bool, true, false, List, [], ◌∷◌, ◌++◌, Option, Some, None, if◌then◌else◌}
 use Rattle.std.specs.List.{list_any}
 use Rattle.spool_history.specs.Events.{Act, Sheet, Turn, Event}
-use Rattle.spool_history.specs.Events.Act.{Opened, Aborted}
+use Rattle.spool_history.specs.Events.Act.{Aborted}
 use Rattle.spool_history.specs.Events.Progress.{Done}
 use Rattle.spool_history.specs.Events.Turn.{Handed, Printed, Failed}
-use Rattle.spool_history.specs.Events.Event.{OfJob, AtPrinter, Removed, Started, Closed}
+use Rattle.spool_history.specs.Events.Event.{Opened, OfJob, AtPrinter, Removed, Started, Closed}
 
 -- a job that was accepted
 pub record Opening : Type 0 where
@@ -13,14 +13,10 @@ pub record Opening : Type 0 where
   pub sender : ℕ
   pub queue : ℕ
 
-abbrev pub opening_by : {C : Type 0} → ℕ → Act C → List Opening
-opening_by j (Opened sender queue) = record { job = j; sender = sender; queue = queue } ∷ []
-opening_by j _ = []
-
 -- the accepted jobs, in order of acceptance
 abbrev pub openings : {C : Type 0} → List (Event C) → List Opening
 openings [] = []
-openings (OfJob j act ∷ h) = openings h ++ opening_by j act
+openings (Opened j sender queue ∷ h) = openings h ++ record { job = j; sender = sender; queue = queue } ∷ []
 openings (_ ∷ h) = openings h
 
 -- what a job's session did, the newest first
@@ -57,6 +53,7 @@ ends_by_act _ = false
 
 -- whether an event ends a job: its last place was printed, a page of it failed, it was removed or aborted, or the spool was closed
 abbrev pub ends : {C : Type 0} → ℕ → Event C → Bool
+ends j (Opened k sender queue) = false
 ends j (OfJob k act) = (k == j) && ends_by_act act
 ends j (AtPrinter p sheet turn) = (sheet.job == j) && ends_by_turn turn
 ends j (Removed queue jobs) = list_any (λ k. k == j) jobs

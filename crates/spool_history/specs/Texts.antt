@@ -3,7 +3,7 @@ use Rattle.std.specs.Prelude.{ℕ, ◌+◌, ◌-◌, ◌/◌, ◌%◌, ◌==◌,
 use Rattle.std.specs.List.{flat_map}
 use Rattle.std.specs.Fmt.{decimal}
 use Rattle.std.specs.Str.{bytes_eq}
-use Rattle.spool_history.specs.Setup.{queue_at}
+use Rattle.config_values.specs.Config.{queue_at}
 use Rattle.spool_history.specs.Acts.{File, prints_in}
 use Rattle.spool_history.specs.Now.{Job, Printer, State, places}
 use Rattle.spool_history.specs.Told.{number_of, user_of, host_of}
@@ -35,7 +35,7 @@ printers_in q printers = filter (λ p. p.queue == q) printers
 -- queue NAME jobs N printers P stopped S, and then the jobs that the list chooses
 abbrev pub state_text : {C : Type 0} → State C → ℕ → List (List ℕ) → Bool → List ℕ
 state_text v q list long =
-    codes "queue " ++ (queue_at v.setup q).name ++ codes " jobs " ++ decimal (length (listed v q)) ++ codes " printers " ++ decimal (length (printers_in q v.printers))
+    codes "queue " ++ (queue_at v.config q).name ++ codes " jobs " ++ decimal (length (listed v q)) ++ codes " printers " ++ decimal (length (printers_in q v.printers))
     ++ codes " stopped " ++ decimal (length (filter (λ p. p.stopped) (printers_in q v.printers))) ++ 10 ∷ flat_map (job_lines long) (shown v q list)
 
 abbrev pub removed_line : {C : Type 0} → Job C → List ℕ

@@ -5,10 +5,10 @@ use Rattle.std.proofs.lemmas.List.{append-nil, length_push}
 use Rattle.std.proofs.lemmas.List.Sums.{sum_by-cons, sum_by_push}
 use Rattle.std.proofs.lemmas.Bool.Decides.{nat_tests}
 use Rattle.spool_history.specs.Events.{Act, Event, Sheet, Turn}
-use Rattle.spool_history.specs.Events.Act.{Opened, Granted, Began, Put, FileEnded, Controlled, Aborted}
+use Rattle.spool_history.specs.Events.Act.{Granted, Began, Put, FileEnded, Controlled, Aborted}
 use Rattle.spool_history.specs.Events.Turn.{Handed, Printed, Failed}
-use Rattle.spool_history.specs.Events.Event.{OfJob, AtPrinter, Removed, Started, Closed}
-use Rattle.spool_history.specs.Setup.{Setup, printer_count}
+use Rattle.spool_history.specs.Events.Event.{Opened, OfJob, AtPrinter, Removed, Started, Closed}
+use Rattle.config_values.specs.Config.{Config, printer_count}
 use Rattle.spool_history.specs.Acts.{File, at_last, granted_by, is_lent_by, files_by}
 use Rattle.spool_history.specs.Said.{Opening, openings, opening_by, acts_of, is_handed, back_of, has_ended, ends, out_at}
 use Rattle.spool_history.specs.Now.{Job, Printer, now, job_of, is_held, is_received, has_page_out, pages_held, free_pages, printer_of, up_to}
@@ -60,8 +60,8 @@ filled_put {C} a file number page before last e was f =
     let p = length_push last.pages page in
     omega arith
 
-filled_step : {C : Type 0} (size : C → ℕ) (c : Setup) (h : List (Event C)) (e : Event C) → May size (now c h) e → ((j : ℕ) → FilledAt h j) → (j : ℕ) → FilledAt (e ∷ h) j
-filled_step size c h (OfJob k (Opened s q)) m f = filled_act h k (Opened s q) (λ g old. old) f
+filled_step : {C : Type 0} (size : C → ℕ) (c : Config) (h : List (Event C)) (e : Event C) → May size (now c h) e → ((j : ℕ) → FilledAt h j) → (j : ℕ) → FilledAt (e ∷ h) j
+filled_step size c h (Opened k s q) m f = filled_act h k (Opened s q) (λ g old. old) f
 filled_step size c h (OfJob k Granted) m f = filled_act h k Granted (λ g old. (let z : one_for (is_lent_by (acts_of h k)) ≡ 0 = rw (has_at c h k _ m.0).is.2 refl in omega arith)) f
 filled_step size c h (OfJob k (Began name count)) m f = filled_act h k (Began name count) (λ g old. (let p = pages_push (files_by (acts_of h k)) name count in omega arith)) f
 filled_step size c h (OfJob k (Put file number page)) m f =
@@ -79,7 +79,7 @@ filled_step size c h (Removed q jobs) m f = λ j g. f j (ended_before h (Removed
 filled_step size c h (Started q) m f = λ j g. f j (ended_before h (Started q) j g)
 filled_step size c h Closed m f = λ j g. f j (ended_before h Closed j g)
 
-filled : {C : Type 0} (size : C → ℕ) (c : Setup) (h : List (Event C)) → IsLegal size c h → (j : ℕ) → FilledAt h j
+filled : {C : Type 0} (size : C → ℕ) (c : Config) (h : List (Event C)) → IsLegal size c h → (j : ℕ) → FilledAt h j
 filled size c [] l j = λ goes_on. refl
 filled size c (e ∷ h) l j = filled_step size c h e l.0 (filled size c h l.1) j
 
@@ -108,7 +108,7 @@ one_out_back h p sheet turn is o j =
       | inr s ↦ let b = back_more h p sheet turn j s.0 in omega arith
     ]
 
-one_out : {C : Type 0} (size : C → ℕ) (c : Setup) (h : List (Event C)) → IsLegal size c h → (j : ℕ) → OneOut h j
+one_out : {C : Type 0} (size : C → ℕ) (c : Config) (h : List (Event C)) → IsLegal size c h → (j : ℕ) → OneOut h j
 one_out size c [] l = λ j. omega arith
 one_out size c (OfJob k act ∷ h) l = one_out size c h l.1
 one_out size c (AtPrinter p sheet Handed ∷ h) l = one_out_handed h p sheet (facts size c h l.1) (turn_of_page c h p sheet l.0.0.0 l.0.0.1 l.0.1) (one_out size c h l.1)
@@ -151,10 +151,10 @@ apart_by v false false l b ended received is_lent same held a =
     let sum = pages_sum v.files in
     rw (ended, received) (omega arith)
 
-apart : {C : Type 0} (size : C → ℕ) (c : Setup) (h : List (Event C)) → IsLegal size c h → (o : Opening) → Apart (job_of h o)
+apart : {C : Type 0} (size : C → ℕ) (c : Config) (h : List (Event C)) → IsLegal size c h → (o : Opening) → Apart (job_of h o)
 apart size c h l o = record { sound = sound size c h l o; filled = filled size c h l o.job; one = one_out size c h l o.job }
 
-held_apart : {C : Type 0} (size : C → ℕ) (c : Setup) (h : List (Event C)) → IsLegal size c h → (v : Job C) → Has v (now c h).jobs → pages_held v ≡ chained_of v + (one_for v.lent + (v.handed - v.back))
+held_apart : {C : Type 0} (size : C → ℕ) (c : Config) (h : List (Event C)) → IsLegal size c h → (v : Job C) → Has v (now c h).jobs → pages_held v ≡ chained_of v + (one_for v.lent + (v.handed - v.back))
 held_apart {C} size c h l v has =
     let k = known c h v has in
     apart_by v v.ended (is_received v) v.lent (v.handed == v.back) refl refl refl refl k.held (subst (λ (u : Job C). Apart u) (sym k.is) (apart size c h l k.opening))
@@ -174,7 +174,7 @@ out_if_held v false e = elim (test v.handed v.back) [
   | inr s ↦ absurd (clash false (sym (or_false v.lent true (rw s.1 at (or_false (not v.ended) (has_page_out v) e).1)).1) refl)
 ]
 
-outs_of_jobs : {C : Type 0} (size : C → ℕ) (c : Setup) (h : List (Event C)) → IsLegal size c h → sum_by (λ (v : Job C). v.handed - v.back) (now c h).jobs ≡ sum_by (outs h) (up_to (length (openings h)))
+outs_of_jobs : {C : Type 0} (size : C → ℕ) (c : Config) (h : List (Event C)) → IsLegal size c h → sum_by (λ (v : Job C). v.handed - v.back) (now c h).jobs ≡ sum_by (outs h) (up_to (length (openings h)))
 outs_of_jobs {C} size c h l =
     sum_filter (λ (v : Job C). v.handed - v.back) is_held (map (job_of h) (openings h))
     ∙ (sum_map (λ (v : Job C). cond (is_held v) (v.handed - v.back) 0) (job_of h) (openings h)
@@ -183,7 +183,7 @@ outs_of_jobs {C} size c h l =
 
 -- they are as many as the printers at which one is
 
-abbrev Balanced : {C : Type 0} → Setup → List (Event C) → Type 0
+abbrev Balanced : {C : Type 0} → Config → List (Event C) → Type 0
 Balanced c h = sum_by (outs h) (up_to (length (openings h))) ≡ sum_by (out_of h) (up_to (printer_count c))
 
 abbrev Positive : {C : Type 0} → List (Event C) → Type 0
@@ -193,9 +193,9 @@ positive_act : {C : Type 0} (h : List (Event C)) (k : ℕ) (act : Act C) → ope
 positive_act h k act none p o has = p o (subst (λ (l : List Opening). Has o l) (ap (λ (l : List Opening). openings h ++ l) none ∙ append-nil (openings h)) has)
 
 -- the numbers of jobs are at least 1
-positive : {C : Type 0} (size : C → ℕ) (c : Setup) (h : List (Event C)) → IsLegal size c h → Positive h
+positive : {C : Type 0} (size : C → ℕ) (c : Config) (h : List (Event C)) → IsLegal size c h → Positive h
 positive size c [] l = λ o has. absurd has
-positive size c (OfJob k (Opened s q) ∷ h) l = λ o has. elim (has_last o (openings h) (record { job = k; sender = s; queue = q }) has) [
+positive size c (Opened k s q ∷ h) l = λ o has. elim (has_last o (openings h) (record { job = k; sender = s; queue = q }) has) [
   | inl t ↦ positive size c h l.1 o t
   | inr e ↦ let j : k ≡ o.job = ap (λ (x : Opening). x.job) e in let n = l.0.4 in omega arith
 ]
@@ -210,12 +210,12 @@ positive size c (Removed q jobs ∷ h) l = positive size c h l.1
 positive size c (Started q ∷ h) l = positive size c h l.1
 positive size c (Closed ∷ h) l = positive size c h l.1
 
-balanced_act : {C : Type 0} (c : Setup) (h : List (Event C)) (k : ℕ) (act : Act C) → opening_by k act ≡ [] → Balanced c h → Balanced c (OfJob k act ∷ h)
+balanced_act : {C : Type 0} (c : Config) (h : List (Event C)) (k : ℕ) (act : Act C) → opening_by k act ≡ [] → Balanced c h → Balanced c (OfJob k act ∷ h)
 balanced_act {C} c h k act none b =
     ap (λ (l : List Opening). sum_by (outs h) (up_to (length (openings h ++ l)))) none
     ∙ (ap (λ (l : List Opening). sum_by (outs h) (up_to (length l))) (append-nil (openings h)) ∙ b)
 
-balanced_opened : {C : Type 0} (c : Setup) (h : List (Event C)) (k s q : ℕ) → Facts h → Balanced c h → Balanced c (OfJob k (Opened s q) ∷ h)
+balanced_opened : {C : Type 0} (c : Config) (h : List (Event C)) (k s q : ℕ) → Facts h → Balanced c h → Balanced c (Opened k s q ∷ h)
 balanced_opened {C} c h k s q f b =
     let n = length (openings h) in
     let new = f.fresh (suc n) (omega arith) in
@@ -234,7 +234,7 @@ out_other {C} h p sheet turn q ne = ap (λ (o : Option (Sheet C)). one_for (is_s
 handed_out : {C : Type 0} (h : List (Event C)) (p : ℕ) (sheet : Sheet C) → out_at (AtPrinter p sheet Handed ∷ h) p ≡ Some sheet
 handed_out h p sheet = elim (test p p) [ inl s ↦ rw s.1 refl | inr s ↦ absurd (s.0 refl) ]
 
-balanced_handed : {C : Type 0} (c : Setup) (h : List (Event C)) (p : ℕ) (sheet : Sheet C) → Facts h → Positive h → 1 ≤ p → p ≤ printer_count c → Turn' h p sheet → Balanced c h → Balanced c (AtPrinter p sheet Handed ∷ h)
+balanced_handed : {C : Type 0} (c : Config) (h : List (Event C)) (p : ℕ) (sheet : Sheet C) → Facts h → Positive h → 1 ≤ p → p ≤ printer_count c → Turn' h p sheet → Balanced c h → Balanced c (AtPrinter p sheet Handed ∷ h)
 balanced_handed {C} c h p sheet f pos one le t b =
     let e : Event C = AtPrinter p sheet Handed in
     let o : Opening = record { job = sheet.job; sender = t.at.sender; queue = t.at.queue } in
@@ -252,7 +252,7 @@ balanced_handed {C} c h p sheet f pos one le t b =
     let printers = up_once (out_of h) (out_of (e ∷ h)) p (printer_count c) one le (λ q ne. out_other h p sheet Handed q ne) (omega arith) in
     omega arith
 
-balanced_back : {C : Type 0} (c : Setup) (h : List (Event C)) (p : ℕ) (sheet : Sheet C) (turn : Turn) → is_handed turn ≡ false → Facts h → 1 ≤ sheet.job → 1 ≤ p → p ≤ printer_count c → out_at h p ≡ Some sheet → Balanced c h → Balanced c (AtPrinter p sheet turn ∷ h)
+balanced_back : {C : Type 0} (c : Config) (h : List (Event C)) (p : ℕ) (sheet : Sheet C) (turn : Turn) → is_handed turn ≡ false → Facts h → 1 ≤ sheet.job → 1 ≤ p → p ≤ printer_count c → out_at h p ≡ Some sheet → Balanced c h → Balanced c (AtPrinter p sheet turn ∷ h)
 balanced_back {C} c h p sheet turn back f first one le out b =
     let e : Event C = AtPrinter p sheet turn in
     let x = (f.out p sheet out).1 in
@@ -269,22 +269,22 @@ balanced_back {C} c h p sheet turn back f first one le out b =
     omega arith
 
 -- a job of which a page is out has a number from 1 on
-first_of : {C : Type 0} (size : C → ℕ) (c : Setup) (h : List (Event C)) (j : ℕ) → IsLegal size c h → 0 < handed_at h j → 1 ≤ j
+first_of : {C : Type 0} (size : C → ℕ) (c : Config) (h : List (Event C)) (j : ℕ) → IsLegal size c h → 0 < handed_at h j → 1 ≤ j
 first_of size c h j l out =
     let o = accepted size c h l j out in
     let e = o.2 in
     let p = positive size c h l o.0 o.1 in
     omega arith
 
-came_back : {C : Type 0} (size : C → ℕ) (c : Setup) (h : List (Event C)) (p : ℕ) (sheet : Sheet C) (turn : Turn) → is_handed turn ≡ false → IsLegal size c h → 1 ≤ p → p ≤ printer_count c → out_at h p ≡ Some sheet → Balanced c h → Balanced c (AtPrinter p sheet turn ∷ h)
+came_back : {C : Type 0} (size : C → ℕ) (c : Config) (h : List (Event C)) (p : ℕ) (sheet : Sheet C) (turn : Turn) → is_handed turn ≡ false → IsLegal size c h → 1 ≤ p → p ≤ printer_count c → out_at h p ≡ Some sheet → Balanced c h → Balanced c (AtPrinter p sheet turn ∷ h)
 came_back size c h p sheet turn back l one le out b =
     let f = facts size c h l in
     let x = (f.out p sheet out).1 in
     balanced_back c h p sheet turn back f (first_of size c h sheet.job l (omega arith)) one le out b
 
-balanced : {C : Type 0} (size : C → ℕ) (c : Setup) (h : List (Event C)) → IsLegal size c h → Balanced c h
+balanced : {C : Type 0} (size : C → ℕ) (c : Config) (h : List (Event C)) → IsLegal size c h → Balanced c h
 balanced {C} size c [] l = sym (up_none (out_of (no_events C)) (printer_count c) (λ p. refl))
-balanced size c (OfJob k (Opened s q) ∷ h) l = balanced_opened c h k s q (facts size c h l.1) (balanced size c h l.1)
+balanced size c (Opened k s q ∷ h) l = balanced_opened c h k s q (facts size c h l.1) (balanced size c h l.1)
 balanced size c (OfJob k Granted ∷ h) l = balanced_act c h k Granted refl (balanced size c h l.1)
 balanced size c (OfJob k (Began name count) ∷ h) l = balanced_act c h k (Began name count) refl (balanced size c h l.1)
 balanced size c (OfJob k (Put file number page) ∷ h) l = balanced_act c h k (Put file number page) refl (balanced size c h l.1)
@@ -299,7 +299,7 @@ balanced size c (Removed q jobs ∷ h) l = balanced size c h l.1
 balanced size c (Started q ∷ h) l = balanced size c h l.1
 balanced size c (Closed ∷ h) l = balanced size c h l.1
 
-pub each_has_a_place : {C : Type 0} (size : C → ℕ) (c : Setup) (h : List (Event C)) → IsLegal size c h
+pub each_has_a_place : {C : Type 0} (size : C → ℕ) (c : Config) (h : List (Event C)) → IsLegal size c h
     → chained (now c h) + lent (now c h) + at_printers (now c h) + free_pages (now c h) ≡ c.pages
 each_has_a_place {C} size c h l =
     let jobs = (now c h).jobs in

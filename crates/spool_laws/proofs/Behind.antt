@@ -5,15 +5,15 @@ use Rattle.std.specs.List.{list_any}
 use Rattle.std.proofs.lemmas.Bool.Decides.{nat_tests}
 use Rattle.std.proofs.lemmas.List.{append-nil}
 use Rattle.spool_history.specs.Events.{Act, Event, Sheet, Turn}
-use Rattle.spool_history.specs.Events.Act.{Opened, Granted, Began, Put, FileEnded, Controlled, Aborted}
+use Rattle.spool_history.specs.Events.Act.{Granted, Began, Put, FileEnded, Controlled, Aborted}
 use Rattle.spool_history.specs.Events.Turn.{Handed, Printed, Failed}
-use Rattle.spool_history.specs.Events.Event.{OfJob, AtPrinter, Removed, Started, Closed}
-use Rattle.spool_history.specs.Setup.{Setup}
+use Rattle.spool_history.specs.Events.Event.{Opened, OfJob, AtPrinter, Removed, Started, Closed}
+use Rattle.config_values.specs.Config.{IsPrinter, Config}
 use Rattle.spool_history.specs.Said.{Opening, openings, opening_by, is_handed}
 use Rattle.spool_history.specs.Now.{Job, Printer, now, job_of, is_held}
-use Rattle.spool_history.specs.Next.{is_before, next_page}
+use Rattle.spool_history.specs.Next.{is_preceded_by, next_page}
 use Rattle.spool_history.specs.Next.Next.{Hands}
-use Rattle.spool_history.specs.Legal.{IsLegal, IsPrinter, May}
+use Rattle.spool_history.specs.Legal.{IsLegal, May}
 use Rattle.spool_laws.specs.Leaving.{EachHanded, EarlierAreGone}
 use Rattle.spool_laws.proofs.Known.{Has, has_contained, has_last, has_kept, none_of, both_true, clash, test, Known, known}
 use Rattle.spool_laws.proofs.Printers.{at_printer}
@@ -32,16 +32,16 @@ bool_cases : (b : Bool) → (b ≡ true → ⊥) → b ≡ false
 bool_cases true f = absurd (f refl)
 bool_cases false f = refl
 
-gone_first : {C : Type 0} (h : List (Event C)) (os : List Opening) (x : Job C) (o : Opening) → Has o os → list_any (is_before x) (filter is_held (map (job_of h) os)) ≡ false
+gone_first : {C : Type 0} (h : List (Event C)) (os : List Opening) (x : Job C) (o : Opening) → Has o os → list_any (is_preceded_by x) (filter is_held (map (job_of h) os)) ≡ false
     → o.sender ≡ x.sender → o.queue ≡ x.queue → o.job < x.number → is_held (job_of h o) ≡ false
 gone_first h os x o has none s q lt = bool_cases (is_held (job_of h o)) (λ held.
-    let f : ((o.sender == x.sender) && ((o.queue == x.queue) && nat_lt o.job x.number)) ≡ false = none_of (is_before x) (job_of h o) (filter is_held (map (job_of h) os)) none (has_kept h o os held has) in
+    let f : ((o.sender == x.sender) && ((o.queue == x.queue) && nat_lt o.job x.number)) ≡ false = none_of (is_preceded_by x) (job_of h o) (filter is_held (map (job_of h) os)) none (has_kept h o os held has) in
     let a : (o.sender == x.sender) ≡ true = grind (arith, nat_tests) in
     let b : (o.queue == x.queue) ≡ true = grind (arith, nat_tests) in
     let d : nat_lt o.job x.number ≡ true = grind (arith, nat_tests) in
     clash ((o.sender == x.sender) && ((o.queue == x.queue) && nat_lt o.job x.number)) (both_true (o.sender == x.sender) ((o.queue == x.queue) && nat_lt o.job x.number) a (both_true (o.queue == x.queue) (nat_lt o.job x.number) b d)) f)
 
-gone_by : {C : Type 0} (h : List (Event C)) (x : Job C) (o k : Opening) (a : Known h (openings h) x) → Facts h → x.number ≡ k.job → IsBehind h o k → list_any (is_before x) (filter is_held (map (job_of h) (openings h))) ≡ false → is_held (job_of h o) ≡ false
+gone_by : {C : Type 0} (h : List (Event C)) (x : Job C) (o k : Opening) (a : Known h (openings h) x) → Facts h → x.number ≡ k.job → IsBehind h o k → list_any (is_preceded_by x) (filter is_held (map (job_of h) (openings h))) ≡ false → is_held (job_of h o) ≡ false
 gone_by {C} h x o k a f n b none =
     let num : a.opening.job ≡ k.job = sym (ap (λ (v : Job C). v.number) a.is) ∙ n in
     let same : a.opening ≡ k = f.once a.opening k a.there b.1 num in
@@ -51,7 +51,7 @@ gone_by {C} h x o k a f n b none =
     gone_first h (openings h) x o b.0 none (b.3 ∙ sym s) (b.4 ∙ sym q) (omega arith)
 
 -- when a page is handed, the earlier jobs are gone
-now_gone : {C : Type 0} (c : Setup) (h : List (Event C)) (p : ℕ) (sheet : Sheet C) → Facts h → Behind h → IsPrinter c p → next_page (now c h) p ≡ Hands sheet → (o k : Opening) → IsBehind h o k → k.job ≡ sheet.job → is_held (job_of h o) ≡ false
+now_gone : {C : Type 0} (c : Config) (h : List (Event C)) (p : ℕ) (sheet : Sheet C) → Facts h → Behind h → IsPrinter c p → next_page (now c h) p ≡ Hands sheet → (o k : Opening) → IsBehind h o k → k.job ≡ sheet.job → is_held (job_of h o) ≡ false
 now_gone {C} c h p sheet f b is e o k behind' same =
     let g = (given (now c h) p sheet e).1 in
     let n : g.job.number ≡ k.job = sym (ap (λ (s : Sheet C). s.job) g.gets.is) ∙ sym same in
@@ -68,7 +68,7 @@ behind_act {C} h k act none st b o i is pos =
     let os : openings h ++ opening_by k act ≡ openings h = ap (λ (l : List Opening). openings h ++ l) none ∙ append-nil (openings h) in
     st o (b o i (subst (λ (l : List Opening). Has o l) os is.0, subst (λ (l : List Opening). Has i l) os is.1, is.2, is.3, is.4) pos)
 
-behind_opened : {C : Type 0} (h : List (Event C)) (j s q : ℕ) → Facts h → j ≡ length (openings h) + 1 → ((o : Opening) → is_held (job_of h o) ≡ false → is_held (job_of (OfJob j (Opened s q) ∷ h) o) ≡ false) → Behind h → Behind (OfJob j (Opened s q) ∷ h)
+behind_opened : {C : Type 0} (h : List (Event C)) (j s q : ℕ) → Facts h → j ≡ length (openings h) + 1 → ((o : Opening) → is_held (job_of h o) ≡ false → is_held (job_of (Opened j s q ∷ h) o) ≡ false) → Behind h → Behind (Opened j s q ∷ h)
 behind_opened {C} h j s q f new st b o k is pos =
     let x : Opening = record { job = j; sender = s; queue = q } in
     let lt = is.2 in
@@ -83,7 +83,7 @@ behind_opened {C} h j s q f new st b o k is pos =
           absurd (omega arith)
     ]
 
-behind_handed : {C : Type 0} (c : Setup) (h : List (Event C)) (p : ℕ) (sheet : Sheet C) → Facts h → IsPrinter c p → next_page (now c h) p ≡ Hands sheet
+behind_handed : {C : Type 0} (c : Config) (h : List (Event C)) (p : ℕ) (sheet : Sheet C) → Facts h → IsPrinter c p → next_page (now c h) p ≡ Hands sheet
     → ((o : Opening) → is_held (job_of h o) ≡ false → is_held (job_of (AtPrinter p sheet Handed ∷ h) o) ≡ false) → Behind h → Behind (AtPrinter p sheet Handed ∷ h)
 behind_handed c h p sheet f at e st b o k is pos = st o (elim (test sheet.job k.job) [
   | inl s ↦ now_gone c h p sheet f b at e o k is (sym s.0)
@@ -93,8 +93,8 @@ behind_handed c h p sheet f at e st b o k is pos = st o (elim (test sheet.job k.
 behind_back : {C : Type 0} (h : List (Event C)) (p : ℕ) (sheet : Sheet C) (turn : Turn) → is_handed turn ≡ false → ((o : Opening) → is_held (job_of h o) ≡ false → is_held (job_of (AtPrinter p sheet turn ∷ h) o) ≡ false) → Behind h → Behind (AtPrinter p sheet turn ∷ h)
 behind_back h p sheet turn not' st b o k is pos = st o (b o k is (let m = ap length (handed_same h p sheet turn k.job not') in omega arith))
 
-behind_step : {C : Type 0} (size : C → ℕ) (c : Setup) (h : List (Event C)) (e : Event C) → IsLegal size c h → May size (now c h) e → Behind h → Behind (e ∷ h)
-behind_step size c h (OfJob k (Opened s q)) l m b = behind_opened h k s q (facts size c h l) m.4 (steady size c h (OfJob k (Opened s q)) l m) b
+behind_step : {C : Type 0} (size : C → ℕ) (c : Config) (h : List (Event C)) (e : Event C) → IsLegal size c h → May size (now c h) e → Behind h → Behind (e ∷ h)
+behind_step size c h (Opened k s q) l m b = behind_opened h k s q (facts size c h l) m.4 (steady size c h (Opened k s q) l m) b
 behind_step size c h (OfJob k Granted) l m b = behind_act h k Granted refl (steady size c h (OfJob k Granted) l m) b
 behind_step size c h (OfJob k (Began name count)) l m b = behind_act h k (Began name count) refl (steady size c h (OfJob k (Began name count)) l m) b
 behind_step size c h (OfJob k (Put file number page)) l m b = behind_act h k (Put file number page) refl (steady size c h (OfJob k (Put file number page)) l m) b
@@ -108,15 +108,15 @@ behind_step size c h (Removed q jobs) l m b = λ o k is pos. steady size c h (Re
 behind_step size c h (Started q) l m b = λ o k is pos. steady size c h (Started q) l m o (b o k is pos)
 behind_step size c h Closed l m b = λ o k is pos. steady size c h Closed l m o (b o k is pos)
 
-behind : {C : Type 0} (size : C → ℕ) (c : Setup) (h : List (Event C)) → IsLegal size c h → Behind h
+behind : {C : Type 0} (size : C → ℕ) (c : Config) (h : List (Event C)) → IsLegal size c h → Behind h
 behind size c [] l = λ o k is pos. absurd is.0
 behind size c (e ∷ h) l = behind_step size c h e l.1 l.0 (behind size c h l.1)
 
-gone_before : {C : Type 0} (size : C → ℕ) (c : Setup) (h : List (Event C)) (p : ℕ) (sheet : Sheet C) → IsLegal size c h → May size (now c h) (AtPrinter p sheet Handed) → EarlierAreGone h sheet
+gone_before : {C : Type 0} (size : C → ℕ) (c : Config) (h : List (Event C)) (p : ℕ) (sheet : Sheet C) → IsLegal size c h → May size (now c h) (AtPrinter p sheet Handed) → EarlierAreGone h sheet
 gone_before size c h p sheet l m o k has also same lt s q =
     now_gone c h p sheet (facts size c h l) (behind size c h l) m.0 m.1 o k (has_contained o (openings h) has, has_contained k (openings h) also, lt, s, q) same
 
-pub each_in_order : {C : Type 0} (size : C → ℕ) (c : Setup) (h : List (Event C)) → IsLegal size c h → EachHanded EarlierAreGone h
+pub each_in_order : {C : Type 0} (size : C → ℕ) (c : Config) (h : List (Event C)) → IsLegal size c h → EachHanded EarlierAreGone h
 each_in_order size c [] l = tt
 each_in_order size c (OfJob k act ∷ h) l = each_in_order size c h l.1
 each_in_order size c (AtPrinter p sheet Handed ∷ h) l = (gone_before size c h p sheet l.1 l.0, each_in_order size c h l.1)

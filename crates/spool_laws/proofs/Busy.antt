@@ -4,17 +4,17 @@ use Rattle.std.specs.Prelude.{◌&&◌, ◌||◌, not, filter, find, Option, Som
 use Rattle.std.proofs.lemmas.Bool.Decides.{nat_tests}
 use Rattle.std.proofs.lemmas.List.{append-nil}
 use Rattle.spool_history.specs.Events.{Act, Event, Sheet, Turn}
-use Rattle.spool_history.specs.Events.Act.{Opened, Granted, Began, Put, FileEnded, Controlled, Aborted}
+use Rattle.spool_history.specs.Events.Act.{Granted, Began, Put, FileEnded, Controlled, Aborted}
 use Rattle.spool_history.specs.Events.Turn.{Handed, Printed, Failed}
-use Rattle.spool_history.specs.Events.Event.{OfJob, AtPrinter, Removed, Started, Closed}
-use Rattle.spool_history.specs.Setup.{Setup, queue_of}
+use Rattle.spool_history.specs.Events.Event.{Opened, OfJob, AtPrinter, Removed, Started, Closed}
+use Rattle.config_values.specs.Config.{IsPrinter, Config, queue_of}
 use Rattle.spool_history.specs.Acts.{is_lent_by, control_by}
 use Rattle.spool_history.specs.Said.{Opening, openings, opening_by, acts_of, is_handed, back_of, has_ended, began_at}
 use Rattle.spool_history.specs.Now.{Job, Printer, now, job_of, is_held}
 use Rattle.spool_history.specs.Next.{next_page, next_at, with_out, hand_of, hand_first, turn_of, or_first, printer_at}
 use Rattle.spool_history.specs.Next.Next.{Hands}
 use Rattle.spool_history.specs.Acts.{Page}
-use Rattle.spool_history.specs.Legal.{IsPrinter, IsLegal, May}
+use Rattle.spool_history.specs.Legal.{IsLegal, May}
 use Rattle.spool_laws.proofs.Known.{Has, find_has, has_last, has_kept, known, test, clash, and_true, and_false, filter_cons}
 use Rattle.spool_laws.proofs.Printers.{at_printer}
 use Rattle.spool_laws.proofs.Turns.{given, open_by, runs_by, idle_by}
@@ -27,13 +27,13 @@ use Rattle.spool_laws.proofs.Pigeons.{Rises, rises_push}
 pub lent_unreceived : {C : Type 0} (h : List (Event C)) (j : ℕ) → Keeps (acts_of h j) → is_lent_by (acts_of h j) ≡ true → received_at h j ≡ false
 lent_unreceived h j k e = rw (k.lent e) (and_false (is_some (control_by (acts_of h j))))
 
-pub record Busy {C : Type 0} (c : Setup) (h : List (Event C)) (o : Opening) : Type 0 where
+pub record Busy {C : Type 0} (c : Config) (h : List (Event C)) (o : Opening) : Type 0 where
   pub at : ℕ
   pub is : IsPrinter c at
   pub began : began_at h at ≡ Some o.job
   pub queue : queue_of c at ≡ o.queue
 
-abbrev pub AreBusy : {C : Type 0} → Setup → List (Event C) → Type 0
+abbrev pub AreBusy : {C : Type 0} → Config → List (Event C) → Type 0
 AreBusy c h = (o : Opening) → Has o (openings h) → is_held (job_of h o) ≡ true → 0 < handed_at h o.job → Busy c h o
 
 held_by : {C : Type 0} (v w : Job C) (b : Bool) → is_held v ≡ b → (is_held v ≡ false → is_held w ≡ false) → is_held w ≡ true → is_held v ≡ true
@@ -43,16 +43,16 @@ held_by v w false e st held = absurd (clash (is_held w) held (st e))
 abbrev Steady : {C : Type 0} → List (Event C) → Event C → Type 0
 Steady h e = (o : Opening) → is_held (job_of h o) ≡ false → is_held (job_of (e ∷ h) o) ≡ false
 
-busy_act : {C : Type 0} (c : Setup) (h : List (Event C)) (k : ℕ) (act : Act C) → opening_by k act ≡ [] → Steady h (OfJob k act) → AreBusy c h → AreBusy c (OfJob k act ∷ h)
+busy_act : {C : Type 0} (c : Config) (h : List (Event C)) (k : ℕ) (act : Act C) → opening_by k act ≡ [] → Steady h (OfJob k act) → AreBusy c h → AreBusy c (OfJob k act ∷ h)
 busy_act {C} c h k act none st b o has held pos =
     let os : openings h ++ opening_by k act ≡ openings h = ap (λ (l : List Opening). openings h ++ l) none ∙ append-nil (openings h) in
     let x = b o (subst (λ (l : List Opening). Has o l) os has) (held_by (job_of h o) (job_of (OfJob k act ∷ h) o) (is_held (job_of h o)) refl (st o) held) pos in
     record { at = x.at; is = x.is; began = x.began; queue = x.queue }
 
-busy_opened : {C : Type 0} (c : Setup) (h : List (Event C)) (j s q : ℕ) → Facts h → j ≡ length (openings h) + 1 → Steady h (OfJob j (Opened s q)) → AreBusy c h → AreBusy c (OfJob j (Opened s q) ∷ h)
+busy_opened : {C : Type 0} (c : Config) (h : List (Event C)) (j s q : ℕ) → Facts h → j ≡ length (openings h) + 1 → Steady h (Opened j s q) → AreBusy c h → AreBusy c (Opened j s q ∷ h)
 busy_opened {C} c h j s q f new st b o has held pos = elim (has_last o (openings h) (record { job = j; sender = s; queue = q }) has) [
   | inl t ↦
-      let x = b o t (held_by (job_of h o) (job_of (OfJob j (Opened s q) ∷ h) o) (is_held (job_of h o)) refl (st o) held) pos in
+      let x = b o t (held_by (job_of h o) (job_of (Opened j s q ∷ h) o) (is_held (job_of h o)) refl (st o) held) pos in
       record { at = x.at; is = x.is; began = x.began; queue = x.queue }
   | inr e ↦
       let m : j ≡ o.job = ap (λ (y : Opening). y.job) e in
@@ -60,7 +60,7 @@ busy_opened {C} c h j s q f new st b o has held pos = elim (has_last o (openings
       absurd (omega arith)
 ]
 
-busy_back : {C : Type 0} (c : Setup) (h : List (Event C)) (p : ℕ) (sheet : Sheet C) (turn : Turn) → is_handed turn ≡ false → Steady h (AtPrinter p sheet turn) → AreBusy c h → AreBusy c (AtPrinter p sheet turn ∷ h)
+busy_back : {C : Type 0} (c : Config) (h : List (Event C)) (p : ℕ) (sheet : Sheet C) (turn : Turn) → is_handed turn ≡ false → Steady h (AtPrinter p sheet turn) → AreBusy c h → AreBusy c (AtPrinter p sheet turn ∷ h)
 busy_back c h p sheet turn not' st b o has held pos =
     let m = ap length (handed_same h p sheet turn o.job not') in
     let x = b o has (held_by (job_of h o) (job_of (AtPrinter p sheet turn ∷ h) o) (is_held (job_of h o)) refl (st o) held) (omega arith) in
@@ -95,7 +95,7 @@ ended_by {C} jobs q j x sheet (Some v) e h ne has n =
     let m : v.number ≡ j = grind (arith, nat_tests) in
     absurd (ne (sym (first_is v.number v.handed _ sheet h) ∙ m))
 
-hands_by : {C : Type 0} (c : Setup) (h : List (Event C)) (p : ℕ) (sheet : Sheet C) → next_page (now c h) p ≡ Hands sheet → hand_of (turn_of (now c h).jobs (printer_at (now c h) p).queue (printer_at (now c h) p).began) ≡ Hands sheet
+hands_by : {C : Type 0} (c : Config) (h : List (Event C)) (p : ℕ) (sheet : Sheet C) → next_page (now c h) p ≡ Hands sheet → hand_of (turn_of (now c h).jobs (printer_at (now c h) p).queue (printer_at (now c h) p).began) ≡ Hands sheet
 hands_by c h p sheet e =
     let v = now c h in
     let x = printer_at v p in
@@ -122,7 +122,7 @@ pub unlent : {C : Type 0} (h : List (Event C)) (j : ℕ) → Keeps (acts_of h j)
 unlent h j k r = unlent_by (is_lent_by (acts_of h j)) (received_at h j) (lent_unreceived h j k) r
 
 -- so it gets a page of no other
-no_other : {C : Type 0} (c : Setup) (h : List (Event C)) (p : ℕ) (sheet : Sheet C) (o : Opening) → Facts h → Keeps (acts_of h o.job) → IsPrinter c p → next_page (now c h) p ≡ Hands sheet → began_at h p ≡ Some o.job → Has o (openings h) → is_held (job_of h o) ≡ true → sheet.job ≢ o.job → ⊥
+no_other : {C : Type 0} (c : Config) (h : List (Event C)) (p : ℕ) (sheet : Sheet C) (o : Opening) → Facts h → Keeps (acts_of h o.job) → IsPrinter c p → next_page (now c h) p ≡ Hands sheet → began_at h p ≡ Some o.job → Has o (openings h) → is_held (job_of h o) ≡ true → sheet.job ≢ o.job → ⊥
 no_other {C} c h p sheet o f k is e began has held ne =
     let here = at_printer c h p is.0 is.1 in
     let b : (printer_at (now c h) p).began ≡ Some o.job = ap (λ (x : Printer C). x.began) here ∙ began in
@@ -142,7 +142,7 @@ began_still h p sheet q j same b = elim (test p q) [
 began_here : {C : Type 0} (h : List (Event C)) (p : ℕ) (sheet : Sheet C) (j : ℕ) → sheet.job ≡ j → began_at (AtPrinter p sheet Handed ∷ h) p ≡ Some j
 began_here h p sheet j e = elim (test p p) [ inl s ↦ rw s.1 (ap (λ (i : ℕ). Some i) e) | inr s ↦ absurd (s.0 refl) ]
 
-busy_handed : {C : Type 0} (c : Setup) (h : List (Event C)) (p : ℕ) (sheet : Sheet C) → Facts h → ((j : ℕ) → Keeps (acts_of h j)) → IsPrinter c p → next_page (now c h) p ≡ Hands sheet → Steady h (AtPrinter p sheet Handed) → AreBusy c h → AreBusy c (AtPrinter p sheet Handed ∷ h)
+busy_handed : {C : Type 0} (c : Config) (h : List (Event C)) (p : ℕ) (sheet : Sheet C) → Facts h → ((j : ℕ) → Keeps (acts_of h j)) → IsPrinter c p → next_page (now c h) p ≡ Hands sheet → Steady h (AtPrinter p sheet Handed) → AreBusy c h → AreBusy c (AtPrinter p sheet Handed ∷ h)
 busy_handed {C} c h p sheet f k is e st b o has held' pos =
     let held = held_by (job_of h o) (job_of (AtPrinter p sheet Handed ∷ h) o) (is_held (job_of h o)) refl (st o) held' in
     elim (test sheet.job o.job) [
@@ -169,14 +169,14 @@ busy_handed {C} c h p sheet f k is e st b o has held' pos =
           record { at = x.at; is = x.is; began = began_still h p sheet x.at o.job other x.began; queue = x.queue }
     ]
 
-busy_same : {C : Type 0} (c : Setup) (h : List (Event C)) (e : Event C) → openings (e ∷ h) ≡ openings h → ((j : ℕ) → handed_at (e ∷ h) j ≡ handed_at h j) → ((p : ℕ) → began_at (e ∷ h) p ≡ began_at h p) → Steady h e → AreBusy c h → AreBusy c (e ∷ h)
+busy_same : {C : Type 0} (c : Config) (h : List (Event C)) (e : Event C) → openings (e ∷ h) ≡ openings h → ((j : ℕ) → handed_at (e ∷ h) j ≡ handed_at h j) → ((p : ℕ) → began_at (e ∷ h) p ≡ began_at h p) → Steady h e → AreBusy c h → AreBusy c (e ∷ h)
 busy_same c h e os hs bs st b o has held pos =
     let m = hs o.job in
     let x = b o (subst (λ (l : List Opening). Has o l) os has) (held_by (job_of h o) (job_of (e ∷ h) o) (is_held (job_of h o)) refl (st o) held) (omega arith) in
     record { at = x.at; is = x.is; began = bs x.at ∙ x.began; queue = x.queue }
 
-busy_step : {C : Type 0} (size : C → ℕ) (c : Setup) (h : List (Event C)) (e : Event C) → IsLegal size c h → May size (now c h) e → AreBusy c h → AreBusy c (e ∷ h)
-busy_step size c h (OfJob k (Opened s q)) l m b = busy_opened c h k s q (facts size c h l) m.4 (steady size c h (OfJob k (Opened s q)) l m) b
+busy_step : {C : Type 0} (size : C → ℕ) (c : Config) (h : List (Event C)) (e : Event C) → IsLegal size c h → May size (now c h) e → AreBusy c h → AreBusy c (e ∷ h)
+busy_step size c h (Opened k s q) l m b = busy_opened c h k s q (facts size c h l) m.4 (steady size c h (Opened k s q) l m) b
 busy_step size c h (OfJob k Granted) l m b = busy_act c h k Granted refl (steady size c h (OfJob k Granted) l m) b
 busy_step size c h (OfJob k (Began name count)) l m b = busy_act c h k (Began name count) refl (steady size c h (OfJob k (Began name count)) l m) b
 busy_step size c h (OfJob k (Put file number page)) l m b = busy_act c h k (Put file number page) refl (steady size c h (OfJob k (Put file number page)) l m) b
@@ -190,7 +190,7 @@ busy_step size c h (Removed q jobs) l m b = busy_same c h (Removed q jobs) refl 
 busy_step size c h (Started q) l m b = busy_same c h (Started q) refl (λ j. refl) (λ p. refl) (steady size c h (Started q) l m) b
 busy_step size c h Closed l m b = busy_same c h Closed refl (λ j. refl) (λ p. refl) (steady size c h Closed l m) b
 
-pub busy : {C : Type 0} (size : C → ℕ) (c : Setup) (h : List (Event C)) → IsLegal size c h → AreBusy c h
+pub busy : {C : Type 0} (size : C → ℕ) (c : Config) (h : List (Event C)) → IsLegal size c h → AreBusy c h
 busy size c [] l = λ o has held pos. absurd has
 busy size c (e ∷ h) l = busy_step size c h e l.1 l.0 (busy size c h l.1)
 
@@ -199,9 +199,9 @@ busy size c (e ∷ h) l = busy_step size c h e l.1 l.0 (busy size c h l.1)
 rising_act : {C : Type 0} (h : List (Event C)) (k : ℕ) (act : Act C) → opening_by k act ≡ [] → Rises (λ (o : Opening). o.job) (openings h) → Rises (λ (o : Opening). o.job) (openings (OfJob k act ∷ h))
 rising_act h k act none r = subst (λ (l : List Opening). Rises (λ (o : Opening). o.job) l) (sym (ap (λ (l : List Opening). openings h ++ l) none ∙ append-nil (openings h))) r
 
-rising_openings : {C : Type 0} (size : C → ℕ) (c : Setup) (h : List (Event C)) → IsLegal size c h → Rises (λ (o : Opening). o.job) (openings h)
+rising_openings : {C : Type 0} (size : C → ℕ) (c : Config) (h : List (Event C)) → IsLegal size c h → Rises (λ (o : Opening). o.job) (openings h)
 rising_openings size c [] l = tt
-rising_openings size c (OfJob k (Opened s q) ∷ h) l =
+rising_openings size c (Opened k s q ∷ h) l =
     rises_push (λ (o : Opening). o.job) (openings h) (record { job = k; sender = s; queue = q }) (rising_openings size c h l.1)
     (λ y t. let n = (facts size c h l.1).numbers y t in let is = l.0.4 in omega arith)
 rising_openings size c (OfJob k Granted ∷ h) l = rising_act h k Granted refl (rising_openings size c h l.1)
@@ -242,5 +242,5 @@ rising_in : {C : Type 0} (h : List (Event C)) (os : List Opening) → Rises (λ 
 rising_in h [] r = tt
 rising_in h (o ∷ os) r = rising_by h o os (is_held (job_of h o)) refl r.0 (rising_in h os r.1)
 
-pub rising_jobs : {C : Type 0} (size : C → ℕ) (c : Setup) (h : List (Event C)) → IsLegal size c h → Rises (λ (v : Job C). v.number) (now c h).jobs
+pub rising_jobs : {C : Type 0} (size : C → ℕ) (c : Config) (h : List (Event C)) → IsLegal size c h → Rises (λ (v : Job C). v.number) (now c h).jobs
 rising_jobs size c h l = rising_in h (openings h) (rising_openings size c h l)

@@ -4,7 +4,7 @@ use Rattle.std.specs.Prelude.{None}
 use Rattle.std.proofs.lemmas.List.{length_push}
 use Rattle.control_file.specs.Text.{Contents}
 use Rattle.spool_history.specs.Events.{Act}
-use Rattle.spool_history.specs.Events.Act.{Opened, Granted, Began, Put, FileEnded, Controlled, Aborted}
+use Rattle.spool_history.specs.Events.Act.{Granted, Began, Put, FileEnded, Controlled, Aborted}
 use Rattle.spool_history.specs.Acts.{File, new_file, at_last, granted_by, is_lent_by, files_by, control_by}
 use Rattle.spool_laws.proofs.Known.{clash}
 

@@ -5,19 +5,19 @@ use Rattle.std.proofs.lemmas.List.Sums.{sum_by-cons}
 use Rattle.counts.specs.Amounts.{amount}
 use Rattle.claims.specs.declared.row.Row.{Row}
 use Rattle.spool_history.specs.Events.{Event}
-use Rattle.spool_history.specs.Setup.{Setup, Queue, queue_at, queue_of, printer_count, no_queue}
+use Rattle.config_values.specs.Config.{IsQueue, Config, Queue, queue_at, queue_of, printer_count, no_queue}
 use Rattle.spool_history.specs.Said.{Opening, openings, began_at}
 use Rattle.spool_history.specs.Now.{Job, now, job_of, is_held, row_of, capacity, printers_held}
-use Rattle.spool_history.specs.Legal.{IsLegal, IsQueue}
+use Rattle.spool_history.specs.Legal.{IsLegal}
 use Rattle.spool_laws.specs.Sums.{held_printers, NoMoreThanThereIs}
 use Rattle.spool_laws.proofs.Known.{Has, known, test}
 use Rattle.spool_laws.proofs.Adding.{sum_filter}
-use Rattle.spool_laws.proofs.Lowered.{holds, holds_sum}
+use Rattle.claims.proofs.Lowered.{holds, holds_sum}
 use Rattle.spool_laws.proofs.Pigeons.{Place, pigeons, tally, serves, served_total, at_most}
 use Rattle.spool_laws.proofs.Busy.{busy, rising_jobs}
 use Rattle.spool_laws.proofs.Sums.{pages_add_up, rows_held}
 
-abbrev pub rows : {C : Type 0} → Setup → List (Job C) → List Row
+abbrev pub rows : {C : Type 0} → Config → List (Job C) → List Row
 rows c jobs = map (row_of c) jobs
 
 -- printers
@@ -31,7 +31,7 @@ printers_small v = elim (test v.handed 0) [ inl s ↦ rw s.1 (omega arith) | inr
 weight_small : {C : Type 0} (i : ℕ) (v : Job C) → weight i v ≤ 1
 weight_small i v = elim (test (suc i) v.queue) [ inl s ↦ rw s.1 (printers_small v) | inr s ↦ rw s.1 (omega arith) ]
 
-holds_weight : {C : Type 0} (c : Setup) (i : ℕ) (jobs : List (Job C)) → holds (suc i) (rows c jobs) ≤ tally (weight i) jobs
+holds_weight : {C : Type 0} (c : Config) (i : ℕ) (jobs : List (Job C)) → holds (suc i) (rows c jobs) ≤ tally (weight i) jobs
 holds_weight c i [] = omega arith
 holds_weight c i (v ∷ vs) =
     let ih = holds_weight c i vs in
@@ -56,7 +56,7 @@ some_one j k e = cc
 abbrev Tied : {C : Type 0} → List (Event C) → ℕ → ℕ → Type 0
 Tied h p j = began_at h p ≡ Some j
 
-place_at : {C : Type 0} (size : C → ℕ) (c : Setup) (h : List (Event C)) (i : ℕ) → IsLegal size c h → (o : Opening) → Has o (openings h) → is_held (job_of h o) ≡ true → 0 < weight i (job_of h o) → Place (Tied h) (serves 1 c.queues (1 + i)) (printer_count c) o.job
+place_at : {C : Type 0} (size : C → ℕ) (c : Config) (h : List (Event C)) (i : ℕ) → IsLegal size c h → (o : Opening) → Has o (openings h) → is_held (job_of h o) ≡ true → 0 < weight i (job_of h o) → Place (Tied h) (serves 1 c.queues (1 + i)) (printer_count c) o.job
 place_at size c h i l o has held pos =
     let g = begun_if i (job_of h o) pos in
     let b = busy size c h l o has held g.1 in
@@ -70,7 +70,7 @@ place_at size c h i l o has held pos =
       tied = b.began;
     }
 
-printers_counted : {C : Type 0} (size : C → ℕ) (c : Setup) (h : List (Event C)) (i : ℕ) → IsLegal size c h → tally (weight i) (now c h).jobs ≤ amount (capacity c) (suc i)
+printers_counted : {C : Type 0} (size : C → ℕ) (c : Config) (h : List (Event C)) (i : ℕ) → IsLegal size c h → tally (weight i) (now c h).jobs ≤ amount (capacity c) (suc i)
 printers_counted {C} size c h i l =
     let jobs = (now c h).jobs in
     let place : (v : Job C) → Has v jobs → 0 < weight i v → Place (Tied h) (serves 1 c.queues (1 + i)) (printer_count c) v.number = λ v has pos.
@@ -81,7 +81,7 @@ printers_counted {C} size c h i l =
     let d = served_total 1 c.queues i (omega arith) in
     omega arith
 
-printers_within : {C : Type 0} (size : C → ℕ) (c : Setup) (h : List (Event C)) (i : ℕ) → IsLegal size c h → holds (suc i) (rows c (now c h).jobs) ≤ amount (capacity c) (suc i)
+printers_within : {C : Type 0} (size : C → ℕ) (c : Config) (h : List (Event C)) (i : ℕ) → IsLegal size c h → holds (suc i) (rows c (now c h).jobs) ≤ amount (capacity c) (suc i)
 printers_within {C} size c h i l =
     let a = holds_weight c i (now c h).jobs in
     let b = printers_counted size c h i l in
@@ -94,7 +94,7 @@ get_printers (q ∷ qs) (suc i) = get_printers qs i
 
 -- each kind
 
-pub kind_within : {C : Type 0} (size : C → ℕ) (c : Setup) (h : List (Event C)) → IsLegal size c h → (k : ℕ) → holds k (rows c (now c h).jobs) ≤ amount (capacity c) k
+pub kind_within : {C : Type 0} (size : C → ℕ) (c : Config) (h : List (Event C)) → IsLegal size c h → (k : ℕ) → holds k (rows c (now c h).jobs) ≤ amount (capacity c) k
 kind_within size c h l zero =
     let e = holds_sum 0 (rows c (now c h).jobs) in
     let r = rows_held c (now c h).jobs in
@@ -116,7 +116,7 @@ of_queues {C} q i (v ∷ vs) e =
     let k = sum_by-cons (λ (v : Job C). cond (v.queue == q) (printers_held v) 0) v vs in
     omega arith
 
-enough_printers : {C : Type 0} (size : C → ℕ) (c : Setup) (h : List (Event C)) (q : ℕ) → IsLegal size c h → IsQueue c q → held_printers (now c h) q ≤ (queue_at c q).printers
+enough_printers : {C : Type 0} (size : C → ℕ) (c : Config) (h : List (Event C)) (q : ℕ) → IsLegal size c h → IsQueue c q → held_printers (now c h) q ≤ (queue_at c q).printers
 enough_printers {C} size c h q l is =
     let one = is.0 in
     let e : suc (q - 1) ≡ q = omega arith in
@@ -126,7 +126,7 @@ enough_printers {C} size c h q l is =
     let there = get_printers c.queues (q - 1) in
     omega arith
 
-pub no_kind_runs_over : {C : Type 0} (size : C → ℕ) (c : Setup) (h : List (Event C)) → IsLegal size c h → NoMoreThanThereIs c h
+pub no_kind_runs_over : {C : Type 0} (size : C → ℕ) (c : Config) (h : List (Event C)) → IsLegal size c h → NoMoreThanThereIs c h
 no_kind_runs_over size c h l = record {
   kinds = λ k. (let e = holds_sum k (rows c (now c h).jobs) in let w = kind_within size c h l k in omega arith);
   printers = λ q is. enough_printers size c h q l is;

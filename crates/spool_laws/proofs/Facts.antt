@@ -5,14 +5,14 @@ use Rattle.std.specs.List.{list_any, AllByRecursion}
 use Rattle.std.proofs.lemmas.List.{append-nil, length_push}
 use Rattle.std.proofs.lemmas.Bool.Decides.{nat_tests}
 use Rattle.spool_history.specs.Events.{Act, Event, Sheet, Turn}
-use Rattle.spool_history.specs.Events.Act.{Opened, Granted, Began, Put, FileEnded, Controlled, Aborted}
+use Rattle.spool_history.specs.Events.Act.{Granted, Began, Put, FileEnded, Controlled, Aborted}
 use Rattle.spool_history.specs.Events.Turn.{Handed, Printed, Failed}
-use Rattle.spool_history.specs.Events.Event.{OfJob, AtPrinter, Removed, Started, Closed}
-use Rattle.spool_history.specs.Setup.{Setup}
+use Rattle.spool_history.specs.Events.Event.{Opened, OfJob, AtPrinter, Removed, Started, Closed}
+use Rattle.config_values.specs.Config.{IsPrinter, Config}
 use Rattle.spool_history.specs.Said.{Opening, openings, opening_by, acts_of, is_handed, handed_of, back_of, has_ended, out_at, began_at, is_closed}
 use Rattle.spool_history.specs.Now.{Job, Printer, now, job_of, is_received}
 use Rattle.spool_history.specs.Next.{printer_at}
-use Rattle.spool_history.specs.Legal.{IsPrinter, HasJob, May, IsLegal}
+use Rattle.spool_history.specs.Legal.{HasJob, May, IsLegal}
 use Rattle.spool_laws.proofs.Known.{Has, At, has_at, held_at, has_last, test, clash, or_false, and_false}
 use Rattle.spool_laws.proofs.Printers.{at_printer}
 use Rattle.spool_laws.proofs.Turns.{given, given_at, Gets, Begins}
@@ -87,10 +87,10 @@ facts_act {C} h k act f le none before =
       alone = f.alone;
     }
 
-received_opened : {C : Type 0} (h : List (Event C)) (k s q j : ℕ) → received_at (OfJob k (Opened s q) ∷ h) j ≡ false → received_at h j ≡ false
+received_opened : {C : Type 0} (h : List (Event C)) (k s q j : ℕ) → received_at (Opened k s q ∷ h) j ≡ false → received_at h j ≡ false
 received_opened h k s q j e = elim (test k j) [ inl r ↦ rw r.1 at e | inr r ↦ rw r.1 at e ]
 
-facts_opened : {C : Type 0} (h : List (Event C)) (k s q : ℕ) → Facts h → k ≡ length (openings h) + 1 → Facts (OfJob k (Opened s q) ∷ h)
+facts_opened : {C : Type 0} (h : List (Event C)) (k s q : ℕ) → Facts h → k ≡ length (openings h) + 1 → Facts (Opened k s q ∷ h)
 facts_opened {C} h k s q f is =
     let x : Opening = record { job = k; sender = s; queue = q } in
     let n : length (openings h ++ x ∷ []) ≡ length (openings h) + 1 = length_push (openings h) x in
@@ -132,7 +132,7 @@ begins_at {C} h x j q jobs o is n b =
     let r : received_at h o.job ≡ true = sym (ap (λ (v : Job C). is_received v) is) ∙ b.received in
     (subst (λ (i : ℕ). handed_at h i ≡ 0) m a, subst (λ (i : ℕ). received_at h i ≡ true) m r)
 
-pub turn_of_page : {C : Type 0} (c : Setup) (h : List (Event C)) (p : ℕ) (sheet : Sheet C) → 1 ≤ p → p ≤ Rattle.spool_history.specs.Setup.printer_count c → Rattle.spool_history.specs.Next.next_page (now c h) p ≡ Rattle.spool_history.specs.Next.Next.Hands sheet → Turn' h p sheet
+pub turn_of_page : {C : Type 0} (c : Config) (h : List (Event C)) (p : ℕ) (sheet : Sheet C) → 1 ≤ p → p ≤ Rattle.spool_history.specs.Config.printer_count c → Rattle.spool_history.specs.Next.next_page (now c h) p ≡ Rattle.spool_history.specs.Next.Next.Hands sheet → Turn' h p sheet
 turn_of_page {C} c h p sheet one le e =
     let g = (given (now c h) p sheet e).1 in
     let here = at_printer c h p one le in
@@ -362,14 +362,14 @@ facts_back {C} h p sheet turn is f o =
 
 -- the other events
 
-none_named : {C : Type 0} (c : Setup) (h : List (Event C)) (P : Job C → Type 0) (j : ℕ) (jobs : List ℕ) → Facts h → length (openings h) < j → AllByRecursion (λ k. HasJob (now c h) k P) jobs → list_any (λ (k : ℕ). k == j) jobs ≡ false
+none_named : {C : Type 0} (c : Config) (h : List (Event C)) (P : Job C → Type 0) (j : ℕ) (jobs : List ℕ) → Facts h → length (openings h) < j → AllByRecursion (λ k. HasJob (now c h) k P) jobs → list_any (λ (k : ℕ). k == j) jobs ≡ false
 none_named c h P j [] f lt all = refl
 none_named c h P j (k ∷ ks) f lt all =
     let n : k ≤ length (openings h) = number_at h k P f (has_at c h k P all.0) in
     let rest = none_named c h P j ks f lt all.1 in
     elim (test k j) [ inl s ↦ let m : k ≡ j = s.0 in absurd (omega arith) | inr s ↦ rw s.1 rest ]
 
-facts_removed : {C : Type 0} (c : Setup) (h : List (Event C)) (P : Job C → Type 0) (q : ℕ) (jobs : List ℕ) → Facts h → AllByRecursion (λ k. HasJob (now c h) k P) jobs → Facts (Removed q jobs ∷ h)
+facts_removed : {C : Type 0} (c : Config) (h : List (Event C)) (P : Job C → Type 0) (q : ℕ) (jobs : List ℕ) → Facts h → AllByRecursion (λ k. HasJob (now c h) k P) jobs → Facts (Removed q jobs ∷ h)
 facts_removed c h P q jobs f all = record {
   numbers = f.numbers;
   once = f.once;
@@ -428,11 +428,11 @@ received_aborted : {C : Type 0} (h : List (Event C)) (k : ℕ) → received_at (
 received_aborted h k e = elim (test k k) [ inl r ↦ rw r.1 at e | inr r ↦ absurd (r.0 refl) ]
 
 -- a page that is out at a printer
-pub is_out : {C : Type 0} (c : Setup) (h : List (Event C)) (p : ℕ) (sheet : Sheet C) → IsPrinter c p → (printer_at (now c h) p).out ≡ Some sheet → out_at h p ≡ Some sheet
+pub is_out : {C : Type 0} (c : Config) (h : List (Event C)) (p : ℕ) (sheet : Sheet C) → IsPrinter c p → (printer_at (now c h) p).out ≡ Some sheet → out_at h p ≡ Some sheet
 is_out {C} c h p sheet is e = sym (ap (λ (x : Printer C). x.out) (at_printer c h p is.0 is.1)) ∙ e
 
-facts_step : {C : Type 0} (size : C → ℕ) (c : Setup) (h : List (Event C)) (e : Event C) → Facts h → May size (now c h) e → Facts (e ∷ h)
-facts_step size c h (OfJob k (Opened s q)) f m = facts_opened h k s q f m.4
+facts_step : {C : Type 0} (size : C → ℕ) (c : Config) (h : List (Event C)) (e : Event C) → Facts h → May size (now c h) e → Facts (e ∷ h)
+facts_step size c h (Opened k s q) f m = facts_opened h k s q f m.4
 facts_step size c h (OfJob k Granted) f m =
     let a = has_at c h k _ m.0 in
     facts_act h k Granted f (number_at h k _ f a) refl (λ e. a.is.0.1)
@@ -458,6 +458,6 @@ facts_step size c h (Removed q jobs) f m = facts_removed c h _ q jobs f m.4
 facts_step size c h (Started q) f m = facts_started h q f
 facts_step size c h Closed f m = facts_closed h f
 
-pub facts : {C : Type 0} (size : C → ℕ) (c : Setup) (h : List (Event C)) → IsLegal size c h → Facts h
+pub facts : {C : Type 0} (size : C → ℕ) (c : Config) (h : List (Event C)) → IsLegal size c h → Facts h
 facts size c [] l = no_facts
 facts size c (e ∷ h) l = facts_step size c h e (facts size c h l.1) l.0

@@ -8,9 +8,9 @@ use Rattle.control_file.specs.Text.{Contents}
 use Rattle.control_file.specs.Kept.{is_among, is_print_list, all_differ}
 use Rattle.lpd_commands.specs.Name.{is_data_name}
 use Rattle.spool_history.specs.Events.{Act, Event}
-use Rattle.spool_history.specs.Events.Act.{Opened, Granted, Began, Put, FileEnded, Controlled, Aborted}
-use Rattle.spool_history.specs.Events.Event.{OfJob, AtPrinter, Removed, Started, Closed}
-use Rattle.spool_history.specs.Setup.{Setup}
+use Rattle.spool_history.specs.Events.Act.{Granted, Began, Put, FileEnded, Controlled, Aborted}
+use Rattle.spool_history.specs.Events.Event.{Opened, OfJob, AtPrinter, Removed, Started, Closed}
+use Rattle.config_values.specs.Config.{Config}
 use Rattle.spool_history.specs.Acts.{File, granted_by, is_lent_by, files_by, control_by, at_last, new_file, is_open_in, numbered, pages_named, prints_in}
 use Rattle.spool_history.specs.Said.{acts_of}
 use Rattle.spool_history.specs.Now.{now}
@@ -78,8 +78,8 @@ keeps_act {C} h k act f new j = elim (test k j) [
   | inr s ↦ rw s.1 (f j)
 ]
 
-keeps_step : {C : Type 0} (size : C → ℕ) (c : Setup) (h : List (Event C)) (e : Event C) → May size (now c h) e → ((j : ℕ) → Keeps (acts_of h j)) → (j : ℕ) → Keeps (acts_of (e ∷ h) j)
-keeps_step size c h (OfJob k (Opened s q)) m f = keeps_act h k (Opened s q) f (let i = f k in record { lent = i.lent; count = i.count; prints = i.prints })
+keeps_step : {C : Type 0} (size : C → ℕ) (c : Config) (h : List (Event C)) (e : Event C) → May size (now c h) e → ((j : ℕ) → Keeps (acts_of h j)) → (j : ℕ) → Keeps (acts_of (e ∷ h) j)
+keeps_step size c h (Opened k s q) m f = keeps_act h k (Opened s q) f (let i = f k in record { lent = i.lent; count = i.count; prints = i.prints })
 keeps_step size c h (OfJob k Granted) m f = keeps_act h k Granted f (keeps_granted (acts_of h k) (f k) (has_at c h k _ m.0).is.1)
 keeps_step size c h (OfJob k (Began name count)) m f = keeps_act h k (Began name count) f (keeps_began (acts_of h k) name count (f k))
 keeps_step size c h (OfJob k (Put file number page)) m f = keeps_act h k (Put file number page) f (keeps_put (acts_of h k) file number page (f k) (has_at c h k _ m).is.1)
@@ -91,7 +91,7 @@ keeps_step size c h (Removed q jobs) m f = f
 keeps_step size c h (Started q) m f = f
 keeps_step size c h Closed m f = f
 
-pub keeps : {C : Type 0} (size : C → ℕ) (c : Setup) (h : List (Event C)) → IsLegal size c h → (j : ℕ) → Keeps (acts_of h j)
+pub keeps : {C : Type 0} (size : C → ℕ) (c : Config) (h : List (Event C)) → IsLegal size c h → (j : ℕ) → Keeps (acts_of h j)
 keeps size c [] l = λ j. record { lent = λ e. absurd (clash false e refl); count = omega arith; prints = refl }
 keeps size c (e ∷ h) l = keeps_step size c h e l.0 (keeps size c h l.1)
 
@@ -145,7 +145,7 @@ places_tally (name ∷ names) fs d =
     omega arith
 
 -- a job has no more places than pages were lent to it
-pub places_within : {C : Type 0} (size : C → ℕ) (c : Setup) (h : List (Event C)) → IsLegal size c h → (j : ℕ) → length (places_of h j) ≤ granted_by (acts_of h j)
+pub places_within : {C : Type 0} (size : C → ℕ) (c : Config) (h : List (Event C)) → IsLegal size c h → (j : ℕ) → length (places_of h j) ≤ granted_by (acts_of h j)
 places_within size c h l j =
     let k = keeps size c h l j in
     let n = less_lent (is_lent_by (acts_of h j)) (pages_in (files_by (acts_of h j))) (granted_by (acts_of h j)) k.count in

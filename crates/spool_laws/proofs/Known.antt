@@ -4,7 +4,7 @@ use Rattle.std.specs.Prelude.{◌&&◌, ◌||◌, not, cond, filter, find, Conta
 use Rattle.std.specs.List.{list_any}
 use Rattle.std.proofs.lemmas.Bool.Decides.{nat_tests}
 use Rattle.spool_history.specs.Events.{Event}
-use Rattle.spool_history.specs.Setup.{Setup}
+use Rattle.config_values.specs.Config.{Config}
 use Rattle.spool_history.specs.Said.{Opening, openings}
 use Rattle.spool_history.specs.Now.{Job, now, job_of, is_held}
 use Rattle.spool_history.specs.Legal.{HasJob}
@@ -109,7 +109,7 @@ known_in : {C : Type 0} (h : List (Event C)) (os : List Opening) (x : Job C) →
 known_in h [] x has = absurd has
 known_in h (o ∷ os) x has = known_step h o os x (is_held (job_of h o)) refl has (known_in h os x)
 
-pub known : {C : Type 0} (c : Setup) (h : List (Event C)) (x : Job C) → Has x (now c h).jobs → Known h (openings h) x
+pub known : {C : Type 0} (c : Config) (h : List (Event C)) (x : Job C) → Has x (now c h).jobs → Known h (openings h) x
 known c h x there = known_in h (openings h) x there
 
 -- whether the job of this number is held
@@ -136,7 +136,7 @@ known_at {C} h x j P k e p =
       is = subst (λ (q : Opening). P (job_of h q)) (sym o) (subst P k.is p);
     }
 
-pub has_at : {C : Type 0} (c : Setup) (h : List (Event C)) (j : ℕ) (P : Job C → Type 0) → HasJob (now c h) j P → At h j P
+pub has_at : {C : Type 0} (c : Config) (h : List (Event C)) (j : ℕ) (P : Job C → Type 0) → HasJob (now c h) j P → At h j P
 has_at c h j P m = known_at h m.job j P (known c h m.job (has_contained m.job (now c h).jobs m.there)) m.number m.is
 
 -- an accepted job that is held is among the held ones

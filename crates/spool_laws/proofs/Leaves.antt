@@ -3,14 +3,14 @@ use Rattle.std.proofs.Common.{ℕ, List, [], ◌∷◌}
 use Rattle.spool_history.specs.Events.{Event}
 use Rattle.spool_history.specs.Events.Turn.{Handed, Printed, Failed}
 use Rattle.spool_history.specs.Events.Event.{OfJob, AtPrinter, Removed, Started, Closed}
-use Rattle.spool_history.specs.Setup.{Setup}
+use Rattle.config_values.specs.Config.{Config}
 use Rattle.spool_history.specs.Now.{now}
 use Rattle.spool_history.specs.Next.{printer_at}
 use Rattle.spool_history.specs.Legal.{IsLegal}
 use Rattle.spool_laws.specs.Leaving.{EachHanded, IsOpen, HasNotEnded}
 use Rattle.spool_laws.proofs.Turns.{given, given_at}
 
-pub each_open : {C : Type 0} (size : C → ℕ) (c : Setup) (h : List (Event C)) → IsLegal size c h → EachHanded IsOpen h
+pub each_open : {C : Type 0} (size : C → ℕ) (c : Config) (h : List (Event C)) → IsLegal size c h → EachHanded IsOpen h
 each_open size c [] l = tt
 each_open size c (OfJob k act ∷ h) l = each_open size c h l.1
 each_open size c (AtPrinter p sheet Handed ∷ h) l = ((given (now c h) p sheet l.0.1).0, each_open size c h l.1)
@@ -20,7 +20,7 @@ each_open size c (Removed q jobs ∷ h) l = each_open size c h l.1
 each_open size c (Started q ∷ h) l = each_open size c h l.1
 each_open size c (Closed ∷ h) l = each_open size c h l.1
 
-pub each_going : {C : Type 0} (size : C → ℕ) (c : Setup) (h : List (Event C)) → IsLegal size c h → EachHanded HasNotEnded h
+pub each_going : {C : Type 0} (size : C → ℕ) (c : Config) (h : List (Event C)) → IsLegal size c h → EachHanded HasNotEnded h
 each_going size c [] l = tt
 each_going size c (OfJob k act ∷ h) l = each_going size c h l.1
 each_going size c (AtPrinter p sheet Handed ∷ h) l =

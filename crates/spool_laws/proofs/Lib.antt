@@ -19,7 +19,7 @@ pub mod Adding
 pub mod Sums
 pub mod Busy
 pub mod Held
-pub mod Lowered
+pub mod StillHeld
 pub mod Pigeons
 pub mod Sound
 pub mod Apart

@@ -7,10 +7,10 @@ use Rattle.std.proofs.lemmas.List.Elements.{filter-append}
 use Rattle.std.proofs.lemmas.List.Sums.{sum_by_push}
 use Rattle.std.proofs.lemmas.Bool.Decides.{nat_tests}
 use Rattle.spool_history.specs.Events.{Event}
-use Rattle.spool_history.specs.Events.Act.{Opened, Granted, Began, Put, FileEnded, Controlled, Aborted}
+use Rattle.spool_history.specs.Events.Act.{Granted, Began, Put, FileEnded, Controlled, Aborted}
 use Rattle.spool_history.specs.Events.Turn.{Handed, Printed, Failed}
-use Rattle.spool_history.specs.Events.Event.{OfJob, AtPrinter, Removed, Started, Closed}
-use Rattle.spool_history.specs.Setup.{Setup, printer_count, reserve_of}
+use Rattle.spool_history.specs.Events.Event.{Opened, OfJob, AtPrinter, Removed, Started, Closed}
+use Rattle.config_values.specs.Config.{Config, printer_count, reserve_of}
 use Rattle.spool_history.specs.Said.{Opening, openings, acts_of, back_of, has_ended, is_closed}
 use Rattle.spool_history.specs.Now.{Job, Printer, State, now, job_of, is_held, has_page_out, printer_of, up_to}
 use Rattle.spool_history.specs.Acts.{is_lent_by}
@@ -58,7 +58,7 @@ stays_removed : {C : Type 0} (h : List (Event C)) (q : ℕ) (jobs : List ℕ) (o
 stays_removed h q jobs o true e gone = rw e (gone_ended (has_ended h o.job) (has_page_out (job_of h o)) gone)
 stays_removed h q jobs o false e gone = rw e gone
 
-stays_opened : {C : Type 0} (h : List (Event C)) (k s q : ℕ) → StaysGone h (OfJob k (Opened s q))
+stays_opened : {C : Type 0} (h : List (Event C)) (k s q : ℕ) → StaysGone h (Opened k s q)
 stays_opened h k s q o gone = elim (test k o.job) [ inl r ↦ rw r.1 gone | inr r ↦ rw r.1 gone ]
 
 -- a job of which a page is out is held
@@ -67,8 +67,8 @@ out_held h k e =
     let ne : (handed_at h k == back_of h k) ≡ false = grind (arith, nat_tests) in
     rw ne (rw (or_true (is_lent_by (acts_of h k))) (or_true (not (has_ended h k))))
 
-pub stays : {C : Type 0} (size : C → ℕ) (c : Setup) (h : List (Event C)) (e : Event C) → IsLegal size c h → May size (now c h) e → StaysGone h e
-stays size c h (OfJob k (Opened s q)) l m = stays_opened h k s q
+pub stays : {C : Type 0} (size : C → ℕ) (c : Config) (h : List (Event C)) (e : Event C) → IsLegal size c h → May size (now c h) e → StaysGone h e
+stays size c h (Opened k s q) l m = stays_opened h k s q
 stays size c h (OfJob k Granted) l m = stays_named h (OfJob k Granted) (acted Granted) k (λ v. refl) (has_at c h k _ m.0).held
 stays size c h (OfJob k (Began name count)) l m = stays_named h (OfJob k (Began name count)) (acted (Began name count)) k (λ v. refl) (has_at c h k _ m.1).held
 stays size c h (OfJob k (Put file number page)) l m = stays_named h (OfJob k (Put file number page)) (acted (Put file number page)) k (λ v. refl) (has_at c h k _ m).held
@@ -86,14 +86,14 @@ stays size c h (Started q) l m = λ o gone. gone
 stays size c h Closed l m = λ o gone. gone_ended (has_ended h o.job) (has_page_out (job_of h o)) gone
 
 -- what is gone stays gone
-pub steady : {C : Type 0} (size : C → ℕ) (c : Setup) (h : List (Event C)) (e : Event C) → IsLegal size c h → May size (now c h) e → (o : Opening) → is_held (job_of h o) ≡ false → is_held (job_of (e ∷ h) o) ≡ false
+pub steady : {C : Type 0} (size : C → ℕ) (c : Config) (h : List (Event C)) (e : Event C) → IsLegal size c h → May size (now c h) e → (o : Opening) → is_held (job_of h o) ≡ false → is_held (job_of (e ∷ h) o) ≡ false
 steady {C} size c h e l m o gone = subst (λ (v : Job C). is_held v ≡ false) (sym (changes h e o)) (stays size c h e l m o gone)
 
-abbrev Moved : {C : Type 0} → Setup → List (Event C) → Event C → Type 0
+abbrev Moved : {C : Type 0} → Config → List (Event C) → Event C → Type 0
 Moved c h e = now c (e ∷ h) ≡ after e (now c h)
 
 -- an event that accepts no job
-moved_by : {C : Type 0} (c : Setup) (h : List (Event C)) (e : Event C) → openings (e ∷ h) ≡ openings h → accepted_by e ≡ [] → StaysGone h e
+moved_by : {C : Type 0} (c : Config) (h : List (Event C)) (e : Event C) → openings (e ∷ h) ≡ openings h → accepted_by e ≡ [] → StaysGone h e
     → map (printer_of c (e ∷ h)) (up_to (printer_count c)) ≡ printers_after e (now c h) → is_closed (e ∷ h) ≡ closed_after e (is_closed h) → Moved c h e
 moved_by {C} c h e os none st pr cl =
     let kept = filter is_held (map (change e) (now c h).jobs) in
@@ -107,13 +107,13 @@ moved_by {C} c h e os none st pr cl =
     ap (sum_by reserve) os ∙ (let z : sum_by reserve' (accepted_by e) ≡ 0 = ap (sum_by reserve') none in omega arith) in
     cc (jobs, count, sums, pr, cl)
 
-same_state : {C : Type 0} (c : Setup) (jobs jobs' : List (Job C)) (n n' r r' : ℕ) (ps : List (Printer C)) (b : Bool) → jobs ≡ jobs' → n ≡ n' → r ≡ r'
-    → ◌≡◌ {A = State C} (record { setup = c; jobs = jobs; accepted = n; reserved = r; printers = ps; closed = b }) (record { setup = c; jobs = jobs'; accepted = n'; reserved = r'; printers = ps; closed = b })
+same_state : {C : Type 0} (c : Config) (jobs jobs' : List (Job C)) (n n' r r' : ℕ) (ps : List (Printer C)) (b : Bool) → jobs ≡ jobs' → n ≡ n' → r ≡ r'
+    → ◌≡◌ {A = State C} (record { config = c; jobs = jobs; accepted = n; reserved = r; printers = ps; closed = b }) (record { config = c; jobs = jobs'; accepted = n'; reserved = r'; printers = ps; closed = b })
 same_state c jobs jobs' n n' r r' ps b x y z = cc (x, y, z)
 
-moved_opened : {C : Type 0} (c : Setup) (h : List (Event C)) (j s q : ℕ) → Facts h → is_closed h ≡ false → j ≡ length (openings h) + 1 → Moved c h (OfJob j (Opened s q))
+moved_opened : {C : Type 0} (c : Config) (h : List (Event C)) (j s q : ℕ) → Facts h → is_closed h ≡ false → j ≡ length (openings h) + 1 → Moved c h (Opened j s q)
 moved_opened {C} c h j s q f open' is =
-    let e : Event C = OfJob j (Opened s q) in
+    let e : Event C = Opened j s q in
     let o : Opening = record { job = j; sender = s; queue = q } in
     let u = f.fresh j (omega arith) in
     let a = u.acts in
@@ -134,8 +134,8 @@ moved_opened {C} c h j s q f open' is =
     let one : reserve_of c q ≡ sum_by (λ (v : Job C). reserve_of c v.queue) (new_job j s q ∷ []) = omega arith in
     same_state c _ _ _ _ _ _ (now c h).printers (is_closed h) jobs count (sums ∙ ap (λ (n : ℕ). sum_by (λ (o : Opening). reserve_of c o.queue) (openings h) + n) one)
 
-pub moved : {C : Type 0} (size : C → ℕ) (c : Setup) (h : List (Event C)) (e : Event C) → IsLegal size c h → May size (now c h) e → now c (e ∷ h) ≡ after e (now c h)
-moved size c h (OfJob k (Opened s q)) l m = moved_opened c h k s q (facts size c h l) m.0 m.4
+pub moved : {C : Type 0} (size : C → ℕ) (c : Config) (h : List (Event C)) (e : Event C) → IsLegal size c h → May size (now c h) e → now c (e ∷ h) ≡ after e (now c h)
+moved size c h (Opened k s q) l m = moved_opened c h k s q (facts size c h l) m.0 m.4
 moved size c h (OfJob k Granted) l m = moved_by c h (OfJob k Granted) (append-nil (openings h)) refl (stays size c h (OfJob k Granted) l m) refl refl
 moved size c h (OfJob k (Began name count)) l m = moved_by c h (OfJob k (Began name count)) (append-nil (openings h)) refl (stays size c h (OfJob k (Began name count)) l m) refl refl
 moved size c h (OfJob k (Put file number page)) l m = moved_by c h (OfJob k (Put file number page)) (append-nil (openings h)) refl (stays size c h (OfJob k (Put file number page)) l m) refl refl
@@ -149,6 +149,6 @@ moved size c h Closed l m = moved_by c h Closed refl refl (stays size c h Closed
 
 pub left_by : {C : Type 0} (size : C → ℕ) (h : List (Event C)) (e : Event C) (v : State C) → IsLeftBy size h v → May size v e → IsLeftBy size (e ∷ h) (after e v)
 left_by {C} size h e v l m =
-    let c = v.setup in
+    let c = v.config in
     let may : May size (now c h) e = subst (λ (u : State C). May size u e) l.here m in
     record { legal = (may, l.legal); here = ap (after e) l.here ∙ sym (moved size c h e l.legal may) }

@@ -4,11 +4,11 @@ use Rattle.std.specs.Prelude.{cond, filter, option_map, sum_by}
 use Rattle.std.specs.List.{list_any}
 use Rattle.std.proofs.lemmas.List.{map-append, map-set, length-map}
 use Rattle.spool_history.specs.Events.{Act, Event, Sheet, Turn}
-use Rattle.spool_history.specs.Events.Act.{Opened, Granted, Began, Put, FileEnded, Controlled, Aborted}
+use Rattle.spool_history.specs.Events.Act.{Granted, Began, Put, FileEnded, Controlled, Aborted}
 use Rattle.spool_history.specs.Events.Progress.{Going, Done, Ended}
 use Rattle.spool_history.specs.Events.Turn.{Handed, Printed, Failed}
-use Rattle.spool_history.specs.Events.Event.{OfJob, AtPrinter, Removed, Started, Closed}
-use Rattle.spool_history.specs.Setup.{Setup, reserve_of}
+use Rattle.spool_history.specs.Events.Event.{Opened, OfJob, AtPrinter, Removed, Started, Closed}
+use Rattle.config_values.specs.Config.{Config, reserve_of}
 use Rattle.spool_history.specs.Acts.{File, at_last}
 use Rattle.spool_history.specs.Now.{Job, Printer, State, is_held}
 use Rattle.spool_history.specs.Next.{no_printer, printer_at}
@@ -37,7 +37,7 @@ printer_in f p = record { queue = p.queue; out = option_map (outline_sheet f) p.
 
 abbrev pub state_in : {A B : Type 0} → (A → B) → State A → State B
 state_in f v = record {
-  setup = v.setup;
+  config = v.config;
   jobs = map (job_in f) v.jobs;
   accepted = v.accepted;
   reserved = v.reserved;
@@ -101,7 +101,7 @@ held_in f [] = refl
 held_in f (v ∷ vs) = keep_in (job_in f) (is_held v) v (filter is_held vs) _ (held_in f vs)
 
 accepted_in : {A B : Type 0} (f : A → B) (e : Event A) → accepted_by (outline_event f e) ≡ map (job_in f) (accepted_by e)
-accepted_in f (OfJob k (Opened s q)) = refl
+accepted_in f (Opened k s q) = refl
 accepted_in f (OfJob k Granted) = refl
 accepted_in f (OfJob k (Began name count)) = refl
 accepted_in f (OfJob k (Put file number page)) = refl
@@ -116,8 +116,8 @@ accepted_in f Closed = refl
 accepted_count : {A B : Type 0} (f : A → B) (e : Event A) → length (accepted_by (outline_event f e)) ≡ length (accepted_by e)
 accepted_count f e = ap length (accepted_in f e) ∙ length-map (accepted_by e) (job_in f)
 
-accepted_reserve : {A B : Type 0} (f : A → B) (c : Setup) (e : Event A) → sum_by (λ (j : Job B). reserve_of c j.queue) (accepted_by (outline_event f e)) ≡ sum_by (λ (j : Job A). reserve_of c j.queue) (accepted_by e)
-accepted_reserve f c (OfJob k (Opened s q)) = refl
+accepted_reserve : {A B : Type 0} (f : A → B) (c : Config) (e : Event A) → sum_by (λ (j : Job B). reserve_of c j.queue) (accepted_by (outline_event f e)) ≡ sum_by (λ (j : Job A). reserve_of c j.queue) (accepted_by e)
+accepted_reserve f c (Opened k s q) = refl
 accepted_reserve f c (OfJob k Granted) = refl
 accepted_reserve f c (OfJob k (Began name count)) = refl
 accepted_reserve f c (OfJob k (Put file number page)) = refl
@@ -155,8 +155,8 @@ closed_in f (Removed q jobs) b = refl
 closed_in f (Started q) b = refl
 closed_in f Closed b = refl
 
-same_state : {C : Type 0} (c : Setup) (j j' : List (Job C)) (a a' r r' : ℕ) (p p' : List (Printer C)) (b b' : Bool) → j ≡ j' → a ≡ a' → r ≡ r' → p ≡ p' → b ≡ b'
-    → ◌≡◌ {A = State C} (record { setup = c; jobs = j; accepted = a; reserved = r; printers = p; closed = b }) (record { setup = c; jobs = j'; accepted = a'; reserved = r'; printers = p'; closed = b' })
+same_state : {C : Type 0} (c : Config) (j j' : List (Job C)) (a a' r r' : ℕ) (p p' : List (Printer C)) (b b' : Bool) → j ≡ j' → a ≡ a' → r ≡ r' → p ≡ p' → b ≡ b'
+    → ◌≡◌ {A = State C} (record { config = c; jobs = j; accepted = a; reserved = r; printers = p; closed = b }) (record { config = c; jobs = j'; accepted = a'; reserved = r'; printers = p'; closed = b' })
 same_state c j j' a a' r r' p p' b b' ej ea er ep eb = cc (ej, ea, er, ep, eb)
 
 jobs_in : {A B : Type 0} (f : A → B) (e : Event A) (v : State A) → filter is_held (map (change (outline_event f e)) (map (job_in f) v.jobs)) ++ accepted_by (outline_event f e) ≡ map (job_in f) (filter is_held (map (change e) v.jobs) ++ accepted_by e)
@@ -167,4 +167,4 @@ jobs_in f e v =
 -- the step of an event
 pub after_in : {A B : Type 0} (f : A → B) (e : Event A) (v : State A) → after (outline_event f e) (state_in f v) ≡ state_in f (after e v)
 after_in f e v =
-    same_state v.setup _ _ _ _ _ _ _ _ _ _ (jobs_in f e v) (ap (λ n. v.accepted + n) (accepted_count f e)) (ap (λ n. v.reserved + n) (accepted_reserve f v.setup e)) (printers_in f e v) (closed_in f e v.closed)
+    same_state v.config _ _ _ _ _ _ _ _ _ _ (jobs_in f e v) (ap (λ n. v.accepted + n) (accepted_count f e)) (ap (λ n. v.reserved + n) (accepted_reserve f v.config e)) (printers_in f e v) (closed_in f e v.closed)

@@ -5,10 +5,10 @@ use Rattle.std.specs.List.{AllByRecursion}
 use Rattle.std.proofs.lemmas.List.{map-append, length-map}
 use Rattle.control_file.specs.Kept.{is_among}
 use Rattle.spool_history.specs.Events.{Act, Event, Sheet, Turn}
-use Rattle.spool_history.specs.Events.Act.{Opened, Granted, Began, Put, FileEnded, Controlled, Aborted}
+use Rattle.spool_history.specs.Events.Act.{Granted, Began, Put, FileEnded, Controlled, Aborted}
 use Rattle.spool_history.specs.Events.Turn.{Handed, Printed, Failed}
-use Rattle.spool_history.specs.Events.Event.{OfJob, AtPrinter, Removed, Started, Closed}
-use Rattle.spool_history.specs.Setup.{Setup, printer_count}
+use Rattle.spool_history.specs.Events.Event.{Opened, OfJob, AtPrinter, Removed, Started, Closed}
+use Rattle.config_values.specs.Config.{Config, printer_count}
 use Rattle.spool_history.specs.Acts.{File}
 use Rattle.spool_history.specs.Now.{Job, Printer, State, now, is_received, printer_of, up_to, IsSafeNow}
 use Rattle.spool_history.specs.Next.{printer_at}
@@ -51,7 +51,7 @@ grant_in {A} {B} f v j m = (
 )
 
 act_in : {A B : Type 0} (f : A → B) (size : A → ℕ) (short : B → ℕ) → ((page : A) → short (f page) ≡ size page) → (v : State A) (j : ℕ) (act : Act A) → MayAct size v j act → MayAct short (state_in f v) j (outline_act f act)
-act_in f size short same v j (Opened s q) m = (m.0, m.1, subst (λ n. n < v.setup.max_jobs) (sym (length-map v.jobs (job_in f))) m.2, m.3, m.4, m.5)
+act_in f size short same v j (Opened s q) m = (m.0, m.1, subst (λ n. n < v.config.max_jobs) (sym (length-map v.jobs (job_in f))) m.2, m.3, m.4, m.5)
 act_in f size short same v j Granted m = (ask_in f v j m.0, grant_in f v j m.1)
 act_in f size short same v j (Began name count) m =
     (m.0, has_in f v j _ _ (λ x p. (receiving_in f x p.0, open_files_in f x.files ∙ p.1, ap (is_among name) (names_in_in f x.files) ∙ p.2, subst (λ n. n < 52) (sym (length-map x.files (file_in f))) p.3, p.4)) m.1)
@@ -92,18 +92,18 @@ may_in {A} {B} f size short same v (Started q) m = (
 may_in f size short same v Closed m = m
 
 -- before the first event
-starts_in : {A B : Type 0} (f : A → B) (c : Setup) (ps : List ℕ) → map (printer_of c []) ps ≡ map (printer_in f) (map (printer_of c []) ps)
+starts_in : {A B : Type 0} (f : A → B) (c : Config) (ps : List ℕ) → map (printer_of c []) ps ≡ map (printer_in f) (map (printer_of c []) ps)
 starts_in f c [] = refl
 starts_in f c (p ∷ ps) = ap (λ l. printer_of c [] p ∷ l) (starts_in f c ps)
 
-start_in : {A B : Type 0} (f : A → B) (c : Setup) → now c [] ≡ state_in f (now c [])
-start_in {A} {B} f c = ap (λ (ps : List (Printer B)). record { setup = c; jobs = []; accepted = 0; reserved = 0; printers = ps; closed = false }) (starts_in f c (up_to (printer_count c)))
+start_in : {A B : Type 0} (f : A → B) (c : Config) → now c [] ≡ state_in f (now c [])
+start_in {A} {B} f c = ap (λ (ps : List (Printer B)). record { config = c; jobs = []; accepted = 0; reserved = 0; printers = ps; closed = false }) (starts_in f c (up_to (printer_count c)))
 
-record Outlined {A B : Type 0} (f : A → B) (short : B → ℕ) (c : Setup) (h : List (Event A)) : Type 0 where
+record Outlined {A B : Type 0} (f : A → B) (short : B → ℕ) (c : Config) (h : List (Event A)) : Type 0 where
   legal : IsLegal short c (outline f h)
   here : now c (outline f h) ≡ state_in f (now c h)
 
-outlined : {A B : Type 0} (f : A → B) (size : A → ℕ) (short : B → ℕ) → ((page : A) → short (f page) ≡ size page) → (c : Setup) (h : List (Event A)) → IsLegal size c h → Outlined f short c h
+outlined : {A B : Type 0} (f : A → B) (size : A → ℕ) (short : B → ℕ) → ((page : A) → short (f page) ≡ size page) → (c : Config) (h : List (Event A)) → IsLegal size c h → Outlined f short c h
 outlined f size short same c [] l = record { legal = tt; here = start_in f c }
 outlined {A} {B} f size short same c (e ∷ h) l =
     let o = outlined f size short same c h l.1 in
@@ -113,5 +113,5 @@ outlined {A} {B} f size short same c (e ∷ h) l =
       here = moved short c (outline f h) (outline_event f e) o.legal may ∙ (ap (after (outline_event f e)) o.here ∙ (after_in f e (now c h) ∙ sym (ap (state_in f) (moved size c h e l.1 l.0))));
     }
 
-pub outline_legal : {A B : Type 0} (f : A → B) (size : A → ℕ) (short : B → ℕ) → ((page : A) → short (f page) ≡ size page) → (c : Setup) (h : List (Event A)) → IsLegal size c h → IsLegal short c (outline f h)
+pub outline_legal : {A B : Type 0} (f : A → B) (size : A → ℕ) (short : B → ℕ) → ((page : A) → short (f page) ≡ size page) → (c : Config) (h : List (Event A)) → IsLegal size c h → IsLegal short c (outline f h)
 outline_legal f size short same c h l = (outlined f size short same c h l).legal

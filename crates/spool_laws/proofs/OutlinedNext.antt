@@ -6,13 +6,13 @@ use Rattle.std.proofs.lemmas.List.{map-append, drop-map, length-map}
 use Rattle.control_file.specs.Kept.{is_among}
 use Rattle.claims.specs.declared.row.Row.{Row}
 use Rattle.counts.specs.Amounts.{amount}
-use Rattle.ordered_safety.specs.Safety.{HasFinishingOrder}
+use Rattle.claims.specs.Safety.{HasFinishingOrder}
 use Rattle.spool_history.specs.Events.{Sheet}
 use Rattle.spool_history.specs.Events.Progress.{Going, Done, Ended}
-use Rattle.spool_history.specs.Setup.{Setup, limit_of}
+use Rattle.config_values.specs.Config.{Config, limit_of}
 use Rattle.spool_history.specs.Acts.{File, Page, prints_in, is_open_in, names_in, numbered, pages_named}
 use Rattle.spool_history.specs.Now.{Job, Printer, State, is_received, places, printers_held, printers_needed, amounts, row_of, capacity, free_pages, IsSafeNow}
-use Rattle.spool_history.specs.Next.{Next, hand_first, hand_of, is_before, is_ready, first_ready, or_first, turn_of, with_out, next_at, printer_at, next_page}
+use Rattle.spool_history.specs.Next.{Next, hand_first, hand_of, is_preceded_by, is_ready, first_ready, or_first, turn_of, with_out, next_at, printer_at, next_page}
 use Rattle.spool_history.specs.Next.Next.{Hands, Nothing, Stops, Busy, Over}
 use Rattle.spool_history.specs.Legal.{progress_of}
 use Rattle.spool_laws.specs.Outline.{outline_sheet}
@@ -73,7 +73,7 @@ pub progress_in : {A B : Type 0} (f : A → B) (v : Job A) → progress_of (job_
 progress_in f v = ap (λ (n : ℕ). cond v.ended Ended (cond (v.back + 1 == n) Done Going)) (place_count f v)
 
 -- what it holds and may still need
-row_by : {C : Type 0} → Setup → Job C → Bool → ℕ → Row
+row_by : {C : Type 0} → Config → Job C → Bool → ℕ → Row
 row_by c v received n = record {
   number = v.number;
   sender = v.sender;
@@ -82,25 +82,25 @@ row_by c v received n = record {
   need = amounts c (cond (v.ended || received) 0 (limit_of c v.queue - v.granted)) v.queue (printers_needed v);
 }
 
-row_in : {A B : Type 0} (f : A → B) (c : Setup) (v : Job A) → row_of c (job_in f v) ≡ row_of c v
+row_in : {A B : Type 0} (f : A → B) (c : Config) (v : Job A) → row_of c (job_in f v) ≡ row_of c v
 unfolding row_by
 row_in f c v = ap₂ (row_by c v) (received_in f v) (place_count f v)
 
-rows_in : {A B : Type 0} (f : A → B) (c : Setup) (vs : List (Job A)) → map (row_of c) (map (job_in f) vs) ≡ map (row_of c) vs
+rows_in : {A B : Type 0} (f : A → B) (c : Config) (vs : List (Job A)) → map (row_of c) (map (job_in f) vs) ≡ map (row_of c) vs
 rows_in f c [] = refl
 rows_in f c (v ∷ vs) = ap₂ (λ x xs. x ∷ xs) (row_in f c v) (rows_in f c vs)
 
 pub free_in : {A B : Type 0} (f : A → B) (v : State A) → free_pages (state_in f v) ≡ free_pages v
-free_in f v = ap (λ (rows : List Row). amount (capacity v.setup) 0 - sum_by (λ (row : Row). amount row.held 0) rows) (rows_in f v.setup v.jobs)
+free_in f v = ap (λ (rows : List Row). amount (capacity v.config) 0 - sum_by (λ (row : Row). amount row.held 0) rows) (rows_in f v.config v.jobs)
 
 pub safe_in : {A B : Type 0} (f : A → B) (v : State A) → IsSafeNow (state_in f v) ≡ IsSafeNow v
 safe_in f v =
-    ap (λ (rows : List Row). HasFinishingOrder (λ kind. amount (capacity v.setup) kind - sum_by (λ (row : Row). amount row.held kind) rows) rows) (rows_in f v.setup v.jobs)
+    ap (λ (rows : List Row). HasFinishingOrder (λ kind. amount (capacity v.config) kind - sum_by (λ (row : Row). amount row.held kind) rows) rows) (rows_in f v.config v.jobs)
 
 -- which job a printer gets a page of
-before_in : {A B : Type 0} (f : A → B) (w : Job A) (vs : List (Job A)) → list_any (is_before (job_in f w)) (map (job_in f) vs) ≡ list_any (is_before w) vs
+before_in : {A B : Type 0} (f : A → B) (w : Job A) (vs : List (Job A)) → list_any (is_preceded_by (job_in f w)) (map (job_in f) vs) ≡ list_any (is_preceded_by w) vs
 before_in f w [] = refl
-before_in f w (v ∷ vs) = ap (λ b. is_before w v || b) (before_in f w vs)
+before_in f w (v ∷ vs) = ap (λ b. is_preceded_by w v || b) (before_in f w vs)
 
 ready_in : {A B : Type 0} (f : A → B) (vs : List (Job A)) (w : Job A) → is_ready (map (job_in f) vs) (job_in f w) ≡ is_ready vs w
 ready_in f vs w = ap₂ (λ r b. r && (not w.ended && ((w.handed == 0) && not b))) (received_in f w) (before_in f w vs)

@@ -4,7 +4,7 @@ use Rattle.std.specs.Prelude.{cond, nat_le, sum_by}
 use Rattle.std.proofs.lemmas.Bool.Decides.{nat_tests}
 use Rattle.std.proofs.lemmas.List.{map-append, get_or_append_left, get_or_at, length_push}
 use Rattle.std.proofs.lemmas.List.Sums.{sum_by-cons}
-use Rattle.spool_history.specs.Setup.{Queue, served_from}
+use Rattle.config_values.specs.Config.{Queue, served_from}
 use Rattle.spool_history.specs.Now.{up_to}
 use Rattle.spool_laws.proofs.Known.{Has, has_last, test}
 use Rattle.spool_laws.proofs.Adding.{length_up_to}

@@ -2,10 +2,10 @@
 use Rattle.std.proofs.Common.{inl, inr, ◌≡◌, ℕ, zero, suc, ◌+◌, false, List, [], ◌∷◌, ◌++◌, length, take, drop, refl, sym, ◌∙◌, ap, subst, arith}
 use Rattle.std.proofs.lemmas.List.{length_push}
 use Rattle.spool_history.specs.Events.{Act, Event, Sheet, Turn}
-use Rattle.spool_history.specs.Events.Act.{Opened, Granted, Began, Put, FileEnded, Controlled, Aborted}
+use Rattle.spool_history.specs.Events.Act.{Granted, Began, Put, FileEnded, Controlled, Aborted}
 use Rattle.spool_history.specs.Events.Turn.{Handed, Printed, Failed}
-use Rattle.spool_history.specs.Events.Event.{OfJob, AtPrinter, Removed, Started, Closed}
-use Rattle.spool_history.specs.Setup.{Setup}
+use Rattle.spool_history.specs.Events.Event.{Opened, OfJob, AtPrinter, Removed, Started, Closed}
+use Rattle.config_values.specs.Config.{Config}
 use Rattle.spool_history.specs.Acts.{Page}
 use Rattle.spool_history.specs.Said.{handed_of, is_handed}
 use Rattle.spool_history.specs.Now.{now}
@@ -58,7 +58,7 @@ placed_act {C} h k act none f j = elim (test k j) [
   | inr s ↦ rw s.1 (f j)
 ]
 
-placed_opened : {C : Type 0} (h : List (Event C)) (k s q : ℕ) → Placed h → Placed (OfJob k (Opened s q) ∷ h)
+placed_opened : {C : Type 0} (h : List (Event C)) (k s q : ℕ) → Placed h → Placed (Opened k s q ∷ h)
 placed_opened h k s q f j = elim (test k j) [ inl r ↦ rw r.1 (f j) | inr r ↦ rw r.1 (f j) ]
 
 placed_aborted : {C : Type 0} (h : List (Event C)) (k : ℕ) → Placed h → Placed (OfJob k Aborted ∷ h)
@@ -89,8 +89,8 @@ placed_handed {C} h p sheet t f j = elim (test sheet.job j) [
 placed_back : {C : Type 0} (h : List (Event C)) (p : ℕ) (sheet : Sheet C) (turn : Turn) → is_handed turn ≡ false → Placed h → Placed (AtPrinter p sheet turn ∷ h)
 placed_back {C} h p sheet turn is f j = subst (λ (l : List (Sheet C)). PlacedAs l j (places_of h j)) (sym (handed_same h p sheet turn j is)) (f j)
 
-placed_step : {C : Type 0} (size : C → ℕ) (c : Setup) (h : List (Event C)) (e : Event C) → IsLegal size c h → May size (now c h) e → Placed h → Placed (e ∷ h)
-placed_step size c h (OfJob k (Opened s q)) l m f = placed_opened h k s q f
+placed_step : {C : Type 0} (size : C → ℕ) (c : Config) (h : List (Event C)) (e : Event C) → IsLegal size c h → May size (now c h) e → Placed h → Placed (e ∷ h)
+placed_step size c h (Opened k s q) l m f = placed_opened h k s q f
 placed_step size c h (OfJob k Granted) l m f = placed_act h k Granted ((facts size c h l).begun k (has_at c h k _ m.0).is.0.1) f
 placed_step size c h (OfJob k (Began name count)) l m f = placed_act h k (Began name count) ((facts size c h l).begun k (has_at c h k _ m.1).is.0.1) f
 placed_step size c h (OfJob k (Put file number page)) l m f = placed_act h k (Put file number page) ((facts size c h l).begun k (has_at c h k _ m).is.0.1) f
@@ -104,6 +104,6 @@ placed_step size c h (Removed q jobs) l m f = f
 placed_step size c h (Started q) l m f = f
 placed_step size c h Closed l m f = f
 
-pub placed : {C : Type 0} (size : C → ℕ) (c : Setup) (h : List (Event C)) → IsLegal size c h → (j : ℕ) → handed_of h j ≡ sheets j 0 (take (length (handed_of h j)) (places_of h j))
+pub placed : {C : Type 0} (size : C → ℕ) (c : Config) (h : List (Event C)) → IsLegal size c h → (j : ℕ) → handed_of h j ≡ sheets j 0 (take (length (handed_of h j)) (places_of h j))
 placed size c [] l = λ j. refl
 placed size c (e ∷ h) l = placed_step size c h e l.1 l.0 (placed size c h l.1)

@@ -6,7 +6,7 @@ use Rattle.std.proofs.lemmas.Bool.Decides.{nat_tests}
 use Rattle.spool_history.specs.Events.{Event, Sheet, Turn}
 use Rattle.spool_history.specs.Events.Turn.{Handed, Printed, Failed}
 use Rattle.spool_history.specs.Events.Event.{AtPrinter, Started}
-use Rattle.spool_history.specs.Setup.{Setup, printer_count, queue_of}
+use Rattle.config_values.specs.Config.{Config, printer_count, queue_of}
 use Rattle.spool_history.specs.Now.{Printer, now, printer_of, up_to}
 use Rattle.spool_history.specs.Next.{printer_at, no_printer}
 use Rattle.spool_history.specs.Steps.{printer_turned, printers_after}
@@ -44,22 +44,22 @@ set_up_to {P} f g n p x lt is other =
         let ne' : suc k ≢ suc p = grind (arith, nat_tests) in
         other (suc k) ne' ∙ sym (get_or-set_other (map f (up_to n)) p k x d ne ∙ get_up_to f n k d below)
 
-pub at_printer : {C : Type 0} (c : Setup) (h : List (Event C)) (p : ℕ) → 1 ≤ p → p ≤ printer_count c → printer_at (now c h) p ≡ printer_of c h p
+pub at_printer : {C : Type 0} (c : Config) (h : List (Event C)) (p : ℕ) → 1 ≤ p → p ≤ printer_count c → printer_at (now c h) p ≡ printer_of c h p
 at_printer c h p one le =
     let e : suc (p - 1) ≡ p = omega arith in
     get_up_to (printer_of c h) (printer_count c) (p - 1) no_printer (omega arith) ∙ ap (printer_of c h) e
 
-turned_other : {C : Type 0} (c : Setup) (h : List (Event C)) (p : ℕ) (sheet : Sheet C) (turn : Turn) (q : ℕ) (b : Bool) → (p == q) ≡ b → q ≢ p → printer_of c (AtPrinter p sheet turn ∷ h) q ≡ printer_of c h q
+turned_other : {C : Type 0} (c : Config) (h : List (Event C)) (p : ℕ) (sheet : Sheet C) (turn : Turn) (q : ℕ) (b : Bool) → (p == q) ≡ b → q ≢ p → printer_of c (AtPrinter p sheet turn ∷ h) q ≡ printer_of c h q
 turned_other c h p sheet turn q true e ne = absurd (ne (grind (arith, nat_tests)))
 turned_other c h p sheet turn q false e ne = rw e refl
 
-turned_here : {C : Type 0} (c : Setup) (h : List (Event C)) (p : ℕ) (sheet : Sheet C) (turn : Turn) (b : Bool) → (p == p) ≡ b → printer_of c (AtPrinter p sheet turn ∷ h) p ≡ printer_turned sheet turn (printer_of c h p)
+turned_here : {C : Type 0} (c : Config) (h : List (Event C)) (p : ℕ) (sheet : Sheet C) (turn : Turn) (b : Bool) → (p == p) ≡ b → printer_of c (AtPrinter p sheet turn ∷ h) p ≡ printer_turned sheet turn (printer_of c h p)
 turned_here c h p sheet Handed true e = rw e refl
 turned_here c h p sheet (Printed x) true e = rw e refl
 turned_here c h p sheet Failed true e = rw e refl
 turned_here c h p sheet turn false e = absurd (grind (arith, nat_tests))
 
-pub printers_turned : {C : Type 0} (c : Setup) (h : List (Event C)) (p : ℕ) (sheet : Sheet C) (turn : Turn) → 1 ≤ p → p ≤ printer_count c → (now c (AtPrinter p sheet turn ∷ h)).printers ≡ printers_after (AtPrinter p sheet turn) (now c h)
+pub printers_turned : {C : Type 0} (c : Config) (h : List (Event C)) (p : ℕ) (sheet : Sheet C) (turn : Turn) → 1 ≤ p → p ≤ printer_count c → (now c (AtPrinter p sheet turn ∷ h)).printers ≡ printers_after (AtPrinter p sheet turn) (now c h)
 printers_turned {C} c h p sheet turn one le =
     let e : suc (p - 1) ≡ p = omega arith in
     let here : printer_of c (AtPrinter p sheet turn ∷ h) (suc (p - 1)) ≡ printer_turned sheet turn (printer_at (now c h) p) =
@@ -71,7 +71,7 @@ printers_turned {C} c h p sheet turn one le =
 abbrev start : {C : Type 0} → ℕ → Printer C → Printer C
 start q p = cond (p.queue == q) (record p { stopped = false }) p
 
-started_one : {C : Type 0} (c : Setup) (h : List (Event C)) (q p : ℕ) → printer_of c (Started q ∷ h) p ≡ start q (printer_of c h p)
+started_one : {C : Type 0} (c : Config) (h : List (Event C)) (q p : ℕ) → printer_of c (Started q ∷ h) p ≡ start q (printer_of c h p)
 started_one c h q p = elim (test q (queue_of c p)) [
   | inl s ↦ elim (test (queue_of c p) q) [ inl t ↦ rw (s.1, t.1) refl | inr t ↦ absurd (t.0 (sym s.0)) ]
   | inr s ↦ elim (test (queue_of c p) q) [ inl t ↦ absurd (s.0 (sym t.0)) | inr t ↦ rw (s.1, t.1) refl ]
@@ -81,5 +81,5 @@ map_twice : {X Y : Type 0} (f : X → Y) (g : Y → Y) (k : X → Y) (xs : List 
 map_twice f g k [] e = refl
 map_twice f g k (x ∷ xs) e = cc (e x, map_twice f g k xs e)
 
-pub printers_started : {C : Type 0} (c : Setup) (h : List (Event C)) (q : ℕ) → (now c (Started q ∷ h)).printers ≡ printers_after (Started q) (now c h)
+pub printers_started : {C : Type 0} (c : Config) (h : List (Event C)) (q : ℕ) → (now c (Started q ∷ h)).printers ≡ printers_after (Started q) (now c h)
 printers_started {C} c h q = map_twice (printer_of c h) (start q) (printer_of c (Started q ∷ h)) (up_to (printer_count c)) (started_one c h q)

@@ -5,10 +5,10 @@ use Rattle.std.specs.List.{list_any, AllByRecursion}
 use Rattle.std.proofs.lemmas.List.{append-nil}
 use Rattle.std.proofs.lemmas.List.Sums.{sum_by_push}
 use Rattle.spool_history.specs.Events.{Act, Event, Sheet, Turn}
-use Rattle.spool_history.specs.Events.Act.{Opened, Granted, Began, Put, FileEnded, Controlled, Aborted}
+use Rattle.spool_history.specs.Events.Act.{Granted, Began, Put, FileEnded, Controlled, Aborted}
 use Rattle.spool_history.specs.Events.Turn.{Handed, Printed, Failed}
-use Rattle.spool_history.specs.Events.Event.{OfJob, AtPrinter, Removed, Started, Closed}
-use Rattle.spool_history.specs.Setup.{Setup, printer_count, queue_of, reserve_of}
+use Rattle.spool_history.specs.Events.Event.{Opened, OfJob, AtPrinter, Removed, Started, Closed}
+use Rattle.config_values.specs.Config.{Config, printer_count, queue_of, reserve_of}
 use Rattle.spool_history.specs.Said.{Opening, openings, opening_by, acts_of, is_handed, is_failed, is_stopped_at, is_closed}
 use Rattle.spool_history.specs.Now.{Job, Printer, now, up_to}
 use Rattle.spool_history.specs.Legal.{HasJob, IsLegal, May}
@@ -24,7 +24,7 @@ use Rattle.spool_laws.proofs.Told.{failed_of, removed_of, used, failed_one, rese
 abbrev pub Accepted : {C : Type 0} → List (Event C) → ℕ → Type 0
 Accepted h j = (o : Opening) × Has o (openings h) × (o.job ≡ j)
 
-accepted_step : {C : Type 0} (size : C → ℕ) (c : Setup) (h : List (Event C)) (e : Event C) → IsLegal size c h → May size (now c h) e → ((j : ℕ) → 0 < handed_at h j → Accepted h j) → (j : ℕ) → 0 < handed_at (e ∷ h) j → Accepted (e ∷ h) j
+accepted_step : {C : Type 0} (size : C → ℕ) (c : Config) (h : List (Event C)) (e : Event C) → IsLegal size c h → May size (now c h) e → ((j : ℕ) → 0 < handed_at h j → Accepted h j) → (j : ℕ) → 0 < handed_at (e ∷ h) j → Accepted (e ∷ h) j
 accepted_step size c h (OfJob k act) l m a j pos = let o = a j pos in (o.0, has_left o.0 (openings h) (opening_by k act) o.1, o.2)
 accepted_step size c h (AtPrinter p sheet Handed) l m a j pos = elim (test sheet.job j) [
   | inl s ↦ (let t = (turn_of_page c h p sheet m.0.0 m.0.1 m.1).at in (record { job = sheet.job; sender = t.sender; queue = t.queue }, t.there, s.0))
@@ -36,7 +36,7 @@ accepted_step size c h (Removed q jobs) l m a j pos = a j pos
 accepted_step size c h (Started q) l m a j pos = a j pos
 accepted_step size c h Closed l m a j pos = a j pos
 
-pub accepted : {C : Type 0} (size : C → ℕ) (c : Setup) (h : List (Event C)) → IsLegal size c h → (j : ℕ) → 0 < handed_at h j → Accepted h j
+pub accepted : {C : Type 0} (size : C → ℕ) (c : Config) (h : List (Event C)) → IsLegal size c h → (j : ℕ) → 0 < handed_at h j → Accepted h j
 accepted size c [] l j pos = absurd (omega arith)
 accepted size c (e ∷ h) l j pos = accepted_step size c h e l.1 l.0 (accepted size c h l.1) j pos
 
@@ -107,10 +107,10 @@ any_first k j ks e = elim (test k j) [ inl s ↦ rw s.1 refl | inr s ↦ absurd 
 
 -- how many printers are stopped
 
-abbrev stop : {C : Type 0} → Setup → List (Event C) → ℕ → ℕ
+abbrev stop : {C : Type 0} → Config → List (Event C) → ℕ → ℕ
 stop c h p = one_if (is_stopped_at h (queue_of c p) p)
 
-abbrev stops : {C : Type 0} → Setup → List (Event C) → ℕ
+abbrev stops : {C : Type 0} → Config → List (Event C) → ℕ
 stops c h = sum_by (stop c h) (up_to (printer_count c))
 
 abbrev used_by : {C : Type 0} → List (Event C) → Opening → ℕ
@@ -119,62 +119,62 @@ used_by h o = used h o.job
 abbrev all_used : {C : Type 0} → List (Event C) → List Opening → ℕ
 all_used h os = sum_by (used_by h) os
 
-stop_same : {C : Type 0} (c : Setup) (h : List (Event C)) (r : ℕ) (sheet : Sheet C) (turn : Turn) (p : ℕ) → is_failed turn ≡ false → stop c (AtPrinter r sheet turn ∷ h) p ≤ stop c h p
+stop_same : {C : Type 0} (c : Config) (h : List (Event C)) (r : ℕ) (sheet : Sheet C) (turn : Turn) (p : ℕ) → is_failed turn ≡ false → stop c (AtPrinter r sheet turn ∷ h) p ≤ stop c h p
 stop_same c h r sheet turn p e =
     let n : stop c (AtPrinter r sheet turn ∷ h) p ≡ stop c h p = elim (test r p) [ inl s ↦ rw (s.1, e) refl | inr s ↦ rw s.1 refl ] in
     omega arith
 
-stop_other : {C : Type 0} (c : Setup) (h : List (Event C)) (r : ℕ) (sheet : Sheet C) (turn : Turn) (p : ℕ) → p ≢ r → stop c (AtPrinter r sheet turn ∷ h) p ≤ stop c h p
+stop_other : {C : Type 0} (c : Config) (h : List (Event C)) (r : ℕ) (sheet : Sheet C) (turn : Turn) (p : ℕ) → p ≢ r → stop c (AtPrinter r sheet turn ∷ h) p ≤ stop c h p
 stop_other c h r sheet turn p ne =
     let n : stop c (AtPrinter r sheet turn ∷ h) p ≡ stop c h p = elim (test r p) [ inl s ↦ absurd (ne (sym s.0)) | inr s ↦ rw s.1 refl ] in
     omega arith
 
-stop_started : {C : Type 0} (c : Setup) (h : List (Event C)) (q p : ℕ) → stop c (Started q ∷ h) p ≤ stop c h p
+stop_started : {C : Type 0} (c : Config) (h : List (Event C)) (q p : ℕ) → stop c (Started q ∷ h) p ≤ stop c h p
 stop_started c h q p = elim (test q (queue_of c p)) [
   | inl s ↦ (let n : stop c (Started q ∷ h) p ≡ 0 = rw s.1 refl in omega arith)
   | inr s ↦ (let n : stop c (Started q ∷ h) p ≡ stop c h p = rw s.1 refl in omega arith)
 ]
 
-starts_one : {C : Type 0} (c : Setup) (h : List (Event C)) (q p : ℕ) → queue_of c p ≡ q → is_stopped_at h (queue_of c p) p ≡ true → stop c (Started q ∷ h) p + 1 ≤ stop c h p
+starts_one : {C : Type 0} (c : Config) (h : List (Event C)) (q p : ℕ) → queue_of c p ≡ q → is_stopped_at h (queue_of c p) p ≡ true → stop c (Started q ∷ h) p + 1 ≤ stop c h p
 starts_one c h q p e is = elim (test q (queue_of c p)) [
   | inl s ↦ (let n : stop c (Started q ∷ h) p ≡ 0 = rw s.1 refl in let m : stop c h p ≡ 1 = ap one_if is in omega arith)
   | inr s ↦ absurd (s.0 (sym e))
 ]
 
 -- the entries and the stopped printers are among what is told of the jobs, and the close
-abbrev Told' : {C : Type 0} → Setup → List (Event C) → Type 0
+abbrev Told' : {C : Type 0} → Config → List (Event C) → Type 0
 Told' c h = length h + stops c h ≤ all_used h (openings h) + one_if (is_closed h)
 
-act_told : {C : Type 0} (c : Setup) (h : List (Event C)) (k : ℕ) (act : Act C) (P : Job C → Type 0) → opening_by k act ≡ [] → At h k P → Told' c h → Told' c (OfJob k act ∷ h)
+act_told : {C : Type 0} (c : Config) (h : List (Event C)) (k : ℕ) (act : Act C) (P : Job C → Type 0) → opening_by k act ≡ [] → At h k P → Told' c h → Told' c (OfJob k act ∷ h)
 act_told {C} c h k act P none a t =
     let os : openings h ++ opening_by k act ≡ openings h = ap (λ (l : List Opening). openings h ++ l) none ∙ append-nil (openings h) in
     let e : all_used (OfJob k act ∷ h) (openings h ++ opening_by k act) ≡ all_used (OfJob k act ∷ h) (openings h) = ap (all_used (OfJob k act ∷ h)) os in
     let s = sum_more (used_by h) (used_by (OfJob k act ∷ h)) 1 (record { job = k; sender = a.sender; queue = a.queue }) (openings h) a.there (λ o. more_act h k act o.job) (one_act h k act k refl) in
     omega arith
 
-opened_told : {C : Type 0} (c : Setup) (h : List (Event C)) (k s q : ℕ) → Told' c h → Told' c (OfJob k (Opened s q) ∷ h)
+opened_told : {C : Type 0} (c : Config) (h : List (Event C)) (k s q : ℕ) → Told' c h → Told' c (Opened k s q ∷ h)
 opened_told {C} c h k s q t =
-    let e : Event C = OfJob k (Opened s q) in
+    let e : Event C = Opened k s q in
     let x : Opening = record { job = k; sender = s; queue = q } in
     let p = sum_by_push (used_by (e ∷ h)) (openings h) x in
     let m = sum_less (used_by h) (used_by (e ∷ h)) (openings h) (λ o has. more_act h k (Opened s q) o.job) in
     let one : used h k + 1 ≤ used (e ∷ h) k = one_act h k (Opened s q) k refl in
     omega arith
 
-turn_told : {C : Type 0} (c : Setup) (h : List (Event C)) (p : ℕ) (sheet : Sheet C) (turn : Turn) (o : Opening) → Has o (openings h) → is_failed turn ≡ false → ((j : ℕ) → used h j ≤ used (AtPrinter p sheet turn ∷ h) j) → used h o.job + 1 ≤ used (AtPrinter p sheet turn ∷ h) o.job → Told' c h → Told' c (AtPrinter p sheet turn ∷ h)
+turn_told : {C : Type 0} (c : Config) (h : List (Event C)) (p : ℕ) (sheet : Sheet C) (turn : Turn) (o : Opening) → Has o (openings h) → is_failed turn ≡ false → ((j : ℕ) → used h j ≤ used (AtPrinter p sheet turn ∷ h) j) → used h o.job + 1 ≤ used (AtPrinter p sheet turn ∷ h) o.job → Told' c h → Told' c (AtPrinter p sheet turn ∷ h)
 turn_told c h p sheet turn o has is le one t =
     let s = sum_more (used_by h) (used_by (AtPrinter p sheet turn ∷ h)) 1 o (openings h) has (λ x. le x.job) one in
     let z = up_less (stop c h) (stop c (AtPrinter p sheet turn ∷ h)) (printer_count c) (λ q. stop_same c h p sheet turn q is) in
     omega arith
 
-failed_told : {C : Type 0} (c : Setup) (h : List (Event C)) (p : ℕ) (sheet : Sheet C) (o : Opening) → Has o (openings h) → sheet.job ≡ o.job → Told' c h → Told' c (AtPrinter p sheet Failed ∷ h)
+failed_told : {C : Type 0} (c : Config) (h : List (Event C)) (p : ℕ) (sheet : Sheet C) (o : Opening) → Has o (openings h) → sheet.job ≡ o.job → Told' c h → Told' c (AtPrinter p sheet Failed ∷ h)
 failed_told c h p sheet o has same t =
     let s = sum_more (used_by h) (used_by (AtPrinter p sheet Failed ∷ h)) 2 o (openings h) has (λ x. more_back h p sheet Failed refl x.job) (two_failed h p sheet o.job same) in
     let one = one_le (is_stopped_at (AtPrinter p sheet Failed ∷ h) (queue_of c p) p) in
     let z = up_one (stop c h) (stop c (AtPrinter p sheet Failed ∷ h)) p (printer_count c) (λ q ne. stop_other c h p sheet Failed q ne) (omega arith) in
     omega arith
 
-removed_told : {C : Type 0} (c : Setup) (h : List (Event C)) (P : Job C → Type 0) (q : ℕ) (jobs : List ℕ) → 0 < length jobs → AllByRecursion (λ k. HasJob (now c h) k P) jobs → Told' c h → Told' c (Removed q jobs ∷ h)
+removed_told : {C : Type 0} (c : Config) (h : List (Event C)) (P : Job C → Type 0) (q : ℕ) (jobs : List ℕ) → 0 < length jobs → AllByRecursion (λ k. HasJob (now c h) k P) jobs → Told' c h → Told' c (Removed q jobs ∷ h)
 removed_told c h P q [] pos all t = absurd (omega arith)
 removed_told {C} c h P q (k ∷ ks) pos all t =
     let a = has_at c h k P all.0 in
@@ -183,13 +183,13 @@ removed_told {C} c h P q (k ∷ ks) pos all t =
     let s = sum_more (used_by h) (used_by (Removed q (k ∷ ks) ∷ h)) 1 (record { job = k; sender = a.sender; queue = a.queue }) (openings h) a.there le one in
     omega arith
 
-started_told : {C : Type 0} (c : Setup) (h : List (Event C)) (q p : ℕ) → 1 ≤ p → p ≤ printer_count c → queue_of c p ≡ q → is_stopped_at h (queue_of c p) p ≡ true → Told' c h → Told' c (Started q ∷ h)
+started_told : {C : Type 0} (c : Config) (h : List (Event C)) (q p : ℕ) → 1 ≤ p → p ≤ printer_count c → queue_of c p ≡ q → is_stopped_at h (queue_of c p) p ≡ true → Told' c h → Told' c (Started q ∷ h)
 started_told c h q p one le e is t =
     let s = sum_more (stop c (Started q ∷ h)) (stop c h) 1 p (up_to (printer_count c)) (has_up_to p (printer_count c) one le) (λ r. stop_started c h q r) (starts_one c h q p e is) in
     let m = sum_less (used_by h) (used_by (Started q ∷ h)) (openings h) (λ o has. omega arith) in
     omega arith
 
-closed_told : {C : Type 0} (c : Setup) (h : List (Event C)) → is_closed h ≡ false → Told' c h → Told' c (Closed ∷ h)
+closed_told : {C : Type 0} (c : Config) (h : List (Event C)) → is_closed h ≡ false → Told' c h → Told' c (Closed ∷ h)
 closed_told c h e t =
     let z : one_if (is_closed h) ≡ 0 = ap one_if e in
     let m = sum_less (used_by h) (used_by (Closed ∷ h)) (openings h) (λ o has. omega arith) in
@@ -198,8 +198,8 @@ closed_told c h e t =
 abbrev pub no_events : (C : Type 0) → List (Event C)
 no_events C = []
 
-told_step : {C : Type 0} (size : C → ℕ) (c : Setup) (h : List (Event C)) (e : Event C) → IsLegal size c h → May size (now c h) e → Told' c h → Told' c (e ∷ h)
-told_step size c h (OfJob k (Opened s q)) l m t = opened_told c h k s q t
+told_step : {C : Type 0} (size : C → ℕ) (c : Config) (h : List (Event C)) (e : Event C) → IsLegal size c h → May size (now c h) e → Told' c h → Told' c (e ∷ h)
+told_step size c h (Opened k s q) l m t = opened_told c h k s q t
 told_step size c h (OfJob k Granted) l m t = act_told c h k Granted _ refl (has_at c h k _ m.0) t
 told_step size c h (OfJob k (Began name count)) l m t = act_told c h k (Began name count) _ refl (has_at c h k _ m.1) t
 told_step size c h (OfJob k (Put file number page)) l m t = act_told c h k (Put file number page) _ refl (has_at c h k _ m) t
@@ -223,11 +223,11 @@ told_step {C} size c h (Started q) l m t =
     started_told c h q m.2 m.3.0 m.3.1 (sym (ap (λ (x : Printer C). x.queue) here) ∙ m.4) (sym (ap (λ (x : Printer C). x.stopped) here) ∙ m.5) t
 told_step size c h Closed l m t = closed_told c h m t
 
-told_of : {C : Type 0} (size : C → ℕ) (c : Setup) (h : List (Event C)) → IsLegal size c h → Told' c h
+told_of : {C : Type 0} (size : C → ℕ) (c : Config) (h : List (Event C)) → IsLegal size c h → Told' c h
 told_of {C} size c [] l = let z = up_none (stop c (no_events C)) (printer_count c) (λ p. refl) in omega arith
 told_of size c (e ∷ h) l = told_step size c h e l.1 l.0 (told_of size c h l.1)
 
-pub reserve_is_enough : {C : Type 0} (size : C → ℕ) (c : Setup) (h : List (Event C)) → IsLegal size c h → length h ≤ (now c h).reserved + 1
+pub reserve_is_enough : {C : Type 0} (size : C → ℕ) (c : Config) (h : List (Event C)) → IsLegal size c h → length h ≤ (now c h).reserved + 1
 reserve_is_enough size c h l =
     let t = told_of size c h l in
     let s = sum_less (used_by h) (λ (o : Opening). reserve_of c o.queue) (openings h) (λ o has. reserved size c h l o has) in

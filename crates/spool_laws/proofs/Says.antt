@@ -6,7 +6,7 @@ use Rattle.spool_history.specs.Events.{Event, Sheet, Progress}
 use Rattle.spool_history.specs.Events.Progress.{Going, Done, Ended}
 use Rattle.spool_history.specs.Events.Turn.{Handed, Printed, Failed}
 use Rattle.spool_history.specs.Events.Event.{OfJob, AtPrinter, Removed, Started, Closed}
-use Rattle.spool_history.specs.Setup.{Setup}
+use Rattle.config_values.specs.Config.{Config}
 use Rattle.spool_history.specs.Said.{back_of, has_ended}
 use Rattle.spool_history.specs.Now.{Job, now}
 use Rattle.spool_history.specs.Legal.{IsLegal, May, progress_of}
@@ -24,7 +24,7 @@ ended_by true b x e = (λ d. refl, λ d. e)
 ended_by false true x e = (λ d. absurd (cc (sym e ∙ d)), λ d. absurd cc)
 ended_by false false x e = (λ d. absurd (cc (sym e ∙ d)), λ d. absurd cc)
 
-pub says : {C : Type 0} (size : C → ℕ) (c : Setup) (h : List (Event C)) (p : ℕ) (sheet : Sheet C) (x : Progress) → IsLegal size c h → May size (now c h) (AtPrinter p sheet (Printed x)) → SaysWhatIs h sheet x
+pub says : {C : Type 0} (size : C → ℕ) (c : Config) (h : List (Event C)) (p : ℕ) (sheet : Sheet C) (x : Progress) → IsLegal size c h → May size (now c h) (AtPrinter p sheet (Printed x)) → SaysWhatIs h sheet x
 says {C} size c h p sheet x l m =
     let a : At h sheet.job (λ (v : Job C). x ≡ progress_of v) = has_at c h sheet.job (λ v. x ≡ progress_of v) m.1.1 in
     let place : sheet.place ≡ back_of h sheet.job = ((facts size c h l).out p sheet (is_out c h p sheet m.0 m.1.0)).2 in
@@ -35,7 +35,7 @@ says {C} size c h p sheet x l m =
       ended = ended_by (has_ended h sheet.job) (sheet.place + 1 == length (places_of h sheet.job)) x is;
     }
 
-pub each_says : {C : Type 0} (size : C → ℕ) (c : Setup) (h : List (Event C)) → IsLegal size c h → EachPrinted SaysWhatIs h
+pub each_says : {C : Type 0} (size : C → ℕ) (c : Config) (h : List (Event C)) → IsLegal size c h → EachPrinted SaysWhatIs h
 each_says size c [] l = tt
 each_says size c (OfJob k act ∷ h) l = each_says size c h l.1
 each_says size c (AtPrinter p sheet Handed ∷ h) l = each_says size c h l.1

@@ -5,11 +5,11 @@ use Rattle.std.specs.List.{list_any}
 use Rattle.std.proofs.lemmas.Bool.Decides.{nat_tests}
 use Rattle.counts.specs.Amounts.{amount}
 use Rattle.spool_history.specs.Events.{Act, Event, Sheet, Turn}
-use Rattle.spool_history.specs.Events.Act.{Opened, Granted, Began, Put, FileEnded, Controlled, Aborted}
+use Rattle.spool_history.specs.Events.Act.{Granted, Began, Put, FileEnded, Controlled, Aborted}
 use Rattle.spool_history.specs.Events.Progress.{Going, Done, Ended}
 use Rattle.spool_history.specs.Events.Turn.{Handed, Printed, Failed}
-use Rattle.spool_history.specs.Events.Event.{OfJob, AtPrinter, Removed, Started, Closed}
-use Rattle.spool_history.specs.Setup.{Setup, limit_of}
+use Rattle.spool_history.specs.Events.Event.{Opened, OfJob, AtPrinter, Removed, Started, Closed}
+use Rattle.config_values.specs.Config.{Config, limit_of}
 use Rattle.spool_history.specs.Acts.{Page, granted_by, files_by}
 use Rattle.spool_history.specs.Said.{Opening, openings, acts_of, back_of}
 use Rattle.spool_history.specs.Now.{Job, now, job_of, is_held, is_received, places, pages_held, printers_held, pages_needed, printers_needed, amounts, row_of, up_to}
@@ -22,7 +22,7 @@ use Rattle.spool_laws.proofs.Facts.{Facts, facts, is_out, handed_at}
 use Rattle.spool_laws.proofs.Places.{placed}
 use Rattle.spool_laws.proofs.Held.{keeps, places_within, pages_in}
 use Rattle.spool_laws.proofs.Busy.{lent_unreceived}
-use Rattle.spool_laws.proofs.Lowered.{Lower}
+use Rattle.claims.proofs.Lowered.{Lower}
 
 pub record Sound {C : Type 0} (v : Job C) : Type 0 where
   pub within : length (places v) ≤ v.granted
@@ -37,7 +37,7 @@ length_sheets j n zero xs = omega arith
 length_sheets j n (suc k) [] = omega arith
 length_sheets j n (suc k) (x ∷ xs) = let ih = length_sheets j (n + 1) k xs in omega arith
 
-pub sound : {C : Type 0} (size : C → ℕ) (c : Setup) (h : List (Event C)) → IsLegal size c h → (o : Opening) → Sound (job_of h o)
+pub sound : {C : Type 0} (size : C → ℕ) (c : Config) (h : List (Event C)) → IsLegal size c h → (o : Opening) → Sound (job_of h o)
 sound {C} size c h l o =
     let f = facts size c h l in
     let k = keeps size c h l o.job in
@@ -50,7 +50,7 @@ sound {C} size c h l o =
       handed = (let e = ap length (placed size c h l o.job) in let b = length_sheets o.job 0 (handed_at h o.job) (places_of h o.job) in omega arith);
     }
 
-pub sound_after : {C : Type 0} (size : C → ℕ) (c : Setup) (h : List (Event C)) (e : Event C) → IsLegal size c h → May size (now c h) e → (o : Opening) → Sound (change e (job_of h o))
+pub sound_after : {C : Type 0} (size : C → ℕ) (c : Config) (h : List (Event C)) (e : Event C) → IsLegal size c h → May size (now c h) e → (o : Opening) → Sound (change e (job_of h o))
 sound_after {C} size c h e l m o = subst (λ (v : Job C). Sound v) (changes h e o) (sound size c (e ∷ h) (m, l) o)
 
 map_le : (q n m : ℕ) (l : List ℕ) (i : ℕ) → n ≤ m → get_or (map (λ (r : ℕ). cond (r == q) n 0) l) i 0 ≤ get_or (map (λ (r : ℕ). cond (r == q) m 0) l) i 0
@@ -58,11 +58,11 @@ map_le q n m [] i le = omega arith
 map_le q n m (r ∷ l) zero le = elim (test r q) [ inl s ↦ rw s.1 (omega arith) | inr s ↦ rw s.1 (omega arith) ]
 map_le q n m (r ∷ l) (suc i) le = map_le q n m l i le
 
-pub amount_le : (c : Setup) (q p p' n n' : ℕ) → p ≤ p' → n ≤ n' → (k : ℕ) → amount (amounts c p q n) k ≤ amount (amounts c p' q n') k
+pub amount_le : (c : Config) (q p p' n n' : ℕ) → p ≤ p' → n ≤ n' → (k : ℕ) → amount (amounts c p q n) k ≤ amount (amounts c p' q n') k
 amount_le c q p p' n n' a b zero = a
 amount_le c q p p' n n' a b (suc i) = map_le q n n' (up_to (length c.queues)) i b
 
-pub lower_row : {C : Type 0} (c : Setup) (v w : Job C) → w.number ≡ v.number → w.sender ≡ v.sender → w.queue ≡ v.queue → pages_held w ≤ pages_held v → printers_held w ≤ printers_held v → pages_needed c w ≤ pages_needed c v → printers_needed w ≤ printers_needed v → Lower (row_of c v) (row_of c w)
+pub lower_row : {C : Type 0} (c : Config) (v w : Job C) → w.number ≡ v.number → w.sender ≡ v.sender → w.queue ≡ v.queue → pages_held w ≤ pages_held v → printers_held w ≤ printers_held v → pages_needed c w ≤ pages_needed c v → printers_needed w ≤ printers_needed v → Lower (row_of c v) (row_of c w)
 lower_row c v w n s q a b d e = record {
   number = n;
   sender = s;
@@ -71,7 +71,7 @@ lower_row c v w n s q a b d e = record {
   need = λ k. subst (λ (i : ℕ). amount (amounts c (pages_needed c w) i (printers_needed w)) k ≤ amount (amounts c (pages_needed c v) v.queue (printers_needed v)) k) (sym q) (amount_le c v.queue (pages_needed c w) (pages_needed c v) (printers_needed w) (printers_needed v) d e k);
 }
 
-pub lower_same : {C : Type 0} (c : Setup) (v : Job C) → Lower (row_of c v) (row_of c v)
+pub lower_same : {C : Type 0} (c : Config) (v : Job C) → Lower (row_of c v) (row_of c v)
 lower_same c v = record { number = refl; sender = refl; queue = refl; held = λ k. omega arith; need = λ k. omega arith }
 
 -- while a job is received
@@ -84,7 +84,7 @@ need_within : (r : Bool) (n : ℕ) → cond r 0 n ≤ n
 need_within true n = omega arith
 need_within false n = omega arith
 
-pub lower_receiving : {C : Type 0} (c : Setup) (v w : Job C) → v.ended ≡ false → is_received v ≡ false → Sound w → w.ended ≡ v.ended → w.granted ≡ v.granted → w.handed ≡ v.handed → w.number ≡ v.number → w.sender ≡ v.sender → w.queue ≡ v.queue → Lower (row_of c v) (row_of c w)
+pub lower_receiving : {C : Type 0} (c : Config) (v w : Job C) → v.ended ≡ false → is_received v ≡ false → Sound w → w.ended ≡ v.ended → w.granted ≡ v.granted → w.handed ≡ v.handed → w.number ≡ v.number → w.sender ≡ v.sender → w.queue ≡ v.queue → Lower (row_of c v) (row_of c w)
 lower_receiving {C} c v w e r s we wg wh n s' q =
     let we' : w.ended ≡ false = we ∙ e in
     let a = held_within (is_received w) (length (places w)) w.back w.granted s.within in
@@ -113,7 +113,7 @@ out_holds_by v false false e is s o = rw (e, is) (elim o [
   | inr ne ↦ let a = s.begun is in let b = s.back in let n : v.handed ≢ v.back = ne in absurd (n (omega arith))
 ])
 
-pub lower_ended : {C : Type 0} (c : Setup) (v w : Job C) → Sound v → Out v → w.ended ≡ true → w.handed ≡ v.handed → w.number ≡ v.number → w.sender ≡ v.sender → w.queue ≡ v.queue → Lower (row_of c v) (row_of c w)
+pub lower_ended : {C : Type 0} (c : Config) (v w : Job C) → Sound v → Out v → w.ended ≡ true → w.handed ≡ v.handed → w.number ≡ v.number → w.sender ≡ v.sender → w.queue ≡ v.queue → Lower (row_of c v) (row_of c w)
 lower_ended c v w s o we wh n s' q =
     let a = out_holds_by v v.ended (is_received v) refl refl s o in
     let ph : pages_held w ≡ 1 = rw we refl in
@@ -136,11 +136,11 @@ back_less true r n m g = omega arith
 back_less false true n m g = omega arith
 back_less false false n m g = omega arith
 
-pub lower_back : {C : Type 0} (c : Setup) (v : Job C) → Lower (row_of c v) (row_of c (record v { back = v.back + 1 }))
+pub lower_back : {C : Type 0} (c : Config) (v : Job C) → Lower (row_of c v) (row_of c (record v { back = v.back + 1 }))
 lower_back c v = lower_row c v (record v { back = v.back + 1 }) refl refl refl (back_less v.ended (is_received v) (length (places v)) v.back v.granted) (omega arith) (omega arith) (omega arith)
 
 -- what an event makes of the row of each held job
-abbrev pub LowersAll : {C : Type 0} → Setup → List (Event C) → Event C → Type 0
+abbrev pub LowersAll : {C : Type 0} → Config → List (Event C) → Event C → Type 0
 LowersAll {C} c h e = (o : Opening) → Has o (openings h) → is_held (change e (job_of h o)) ≡ true → Lower (row_of c (job_of h o)) (row_of c (change e (job_of h o)))
 
 at_is : {C : Type 0} (h : List (Event C)) (k : ℕ) (P : Job C → Type 0) (o : Opening) → Facts h → At h k P → Has o (openings h) → k ≡ o.job → P (job_of h o)
@@ -148,10 +148,10 @@ at_is {C} h k P o f a has e =
     let x : Opening = record { job = k; sender = a.sender; queue = a.queue } in
     subst (λ (y : Opening). P (job_of h y)) (f.once x o a.there has e) a.is
 
-abbrev Acts' : {C : Type 0} → Setup → List (Event C) → Act C → Opening → Type 0
+abbrev Acts' : {C : Type 0} → Config → List (Event C) → Act C → Opening → Type 0
 Acts' c h act o = is_held (acted act (job_of h o)) ≡ true → Sound (acted act (job_of h o)) → Lower (row_of c (job_of h o)) (row_of c (acted act (job_of h o)))
 
-lowers_act : {C : Type 0} (size : C → ℕ) (c : Setup) (h : List (Event C)) (k : ℕ) (act : Act C) → IsLegal size c h → May size (now c h) (OfJob k act) → ((o : Opening) → Has o (openings h) → k ≡ o.job → Acts' c h act o) → LowersAll c h (OfJob k act)
+lowers_act : {C : Type 0} (size : C → ℕ) (c : Config) (h : List (Event C)) (k : ℕ) (act : Act C) → IsLegal size c h → May size (now c h) (OfJob k act) → ((o : Opening) → Has o (openings h) → k ≡ o.job → Acts' c h act o) → LowersAll c h (OfJob k act)
 lowers_act {C} size c h k act l m f o has held = elim (test k o.job) [
   | inl s ↦
       let e : change (OfJob k act) (job_of h o) ≡ acted act (job_of h o) = rw s.1 refl in
@@ -161,7 +161,7 @@ lowers_act {C} size c h k act l m f o has held = elim (test k o.job) [
       subst (λ (v : Job C). Lower (row_of c (job_of h o)) (row_of c v)) (sym e) (lower_same c (job_of h o))
 ]
 
-lowers_turn : {C : Type 0} (size : C → ℕ) (c : Setup) (h : List (Event C)) (p : ℕ) (sheet : Sheet C) (turn : Turn) → ((o : Opening) → sheet.job ≡ o.job → Lower (row_of c (job_of h o)) (row_of c (turned turn (job_of h o)))) → LowersAll c h (AtPrinter p sheet turn)
+lowers_turn : {C : Type 0} (size : C → ℕ) (c : Config) (h : List (Event C)) (p : ℕ) (sheet : Sheet C) (turn : Turn) → ((o : Opening) → sheet.job ≡ o.job → Lower (row_of c (job_of h o)) (row_of c (turned turn (job_of h o)))) → LowersAll c h (AtPrinter p sheet turn)
 lowers_turn {C} size c h p sheet turn f o has held = elim (test sheet.job o.job) [
   | inl s ↦
       let e : change (AtPrinter p sheet turn) (job_of h o) ≡ turned turn (job_of h o) = rw s.1 refl in
@@ -174,13 +174,13 @@ lowers_turn {C} size c h p sheet turn f o has held = elim (test sheet.job o.job)
 out_at_job : {C : Type 0} (h : List (Event C)) (sheet : Sheet C) (o : Opening) → handed_at h sheet.job ≡ back_of h sheet.job + 1 → sheet.job ≡ o.job → Out (job_of h o)
 out_at_job h sheet o w e = (let w' : handed_at h o.job ≡ back_of h o.job + 1 = subst (λ (i : ℕ). handed_at h i ≡ back_of h i + 1) e w in inr (λ same. (let z : handed_at h o.job ≡ back_of h o.job = same in omega arith)))
 
-lower_removed : {C : Type 0} (c : Setup) (v : Job C) → Sound v → is_held (record v { ended = true }) ≡ true → Lower (row_of c v) (row_of c (record v { ended = true }))
+lower_removed : {C : Type 0} (c : Config) (v : Job C) → Sound v → is_held (record v { ended = true }) ≡ true → Lower (row_of c v) (row_of c (record v { ended = true }))
 lower_removed c v s held = lower_ended c v (record v { ended = true }) s (out_if v.lent v.handed v.back held) refl refl refl refl refl
 
-lower_aborted : {C : Type 0} (c : Setup) (v : Job C) → Sound v → is_held (acted Aborted v) ≡ true → Lower (row_of c v) (row_of c (acted Aborted v))
+lower_aborted : {C : Type 0} (c : Config) (v : Job C) → Sound v → is_held (acted Aborted v) ≡ true → Lower (row_of c v) (row_of c (acted Aborted v))
 lower_aborted c v s held = lower_ended c v (acted Aborted v) s (elim (out_if false v.handed v.back held) [ inl l ↦ absurd (clash false l refl) | inr ne ↦ inr ne ]) refl refl refl refl refl
 
-lowers_removed_by : {C : Type 0} (c : Setup) (h : List (Event C)) (q : ℕ) (jobs : List ℕ) (o : Opening) (b : Bool) → list_any (λ (k : ℕ). k == o.job) jobs ≡ b → Sound (job_of h o) → is_held (change (Removed q jobs) (job_of h o)) ≡ true → Lower (row_of c (job_of h o)) (row_of c (change (Removed q jobs) (job_of h o)))
+lowers_removed_by : {C : Type 0} (c : Config) (h : List (Event C)) (q : ℕ) (jobs : List ℕ) (o : Opening) (b : Bool) → list_any (λ (k : ℕ). k == o.job) jobs ≡ b → Sound (job_of h o) → is_held (change (Removed q jobs) (job_of h o)) ≡ true → Lower (row_of c (job_of h o)) (row_of c (change (Removed q jobs) (job_of h o)))
 lowers_removed_by {C} c h q jobs o true e s held =
     let is : change (Removed q jobs) (job_of h o) ≡ record (job_of h o) { ended = true } = rw e refl in
     subst (λ (v : Job C). Lower (row_of c (job_of h o)) (row_of c v)) (sym is) (lower_removed c (job_of h o) s (subst (λ (v : Job C). is_held v ≡ true) is held))
@@ -190,13 +190,13 @@ lowers_removed_by {C} c h q jobs o false e s held =
 
 -- the events by which no job gets or accepts anything
 abbrev pub is_quiet : {C : Type 0} → Event C → Bool
-is_quiet (OfJob k (Opened s q)) = false
+is_quiet (Opened k s q) = false
 is_quiet (OfJob k Granted) = false
 is_quiet (AtPrinter p sheet Handed) = false
 is_quiet e = true
 
-pub lowers_all : {C : Type 0} (size : C → ℕ) (c : Setup) (h : List (Event C)) (e : Event C) → is_quiet e ≡ true → IsLegal size c h → May size (now c h) e → LowersAll c h e
-lowers_all size c h (OfJob k (Opened s q)) is l m = absurd (clash false is refl)
+pub lowers_all : {C : Type 0} (size : C → ℕ) (c : Config) (h : List (Event C)) (e : Event C) → is_quiet e ≡ true → IsLegal size c h → May size (now c h) e → LowersAll c h e
+lowers_all size c h (Opened k s q) is l m = absurd (clash false is refl)
 lowers_all size c h (OfJob k Granted) is l m = absurd (clash false is refl)
 lowers_all size c h (OfJob k (Began name count)) is l m = lowers_act size c h k (Began name count) l m (λ o has e held s.
     (let a = at_is h k _ o (facts size c h l) (has_at c h k _ m.1) has e in lower_receiving c (job_of h o) (acted (Began name count) (job_of h o)) a.0.0 a.0.1 s refl refl refl refl refl refl))

@@ -6,45 +6,46 @@ use Rattle.std.proofs.lemmas.Bool.Decides.{nat_tests}
 use Rattle.std.proofs.lemmas.List.{append-nil, map-append}
 use Rattle.counts.specs.Amounts.{amount}
 use Rattle.claims.specs.declared.row.Row.{Row}
-use Rattle.ordered_safety.specs.Safety.{freed, KeepsLine, same_line, HasFinishingOrder}
-use Rattle.ordered_safety.proofs.Orders.{MayGo, safe_more, safe_without, safe_first}
+use Rattle.claims.specs.Safety.{freed, KeepsLine, same_line, HasFinishingOrder}
+use Rattle.claims.proofs.Orders.{MayGo, safe_more, safe_without, safe_first}
 use Rattle.spool_history.specs.Events.{Event, Sheet}
-use Rattle.spool_history.specs.Events.Act.{Opened, Granted, Began, Put, FileEnded, Controlled, Aborted}
+use Rattle.spool_history.specs.Events.Act.{Granted, Began, Put, FileEnded, Controlled, Aborted}
 use Rattle.spool_history.specs.Events.Turn.{Handed, Printed, Failed}
-use Rattle.spool_history.specs.Events.Event.{OfJob, AtPrinter, Removed, Started, Closed}
-use Rattle.spool_history.specs.Setup.{Setup, limit_of, queue_at, no_queue}
+use Rattle.spool_history.specs.Events.Event.{Opened, OfJob, AtPrinter, Removed, Started, Closed}
+use Rattle.config_values.specs.Config.{IsQueue, Config, limit_of, queue_at, no_queue}
 use Rattle.spool_history.specs.Said.{Opening, openings}
 use Rattle.spool_history.specs.Now.{Job, State, now, job_of, is_held, is_received, amounts, row_of, capacity, free_amount, pages_held, printers_held, pages_needed, printers_needed, IsSafeNow, up_to}
 use Rattle.spool_history.specs.Steps.{change, new_job, accepted_by}
-use Rattle.spool_history.specs.Legal.{IsLegal, May, IsQueue}
+use Rattle.spool_history.specs.Legal.{IsLegal, May}
 use Rattle.spool_laws.specs.Safety.{EachCouldFinish}
 use Rattle.spool_laws.specs.Leaving.{EarlierAreGone}
 use Rattle.spool_laws.proofs.Known.{Has, known, has_kept, test, clash, and_true, filter_cons}
 use Rattle.spool_laws.proofs.Facts.{facts, turn_of_page}
 use Rattle.spool_laws.proofs.Moves.{moved}
 use Rattle.spool_laws.proofs.Behind.{each_in_order}
-use Rattle.spool_laws.proofs.Lowered.{Lower, Lowers, left, lowers, holds, holds_sum, holds_append, safe_last}
+use Rattle.claims.proofs.Lowered.{Lower, holds, holds_sum, holds_append, safe_last}
+use Rattle.spool_laws.proofs.StillHeld.{Lowers, left, lowers}
 use Rattle.spool_laws.proofs.Pigeons.{Rises, at_most}
 use Rattle.spool_laws.proofs.Busy.{rising_jobs, received_if}
 use Rattle.spool_laws.proofs.Enough.{rows, printers_small, get_printers, kind_within}
 use Rattle.spool_laws.proofs.Sound.{amount_le, is_quiet, lowers_all}
 
-abbrev free : {C : Type 0} → Setup → List (Job C) → ℕ → ℕ
+abbrev free : {C : Type 0} → Config → List (Job C) → ℕ → ℕ
 free c jobs k = amount (capacity c) k - holds k (rows c jobs)
 
-abbrev IsGood : {C : Type 0} → Setup → List (Job C) → Type 0
+abbrev IsGood : {C : Type 0} → Config → List (Job C) → Type 0
 IsGood c jobs = HasFinishingOrder (free c jobs) (rows c jobs)
 
-to_safe : {C : Type 0} (v : State C) → IsGood v.setup v.jobs → IsSafeNow v
-to_safe v g = safe_more (free v.setup v.jobs) (free_amount v) (rows v.setup v.jobs) (λ k. let e = holds_sum k (rows v.setup v.jobs) in omega arith) g
+to_safe : {C : Type 0} (v : State C) → IsGood v.config v.jobs → IsSafeNow v
+to_safe v g = safe_more (free v.config v.jobs) (free_amount v) (rows v.config v.jobs) (λ k. let e = holds_sum k (rows v.config v.jobs) in omega arith) g
 
-of_safe : {C : Type 0} (v : State C) → IsSafeNow v → IsGood v.setup v.jobs
-of_safe v g = safe_more (free_amount v) (free v.setup v.jobs) (rows v.setup v.jobs) (λ k. let e = holds_sum k (rows v.setup v.jobs) in omega arith) g
+of_safe : {C : Type 0} (v : State C) → IsSafeNow v → IsGood v.config v.jobs
+of_safe v g = safe_more (free_amount v) (free v.config v.jobs) (rows v.config v.jobs) (λ k. let e = holds_sum k (rows v.config v.jobs) in omega arith) g
 
 -- an event by which no job gets or accepts anything
 
 quiet_accepts : {C : Type 0} (e : Event C) → is_quiet e ≡ true → accepted_by e ≡ []
-quiet_accepts (OfJob k (Opened s q)) is = absurd (clash false is refl)
+quiet_accepts (Opened k s q) is = absurd (clash false is refl)
 quiet_accepts (OfJob k Granted) is = refl
 quiet_accepts (OfJob k (Began name count)) is = refl
 quiet_accepts (OfJob k (Put file number page)) is = refl
@@ -56,7 +57,7 @@ quiet_accepts (Removed q jobs) is = refl
 quiet_accepts (Started q) is = refl
 quiet_accepts Closed is = refl
 
-jobs_after : {C : Type 0} (size : C → ℕ) (c : Setup) (h : List (Event C)) (e : Event C) → IsLegal size c h → May size (now c h) e → accepted_by e ≡ [] → (now c (e ∷ h)).jobs ≡ left (change e) (now c h).jobs
+jobs_after : {C : Type 0} (size : C → ℕ) (c : Config) (h : List (Event C)) (e : Event C) → IsLegal size c h → May size (now c h) e → accepted_by e ≡ [] → (now c (e ∷ h)).jobs ≡ left (change e) (now c h).jobs
 jobs_after {C} size c h e l m none =
     ap (λ (v : State C). v.jobs) (moved size c h e l m) ∙ (ap (λ (r : List (Job C)). left (change e) (now c h).jobs ++ r) none ∙ append-nil (left (change e) (now c h).jobs))
 
@@ -64,7 +65,7 @@ all_of : {X : Type 0} (P : X → Type 0) (xs : List X) → ((x : X) → Has x xs
 all_of P [] f = tt
 all_of P (x ∷ xs) f = (f x (inl refl), all_of P xs (λ y t. f y (inr t)))
 
-quiet : {C : Type 0} (size : C → ℕ) (c : Setup) (h : List (Event C)) (e : Event C) → is_quiet e ≡ true → IsLegal size c h → May size (now c h) e → IsGood c (now c h).jobs → IsGood c (now c (e ∷ h)).jobs
+quiet : {C : Type 0} (size : C → ℕ) (c : Config) (h : List (Event C)) (e : Event C) → is_quiet e ≡ true → IsLegal size c h → May size (now c h) e → IsGood c (now c h).jobs → IsGood c (now c (e ∷ h)).jobs
 quiet {C} size c h e is l m s =
     let jobs = (now c h).jobs in
     let later = left (change e) jobs in
@@ -120,20 +121,20 @@ split {C} g (y ∷ us) w has r same held now' = elim has [
       }
 ]
 
-held_jobs : {C : Type 0} (c : Setup) (h : List (Event C)) (u : Job C) → Has u (now c h).jobs → is_held u ≡ true
+held_jobs : {C : Type 0} (c : Config) (h : List (Event C)) (u : Job C) → Has u (now c h).jobs → is_held u ≡ true
 held_jobs c h u has = (known c h u has).held
 
-holds_at : {C : Type 0} (c : Setup) (k : ℕ) (a b : List (Job C)) (w : Job C) → holds k (rows c (a ++ w ∷ b)) ≡ holds k (rows c a) + (amount (row_of c w).held k + holds k (rows c b))
+holds_at : {C : Type 0} (c : Config) (k : ℕ) (a b : List (Job C)) (w : Job C) → holds k (rows c (a ++ w ∷ b)) ≡ holds k (rows c a) + (amount (row_of c w).held k + holds k (rows c b))
 holds_at c k a b w = ap (holds k) (map-append (row_of c) a (w ∷ b)) ∙ holds_append k (rows c a) (rows c (w ∷ b))
 
 -- a page is lent
 
-granted : {C : Type 0} (size : C → ℕ) (c : Setup) (h : List (Event C)) (k : ℕ) → IsLegal size c h → May size (now c h) (OfJob k Granted) → IsGood c (now c (OfJob k Granted ∷ h)).jobs
+granted : {C : Type 0} (size : C → ℕ) (c : Config) (h : List (Event C)) (k : ℕ) → IsLegal size c h → May size (now c h) (OfJob k Granted) → IsGood c (now c (OfJob k Granted ∷ h)).jobs
 granted {C} size c h k l m = of_safe (now c (OfJob k Granted ∷ h)) (subst (λ (v : State C). IsSafeNow v) (sym (moved size c h (OfJob k Granted) l m)) m.1.1)
 
 -- a job is accepted
 
-could : (c : Setup) → EachCouldFinish c → (q : ℕ) → IsQueue c q → (k : ℕ) → amount (amounts c (limit_of c q) q 1) k ≤ amount (capacity c) k
+could : (c : Config) → EachCouldFinish c → (q : ℕ) → IsQueue c q → (k : ℕ) → amount (amounts c (limit_of c q) q 1) k ≤ amount (capacity c) k
 could c w q is zero = w.pages q is
 could c w q is (suc i) =
     let a = at_most (λ (r : ℕ). cond (r == q) 1 0) (length c.queues) i in
@@ -150,7 +151,7 @@ could c w q is (suc i) =
           omega arith
     ]
 
-nothing_of : (c : Setup) (q k : ℕ) → amount (amounts c 0 q 0) k ≡ 0
+nothing_of : (c : Config) (q k : ℕ) → amount (amounts c 0 q 0) k ≡ 0
 nothing_of c q zero = refl
 nothing_of c q (suc i) =
     let a = at_most (λ (r : ℕ). cond (r == q) 0 0) (length c.queues) i in
@@ -159,16 +160,16 @@ nothing_of c q (suc i) =
       | inr s ↦ (let a' : get_or (map (λ (r : ℕ). cond (r == q) 0 0) (up_to (length c.queues))) i 0 ≤ 0 = rw s.1 at a in omega arith)
     ]
 
-opened_same : {C : Type 0} (k s q : ℕ) (u : Job C) → change (OfJob k (Opened s q)) u ≡ u
+opened_same : {C : Type 0} (k s q : ℕ) (u : Job C) → change (Opened k s q) u ≡ u
 opened_same k s q u = elim (test k u.number) [ inl r ↦ rw r.1 refl | inr r ↦ rw r.1 refl ]
 
 all_rows : {C : Type 0} (P : Row → Type 0) (row : Job C → Row) (us : List (Job C)) → ((u : Job C) → Has u us → P (row u)) → AllByRecursion P (map row us)
 all_rows P row [] f = tt
 all_rows P row (u ∷ us) f = (f u (inl refl), all_rows P row us (λ v t. f v (inr t)))
 
-opened : {C : Type 0} (size : C → ℕ) (c : Setup) (h : List (Event C)) (k s q : ℕ) → EachCouldFinish c → IsLegal size c h → May size (now c h) (OfJob k (Opened s q)) → IsGood c (now c h).jobs → IsGood c (now c (OfJob k (Opened s q) ∷ h)).jobs
+opened : {C : Type 0} (size : C → ℕ) (c : Config) (h : List (Event C)) (k s q : ℕ) → EachCouldFinish c → IsLegal size c h → May size (now c h) (Opened k s q) → IsGood c (now c h).jobs → IsGood c (now c (Opened k s q ∷ h)).jobs
 opened {C} size c h k s q each l m st =
-    let e : Event C = OfJob k (Opened s q) in
+    let e : Event C = Opened k s q in
     let jobs = (now c h).jobs in
     let w : Job C = new_job k s q in
     let x = row_of c w in
@@ -192,7 +193,7 @@ opened {C} size c h k s q each l m st =
 line_true : (u w : Row) → same_line w u ≡ true → (w.sender ≡ u.sender) × (w.queue ≡ u.queue)
 line_true u w e = (let a = and_true (w.sender == u.sender) (w.queue == u.queue) e in (let x = a.0 in grind (arith, nat_tests), let x = a.1 in grind (arith, nat_tests)))
 
-nothing_more : {C : Type 0} (c : Setup) (v : Job C) → pages_needed c v ≡ 0 → printers_needed v ≡ 0 → (k : ℕ) → amount (row_of c v).need k ≡ 0
+nothing_more : {C : Type 0} (c : Config) (v : Job C) → pages_needed c v ≡ 0 → printers_needed v ≡ 0 → (k : ℕ) → amount (row_of c v).need k ≡ 0
 nothing_more c v p n k =
     let a : amount (row_of c v).need k ≤ amount (amounts c 0 v.queue 0) k = amount_le c v.queue (pages_needed c v) 0 (printers_needed v) 0 (omega arith) (omega arith) k in
     let z = nothing_of c v.queue k in
@@ -206,7 +207,7 @@ contains_at x (y ∷ ys) has = elim has [
 ]
 
 -- of its sender and queue each other held job has a higher number
-line_of : {C : Type 0} (size : C → ℕ) (c : Setup) (h : List (Event C)) (sheet : Sheet C) → IsLegal size c h → (o : Opening) → Has o (openings h) → o.job ≡ sheet.job → EarlierAreGone h sheet
+line_of : {C : Type 0} (size : C → ℕ) (c : Config) (h : List (Event C)) (sheet : Sheet C) → IsLegal size c h → (o : Opening) → Has o (openings h) → o.job ≡ sheet.job → EarlierAreGone h sheet
     → (u : Job C) → Has u (now c h).jobs → u.number ≢ o.job → (o.sender ≡ u.sender) × (o.queue ≡ u.queue) → o.job < u.number
 line_of {C} size c h sheet l o there is gone u has ne line = by (nat_lt o.job u.number) refl
   where
@@ -224,7 +225,7 @@ line_of {C} size c h sheet l o there is gone u has ne line = by (nat_lt o.job u.
         let g : is_held (job_of h x) ≡ false = gone x o (contains_at x (openings h) k.there) (contains_at o (openings h) there) is lt (sym s ∙ sym line.0) (sym q ∙ sym line.1) in
         absurd (clash (is_held (job_of h x)) (subst (λ (v : Job C). is_held v ≡ true) k.is k.held) g)
 
-handed : {C : Type 0} (size : C → ℕ) (c : Setup) (h : List (Event C)) (p : ℕ) (sheet : Sheet C) → IsLegal size c h → May size (now c h) (AtPrinter p sheet Handed) → IsGood c (now c h).jobs → IsGood c (now c (AtPrinter p sheet Handed ∷ h)).jobs
+handed : {C : Type 0} (size : C → ℕ) (c : Config) (h : List (Event C)) (p : ℕ) (sheet : Sheet C) → IsLegal size c h → May size (now c h) (AtPrinter p sheet Handed) → IsGood c (now c h).jobs → IsGood c (now c (AtPrinter p sheet Handed ∷ h)).jobs
 handed {C} size c h p sheet l m st =
     let e : Event C = AtPrinter p sheet Handed in
     let jobs = (now c h).jobs in
@@ -269,8 +270,8 @@ handed {C} size c h p sheet l m st =
     let good : IsGood c (sp.a ++ w' ∷ sp.b) = subst (HasFinishingOrder f') (sym m2) (safe_first f' A y B go g3) in
     subst (λ (r : List (Job C)). IsGood c r) (sym j) good
 
-step : {C : Type 0} (size : C → ℕ) (c : Setup) (h : List (Event C)) (e : Event C) → EachCouldFinish c → IsLegal size c h → May size (now c h) e → IsGood c (now c h).jobs → IsGood c (now c (e ∷ h)).jobs
-step size c h (OfJob k (Opened s q)) each l m st = opened size c h k s q each l m st
+step : {C : Type 0} (size : C → ℕ) (c : Config) (h : List (Event C)) (e : Event C) → EachCouldFinish c → IsLegal size c h → May size (now c h) e → IsGood c (now c h).jobs → IsGood c (now c (e ∷ h)).jobs
+step size c h (Opened k s q) each l m st = opened size c h k s q each l m st
 step size c h (OfJob k Granted) each l m st = granted size c h k l m
 step size c h (OfJob k (Began name count)) each l m st = quiet size c h (OfJob k (Began name count)) refl l m st
 step size c h (OfJob k (Put file number page)) each l m st = quiet size c h (OfJob k (Put file number page)) refl l m st
@@ -284,9 +285,9 @@ step size c h (Removed q jobs) each l m st = quiet size c h (Removed q jobs) ref
 step size c h (Started q) each l m st = quiet size c h (Started q) refl l m st
 step size c h Closed each l m st = quiet size c h Closed refl l m st
 
-stays_by : {C : Type 0} (size : C → ℕ) (c : Setup) (h : List (Event C)) → EachCouldFinish c → IsLegal size c h → IsGood c (now c h).jobs
+stays_by : {C : Type 0} (size : C → ℕ) (c : Config) (h : List (Event C)) → EachCouldFinish c → IsLegal size c h → IsGood c (now c h).jobs
 stays_by size c [] each l = ([], record { each_once = refl; in_line = tt; fits = tt })
 stays_by size c (e ∷ h) each l = step size c h e each l.1 l.0 (stays_by size c h each l.1)
 
-pub stays : {C : Type 0} (size : C → ℕ) (c : Setup) (h : List (Event C)) → EachCouldFinish c → IsLegal size c h → IsSafeNow (now c h)
+pub stays : {C : Type 0} (size : C → ℕ) (c : Config) (h : List (Event C)) → EachCouldFinish c → IsLegal size c h → IsSafeNow (now c h)
 stays size c h each l = to_safe (now c h) (stays_by size c h each l)

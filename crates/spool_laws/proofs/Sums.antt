@@ -8,11 +8,11 @@ use Rattle.std.proofs.lemmas.Bool.Decides.{nat_tests}
 use Rattle.claims.specs.declared.row.Row.{Row}
 use Rattle.counts.specs.Amounts.{amount}
 use Rattle.spool_history.specs.Events.{Act, Event, Sheet, Turn, Progress}
-use Rattle.spool_history.specs.Events.Act.{Opened, Granted, Began, Put, FileEnded, Controlled, Aborted}
+use Rattle.spool_history.specs.Events.Act.{Granted, Began, Put, FileEnded, Controlled, Aborted}
 use Rattle.spool_history.specs.Events.Progress.{Going, Done, Ended}
 use Rattle.spool_history.specs.Events.Turn.{Handed, Printed, Failed}
-use Rattle.spool_history.specs.Events.Event.{OfJob, AtPrinter, Removed, Started, Closed}
-use Rattle.spool_history.specs.Setup.{Setup}
+use Rattle.spool_history.specs.Events.Event.{Opened, OfJob, AtPrinter, Removed, Started, Closed}
+use Rattle.config_values.specs.Config.{Config}
 use Rattle.spool_history.specs.Acts.{granted_by}
 use Rattle.spool_history.specs.Said.{Opening, openings, acts_of, back_of, has_ended, ends_by_act}
 use Rattle.spool_history.specs.Now.{Job, now, job_of, is_held, is_received, has_page_out, places, pages_held, free_pages, row_of, up_to}
@@ -61,9 +61,9 @@ more_numbers f os x e n =
     let u : sum_by f (up_to (length (os ++ x ∷ []))) ≡ sum_by f (up_to (length os) ++ suc (length os) ∷ []) = ap (λ (i : ℕ). sum_by f (up_to i)) m in
     omega arith
 
-pub numbers : {C : Type 0} (size : C → ℕ) (c : Setup) (h : List (Event C)) → IsLegal size c h → (f : ℕ → ℕ) → Numbers f (openings h)
+pub numbers : {C : Type 0} (size : C → ℕ) (c : Config) (h : List (Event C)) → IsLegal size c h → (f : ℕ → ℕ) → Numbers f (openings h)
 numbers size c [] l f = refl
-numbers size c (OfJob k (Opened s q) ∷ h) l f = more_numbers f (openings h) (record { job = k; sender = s; queue = q }) l.0.4 (numbers size c h l.1 f)
+numbers size c (Opened k s q ∷ h) l f = more_numbers f (openings h) (record { job = k; sender = s; queue = q }) l.0.4 (numbers size c h l.1 f)
 numbers size c (OfJob k Granted ∷ h) l f = same_numbers f (openings h) (numbers size c h l.1 f)
 numbers size c (OfJob k (Began name count) ∷ h) l f = same_numbers f (openings h) (numbers size c h l.1 f)
 numbers size c (OfJob k (Put file number page) ∷ h) l f = same_numbers f (openings h) (numbers size c h l.1 f)
@@ -75,7 +75,7 @@ numbers size c (Removed q jobs ∷ h) l f = numbers size c h l.1 f
 numbers size c (Started q ∷ h) l f = numbers size c h l.1 f
 numbers size c (Closed ∷ h) l f = numbers size c h l.1 f
 
-held_weights : {C : Type 0} (size : C → ℕ) (c : Setup) (h : List (Event C)) → IsLegal size c h → held_pages c h ≡ weights h
+held_weights : {C : Type 0} (size : C → ℕ) (c : Config) (h : List (Event C)) → IsLegal size c h → held_pages c h ≡ weights h
 held_weights size c h l = sum_held h (openings h) ∙ numbers size c h l (weight_at h)
 
 cond_true : (b : Bool) (n m : ℕ) → b ≡ true → cond b n m ≡ n
@@ -150,7 +150,7 @@ granted_here : {C : Type 0} (h : List (Event C)) (k : ℕ) (act : Act C) → gra
 granted_here h k act = elim (test k k) [ inl s ↦ rw s.1 refl | inr s ↦ absurd (s.0 refl) ]
 
 -- an act on a job that is being received
-act_granted : {C : Type 0} (size : C → ℕ) (c : Setup) (h : List (Event C)) (k : ℕ) (act : Act C) (n : ℕ) → IsLegal size c (OfJob k act ∷ h) → ends_by_act act ≡ false → granted_by (act ∷ acts_of h k) ≡ granted_by (acts_of h k) + n → has_ended h k ≡ false → received_at h k ≡ false → weight_at (OfJob k act ∷ h) k ≤ weight_at h k + n
+act_granted : {C : Type 0} (size : C → ℕ) (c : Config) (h : List (Event C)) (k : ℕ) (act : Act C) (n : ℕ) → IsLegal size c (OfJob k act ∷ h) → ends_by_act act ≡ false → granted_by (act ∷ acts_of h k) ≡ granted_by (acts_of h k) + n → has_ended h k ≡ false → received_at h k ≡ false → weight_at (OfJob k act ∷ h) k ≤ weight_at h k + n
 act_granted {C} size c h k act n l ends is goes_on receiving =
     let v : Job C = job_of (OfJob k act ∷ h) (numbered k) in
     let w = weight_receiving (job_of h (numbered k)) goes_on receiving in
@@ -161,8 +161,8 @@ act_granted {C} size c h k act n l ends is goes_on receiving =
 weight_of_new : {C : Type 0} (h : List (Event C)) (j : ℕ) → acts_of h j ≡ [] → has_ended h j ≡ false → weight_at h j ≡ 0
 weight_of_new h j a e = rw (a, e) refl
 
-opened_same : {C : Type 0} (h : List (Event C)) (k s q j : ℕ) → weight_at (OfJob k (Opened s q) ∷ h) j ≡ weight_at h j
-opened_same h k s q j = changed h (OfJob k (Opened s q)) j ∙ elim (test k j) [ inl r ↦ rw r.1 refl | inr r ↦ rw r.1 refl ]
+opened_same : {C : Type 0} (h : List (Event C)) (k s q j : ℕ) → weight_at (Opened k s q ∷ h) j ≡ weight_at h j
+opened_same h k s q j = changed h (Opened k s q) j ∙ elim (test k j) [ inl r ↦ rw r.1 refl | inr r ↦ rw r.1 refl ]
 
 abort_less : {C : Type 0} (v : Job C) (l : Bool) → v.lent ≡ l → weight (record v { lent = false; ended = true }) ≤ weight (record v { ended = true })
 abort_less v true e =
@@ -225,7 +225,7 @@ turn_less {C} h p sheet turn le j = elim (test sheet.job j) [
   | inr s ↦ let o = other_turn h p sheet turn j s.0 in omega arith
 ]
 
-printed_less : {C : Type 0} (size : C → ℕ) (c : Setup) (h : List (Event C)) (p : ℕ) (sheet : Sheet C) (x : Progress) → IsLegal size c h → handed_at h sheet.job ≡ back_of h sheet.job + 1 → weight (turned (Printed x) (job_of h (numbered sheet.job))) ≤ weight_at h sheet.job
+printed_less : {C : Type 0} (size : C → ℕ) (c : Config) (h : List (Event C)) (p : ℕ) (sheet : Sheet C) (x : Progress) → IsLegal size c h → handed_at h sheet.job ≡ back_of h sheet.job + 1 → weight (turned (Printed x) (job_of h (numbered sheet.job))) ≤ weight_at h sheet.job
 printed_less size c h p sheet Going l out = back_going (job_of h (numbered sheet.job)) _ _ refl refl out (sound size c h l (numbered sheet.job))
 printed_less size c h p sheet Done l out = back_ended (job_of h (numbered sheet.job)) out (sound size c h l (numbered sheet.job))
 printed_less size c h p sheet Ended l out = back_going (job_of h (numbered sheet.job)) _ _ refl refl out (sound size c h l (numbered sheet.job))
@@ -241,7 +241,7 @@ removed_less h q jobs j false e s =
 
 -- what is free
 
-pub rows_held : {C : Type 0} (c : Setup) (vs : List (Job C)) → sum_by (λ (row : Row). amount row.held 0) (map (row_of c) vs) ≡ sum_by (λ (v : Job C). pages_held v) vs
+pub rows_held : {C : Type 0} (c : Config) (vs : List (Job C)) → sum_by (λ (row : Row). amount row.held 0) (map (row_of c) vs) ≡ sum_by (λ (v : Job C). pages_held v) vs
 rows_held c [] = refl
 rows_held {C} c (v ∷ vs) =
     let ih = rows_held c vs in
@@ -250,7 +250,7 @@ rows_held {C} c (v ∷ vs) =
     let a : amount (row_of c v).held 0 ≡ pages_held v = refl in
     omega arith
 
-pub free_rest : {C : Type 0} (c : Setup) (h : List (Event C)) → free_pages (now c h) ≡ c.pages - held_pages c h
+pub free_rest : {C : Type 0} (c : Config) (h : List (Event C)) → free_pages (now c h) ≡ c.pages - held_pages c h
 free_rest c h = ap (λ (n : ℕ). c.pages - n) (rows_held c (now c h).jobs)
 
 -- each event
@@ -258,9 +258,9 @@ free_rest c h = ap (λ (n : ℕ). c.pages - n) (rows_held c (now c h).jobs)
 act_weights : {C : Type 0} (h : List (Event C)) (k : ℕ) (act : Act C) (m : ℕ) → openings (OfJob k act ∷ h) ≡ openings h → sum_by (weight_at (OfJob k act ∷ h)) (up_to (length (openings h))) ≤ m → weights (OfJob k act ∷ h) ≤ m
 act_weights {C} h k act m os le = subst (λ (l : List Opening). sum_by (weight_at (OfJob k act ∷ h)) (up_to (length l)) ≤ m) (sym os) le
 
-opened_weights : {C : Type 0} (h : List (Event C)) (k s q : ℕ) → weight_at h (suc (length (openings h))) ≡ 0 → weights (OfJob k (Opened s q) ∷ h) ≤ weights h
+opened_weights : {C : Type 0} (h : List (Event C)) (k s q : ℕ) → weight_at h (suc (length (openings h))) ≡ 0 → weights (Opened k s q ∷ h) ≤ weights h
 opened_weights {C} h k s q none =
-    let e : Event C = OfJob k (Opened s q) in
+    let e : Event C = Opened k s q in
     let n = length (openings h) in
     let l = length_push (openings h) (record { job = k; sender = s; queue = q }) in
     let m : length (openings (e ∷ h)) ≡ suc (length (openings h)) = omega arith in
@@ -270,8 +270,8 @@ opened_weights {C} h k s q none =
     let le = up_less (weight_at h) (weight_at (e ∷ h)) (length (openings h)) (λ j. (let o = opened_same h k s q j in omega arith)) in
     omega arith
 
-step_weights : {C : Type 0} (size : C → ℕ) (c : Setup) (h : List (Event C)) (e : Event C) → IsLegal size c h → May size (now c h) e → weights h ≤ c.pages → weights (e ∷ h) ≤ c.pages
-step_weights size c h (OfJob k (Opened s q)) l m w =
+step_weights : {C : Type 0} (size : C → ℕ) (c : Config) (h : List (Event C)) (e : Event C) → IsLegal size c h → May size (now c h) e → weights h ≤ c.pages → weights (e ∷ h) ≤ c.pages
+step_weights size c h (Opened k s q) l m w =
     let u = (facts size c h l).fresh (suc (length (openings h))) (omega arith) in
     let o = opened_weights h k s q (weight_of_new h (suc (length (openings h))) u.acts (u.ended m.0)) in
     omega arith
@@ -333,11 +333,11 @@ step_weights size c h Closed l m w =
     let s = up_less (weight_at h) (weight_at (Closed ∷ h)) (length (openings h)) (λ j. (let e = changed h Closed j in let d = ending (job_of h (numbered j)) (sound size c h l (numbered j)) in omega arith)) in
     omega arith
 
-weights_within : {C : Type 0} (size : C → ℕ) (c : Setup) (h : List (Event C)) → IsLegal size c h → weights h ≤ c.pages
+weights_within : {C : Type 0} (size : C → ℕ) (c : Config) (h : List (Event C)) → IsLegal size c h → weights h ≤ c.pages
 weights_within size c [] l = omega arith
 weights_within size c (e ∷ h) l = step_weights size c h e l.1 l.0 (weights_within size c h l.1)
 
-pub pages_add_up : {C : Type 0} (size : C → ℕ) (c : Setup) (h : List (Event C)) → IsLegal size c h → AddUp c h
+pub pages_add_up : {C : Type 0} (size : C → ℕ) (c : Config) (h : List (Event C)) → IsLegal size c h → AddUp c h
 pages_add_up size c h l =
     let w = weights_within size c h l in
     let e = held_weights size c h l in

@@ -4,10 +4,10 @@ use Rattle.std.specs.Prelude.{◌&&◌, if◌then◌else◌}
 use Rattle.std.specs.List.{list_any, AllByRecursion}
 use Rattle.std.proofs.lemmas.List.{append-nil}
 use Rattle.spool_history.specs.Events.{Act, Event, Sheet, Turn, Progress}
-use Rattle.spool_history.specs.Events.Act.{Opened, Granted, Began, Put, FileEnded, Controlled, Aborted}
+use Rattle.spool_history.specs.Events.Act.{Granted, Began, Put, FileEnded, Controlled, Aborted}
 use Rattle.spool_history.specs.Events.Turn.{Handed, Printed, Failed}
-use Rattle.spool_history.specs.Events.Event.{OfJob, AtPrinter, Removed, Started, Closed}
-use Rattle.spool_history.specs.Setup.{Setup, limit_of, reserve_of}
+use Rattle.spool_history.specs.Events.Event.{Opened, OfJob, AtPrinter, Removed, Started, Closed}
+use Rattle.config_values.specs.Config.{Config, limit_of, reserve_of}
 use Rattle.spool_history.specs.Acts.{granted_by, files_by}
 use Rattle.spool_history.specs.Said.{Opening, openings, opening_by, acts_of, is_failed, back_of, has_ended}
 use Rattle.spool_history.specs.Now.{Job, now}
@@ -121,7 +121,7 @@ told_failed h p sheet out t j =
           (still_ended h (AtPrinter p sheet Failed) j w.0, ap length (handed_same h p sheet Failed j refl) ∙ (w.1 ∙ sym (back_more h p sheet Failed j s.0))))
     ]
 
-named_going : {C : Type 0} (c : Setup) (h : List (Event C)) (P : Job C → Type 0) (j : ℕ) (jobs : List ℕ) → ((v : Job C) → P v → v.ended ≡ false) → AllByRecursion (λ k. HasJob (now c h) k P) jobs → list_any (λ (k : ℕ). k == j) jobs ≡ true → has_ended h j ≡ false
+named_going : {C : Type 0} (c : Config) (h : List (Event C)) (P : Job C → Type 0) (j : ℕ) (jobs : List ℕ) → ((v : Job C) → P v → v.ended ≡ false) → AllByRecursion (λ k. HasJob (now c h) k P) jobs → list_any (λ (k : ℕ). k == j) jobs ≡ true → has_ended h j ≡ false
 named_going c h P j [] going all e = absurd cc
 named_going {C} c h P j (k ∷ ks) going all e = elim (test k j) [
   | inl s ↦ (let a = has_at c h k P all.0 in subst (λ (i : ℕ). has_ended h i ≡ false) s.0 (going _ a.is))
@@ -166,8 +166,8 @@ told_started h q j u = record { acts = u.acts; failed = u.failed; after = u.afte
 ended_aborted : {C : Type 0} (h : List (Event C)) (k : ℕ) → has_ended (OfJob k Aborted ∷ h) k ≡ true
 ended_aborted h k = elim (test k k) [ inl s ↦ rw s.1 refl | inr s ↦ absurd (s.0 refl) ]
 
-told_step : {C : Type 0} (size : C → ℕ) (c : Setup) (h : List (Event C)) (e : Event C) → IsLegal size c h → May size (now c h) e → ((j : ℕ) → Told h j) → (j : ℕ) → Told (e ∷ h) j
-told_step size c h (OfJob k (Opened s q)) l m t =
+told_step : {C : Type 0} (size : C → ℕ) (c : Config) (h : List (Event C)) (e : Event C) → IsLegal size c h → May size (now c h) e → ((j : ℕ) → Told h j) → (j : ℕ) → Told (e ∷ h) j
+told_step size c h (Opened k s q) l m t =
     let n = m.4 in
     told_act h k (Opened s q) (fits_opened (acts_of h k) s q _ ((facts size c h l).fresh k (omega arith)).acts) t
 told_step size c h (OfJob k Granted) l m t =
@@ -196,30 +196,30 @@ told_step size c h (Removed q jobs) l m t = λ j. told_removed h q jobs j (list_
 told_step size c h (Started q) l m t = λ j. told_started h q j (t j)
 told_step size c h Closed l m t = λ j. told_closed h j (t j)
 
-pub told : {C : Type 0} (size : C → ℕ) (c : Setup) (h : List (Event C)) → IsLegal size c h → (j : ℕ) → Told h j
+pub told : {C : Type 0} (size : C → ℕ) (c : Config) (h : List (Event C)) → IsLegal size c h → (j : ℕ) → Told h j
 told size c [] l j = record { acts = fits_none false; failed = omega arith; after = λ p. absurd (omega arith); removed = omega arith; gone = λ p. absurd (omega arith) }
 told size c (e ∷ h) l j = told_step size c h e l.1 l.0 (told size c h l.1) j
 
 -- pages within the limit
 
-abbrev Within : {C : Type 0} → Setup → List (Event C) → Type 0
+abbrev Within : {C : Type 0} → Config → List (Event C) → Type 0
 Within c h = (o : Opening) → Has o (openings h) → granted_by (acts_of h o.job) ≤ limit_of c o.queue
 
-within_act : {C : Type 0} (c : Setup) (h : List (Event C)) (k : ℕ) (act : Act C) → opening_by k act ≡ [] → ((o : Opening) → Has o (openings h) → k ≡ o.job → granted_by (act ∷ acts_of h o.job) ≤ limit_of c o.queue) → Within c h → Within c (OfJob k act ∷ h)
+within_act : {C : Type 0} (c : Config) (h : List (Event C)) (k : ℕ) (act : Act C) → opening_by k act ≡ [] → ((o : Opening) → Has o (openings h) → k ≡ o.job → granted_by (act ∷ acts_of h o.job) ≤ limit_of c o.queue) → Within c h → Within c (OfJob k act ∷ h)
 within_act {C} c h k act none here w o has =
     let os : openings h ++ opening_by k act ≡ openings h = ap (λ (l : List Opening). openings h ++ l) none ∙ append-nil (openings h) in
     let has' : Has o (openings h) = subst (λ (l : List Opening). Has o l) os has in
     elim (test k o.job) [ inl s ↦ rw s.1 (here o has' s.0) | inr s ↦ rw s.1 (w o has') ]
 
-within_granted : {C : Type 0} (c : Setup) (h : List (Event C)) (k : ℕ) (P : Job C → Type 0) → Facts h → (a : At h k P) → granted_by (acts_of h k) < limit_of c a.queue → Within c h → Within c (OfJob k Granted ∷ h)
+within_granted : {C : Type 0} (c : Config) (h : List (Event C)) (k : ℕ) (P : Job C → Type 0) → Facts h → (a : At h k P) → granted_by (acts_of h k) < limit_of c a.queue → Within c h → Within c (OfJob k Granted ∷ h)
 within_granted c h k P f a lt = within_act c h k Granted refl (λ o has same.
     let e : record { job = k; sender = a.sender; queue = a.queue } ≡ o = f.once (record { job = k; sender = a.sender; queue = a.queue }) o a.there has same in
     let b : granted_by (acts_of h o.job) < limit_of c o.queue = subst (λ (x : Opening). granted_by (acts_of h x.job) < limit_of c x.queue) e lt in
     omega arith)
 
-within_opened : {C : Type 0} (c : Setup) (h : List (Event C)) (k s q : ℕ) → Facts h → k ≡ length (openings h) + 1 → Within c h → Within c (OfJob k (Opened s q) ∷ h)
+within_opened : {C : Type 0} (c : Config) (h : List (Event C)) (k s q : ℕ) → Facts h → k ≡ length (openings h) + 1 → Within c h → Within c (Opened k s q ∷ h)
 within_opened {C} c h k s q f is w o has =
-    let same : granted_by (acts_of (OfJob k (Opened s q) ∷ h) o.job) ≡ granted_by (acts_of h o.job) = elim (test k o.job) [ inl r ↦ rw r.1 refl | inr r ↦ rw r.1 refl ] in
+    let same : granted_by (acts_of (Opened k s q ∷ h) o.job) ≡ granted_by (acts_of h o.job) = elim (test k o.job) [ inl r ↦ rw r.1 refl | inr r ↦ rw r.1 refl ] in
     elim (has_last o (openings h) (record { job = k; sender = s; queue = q }) has) [
       | inl t ↦ let old = w o t in omega arith
       | inr e ↦
@@ -228,8 +228,8 @@ within_opened {C} c h k s q f is w o has =
           omega arith
     ]
 
-within_step : {C : Type 0} (size : C → ℕ) (c : Setup) (h : List (Event C)) (e : Event C) → IsLegal size c h → May size (now c h) e → Within c h → Within c (e ∷ h)
-within_step size c h (OfJob k (Opened s q)) l m w = within_opened c h k s q (facts size c h l) m.4 w
+within_step : {C : Type 0} (size : C → ℕ) (c : Config) (h : List (Event C)) (e : Event C) → IsLegal size c h → May size (now c h) e → Within c h → Within c (e ∷ h)
+within_step size c h (Opened k s q) l m w = within_opened c h k s q (facts size c h l) m.4 w
 within_step size c h (OfJob k Granted) l m w = let a = has_at c h k _ m.0 in within_granted c h k _ (facts size c h l) a a.is.3 w
 within_step size c h (OfJob k (Began name count)) l m w = within_act c h k (Began name count) refl (λ o has e. w o has) w
 within_step size c h (OfJob k (Put file number page)) l m w = within_act c h k (Put file number page) refl (λ o has e. w o has) w
@@ -241,7 +241,7 @@ within_step size c h (Removed q jobs) l m w = w
 within_step size c h (Started q) l m w = w
 within_step size c h Closed l m w = w
 
-within : {C : Type 0} (size : C → ℕ) (c : Setup) (h : List (Event C)) → IsLegal size c h → Within c h
+within : {C : Type 0} (size : C → ℕ) (c : Config) (h : List (Event C)) → IsLegal size c h → Within c h
 within size c [] l = λ o has. absurd has
 within size c (e ∷ h) l = within_step size c h e l.1 l.0 (within size c h l.1)
 
@@ -249,7 +249,7 @@ within size c (e ∷ h) l = within_step size c h e l.1 l.0 (within size c h l.1)
 abbrev pub used : {C : Type 0} → List (Event C) → ℕ → ℕ
 used h j = length (acts_of h j) + (handed_at h j + (back_of h j + (failed_of h j + removed_of h j)))
 
-pub reserved : {C : Type 0} (size : C → ℕ) (c : Setup) (h : List (Event C)) → IsLegal size c h → (o : Opening) → Has o (openings h) → used h o.job ≤ reserve_of c o.queue
+pub reserved : {C : Type 0} (size : C → ℕ) (c : Config) (h : List (Event C)) → IsLegal size c h → (o : Opening) → Has o (openings h) → used h o.job ≤ reserve_of c o.queue
 reserved {C} size c h l o has =
     let j = o.job in
     let a = acts_of h j in

@@ -4,10 +4,10 @@ use Rattle.std.specs.Prelude.{◌&&◌, not, cond, find, Option, Some, None}
 use Rattle.std.specs.List.{list_any}
 use Rattle.std.proofs.lemmas.Bool.Decides.{nat_tests}
 use Rattle.spool_history.specs.Events.{Event, Sheet}
-use Rattle.spool_history.specs.Setup.{Setup}
+use Rattle.config_values.specs.Config.{Config}
 use Rattle.spool_history.specs.Acts.{Page}
 use Rattle.spool_history.specs.Now.{Job, Printer, State, now, is_received, places}
-use Rattle.spool_history.specs.Next.{Next, next_page, next_at, with_out, hand_of, hand_first, turn_of, or_first, first_ready, is_ready, is_before, printer_at}
+use Rattle.spool_history.specs.Next.{Next, next_page, next_at, with_out, hand_of, hand_first, turn_of, or_first, first_ready, is_ready, is_preceded_by, printer_at}
 use Rattle.spool_history.specs.Next.Next.{Hands, Stops, Over}
 use Rattle.spool_laws.proofs.Known.{Has, At, known, known_at, find_has, and_true, not_true}
 
@@ -24,7 +24,7 @@ pub record Begins {C : Type 0} (jobs : List (Job C)) (q : ℕ) (v : Job C) : Typ
   pub queue : v.queue ≡ q
   pub received : is_received v ≡ true
   pub unhanded : v.handed ≡ 0
-  pub first : list_any (is_before v) jobs ≡ false
+  pub first : list_any (is_preceded_by v) jobs ≡ false
 
 pub record TurnOf {C : Type 0} (jobs : List (Job C)) (p : Printer C) (v : Job C) : Type 0 where
   pub there : Has v jobs
@@ -35,15 +35,15 @@ first_by : {C : Type 0} (jobs : List (Job C)) (p : Printer C) (x : Job C) → fi
 first_by {C} jobs p x e =
     let f = find_has (λ (w : Job C). (w.queue == p.queue) && is_ready jobs w) x jobs e in
     let a = and_true (x.queue == p.queue) (is_ready jobs x) f.1 in
-    let b = and_true (is_received x) (not x.ended && ((x.handed == 0) && not (list_any (is_before x) jobs))) a.1 in
-    let d = and_true (not x.ended) ((x.handed == 0) && not (list_any (is_before x) jobs)) b.1 in
-    let g = and_true (x.handed == 0) (not (list_any (is_before x) jobs)) d.1 in
+    let b = and_true (is_received x) (not x.ended && ((x.handed == 0) && not (list_any (is_preceded_by x) jobs))) a.1 in
+    let d = and_true (not x.ended) ((x.handed == 0) && not (list_any (is_preceded_by x) jobs)) b.1 in
+    let g = and_true (x.handed == 0) (not (list_any (is_preceded_by x) jobs)) d.1 in
     let queue : x.queue ≡ p.queue = let z = a.0 in grind (arith, nat_tests) in
     let none : x.handed ≡ 0 = let z = g.0 in grind (arith, nat_tests) in
     record {
       there = f.0;
       goes_on = not_true x.ended d.0;
-      why = inr (record { queue = queue; received = b.0; unhanded = none; first = not_true (list_any (is_before x) jobs) g.1 });
+      why = inr (record { queue = queue; received = b.0; unhanded = none; first = not_true (list_any (is_preceded_by x) jobs) g.1 });
     }
 
 begun_by : {C : Type 0} (jobs : List (Job C)) (p : Printer C) (k : ℕ) (x : Job C) (found : Option (Job C)) → p.began ≡ Some k → find (λ (v : Job C). (v.number == k) && not v.ended) jobs ≡ found → or_first jobs p.queue found ≡ Some x → TurnOf jobs p x
@@ -96,6 +96,6 @@ given v p sheet e =
     (o.0, given_by v.jobs (printer_at v p) sheet (turn_of v.jobs (printer_at v p).queue (printer_at v p).began) i.0 refl i.1)
 
 -- that job is an accepted one
-pub given_at : {C : Type 0} (c : Setup) (h : List (Event C)) (p : Printer C) (sheet : Sheet C) → Given (now c h).jobs p sheet → At h sheet.job (λ v. Gets sheet v)
+pub given_at : {C : Type 0} (c : Config) (h : List (Event C)) (p : Printer C) (sheet : Sheet C) → Given (now c h).jobs p sheet → At h sheet.job (λ v. Gets sheet v)
 given_at {C} c h p sheet g =
     known_at h g.job sheet.job (λ v. Gets sheet v) (known c h g.job g.turn.there) (sym (ap (λ (s : Sheet C). s.job) g.gets.is)) g.gets

@@ -3,11 +3,11 @@ use Rattle.std.proofs.Common.{inl, inr, ◌≡◌, ◌≢◌, ℕ, Bool, true, f
 use Rattle.std.specs.Prelude.{◌||◌}
 use Rattle.std.proofs.Math.Seq.{take-length}
 use Rattle.spool_history.specs.Events.{Act, Event, Sheet, Turn}
-use Rattle.spool_history.specs.Events.Act.{Opened, Granted, Began, Put, FileEnded, Controlled, Aborted}
+use Rattle.spool_history.specs.Events.Act.{Granted, Began, Put, FileEnded, Controlled, Aborted}
 use Rattle.spool_history.specs.Events.Progress.{Going, Done, Ended}
 use Rattle.spool_history.specs.Events.Turn.{Handed, Printed, Failed}
-use Rattle.spool_history.specs.Events.Event.{OfJob, AtPrinter, Removed, Started, Closed}
-use Rattle.spool_history.specs.Setup.{Setup}
+use Rattle.spool_history.specs.Events.Event.{Opened, OfJob, AtPrinter, Removed, Started, Closed}
+use Rattle.config_values.specs.Config.{Config}
 use Rattle.spool_history.specs.Said.{handed_of, is_handed, has_ended, ends, is_done}
 use Rattle.spool_history.specs.Now.{now}
 use Rattle.spool_history.specs.Legal.{IsLegal, May}
@@ -43,7 +43,7 @@ whole_act {C} h k act before w j e =
     ] in
     (still_ended h (OfJob k act) j i.0, i.1 ∙ ap length (sym places'))
 
-opened_places : {C : Type 0} (h : List (Event C)) (k s q : ℕ) → places_of (OfJob k (Opened s q) ∷ h) k ≡ places_of h k
+opened_places : {C : Type 0} (h : List (Event C)) (k s q : ℕ) → places_of (Opened k s q ∷ h) k ≡ places_of h k
 opened_places h k s q = elim (test k k) [ inl r ↦ rw r.1 refl | inr r ↦ rw r.1 refl ]
 
 aborted_places : {C : Type 0} (h : List (Event C)) (k : ℕ) → places_of (OfJob k Aborted ∷ h) k ≡ places_of h k
@@ -60,7 +60,7 @@ whole_handed {C} h p sheet t w j e =
 whole_back : {C : Type 0} (h : List (Event C)) (p : ℕ) (sheet : Sheet C) (turn : Turn) (j : ℕ) → is_handed turn ≡ false → WholeAt h j → WholeAt (AtPrinter p sheet turn ∷ h) j
 whole_back h p sheet turn j is i = (still_ended h (AtPrinter p sheet turn) j i.0, ap length (handed_same h p sheet turn j is) ∙ i.1)
 
-whole_done : {C : Type 0} (size : C → ℕ) (c : Setup) (h : List (Event C)) (p : ℕ) (sheet : Sheet C) → IsLegal size c h → May size (now c h) (AtPrinter p sheet (Printed Done)) → Whole h → Whole (AtPrinter p sheet (Printed Done) ∷ h)
+whole_done : {C : Type 0} (size : C → ℕ) (c : Config) (h : List (Event C)) (p : ℕ) (sheet : Sheet C) → IsLegal size c h → May size (now c h) (AtPrinter p sheet (Printed Done)) → Whole h → Whole (AtPrinter p sheet (Printed Done) ∷ h)
 whole_done {C} size c h p sheet l m w j e =
     let last = ((says size c h p sheet Done l m).done.0 refl).1 in
     let out = (facts size c h l).out p sheet (is_out c h p sheet m.0 m.1.0) in
@@ -72,8 +72,8 @@ whole_done {C} size c h p sheet l m w j e =
       | inr s ↦ whole_back h p sheet (Printed Done) j refl (w j (rw s.1 at e))
     ]
 
-whole_step : {C : Type 0} (size : C → ℕ) (c : Setup) (h : List (Event C)) (e : Event C) → IsLegal size c h → May size (now c h) e → Whole h → Whole (e ∷ h)
-whole_step size c h (OfJob k (Opened s q)) l m w = whole_act h k (Opened s q) (λ e. opened_places h k s q) w
+whole_step : {C : Type 0} (size : C → ℕ) (c : Config) (h : List (Event C)) (e : Event C) → IsLegal size c h → May size (now c h) e → Whole h → Whole (e ∷ h)
+whole_step size c h (Opened k s q) l m w = whole_act h k (Opened s q) (λ e. opened_places h k s q) w
 whole_step size c h (OfJob k Granted) l m w = whole_act h k Granted (λ e. absurd (clash (has_ended h k) e (has_at c h k _ m.0).is.0.0)) w
 whole_step size c h (OfJob k (Began name count)) l m w = whole_act h k (Began name count) (λ e. absurd (clash (has_ended h k) e (has_at c h k _ m.1).is.0.0)) w
 whole_step size c h (OfJob k (Put file number page)) l m w = whole_act h k (Put file number page) (λ e. absurd (clash (has_ended h k) e (has_at c h k _ m).is.0.0)) w
@@ -89,11 +89,11 @@ whole_step size c h (Removed q jobs) l m w = λ j e. (still_ended h (Removed q j
 whole_step size c h (Started q) l m w = w
 whole_step size c h Closed l m w = λ j e. (refl, (w j e).1)
 
-whole : {C : Type 0} (size : C → ℕ) (c : Setup) (h : List (Event C)) → IsLegal size c h → Whole h
+whole : {C : Type 0} (size : C → ℕ) (c : Config) (h : List (Event C)) → IsLegal size c h → Whole h
 whole size c [] l = λ j e. absurd cc
 whole size c (e ∷ h) l = whole_step size c h e l.1 l.0 (whole size c h l.1)
 
-pub all_placed : {C : Type 0} (size : C → ℕ) (c : Setup) (h : List (Event C)) → IsLegal size c h → (j : ℕ) → is_done h j ≡ true → handed_of h j ≡ sheets j 0 (places_of h j)
+pub all_placed : {C : Type 0} (size : C → ℕ) (c : Config) (h : List (Event C)) → IsLegal size c h → (j : ℕ) → is_done h j ≡ true → handed_of h j ≡ sheets j 0 (places_of h j)
 all_placed size c h l j e =
     let n = (whole size c h l j e).1 in
     placed size c h l j ∙ (ap (λ (m : ℕ). sheets j 0 (take m (places_of h j))) n ∙ ap (sheets j 0) (take-length (places_of h j)))

@@ -1,9 +1,9 @@
 -- The outline of a history: each page is replaced by what a function says of it, as octets by their length and digest.
 use Rattle.std.specs.Prelude.{◌≡◌, ℕ, List, map}
 use Rattle.spool_history.specs.Events.{Act, Sheet, Event}
-use Rattle.spool_history.specs.Events.Act.{Opened, Granted, Began, Put, FileEnded, Controlled, Aborted}
-use Rattle.spool_history.specs.Events.Event.{OfJob, AtPrinter, Removed, Started, Closed}
-use Rattle.spool_history.specs.Setup.{Setup}
+use Rattle.spool_history.specs.Events.Act.{Granted, Began, Put, FileEnded, Controlled, Aborted}
+use Rattle.spool_history.specs.Events.Event.{Opened, OfJob, AtPrinter, Removed, Started, Closed}
+use Rattle.config_values.specs.Config.{Config}
 use Rattle.spool_history.specs.Legal.{IsLegal}
 
 -- of an act: only a page that was put changes
@@ -36,4 +36,4 @@ outline f h = map (outline_event f) h
 abbrev pub OutlineIsLegal : Type 0 → Type 0 → Type 0
 OutlineIsLegal A B =
     (f : A → B) (size : A → ℕ) (short : B → ℕ) → ((page : A) → short (f page) ≡ size page)
-    → (c : Setup) (h : List (Event A)) → IsLegal size c h → IsLegal short c (outline f h)
+    → (c : Config) (h : List (Event A)) → IsLegal size c h → IsLegal short c (outline f h)

@@ -1,14 +1,14 @@
 -- Where a legal event leaves a spool.
 use Rattle.std.specs.Prelude.{◌≡◌, ℕ, List, ◌∷◌}
 use Rattle.spool_history.specs.Events.{Event}
-use Rattle.spool_history.specs.Setup.{Setup}
+use Rattle.config_values.specs.Config.{Config}
 use Rattle.spool_history.specs.Now.{State, now}
 use Rattle.spool_history.specs.Steps.{after}
 use Rattle.spool_history.specs.Legal.{May, IsLegal, IsLeftBy}
 
 -- one more legal event leaves a spool where its step leads from where the events before it left it
 abbrev pub StepLeads : Type 0 → Type 0
-StepLeads C = (size : C → ℕ) (c : Setup) (h : List (Event C)) (e : Event C) → IsLegal size c h → May size (now c h) e → now c (e ∷ h) ≡ after e (now c h)
+StepLeads C = (size : C → ℕ) (c : Config) (h : List (Event C)) (e : Event C) → IsLegal size c h → May size (now c h) e → now c (e ∷ h) ≡ after e (now c h)
 
 -- so a state that is changed by an event's step is the one that the longer history leaves
 abbrev pub StepKeeps : Type 0 → Type 0

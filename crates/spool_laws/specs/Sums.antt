@@ -3,22 +3,22 @@ use Rattle.std.specs.Prelude.{◌≡◌, ℕ, ◌+◌, ◌-◌, ◌==◌, ◌≤
 use Rattle.counts.specs.Amounts.{amount}
 use Rattle.claims.specs.declared.row.Row.{Row}
 use Rattle.spool_history.specs.Events.{Event}
-use Rattle.spool_history.specs.Setup.{Setup, queue_at}
+use Rattle.config_values.specs.Config.{IsQueue, Config, queue_at}
 use Rattle.spool_history.specs.Acts.{File}
 use Rattle.spool_history.specs.Now.{Job, Printer, State, now, is_received, places, pages_held, printers_held, row_of, capacity, free_pages}
-use Rattle.spool_history.specs.Legal.{IsQueue, IsLegal}
+use Rattle.spool_history.specs.Legal.{IsLegal}
 
 -- how many pages the held jobs hold
-abbrev pub held_pages : {C : Type 0} → Setup → List (Event C) → ℕ
+abbrev pub held_pages : {C : Type 0} → Config → List (Event C) → ℕ
 held_pages {C} c h = sum_by (λ (v : Job C). pages_held v) (now c h).jobs
 
 -- they hold no more than there are, and those that are free make up the rest
-pub record AddUp {C : Type 0} (c : Setup) (h : List (Event C)) : Type 0 where
+pub record AddUp {C : Type 0} (c : Config) (h : List (Event C)) : Type 0 where
   pub within : held_pages c h ≤ c.pages
   pub all : free_pages (now c h) + held_pages c h ≡ c.pages
 
 abbrev pub PagesAddUp : Type 0 → Type 0
-PagesAddUp C = (size : C → ℕ) (c : Setup) (h : List (Event C)) → IsLegal size c h → AddUp c h
+PagesAddUp C = (size : C → ℕ) (c : Config) (h : List (Event C)) → IsLegal size c h → AddUp c h
 
 -- what a job has in its chains: while it is being received, the pages of all its files; once it is received, the places
 -- that weren't handed to a printer; and once it has ended, none
@@ -42,21 +42,21 @@ at_printers {C} v = count_by (λ (printer : Printer C). is_some printer.out) v.p
 -- the pages in chains, those that are lent, those at printers and those that are free make up the pool
 abbrev pub EachPageHasAPlace : Type 0 → Type 0
 EachPageHasAPlace C =
-    (size : C → ℕ) (c : Setup) (h : List (Event C)) → IsLegal size c h
+    (size : C → ℕ) (c : Config) (h : List (Event C)) → IsLegal size c h
     → chained (now c h) + lent (now c h) + at_printers (now c h) + free_pages (now c h) ≡ c.pages
 
 -- how much of a kind the held jobs hold: kind 0 are the pages, and each further kind the printers of a queue
 abbrev pub held_of : {C : Type 0} → State C → ℕ → ℕ
-held_of v kind = sum_by (λ (row : Row). amount row.held kind) (map (row_of v.setup) v.jobs)
+held_of v kind = sum_by (λ (row : Row). amount row.held kind) (map (row_of v.config) v.jobs)
 
 -- how many printers of a queue the held jobs hold
 abbrev pub held_printers : {C : Type 0} → State C → ℕ → ℕ
 held_printers {C} v q = sum_by (λ (job : Job C). printers_held job) (filter (λ (job : Job C). job.queue == q) v.jobs)
 
 -- the held jobs hold no more of any kind than there is, and of a queue's printers no more than the queue has
-pub record NoMoreThanThereIs {C : Type 0} (c : Setup) (h : List (Event C)) : Type 0 where
+pub record NoMoreThanThereIs {C : Type 0} (c : Config) (h : List (Event C)) : Type 0 where
   pub kinds : (kind : ℕ) → held_of (now c h) kind ≤ amount (capacity c) kind
   pub printers : (q : ℕ) → IsQueue c q → held_printers (now c h) q ≤ (queue_at c q).printers
 
 abbrev pub NoKindRunsOver : Type 0 → Type 0
-NoKindRunsOver C = (size : C → ℕ) (c : Setup) (h : List (Event C)) → IsLegal size c h → NoMoreThanThereIs c h
+NoKindRunsOver C = (size : C → ℕ) (c : Config) (h : List (Event C)) → IsLegal size c h → NoMoreThanThereIs c h

@@ -1,7 +1,7 @@
 use Rattle.std.proofs.Common.{◌↔◌, ◌∙◌, ap, ℕ, List, Bool}
 use Rattle.std.specs.Prelude.{IsTrue}
 use Rattle.counts.specs.Amounts.{amount}
-use Rattle.ordered_safety.specs.Safety.{HasFinishingOrder}
+use Rattle.claims.specs.Safety.{HasFinishingOrder}
 use Rattle.history_reader.specs.Seen.{setup_seen}
 use Rattle.history_reader.specs.Claimed.{rows_seen, free_beside, AreSafe}
 use Rattle.history_reader.proofs.OrderLaws.{if_ok_more, order_same}

@@ -8,9 +8,9 @@ use Rattle.counts.specs.Amounts.{amount, Fits}
 use Rattle.counts.proofs.Sums.{length-sum_of}
 use Rattle.claims.specs.declared.row.Row.{Row}
 use Rattle.claims.specs.Claims.{Pairwise, IsLower, row_at}
-use Rattle.ordered_safety.specs.Safety.{AreFinishing}
+use Rattle.claims.specs.Safety.{AreFinishing}
 use Rattle.ordered_safety.specs.Scan.{rows_at, row_of, MayGoAt, HasTurn, StaysSmall}
-use Rattle.ordered_safety.proofs.Orders.{none_ordered}
+use Rattle.claims.proofs.Orders.{none_ordered}
 use Rattle.ordered_safety.proofs.Picks.{turn_next, fits_next, numbers_next, numbers_before, held_split, rising_removed, Gives}
 use Rattle.ordered_safety.proofs.Turns.{all_rows, all_there, row_is, held_kinds, gives_back, all_removed, none_left}
 use Rattle.ordered_safety.proofs.follow.follow.Goals as goal

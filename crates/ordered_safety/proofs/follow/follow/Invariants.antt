@@ -2,7 +2,7 @@ use Rattle.std.proofs.Common.{◌≡◌, ◌<◌, ◌≤◌, ◌+◌, length, dr
 use Rattle.std.specs.Prelude.{All, vec_capacity}
 use Rattle.counts.specs.Amounts.{amount}
 use Rattle.claims.specs.Claims.{Pairwise, IsLower}
-use Rattle.ordered_safety.specs.Safety.{AreFinishing}
+use Rattle.claims.specs.Safety.{AreFinishing}
 use Rattle.ordered_safety.specs.Scan.{rows_at, StaysSmall}
 use Rattle.ordered_safety.proofs.follow.follow.Given as goal
 

@@ -1,7 +1,7 @@
 use Rattle.std.proofs.Common.{◌≡◌, ℕ, ◌<◌, false}
 use Rattle.std.specs.Prelude.{slice_index}
 use Rattle.claims.specs.Claims.{row_at}
-use Rattle.ordered_safety.specs.Safety.{same_line}
+use Rattle.claims.specs.Safety.{same_line}
 use Rattle.ordered_safety.proofs.scan.is_head.Given as goal
 
 abbrev pub invariant-loop-j : goal.invariant-loop-j

@@ -4,7 +4,7 @@ use Rattle.std.proofs.lemmas.List.{get_or-take, length-take-le}
 use Rattle.counts.specs.Amounts.{amount, Fits}
 use Rattle.claims.specs.declared.row.Row.{Row}
 use Rattle.claims.specs.Claims.{row_at}
-use Rattle.ordered_safety.specs.Safety.{same_line}
+use Rattle.claims.specs.Safety.{same_line}
 use Rattle.ordered_safety.specs.Scan.{row_of, IsHead, MayGoAt}
 use Rattle.ordered_safety.proofs.scan.pick.Goals as goal
 use Rattle.ordered_safety.proofs.scan.pick.Goals.{then-is_head+else-le, else-is_head}

@@ -8,9 +8,9 @@ use Rattle.counts.specs.Amounts.{amount}
 use Rattle.counts.proofs.Sums.{length-sum_of}
 use Rattle.claims.specs.declared.row.Row.{Row}
 use Rattle.claims.specs.Claims.{Pairwise, IsLower}
-use Rattle.ordered_safety.specs.Safety.{HasFinishingOrder, AreFinishing}
+use Rattle.claims.specs.Safety.{HasFinishingOrder, AreFinishing}
 use Rattle.ordered_safety.specs.Scan.{rows_at, row_of, MayGoAt, StaysSmall}
-use Rattle.ordered_safety.proofs.Orders.{some_order}
+use Rattle.claims.proofs.Orders.{some_order}
 use Rattle.ordered_safety.proofs.Picks.{none_safe, numbers_before, safe_after, held_split, rising_removed, Gives}
 use Rattle.ordered_safety.proofs.Turns.{all_rows, all_there, row_is, held_kinds, gives_back, few_tests, first_tests, found_at, all_removed, numbers_moved, none_left}
 use Rattle.ordered_safety.proofs.scan.scan.Goals as goal

@@ -2,7 +2,7 @@ use Rattle.std.proofs.Common.{◌≡◌, ℕ, ◌<◌, ◌≤◌, ◌+◌, ◌*�
 use Rattle.std.specs.Prelude.{All, vec_len, vec_capacity}
 use Rattle.counts.specs.Amounts.{amount}
 use Rattle.claims.specs.Claims.{Pairwise, IsLower}
-use Rattle.ordered_safety.specs.Safety.{HasFinishingOrder, AreFinishing}
+use Rattle.claims.specs.Safety.{HasFinishingOrder, AreFinishing}
 use Rattle.ordered_safety.specs.Scan.{rows_at, StaysSmall}
 use Rattle.ordered_safety.proofs.scan.scan.Given as goal
 

@@ -1,5 +1,0 @@
-use Rattle.std.proofs.Common.{refl}
-use Rattle.spool_history.proofs.rows.closed_spool.Goals as goal
-
-pub returns : goal.returns
-returns c = record { over = refl; one_out = refl; dying = refl; all_back = refl }

@@ -1,5 +1,0 @@
-use Rattle.std.proofs.Common.{refl}
-use Rattle.spool_history.proofs.rows.failed_page.Goals as goal
-
-pub returns : goal.returns
-returns c = record { stops = refl; free = refl; gone = refl; started = refl }

@@ -1,5 +1,0 @@
-use Rattle.std.proofs.Common.{refl}
-use Rattle.spool_history.proofs.rows.one_job.Goals as goal
-
-pub returns : goal.returns
-returns c = record { free = refl; next = refl }

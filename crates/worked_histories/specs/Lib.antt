@@ -1,0 +1,6 @@
+pub mod Rows
+pub mod MoreRows
+pub mod Claims
+pub mod Refused
+pub mod TextRows
+pub mod Waiting

@@ -1,0 +1,69 @@
+//! Worked histories, against which the definitions are read: what is free, and what a printer gets next.
+
+ghost use Rattle.worked_histories.specs.Rows.{OneJob, OneJobIsLegal};
+ghost use Rattle.worked_histories.specs.Claims.{ClaimsMeet};
+ghost use Rattle.worked_histories.specs.Refused.{AreRefused};
+ghost use Rattle.worked_histories.specs.TextRows.{TextsAre};
+ghost use Rattle.worked_histories.specs.Waiting.{PagesAreRefused, Waiting};
+ghost use Rattle.worked_histories.specs.MoreRows.{TwoJobs, AbortedJob, RemovedJob, FailedPage, ClosedSpool, FillsAccount};
+
+/// One job is received and printed, and the spool is closed.
+pub fn one_job()
+    ensures { OneJob }
+{}
+
+/// Two jobs of one sender leave in order of acceptance.
+pub fn two_jobs()
+    ensures { TwoJobs }
+{}
+
+/// A job waits for each earlier one of its sender, and until its open file has ended.
+pub fn waiting()
+    ensures { Waiting }
+{}
+
+/// A job that is aborted gives all its pages back.
+pub fn aborted_job()
+    ensures { AbortedJob }
+{}
+
+/// A job that is removed while a page of it is at the printer is not done, and the sender's next job waits for that page.
+pub fn removed_job()
+    ensures { RemovedJob }
+{}
+
+/// A page that fails ends its job and stops its printer.
+pub fn failed_page()
+    ensures { FailedPage }
+{}
+
+/// A spool that is closed hands out nothing more, and takes back the page that is out.
+pub fn closed_spool()
+    ensures { ClosedSpool }
+{}
+
+/// Two jobs of three pages need 249 entries of the account.
+pub fn filled_account()
+    ensures { FillsAccount }
+{}
+
+/// Of two jobs of three pages over a pool of four, the second finishes first; of one sender the page is not lent.
+pub fn claims_meet()
+    ensures { ClaimsMeet }
+{}
+
+/// The history of one job is legal.
+pub fn one_job_is_legal()
+    ensures { OneJobIsLegal }
+{}
+
+/// Events that may not come are not legal, nor is a page that is shorter or longer than it must be.
+pub fn refused()
+    ensures events { AreRefused }
+    ensures pages { PagesAreRefused }
+{}
+
+/// The texts for a queue's state and for removals, after a job was received.
+pub fn texts()
+    ensures { TextsAre }
+{}
