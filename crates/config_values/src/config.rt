@@ -3,7 +3,7 @@
 ghost use Rattle.std.specs.Prelude.{◌≡◌, ◌≢◌, ◌↔◌, ◌≤◌, ◌<◌, ◌+◌, ◌*◌, ◌^◌, ◌-◌, All, IfSome, IfNone, IsTrue, length, slice_index_or};
 ghost use Rattle.config_values.specs.Config as C;
 
-use crate::queue::{Queue, limit_at, printers_of, served_from};
+use crate::queue::{Queue, limit_at, name_at, printers_at, printers_of, served_from};
 use std::marker::Model;
 
 /// What a spool is made for. Queues have the numbers 1, 2 and so on, and printers are numbered from 1 over all queues,
@@ -26,19 +26,19 @@ impl Model for Config {
     ghost Value = { C.Config };
 
     ghost view = { λ c. record {
-        pages = c.pages;
-        page_size = c.page_size;
-        max_jobs = c.max_jobs;
-        account = c.account;
-        queues = c.queues.items;
+      pages = c.pages;
+      page_size = c.page_size;
+      max_jobs = c.max_jobs;
+      account = c.account;
+      queues = c.queues.items;
     } };
 
     ghost invariant = { λ c. IsConfig (record {
-        pages = c.pages;
-        page_size = c.page_size;
-        max_jobs = c.max_jobs;
-        account = c.account;
-        queues = c.queues.items;
+      pages = c.pages;
+      page_size = c.page_size;
+      max_jobs = c.max_jobs;
+      account = c.account;
+      queues = c.queues.items;
     }) };
 }
 
@@ -54,20 +54,26 @@ impl Config {
     ghost use Rattle.config_values.specs.Ranges.{IsConfig};
 
     /// A configuration in its ranges.
-    pub fn new(pages: u32, page_size: u32, max_jobs: u32, account: u32, queues: Vec<Queue>) -> Config
+    pub fn new(
+        pages: u32,
+        page_size: u32,
+        max_jobs: u32,
+        account: u32,
+        queues: Vec<Queue>,
+    ) -> Config
         requires { IsConfig (record {
-            pages = pages;
-            page_size = page_size;
-            max_jobs = max_jobs;
-            account = account;
-            queues = queues.items;
+          pages = pages;
+          page_size = page_size;
+          max_jobs = max_jobs;
+          account = account;
+          queues = queues.items;
         }) }
         ensures { result ≡ record {
-            pages = pages;
-            page_size = page_size;
-            max_jobs = max_jobs;
-            account = account;
-            queues = queues.items;
+          pages = pages;
+          page_size = page_size;
+          max_jobs = max_jobs;
+          account = account;
+          queues = queues.items;
         } }
     {
         Config {
@@ -136,18 +142,18 @@ impl Config {
     }
 
     /// How many printers there are over all queues.
-    pub fn printer_count(&self) -> u64
+    pub fn printer_count(&self) -> u32
         ensures value { result ≡ C.printer_count self.now }
-        ensures within { result ≤ 2 ^ 38 }
+        ensures within { result ≤ 1024 }
     {
-        printers_of(self.queues.as_slice())
+        printers_of(self.queues.as_slice()) as u32
     }
 
     /// Whether a printer has this number.
     pub fn is_printer(&self, printer: u32) -> bool
         ensures { IsTrue result ↔ C.IsPrinter self.now printer }
     {
-        1 <= printer && u64::from(printer) <= self.printer_count()
+        1 <= printer && printer <= self.printer_count()
     }
 
     /// The number of the queue that a printer serves, or 0 where no printer has this number.
@@ -168,6 +174,26 @@ impl Config {
             return 0;
         }
         limit_at(self.queues.as_slice(), queue as usize - 1)
+    }
+
+    /// The name of a queue, or nothing where no queue has this number.
+    pub fn name_of(&self, queue: u32) -> &[u8]
+        ensures { result.now ≡ (C.queue_at self.now queue).name }
+    {
+        if queue == 0 {
+            return &[];
+        }
+        name_at(self.queues.as_slice(), queue as usize - 1)
+    }
+
+    /// How many printers serve a queue, or 0 where no queue has this number.
+    pub fn printers_of(&self, queue: u32) -> u32
+        ensures { result ≡ (C.queue_at self.now queue).printers }
+    {
+        if queue == 0 {
+            return 0;
+        }
+        printers_at(self.queues.as_slice(), queue as usize - 1)
     }
 
     /// The most entries of the account that are about a job of a queue.

@@ -95,3 +95,29 @@ pub(crate) fn limit_at(queues: &[Queue], place: usize) -> u32
     }
     limit_at(rest, place - 1)
 }
+
+/// The name of the queue at this place, or nothing where there is none.
+pub(crate) fn name_at(queues: &[Queue], place: usize) -> &[u8]
+    ensures { result.now ≡ (slice_index_or queues.now place C.no_queue).name }
+{
+    let Some((first, rest)) = queues.split_first() else {
+        return &[];
+    };
+    if place == 0 {
+        return first.name();
+    }
+    name_at(rest, place - 1)
+}
+
+/// The printers of the queue at this place, or 0 where there is none.
+pub(crate) fn printers_at(queues: &[Queue], place: usize) -> u32
+    ensures { result ≡ (slice_index_or queues.now place C.no_queue).printers }
+{
+    let Some((first, rest)) = queues.split_first() else {
+        return 0;
+    };
+    if place == 0 {
+        return first.printers();
+    }
+    printers_at(rest, place - 1)
+}

@@ -1,18 +1,17 @@
--- What one more event makes of what a history says of a job.
+-- What one more entry makes of what a history says of a job.
 use Rattle.std.proofs.Common.{◌≡◌, ◌==◌, ℕ, Bool, true, false, List, ◌∷◌, refl, ap}
 use Rattle.std.specs.List.{list_any}
 use Rattle.std.proofs.lemmas.List.{length_push}
 use Rattle.spool_history.specs.Events.{Act, Event, Sheet, Turn}
-use Rattle.spool_history.specs.Events.Act.{Opened, Granted, Began, Put, FileEnded, Controlled, Aborted}
+use Rattle.spool_history.specs.Events.Act.{Granted, Began, Put, FileEnded, Controlled, Aborted}
 use Rattle.spool_history.specs.Events.Progress.{Going, Done, Ended}
 use Rattle.spool_history.specs.Events.Turn.{Handed, Printed, Failed}
-use Rattle.spool_history.specs.Events.Event.{OfJob, AtPrinter, Removed, Started, Closed}
+use Rattle.spool_history.specs.Events.Event.{Opened, OfJob, AtPrinter, Removed, Started, Closed}
 use Rattle.spool_history.specs.Said.{Opening, handed_of}
 use Rattle.spool_history.specs.Now.{job_of}
 use Rattle.spool_history.specs.Steps.{change}
 
 act_by : {C : Type 0} (h : List (Event C)) (k : ℕ) (act : Act C) (o : Opening) (b : Bool) → (k == o.job) ≡ b → job_of (OfJob k act ∷ h) o ≡ change (OfJob k act) (job_of h o)
-act_by h k (Opened s q) o true e = rw e refl
 act_by h k Granted o true e = rw e refl
 act_by h k (Began name count) o true e = rw e refl
 act_by h k (Put file number page) o true e = rw e refl
@@ -33,8 +32,9 @@ removed_by : {C : Type 0} (h : List (Event C)) (q : ℕ) (jobs : List ℕ) (o : 
 removed_by h q jobs o true e = rw e refl
 removed_by h q jobs o false e = rw e refl
 
--- one more event makes of each job what change says
+-- one more entry makes of each job what change says
 pub job_of-more : {C : Type 0} (h : List (Event C)) (e : Event C) (o : Opening) → job_of (e ∷ h) o ≡ change e (job_of h o)
+job_of-more h (Opened k s q) o = refl
 job_of-more h (OfJob k act) o = act_by h k act o (k == o.job) refl
 job_of-more h (AtPrinter p sheet turn) o = turn_by h p sheet turn o (sheet.job == o.job) refl
 job_of-more h (Removed q jobs) o = removed_by h q jobs o (list_any (λ k. k == o.job) jobs) refl

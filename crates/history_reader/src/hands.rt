@@ -1,33 +1,47 @@
 //! Which page a printer gets next.
 
-ghost use Rattle.std.specs.Prelude.{◌≡◌, ◌==◌, ◌&&◌, not, IfOk, MatchOption, None, Some, drop, find, map, slice_index_or};
+ghost use Rattle.std.specs.Prelude.{◌≡◌, ◌==◌, ◌&&◌, ◌∷◌, not, IfOk, MatchOption, None, Some, drop, find, map, slice_index_or};
 ghost use Rattle.std.specs.List.{list_any};
 ghost use Rattle.spool_history.specs.Next as X;
 ghost use Rattle.spool_history.specs.Now as N;
-ghost use Rattle.history_reader.specs.declared.events.Outline.{Outline};
+ghost use Rattle.account.specs.declared.entry.Outline.{Outline};
 ghost use Rattle.history_reader.specs.Seen.{job_seen, next_seen, page_seen, printer_seen, state_seen};
 
-use crate::events::Sheet;
-use crate::setup::Setup;
 use crate::state::{Job, Next, Page, Printer, State};
+use account::Sheet;
+use config_values::Config;
 use std::alloc::{AllocError, Global};
 
+/// A printer of no queue.
+const NO_PRINTER: Printer = Printer {
+    queue: 0,
+    out: None,
+    began: None,
+    stopped: false,
+};
+
 /// The printer at this place, or one of no queue where there is none.
-pub(crate) fn printer_at(printers: &[Printer], place: usize) -> Printer
+fn printer_at(printers: &[Printer], place: usize) -> Printer
     ensures { printer_seen result ≡ slice_index_or (map printer_seen printers.now) place X.no_printer }
 {
     let Some((first, rest)) = printers.split_first() else {
-        return Printer {
-            queue: 0,
-            out: None,
-            began: None,
-            stopped: false,
-        };
+        return NO_PRINTER;
     };
     if place == 0 {
         return *first;
     }
     printer_at(rest, place - 1)
+}
+
+/// The printer of a number, or one of no queue where no printer has this number.
+pub fn printer_numbered(state: &State, printer: u32) -> Printer
+    ensures { printer_seen result
+        ≡ slice_index_or (X.no_printer ∷ map printer_seen state.now.printers.items) printer X.no_printer }
+{
+    if printer == 0 {
+        return NO_PRINTER;
+    }
+    printer_at(state.printers.as_slice(), printer as usize - 1)
 }
 
 /// Whether one of these jobs is of the same sender and queue and came earlier.
@@ -133,19 +147,18 @@ fn next_at(alloc: Global, jobs: &[Job], printer: Printer) -> Result<Next, AllocE
 /// What a printer that asks for a page gets where a spool stands like this.
 pub fn next_page(
     alloc: Global,
-    setup: &Setup,
+    config: &Config,
     state: &State,
     printer: u32,
 ) -> Result<Next, AllocError>
-    ensures { IfOk result (λ n. next_seen n ≡ X.next_page (state_seen setup.now state.now) printer) }
+    ensures { IfOk result (λ n. next_seen n ≡ X.next_page (state_seen config.now state.now) printer) }
 {
     if state.closed {
         return Ok(Next::Over);
     }
-    let place = printer.saturating_sub(1) as usize;
     next_at(
         alloc,
         state.jobs.as_slice(),
-        printer_at(state.printers.as_slice(), place),
+        printer_numbered(state, printer),
     )
 }

@@ -6,10 +6,11 @@ ghost use Rattle.spool_history.specs.Acts as A;
 ghost use Rattle.spool_history.specs.Now as N;
 ghost use Rattle.spool_history.specs.Steps as T;
 ghost use Rattle.spool_history.specs.Said as D;
-ghost use Rattle.history_reader.specs.Seen.{history, act_seen, event_seen, file_seen, job_seen, opening_seen, turn_seen};
+ghost use Rattle.account.specs.Seen.{history, act_seen, event_seen, turn_seen};
+ghost use Rattle.history_reader.specs.Seen.{file_seen, job_seen, opening_seen};
 
-use crate::events::{Act, Event, Outline, Progress, Turn};
 use crate::state::{File, Job, Opening};
+use account::{Act, Entry, Outline, Progress, Turn};
 use std::alloc::{AllocError, Global};
 
 /// Whether a number is among these.
@@ -48,7 +49,6 @@ impl Job {
         ensures back { OnOk result (self.new.back ≡ self.old.back) }
     {
         match act {
-            Act::Opened(_, _) => {}
             Act::Granted => {
                 self.granted += 1;
                 self.lent = true;
@@ -92,47 +92,48 @@ impl Job {
         }
     }
 
-    /// What an event makes of a job.
-    fn change(&mut self, alloc: Global, event: &Event) -> Result<(), AllocError>
+    /// What an entry makes of a job.
+    fn change(&mut self, alloc: Global, entry: &Entry) -> Result<(), AllocError>
         requires granted { self.old.granted < 2 ^ 63 }
         requires handed { self.old.handed < 2 ^ 63 }
         requires back { self.old.back < 2 ^ 63 }
-        ensures value { OnOk result (job_seen self.new ≡ T.change (event_seen event.now) (job_seen self.old)) }
+        ensures value { OnOk result (job_seen self.new ≡ T.change (event_seen entry.now) (job_seen self.old)) }
         ensures granted { OnOk result (self.new.granted ≤ self.old.granted + 1) }
         ensures handed { OnOk result (self.new.handed ≤ self.old.handed + 1) }
         ensures back { OnOk result (self.new.back ≤ self.old.back + 1) }
     {
-        match event {
-            Event::OfJob(job, act) => {
+        match entry {
+            Entry::Opened(_, _, _) => {}
+            Entry::OfJob(job, act) => {
                 if *job == self.number {
                     self.act(alloc, act)?;
                 }
             }
-            Event::AtPrinter(_, sheet, turn) => {
+            Entry::AtPrinter(_, sheet, turn) => {
                 if sheet.job == self.number {
                     self.turn(*turn);
                 }
             }
-            Event::Removed(_, jobs) => {
+            Entry::Removed(_, jobs) => {
                 if is_named(self.number, jobs.as_slice()) {
                     self.ended = true;
                 }
             }
-            Event::Started(_) => {}
-            Event::Closed => self.ended = true,
+            Entry::Started(_) => {}
+            Entry::Closed => self.ended = true,
         }
         Ok(())
     }
 }
 
 /// What a history says of a job that it opened.
-pub fn job_in(alloc: Global, events: &[Event], opening: &Opening) -> Result<Job, AllocError>
-    ensures value { IfOk result (λ v. job_seen v ≡ N.job_of (history events.now) (opening_seen opening.now)) }
-    ensures granted { IfOk result (λ v. v.granted ≤ length events.now) }
-    ensures handed { IfOk result (λ v. v.handed ≤ length events.now) }
-    ensures back { IfOk result (λ v. v.back ≤ length events.now) }
+pub fn job_in(alloc: Global, entries: &[Entry], opening: &Opening) -> Result<Job, AllocError>
+    ensures value { IfOk result (λ v. job_seen v ≡ N.job_of (history entries.now) (opening_seen opening.now)) }
+    ensures granted { IfOk result (λ v. v.granted ≤ length entries.now) }
+    ensures handed { IfOk result (λ v. v.handed ≤ length entries.now) }
+    ensures back { IfOk result (λ v. v.back ≤ length entries.now) }
 {
-    let Some((event, before)) = events.split_first() else {
+    let Some((entry, before)) = entries.split_first() else {
         return Ok(Job {
             number: opening.job,
             sender: opening.sender,
@@ -147,6 +148,6 @@ pub fn job_in(alloc: Global, events: &[Event], opening: &Opening) -> Result<Job,
         });
     };
     let mut job = job_in(alloc, before, opening)?;
-    job.change(alloc, event)?;
+    job.change(alloc, entry)?;
     Ok(job)
 }

@@ -7,13 +7,13 @@ ghost use Rattle.spool_history.specs.Acts as A;
 ghost use Rattle.spool_history.specs.Now as N;
 ghost use Rattle.history_reader.specs.Seen.{file_seen, job_seen, page_seen};
 
-use crate::events::Outline;
 use crate::state::{File, Job, Page};
+use account::Outline;
 use lpd_commands::FileName;
 use std::alloc::{AllocError, Global};
 
 /// Whether a file has not ended.
-pub(crate) fn is_open_in(files: &[File]) -> bool
+pub fn is_open_in(files: &[File]) -> bool
     ensures { result ≡ A.is_open_in (map file_seen files.now) }
 {
     let Some((first, rest)) = files.split_first() else {
@@ -23,7 +23,7 @@ pub(crate) fn is_open_in(files: &[File]) -> bool
 }
 
 /// Whether a file of this name began.
-pub(crate) fn is_begun(name: &FileName, files: &[File]) -> bool
+pub fn is_begun(name: &FileName, files: &[File]) -> bool
     ensures { result ≡ is_among name.now (A.names_in (map file_seen files.now)) }
 {
     let Some((first, rest)) = files.split_first() else {
@@ -33,7 +33,7 @@ pub(crate) fn is_begun(name: &FileName, files: &[File]) -> bool
 }
 
 /// Whether a file of each of these names began.
-pub(crate) fn all_begun(names: &[FileName], files: &[File]) -> bool
+pub fn all_begun(names: &[FileName], files: &[File]) -> bool
     ensures { result ≡ list_all (λ name. is_among name (A.names_in (map file_seen files.now))) names.now }
 {
     let Some((first, rest)) = names.split_first() else {

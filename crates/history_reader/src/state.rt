@@ -1,6 +1,6 @@
 //! Where a history leaves a spool.
 
-use crate::events::{Outline, Sheet};
+use account::{Outline, Sheet};
 use control_file::Control;
 use lpd_commands::FileName;
 

@@ -1,0 +1,4 @@
+pub mod KindLaws
+pub mod OrderLaws
+pub mod DoingLaws
+pub mod LegalLaws

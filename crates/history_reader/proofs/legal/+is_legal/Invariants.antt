@@ -1,5 +1,0 @@
-use Rattle.std.proofs.Common.{length}
-use Rattle.history_reader.proofs.legal.+is_legal.Given as goal
-
-abbrev pub decreases-is_legal : goal.decreases-is_legal
-decreases-is_legal l = length l.events.now

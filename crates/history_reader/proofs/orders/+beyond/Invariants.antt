@@ -1,5 +1,0 @@
-use Rattle.std.proofs.Common.{length}
-use Rattle.history_reader.proofs.orders.+beyond.Given as goal
-
-abbrev pub decreases-beyond : goal.decreases-beyond
-decreases-beyond l = length l.claims.now

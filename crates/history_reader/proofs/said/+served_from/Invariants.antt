@@ -1,5 +1,0 @@
-use Rattle.std.proofs.Common.{length}
-use Rattle.history_reader.proofs.said.+served_from.Given as goal
-
-abbrev pub decreases-served_from : goal.decreases-served_from
-decreases-served_from l = length l.queues.now
