@@ -1,9 +1,9 @@
 //! A configuration: its keys, their ranges and its faults.
 
-ghost use Rattle.std.specs.Prelude.{◌≡◌, ◌≢◌, ◌≤◌, All, IfOk, length, string_bytes, vec_len, false, true};
-ghost use Rattle.spool_core.specs.Config.{IsConfig, IsQueue, IsQueueName, HaveOwnNames};
+ghost use Rattle.std.specs.Prelude.{◌≡◌, ◌≢◌, ◌≤◌, All, IfOk, length, vec_len, false, true};
+ghost use Rattle.config_values.specs.Ranges.{IsConfig, IsWithin, IsQueueName, HaveOwnNames};
 
-use spool_core::{Config, Queue};
+use config_values::{Config, Queue};
 use std::alloc::{AllocError, Global};
 use thiserror::Error;
 use toml::{Table, Value};
@@ -89,13 +89,7 @@ pub fn read(alloc: Global, text: &[u8]) -> Result<Config, ConfigFault>
     if !are_within(pages, queues.as_slice()) {
         return Err(ConfigFault::LimitOverPool);
     }
-    Ok(Config {
-        pages,
-        page_size,
-        max_jobs,
-        account,
-        queues,
-    })
+    Ok(Config::new(pages, page_size, max_jobs, account, queues))
 }
 
 /// A whole number from 1 to `most`.
@@ -114,7 +108,7 @@ fn number(table: &Table, name: &str, key: Key, most: u32) -> Result<u32, ConfigF
 
 /// The queues, each in its ranges.
 fn queues(alloc: Global, table: &Table) -> Result<Vec<Queue>, ConfigFault>
-    ensures all { IfOk result (λ queues. All (IsQueue 65536) queues.items) }
+    ensures all { IfOk result (λ queues. All (IsWithin 65536) queues.items) }
     ensures some { IfOk result (λ queues. 1 ≤ vec_len queues) }
     ensures few { IfOk result (λ queues. vec_len queues ≤ 64) }
 {
@@ -141,7 +135,7 @@ fn queues(alloc: Global, table: &Table) -> Result<Vec<Queue>, ConfigFault>
 
 /// One queue.
 fn queue(alloc: Global, row: &Table) -> Result<Queue, ConfigFault>
-    ensures { IfOk result (IsQueue 65536) }
+    ensures { IfOk result (IsWithin 65536) }
 {
     let name = match row.get("name") {
         None => return Err(ConfigFault::Missing(Key::Name)),
@@ -154,11 +148,7 @@ fn queue(alloc: Global, row: &Table) -> Result<Queue, ConfigFault>
     let limit = number(row, "limit", Key::Limit, MOST)?;
     let printers = number(row, "printers", Key::Printers, 16)?;
     let name = String::from_str(alloc, name)?;
-    Ok(Queue {
-        name,
-        limit,
-        printers,
-    })
+    Ok(Queue::new(name, limit, printers))
 }
 
 /// Whether a queue may have this name: 1 to 64 octets, each from 21 to 7E in hexadecimal.
@@ -178,21 +168,21 @@ fn has_same_name(queues: &[Queue]) -> bool
 {
     match queues {
         [] => false,
-        [first, rest @ ..] => is_among(rest, first.name.as_str()) || has_same_name(rest),
+        [first, rest @ ..] => is_among(rest, first.name()) || has_same_name(rest),
     }
 }
 
 /// Whether a queue has the name.
-fn is_among(queues: &[Queue], name: &str) -> bool
-    ensures { result ≡ false → All (λ q. string_bytes q.name ≢ name.now) queues.now }
+fn is_among(queues: &[Queue], name: &[u8]) -> bool
+    ensures { result ≡ false → All (λ q. q.name ≢ name.now) queues.now }
 {
-    queues.iter().any(|q| q.name.as_str() == name)
+    queues.iter().any(|q| q.name() == name)
 }
 
 /// Whether each limit is within the pages.
 fn are_within(pages: u32, queues: &[Queue]) -> bool
-    requires { All (IsQueue 65536) queues.now }
-    ensures { result ≡ true → All (IsQueue pages) queues.now }
+    requires { All (IsWithin 65536) queues.now }
+    ensures { result ≡ true → All (IsWithin pages) queues.now }
 {
-    queues.iter().all(|q| q.limit <= pages)
+    queues.iter().all(|q| q.limit() <= pages)
 }

@@ -1,7 +1,7 @@
 -- What a turn of a printer leaves of the core.
 use Rattle.std.proofs.Common.{◌≡◌, ◌+◌, ◌-◌, ◌<◌, ℕ, Option, Some, None, arith, ap, sym, subst, vec_len}
 use Rattle.page_pool.specs.Page.{Pages}
-use Rattle.spool_core.specs.declared.config.Config.{Config}
+use Rattle.config_values.specs.Config.{Config}
 use Rattle.spool_core.specs.declared.job.Job.{Job}
 use Rattle.spool_core.specs.declared.answers.Next.{Next}
 use Rattle.spool_core.specs.declared.answers.Next.TheVariants.{Handed, Nothing, Busy}
@@ -11,7 +11,6 @@ use Rattle.spool_core.specs.Spool.{Ledger, ledger, IsSpool, IsNext}
 pub kept : (config : Config) (pool : Pages) (old new : Job) (answer : Next) → IsSpool config pool (Some old) → GivesNext old new answer → IsSpool config pool (Some new)
 kept config pool old new (Handed page) spool given =
     record {
-      in_range = spool.in_range;
       pages = spool.pages;
       page_size = spool.page_size;
       holds = record {
@@ -36,7 +35,6 @@ told pool old new Busy given = (given.0, ap (λ (job : Job). ledger pool (Some j
 pub opened : (config : Config) (pool : Pages) (new : Job) → IsSpool config pool None → ((size : ℕ) → IsJob size new) → held_by new ≡ 0 → IsSpool config pool (Some new)
 opened config pool new spool sound none =
     record {
-      in_range = spool.in_range;
       pages = spool.pages;
       page_size = spool.page_size;
       holds = record { sound = sound pool.page_size; sum = let sum = spool.holds in omega arith };

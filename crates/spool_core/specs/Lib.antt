@@ -1,4 +1,3 @@
-pub mod Config
 pub mod Handed
 pub mod Job
 pub mod Spool

@@ -7,9 +7,8 @@ use Rattle.spool_core.specs.declared.answers.Next.{Next}
 use Rattle.spool_core.specs.declared.answers.Next.TheVariants.{Handed, Nothing, Busy}
 use Rattle.spool_core.specs.declared.answers.Printed.{Printed}
 use Rattle.spool_core.specs.declared.answers.Printed.TheVariants.{Going, Done}
-use Rattle.spool_core.specs.declared.config.Config.{Config}
+use Rattle.config_values.specs.Config.{Config}
 use Rattle.spool_core.specs.declared.job.Job.{Job}
-use Rattle.spool_core.specs.Config.{IsConfig}
 use Rattle.spool_core.specs.Job.{HoldsAll, lent_in, out_in}
 
 -- the pages in all, free, stored in the job, lent to a session, and out at a printer
@@ -42,7 +41,6 @@ ledger pool job =
     record { pages = pool.pages; page_size = pool.page_size; free = pool.free; stored = stored_by job; lent = lent_by job; out = out_by job }
 
 pub record IsSpool (config : Config) (pool : Pages) (job : Option Job) : Type 0 where
-  pub in_range : IsConfig config
   pub pages : pool.pages ≡ config.pages
   pub page_size : pool.page_size ≡ config.page_size
   pub holds : HoldsAll pool job

@@ -62,7 +62,7 @@ pub(crate) enum Phase {
 /// An accepted job. Its pages have to be spent.
 pub(crate) struct Job {
     pub(crate) number: JobNumber,
-    pub(crate) queue: usize,
+    pub(crate) queue: u32,
     pub(crate) limit: usize,
     pub(crate) phase: Phase,
     pub(crate) files: Vec<DataFile>,
@@ -101,7 +101,7 @@ impl Job {
     pub(crate) fn new(
         alloc: Global,
         number: JobNumber,
-        queue: usize,
+        queue: u32,
         limit: usize,
     ) -> Result<Job, AllocError>
         ensures { IfOk result (λ j. ((size : ℕ) → IsJob size j) × (held_by j ≡ 0)) }
@@ -408,7 +408,7 @@ impl Job {
     }
 
     /// The next page for a printer of this queue.
-    pub(crate) fn next(&mut self, printer: u32, queue: Option<usize>) -> Next
+    pub(crate) fn next(&mut self, printer: u32, queue: u32) -> Next
         ensures { GivesNext self.old self.new result }
     {
         let place = match self.phase {
@@ -422,7 +422,7 @@ impl Job {
                 }
                 next
             }
-            Phase::Waiting if queue == Some(self.queue) => 0,
+            Phase::Waiting if queue == self.queue => 0,
             _ => return Next::Nothing,
         };
         match self.hand(printer, place) {

@@ -4,12 +4,11 @@
 #![tactic(auto)]
 
 mod answers;
-mod config;
 mod handed;
 mod job;
 mod spool;
 
 pub use answers::{AbortRefused, Asked, Foreign, JobNumber, Next, Printed, PutRefused, Receipt};
-pub use config::{Config, Queue};
+pub use config_values::{Config, Queue};
 pub use handed::HandedPage;
 pub use spool::Core;

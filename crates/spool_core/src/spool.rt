@@ -1,14 +1,13 @@
 //! The core: jobs come in page by page, and leave page by page.
 
 ghost use Rattle.std.specs.Prelude.{◌≡◌, ◌+◌, ◌-◌, ◌<◌, ◌≤◌, ◌^◌, [], IfOk, IfErr, OnOk, OnErr, MatchResult};
-ghost use Rattle.spool_core.specs.Config.{IsConfig};
 ghost use Rattle.spool_core.specs.Job.{HoldsAll, IsHeld, IsIdle, held_by, lent_in, out_in, IsSamePool};
 ghost use Rattle.spool_core.specs.Spool.{Ledger, AddsUp, IsAsked, IsNext, IsPrinted};
 
 use crate::answers::{AbortRefused, Asked, Foreign, JobNumber, Next, Printed, PutRefused, Receipt};
-use crate::config::Config;
 use crate::handed::HandedPage;
 use crate::job::{Job, Phase};
+use config_values::Config;
 use control_file::Control;
 use lpd_commands::{FileName, Refusal};
 use page_pool::{FilledPage, PageTicket, Pool, PoolError};
@@ -82,10 +81,9 @@ fn receive(job: &mut Job, pool: &mut Pool) -> Receipt
 impl Core {
     /// A spool in which nothing has happened.
     pub fn new(alloc: Global, config: Config) -> Result<Core, AllocError>
-        requires { IsConfig config }
         ensures { IfOk result (λ c. c ≡ record { pages = config.pages; page_size = config.page_size; free = config.pages; stored = 0; lent = 0; out = 0 }) }
     {
-        match Pool::new(alloc, config.pages as usize, config.page_size as usize) {
+        match Pool::new(alloc, config.pages() as usize, config.page_size() as usize) {
             Ok(pool) => Ok(Core {
                 config,
                 alloc,
@@ -108,7 +106,7 @@ impl Core {
 
     /// How many printers there are.
     pub fn printers(&self) -> u32 {
-        self.config.printers()
+        self.config.printer_count()
     }
 
     /// Whether jobs may be sent to a queue.
@@ -129,7 +127,7 @@ impl Core {
     pub fn open(&mut self, queue: &[u8]) -> Result<JobNumber, Refusal>
         ensures { self.new ≡ self.old }
     {
-        let Some(at) = self.config.queue_named(queue) else {
+        let Some(queue) = self.config.queue_named(queue) else {
             return Err(Refusal::UnknownQueue);
         };
         match &self.job {
@@ -140,8 +138,8 @@ impl Core {
             return Err(Refusal::TableFull);
         }
         let number = JobNumber(self.accepted + 1);
-        let limit = self.config.queues[at].limit as usize;
-        let Ok(job) = Job::new(self.alloc, number, at, limit) else {
+        let limit = self.config.limit_of(queue) as usize;
+        let Ok(job) = Job::new(self.alloc, number, queue, limit) else {
             return Err(Refusal::Memory);
         };
         match self.job.replace(job) {

@@ -13,7 +13,7 @@ invariant_of-self-then-not-is_last c =
     let back = c.came_back.ensures in
     let held : IsHeld c.put_back.new.self c.came_back.new.self =
     came_back pool c.put_back.new.self c.in-Some.held c.came_back.new.self spool.holds out.0 out.1 (ap vec_len back.pages) back.none.0 back.none.1 back.job c.put_back.ensures in
-    record { in_range = spool.in_range; pages = cc (spool.pages, c.put_back.ensures); page_size = cc (spool.page_size, c.put_back.ensures); holds = held }
+    record { pages = cc (spool.pages, c.put_back.ensures); page_size = cc (spool.page_size, c.put_back.ensures); holds = held }
 
 pub end_job-requires-clause-holds : goal.end_job-requires-clause-holds
 end_job-requires-clause-holds c =
