@@ -1,15 +1,13 @@
 -- Jobs of one sender and queue leave one after the other.
-use Rattle.std.proofs.Common.{inl, inr, ◌≡◌, ◌==◌, ℕ, ◌+◌, ◌<◌, Bool, true, false, List, [], ◌∷◌, ◌++◌, length, map, refl, sym, ◌∙◌, ap, subst, arith}
+use Rattle.std.proofs.Common.{inl, inr, ◌≡◌, ◌==◌, ℕ, ◌+◌, ◌<◌, Bool, true, false, List, [], ◌∷◌, length, map, refl, sym, ◌∙◌, ap, arith}
 use Rattle.std.specs.Prelude.{◌&&◌, filter, nat_lt, Some}
 use Rattle.std.specs.List.{list_any}
 use Rattle.std.proofs.lemmas.Bool.Decides.{nat_tests}
-use Rattle.std.proofs.lemmas.List.{append-nil}
-use Rattle.spool_history.specs.Events.{Act, Event, Sheet, Turn}
-use Rattle.spool_history.specs.Events.Act.{Granted, Began, Put, FileEnded, Controlled, Aborted}
+use Rattle.spool_history.specs.Events.{Event, Sheet, Turn}
 use Rattle.spool_history.specs.Events.Turn.{Handed, Printed, Failed}
 use Rattle.spool_history.specs.Events.Event.{Opened, OfJob, AtPrinter, Removed, Started, Closed}
 use Rattle.config_values.specs.Config.{IsPrinter, Config}
-use Rattle.spool_history.specs.Said.{Opening, openings, opening_by, is_handed}
+use Rattle.spool_history.specs.Said.{Opening, openings, is_handed}
 use Rattle.spool_history.specs.Now.{Job, Printer, now, job_of, is_held}
 use Rattle.spool_history.specs.Next.{is_preceded_by, next_page}
 use Rattle.spool_history.specs.Next.Next.{Hands}
@@ -62,12 +60,7 @@ now_gone {C} c h p sheet f b is e o k behind' same =
       | inr first ↦ gone_by h g.job o k (known c h g.job g.turn.there) f n behind' first.first
     ]
 
--- an event after which it stays so
-behind_act : {C : Type 0} (h : List (Event C)) (k : ℕ) (act : Act C) → opening_by k act ≡ [] → ((o : Opening) → is_held (job_of h o) ≡ false → is_held (job_of (OfJob k act ∷ h) o) ≡ false) → Behind h → Behind (OfJob k act ∷ h)
-behind_act {C} h k act none st b o i is pos =
-    let os : openings h ++ opening_by k act ≡ openings h = ap (λ (l : List Opening). openings h ++ l) none ∙ append-nil (openings h) in
-    st o (b o i (subst (λ (l : List Opening). Has o l) os is.0, subst (λ (l : List Opening). Has i l) os is.1, is.2, is.3, is.4) pos)
-
+-- after a job is accepted
 behind_opened : {C : Type 0} (h : List (Event C)) (j s q : ℕ) → Facts h → j ≡ length (openings h) + 1 → ((o : Opening) → is_held (job_of h o) ≡ false → is_held (job_of (Opened j s q ∷ h) o) ≡ false) → Behind h → Behind (Opened j s q ∷ h)
 behind_opened {C} h j s q f new st b o k is pos =
     let x : Opening = record { job = j; sender = s; queue = q } in
@@ -95,12 +88,7 @@ behind_back h p sheet turn not' st b o k is pos = st o (b o k is (let m = ap len
 
 behind_step : {C : Type 0} (size : C → ℕ) (c : Config) (h : List (Event C)) (e : Event C) → IsLegal size c h → May size (now c h) e → Behind h → Behind (e ∷ h)
 behind_step size c h (Opened k s q) l m b = behind_opened h k s q (facts size c h l) m.4 (steady size c h (Opened k s q) l m) b
-behind_step size c h (OfJob k Granted) l m b = behind_act h k Granted refl (steady size c h (OfJob k Granted) l m) b
-behind_step size c h (OfJob k (Began name count)) l m b = behind_act h k (Began name count) refl (steady size c h (OfJob k (Began name count)) l m) b
-behind_step size c h (OfJob k (Put file number page)) l m b = behind_act h k (Put file number page) refl (steady size c h (OfJob k (Put file number page)) l m) b
-behind_step size c h (OfJob k (FileEnded file whole)) l m b = behind_act h k (FileEnded file whole) refl (steady size c h (OfJob k (FileEnded file whole)) l m) b
-behind_step size c h (OfJob k (Controlled control whole)) l m b = behind_act h k (Controlled control whole) refl (steady size c h (OfJob k (Controlled control whole)) l m) b
-behind_step size c h (OfJob k Aborted) l m b = behind_act h k Aborted refl (steady size c h (OfJob k Aborted) l m) b
+behind_step size c h (OfJob j act) l m b = λ o k is pos. steady size c h (OfJob j act) l m o (b o k is pos)
 behind_step size c h (AtPrinter p sheet Handed) l m b = behind_handed c h p sheet (facts size c h l) m.0 m.1 (steady size c h (AtPrinter p sheet Handed) l m) b
 behind_step size c h (AtPrinter p sheet (Printed x)) l m b = behind_back h p sheet (Printed x) refl (steady size c h (AtPrinter p sheet (Printed x)) l m) b
 behind_step size c h (AtPrinter p sheet Failed) l m b = behind_back h p sheet Failed refl (steady size c h (AtPrinter p sheet Failed) l m) b
@@ -118,6 +106,7 @@ gone_before size c h p sheet l m o k has also same lt s q =
 
 pub each_in_order : {C : Type 0} (size : C → ℕ) (c : Config) (h : List (Event C)) → IsLegal size c h → EachHanded EarlierAreGone h
 each_in_order size c [] l = tt
+each_in_order size c (Opened k s q ∷ h) l = each_in_order size c h l.1
 each_in_order size c (OfJob k act ∷ h) l = each_in_order size c h l.1
 each_in_order size c (AtPrinter p sheet Handed ∷ h) l = (gone_before size c h p sheet l.1 l.0, each_in_order size c h l.1)
 each_in_order size c (AtPrinter p sheet (Printed x) ∷ h) l = each_in_order size c h l.1

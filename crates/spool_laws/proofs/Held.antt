@@ -79,12 +79,12 @@ keeps_act {C} h k act f new j = elim (test k j) [
 ]
 
 keeps_step : {C : Type 0} (size : C → ℕ) (c : Config) (h : List (Event C)) (e : Event C) → May size (now c h) e → ((j : ℕ) → Keeps (acts_of h j)) → (j : ℕ) → Keeps (acts_of (e ∷ h) j)
-keeps_step size c h (Opened k s q) m f = keeps_act h k (Opened s q) f (let i = f k in record { lent = i.lent; count = i.count; prints = i.prints })
-keeps_step size c h (OfJob k Granted) m f = keeps_act h k Granted f (keeps_granted (acts_of h k) (f k) (has_at c h k _ m.0).is.1)
+keeps_step size c h (Opened k s q) m f = f
+keeps_step size c h (OfJob k Granted) m f = keeps_act h k Granted f (keeps_granted (acts_of h k) (f k) (has_at c h k _ m.0).is.0.1)
 keeps_step size c h (OfJob k (Began name count)) m f = keeps_act h k (Began name count) f (keeps_began (acts_of h k) name count (f k))
-keeps_step size c h (OfJob k (Put file number page)) m f = keeps_act h k (Put file number page) f (keeps_put (acts_of h k) file number page (f k) (has_at c h k _ m).is.1)
-keeps_step size c h (OfJob k (FileEnded file whole)) m f = keeps_act h k (FileEnded file whole) f (keeps_ended (acts_of h k) file whole (f k) (has_at c h k _ m).is.1)
-keeps_step size c h (OfJob k (Controlled control whole)) m f = keeps_act h k (Controlled control whole) f (keeps_controlled (acts_of h k) control whole (f k) m.0.prints)
+keeps_step size c h (OfJob k (Put file number page)) m f = keeps_act h k (Put file number page) f (keeps_put (acts_of h k) file number page (f k) (has_at c h k _ m.0).is.1)
+keeps_step size c h (OfJob k (FileEnded file whole)) m f = keeps_act h k (FileEnded file whole) f (keeps_ended (acts_of h k) file whole (f k) (has_at c h k _ m.0).is.1)
+keeps_step size c h (OfJob k (Controlled control whole)) m f = keeps_act h k (Controlled control whole) f (keeps_controlled (acts_of h k) control whole (f k) m.1.prints)
 keeps_step size c h (OfJob k Aborted) m f = keeps_act h k Aborted f (keeps_aborted (acts_of h k) (f k))
 keeps_step size c h (AtPrinter p sheet turn) m f = f
 keeps_step size c h (Removed q jobs) m f = f

@@ -136,7 +136,7 @@ known_at {C} h x j P k e p =
       is = subst (λ (q : Opening). P (job_of h q)) (sym o) (subst P k.is p);
     }
 
-pub has_at : {C : Type 0} (c : Config) (h : List (Event C)) (j : ℕ) (P : Job C → Type 0) → HasJob (now c h) j P → At h j P
+pub has_at : {C : Type 0} (c : Config) (h : List (Event C)) (j : ℕ) (P : Job C → Type 0) → HasJob (now c h).jobs j P → At h j P
 has_at c h j P m = known_at h m.job j P (known c h m.job (has_contained m.job (now c h).jobs m.there)) m.number m.is
 
 -- an accepted job that is held is among the held ones
