@@ -3,6 +3,7 @@ use Rattle.std.proofs.Common.{inl, inr, ◌≡◌, ◌≢◌, ℕ, suc, ◌+◌,
 use Rattle.std.specs.Prelude.{not, cond, sum_by, Option, Some, is_some}
 use Rattle.std.proofs.lemmas.List.{length_push}
 use Rattle.std.proofs.lemmas.List.Sums.{sum_by-cons, sum_by_push}
+use Rattle.std.proofs.lemmas.Bool.{or_parts}
 use Rattle.spool_history.specs.Events.{Act, Event, Sheet, Turn}
 use Rattle.spool_history.specs.Events.Act.{Granted, Began, Put, FileEnded, Controlled, Aborted}
 use Rattle.spool_history.specs.Events.Turn.{Handed, Printed, Failed}
@@ -13,7 +14,7 @@ use Rattle.spool_history.specs.Said.{Opening, openings, acts_of, is_handed, back
 use Rattle.spool_history.specs.Now.{Job, Printer, now, job_of, is_held, is_received, has_page_out, pages_held, free_pages, printer_of, up_to}
 use Rattle.spool_history.specs.Legal.{IsLegal, May}
 use Rattle.spool_laws.specs.Sums.{chained_of, chained, lent, at_printers}
-use Rattle.spool_laws.proofs.Known.{Has, has_at, has_last, known, test, clash, or_false}
+use Rattle.spool_laws.proofs.Known.{Has, has_at, has_last, known, test, clash}
 use Rattle.spool_laws.proofs.Facts.{Facts, facts, Turn', turn_of_page, handed_now, handed_number, handed_at, handed_same, is_out, count_one, count_more, back_same, back_more, back_one, out_here, out_there}
 use Rattle.spool_laws.proofs.Counts.{with_page, last_push}
 use Rattle.spool_laws.proofs.Held.{pages_in, pages_push, pages_ended}
@@ -34,7 +35,7 @@ abbrev FilledAt : {C : Type 0} → List (Event C) → ℕ → Type 0
 FilledAt h j = has_ended h j ≡ false → Filled (acts_of h j)
 
 ended_before : {C : Type 0} (h : List (Event C)) (e : Event C) (j : ℕ) → has_ended (e ∷ h) j ≡ false → has_ended h j ≡ false
-ended_before h e j goes_on = (or_false (ends j e) (has_ended h j) goes_on).1
+ended_before h e j goes_on = (or_parts (ends j e) (has_ended h j) goes_on).1
 
 filled_act : {C : Type 0} (h : List (Event C)) (k : ℕ) (act : Act C) → (has_ended (OfJob k act ∷ h) k ≡ false → Filled (acts_of h k) → Filled (act ∷ acts_of h k)) → ((j : ℕ) → FilledAt h j) → (j : ℕ) → FilledAt (OfJob k act ∷ h) j
 filled_act {C} h k act more f j goes_on =
@@ -125,7 +126,7 @@ out_if_held : {C : Type 0} (v : Job C) (b : Bool) → is_held v ≡ b → cond (
 out_if_held v true e = rw e refl
 out_if_held v false e = elim (test v.handed v.back) [
   | inl s ↦ (let same : v.handed ≡ v.back = s.0 in rw e (omega arith))
-  | inr s ↦ absurd (clash false (sym (or_false v.lent true (rw s.1 at (or_false (not v.ended) (has_page_out v) e).1)).1) refl)
+  | inr s ↦ absurd (clash false (sym (or_parts v.lent true (rw s.1 at (or_parts (not v.ended) (has_page_out v) e).1)).1) refl)
 ]
 
 outs_of_jobs : {C : Type 0} (size : C → ℕ) (c : Config) (h : List (Event C)) → IsLegal size c h → sum_by (λ (v : Job C). v.handed - v.back) (now c h).jobs ≡ sum_by (outs h) (up_to (length (openings h)))

@@ -3,6 +3,7 @@ use Rattle.std.proofs.Common.{inl, inr, ◌≡◌, ◌==◌, ℕ, ◌+◌, ◌<�
 use Rattle.std.specs.Prelude.{◌&&◌, filter, nat_lt, Some}
 use Rattle.std.specs.List.{list_any}
 use Rattle.std.proofs.lemmas.Bool.Decides.{nat_tests}
+use Rattle.std.proofs.lemmas.Bool.{and_from}
 use Rattle.spool_history.specs.Events.{Event, Sheet, Turn}
 use Rattle.spool_history.specs.Events.Turn.{Handed, Printed, Failed}
 use Rattle.spool_history.specs.Events.Event.{Opened, OfJob, AtPrinter, Removed, Started, Closed}
@@ -13,7 +14,7 @@ use Rattle.spool_history.specs.Next.{is_preceded_by, next_page}
 use Rattle.spool_history.specs.Next.Next.{Hands}
 use Rattle.spool_history.specs.Legal.{IsLegal, May}
 use Rattle.spool_laws.specs.Leaving.{EachHanded, EarlierAreGone}
-use Rattle.spool_laws.proofs.Known.{Has, has_contained, has_last, has_kept, none_of, both_true, clash, test, Known, known}
+use Rattle.spool_laws.proofs.Known.{Has, has_contained, has_last, has_kept, none_of, clash, test, Known, known}
 use Rattle.spool_laws.proofs.Printers.{at_printer}
 use Rattle.spool_laws.proofs.Turns.{given}
 use Rattle.spool_laws.proofs.Facts.{Facts, facts, handed_at, handed_more, handed_same}
@@ -37,7 +38,7 @@ gone_first h os x o has none s q lt = bool_cases (is_held (job_of h o)) (λ held
     let a : (o.sender == x.sender) ≡ true = grind (arith, nat_tests) in
     let b : (o.queue == x.queue) ≡ true = grind (arith, nat_tests) in
     let d : nat_lt o.job x.number ≡ true = grind (arith, nat_tests) in
-    clash ((o.sender == x.sender) && ((o.queue == x.queue) && nat_lt o.job x.number)) (both_true (o.sender == x.sender) ((o.queue == x.queue) && nat_lt o.job x.number) a (both_true (o.queue == x.queue) (nat_lt o.job x.number) b d)) f)
+    clash ((o.sender == x.sender) && ((o.queue == x.queue) && nat_lt o.job x.number)) (and_from (o.sender == x.sender) ((o.queue == x.queue) && nat_lt o.job x.number) a (and_from (o.queue == x.queue) (nat_lt o.job x.number) b d)) f)
 
 gone_by : {C : Type 0} (h : List (Event C)) (x : Job C) (o k : Opening) (a : Known h (openings h) x) → Facts h → x.number ≡ k.job → IsBehind h o k → list_any (is_preceded_by x) (filter is_held (map (job_of h) (openings h))) ≡ false → is_held (job_of h o) ≡ false
 gone_by {C} h x o k a f n b none =

@@ -2,6 +2,7 @@
 use Rattle.std.proofs.Common.{◌⊎◌, inl, inr, ◌≡◌, ◌==◌, ◌≢◌, ℕ, ◌+◌, ◌<◌, Bool, true, false, List, [], ◌∷◌, length, map, refl, sym, ◌∙◌, ap, subst, arith}
 use Rattle.std.specs.Prelude.{◌&&◌, ◌||◌, not, filter, find, Option, Some, None, is_some}
 use Rattle.std.proofs.lemmas.Bool.Decides.{nat_tests}
+use Rattle.std.proofs.lemmas.Bool.{and_parts}
 use Rattle.spool_history.specs.Events.{Event, Sheet, Turn}
 use Rattle.spool_history.specs.Events.Turn.{Handed, Printed, Failed}
 use Rattle.spool_history.specs.Events.Event.{Opened, OfJob, AtPrinter, Removed, Started, Closed}
@@ -13,7 +14,7 @@ use Rattle.spool_history.specs.Next.{next_page, next_at, with_out, hand_of, hand
 use Rattle.spool_history.specs.Next.Next.{Hands}
 use Rattle.spool_history.specs.Acts.{Page}
 use Rattle.spool_history.specs.Legal.{IsLegal, May}
-use Rattle.spool_laws.proofs.Known.{Has, find_has, has_last, has_kept, known, test, clash, and_true, and_false, filter_cons}
+use Rattle.spool_laws.proofs.Known.{Has, find_has, has_last, has_kept, known, test, clash, and_false, filter_cons}
 use Rattle.spool_laws.proofs.Printers.{at_printer}
 use Rattle.spool_laws.proofs.Turns.{given, open_by, runs_by, idle_by}
 use Rattle.spool_laws.proofs.Facts.{Facts, facts, began_same, turn_of_page, handed_at, received_at, handed_more, handed_same}
@@ -83,7 +84,7 @@ ended_by {C} jobs q j x sheet None e h ne has n =
     let a : (x.number == j) ≡ true = grind (arith, nat_tests) in
     ended_of (x.number == j) x.ended a none
 ended_by {C} jobs q j x sheet (Some v) e h ne has n =
-    let a = (and_true (v.number == j) (not v.ended) (find_has (λ (v : Job C). (v.number == j) && not v.ended) v jobs e).1).0 in
+    let a = (and_parts (v.number == j) (not v.ended) (find_has (λ (v : Job C). (v.number == j) && not v.ended) v jobs e).1).0 in
     let m : v.number ≡ j = grind (arith, nat_tests) in
     absurd (ne (sym (first_is v.number v.handed _ sheet h) ∙ m))
 

@@ -13,7 +13,7 @@ use Rattle.spool_history.specs.Said.{Opening, openings, acts_of, is_handed, hand
 use Rattle.spool_history.specs.Now.{Job, Printer, now, job_of, is_received}
 use Rattle.spool_history.specs.Next.{printer_at}
 use Rattle.spool_history.specs.Legal.{HasJob, May, IsLegal}
-use Rattle.spool_laws.proofs.Known.{Has, At, has_at, held_at, has_last, test, clash, or_false, and_false}
+use Rattle.spool_laws.proofs.Known.{Has, At, has_at, held_at, has_last, test, clash, and_false}
 use Rattle.spool_laws.proofs.Printers.{at_printer}
 use Rattle.spool_laws.proofs.Turns.{given, given_at, Gets, Begins}
 

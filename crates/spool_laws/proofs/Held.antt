@@ -7,6 +7,7 @@ use Rattle.std.proofs.lemmas.Slice.Eq.{bytes_eq-Decides}
 use Rattle.control_file.specs.Text.{Contents}
 use Rattle.control_file.specs.Kept.{is_among, is_print_list, all_differ}
 use Rattle.lpd_commands.specs.Name.{is_data_name}
+use Rattle.std.proofs.lemmas.Bool.{and_parts, not-true}
 use Rattle.spool_history.specs.Events.{Act, Event}
 use Rattle.spool_history.specs.Events.Act.{Granted, Began, Put, FileEnded, Controlled, Aborted}
 use Rattle.spool_history.specs.Events.Event.{Opened, OfJob, AtPrinter, Removed, Started, Closed}
@@ -16,7 +17,7 @@ use Rattle.spool_history.specs.Said.{acts_of}
 use Rattle.spool_history.specs.Now.{now}
 use Rattle.spool_history.specs.Legal.{IsLegal, May}
 use Rattle.spool_laws.specs.Leaving.{places_of}
-use Rattle.spool_laws.proofs.Known.{has_at, test, clash, and_true, not_true, or_true}
+use Rattle.spool_laws.proofs.Known.{has_at, test, clash, or_true}
 
 -- how many pages files have
 abbrev pub pages_in : {C : Type 0} → List (File C) → ℕ
@@ -52,7 +53,7 @@ less_lent true n m le = omega arith
 less_lent false n m le = omega arith
 
 differ : (names : List (List ℕ)) → is_print_list names ≡ true → all_differ names ≡ true
-differ names e = (and_true ((nat_le 1 (length names) && nat_le (length names) 52) && list_all is_data_name names) (all_differ names) e).1
+differ names e = (and_parts ((nat_le 1 (length names) && nat_le (length names) 52) && list_all is_data_name names) (all_differ names) e).1
 
 keeps_granted : {C : Type 0} (acts : List (Act C)) → Keeps acts → is_open_in (files_by acts) ≡ true → Keeps (Granted ∷ acts)
 keeps_granted acts k open' = record { lent = λ e. open'; count = (let n = less_lent (is_lent_by acts) (pages_in (files_by acts)) (granted_by acts) k.count in omega arith); prints = k.prints }
@@ -138,9 +139,9 @@ tally_name name names n (f ∷ fs) none =
 places_tally : {C : Type 0} (names : List (List ℕ)) (fs : List (File C)) → all_differ names ≡ true → length (flat_map (λ name. pages_named name 0 fs) names) ≤ tally names fs
 places_tally [] fs d = omega arith
 places_tally (name ∷ names) fs d =
-    let a = and_true (not (is_among name names)) (all_differ names) d in
+    let a = and_parts (not (is_among name names)) (all_differ names) d in
     let ih = places_tally names fs a.1 in
-    let s = tally_name name names 0 fs (not_true (is_among name names) a.0) in
+    let s = tally_name name names 0 fs (not-true (is_among name names) a.0) in
     let e = length-append (pages_named name 0 fs) (flat_map (λ name. pages_named name 0 fs) names) in
     omega arith
 

@@ -7,7 +7,6 @@ use Rattle.std.proofs.lemmas.List.Elements.{filter-append}
 use Rattle.std.proofs.lemmas.List.Sums.{sum_by_push}
 use Rattle.std.proofs.lemmas.Bool.Decides.{nat_tests}
 use Rattle.spool_history.specs.Events.{Event}
-use Rattle.spool_history.specs.Events.Act.{Granted, Began, Put, FileEnded, Controlled, Aborted}
 use Rattle.spool_history.specs.Events.Turn.{Handed, Printed, Failed}
 use Rattle.spool_history.specs.Events.Event.{Opened, OfJob, AtPrinter, Removed, Started, Closed}
 use Rattle.config_values.specs.Config.{Config, printer_count, reserve_of}
@@ -66,12 +65,7 @@ out_held h k e =
 
 pub stays : {C : Type 0} (size : C → ℕ) (c : Config) (h : List (Event C)) (e : Event C) → IsLegal size c h → May size (now c h) e → StaysGone h e
 stays size c h (Opened k s q) l m = λ o gone. gone
-stays size c h (OfJob k Granted) l m = stays_named h (OfJob k Granted) (acted Granted) k (λ v. refl) (has_at c h k _ m.0).held
-stays size c h (OfJob k (Began name count)) l m = stays_named h (OfJob k (Began name count)) (acted (Began name count)) k (λ v. refl) (has_at c h k _ m.0).held
-stays size c h (OfJob k (Put file number page)) l m = stays_named h (OfJob k (Put file number page)) (acted (Put file number page)) k (λ v. refl) (has_at c h k _ m.0).held
-stays size c h (OfJob k (FileEnded file whole)) l m = stays_named h (OfJob k (FileEnded file whole)) (acted (FileEnded file whole)) k (λ v. refl) (has_at c h k _ m.0).held
-stays size c h (OfJob k (Controlled control whole)) l m = stays_named h (OfJob k (Controlled control whole)) (acted (Controlled control whole)) k (λ v. refl) (has_at c h k _ m.0).held
-stays size c h (OfJob k Aborted) l m = stays_named h (OfJob k Aborted) (acted Aborted) k (λ v. refl) (has_at c h k _ m.0).held
+stays size c h (OfJob k act) l m = stays_named h (OfJob k act) (acted act) k (λ v. refl) (has_at c h k _ m.0).held
 stays size c h (AtPrinter p sheet Handed) l m =
     stays_named h (AtPrinter p sheet Handed) (turned Handed) sheet.job (λ v. refl) (turn_of_page c h p sheet m.0.0 m.0.1 m.1).at.held
 stays size c h (AtPrinter p sheet (Printed x)) l m =
@@ -132,12 +126,7 @@ moved_opened {C} c h j s q f open' is =
 
 pub moved : {C : Type 0} (size : C → ℕ) (c : Config) (h : List (Event C)) (e : Event C) → IsLegal size c h → May size (now c h) e → now c (e ∷ h) ≡ after e (now c h)
 moved size c h (Opened k s q) l m = moved_opened c h k s q (facts size c h l) m.0 m.4
-moved size c h (OfJob k Granted) l m = moved_by c h (OfJob k Granted) refl refl (stays size c h (OfJob k Granted) l m) refl refl
-moved size c h (OfJob k (Began name count)) l m = moved_by c h (OfJob k (Began name count)) refl refl (stays size c h (OfJob k (Began name count)) l m) refl refl
-moved size c h (OfJob k (Put file number page)) l m = moved_by c h (OfJob k (Put file number page)) refl refl (stays size c h (OfJob k (Put file number page)) l m) refl refl
-moved size c h (OfJob k (FileEnded file whole)) l m = moved_by c h (OfJob k (FileEnded file whole)) refl refl (stays size c h (OfJob k (FileEnded file whole)) l m) refl refl
-moved size c h (OfJob k (Controlled control whole)) l m = moved_by c h (OfJob k (Controlled control whole)) refl refl (stays size c h (OfJob k (Controlled control whole)) l m) refl refl
-moved size c h (OfJob k Aborted) l m = moved_by c h (OfJob k Aborted) refl refl (stays size c h (OfJob k Aborted) l m) refl refl
+moved size c h (OfJob k act) l m = moved_by c h (OfJob k act) refl refl (stays size c h (OfJob k act) l m) refl refl
 moved size c h (AtPrinter p sheet turn) l m = moved_by c h (AtPrinter p sheet turn) refl refl (stays size c h (AtPrinter p sheet turn) l m) (printers_turned c h p sheet turn m.0.0 m.0.1) refl
 moved size c h (Removed q jobs) l m = moved_by c h (Removed q jobs) refl refl (stays size c h (Removed q jobs) l m) refl refl
 moved size c h (Started q) l m = moved_by c h (Started q) refl refl (stays size c h (Started q) l m) (printers_started c h q) refl

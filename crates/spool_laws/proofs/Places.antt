@@ -14,9 +14,6 @@ use Rattle.spool_laws.specs.Leaving.{places_of, sheets}
 use Rattle.spool_laws.proofs.Known.{has_at, test}
 use Rattle.spool_laws.proofs.Facts.{facts, Turn', turn_of_page, handed_at, handed_one, handed_more, handed_same}
 
-sheet_of : {C : Type 0} → (job place : ℕ) → Page C → Sheet C
-sheet_of job place x = record { job = job; place = place; file = x.file; number = x.number; page = x.page }
-
 sheets_last : {C : Type 0} (j n : ℕ) (xs : List (Page C)) (x : Page C) → sheets j n (xs ++ x ∷ []) ≡ sheets j n xs ++ record { job = j; place = n + length xs; file = x.file; number = x.number; page = x.page } ∷ []
 sheets_last {C} j n [] x =
     let f : ℕ → List (Sheet C) = λ m. record { job = j; place = m; file = x.file; number = x.number; page = x.page } ∷ [] in

@@ -4,7 +4,6 @@ use Rattle.std.specs.Prelude.{sum_by}
 use Rattle.std.specs.List.{list_any, AllByRecursion}
 use Rattle.std.proofs.lemmas.List.Sums.{sum_by_push}
 use Rattle.spool_history.specs.Events.{Act, Event, Sheet, Turn}
-use Rattle.spool_history.specs.Events.Act.{Granted, Began, Put, FileEnded, Controlled, Aborted}
 use Rattle.spool_history.specs.Events.Turn.{Handed, Printed, Failed}
 use Rattle.spool_history.specs.Events.Event.{Opened, OfJob, AtPrinter, Removed, Started, Closed}
 use Rattle.config_values.specs.Config.{Config, printer_count, queue_of, reserve_of}
@@ -199,12 +198,7 @@ no_events C = []
 
 told_step : {C : Type 0} (size : C → ℕ) (c : Config) (h : List (Event C)) (e : Event C) → IsLegal size c h → May size (now c h) e → Told' c h → Told' c (e ∷ h)
 told_step size c h (Opened k s q) l m t = opened_told c h k s q t
-told_step size c h (OfJob k Granted) l m t = act_told c h k Granted _ (has_at c h k _ m.0) t
-told_step size c h (OfJob k (Began name count)) l m t = act_told c h k (Began name count) _ (has_at c h k _ m.0) t
-told_step size c h (OfJob k (Put file number page)) l m t = act_told c h k (Put file number page) _ (has_at c h k _ m.0) t
-told_step size c h (OfJob k (FileEnded file whole)) l m t = act_told c h k (FileEnded file whole) _ (has_at c h k _ m.0) t
-told_step size c h (OfJob k (Controlled control whole)) l m t = act_told c h k (Controlled control whole) _ (has_at c h k _ m.0) t
-told_step size c h (OfJob k Aborted) l m t = act_told c h k Aborted _ (has_at c h k _ m.0) t
+told_step size c h (OfJob k act) l m t = act_told c h k act _ (has_at c h k _ m.0) t
 told_step size c h (AtPrinter p sheet Handed) l m t =
     let a = (turn_of_page c h p sheet m.0.0 m.0.1 m.1).at in
     turn_told c h p sheet Handed (record { job = sheet.job; sender = a.sender; queue = a.queue }) a.there refl (more_handed h p sheet) (one_handed h p sheet sheet.job refl) t

@@ -8,6 +8,7 @@ use Rattle.counts.specs.Amounts.{amount}
 use Rattle.claims.specs.declared.row.Row.{Row}
 use Rattle.claims.specs.Safety.{freed, KeepsLine, same_line, HasFinishingOrder}
 use Rattle.claims.proofs.Orders.{MayGo, safe_more, safe_without, safe_first}
+use Rattle.std.proofs.lemmas.Bool.{and_parts}
 use Rattle.spool_history.specs.Events.{Event, Sheet}
 use Rattle.spool_history.specs.Events.Act.{Granted, Began, Put, FileEnded, Controlled, Aborted}
 use Rattle.spool_history.specs.Events.Turn.{Handed, Printed, Failed}
@@ -19,7 +20,7 @@ use Rattle.spool_history.specs.Steps.{change, new_job, accepted_by}
 use Rattle.spool_history.specs.Legal.{IsLegal, May}
 use Rattle.spool_laws.specs.Safety.{EachCouldFinish}
 use Rattle.spool_laws.specs.Leaving.{EarlierAreGone}
-use Rattle.spool_laws.proofs.Known.{Has, known, has_kept, test, clash, and_true, filter_cons}
+use Rattle.spool_laws.proofs.Known.{Has, known, has_kept, test, clash, filter_cons}
 use Rattle.spool_laws.proofs.Facts.{facts, turn_of_page}
 use Rattle.spool_laws.proofs.Moves.{moved}
 use Rattle.spool_laws.proofs.Behind.{each_in_order}
@@ -182,7 +183,7 @@ opened {C} size c h k s q each l m st =
 -- a page is handed to a printer: its job needs nothing more, and stands before all others of its sender and queue
 
 line_true : (u w : Row) → same_line w u ≡ true → (w.sender ≡ u.sender) × (w.queue ≡ u.queue)
-line_true u w e = (let a = and_true (w.sender == u.sender) (w.queue == u.queue) e in (let x = a.0 in grind (arith, nat_tests), let x = a.1 in grind (arith, nat_tests)))
+line_true u w e = (let a = and_parts (w.sender == u.sender) (w.queue == u.queue) e in (let x = a.0 in grind (arith, nat_tests), let x = a.1 in grind (arith, nat_tests)))
 
 nothing_more : {C : Type 0} (c : Config) (v : Job C) → pages_needed c v ≡ 0 → printers_needed v ≡ 0 → (k : ℕ) → amount (row_of c v).need k ≡ 0
 nothing_more c v p n k =

@@ -1,7 +1,7 @@
 -- Of a job that is done each place was handed.
-use Rattle.std.proofs.Common.{inl, inr, ◌≡◌, ◌≢◌, ℕ, Bool, true, false, List, [], ◌∷◌, length, take, refl, sym, ◌∙◌, ap, subst, arith}
-use Rattle.std.specs.Prelude.{◌||◌}
+use Rattle.std.proofs.Common.{inl, inr, ◌≡◌, ◌≢◌, ℕ, true, false, List, [], ◌∷◌, length, take, refl, sym, ◌∙◌, ap, subst, arith}
 use Rattle.std.proofs.Math.Seq.{take-length}
+use Rattle.std.proofs.lemmas.Bool.{or_right}
 use Rattle.spool_history.specs.Events.{Act, Event, Sheet, Turn}
 use Rattle.spool_history.specs.Events.Act.{Granted, Began, Put, FileEnded, Controlled, Aborted}
 use Rattle.spool_history.specs.Events.Progress.{Going, Done, Ended}
@@ -16,10 +16,6 @@ use Rattle.spool_laws.proofs.Known.{has_at, test, clash}
 use Rattle.spool_laws.proofs.Facts.{facts, is_out, Turn', turn_of_page, handed_at, handed_more, handed_same}
 use Rattle.spool_laws.proofs.Says.{says}
 use Rattle.spool_laws.proofs.Places.{placed}
-
-or_right : (a b : Bool) → b ≡ true → (a || b) ≡ true
-or_right true b e = refl
-or_right false b e = e
 
 pub still_ended : {C : Type 0} (h : List (Event C)) (e : Event C) (j : ℕ) → has_ended h j ≡ true → has_ended (e ∷ h) j ≡ true
 still_ended h e j is = or_right (ends j e) (has_ended h j) is
