@@ -1,2 +1,3 @@
 pub mod Picks
 pub mod Turns
+pub mod Comparisons

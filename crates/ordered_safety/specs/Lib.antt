@@ -1,4 +1,5 @@
 pub mod Changed
 pub mod Scan
+pub mod Compared
 pub mod Room
 pub use Rattle.claims.specs.Safety

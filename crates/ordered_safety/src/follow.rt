@@ -3,6 +3,7 @@ ghost use Rattle.counts.specs.Amounts.{amount};
 ghost use Rattle.claims.specs.Claims.{IsLower, Pairwise, HaveKinds};
 ghost use Rattle.claims.specs.Safety.{AreFinishing};
 ghost use Rattle.ordered_safety.specs.Scan.{HasTurn, StaysSmall};
+ghost use Rattle.ordered_safety.specs.Compared.{CheckTakes};
 
 use crate::rows::Rows;
 use crate::scan::{fill, is_head};
@@ -34,6 +35,7 @@ pub fn follow(rows: &Rows, left: &mut Vec<usize>, free: &mut Counts, numbers: &[
     requires rising { Pairwise IsLower rows.now }
     requires left { length rows.now ≤ vec_capacity left.old }
     ensures exact { IsTrue result.safe ↔ AreFinishing (amount free.old) rows.now numbers.now }
+    ensures tests { CheckTakes (amount free.old) rows.now numbers.now result.tests }
     ensures most { result.tests ≤ length rows.now }
     ensures each { IsTrue result.safe → result.tests ≡ length rows.now }
     ensures left { vec_capacity left.old ≤ vec_capacity left.new }

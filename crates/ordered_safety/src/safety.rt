@@ -3,6 +3,7 @@ ghost use Rattle.counts.specs.Amounts.{amount};
 ghost use Rattle.claims.specs.Claims.{row_at};
 ghost use Rattle.claims.specs.Changes.{granted, granted_row};
 ghost use Rattle.claims.specs.Safety.{IsSafe, FinishesBy};
+ghost use Rattle.ordered_safety.specs.Compared.{DecisionTakes, OrderTakes};
 
 use crate::follow::follow;
 use crate::order::Order;
@@ -20,6 +21,7 @@ pub fn is_safe(scratch: &mut Scratch, table: &Table) -> Verdict
     requires rows { length table.now.rows ≤ scratch.old.rows }
     requires kinds { length table.now.capacity ≡ scratch.old.kinds }
     ensures exact { IsTrue result.safe ↔ IsSafe table.now }
+    ensures tests { DecisionTakes table.now result.tests }
     ensures most { 2 * result.tests ≤ length table.now.rows * (length table.now.rows + 1) }
     ensures each { IsTrue result.safe → length table.now.rows ≤ result.tests }
     ensures some { result.safe ≡ false → 0 < result.tests }
@@ -44,6 +46,7 @@ pub fn safe_after_page(scratch: &mut Scratch, table: &Table, row: usize) -> Verd
     requires free { 0 < amount table.now.free PAGES }
     requires needed { 0 < amount (row_at table.now.rows row).need PAGES }
     ensures exact { IsTrue result.safe ↔ IsSafe (granted table.now row PAGES) }
+    ensures tests { DecisionTakes (granted table.now row PAGES) result.tests }
     ensures most { 2 * result.tests ≤ length table.now.rows * (length table.now.rows + 1) }
     ensures each { IsTrue result.safe → length table.now.rows ≤ result.tests }
     ensures some { result.safe ≡ false → 0 < result.tests }
@@ -69,6 +72,7 @@ pub fn check_order(scratch: &mut Scratch, table: &Table, order: &Order) -> Verdi
     requires rows { length table.now.rows ≤ scratch.old.rows }
     requires kinds { length table.now.capacity ≡ scratch.old.kinds }
     ensures exact { IsTrue result.safe ↔ FinishesBy table.now order.now }
+    ensures tests { OrderTakes table.now order.now result.tests }
     ensures most { result.tests ≤ length table.now.rows }
     ensures each { IsTrue result.safe → result.tests ≡ length table.now.rows }
     ensures kept { scratch.new ≡ scratch.old }
@@ -93,6 +97,7 @@ pub fn find_order(
     requires rows { length table.now.rows ≤ scratch.old.rows }
     requires kinds { length table.now.capacity ≡ scratch.old.kinds }
     ensures exact { IfOk result (λ found. MatchOption found.0 (IsSafe table.now → ⊥) (FinishesBy table.now)) }
+    ensures tests { IfOk result (λ found. DecisionTakes table.now found.1) }
     ensures most { IfOk result (λ found. 2 * found.1 ≤ length table.now.rows * (length table.now.rows + 1)) }
     ensures each { IfOk result (λ found. IfSome found.0 (λ _. length table.now.rows ≤ found.1)) }
     ensures some { IfOk result (λ found. IfNone found.0 (0 < found.1)) }

@@ -3,6 +3,7 @@ ghost use Rattle.counts.specs.Amounts.{amount};
 ghost use Rattle.claims.specs.Claims.{IsLower, Pairwise, HaveKinds};
 ghost use Rattle.claims.specs.Safety.{HasFinishingOrder, AreFinishing};
 ghost use Rattle.ordered_safety.specs.Scan.{IsHead, MayGoAt, StaysSmall, rows_at};
+ghost use Rattle.ordered_safety.specs.Compared.{ScanTakes, compared};
 
 use crate::rows::Rows;
 use crate::scratch::Verdict;
@@ -39,6 +40,9 @@ fn pick(rows: &Rows, left: &[usize], free: &Counts) -> Choice
     requires few { length left.now < 2 ^ 32 }
     ensures found { IfSome result.at (MayGoAt rows.now left.now free.now) }
     ensures none { IfNone result.at ((at : ℕ) → MayGoAt rows.now left.now free.now at → ⊥) }
+    ensures first { IfSome result.at (λ at. (k : ℕ) → k < at → MayGoAt rows.now left.now free.now k → ⊥) }
+    ensures tests { IfSome result.at (λ at. result.tests ≡ compared (rows_at rows.now left.now) (at + 1)) }
+    ensures all { IfNone result.at (result.tests ≡ compared (rows_at rows.now left.now) (length left.now)) }
     ensures most { result.tests ≤ length left.now }
     ensures least { 0 < length left.now → 0 < result.tests }
 {
@@ -69,6 +73,7 @@ pub fn scan(rows: &Rows, left: &mut Vec<usize>, free: &mut Counts, order: &mut V
     requires order { length rows.now ≤ vec_capacity order.old }
     ensures exact { IsTrue result.safe ↔ HasFinishingOrder (amount free.old) rows.now }
     ensures order { IsTrue result.safe → AreFinishing (amount free.old) rows.now order.new.items }
+    ensures tests { ScanTakes (amount free.old) rows.now result.tests }
     ensures most { 2 * result.tests ≤ length rows.now * (length rows.now + 1) }
     ensures each { IsTrue result.safe → length rows.now ≤ result.tests }
     ensures some { result.safe ≡ false → 0 < result.tests }
@@ -87,10 +92,7 @@ pub fn scan(rows: &Rows, left: &mut Vec<usize>, free: &mut Counts, order: &mut V
         };
         let row = rows.get(left.remove(at));
         free.add(&row.held);
-        match order.push(row.number) {
-            Ok(()) => {}
-            Err(_) => unreachable!(),
-        }
+        order.push(row.number).unwrap();
     }
     Verdict { safe: true, tests }
 }
@@ -104,9 +106,6 @@ pub fn fill(left: &mut Vec<usize>, rows: usize)
 {
     left.clear();
     for place in 0..rows {
-        match left.push(place) {
-            Ok(()) => {}
-            Err(_) => unreachable!(),
-        }
+        left.push(place).unwrap();
     }
 }

@@ -1,20 +1,20 @@
 -- Each page is in a chain, lent, at a printer or free.
-use Rattle.std.proofs.Common.{inl, inr, ◌≡◌, ◌==◌, ◌≢◌, ℕ, suc, ◌+◌, ◌-◌, ◌≤◌, ◌<◌, Bool, true, false, List, [], ◌∷◌, ◌++◌, length, map, refl, sym, ◌∙◌, ap, subst, arith}
+use Rattle.std.proofs.Common.{inl, inr, ◌≡◌, ◌≢◌, ℕ, suc, ◌+◌, ◌-◌, ◌≤◌, ◌<◌, Bool, true, false, List, [], ◌∷◌, ◌++◌, length, map, refl, sym, ◌∙◌, ap, subst, arith}
 use Rattle.std.specs.Prelude.{not, cond, sum_by, Option, Some, is_some}
-use Rattle.std.proofs.lemmas.List.{append-nil, length_push}
+use Rattle.std.proofs.lemmas.List.{length_push}
 use Rattle.std.proofs.lemmas.List.Sums.{sum_by-cons, sum_by_push}
-use Rattle.std.proofs.lemmas.Bool.Decides.{nat_tests}
+use Rattle.std.proofs.lemmas.Bool.{or_parts}
 use Rattle.spool_history.specs.Events.{Act, Event, Sheet, Turn}
 use Rattle.spool_history.specs.Events.Act.{Granted, Began, Put, FileEnded, Controlled, Aborted}
 use Rattle.spool_history.specs.Events.Turn.{Handed, Printed, Failed}
 use Rattle.spool_history.specs.Events.Event.{Opened, OfJob, AtPrinter, Removed, Started, Closed}
 use Rattle.config_values.specs.Config.{Config, printer_count}
 use Rattle.spool_history.specs.Acts.{File, at_last, granted_by, is_lent_by, files_by}
-use Rattle.spool_history.specs.Said.{Opening, openings, opening_by, acts_of, is_handed, back_of, has_ended, ends, out_at}
+use Rattle.spool_history.specs.Said.{Opening, openings, acts_of, is_handed, back_of, has_ended, ends, out_at}
 use Rattle.spool_history.specs.Now.{Job, Printer, now, job_of, is_held, is_received, has_page_out, pages_held, free_pages, printer_of, up_to}
 use Rattle.spool_history.specs.Legal.{IsLegal, May}
 use Rattle.spool_laws.specs.Sums.{chained_of, chained, lent, at_printers}
-use Rattle.spool_laws.proofs.Known.{Has, has_at, has_last, known, test, clash, or_false}
+use Rattle.spool_laws.proofs.Known.{Has, has_at, has_last, known, test, clash}
 use Rattle.spool_laws.proofs.Facts.{Facts, facts, Turn', turn_of_page, handed_now, handed_number, handed_at, handed_same, is_out, count_one, count_more, back_same, back_more, back_one, out_here, out_there}
 use Rattle.spool_laws.proofs.Counts.{with_page, last_push}
 use Rattle.spool_laws.proofs.Held.{pages_in, pages_push, pages_ended}
@@ -35,7 +35,7 @@ abbrev FilledAt : {C : Type 0} → List (Event C) → ℕ → Type 0
 FilledAt h j = has_ended h j ≡ false → Filled (acts_of h j)
 
 ended_before : {C : Type 0} (h : List (Event C)) (e : Event C) (j : ℕ) → has_ended (e ∷ h) j ≡ false → has_ended h j ≡ false
-ended_before h e j goes_on = (or_false (ends j e) (has_ended h j) goes_on).1
+ended_before h e j goes_on = (or_parts (ends j e) (has_ended h j) goes_on).1
 
 filled_act : {C : Type 0} (h : List (Event C)) (k : ℕ) (act : Act C) → (has_ended (OfJob k act ∷ h) k ≡ false → Filled (acts_of h k) → Filled (act ∷ acts_of h k)) → ((j : ℕ) → FilledAt h j) → (j : ℕ) → FilledAt (OfJob k act ∷ h) j
 filled_act {C} h k act more f j goes_on =
@@ -61,11 +61,11 @@ filled_put {C} a file number page before last e was f =
     omega arith
 
 filled_step : {C : Type 0} (size : C → ℕ) (c : Config) (h : List (Event C)) (e : Event C) → May size (now c h) e → ((j : ℕ) → FilledAt h j) → (j : ℕ) → FilledAt (e ∷ h) j
-filled_step size c h (Opened k s q) m f = filled_act h k (Opened s q) (λ g old. old) f
-filled_step size c h (OfJob k Granted) m f = filled_act h k Granted (λ g old. (let z : one_for (is_lent_by (acts_of h k)) ≡ 0 = rw (has_at c h k _ m.0).is.2 refl in omega arith)) f
+filled_step size c h (Opened k s q) m f = λ j g. f j (ended_before h (Opened k s q) j g)
+filled_step size c h (OfJob k Granted) m f = filled_act h k Granted (λ g old. (let z : one_for (is_lent_by (acts_of h k)) ≡ 0 = rw (has_at c h k _ m.0).is.0.2 refl in omega arith)) f
 filled_step size c h (OfJob k (Began name count)) m f = filled_act h k (Began name count) (λ g old. (let p = pages_push (files_by (acts_of h k)) name count in omega arith)) f
 filled_step size c h (OfJob k (Put file number page)) m f =
-    let a = (has_at c h k _ m).is in
+    let a = (has_at c h k _ m.0).is in
     let o = a.2 in
     filled_act h k (Put file number page) (λ g old. filled_put (acts_of h k) file number page o.0 o.1 o.2 a.1 old) f
 filled_step size c h (OfJob k (FileEnded file whole)) m f = filled_act h k (FileEnded file whole) (λ g old. (let p = pages_ended (files_by (acts_of h k)) in omega arith)) f
@@ -83,81 +83,36 @@ filled : {C : Type 0} (size : C → ℕ) (c : Config) (h : List (Event C)) → I
 filled size c [] l j = λ goes_on. refl
 filled size c (e ∷ h) l j = filled_step size c h e l.0 (filled size c h l.1) j
 
--- of a job at most one page is at a printer
-
-abbrev OneOut : {C : Type 0} → List (Event C) → ℕ → Type 0
-OneOut h j = handed_at h j ≤ back_of h j + 1
-
-one_out_handed : {C : Type 0} (h : List (Event C)) (p : ℕ) (sheet : Sheet C) → Facts h → Turn' h p sheet → ((j : ℕ) → OneOut h j) → (j : ℕ) → OneOut (AtPrinter p sheet Handed ∷ h) j
-one_out_handed {C} h p sheet f t o j =
-    let b = back_same h p sheet j in
-    elim (test sheet.job j) [
-      | inl s ↦
-          let n = count_one h p sheet j s.0 in
-          let here : handed_at h j ≡ back_of h j = subst (λ (i : ℕ). handed_at h i ≡ back_of h i) s.0 (handed_now h p sheet f t) in
-          omega arith
-      | inr s ↦ let n = count_more h p sheet j s.0 in let old = o j in omega arith
-    ]
-
-one_out_back : {C : Type 0} (h : List (Event C)) (p : ℕ) (sheet : Sheet C) (turn : Turn) → is_handed turn ≡ false → ((j : ℕ) → OneOut h j) → (j : ℕ) → OneOut (AtPrinter p sheet turn ∷ h) j
-one_out_back h p sheet turn is o j =
-    let n = ap length (handed_same h p sheet turn j is) in
-    let old = o j in
-    elim (test sheet.job j) [
-      | inl s ↦ let b = back_one h p sheet turn j is s.0 in omega arith
-      | inr s ↦ let b = back_more h p sheet turn j s.0 in omega arith
-    ]
-
-one_out : {C : Type 0} (size : C → ℕ) (c : Config) (h : List (Event C)) → IsLegal size c h → (j : ℕ) → OneOut h j
-one_out size c [] l = λ j. omega arith
-one_out size c (OfJob k act ∷ h) l = one_out size c h l.1
-one_out size c (AtPrinter p sheet Handed ∷ h) l = one_out_handed h p sheet (facts size c h l.1) (turn_of_page c h p sheet l.0.0.0 l.0.0.1 l.0.1) (one_out size c h l.1)
-one_out size c (AtPrinter p sheet (Printed x) ∷ h) l = one_out_back h p sheet (Printed x) refl (one_out size c h l.1)
-one_out size c (AtPrinter p sheet Failed ∷ h) l = one_out_back h p sheet Failed refl (one_out size c h l.1)
-one_out size c (Removed q jobs ∷ h) l = one_out size c h l.1
-one_out size c (Started q ∷ h) l = one_out size c h l.1
-one_out size c (Closed ∷ h) l = one_out size c h l.1
-
 -- what a held job holds
 
 record Apart {C : Type 0} (v : Job C) : Type 0 where
   pub sound : Sound v
   pub filled : v.ended ≡ false → pages_in v.files + one_for v.lent ≡ v.granted
-  pub one : v.handed ≤ v.back + 1
 
 pages_sum : {C : Type 0} (fs : List (File C)) → sum_by (λ (f : File C). length f.pages) fs ≡ pages_in fs
 pages_sum [] = refl
 pages_sum {C} (f ∷ fs) = let ih = pages_sum fs in let k = sum_by-cons (λ (g : File C). length g.pages) f fs in omega arith
 
-apart_by : {C : Type 0} (v : Job C) (e r l b : Bool) → v.ended ≡ e → is_received v ≡ r → v.lent ≡ l → (v.handed == v.back) ≡ b → is_held v ≡ true → Apart v → pages_held v ≡ chained_of v + (one_for v.lent + (v.handed - v.back))
-apart_by v true r true b ended received is_lent same held a =
-    let none = a.sound.begun (a.sound.lent is_lent) in
-    let back = a.sound.back in
-    rw (ended, is_lent) (omega arith)
-apart_by v true r false true ended received is_lent same held a = absurd (clash (is_held v) held (rw (ended, is_lent, same) refl))
-apart_by v true r false false ended received is_lent same held a =
-    let differ : v.handed ≢ v.back = grind (arith, nat_tests) in
-    let back = a.sound.back in
-    let one = a.one in
-    rw (ended, is_lent) (omega arith)
-apart_by v false true true b ended received is_lent same held a = absurd (clash (is_received v) received (a.sound.lent is_lent))
-apart_by v false true false b ended received is_lent same held a =
+apart_by : {C : Type 0} (v : Job C) (e r l : Bool) → v.ended ≡ e → is_received v ≡ r → v.lent ≡ l → Apart v → pages_held v ≡ chained_of v + (one_for v.lent + (v.handed - v.back))
+apart_by v true r l ended received is_lent a = rw ended (omega arith)
+apart_by v false true true ended received is_lent a = absurd (clash (is_received v) received (a.sound.lent is_lent))
+apart_by v false true false ended received is_lent a =
     let back = a.sound.back in
     let handed = a.sound.handed in
     rw (ended, received, is_lent) (omega arith)
-apart_by v false false l b ended received is_lent same held a =
+apart_by v false false l ended received is_lent a =
     let none = a.sound.begun received in
     let all = a.filled ended in
     let sum = pages_sum v.files in
     rw (ended, received) (omega arith)
 
 apart : {C : Type 0} (size : C → ℕ) (c : Config) (h : List (Event C)) → IsLegal size c h → (o : Opening) → Apart (job_of h o)
-apart size c h l o = record { sound = sound size c h l o; filled = filled size c h l o.job; one = one_out size c h l o.job }
+apart size c h l o = record { sound = sound size c h l o; filled = filled size c h l o.job }
 
 held_apart : {C : Type 0} (size : C → ℕ) (c : Config) (h : List (Event C)) → IsLegal size c h → (v : Job C) → Has v (now c h).jobs → pages_held v ≡ chained_of v + (one_for v.lent + (v.handed - v.back))
 held_apart {C} size c h l v has =
     let k = known c h v has in
-    apart_by v v.ended (is_received v) v.lent (v.handed == v.back) refl refl refl refl k.held (subst (λ (u : Job C). Apart u) (sym k.is) (apart size c h l k.opening))
+    apart_by v v.ended (is_received v) v.lent refl refl refl (subst (λ (u : Job C). Apart u) (sym k.is) (apart size c h l k.opening))
 
 -- the pages of all jobs that are at printers
 
@@ -171,7 +126,7 @@ out_if_held : {C : Type 0} (v : Job C) (b : Bool) → is_held v ≡ b → cond (
 out_if_held v true e = rw e refl
 out_if_held v false e = elim (test v.handed v.back) [
   | inl s ↦ (let same : v.handed ≡ v.back = s.0 in rw e (omega arith))
-  | inr s ↦ absurd (clash false (sym (or_false v.lent true (rw s.1 at (or_false (not v.ended) (has_page_out v) e).1)).1) refl)
+  | inr s ↦ absurd (clash false (sym (or_parts v.lent true (rw s.1 at (or_parts (not v.ended) (has_page_out v) e).1)).1) refl)
 ]
 
 outs_of_jobs : {C : Type 0} (size : C → ℕ) (c : Config) (h : List (Event C)) → IsLegal size c h → sum_by (λ (v : Job C). v.handed - v.back) (now c h).jobs ≡ sum_by (outs h) (up_to (length (openings h)))
@@ -189,9 +144,6 @@ Balanced c h = sum_by (outs h) (up_to (length (openings h))) ≡ sum_by (out_of 
 abbrev Positive : {C : Type 0} → List (Event C) → Type 0
 Positive h = (o : Opening) → Has o (openings h) → 1 ≤ o.job
 
-positive_act : {C : Type 0} (h : List (Event C)) (k : ℕ) (act : Act C) → opening_by k act ≡ [] → Positive h → Positive (OfJob k act ∷ h)
-positive_act h k act none p o has = p o (subst (λ (l : List Opening). Has o l) (ap (λ (l : List Opening). openings h ++ l) none ∙ append-nil (openings h)) has)
-
 -- the numbers of jobs are at least 1
 positive : {C : Type 0} (size : C → ℕ) (c : Config) (h : List (Event C)) → IsLegal size c h → Positive h
 positive size c [] l = λ o has. absurd has
@@ -199,21 +151,11 @@ positive size c (Opened k s q ∷ h) l = λ o has. elim (has_last o (openings h)
   | inl t ↦ positive size c h l.1 o t
   | inr e ↦ let j : k ≡ o.job = ap (λ (x : Opening). x.job) e in let n = l.0.4 in omega arith
 ]
-positive size c (OfJob k Granted ∷ h) l = positive_act h k Granted refl (positive size c h l.1)
-positive size c (OfJob k (Began name count) ∷ h) l = positive_act h k (Began name count) refl (positive size c h l.1)
-positive size c (OfJob k (Put file number page) ∷ h) l = positive_act h k (Put file number page) refl (positive size c h l.1)
-positive size c (OfJob k (FileEnded file whole) ∷ h) l = positive_act h k (FileEnded file whole) refl (positive size c h l.1)
-positive size c (OfJob k (Controlled control whole) ∷ h) l = positive_act h k (Controlled control whole) refl (positive size c h l.1)
-positive size c (OfJob k Aborted ∷ h) l = positive_act h k Aborted refl (positive size c h l.1)
+positive size c (OfJob k act ∷ h) l = positive size c h l.1
 positive size c (AtPrinter p sheet turn ∷ h) l = positive size c h l.1
 positive size c (Removed q jobs ∷ h) l = positive size c h l.1
 positive size c (Started q ∷ h) l = positive size c h l.1
 positive size c (Closed ∷ h) l = positive size c h l.1
-
-balanced_act : {C : Type 0} (c : Config) (h : List (Event C)) (k : ℕ) (act : Act C) → opening_by k act ≡ [] → Balanced c h → Balanced c (OfJob k act ∷ h)
-balanced_act {C} c h k act none b =
-    ap (λ (l : List Opening). sum_by (outs h) (up_to (length (openings h ++ l)))) none
-    ∙ (ap (λ (l : List Opening). sum_by (outs h) (up_to (length l))) (append-nil (openings h)) ∙ b)
 
 balanced_opened : {C : Type 0} (c : Config) (h : List (Event C)) (k s q : ℕ) → Facts h → Balanced c h → Balanced c (Opened k s q ∷ h)
 balanced_opened {C} c h k s q f b =
@@ -285,12 +227,7 @@ came_back size c h p sheet turn back l one le out b =
 balanced : {C : Type 0} (size : C → ℕ) (c : Config) (h : List (Event C)) → IsLegal size c h → Balanced c h
 balanced {C} size c [] l = sym (up_none (out_of (no_events C)) (printer_count c) (λ p. refl))
 balanced size c (Opened k s q ∷ h) l = balanced_opened c h k s q (facts size c h l.1) (balanced size c h l.1)
-balanced size c (OfJob k Granted ∷ h) l = balanced_act c h k Granted refl (balanced size c h l.1)
-balanced size c (OfJob k (Began name count) ∷ h) l = balanced_act c h k (Began name count) refl (balanced size c h l.1)
-balanced size c (OfJob k (Put file number page) ∷ h) l = balanced_act c h k (Put file number page) refl (balanced size c h l.1)
-balanced size c (OfJob k (FileEnded file whole) ∷ h) l = balanced_act c h k (FileEnded file whole) refl (balanced size c h l.1)
-balanced size c (OfJob k (Controlled control whole) ∷ h) l = balanced_act c h k (Controlled control whole) refl (balanced size c h l.1)
-balanced size c (OfJob k Aborted ∷ h) l = balanced_act c h k Aborted refl (balanced size c h l.1)
+balanced size c (OfJob k act ∷ h) l = balanced size c h l.1
 balanced size c (AtPrinter p sheet Handed ∷ h) l =
     balanced_handed c h p sheet (facts size c h l.1) (positive size c h l.1) l.0.0.0 l.0.0.1 (turn_of_page c h p sheet l.0.0.0 l.0.0.1 l.0.1) (balanced size c h l.1)
 balanced size c (AtPrinter p sheet (Printed x) ∷ h) l = came_back size c h p sheet (Printed x) refl l.1 l.0.0.0 l.0.0.1 (is_out c h p sheet l.0.0 l.0.1.0) (balanced size c h l.1)

@@ -1,21 +1,20 @@
 -- Jobs of one sender and queue leave one after the other.
-use Rattle.std.proofs.Common.{inl, inr, ◌≡◌, ◌==◌, ℕ, ◌+◌, ◌<◌, Bool, true, false, List, [], ◌∷◌, ◌++◌, length, map, refl, sym, ◌∙◌, ap, subst, arith}
+use Rattle.std.proofs.Common.{inl, inr, ◌≡◌, ◌==◌, ℕ, ◌+◌, ◌<◌, Bool, true, false, List, [], ◌∷◌, length, map, refl, sym, ◌∙◌, ap, arith}
 use Rattle.std.specs.Prelude.{◌&&◌, filter, nat_lt, Some}
 use Rattle.std.specs.List.{list_any}
 use Rattle.std.proofs.lemmas.Bool.Decides.{nat_tests}
-use Rattle.std.proofs.lemmas.List.{append-nil}
-use Rattle.spool_history.specs.Events.{Act, Event, Sheet, Turn}
-use Rattle.spool_history.specs.Events.Act.{Granted, Began, Put, FileEnded, Controlled, Aborted}
+use Rattle.std.proofs.lemmas.Bool.{and_from}
+use Rattle.spool_history.specs.Events.{Event, Sheet, Turn}
 use Rattle.spool_history.specs.Events.Turn.{Handed, Printed, Failed}
 use Rattle.spool_history.specs.Events.Event.{Opened, OfJob, AtPrinter, Removed, Started, Closed}
 use Rattle.config_values.specs.Config.{IsPrinter, Config}
-use Rattle.spool_history.specs.Said.{Opening, openings, opening_by, is_handed}
+use Rattle.spool_history.specs.Said.{Opening, openings, is_handed}
 use Rattle.spool_history.specs.Now.{Job, Printer, now, job_of, is_held}
 use Rattle.spool_history.specs.Next.{is_preceded_by, next_page}
 use Rattle.spool_history.specs.Next.Next.{Hands}
 use Rattle.spool_history.specs.Legal.{IsLegal, May}
 use Rattle.spool_laws.specs.Leaving.{EachHanded, EarlierAreGone}
-use Rattle.spool_laws.proofs.Known.{Has, has_contained, has_last, has_kept, none_of, both_true, clash, test, Known, known}
+use Rattle.spool_laws.proofs.Known.{Has, has_contained, has_last, has_kept, none_of, clash, test, Known, known}
 use Rattle.spool_laws.proofs.Printers.{at_printer}
 use Rattle.spool_laws.proofs.Turns.{given}
 use Rattle.spool_laws.proofs.Facts.{Facts, facts, handed_at, handed_more, handed_same}
@@ -39,7 +38,7 @@ gone_first h os x o has none s q lt = bool_cases (is_held (job_of h o)) (λ held
     let a : (o.sender == x.sender) ≡ true = grind (arith, nat_tests) in
     let b : (o.queue == x.queue) ≡ true = grind (arith, nat_tests) in
     let d : nat_lt o.job x.number ≡ true = grind (arith, nat_tests) in
-    clash ((o.sender == x.sender) && ((o.queue == x.queue) && nat_lt o.job x.number)) (both_true (o.sender == x.sender) ((o.queue == x.queue) && nat_lt o.job x.number) a (both_true (o.queue == x.queue) (nat_lt o.job x.number) b d)) f)
+    clash ((o.sender == x.sender) && ((o.queue == x.queue) && nat_lt o.job x.number)) (and_from (o.sender == x.sender) ((o.queue == x.queue) && nat_lt o.job x.number) a (and_from (o.queue == x.queue) (nat_lt o.job x.number) b d)) f)
 
 gone_by : {C : Type 0} (h : List (Event C)) (x : Job C) (o k : Opening) (a : Known h (openings h) x) → Facts h → x.number ≡ k.job → IsBehind h o k → list_any (is_preceded_by x) (filter is_held (map (job_of h) (openings h))) ≡ false → is_held (job_of h o) ≡ false
 gone_by {C} h x o k a f n b none =
@@ -62,12 +61,7 @@ now_gone {C} c h p sheet f b is e o k behind' same =
       | inr first ↦ gone_by h g.job o k (known c h g.job g.turn.there) f n behind' first.first
     ]
 
--- an event after which it stays so
-behind_act : {C : Type 0} (h : List (Event C)) (k : ℕ) (act : Act C) → opening_by k act ≡ [] → ((o : Opening) → is_held (job_of h o) ≡ false → is_held (job_of (OfJob k act ∷ h) o) ≡ false) → Behind h → Behind (OfJob k act ∷ h)
-behind_act {C} h k act none st b o i is pos =
-    let os : openings h ++ opening_by k act ≡ openings h = ap (λ (l : List Opening). openings h ++ l) none ∙ append-nil (openings h) in
-    st o (b o i (subst (λ (l : List Opening). Has o l) os is.0, subst (λ (l : List Opening). Has i l) os is.1, is.2, is.3, is.4) pos)
-
+-- after a job is accepted
 behind_opened : {C : Type 0} (h : List (Event C)) (j s q : ℕ) → Facts h → j ≡ length (openings h) + 1 → ((o : Opening) → is_held (job_of h o) ≡ false → is_held (job_of (Opened j s q ∷ h) o) ≡ false) → Behind h → Behind (Opened j s q ∷ h)
 behind_opened {C} h j s q f new st b o k is pos =
     let x : Opening = record { job = j; sender = s; queue = q } in
@@ -95,12 +89,7 @@ behind_back h p sheet turn not' st b o k is pos = st o (b o k is (let m = ap len
 
 behind_step : {C : Type 0} (size : C → ℕ) (c : Config) (h : List (Event C)) (e : Event C) → IsLegal size c h → May size (now c h) e → Behind h → Behind (e ∷ h)
 behind_step size c h (Opened k s q) l m b = behind_opened h k s q (facts size c h l) m.4 (steady size c h (Opened k s q) l m) b
-behind_step size c h (OfJob k Granted) l m b = behind_act h k Granted refl (steady size c h (OfJob k Granted) l m) b
-behind_step size c h (OfJob k (Began name count)) l m b = behind_act h k (Began name count) refl (steady size c h (OfJob k (Began name count)) l m) b
-behind_step size c h (OfJob k (Put file number page)) l m b = behind_act h k (Put file number page) refl (steady size c h (OfJob k (Put file number page)) l m) b
-behind_step size c h (OfJob k (FileEnded file whole)) l m b = behind_act h k (FileEnded file whole) refl (steady size c h (OfJob k (FileEnded file whole)) l m) b
-behind_step size c h (OfJob k (Controlled control whole)) l m b = behind_act h k (Controlled control whole) refl (steady size c h (OfJob k (Controlled control whole)) l m) b
-behind_step size c h (OfJob k Aborted) l m b = behind_act h k Aborted refl (steady size c h (OfJob k Aborted) l m) b
+behind_step size c h (OfJob j act) l m b = λ o k is pos. steady size c h (OfJob j act) l m o (b o k is pos)
 behind_step size c h (AtPrinter p sheet Handed) l m b = behind_handed c h p sheet (facts size c h l) m.0 m.1 (steady size c h (AtPrinter p sheet Handed) l m) b
 behind_step size c h (AtPrinter p sheet (Printed x)) l m b = behind_back h p sheet (Printed x) refl (steady size c h (AtPrinter p sheet (Printed x)) l m) b
 behind_step size c h (AtPrinter p sheet Failed) l m b = behind_back h p sheet Failed refl (steady size c h (AtPrinter p sheet Failed) l m) b
@@ -118,6 +107,7 @@ gone_before size c h p sheet l m o k has also same lt s q =
 
 pub each_in_order : {C : Type 0} (size : C → ℕ) (c : Config) (h : List (Event C)) → IsLegal size c h → EachHanded EarlierAreGone h
 each_in_order size c [] l = tt
+each_in_order size c (Opened k s q ∷ h) l = each_in_order size c h l.1
 each_in_order size c (OfJob k act ∷ h) l = each_in_order size c h l.1
 each_in_order size c (AtPrinter p sheet Handed ∷ h) l = (gone_before size c h p sheet l.1 l.0, each_in_order size c h l.1)
 each_in_order size c (AtPrinter p sheet (Printed x) ∷ h) l = each_in_order size c h l.1

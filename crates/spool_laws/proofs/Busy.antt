@@ -1,21 +1,20 @@
 -- Each held job that was begun has a printer of its queue, and no other job has that one.
-use Rattle.std.proofs.Common.{◌⊎◌, inl, inr, ◌≡◌, ◌==◌, ◌≢◌, ℕ, ◌+◌, ◌<◌, Bool, true, false, List, [], ◌∷◌, ◌++◌, length, map, refl, sym, ◌∙◌, ap, subst, arith}
+use Rattle.std.proofs.Common.{◌⊎◌, inl, inr, ◌≡◌, ◌==◌, ◌≢◌, ℕ, ◌+◌, ◌<◌, Bool, true, false, List, [], ◌∷◌, length, map, refl, sym, ◌∙◌, ap, subst, arith}
 use Rattle.std.specs.Prelude.{◌&&◌, ◌||◌, not, filter, find, Option, Some, None, is_some}
 use Rattle.std.proofs.lemmas.Bool.Decides.{nat_tests}
-use Rattle.std.proofs.lemmas.List.{append-nil}
-use Rattle.spool_history.specs.Events.{Act, Event, Sheet, Turn}
-use Rattle.spool_history.specs.Events.Act.{Granted, Began, Put, FileEnded, Controlled, Aborted}
+use Rattle.std.proofs.lemmas.Bool.{and_parts}
+use Rattle.spool_history.specs.Events.{Event, Sheet, Turn}
 use Rattle.spool_history.specs.Events.Turn.{Handed, Printed, Failed}
 use Rattle.spool_history.specs.Events.Event.{Opened, OfJob, AtPrinter, Removed, Started, Closed}
 use Rattle.config_values.specs.Config.{IsPrinter, Config, queue_of}
 use Rattle.spool_history.specs.Acts.{is_lent_by, control_by}
-use Rattle.spool_history.specs.Said.{Opening, openings, opening_by, acts_of, is_handed, back_of, has_ended, began_at}
+use Rattle.spool_history.specs.Said.{Opening, openings, acts_of, is_handed, back_of, has_ended, began_at}
 use Rattle.spool_history.specs.Now.{Job, Printer, now, job_of, is_held}
 use Rattle.spool_history.specs.Next.{next_page, next_at, with_out, hand_of, hand_first, turn_of, or_first, printer_at}
 use Rattle.spool_history.specs.Next.Next.{Hands}
 use Rattle.spool_history.specs.Acts.{Page}
 use Rattle.spool_history.specs.Legal.{IsLegal, May}
-use Rattle.spool_laws.proofs.Known.{Has, find_has, has_last, has_kept, known, test, clash, and_true, and_false, filter_cons}
+use Rattle.spool_laws.proofs.Known.{Has, find_has, has_last, has_kept, known, test, clash, and_false, filter_cons}
 use Rattle.spool_laws.proofs.Printers.{at_printer}
 use Rattle.spool_laws.proofs.Turns.{given, open_by, runs_by, idle_by}
 use Rattle.spool_laws.proofs.Facts.{Facts, facts, began_same, turn_of_page, handed_at, received_at, handed_more, handed_same}
@@ -42,12 +41,6 @@ held_by v w false e st held = absurd (clash (is_held w) held (st e))
 
 abbrev Steady : {C : Type 0} → List (Event C) → Event C → Type 0
 Steady h e = (o : Opening) → is_held (job_of h o) ≡ false → is_held (job_of (e ∷ h) o) ≡ false
-
-busy_act : {C : Type 0} (c : Config) (h : List (Event C)) (k : ℕ) (act : Act C) → opening_by k act ≡ [] → Steady h (OfJob k act) → AreBusy c h → AreBusy c (OfJob k act ∷ h)
-busy_act {C} c h k act none st b o has held pos =
-    let os : openings h ++ opening_by k act ≡ openings h = ap (λ (l : List Opening). openings h ++ l) none ∙ append-nil (openings h) in
-    let x = b o (subst (λ (l : List Opening). Has o l) os has) (held_by (job_of h o) (job_of (OfJob k act ∷ h) o) (is_held (job_of h o)) refl (st o) held) pos in
-    record { at = x.at; is = x.is; began = x.began; queue = x.queue }
 
 busy_opened : {C : Type 0} (c : Config) (h : List (Event C)) (j s q : ℕ) → Facts h → j ≡ length (openings h) + 1 → Steady h (Opened j s q) → AreBusy c h → AreBusy c (Opened j s q ∷ h)
 busy_opened {C} c h j s q f new st b o has held pos = elim (has_last o (openings h) (record { job = j; sender = s; queue = q }) has) [
@@ -91,7 +84,7 @@ ended_by {C} jobs q j x sheet None e h ne has n =
     let a : (x.number == j) ≡ true = grind (arith, nat_tests) in
     ended_of (x.number == j) x.ended a none
 ended_by {C} jobs q j x sheet (Some v) e h ne has n =
-    let a = (and_true (v.number == j) (not v.ended) (find_has (λ (v : Job C). (v.number == j) && not v.ended) v jobs e).1).0 in
+    let a = (and_parts (v.number == j) (not v.ended) (find_has (λ (v : Job C). (v.number == j) && not v.ended) v jobs e).1).0 in
     let m : v.number ≡ j = grind (arith, nat_tests) in
     absurd (ne (sym (first_is v.number v.handed _ sheet h) ∙ m))
 
@@ -177,12 +170,7 @@ busy_same c h e os hs bs st b o has held pos =
 
 busy_step : {C : Type 0} (size : C → ℕ) (c : Config) (h : List (Event C)) (e : Event C) → IsLegal size c h → May size (now c h) e → AreBusy c h → AreBusy c (e ∷ h)
 busy_step size c h (Opened k s q) l m b = busy_opened c h k s q (facts size c h l) m.4 (steady size c h (Opened k s q) l m) b
-busy_step size c h (OfJob k Granted) l m b = busy_act c h k Granted refl (steady size c h (OfJob k Granted) l m) b
-busy_step size c h (OfJob k (Began name count)) l m b = busy_act c h k (Began name count) refl (steady size c h (OfJob k (Began name count)) l m) b
-busy_step size c h (OfJob k (Put file number page)) l m b = busy_act c h k (Put file number page) refl (steady size c h (OfJob k (Put file number page)) l m) b
-busy_step size c h (OfJob k (FileEnded file whole)) l m b = busy_act c h k (FileEnded file whole) refl (steady size c h (OfJob k (FileEnded file whole)) l m) b
-busy_step size c h (OfJob k (Controlled control whole)) l m b = busy_act c h k (Controlled control whole) refl (steady size c h (OfJob k (Controlled control whole)) l m) b
-busy_step size c h (OfJob k Aborted) l m b = busy_act c h k Aborted refl (steady size c h (OfJob k Aborted) l m) b
+busy_step size c h (OfJob k act) l m b = busy_same c h (OfJob k act) refl (λ j. refl) (λ p. refl) (steady size c h (OfJob k act) l m) b
 busy_step size c h (AtPrinter p sheet Handed) l m b = busy_handed c h p sheet (facts size c h l) (keeps size c h l) m.0 m.1 (steady size c h (AtPrinter p sheet Handed) l m) b
 busy_step size c h (AtPrinter p sheet (Printed x)) l m b = busy_back c h p sheet (Printed x) refl (steady size c h (AtPrinter p sheet (Printed x)) l m) b
 busy_step size c h (AtPrinter p sheet Failed) l m b = busy_back c h p sheet Failed refl (steady size c h (AtPrinter p sheet Failed) l m) b
@@ -196,20 +184,12 @@ busy size c (e ∷ h) l = busy_step size c h e l.1 l.0 (busy size c h l.1)
 
 -- the numbers of the jobs rise
 
-rising_act : {C : Type 0} (h : List (Event C)) (k : ℕ) (act : Act C) → opening_by k act ≡ [] → Rises (λ (o : Opening). o.job) (openings h) → Rises (λ (o : Opening). o.job) (openings (OfJob k act ∷ h))
-rising_act h k act none r = subst (λ (l : List Opening). Rises (λ (o : Opening). o.job) l) (sym (ap (λ (l : List Opening). openings h ++ l) none ∙ append-nil (openings h))) r
-
 rising_openings : {C : Type 0} (size : C → ℕ) (c : Config) (h : List (Event C)) → IsLegal size c h → Rises (λ (o : Opening). o.job) (openings h)
 rising_openings size c [] l = tt
 rising_openings size c (Opened k s q ∷ h) l =
     rises_push (λ (o : Opening). o.job) (openings h) (record { job = k; sender = s; queue = q }) (rising_openings size c h l.1)
     (λ y t. let n = (facts size c h l.1).numbers y t in let is = l.0.4 in omega arith)
-rising_openings size c (OfJob k Granted ∷ h) l = rising_act h k Granted refl (rising_openings size c h l.1)
-rising_openings size c (OfJob k (Began name count) ∷ h) l = rising_act h k (Began name count) refl (rising_openings size c h l.1)
-rising_openings size c (OfJob k (Put file number page) ∷ h) l = rising_act h k (Put file number page) refl (rising_openings size c h l.1)
-rising_openings size c (OfJob k (FileEnded file whole) ∷ h) l = rising_act h k (FileEnded file whole) refl (rising_openings size c h l.1)
-rising_openings size c (OfJob k (Controlled control whole) ∷ h) l = rising_act h k (Controlled control whole) refl (rising_openings size c h l.1)
-rising_openings size c (OfJob k Aborted ∷ h) l = rising_act h k Aborted refl (rising_openings size c h l.1)
+rising_openings size c (OfJob k act ∷ h) l = rising_openings size c h l.1
 rising_openings size c (AtPrinter p sheet turn ∷ h) l = rising_openings size c h l.1
 rising_openings size c (Removed q jobs ∷ h) l = rising_openings size c h l.1
 rising_openings size c (Started q ∷ h) l = rising_openings size c h l.1

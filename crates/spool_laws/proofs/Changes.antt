@@ -16,7 +16,6 @@ abbrev pub Changes : {C : Type 0} → List (Event C) → Event C → Type 0
 Changes h e = (o : Opening) → job_of (e ∷ h) o ≡ change e (job_of h o)
 
 act_by : {C : Type 0} (h : List (Event C)) (k : ℕ) (act : Act C) (o : Opening) (b : Bool) → (k == o.job) ≡ b → job_of (OfJob k act ∷ h) o ≡ change (OfJob k act) (job_of h o)
-act_by h k (Opened s q) o true e = rw e refl
 act_by h k Granted o true e = rw e refl
 act_by h k (Began name count) o true e = rw e refl
 act_by h k (Put file number page) o true e = rw e refl
@@ -38,6 +37,7 @@ removed_by h q jobs o true e = rw e refl
 removed_by h q jobs o false e = rw e refl
 
 pub changes : {C : Type 0} (h : List (Event C)) (e : Event C) → Changes h e
+changes h (Opened k s q) o = refl
 changes h (OfJob k act) o = act_by h k act o (k == o.job) refl
 changes h (AtPrinter p sheet turn) o = turn_by h p sheet turn o (sheet.job == o.job) refl
 changes h (Removed q jobs) o = removed_by h q jobs o (list_any (λ k. k == o.job) jobs) refl

@@ -1,5 +1,5 @@
 -- How often a job's session may do each thing.
-use Rattle.std.proofs.Common.{◌⊎◌, inl, inr, ◌≡◌, ℕ, zero, suc, ◌+◌, ◌<◌, ◌≤◌, Bool, true, false, List, [], ◌∷◌, ◌++◌, length, refl, sym, ◌∙◌, ap, subst, arith}
+use Rattle.std.proofs.Common.{◌⊎◌, inl, inr, ◌≡◌, ℕ, zero, suc, ◌+◌, ◌<◌, ◌≤◌, Bool, true, false, List, [], ◌∷◌, ◌++◌, length, refl, ◌∙◌, ap, arith}
 use Rattle.std.specs.Prelude.{None}
 use Rattle.std.proofs.lemmas.List.{length_push}
 use Rattle.control_file.specs.Text.{Contents}
@@ -11,11 +11,6 @@ use Rattle.spool_laws.proofs.Known.{clash}
 abbrev pub one_if : Bool → ℕ
 one_if true = 1
 one_if false = 0
-
-abbrev pub opened_in : {C : Type 0} → List (Act C) → ℕ
-opened_in [] = 0
-opened_in (Opened s q ∷ a) = opened_in a + 1
-opened_in (_ ∷ a) = opened_in a
 
 abbrev pub began_in : {C : Type 0} → List (Act C) → ℕ
 began_in [] = 0
@@ -42,9 +37,8 @@ aborted_in [] = 0
 aborted_in (Aborted ∷ a) = aborted_in a + 1
 aborted_in (_ ∷ a) = aborted_in a
 
-pub all_counted : {C : Type 0} (a : List (Act C)) → length a ≡ opened_in a + (granted_by a + (began_in a + (put_in a + (ended_in a + (controlled_in a + aborted_in a)))))
+pub all_counted : {C : Type 0} (a : List (Act C)) → length a ≡ granted_by a + (began_in a + (put_in a + (ended_in a + (controlled_in a + aborted_in a))))
 all_counted [] = refl
-all_counted (Opened s q ∷ a) = let ih = all_counted a in omega arith
 all_counted (Granted ∷ a) = let ih = all_counted a in omega arith
 all_counted (Began name count ∷ a) = let ih = all_counted a in omega arith
 all_counted (Put file number page ∷ a) = let ih = all_counted a in omega arith
@@ -102,7 +96,6 @@ count_le (f ∷ fs) = let ih = count_le fs in let o = one_le f.ended in omega ar
 
 pub began_files : {C : Type 0} (a : List (Act C)) → length (files_by a) ≡ began_in a
 began_files [] = refl
-began_files (Opened s q ∷ a) = began_files a
 began_files (Granted ∷ a) = began_files a
 began_files (Began name count ∷ a) = let ih = began_files a in let n = length_push (files_by a) (new_file name count) in omega arith
 began_files (Put file number page ∷ a) = length_last (with_page page) (files_by a) ∙ began_files a
@@ -112,7 +105,6 @@ began_files (Aborted ∷ a) = began_files a
 
 uncontrolled : {C : Type 0} (a : List (Act C)) → control_by a ≡ None → controlled_in a ≡ 0
 uncontrolled [] e = refl
-uncontrolled (Opened s q ∷ a) e = uncontrolled a e
 uncontrolled (Granted ∷ a) e = uncontrolled a e
 uncontrolled (Began name count ∷ a) e = uncontrolled a e
 uncontrolled (Put file number page ∷ a) e = uncontrolled a e
@@ -122,7 +114,6 @@ uncontrolled (Aborted ∷ a) e = uncontrolled a e
 
 -- what a session did is within its bounds; b says whether the job has ended
 pub record Fits {C : Type 0} (a : List (Act C)) (b : Bool) : Type 0 where
-  pub opened : opened_in a ≤ 1
   pub puts : put_in a + one_if (is_lent_by a) ≤ granted_by a
   pub files : length (files_by a) ≤ 52
   pub ended : ended_in a ≤ ended_count (files_by a)
@@ -131,26 +122,23 @@ pub record Fits {C : Type 0} (a : List (Act C)) (b : Bool) : Type 0 where
   pub after : 0 < aborted_in a → (b ≡ true) × (is_lent_by a ≡ false)
 
 pub fits_none : {C : Type 0} (b : Bool) → Fits {C = C} [] b
-fits_none b = record { opened = omega arith; puts = omega arith; files = omega arith; ended = omega arith; control = omega arith; aborted = omega arith; after = λ p. absurd (omega arith) }
+fits_none b = record { puts = omega arith; files = omega arith; ended = omega arith; control = omega arith; aborted = omega arith; after = λ p. absurd (omega arith) }
 
 pub fits_later : {C : Type 0} (a : List (Act C)) (b d : Bool) → (b ≡ true → d ≡ true) → Fits a b → Fits a d
-fits_later a b d up f = record { opened = f.opened; puts = f.puts; files = f.files; ended = f.ended; control = f.control; aborted = f.aborted; after = λ p. (up (f.after p).0, (f.after p).1) }
-
-pub fits_opened : {C : Type 0} (a : List (Act C)) (s q : ℕ) (b : Bool) → a ≡ [] → Fits (Opened s q ∷ a) b
-fits_opened {C} a s q b e = subst (λ (l : List (Act C)). Fits (Opened s q ∷ l) b) (sym e) (record { opened = omega arith; puts = omega arith; files = omega arith; ended = omega arith; control = omega arith; aborted = omega arith; after = λ p. absurd (omega arith) })
+fits_later a b d up f = record { puts = f.puts; files = f.files; ended = f.ended; control = f.control; aborted = f.aborted; after = λ p. (up (f.after p).0, (f.after p).1) }
 
 pub fits_granted : {C : Type 0} (a : List (Act C)) (b d : Bool) → Fits a b → b ≡ false → is_lent_by a ≡ false → Fits (Granted ∷ a) d
 fits_granted a b d f e l =
     let p = f.puts in
     let z : one_if (is_lent_by a) ≡ 0 = ap one_if l in
-    record { opened = f.opened; puts = omega arith; files = f.files; ended = f.ended; control = f.control; aborted = f.aborted; after = λ p. absurd (clash b (f.after p).0 e) }
+    record { puts = omega arith; files = f.files; ended = f.ended; control = f.control; aborted = f.aborted; after = λ p. absurd (clash b (f.after p).0 e) }
 
 pub fits_began : {C : Type 0} (a : List (Act C)) (name : List ℕ) (count : ℕ) (b d : Bool) → Fits a b → b ≡ false → length (files_by a) < 52 → Fits (Began name count ∷ a) d
 fits_began a name count b d f e lt =
     let n = length_push (files_by a) (new_file name count) in
     let m = count_push (files_by a) (new_file name count) in
     let o = f.ended in
-    record { opened = f.opened; puts = f.puts; files = omega arith; ended = omega arith; control = f.control; aborted = f.aborted; after = λ p. absurd (clash b (f.after p).0 e) }
+    record { puts = f.puts; files = omega arith; ended = omega arith; control = f.control; aborted = f.aborted; after = λ p. absurd (clash b (f.after p).0 e) }
 
 pub fits_put : {C : Type 0} (a : List (Act C)) (file number : ℕ) (page : C) (b d : Bool) → Fits a b → b ≡ false → is_lent_by a ≡ true → Fits (Put file number page ∷ a) d
 fits_put a file number page b d f e l =
@@ -160,7 +148,7 @@ fits_put a file number page b d f e l =
     let m = count_page page (files_by a) in
     let o = f.ended in
     let q = f.files in
-    record { opened = f.opened; puts = omega arith; files = omega arith; ended = omega arith; control = f.control; aborted = f.aborted; after = λ p. absurd (clash b (f.after p).0 e) }
+    record { puts = omega arith; files = omega arith; ended = omega arith; control = f.control; aborted = f.aborted; after = λ p. absurd (clash b (f.after p).0 e) }
 
 pub fits_ended : {C : Type 0} (a : List (Act C)) (file : ℕ) (whole : Bool) (before : List (File C)) (last : File C) (b d : Bool) → Fits a b → b ≡ false → files_by a ≡ before ++ last ∷ [] → last.ended ≡ false → Fits (FileEnded file whole ∷ a) d
 fits_ended a file whole before last b d f e l open' =
@@ -168,12 +156,12 @@ fits_ended a file whole before last b d f e l open' =
     let m = count_end (files_by a) before last l open' in
     let o = f.ended in
     let q = f.files in
-    record { opened = f.opened; puts = f.puts; files = omega arith; ended = omega arith; control = f.control; aborted = f.aborted; after = λ p. absurd (clash b (f.after p).0 e) }
+    record { puts = f.puts; files = omega arith; ended = omega arith; control = f.control; aborted = f.aborted; after = λ p. absurd (clash b (f.after p).0 e) }
 
 pub fits_controlled : {C : Type 0} (a : List (Act C)) (control : Contents) (whole : Bool) (b d : Bool) → Fits a b → b ≡ false → control_by a ≡ None → Fits (Controlled control whole ∷ a) d
 fits_controlled a control whole b d f e l =
     let n = uncontrolled a l in
-    record { opened = f.opened; puts = f.puts; files = f.files; ended = f.ended; control = omega arith; aborted = f.aborted; after = λ p. absurd (clash b (f.after p).0 e) }
+    record { puts = f.puts; files = f.files; ended = f.ended; control = omega arith; aborted = f.aborted; after = λ p. absurd (clash b (f.after p).0 e) }
 
 pub none_by : (n : ℕ) → (0 < n → ⊥) → n ≡ 0
 none_by zero f = refl
@@ -183,4 +171,4 @@ pub fits_aborted : {C : Type 0} (a : List (Act C)) (b d : Bool) → Fits a b →
 fits_aborted a b d f e t =
     let none : aborted_in a ≡ 0 = none_by (aborted_in a) (λ p. elim e [ inl x ↦ clash b (f.after p).0 x | inr x ↦ clash (is_lent_by a) x (f.after p).1 ]) in
     let q = f.puts in
-    record { opened = f.opened; puts = omega arith; files = f.files; ended = f.ended; control = f.control; aborted = omega arith; after = λ p. (t, refl) }
+    record { puts = omega arith; files = f.files; ended = f.ended; control = f.control; aborted = omega arith; after = λ p. (t, refl) }

@@ -1,11 +1,11 @@
 -- The held jobs hold no more of any kind than there is.
-use Rattle.std.proofs.Common.{inl, inr, ◌≡◌, ◌==◌, ◌≢◌, ℕ, zero, suc, ◌+◌, ◌-◌, ◌<◌, ◌≤◌, true, List, [], ◌∷◌, length, get_or, map, refl, sym, ◌∙◌, subst, arith}
+use Rattle.std.proofs.Common.{inl, inr, ◌≡◌, ◌==◌, ◌≢◌, ℕ, zero, suc, ◌+◌, ◌<◌, ◌≤◌, true, List, [], ◌∷◌, length, get_or, map, refl, sym, ◌∙◌, subst, arith}
 use Rattle.std.specs.Prelude.{cond, sum_by, Option, Some, slice_index_or}
 use Rattle.std.proofs.lemmas.List.Sums.{sum_by-cons}
 use Rattle.counts.specs.Amounts.{amount}
 use Rattle.claims.specs.declared.row.Row.{Row}
 use Rattle.spool_history.specs.Events.{Event}
-use Rattle.config_values.specs.Config.{IsQueue, Config, Queue, queue_at, queue_of, printer_count, no_queue}
+use Rattle.config_values.specs.Config.{IsQueue, Config, Queue, queue_at, queue_of, served_from, printer_count, no_queue}
 use Rattle.spool_history.specs.Said.{Opening, openings, began_at}
 use Rattle.spool_history.specs.Now.{Job, now, job_of, is_held, row_of, capacity, printers_held}
 use Rattle.spool_history.specs.Legal.{IsLegal}
@@ -56,6 +56,9 @@ some_one j k e = cc
 abbrev Tied : {C : Type 0} → List (Event C) → ℕ → ℕ → Type 0
 Tied h p j = began_at h p ≡ Some j
 
+queue_from : (c : Config) (p : ℕ) → 1 ≤ p → queue_of c p ≡ served_from 1 c.queues p
+queue_from c p one = elim (test p 0) [ inl s ↦ (let z : p ≡ 0 = s.0 in absurd (omega arith)) | inr s ↦ rw s.1 refl ]
+
 place_at : {C : Type 0} (size : C → ℕ) (c : Config) (h : List (Event C)) (i : ℕ) → IsLegal size c h → (o : Opening) → Has o (openings h) → is_held (job_of h o) ≡ true → 0 < weight i (job_of h o) → Place (Tied h) (serves 1 c.queues (1 + i)) (printer_count c) o.job
 place_at size c h i l o has held pos =
     let g = begun_if i (job_of h o) pos in
@@ -66,7 +69,7 @@ place_at size c h i l o has held pos =
       at = b.at;
       one = b.is.0;
       le = b.is.1;
-      counts = elim (test (queue_of c b.at) (1 + i)) [ inl s ↦ rw s.1 (omega arith) | inr s ↦ absurd (s.0 q) ];
+      counts = elim (test (served_from 1 c.queues b.at) (1 + i)) [ inl s ↦ rw s.1 (omega arith) | inr s ↦ absurd (s.0 (sym (queue_from c b.at b.is.0) ∙ q)) ];
       tied = b.began;
     }
 
@@ -117,13 +120,12 @@ of_queues {C} q i (v ∷ vs) e =
     omega arith
 
 enough_printers : {C : Type 0} (size : C → ℕ) (c : Config) (h : List (Event C)) (q : ℕ) → IsLegal size c h → IsQueue c q → held_printers (now c h) q ≤ (queue_at c q).printers
-enough_printers {C} size c h q l is =
-    let one = is.0 in
-    let e : suc (q - 1) ≡ q = omega arith in
-    let all = sum_filter (λ (v : Job C). printers_held v) (λ (v : Job C). v.queue == q) (now c h).jobs in
-    let few = of_queues q (q - 1) (now c h).jobs e in
-    let most = printers_counted size c h (q - 1) l in
-    let there = get_printers c.queues (q - 1) in
+enough_printers size c h zero l is = absurd (omega (arith, is.0))
+enough_printers {C} size c h (suc i) l is =
+    let all = sum_filter (λ (v : Job C). printers_held v) (λ (v : Job C). v.queue == suc i) (now c h).jobs in
+    let few = of_queues (suc i) i (now c h).jobs refl in
+    let most = printers_counted size c h i l in
+    let there = get_printers c.queues i in
     omega arith
 
 pub no_kind_runs_over : {C : Type 0} (size : C → ℕ) (c : Config) (h : List (Event C)) → IsLegal size c h → NoMoreThanThereIs c h

@@ -2,18 +2,18 @@
 use Rattle.std.proofs.Common.{◌⊎◌, inl, inr, ◌≡◌, ◌==◌, ◌≢◌, ℕ, ◌+◌, ◌<◌, ◌≤◌, Bool, true, false, List, [], ◌∷◌, ◌++◌, length, refl, sym, ◌∙◌, ap, subst, arith}
 use Rattle.std.specs.Prelude.{nat_lt, Option, Some, None}
 use Rattle.std.specs.List.{list_any, AllByRecursion}
-use Rattle.std.proofs.lemmas.List.{append-nil, length_push}
+use Rattle.std.proofs.lemmas.List.{length_push}
 use Rattle.std.proofs.lemmas.Bool.Decides.{nat_tests}
 use Rattle.spool_history.specs.Events.{Act, Event, Sheet, Turn}
 use Rattle.spool_history.specs.Events.Act.{Granted, Began, Put, FileEnded, Controlled, Aborted}
 use Rattle.spool_history.specs.Events.Turn.{Handed, Printed, Failed}
 use Rattle.spool_history.specs.Events.Event.{Opened, OfJob, AtPrinter, Removed, Started, Closed}
 use Rattle.config_values.specs.Config.{IsPrinter, Config}
-use Rattle.spool_history.specs.Said.{Opening, openings, opening_by, acts_of, is_handed, handed_of, back_of, has_ended, out_at, began_at, is_closed}
+use Rattle.spool_history.specs.Said.{Opening, openings, acts_of, is_handed, handed_of, back_of, has_ended, out_at, began_at, is_closed}
 use Rattle.spool_history.specs.Now.{Job, Printer, now, job_of, is_received}
 use Rattle.spool_history.specs.Next.{printer_at}
 use Rattle.spool_history.specs.Legal.{HasJob, May, IsLegal}
-use Rattle.spool_laws.proofs.Known.{Has, At, has_at, held_at, has_last, test, clash, or_false, and_false}
+use Rattle.spool_laws.proofs.Known.{Has, At, has_at, held_at, has_last, test, clash, and_false}
 use Rattle.spool_laws.proofs.Printers.{at_printer}
 use Rattle.spool_laws.proofs.Turns.{given, given_at, Gets, Begins}
 
@@ -49,7 +49,7 @@ IsNumber h k = k ≤ length (openings h)
 pub number_at : {C : Type 0} (h : List (Event C)) (k : ℕ) (P : Job C → Type 0) → Facts h → At h k P → IsNumber h k
 number_at h k P f a = f.numbers (record { job = k; sender = a.sender; queue = a.queue }) a.there
 
--- a job's own acts, but for its opening
+-- the acts of a job's session
 
 pub acts_other : {C : Type 0} (h : List (Event C)) (k : ℕ) (act : Act C) (j : ℕ) → k ≢ j → acts_of (OfJob k act ∷ h) j ≡ acts_of h j
 acts_other h k act j ne = elim (test k j) [ inl s ↦ absurd (ne s.0) | inr s ↦ rw s.1 refl ]
@@ -71,24 +71,18 @@ begun_act {C} h k act f before j e = elim (test k j) [
   | inr s ↦ f.begun j (rw s.1 at e)
 ]
 
-facts_act : {C : Type 0} (h : List (Event C)) (k : ℕ) (act : Act C) → Facts h → IsNumber h k → opening_by k act ≡ [] → (received_at (OfJob k act ∷ h) k ≡ false → received_at h k ≡ false) → Facts (OfJob k act ∷ h)
-facts_act {C} h k act f le none before =
-    let os : openings h ++ opening_by k act ≡ openings h = ap (λ (l : List Opening). openings h ++ l) none ∙ append-nil (openings h) in
-    let n : length (openings h ++ opening_by k act) ≡ length (openings h) = ap length os in
-    record {
-      numbers = λ o has. (let m = f.numbers o (subst (λ (l : List Opening). Has o l) os has) in omega arith);
-      once = λ o i has also same. f.once o i (subst (λ (l : List Opening). Has o l) os has) (subst (λ (l : List Opening). Has i l) os also) same;
-      fresh = λ j lt. unknown_act h k act j (λ same. omega arith) (f.fresh j (omega arith));
-      begun = begun_act h k act f before;
-      back = f.back;
-      out = f.out;
-      idle = f.idle;
-      began = f.began;
-      alone = f.alone;
-    }
-
-received_opened : {C : Type 0} (h : List (Event C)) (k s q j : ℕ) → received_at (Opened k s q ∷ h) j ≡ false → received_at h j ≡ false
-received_opened h k s q j e = elim (test k j) [ inl r ↦ rw r.1 at e | inr r ↦ rw r.1 at e ]
+facts_act : {C : Type 0} (h : List (Event C)) (k : ℕ) (act : Act C) → Facts h → IsNumber h k → (received_at (OfJob k act ∷ h) k ≡ false → received_at h k ≡ false) → Facts (OfJob k act ∷ h)
+facts_act h k act f le before = record {
+  numbers = f.numbers;
+  once = f.once;
+  fresh = λ j lt. unknown_act h k act j (λ same. omega arith) (f.fresh j lt);
+  begun = begun_act h k act f before;
+  back = f.back;
+  out = f.out;
+  idle = f.idle;
+  began = f.began;
+  alone = f.alone;
+}
 
 facts_opened : {C : Type 0} (h : List (Event C)) (k s q : ℕ) → Facts h → k ≡ length (openings h) + 1 → Facts (Opened k s q ∷ h)
 facts_opened {C} h k s q f is =
@@ -109,8 +103,8 @@ facts_opened {C} h k s q f is =
           | inr d ↦ sym e ∙ d
         ]
       ];
-      fresh = λ j lt. unknown_act h k (Opened s q) j (λ same. omega arith) (f.fresh j (omega arith));
-      begun = λ j e. f.begun j (received_opened h k s q j e);
+      fresh = λ j lt. (let u = f.fresh j (omega arith) in record { acts = u.acts; handed = u.handed; back = u.back; ended = u.ended });
+      begun = f.begun;
       back = f.back;
       out = f.out;
       idle = f.idle;
@@ -132,7 +126,7 @@ begins_at {C} h x j q jobs o is n b =
     let r : received_at h o.job ≡ true = sym (ap (λ (v : Job C). is_received v) is) ∙ b.received in
     (subst (λ (i : ℕ). handed_at h i ≡ 0) m a, subst (λ (i : ℕ). received_at h i ≡ true) m r)
 
-pub turn_of_page : {C : Type 0} (c : Config) (h : List (Event C)) (p : ℕ) (sheet : Sheet C) → 1 ≤ p → p ≤ Rattle.spool_history.specs.Config.printer_count c → Rattle.spool_history.specs.Next.next_page (now c h) p ≡ Rattle.spool_history.specs.Next.Next.Hands sheet → Turn' h p sheet
+pub turn_of_page : {C : Type 0} (c : Config) (h : List (Event C)) (p : ℕ) (sheet : Sheet C) → 1 ≤ p → p ≤ Rattle.config_values.specs.Config.printer_count c → Rattle.spool_history.specs.Next.next_page (now c h) p ≡ Rattle.spool_history.specs.Next.Next.Hands sheet → Turn' h p sheet
 turn_of_page {C} c h p sheet one le e =
     let g = (given (now c h) p sheet e).1 in
     let here = at_printer c h p one le in
@@ -362,14 +356,14 @@ facts_back {C} h p sheet turn is f o =
 
 -- the other events
 
-none_named : {C : Type 0} (c : Config) (h : List (Event C)) (P : Job C → Type 0) (j : ℕ) (jobs : List ℕ) → Facts h → length (openings h) < j → AllByRecursion (λ k. HasJob (now c h) k P) jobs → list_any (λ (k : ℕ). k == j) jobs ≡ false
+none_named : {C : Type 0} (c : Config) (h : List (Event C)) (P : Job C → Type 0) (j : ℕ) (jobs : List ℕ) → Facts h → length (openings h) < j → AllByRecursion (λ k. HasJob (now c h).jobs k P) jobs → list_any (λ (k : ℕ). k == j) jobs ≡ false
 none_named c h P j [] f lt all = refl
 none_named c h P j (k ∷ ks) f lt all =
     let n : k ≤ length (openings h) = number_at h k P f (has_at c h k P all.0) in
     let rest = none_named c h P j ks f lt all.1 in
     elim (test k j) [ inl s ↦ let m : k ≡ j = s.0 in absurd (omega arith) | inr s ↦ rw s.1 rest ]
 
-facts_removed : {C : Type 0} (c : Config) (h : List (Event C)) (P : Job C → Type 0) (q : ℕ) (jobs : List ℕ) → Facts h → AllByRecursion (λ k. HasJob (now c h) k P) jobs → Facts (Removed q jobs ∷ h)
+facts_removed : {C : Type 0} (c : Config) (h : List (Event C)) (P : Job C → Type 0) (q : ℕ) (jobs : List ℕ) → Facts h → AllByRecursion (λ k. HasJob (now c h).jobs k P) jobs → Facts (Removed q jobs ∷ h)
 facts_removed c h P q jobs f all = record {
   numbers = f.numbers;
   once = f.once;
@@ -435,22 +429,22 @@ facts_step : {C : Type 0} (size : C → ℕ) (c : Config) (h : List (Event C)) (
 facts_step size c h (Opened k s q) f m = facts_opened h k s q f m.4
 facts_step size c h (OfJob k Granted) f m =
     let a = has_at c h k _ m.0 in
-    facts_act h k Granted f (number_at h k _ f a) refl (λ e. a.is.0.1)
+    facts_act h k Granted f (number_at h k _ f a) (λ e. a.is.0.0.1)
 facts_step size c h (OfJob k (Began name count)) f m =
-    let a = has_at c h k _ m.1 in
-    facts_act h k (Began name count) f (number_at h k _ f a) refl (λ e. a.is.0.1)
+    let a = has_at c h k _ m.0 in
+    facts_act h k (Began name count) f (number_at h k _ f a) (λ e. a.is.0.1)
 facts_step size c h (OfJob k (Put file number page)) f m =
-    let a = has_at c h k _ m in
-    facts_act h k (Put file number page) f (number_at h k _ f a) refl (λ e. a.is.0.1)
+    let a = has_at c h k _ m.0 in
+    facts_act h k (Put file number page) f (number_at h k _ f a) (λ e. a.is.0.1)
 facts_step size c h (OfJob k (FileEnded file whole)) f m =
-    let a = has_at c h k _ m in
-    facts_act h k (FileEnded file whole) f (number_at h k _ f a) refl (λ e. a.is.0.1)
+    let a = has_at c h k _ m.0 in
+    facts_act h k (FileEnded file whole) f (number_at h k _ f a) (λ e. a.is.0.1)
 facts_step size c h (OfJob k (Controlled control whole)) f m =
-    let a = has_at c h k _ m.1 in
-    facts_act h k (Controlled control whole) f (number_at h k _ f a) refl (λ e. a.is.0.1)
+    let a = has_at c h k _ m.0 in
+    facts_act h k (Controlled control whole) f (number_at h k _ f a) (λ e. a.is.0.1)
 facts_step size c h (OfJob k Aborted) f m =
-    let a = has_at c h k _ m in
-    facts_act h k Aborted f (number_at h k _ f a) refl (received_aborted h k)
+    let a = has_at c h k _ m.0 in
+    facts_act h k Aborted f (number_at h k _ f a) (received_aborted h k)
 facts_step size c h (AtPrinter p sheet Handed) f m = facts_handed h p sheet f (turn_of_page c h p sheet m.0.0 m.0.1 m.1)
 facts_step size c h (AtPrinter p sheet (Printed x)) f m = facts_back h p sheet (Printed x) refl f (is_out c h p sheet m.0 m.1.0)
 facts_step size c h (AtPrinter p sheet Failed) f m = facts_back h p sheet Failed refl f (is_out c h p sheet m.0 m.1)

@@ -7,6 +7,7 @@ use Rattle.std.proofs.lemmas.Slice.Eq.{bytes_eq-Decides}
 use Rattle.control_file.specs.Text.{Contents}
 use Rattle.control_file.specs.Kept.{is_among, is_print_list, all_differ}
 use Rattle.lpd_commands.specs.Name.{is_data_name}
+use Rattle.std.proofs.lemmas.Bool.{and_parts, not-true}
 use Rattle.spool_history.specs.Events.{Act, Event}
 use Rattle.spool_history.specs.Events.Act.{Granted, Began, Put, FileEnded, Controlled, Aborted}
 use Rattle.spool_history.specs.Events.Event.{Opened, OfJob, AtPrinter, Removed, Started, Closed}
@@ -16,7 +17,7 @@ use Rattle.spool_history.specs.Said.{acts_of}
 use Rattle.spool_history.specs.Now.{now}
 use Rattle.spool_history.specs.Legal.{IsLegal, May}
 use Rattle.spool_laws.specs.Leaving.{places_of}
-use Rattle.spool_laws.proofs.Known.{has_at, test, clash, and_true, not_true, or_true}
+use Rattle.spool_laws.proofs.Known.{has_at, test, clash, or_true}
 
 -- how many pages files have
 abbrev pub pages_in : {C : Type 0} → List (File C) → ℕ
@@ -52,7 +53,7 @@ less_lent true n m le = omega arith
 less_lent false n m le = omega arith
 
 differ : (names : List (List ℕ)) → is_print_list names ≡ true → all_differ names ≡ true
-differ names e = (and_true ((nat_le 1 (length names) && nat_le (length names) 52) && list_all is_data_name names) (all_differ names) e).1
+differ names e = (and_parts ((nat_le 1 (length names) && nat_le (length names) 52) && list_all is_data_name names) (all_differ names) e).1
 
 keeps_granted : {C : Type 0} (acts : List (Act C)) → Keeps acts → is_open_in (files_by acts) ≡ true → Keeps (Granted ∷ acts)
 keeps_granted acts k open' = record { lent = λ e. open'; count = (let n = less_lent (is_lent_by acts) (pages_in (files_by acts)) (granted_by acts) k.count in omega arith); prints = k.prints }
@@ -79,12 +80,12 @@ keeps_act {C} h k act f new j = elim (test k j) [
 ]
 
 keeps_step : {C : Type 0} (size : C → ℕ) (c : Config) (h : List (Event C)) (e : Event C) → May size (now c h) e → ((j : ℕ) → Keeps (acts_of h j)) → (j : ℕ) → Keeps (acts_of (e ∷ h) j)
-keeps_step size c h (Opened k s q) m f = keeps_act h k (Opened s q) f (let i = f k in record { lent = i.lent; count = i.count; prints = i.prints })
-keeps_step size c h (OfJob k Granted) m f = keeps_act h k Granted f (keeps_granted (acts_of h k) (f k) (has_at c h k _ m.0).is.1)
+keeps_step size c h (Opened k s q) m f = f
+keeps_step size c h (OfJob k Granted) m f = keeps_act h k Granted f (keeps_granted (acts_of h k) (f k) (has_at c h k _ m.0).is.0.1)
 keeps_step size c h (OfJob k (Began name count)) m f = keeps_act h k (Began name count) f (keeps_began (acts_of h k) name count (f k))
-keeps_step size c h (OfJob k (Put file number page)) m f = keeps_act h k (Put file number page) f (keeps_put (acts_of h k) file number page (f k) (has_at c h k _ m).is.1)
-keeps_step size c h (OfJob k (FileEnded file whole)) m f = keeps_act h k (FileEnded file whole) f (keeps_ended (acts_of h k) file whole (f k) (has_at c h k _ m).is.1)
-keeps_step size c h (OfJob k (Controlled control whole)) m f = keeps_act h k (Controlled control whole) f (keeps_controlled (acts_of h k) control whole (f k) m.0.prints)
+keeps_step size c h (OfJob k (Put file number page)) m f = keeps_act h k (Put file number page) f (keeps_put (acts_of h k) file number page (f k) (has_at c h k _ m.0).is.1)
+keeps_step size c h (OfJob k (FileEnded file whole)) m f = keeps_act h k (FileEnded file whole) f (keeps_ended (acts_of h k) file whole (f k) (has_at c h k _ m.0).is.1)
+keeps_step size c h (OfJob k (Controlled control whole)) m f = keeps_act h k (Controlled control whole) f (keeps_controlled (acts_of h k) control whole (f k) m.1.prints)
 keeps_step size c h (OfJob k Aborted) m f = keeps_act h k Aborted f (keeps_aborted (acts_of h k) (f k))
 keeps_step size c h (AtPrinter p sheet turn) m f = f
 keeps_step size c h (Removed q jobs) m f = f
@@ -138,9 +139,9 @@ tally_name name names n (f ∷ fs) none =
 places_tally : {C : Type 0} (names : List (List ℕ)) (fs : List (File C)) → all_differ names ≡ true → length (flat_map (λ name. pages_named name 0 fs) names) ≤ tally names fs
 places_tally [] fs d = omega arith
 places_tally (name ∷ names) fs d =
-    let a = and_true (not (is_among name names)) (all_differ names) d in
+    let a = and_parts (not (is_among name names)) (all_differ names) d in
     let ih = places_tally names fs a.1 in
-    let s = tally_name name names 0 fs (not_true (is_among name names) a.0) in
+    let s = tally_name name names 0 fs (not-true (is_among name names) a.0) in
     let e = length-append (pages_named name 0 fs) (flat_map (λ name. pages_named name 0 fs) names) in
     omega arith
 

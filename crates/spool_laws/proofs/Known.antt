@@ -1,8 +1,9 @@
 -- The jobs that a spool holds are accepted ones.
 use Rattle.std.proofs.Common.{◌⊎◌, inl, inr, ◌≡◌, ◌==◌, ◌≢◌, ℕ, zero, suc, ◌<◌, Bool, true, false, List, [], ◌∷◌, ◌++◌, length, get_or, map, refl, sym, ◌∙◌, ap, subst, arith}
-use Rattle.std.specs.Prelude.{◌&&◌, ◌||◌, not, cond, filter, find, Contains, Some}
+use Rattle.std.specs.Prelude.{◌&&◌, ◌||◌, cond, filter, find, Contains, Some}
 use Rattle.std.specs.List.{list_any}
 use Rattle.std.proofs.lemmas.Bool.Decides.{nat_tests}
+use Rattle.std.proofs.lemmas.Bool.{or_parts}
 use Rattle.spool_history.specs.Events.{Event}
 use Rattle.config_values.specs.Config.{Config}
 use Rattle.spool_history.specs.Said.{Opening, openings}
@@ -21,22 +22,6 @@ test k j = test_by k j (k == j) refl
 
 pub clash : (b : Bool) → b ≡ true → b ≡ false → ⊥
 clash b e f = cc
-
-pub and_true : (a b : Bool) → (a && b) ≡ true → (a ≡ true) × (b ≡ true)
-and_true true b e = (refl, e)
-and_true false b e = absurd cc
-
-pub both_true : (a b : Bool) → a ≡ true → b ≡ true → (a && b) ≡ true
-both_true true b e f = f
-both_true false b e f = absurd cc
-
-pub not_true : (a : Bool) → not a ≡ true → a ≡ false
-not_true true e = absurd cc
-not_true false e = refl
-
-pub or_false : (a b : Bool) → (a || b) ≡ false → (a ≡ false) × (b ≡ false)
-or_false true b e = absurd cc
-or_false false b e = (refl, e)
 
 pub or_true : (b : Bool) → (b || true) ≡ true
 or_true true = refl
@@ -79,8 +64,8 @@ find_has test x (y ∷ ys) e = find_step test x y ys (test y) refl e (find_has t
 pub none_of : {X : Type 0} (test' : X → Bool) (y : X) (xs : List X) → list_any test' xs ≡ false → Has y xs → test' y ≡ false
 none_of test' y [] e has = absurd has
 none_of {X} test' y (x ∷ xs) e has = elim has [
-  | inl s ↦ subst (λ (z : X). test' z ≡ false) s (or_false (test' x) (list_any test' xs) e).0
-  | inr t ↦ none_of test' y xs (or_false (test' x) (list_any test' xs) e).1 t
+  | inl s ↦ subst (λ (z : X). test' z ≡ false) s (or_parts (test' x) (list_any test' xs) e).0
+  | inr t ↦ none_of test' y xs (or_parts (test' x) (list_any test' xs) e).1 t
 ]
 
 pub filter_cons : {C : Type 0} (b : Bool) (x : Job C) (xs : List (Job C)) → is_held x ≡ b → filter is_held (x ∷ xs) ≡ cond b (x ∷ filter is_held xs) (filter is_held xs)
@@ -136,7 +121,7 @@ known_at {C} h x j P k e p =
       is = subst (λ (q : Opening). P (job_of h q)) (sym o) (subst P k.is p);
     }
 
-pub has_at : {C : Type 0} (c : Config) (h : List (Event C)) (j : ℕ) (P : Job C → Type 0) → HasJob (now c h) j P → At h j P
+pub has_at : {C : Type 0} (c : Config) (h : List (Event C)) (j : ℕ) (P : Job C → Type 0) → HasJob (now c h).jobs j P → At h j P
 has_at c h j P m = known_at h m.job j P (known c h m.job (has_contained m.job (now c h).jobs m.there)) m.number m.is
 
 -- an accepted job that is held is among the held ones

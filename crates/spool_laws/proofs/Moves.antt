@@ -7,7 +7,6 @@ use Rattle.std.proofs.lemmas.List.Elements.{filter-append}
 use Rattle.std.proofs.lemmas.List.Sums.{sum_by_push}
 use Rattle.std.proofs.lemmas.Bool.Decides.{nat_tests}
 use Rattle.spool_history.specs.Events.{Event}
-use Rattle.spool_history.specs.Events.Act.{Granted, Began, Put, FileEnded, Controlled, Aborted}
 use Rattle.spool_history.specs.Events.Turn.{Handed, Printed, Failed}
 use Rattle.spool_history.specs.Events.Event.{Opened, OfJob, AtPrinter, Removed, Started, Closed}
 use Rattle.config_values.specs.Config.{Config, printer_count, reserve_of}
@@ -58,9 +57,6 @@ stays_removed : {C : Type 0} (h : List (Event C)) (q : ℕ) (jobs : List ℕ) (o
 stays_removed h q jobs o true e gone = rw e (gone_ended (has_ended h o.job) (has_page_out (job_of h o)) gone)
 stays_removed h q jobs o false e gone = rw e gone
 
-stays_opened : {C : Type 0} (h : List (Event C)) (k s q : ℕ) → StaysGone h (Opened k s q)
-stays_opened h k s q o gone = elim (test k o.job) [ inl r ↦ rw r.1 gone | inr r ↦ rw r.1 gone ]
-
 -- a job of which a page is out is held
 out_held : {C : Type 0} (h : List (Event C)) (k : ℕ) → handed_at h k ≡ back_of h k + 1 → held_at h k ≡ true
 out_held h k e =
@@ -68,13 +64,8 @@ out_held h k e =
     rw ne (rw (or_true (is_lent_by (acts_of h k))) (or_true (not (has_ended h k))))
 
 pub stays : {C : Type 0} (size : C → ℕ) (c : Config) (h : List (Event C)) (e : Event C) → IsLegal size c h → May size (now c h) e → StaysGone h e
-stays size c h (Opened k s q) l m = stays_opened h k s q
-stays size c h (OfJob k Granted) l m = stays_named h (OfJob k Granted) (acted Granted) k (λ v. refl) (has_at c h k _ m.0).held
-stays size c h (OfJob k (Began name count)) l m = stays_named h (OfJob k (Began name count)) (acted (Began name count)) k (λ v. refl) (has_at c h k _ m.1).held
-stays size c h (OfJob k (Put file number page)) l m = stays_named h (OfJob k (Put file number page)) (acted (Put file number page)) k (λ v. refl) (has_at c h k _ m).held
-stays size c h (OfJob k (FileEnded file whole)) l m = stays_named h (OfJob k (FileEnded file whole)) (acted (FileEnded file whole)) k (λ v. refl) (has_at c h k _ m).held
-stays size c h (OfJob k (Controlled control whole)) l m = stays_named h (OfJob k (Controlled control whole)) (acted (Controlled control whole)) k (λ v. refl) (has_at c h k _ m.1).held
-stays size c h (OfJob k Aborted) l m = stays_named h (OfJob k Aborted) (acted Aborted) k (λ v. refl) (has_at c h k _ m).held
+stays size c h (Opened k s q) l m = λ o gone. gone
+stays size c h (OfJob k act) l m = stays_named h (OfJob k act) (acted act) k (λ v. refl) (has_at c h k _ m.0).held
 stays size c h (AtPrinter p sheet Handed) l m =
     stays_named h (AtPrinter p sheet Handed) (turned Handed) sheet.job (λ v. refl) (turn_of_page c h p sheet m.0.0 m.0.1 m.1).at.held
 stays size c h (AtPrinter p sheet (Printed x)) l m =
@@ -121,12 +112,11 @@ moved_opened {C} c h j s q f open' is =
     let d = u.back in
     let n = u.ended open' in
     let new : job_of h o ≡ new_job j s q = rw (a, b, d, n) refl in
-    let same : change e (job_of h o) ≡ job_of h o = (elim (test j j) [ inl r ↦ rw r.1 refl | inr r ↦ rw r.1 refl ]) in
-    let last : filter is_held (map (job_of (e ∷ h)) (o ∷ [])) ≡ new_job j s q ∷ [] = ap (λ (v : Job C). filter is_held (v ∷ [])) (changes h e o ∙ (same ∙ new)) in
+    let last : filter is_held (map (job_of (e ∷ h)) (o ∷ [])) ≡ new_job j s q ∷ [] = ap (λ (v : Job C). filter is_held (v ∷ [])) new in
     let split : filter is_held (map (job_of (e ∷ h)) (openings h ++ o ∷ [])) ≡ filter is_held (map (job_of (e ∷ h)) (openings h)) ++ filter is_held (map (job_of (e ∷ h)) (o ∷ [])) =
     ap (filter is_held) (map-append (job_of (e ∷ h)) (openings h) (o ∷ [])) ∙ filter-append is_held (map (job_of (e ∷ h)) (openings h)) (map (job_of (e ∷ h)) (o ∷ [])) in
     let old = filter is_held (map (change e) (now c h).jobs) in
-    let kept : filter is_held (map (job_of (e ∷ h)) (openings h)) ≡ old = jobs_change h e (stays_opened h j s q) in
+    let kept : filter is_held (map (job_of (e ∷ h)) (openings h)) ≡ old = jobs_change h e (λ x gone. gone) in
     let jobs : filter is_held (map (job_of (e ∷ h)) (openings h ++ o ∷ [])) ≡ old ++ new_job j s q ∷ [] =
     split ∙ (ap (λ (l : List (Job C)). l ++ filter is_held (map (job_of (e ∷ h)) (o ∷ []))) kept ∙ ap (λ (l : List (Job C)). old ++ l) last) in
     let count : length (openings h ++ o ∷ []) ≡ length (openings h) + 1 = length_push (openings h) o in
@@ -136,12 +126,7 @@ moved_opened {C} c h j s q f open' is =
 
 pub moved : {C : Type 0} (size : C → ℕ) (c : Config) (h : List (Event C)) (e : Event C) → IsLegal size c h → May size (now c h) e → now c (e ∷ h) ≡ after e (now c h)
 moved size c h (Opened k s q) l m = moved_opened c h k s q (facts size c h l) m.0 m.4
-moved size c h (OfJob k Granted) l m = moved_by c h (OfJob k Granted) (append-nil (openings h)) refl (stays size c h (OfJob k Granted) l m) refl refl
-moved size c h (OfJob k (Began name count)) l m = moved_by c h (OfJob k (Began name count)) (append-nil (openings h)) refl (stays size c h (OfJob k (Began name count)) l m) refl refl
-moved size c h (OfJob k (Put file number page)) l m = moved_by c h (OfJob k (Put file number page)) (append-nil (openings h)) refl (stays size c h (OfJob k (Put file number page)) l m) refl refl
-moved size c h (OfJob k (FileEnded file whole)) l m = moved_by c h (OfJob k (FileEnded file whole)) (append-nil (openings h)) refl (stays size c h (OfJob k (FileEnded file whole)) l m) refl refl
-moved size c h (OfJob k (Controlled control whole)) l m = moved_by c h (OfJob k (Controlled control whole)) (append-nil (openings h)) refl (stays size c h (OfJob k (Controlled control whole)) l m) refl refl
-moved size c h (OfJob k Aborted) l m = moved_by c h (OfJob k Aborted) (append-nil (openings h)) refl (stays size c h (OfJob k Aborted) l m) refl refl
+moved size c h (OfJob k act) l m = moved_by c h (OfJob k act) refl refl (stays size c h (OfJob k act) l m) refl refl
 moved size c h (AtPrinter p sheet turn) l m = moved_by c h (AtPrinter p sheet turn) refl refl (stays size c h (AtPrinter p sheet turn) l m) (printers_turned c h p sheet turn m.0.0 m.0.1) refl
 moved size c h (Removed q jobs) l m = moved_by c h (Removed q jobs) refl refl (stays size c h (Removed q jobs) l m) refl refl
 moved size c h (Started q) l m = moved_by c h (Started q) refl refl (stays size c h (Started q) l m) (printers_started c h q) refl

@@ -60,8 +60,7 @@ last_in g k m (x ∷ []) e = ap (λ y. y ∷ []) (e x)
 last_in g k m (x ∷ y ∷ ys) e = ap (λ l. g x ∷ l) (last_in g k m (y ∷ ys) e)
 
 -- a job
-acts_in : {A B : Type 0} (f : A → B) (act : Act A) (v : Job A) → acted (outline_act f act) (job_in f v) ≡ job_in f (acted act v)
-acts_in f (Opened s q) v = refl
+pub acts_in : {A B : Type 0} (f : A → B) (act : Act A) (v : Job A) → acted (outline_act f act) (job_in f v) ≡ job_in f (acted act v)
 acts_in f Granted v = refl
 acts_in {A} {B} f (Began name count) v = ap (λ (fs : List (File B)). record (job_in f v) { files = fs }) (sym (map-append (file_in f) v.files _))
 acts_in {A} {B} f (Put file number page) v =
@@ -86,6 +85,7 @@ if_in g true x y x' e = e
 if_in g false x y x' e = refl
 
 pub change_in : {A B : Type 0} (f : A → B) (e : Event A) (v : Job A) → change (outline_event f e) (job_in f v) ≡ job_in f (change e v)
+change_in f (Opened k s q) v = refl
 change_in f (OfJob k act) v = if_in (job_in f) (k == v.number) (acted act v) v _ (acts_in f act v)
 change_in f (AtPrinter p sheet turn) v = if_in (job_in f) (sheet.job == v.number) (turned turn v) v _ (turns_in f turn v)
 change_in f (Removed q jobs) v = if_in (job_in f) (list_any (λ k. k == v.number) jobs) (record v { ended = true }) v _ refl
@@ -102,12 +102,7 @@ held_in f (v ∷ vs) = keep_in (job_in f) (is_held v) v (filter is_held vs) _ (h
 
 accepted_in : {A B : Type 0} (f : A → B) (e : Event A) → accepted_by (outline_event f e) ≡ map (job_in f) (accepted_by e)
 accepted_in f (Opened k s q) = refl
-accepted_in f (OfJob k Granted) = refl
-accepted_in f (OfJob k (Began name count)) = refl
-accepted_in f (OfJob k (Put file number page)) = refl
-accepted_in f (OfJob k (FileEnded file whole)) = refl
-accepted_in f (OfJob k (Controlled control whole)) = refl
-accepted_in f (OfJob k Aborted) = refl
+accepted_in f (OfJob k act) = refl
 accepted_in f (AtPrinter p sheet turn) = refl
 accepted_in f (Removed q jobs) = refl
 accepted_in f (Started q) = refl
@@ -118,12 +113,7 @@ accepted_count f e = ap length (accepted_in f e) ∙ length-map (accepted_by e) 
 
 accepted_reserve : {A B : Type 0} (f : A → B) (c : Config) (e : Event A) → sum_by (λ (j : Job B). reserve_of c j.queue) (accepted_by (outline_event f e)) ≡ sum_by (λ (j : Job A). reserve_of c j.queue) (accepted_by e)
 accepted_reserve f c (Opened k s q) = refl
-accepted_reserve f c (OfJob k Granted) = refl
-accepted_reserve f c (OfJob k (Began name count)) = refl
-accepted_reserve f c (OfJob k (Put file number page)) = refl
-accepted_reserve f c (OfJob k (FileEnded file whole)) = refl
-accepted_reserve f c (OfJob k (Controlled control whole)) = refl
-accepted_reserve f c (OfJob k Aborted) = refl
+accepted_reserve f c (OfJob k act) = refl
 accepted_reserve f c (AtPrinter p sheet turn) = refl
 accepted_reserve f c (Removed q jobs) = refl
 accepted_reserve f c (Started q) = refl
@@ -131,7 +121,7 @@ accepted_reserve f c Closed = refl
 
 -- the printers
 pub printer_at_in : {A B : Type 0} (f : A → B) (v : State A) (p : ℕ) → printer_at (state_in f v) p ≡ printer_in f (printer_at v p)
-printer_at_in f v p = get_in (printer_in f) v.printers (p - 1) no_printer
+printer_at_in f v p = get_in (printer_in f) (no_printer ∷ v.printers) p no_printer
 
 printer_turned_in : {A B : Type 0} (f : A → B) (sheet : Sheet A) (turn : Turn) (p : Printer A) → printer_turned (outline_sheet f sheet) turn (printer_in f p) ≡ printer_in f (printer_turned sheet turn p)
 printer_turned_in f sheet Handed p = refl
@@ -139,6 +129,7 @@ printer_turned_in f sheet (Printed x) p = refl
 printer_turned_in f sheet Failed p = refl
 
 printers_in : {A B : Type 0} (f : A → B) (e : Event A) (v : State A) → printers_after (outline_event f e) (state_in f v) ≡ map (printer_in f) (printers_after e v)
+printers_in f (Opened k s q) v = refl
 printers_in f (OfJob k act) v = refl
 printers_in {A} {B} f (AtPrinter p sheet turn) v =
     ap (λ (x : Printer B). set (map (printer_in f) v.printers) (p - 1) (printer_turned (outline_sheet f sheet) turn x)) (printer_at_in f v p)
@@ -149,6 +140,7 @@ printers_in f (Started q) v = map_both _ (printer_in f) (printer_in f) _ v.print
 printers_in f Closed v = refl
 
 closed_in : {A B : Type 0} (f : A → B) (e : Event A) (b : Bool) → closed_after (outline_event f e) b ≡ closed_after e b
+closed_in f (Opened k s q) b = refl
 closed_in f (OfJob k act) b = refl
 closed_in f (AtPrinter p sheet turn) b = refl
 closed_in f (Removed q jobs) b = refl

@@ -11,7 +11,7 @@ use Rattle.spool_history.specs.Events.{Sheet}
 use Rattle.spool_history.specs.Events.Progress.{Going, Done, Ended}
 use Rattle.config_values.specs.Config.{Config, limit_of}
 use Rattle.spool_history.specs.Acts.{File, Page, prints_in, is_open_in, names_in, numbered, pages_named}
-use Rattle.spool_history.specs.Now.{Job, Printer, State, is_received, places, printers_held, printers_needed, amounts, row_of, capacity, free_pages, IsSafeNow}
+use Rattle.spool_history.specs.Now.{Job, Printer, State, is_received, places, pages_out, printers_held, printers_needed, amounts, row_of, capacity, free_pages, IsSafeNow}
 use Rattle.spool_history.specs.Next.{Next, hand_first, hand_of, is_preceded_by, is_ready, first_ready, or_first, turn_of, with_out, next_at, printer_at, next_page}
 use Rattle.spool_history.specs.Next.Next.{Hands, Nothing, Stops, Busy, Over}
 use Rattle.spool_history.specs.Legal.{progress_of}
@@ -78,7 +78,7 @@ row_by c v received n = record {
   number = v.number;
   sender = v.sender;
   queue = v.queue;
-  held = amounts c (cond v.ended 1 (cond received (n - v.back) v.granted)) v.queue (printers_held v);
+  held = amounts c (cond v.ended (pages_out v) (cond received (n - v.back) v.granted)) v.queue (printers_held v);
   need = amounts c (cond (v.ended || received) 0 (limit_of c v.queue - v.granted)) v.queue (printers_needed v);
 }
 

@@ -112,9 +112,6 @@ not_served n (q ∷ qs) p = not_served_by n q qs p (nat_le p q.printers) refl (n
 abbrev pub serves : ℕ → List Queue → ℕ → ℕ → ℕ
 serves n qs k p = cond (served_from n qs p == k) 1 0
 
-serves_small : (n : ℕ) (qs : List Queue) (k p : ℕ) → serves n qs k p ≤ 1
-serves_small n qs k p = elim (test (served_from n qs p) k) [ inl s ↦ rw s.1 (omega arith) | inr s ↦ rw s.1 (omega arith) ]
-
 serves_first : (n : ℕ) (q : Queue) (qs : List Queue) (k p : ℕ) → p ≤ q.printers → serves n (q ∷ qs) k p ≡ cond (n == k) 1 0
 serves_first n q qs k p le = let e : nat_le p q.printers ≡ true = grind (arith, nat_tests) in rw e refl
 

@@ -14,9 +14,6 @@ use Rattle.spool_laws.specs.Leaving.{places_of, sheets}
 use Rattle.spool_laws.proofs.Known.{has_at, test}
 use Rattle.spool_laws.proofs.Facts.{facts, Turn', turn_of_page, handed_at, handed_one, handed_more, handed_same}
 
-sheet_of : {C : Type 0} → (job place : ℕ) → Page C → Sheet C
-sheet_of job place x = record { job = job; place = place; file = x.file; number = x.number; page = x.page }
-
 sheets_last : {C : Type 0} (j n : ℕ) (xs : List (Page C)) (x : Page C) → sheets j n (xs ++ x ∷ []) ≡ sheets j n xs ++ record { job = j; place = n + length xs; file = x.file; number = x.number; page = x.page } ∷ []
 sheets_last {C} j n [] x =
     let f : ℕ → List (Sheet C) = λ m. record { job = j; place = m; file = x.file; number = x.number; page = x.page } ∷ [] in
@@ -58,9 +55,6 @@ placed_act {C} h k act none f j = elim (test k j) [
   | inr s ↦ rw s.1 (f j)
 ]
 
-placed_opened : {C : Type 0} (h : List (Event C)) (k s q : ℕ) → Placed h → Placed (Opened k s q ∷ h)
-placed_opened h k s q f j = elim (test k j) [ inl r ↦ rw r.1 (f j) | inr r ↦ rw r.1 (f j) ]
-
 placed_aborted : {C : Type 0} (h : List (Event C)) (k : ℕ) → Placed h → Placed (OfJob k Aborted ∷ h)
 placed_aborted h k f j = elim (test k j) [ inl r ↦ rw r.1 (f j) | inr r ↦ rw r.1 (f j) ]
 
@@ -90,12 +84,12 @@ placed_back : {C : Type 0} (h : List (Event C)) (p : ℕ) (sheet : Sheet C) (tur
 placed_back {C} h p sheet turn is f j = subst (λ (l : List (Sheet C)). PlacedAs l j (places_of h j)) (sym (handed_same h p sheet turn j is)) (f j)
 
 placed_step : {C : Type 0} (size : C → ℕ) (c : Config) (h : List (Event C)) (e : Event C) → IsLegal size c h → May size (now c h) e → Placed h → Placed (e ∷ h)
-placed_step size c h (Opened k s q) l m f = placed_opened h k s q f
-placed_step size c h (OfJob k Granted) l m f = placed_act h k Granted ((facts size c h l).begun k (has_at c h k _ m.0).is.0.1) f
-placed_step size c h (OfJob k (Began name count)) l m f = placed_act h k (Began name count) ((facts size c h l).begun k (has_at c h k _ m.1).is.0.1) f
-placed_step size c h (OfJob k (Put file number page)) l m f = placed_act h k (Put file number page) ((facts size c h l).begun k (has_at c h k _ m).is.0.1) f
-placed_step size c h (OfJob k (FileEnded file whole)) l m f = placed_act h k (FileEnded file whole) ((facts size c h l).begun k (has_at c h k _ m).is.0.1) f
-placed_step size c h (OfJob k (Controlled control whole)) l m f = placed_act h k (Controlled control whole) ((facts size c h l).begun k (has_at c h k _ m.1).is.0.1) f
+placed_step size c h (Opened k s q) l m f = f
+placed_step size c h (OfJob k Granted) l m f = placed_act h k Granted ((facts size c h l).begun k (has_at c h k _ m.0).is.0.0.1) f
+placed_step size c h (OfJob k (Began name count)) l m f = placed_act h k (Began name count) ((facts size c h l).begun k (has_at c h k _ m.0).is.0.1) f
+placed_step size c h (OfJob k (Put file number page)) l m f = placed_act h k (Put file number page) ((facts size c h l).begun k (has_at c h k _ m.0).is.0.1) f
+placed_step size c h (OfJob k (FileEnded file whole)) l m f = placed_act h k (FileEnded file whole) ((facts size c h l).begun k (has_at c h k _ m.0).is.0.1) f
+placed_step size c h (OfJob k (Controlled control whole)) l m f = placed_act h k (Controlled control whole) ((facts size c h l).begun k (has_at c h k _ m.0).is.0.1) f
 placed_step size c h (OfJob k Aborted) l m f = placed_aborted h k f
 placed_step size c h (AtPrinter p sheet Handed) l m f = placed_handed h p sheet (turn_of_page c h p sheet m.0.0 m.0.1 m.1) f
 placed_step size c h (AtPrinter p sheet (Printed x)) l m f = placed_back h p sheet (Printed x) refl f

@@ -45,9 +45,8 @@ set_up_to {P} f g n p x lt is other =
         other (suc k) ne' ∙ sym (get_or-set_other (map f (up_to n)) p k x d ne ∙ get_up_to f n k d below)
 
 pub at_printer : {C : Type 0} (c : Config) (h : List (Event C)) (p : ℕ) → 1 ≤ p → p ≤ printer_count c → printer_at (now c h) p ≡ printer_of c h p
-at_printer c h p one le =
-    let e : suc (p - 1) ≡ p = omega arith in
-    get_up_to (printer_of c h) (printer_count c) (p - 1) no_printer (omega arith) ∙ ap (printer_of c h) e
+at_printer c h zero one le = absurd (omega arith)
+at_printer c h (suc p) one le = get_up_to (printer_of c h) (printer_count c) p no_printer le
 
 turned_other : {C : Type 0} (c : Config) (h : List (Event C)) (p : ℕ) (sheet : Sheet C) (turn : Turn) (q : ℕ) (b : Bool) → (p == q) ≡ b → q ≢ p → printer_of c (AtPrinter p sheet turn ∷ h) q ≡ printer_of c h q
 turned_other c h p sheet turn q true e ne = absurd (ne (grind (arith, nat_tests)))

@@ -1,15 +1,13 @@
 -- The entries of a history are within the reserves of its accepted jobs, and one.
-use Rattle.std.proofs.Common.{inl, inr, ◌≡◌, ◌==◌, ◌≢◌, ℕ, suc, ◌+◌, ◌<◌, ◌≤◌, Bool, true, false, List, [], ◌∷◌, ◌++◌, length, refl, sym, ◌∙◌, ap, arith}
+use Rattle.std.proofs.Common.{inl, inr, ◌≡◌, ◌==◌, ◌≢◌, ℕ, suc, ◌+◌, ◌<◌, ◌≤◌, Bool, true, false, List, [], ◌∷◌, length, refl, sym, ◌∙◌, ap, arith}
 use Rattle.std.specs.Prelude.{sum_by}
 use Rattle.std.specs.List.{list_any, AllByRecursion}
-use Rattle.std.proofs.lemmas.List.{append-nil}
 use Rattle.std.proofs.lemmas.List.Sums.{sum_by_push}
 use Rattle.spool_history.specs.Events.{Act, Event, Sheet, Turn}
-use Rattle.spool_history.specs.Events.Act.{Granted, Began, Put, FileEnded, Controlled, Aborted}
 use Rattle.spool_history.specs.Events.Turn.{Handed, Printed, Failed}
 use Rattle.spool_history.specs.Events.Event.{Opened, OfJob, AtPrinter, Removed, Started, Closed}
 use Rattle.config_values.specs.Config.{Config, printer_count, queue_of, reserve_of}
-use Rattle.spool_history.specs.Said.{Opening, openings, opening_by, acts_of, is_handed, is_failed, is_stopped_at, is_closed}
+use Rattle.spool_history.specs.Said.{Opening, openings, acts_of, is_handed, is_failed, is_stopped_at, is_closed}
 use Rattle.spool_history.specs.Now.{Job, Printer, now, up_to}
 use Rattle.spool_history.specs.Legal.{HasJob, IsLegal, May}
 use Rattle.spool_laws.proofs.Known.{Has, At, has_at, test}
@@ -25,7 +23,10 @@ abbrev pub Accepted : {C : Type 0} → List (Event C) → ℕ → Type 0
 Accepted h j = (o : Opening) × Has o (openings h) × (o.job ≡ j)
 
 accepted_step : {C : Type 0} (size : C → ℕ) (c : Config) (h : List (Event C)) (e : Event C) → IsLegal size c h → May size (now c h) e → ((j : ℕ) → 0 < handed_at h j → Accepted h j) → (j : ℕ) → 0 < handed_at (e ∷ h) j → Accepted (e ∷ h) j
-accepted_step size c h (OfJob k act) l m a j pos = let o = a j pos in (o.0, has_left o.0 (openings h) (opening_by k act) o.1, o.2)
+accepted_step size c h (Opened k s q) l m a j pos =
+    let o = a j pos in
+    (o.0, has_left o.0 (openings h) (record { job = k; sender = s; queue = q } ∷ []) o.1, o.2)
+accepted_step size c h (OfJob k act) l m a j pos = a j pos
 accepted_step size c h (AtPrinter p sheet Handed) l m a j pos = elim (test sheet.job j) [
   | inl s ↦ (let t = (turn_of_page c h p sheet m.0.0 m.0.1 m.1).at in (record { job = sheet.job; sender = t.sender; queue = t.queue }, t.there, s.0))
   | inr s ↦ a j (let n = ap length (handed_more h p sheet j s.0) in omega arith)
@@ -145,10 +146,8 @@ starts_one c h q p e is = elim (test q (queue_of c p)) [
 abbrev Told' : {C : Type 0} → Config → List (Event C) → Type 0
 Told' c h = length h + stops c h ≤ all_used h (openings h) + one_if (is_closed h)
 
-act_told : {C : Type 0} (c : Config) (h : List (Event C)) (k : ℕ) (act : Act C) (P : Job C → Type 0) → opening_by k act ≡ [] → At h k P → Told' c h → Told' c (OfJob k act ∷ h)
-act_told {C} c h k act P none a t =
-    let os : openings h ++ opening_by k act ≡ openings h = ap (λ (l : List Opening). openings h ++ l) none ∙ append-nil (openings h) in
-    let e : all_used (OfJob k act ∷ h) (openings h ++ opening_by k act) ≡ all_used (OfJob k act ∷ h) (openings h) = ap (all_used (OfJob k act ∷ h)) os in
+act_told : {C : Type 0} (c : Config) (h : List (Event C)) (k : ℕ) (act : Act C) (P : Job C → Type 0) → At h k P → Told' c h → Told' c (OfJob k act ∷ h)
+act_told c h k act P a t =
     let s = sum_more (used_by h) (used_by (OfJob k act ∷ h)) 1 (record { job = k; sender = a.sender; queue = a.queue }) (openings h) a.there (λ o. more_act h k act o.job) (one_act h k act k refl) in
     omega arith
 
@@ -157,8 +156,7 @@ opened_told {C} c h k s q t =
     let e : Event C = Opened k s q in
     let x : Opening = record { job = k; sender = s; queue = q } in
     let p = sum_by_push (used_by (e ∷ h)) (openings h) x in
-    let m = sum_less (used_by h) (used_by (e ∷ h)) (openings h) (λ o has. more_act h k (Opened s q) o.job) in
-    let one : used h k + 1 ≤ used (e ∷ h) k = one_act h k (Opened s q) k refl in
+    let m = sum_less (used_by h) (used_by (e ∷ h)) (openings h) (λ o has. omega arith) in
     omega arith
 
 turn_told : {C : Type 0} (c : Config) (h : List (Event C)) (p : ℕ) (sheet : Sheet C) (turn : Turn) (o : Opening) → Has o (openings h) → is_failed turn ≡ false → ((j : ℕ) → used h j ≤ used (AtPrinter p sheet turn ∷ h) j) → used h o.job + 1 ≤ used (AtPrinter p sheet turn ∷ h) o.job → Told' c h → Told' c (AtPrinter p sheet turn ∷ h)
@@ -174,7 +172,7 @@ failed_told c h p sheet o has same t =
     let z = up_one (stop c h) (stop c (AtPrinter p sheet Failed ∷ h)) p (printer_count c) (λ q ne. stop_other c h p sheet Failed q ne) (omega arith) in
     omega arith
 
-removed_told : {C : Type 0} (c : Config) (h : List (Event C)) (P : Job C → Type 0) (q : ℕ) (jobs : List ℕ) → 0 < length jobs → AllByRecursion (λ k. HasJob (now c h) k P) jobs → Told' c h → Told' c (Removed q jobs ∷ h)
+removed_told : {C : Type 0} (c : Config) (h : List (Event C)) (P : Job C → Type 0) (q : ℕ) (jobs : List ℕ) → 0 < length jobs → AllByRecursion (λ k. HasJob (now c h).jobs k P) jobs → Told' c h → Told' c (Removed q jobs ∷ h)
 removed_told c h P q [] pos all t = absurd (omega arith)
 removed_told {C} c h P q (k ∷ ks) pos all t =
     let a = has_at c h k P all.0 in
@@ -200,12 +198,7 @@ no_events C = []
 
 told_step : {C : Type 0} (size : C → ℕ) (c : Config) (h : List (Event C)) (e : Event C) → IsLegal size c h → May size (now c h) e → Told' c h → Told' c (e ∷ h)
 told_step size c h (Opened k s q) l m t = opened_told c h k s q t
-told_step size c h (OfJob k Granted) l m t = act_told c h k Granted _ refl (has_at c h k _ m.0) t
-told_step size c h (OfJob k (Began name count)) l m t = act_told c h k (Began name count) _ refl (has_at c h k _ m.1) t
-told_step size c h (OfJob k (Put file number page)) l m t = act_told c h k (Put file number page) _ refl (has_at c h k _ m) t
-told_step size c h (OfJob k (FileEnded file whole)) l m t = act_told c h k (FileEnded file whole) _ refl (has_at c h k _ m) t
-told_step size c h (OfJob k (Controlled control whole)) l m t = act_told c h k (Controlled control whole) _ refl (has_at c h k _ m.1) t
-told_step size c h (OfJob k Aborted) l m t = act_told c h k Aborted _ refl (has_at c h k _ m) t
+told_step size c h (OfJob k act) l m t = act_told c h k act _ (has_at c h k _ m.0) t
 told_step size c h (AtPrinter p sheet Handed) l m t =
     let a = (turn_of_page c h p sheet m.0.0 m.0.1 m.1).at in
     turn_told c h p sheet Handed (record { job = sheet.job; sender = a.sender; queue = a.queue }) a.there refl (more_handed h p sheet) (one_handed h p sheet sheet.job refl) t
@@ -220,7 +213,7 @@ told_step size c h (AtPrinter p sheet Failed) l m t =
 told_step size c h (Removed q jobs) l m t = removed_told c h _ q jobs m.2 m.4 t
 told_step {C} size c h (Started q) l m t =
     let here = at_printer c h m.2 m.3.0 m.3.1 in
-    started_told c h q m.2 m.3.0 m.3.1 (sym (ap (λ (x : Printer C). x.queue) here) ∙ m.4) (sym (ap (λ (x : Printer C). x.stopped) here) ∙ m.5) t
+    started_told c h q m.2 m.3.0 m.3.1 (sym (ap (λ (x : Printer C). x.queue) here) ∙ m.4.0) (sym (ap (λ (x : Printer C). x.stopped) here) ∙ m.4.1) t
 told_step size c h Closed l m t = closed_told c h m t
 
 told_of : {C : Type 0} (size : C → ℕ) (c : Config) (h : List (Event C)) → IsLegal size c h → Told' c h

@@ -5,7 +5,7 @@ use Rattle.std.proofs.lemmas.Bool.Decides.{nat_tests}
 use Rattle.spool_history.specs.Events.{Event, Sheet, Progress}
 use Rattle.spool_history.specs.Events.Progress.{Going, Done, Ended}
 use Rattle.spool_history.specs.Events.Turn.{Handed, Printed, Failed}
-use Rattle.spool_history.specs.Events.Event.{OfJob, AtPrinter, Removed, Started, Closed}
+use Rattle.spool_history.specs.Events.Event.{Opened, OfJob, AtPrinter, Removed, Started, Closed}
 use Rattle.config_values.specs.Config.{Config}
 use Rattle.spool_history.specs.Said.{back_of, has_ended}
 use Rattle.spool_history.specs.Now.{Job, now}
@@ -37,6 +37,7 @@ says {C} size c h p sheet x l m =
 
 pub each_says : {C : Type 0} (size : C → ℕ) (c : Config) (h : List (Event C)) → IsLegal size c h → EachPrinted SaysWhatIs h
 each_says size c [] l = tt
+each_says size c (Opened k s q ∷ h) l = each_says size c h l.1
 each_says size c (OfJob k act ∷ h) l = each_says size c h l.1
 each_says size c (AtPrinter p sheet Handed ∷ h) l = each_says size c h l.1
 each_says size c (AtPrinter p sheet (Printed x) ∷ h) l = (says size c h p sheet x l.1 l.0, each_says size c h l.1)

@@ -1,8 +1,7 @@
 -- What holds of each accepted job, and what each event makes of the row of a held one.
-use Rattle.std.proofs.Common.{◌⊎◌, inl, inr, ◌≡◌, ◌==◌, ◌≢◌, ℕ, zero, suc, ◌+◌, ◌-◌, ◌≤◌, Bool, true, false, List, [], ◌∷◌, length, get_or, map, take, refl, sym, ◌∙◌, ap, subst, arith}
-use Rattle.std.specs.Prelude.{◌||◌, not, cond}
+use Rattle.std.proofs.Common.{inl, inr, ◌≡◌, ◌==◌, ℕ, zero, suc, ◌+◌, ◌-◌, ◌≤◌, Bool, true, false, List, [], ◌∷◌, length, get_or, map, take, refl, sym, ◌∙◌, ap, subst, arith}
+use Rattle.std.specs.Prelude.{cond}
 use Rattle.std.specs.List.{list_any}
-use Rattle.std.proofs.lemmas.Bool.Decides.{nat_tests}
 use Rattle.counts.specs.Amounts.{amount}
 use Rattle.spool_history.specs.Events.{Act, Event, Sheet, Turn}
 use Rattle.spool_history.specs.Events.Act.{Granted, Began, Put, FileEnded, Controlled, Aborted}
@@ -11,14 +10,14 @@ use Rattle.spool_history.specs.Events.Turn.{Handed, Printed, Failed}
 use Rattle.spool_history.specs.Events.Event.{Opened, OfJob, AtPrinter, Removed, Started, Closed}
 use Rattle.config_values.specs.Config.{Config, limit_of}
 use Rattle.spool_history.specs.Acts.{Page, granted_by, files_by}
-use Rattle.spool_history.specs.Said.{Opening, openings, acts_of, back_of}
-use Rattle.spool_history.specs.Now.{Job, now, job_of, is_held, is_received, places, pages_held, printers_held, pages_needed, printers_needed, amounts, row_of, up_to}
+use Rattle.spool_history.specs.Said.{Opening, openings, acts_of}
+use Rattle.spool_history.specs.Now.{Job, now, job_of, is_received, places, pages_out, pages_held, printers_held, pages_needed, printers_needed, amounts, row_of, up_to}
 use Rattle.spool_history.specs.Steps.{change, acted, turned}
 use Rattle.spool_history.specs.Legal.{IsLegal, May}
 use Rattle.spool_laws.specs.Leaving.{places_of, sheets}
 use Rattle.spool_laws.proofs.Known.{Has, At, has_at, test, clash}
 use Rattle.spool_laws.proofs.Changes.{changes}
-use Rattle.spool_laws.proofs.Facts.{Facts, facts, is_out, handed_at}
+use Rattle.spool_laws.proofs.Facts.{Facts, facts, handed_at}
 use Rattle.spool_laws.proofs.Places.{placed}
 use Rattle.spool_laws.proofs.Held.{keeps, places_within, pages_in}
 use Rattle.spool_laws.proofs.Busy.{lent_unreceived}
@@ -99,49 +98,48 @@ lower_receiving {C} c v w e r s we wg wh n s' q =
 
 -- when it ends
 
-abbrev pub Out : {C : Type 0} → Job C → Type 0
-Out v = (v.lent ≡ true) ⊎ (v.handed ≢ v.back)
+-- the pages of it that are out are among those that it holds
+pub out_within_by : {C : Type 0} (v : Job C) (e r l : Bool) → v.ended ≡ e → is_received v ≡ r → v.lent ≡ l → Sound v → pages_out v ≤ pages_held v
+out_within_by v true r l e is le s = rw e (omega arith)
+out_within_by v false true true e is le s = absurd (clash (is_received v) is (s.lent le))
+out_within_by v false true false e is le s =
+    let a = s.handed in
+    let b = s.back in
+    rw (e, is, le) (omega arith)
+out_within_by v false false true e is le s =
+    let z = s.begun is in
+    let b = s.back in
+    let one = s.one le in
+    rw (e, is, le) (omega arith)
+out_within_by v false false false e is le s =
+    let z = s.begun is in
+    let b = s.back in
+    rw (e, is, le) (omega arith)
 
-out_holds_by : {C : Type 0} (v : Job C) (e r : Bool) → v.ended ≡ e → is_received v ≡ r → Sound v → Out v → 1 ≤ pages_held v
-out_holds_by v true r e is s o = rw e (omega arith)
-out_holds_by v false true e is s o = rw (e, is) (elim o [
-  | inl l ↦ absurd (clash (is_received v) is (s.lent l))
-  | inr ne ↦ let a = s.handed in let b = s.back in let n : v.handed ≢ v.back = ne in omega arith
-])
-out_holds_by v false false e is s o = rw (e, is) (elim o [
-  | inl l ↦ s.one l
-  | inr ne ↦ let a = s.begun is in let b = s.back in let n : v.handed ≢ v.back = ne in absurd (n (omega arith))
-])
+pub out_within : {C : Type 0} (v : Job C) → Sound v → pages_out v ≤ pages_held v
+out_within v s = out_within_by v v.ended (is_received v) v.lent refl refl refl s
 
-pub lower_ended : {C : Type 0} (c : Config) (v w : Job C) → Sound v → Out v → w.ended ≡ true → w.handed ≡ v.handed → w.number ≡ v.number → w.sender ≡ v.sender → w.queue ≡ v.queue → Lower (row_of c v) (row_of c w)
+pub lower_ended : {C : Type 0} (c : Config) (v w : Job C) → Sound v → pages_out w ≤ pages_out v → w.ended ≡ true → w.handed ≡ v.handed → w.number ≡ v.number → w.sender ≡ v.sender → w.queue ≡ v.queue → Lower (row_of c v) (row_of c w)
 lower_ended c v w s o we wh n s' q =
-    let a = out_holds_by v v.ended (is_received v) refl refl s o in
-    let ph : pages_held w ≡ 1 = rw we refl in
+    let a = out_within v s in
+    let ph : pages_held w ≡ pages_out w = rw we refl in
     let pn : pages_needed c w ≡ 0 = rw we refl in
     let n1 : printers_needed w ≡ 0 = rw we refl in
     let h1 : printers_held w ≡ printers_held v = ap (λ (i : ℕ). cond (i == 0) 0 1) wh in
     lower_row c v w n s' q (omega arith) (omega arith) (omega arith) (omega arith)
 
-out_by : (l : Bool) (a b : ℕ) (x : Bool) → (a == b) ≡ x → (not true || (l || not (a == b))) ≡ true → (l ≡ true) ⊎ (a ≢ b)
-out_by true a b x e h = inl refl
-out_by false a b true e h = (let z : false ≡ true = rw e at h in absurd (clash false z refl))
-out_by false a b false e h = inr (grind (arith, nat_tests))
-
-pub out_if : (l : Bool) (a b : ℕ) → (not true || (l || not (a == b))) ≡ true → (l ≡ true) ⊎ (a ≢ b)
-out_if l a b h = out_by l a b (a == b) refl h
-
 -- when a page of it comes back
-back_less : (e r : Bool) (n m g : ℕ) → cond e 1 (cond r (n - (m + 1)) g) ≤ cond e 1 (cond r (n - m) g)
-back_less true r n m g = omega arith
-back_less false true n m g = omega arith
-back_less false false n m g = omega arith
+back_less : (e r : Bool) (n m g l k : ℕ) → cond e (l + (k - (m + 1))) (cond r (n - (m + 1)) g) ≤ cond e (l + (k - m)) (cond r (n - m) g)
+back_less true r n m g l k = omega arith
+back_less false true n m g l k = omega arith
+back_less false false n m g l k = omega arith
 
 pub lower_back : {C : Type 0} (c : Config) (v : Job C) → Lower (row_of c v) (row_of c (record v { back = v.back + 1 }))
-lower_back c v = lower_row c v (record v { back = v.back + 1 }) refl refl refl (back_less v.ended (is_received v) (length (places v)) v.back v.granted) (omega arith) (omega arith) (omega arith)
+lower_back c v = lower_row c v (record v { back = v.back + 1 }) refl refl refl (back_less v.ended (is_received v) (length (places v)) v.back v.granted (cond v.lent 1 0) v.handed) (omega arith) (omega arith) (omega arith)
 
 -- what an event makes of the row of each held job
 abbrev pub LowersAll : {C : Type 0} → Config → List (Event C) → Event C → Type 0
-LowersAll {C} c h e = (o : Opening) → Has o (openings h) → is_held (change e (job_of h o)) ≡ true → Lower (row_of c (job_of h o)) (row_of c (change e (job_of h o)))
+LowersAll {C} c h e = (o : Opening) → Has o (openings h) → Lower (row_of c (job_of h o)) (row_of c (change e (job_of h o)))
 
 at_is : {C : Type 0} (h : List (Event C)) (k : ℕ) (P : Job C → Type 0) (o : Opening) → Facts h → At h k P → Has o (openings h) → k ≡ o.job → P (job_of h o)
 at_is {C} h k P o f a has e =
@@ -149,20 +147,20 @@ at_is {C} h k P o f a has e =
     subst (λ (y : Opening). P (job_of h y)) (f.once x o a.there has e) a.is
 
 abbrev Acts' : {C : Type 0} → Config → List (Event C) → Act C → Opening → Type 0
-Acts' c h act o = is_held (acted act (job_of h o)) ≡ true → Sound (acted act (job_of h o)) → Lower (row_of c (job_of h o)) (row_of c (acted act (job_of h o)))
+Acts' c h act o = Sound (acted act (job_of h o)) → Lower (row_of c (job_of h o)) (row_of c (acted act (job_of h o)))
 
 lowers_act : {C : Type 0} (size : C → ℕ) (c : Config) (h : List (Event C)) (k : ℕ) (act : Act C) → IsLegal size c h → May size (now c h) (OfJob k act) → ((o : Opening) → Has o (openings h) → k ≡ o.job → Acts' c h act o) → LowersAll c h (OfJob k act)
-lowers_act {C} size c h k act l m f o has held = elim (test k o.job) [
+lowers_act {C} size c h k act l m f o has = elim (test k o.job) [
   | inl s ↦
       let e : change (OfJob k act) (job_of h o) ≡ acted act (job_of h o) = rw s.1 refl in
-      subst (λ (v : Job C). Lower (row_of c (job_of h o)) (row_of c v)) (sym e) (f o has s.0 (subst (λ (v : Job C). is_held v ≡ true) e held) (subst (λ (v : Job C). Sound v) e (sound_after size c h (OfJob k act) l m o)))
+      subst (λ (v : Job C). Lower (row_of c (job_of h o)) (row_of c v)) (sym e) (f o has s.0 (subst (λ (v : Job C). Sound v) e (sound_after size c h (OfJob k act) l m o)))
   | inr s ↦
       let e : change (OfJob k act) (job_of h o) ≡ job_of h o = rw s.1 refl in
       subst (λ (v : Job C). Lower (row_of c (job_of h o)) (row_of c v)) (sym e) (lower_same c (job_of h o))
 ]
 
 lowers_turn : {C : Type 0} (size : C → ℕ) (c : Config) (h : List (Event C)) (p : ℕ) (sheet : Sheet C) (turn : Turn) → ((o : Opening) → sheet.job ≡ o.job → Lower (row_of c (job_of h o)) (row_of c (turned turn (job_of h o)))) → LowersAll c h (AtPrinter p sheet turn)
-lowers_turn {C} size c h p sheet turn f o has held = elim (test sheet.job o.job) [
+lowers_turn {C} size c h p sheet turn f o has = elim (test sheet.job o.job) [
   | inl s ↦
       let e : change (AtPrinter p sheet turn) (job_of h o) ≡ turned turn (job_of h o) = rw s.1 refl in
       subst (λ (v : Job C). Lower (row_of c (job_of h o)) (row_of c v)) (sym e) (f o s.0)
@@ -171,20 +169,17 @@ lowers_turn {C} size c h p sheet turn f o has held = elim (test sheet.job o.job)
       subst (λ (v : Job C). Lower (row_of c (job_of h o)) (row_of c v)) (sym e) (lower_same c (job_of h o))
 ]
 
-out_at_job : {C : Type 0} (h : List (Event C)) (sheet : Sheet C) (o : Opening) → handed_at h sheet.job ≡ back_of h sheet.job + 1 → sheet.job ≡ o.job → Out (job_of h o)
-out_at_job h sheet o w e = (let w' : handed_at h o.job ≡ back_of h o.job + 1 = subst (λ (i : ℕ). handed_at h i ≡ back_of h i + 1) e w in inr (λ same. (let z : handed_at h o.job ≡ back_of h o.job = same in omega arith)))
+lower_removed : {C : Type 0} (c : Config) (v : Job C) → Sound v → Lower (row_of c v) (row_of c (record v { ended = true }))
+lower_removed c v s = lower_ended c v (record v { ended = true }) s (omega arith) refl refl refl refl refl
 
-lower_removed : {C : Type 0} (c : Config) (v : Job C) → Sound v → is_held (record v { ended = true }) ≡ true → Lower (row_of c v) (row_of c (record v { ended = true }))
-lower_removed c v s held = lower_ended c v (record v { ended = true }) s (out_if v.lent v.handed v.back held) refl refl refl refl refl
+lower_aborted : {C : Type 0} (c : Config) (v : Job C) → Sound v → Lower (row_of c v) (row_of c (acted Aborted v))
+lower_aborted c v s = lower_ended c v (acted Aborted v) s (omega arith) refl refl refl refl refl
 
-lower_aborted : {C : Type 0} (c : Config) (v : Job C) → Sound v → is_held (acted Aborted v) ≡ true → Lower (row_of c v) (row_of c (acted Aborted v))
-lower_aborted c v s held = lower_ended c v (acted Aborted v) s (elim (out_if false v.handed v.back held) [ inl l ↦ absurd (clash false l refl) | inr ne ↦ inr ne ]) refl refl refl refl refl
-
-lowers_removed_by : {C : Type 0} (c : Config) (h : List (Event C)) (q : ℕ) (jobs : List ℕ) (o : Opening) (b : Bool) → list_any (λ (k : ℕ). k == o.job) jobs ≡ b → Sound (job_of h o) → is_held (change (Removed q jobs) (job_of h o)) ≡ true → Lower (row_of c (job_of h o)) (row_of c (change (Removed q jobs) (job_of h o)))
-lowers_removed_by {C} c h q jobs o true e s held =
+lowers_removed_by : {C : Type 0} (c : Config) (h : List (Event C)) (q : ℕ) (jobs : List ℕ) (o : Opening) (b : Bool) → list_any (λ (k : ℕ). k == o.job) jobs ≡ b → Sound (job_of h o) → Lower (row_of c (job_of h o)) (row_of c (change (Removed q jobs) (job_of h o)))
+lowers_removed_by {C} c h q jobs o true e s =
     let is : change (Removed q jobs) (job_of h o) ≡ record (job_of h o) { ended = true } = rw e refl in
-    subst (λ (v : Job C). Lower (row_of c (job_of h o)) (row_of c v)) (sym is) (lower_removed c (job_of h o) s (subst (λ (v : Job C). is_held v ≡ true) is held))
-lowers_removed_by {C} c h q jobs o false e s held =
+    subst (λ (v : Job C). Lower (row_of c (job_of h o)) (row_of c v)) (sym is) (lower_removed c (job_of h o) s)
+lowers_removed_by {C} c h q jobs o false e s =
     let is : change (Removed q jobs) (job_of h o) ≡ job_of h o = rw e refl in
     subst (λ (v : Job C). Lower (row_of c (job_of h o)) (row_of c v)) (sym is) (lower_same c (job_of h o))
 
@@ -198,22 +193,22 @@ is_quiet e = true
 pub lowers_all : {C : Type 0} (size : C → ℕ) (c : Config) (h : List (Event C)) (e : Event C) → is_quiet e ≡ true → IsLegal size c h → May size (now c h) e → LowersAll c h e
 lowers_all size c h (Opened k s q) is l m = absurd (clash false is refl)
 lowers_all size c h (OfJob k Granted) is l m = absurd (clash false is refl)
-lowers_all size c h (OfJob k (Began name count)) is l m = lowers_act size c h k (Began name count) l m (λ o has e held s.
-    (let a = at_is h k _ o (facts size c h l) (has_at c h k _ m.1) has e in lower_receiving c (job_of h o) (acted (Began name count) (job_of h o)) a.0.0 a.0.1 s refl refl refl refl refl refl))
-lowers_all size c h (OfJob k (Put file number page)) is l m = lowers_act size c h k (Put file number page) l m (λ o has e held s.
-    (let a = at_is h k _ o (facts size c h l) (has_at c h k _ m) has e in lower_receiving c (job_of h o) (acted (Put file number page) (job_of h o)) a.0.0 a.0.1 s refl refl refl refl refl refl))
-lowers_all size c h (OfJob k (FileEnded file whole)) is l m = lowers_act size c h k (FileEnded file whole) l m (λ o has e held s.
-    (let a = at_is h k _ o (facts size c h l) (has_at c h k _ m) has e in lower_receiving c (job_of h o) (acted (FileEnded file whole) (job_of h o)) a.0.0 a.0.1 s refl refl refl refl refl refl))
-lowers_all size c h (OfJob k (Controlled control whole)) is l m = lowers_act size c h k (Controlled control whole) l m (λ o has e held s.
-    (let a = at_is h k _ o (facts size c h l) (has_at c h k _ m.1) has e in lower_receiving c (job_of h o) (acted (Controlled control whole) (job_of h o)) a.0.0 a.0.1 s refl refl refl refl refl refl))
-lowers_all size c h (OfJob k Aborted) is l m = lowers_act size c h k Aborted l m (λ o has e held s. lower_aborted c (job_of h o) (sound size c h l o) held)
+lowers_all size c h (OfJob k (Began name count)) is l m = lowers_act size c h k (Began name count) l m (λ o has e s.
+    (let a = at_is h k _ o (facts size c h l) (has_at c h k _ m.0) has e in lower_receiving c (job_of h o) (acted (Began name count) (job_of h o)) a.0.0 a.0.1 s refl refl refl refl refl refl))
+lowers_all size c h (OfJob k (Put file number page)) is l m = lowers_act size c h k (Put file number page) l m (λ o has e s.
+    (let a = at_is h k _ o (facts size c h l) (has_at c h k _ m.0) has e in lower_receiving c (job_of h o) (acted (Put file number page) (job_of h o)) a.0.0 a.0.1 s refl refl refl refl refl refl))
+lowers_all size c h (OfJob k (FileEnded file whole)) is l m = lowers_act size c h k (FileEnded file whole) l m (λ o has e s.
+    (let a = at_is h k _ o (facts size c h l) (has_at c h k _ m.0) has e in lower_receiving c (job_of h o) (acted (FileEnded file whole) (job_of h o)) a.0.0 a.0.1 s refl refl refl refl refl refl))
+lowers_all size c h (OfJob k (Controlled control whole)) is l m = lowers_act size c h k (Controlled control whole) l m (λ o has e s.
+    (let a = at_is h k _ o (facts size c h l) (has_at c h k _ m.0) has e in lower_receiving c (job_of h o) (acted (Controlled control whole) (job_of h o)) a.0.0 a.0.1 s refl refl refl refl refl refl))
+lowers_all size c h (OfJob k Aborted) is l m = lowers_act size c h k Aborted l m (λ o has e s. lower_aborted c (job_of h o) (sound size c h l o))
 lowers_all size c h (AtPrinter p sheet Handed) is l m = absurd (clash false is refl)
 lowers_all size c h (AtPrinter p sheet (Printed Going)) is l m = lowers_turn size c h p sheet (Printed Going) (λ o e. lower_back c (job_of h o))
 lowers_all size c h (AtPrinter p sheet (Printed Ended)) is l m = lowers_turn size c h p sheet (Printed Ended) (λ o e. lower_back c (job_of h o))
 lowers_all size c h (AtPrinter p sheet (Printed Done)) is l m = lowers_turn size c h p sheet (Printed Done) (λ o e.
-    lower_ended c (job_of h o) (turned (Printed Done) (job_of h o)) (sound size c h l o) (out_at_job h sheet o ((facts size c h l).out p sheet (is_out c h p sheet m.0 m.1.0)).1 e) refl refl refl refl refl)
+    lower_ended c (job_of h o) (turned (Printed Done) (job_of h o)) (sound size c h l o) (omega arith) refl refl refl refl refl)
 lowers_all size c h (AtPrinter p sheet Failed) is l m = lowers_turn size c h p sheet Failed (λ o e.
-    lower_ended c (job_of h o) (turned Failed (job_of h o)) (sound size c h l o) (out_at_job h sheet o ((facts size c h l).out p sheet (is_out c h p sheet m.0 m.1)).1 e) refl refl refl refl refl)
-lowers_all size c h (Removed q jobs) is l m = λ o has held. lowers_removed_by c h q jobs o (list_any (λ (k : ℕ). k == o.job) jobs) refl (sound size c h l o) held
-lowers_all size c h (Started q) is l m = λ o has held. lower_same c (job_of h o)
-lowers_all size c h Closed is l m = λ o has held. lower_removed c (job_of h o) (sound size c h l o) held
+    lower_ended c (job_of h o) (turned Failed (job_of h o)) (sound size c h l o) (omega arith) refl refl refl refl refl)
+lowers_all size c h (Removed q jobs) is l m = λ o has. lowers_removed_by c h q jobs o (list_any (λ (k : ℕ). k == o.job) jobs) refl (sound size c h l o)
+lowers_all size c h (Started q) is l m = λ o has. lower_same c (job_of h o)
+lowers_all size c h Closed is l m = λ o has. lower_removed c (job_of h o) (sound size c h l o)

@@ -8,6 +8,7 @@ use Rattle.counts.specs.Amounts.{amount}
 use Rattle.claims.specs.declared.row.Row.{Row}
 use Rattle.claims.specs.Safety.{freed, KeepsLine, same_line, HasFinishingOrder}
 use Rattle.claims.proofs.Orders.{MayGo, safe_more, safe_without, safe_first}
+use Rattle.std.proofs.lemmas.Bool.{and_parts}
 use Rattle.spool_history.specs.Events.{Event, Sheet}
 use Rattle.spool_history.specs.Events.Act.{Granted, Began, Put, FileEnded, Controlled, Aborted}
 use Rattle.spool_history.specs.Events.Turn.{Handed, Printed, Failed}
@@ -19,7 +20,7 @@ use Rattle.spool_history.specs.Steps.{change, new_job, accepted_by}
 use Rattle.spool_history.specs.Legal.{IsLegal, May}
 use Rattle.spool_laws.specs.Safety.{EachCouldFinish}
 use Rattle.spool_laws.specs.Leaving.{EarlierAreGone}
-use Rattle.spool_laws.proofs.Known.{Has, known, has_kept, test, clash, and_true, filter_cons}
+use Rattle.spool_laws.proofs.Known.{Has, known, has_kept, test, clash, filter_cons}
 use Rattle.spool_laws.proofs.Facts.{facts, turn_of_page}
 use Rattle.spool_laws.proofs.Moves.{moved}
 use Rattle.spool_laws.proofs.Behind.{each_in_order}
@@ -46,12 +47,7 @@ of_safe v g = safe_more (free_amount v) (free v.config v.jobs) (rows v.config v.
 
 quiet_accepts : {C : Type 0} (e : Event C) → is_quiet e ≡ true → accepted_by e ≡ []
 quiet_accepts (Opened k s q) is = absurd (clash false is refl)
-quiet_accepts (OfJob k Granted) is = refl
-quiet_accepts (OfJob k (Began name count)) is = refl
-quiet_accepts (OfJob k (Put file number page)) is = refl
-quiet_accepts (OfJob k (FileEnded file whole)) is = refl
-quiet_accepts (OfJob k (Controlled control whole)) is = refl
-quiet_accepts (OfJob k Aborted) is = refl
+quiet_accepts (OfJob k act) is = refl
 quiet_accepts (AtPrinter p sheet turn) is = refl
 quiet_accepts (Removed q jobs) is = refl
 quiet_accepts (Started q) is = refl
@@ -70,7 +66,7 @@ quiet {C} size c h e is l m s =
     let jobs = (now c h).jobs in
     let later = left (change e) jobs in
     let P : Job C → Type 0 = λ (v : Job C). is_held (change e v) ≡ true → Lower (row_of c v) (row_of c (change e v)) in
-    let each : Lowers (row_of c) (change e) jobs = all_of P jobs (λ v has. (let k = known c h v has in subst P (sym k.is) (lowers_all size c h e is l m k.opening k.there))) in
+    let each : Lowers (row_of c) (change e) jobs = all_of P jobs (λ v has. (let k = known c h v has in subst P (sym k.is) (λ held. lowers_all size c h e is l m k.opening k.there))) in
     let j = jobs_after size c h e l m (quiet_accepts e is) in
     let room = kind_within size c h l in
     let good : IsGood c later = lowers (row_of c) (change e) jobs each [] (free c jobs) (free c later) (λ k. let r = room k in omega arith) s in
@@ -143,8 +139,7 @@ could c w q is (suc i) =
       | inl s ↦
           let a' : get_or (map (λ (r : ℕ). cond (r == q) 1 0) (up_to (length c.queues))) i 0 ≤ 1 = rw s.1 at a in
           let one = w.printers q is in
-          let e : q - 1 ≡ i = (let d : suc i ≡ q = s.0 in omega arith) in
-          let same : (queue_at c q).printers ≡ (slice_index_or c.queues i no_queue).printers = ap (λ (n : ℕ). (slice_index_or c.queues n no_queue).printers) e in
+          let same : (queue_at c q).printers ≡ (slice_index_or c.queues i no_queue).printers = ap (λ (n : ℕ). (slice_index_or (no_queue ∷ c.queues) n no_queue).printers) (sym s.0) in
           omega arith
       | inr s ↦
           let a' : get_or (map (λ (r : ℕ). cond (r == q) 1 0) (up_to (length c.queues))) i 0 ≤ 0 = rw s.1 at a in
@@ -160,9 +155,6 @@ nothing_of c q (suc i) =
       | inr s ↦ (let a' : get_or (map (λ (r : ℕ). cond (r == q) 0 0) (up_to (length c.queues))) i 0 ≤ 0 = rw s.1 at a in omega arith)
     ]
 
-opened_same : {C : Type 0} (k s q : ℕ) (u : Job C) → change (Opened k s q) u ≡ u
-opened_same k s q u = elim (test k u.number) [ inl r ↦ rw r.1 refl | inr r ↦ rw r.1 refl ]
-
 all_rows : {C : Type 0} (P : Row → Type 0) (row : Job C → Row) (us : List (Job C)) → ((u : Job C) → Has u us → P (row u)) → AllByRecursion P (map row us)
 all_rows P row [] f = tt
 all_rows P row (u ∷ us) f = (f u (inl refl), all_rows P row us (λ v t. f v (inr t)))
@@ -173,7 +165,7 @@ opened {C} size c h k s q each l m st =
     let jobs = (now c h).jobs in
     let w : Job C = new_job k s q in
     let x = row_of c w in
-    let same : left (change e) jobs ≡ jobs = left_same (change e) jobs (λ u has. (opened_same k s q u, held_jobs c h u has)) in
+    let same : left (change e) jobs ≡ jobs = left_same (change e) jobs (λ u has. (refl, held_jobs c h u has)) in
     let j : (now c (e ∷ h)).jobs ≡ jobs ++ w ∷ [] = ap (λ (v : State C). v.jobs) (moved size c h e l m) ∙ ap (λ (r : List (Job C)). r ++ w ∷ []) same in
     let line : AllByRecursion (λ z. KeepsLine z x) (rows c jobs) = all_rows (λ z. KeepsLine z x) (row_of c) jobs (λ u has _.
     (let kn = known c h u has in
@@ -191,7 +183,7 @@ opened {C} size c h k s q each l m st =
 -- a page is handed to a printer: its job needs nothing more, and stands before all others of its sender and queue
 
 line_true : (u w : Row) → same_line w u ≡ true → (w.sender ≡ u.sender) × (w.queue ≡ u.queue)
-line_true u w e = (let a = and_true (w.sender == u.sender) (w.queue == u.queue) e in (let x = a.0 in grind (arith, nat_tests), let x = a.1 in grind (arith, nat_tests)))
+line_true u w e = (let a = and_parts (w.sender == u.sender) (w.queue == u.queue) e in (let x = a.0 in grind (arith, nat_tests), let x = a.1 in grind (arith, nat_tests)))
 
 nothing_more : {C : Type 0} (c : Config) (v : Job C) → pages_needed c v ≡ 0 → printers_needed v ≡ 0 → (k : ℕ) → amount (row_of c v).need k ≡ 0
 nothing_more c v p n k =
@@ -247,6 +239,7 @@ handed {C} size c h p sheet l m st =
     let ph : printers_held w' ≡ 1 = rw more refl in
     let pn : printers_needed w' ≡ 0 = rw (goes, more) refl in
     let pg : pages_needed c w' ≡ 0 = rw (goes, received) refl in
+    let same : pages_held w' ≡ pages_held w = rw goes refl in
     let small = printers_small w in
     let hold : (k : ℕ) → amount x.held k ≤ amount y.held k = λ k. amount_le c w.queue (pages_held w) (pages_held w') (printers_held w) (printers_held w') (omega arith) (omega arith) k in
     let none : (k : ℕ) → amount y.need k ≡ 0 = nothing_more c w' pg pn in

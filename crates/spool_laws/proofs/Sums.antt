@@ -1,10 +1,9 @@
 -- The held jobs hold no more pages than there are.
 use Rattle.std.proofs.Common.{inl, inr, ◌≡◌, ◌==◌, ◌≢◌, ℕ, suc, ◌+◌, ◌-◌, ◌≤◌, Bool, true, false, List, [], ◌∷◌, ◌++◌, length, map, refl, sym, ◌∙◌, ap, subst, arith}
-use Rattle.std.specs.Prelude.{cond, filter, sum_by}
+use Rattle.std.specs.Prelude.{◌||◌, not, cond, filter, sum_by}
 use Rattle.std.specs.List.{list_any}
-use Rattle.std.proofs.lemmas.List.{append-nil, length_push}
+use Rattle.std.proofs.lemmas.List.{length_push}
 use Rattle.std.proofs.lemmas.List.Sums.{sum_by-cons, sum_by_push}
-use Rattle.std.proofs.lemmas.Bool.Decides.{nat_tests}
 use Rattle.claims.specs.declared.row.Row.{Row}
 use Rattle.counts.specs.Amounts.{amount}
 use Rattle.spool_history.specs.Events.{Act, Event, Sheet, Turn, Progress}
@@ -14,16 +13,16 @@ use Rattle.spool_history.specs.Events.Turn.{Handed, Printed, Failed}
 use Rattle.spool_history.specs.Events.Event.{Opened, OfJob, AtPrinter, Removed, Started, Closed}
 use Rattle.config_values.specs.Config.{Config}
 use Rattle.spool_history.specs.Acts.{granted_by}
-use Rattle.spool_history.specs.Said.{Opening, openings, acts_of, back_of, has_ended, ends_by_act}
-use Rattle.spool_history.specs.Now.{Job, now, job_of, is_held, is_received, has_page_out, places, pages_held, free_pages, row_of, up_to}
+use Rattle.spool_history.specs.Said.{Opening, openings, acts_of, has_ended, ends_by_act}
+use Rattle.spool_history.specs.Now.{Job, now, job_of, is_held, is_received, places, pages_out, pages_held, free_pages, row_of, up_to}
 use Rattle.spool_history.specs.Steps.{change, turned}
 use Rattle.spool_history.specs.Legal.{IsLegal, May}
 use Rattle.spool_laws.specs.Sums.{held_pages, AddUp}
-use Rattle.spool_laws.proofs.Known.{has_at, test, clash, or_true}
+use Rattle.spool_laws.proofs.Known.{has_at, test}
 use Rattle.spool_laws.proofs.Changes.{changes}
-use Rattle.spool_laws.proofs.Facts.{facts, is_out, turn_of_page, handed_at, received_at}
+use Rattle.spool_laws.proofs.Facts.{facts, turn_of_page, received_at}
 use Rattle.spool_laws.proofs.Adding.{sum_filter, sum_map, up_less, up_one}
-use Rattle.spool_laws.proofs.Sound.{Sound, sound}
+use Rattle.spool_laws.proofs.Sound.{Sound, sound, out_within}
 
 -- the pages that a job holds, if it is held
 
@@ -47,9 +46,6 @@ sum_held {C} h os = sum_filter (λ (v : Job C). pages_held v) is_held (map (job_
 abbrev Numbers : (ℕ → ℕ) → List Opening → Type 0
 Numbers f os = sum_by (λ (p : Opening). f p.job) os ≡ sum_by f (up_to (length os))
 
-same_numbers : (f : ℕ → ℕ) (os : List Opening) → Numbers f os → Numbers f (os ++ [])
-same_numbers f os n = subst (λ (l : List Opening). Numbers f l) (sym (append-nil os)) n
-
 more_numbers : (f : ℕ → ℕ) (os : List Opening) (x : Opening) → x.job ≡ length os + 1 → Numbers f os → Numbers f (os ++ x ∷ [])
 more_numbers f os x e n =
     let l = length_push os x in
@@ -64,12 +60,7 @@ more_numbers f os x e n =
 pub numbers : {C : Type 0} (size : C → ℕ) (c : Config) (h : List (Event C)) → IsLegal size c h → (f : ℕ → ℕ) → Numbers f (openings h)
 numbers size c [] l f = refl
 numbers size c (Opened k s q ∷ h) l f = more_numbers f (openings h) (record { job = k; sender = s; queue = q }) l.0.4 (numbers size c h l.1 f)
-numbers size c (OfJob k Granted ∷ h) l f = same_numbers f (openings h) (numbers size c h l.1 f)
-numbers size c (OfJob k (Began name count) ∷ h) l f = same_numbers f (openings h) (numbers size c h l.1 f)
-numbers size c (OfJob k (Put file number page) ∷ h) l f = same_numbers f (openings h) (numbers size c h l.1 f)
-numbers size c (OfJob k (FileEnded file whole) ∷ h) l f = same_numbers f (openings h) (numbers size c h l.1 f)
-numbers size c (OfJob k (Controlled control whole) ∷ h) l f = same_numbers f (openings h) (numbers size c h l.1 f)
-numbers size c (OfJob k Aborted ∷ h) l f = same_numbers f (openings h) (numbers size c h l.1 f)
+numbers size c (OfJob k act ∷ h) l f = numbers size c h l.1 f
 numbers size c (AtPrinter p sheet turn ∷ h) l f = numbers size c h l.1 f
 numbers size c (Removed q jobs ∷ h) l f = numbers size c h l.1 f
 numbers size c (Started q ∷ h) l f = numbers size c h l.1 f
@@ -84,12 +75,13 @@ cond_true b n m e = rw e refl
 cond_false : (b : Bool) (n m : ℕ) → b ≡ false → cond b n m ≡ m
 cond_false b n m e = rw e refl
 
-cond_one : (b : Bool) → cond b 1 0 ≤ 1
-cond_one true = omega arith
-cond_one false = omega arith
+-- what has ended and has no page out is held no more
+out_alone : (l : Bool) (a b : ℕ) → cond (l || not (a == b)) (cond l 1 0 + (a - b)) 0 ≡ cond l 1 0 + (a - b)
+out_alone true a b = refl
+out_alone false a b = elim (test a b) [ inl s ↦ (let same : a ≡ b = s.0 in rw s.1 (omega arith)) | inr s ↦ rw s.1 refl ]
 
-weight_ended : {C : Type 0} (v : Job C) → v.ended ≡ true → weight v ≡ cond (has_page_out v) 1 0
-weight_ended v e = rw e refl
+weight_ended : {C : Type 0} (v : Job C) → v.ended ≡ true → weight v ≡ pages_out v
+weight_ended v e = rw e (out_alone v.lent v.handed v.back)
 
 weight_going : {C : Type 0} (v : Job C) → v.ended ≡ false → weight v ≡ cond (is_received v) (length (places v) - v.back) v.granted
 weight_going v e = rw e refl
@@ -105,29 +97,20 @@ weight_granted : {C : Type 0} (v : Job C) (b : Bool) → is_received v ≡ b →
 weight_granted v true r e s = let w = weight_received v e r in let p = s.within in omega arith
 weight_granted v false r e s = let w = weight_receiving v e r in omega arith
 
--- a page that is out is among those that the job holds
-out_one : {C : Type 0} (v : Job C) (e b l r : Bool) → v.ended ≡ e → has_page_out v ≡ b → v.lent ≡ l → is_received v ≡ r → Sound v → cond b 1 0 ≤ weight v
-out_one v true b l r e o le re s = let w : weight v ≡ cond b 1 0 = weight_ended v e ∙ ap (λ (t : Bool). cond t 1 0) o in omega arith
-out_one v false false l r e o le re s = omega arith
-out_one v false true true r e o le re s = let w = weight_receiving v e (s.lent le) in let g = s.one le in omega arith
-out_one v false true false false e o le re s =
-    let z = s.begun re in
-    let b = s.back in
-    let same : (v.handed == v.back) ≡ true = grind (arith, nat_tests) in
-    let none : has_page_out v ≡ false = rw le (rw same refl) in
-    absurd (clash (has_page_out v) o none)
-out_one v false true false true e o le re s =
-    let w = weight_received v e re in
-    let n = s.handed in
-    let b = s.back in
-    elim (test v.handed v.back) [
-      | inl t ↦ (let none : has_page_out v ≡ false = rw le (rw t.1 refl) in absurd (clash (has_page_out v) o none))
-      | inr t ↦ let ne = t.0 in omega arith
-    ]
+-- the pages that are out are among those that the job holds
+out_least : {C : Type 0} (v : Job C) (e : Bool) → v.ended ≡ e → Sound v → pages_out v ≤ weight v
+out_least v true e s = let w = weight_ended v e in omega arith
+out_least v false e s =
+    let w : weight v ≡ pages_held v = rw e refl in
+    let o = out_within v s in
+    omega arith
 
 -- a job that is ended holds no more than before
 ending : {C : Type 0} (v : Job C) → Sound v → weight (record v { ended = true }) ≤ weight v
-ending v s = out_one v v.ended (has_page_out v) v.lent (is_received v) refl refl refl refl s
+ending v s =
+    let w = weight_ended (record v { ended = true }) refl in
+    let o = out_least v v.ended refl s in
+    omega arith
 
 changed : {C : Type 0} (h : List (Event C)) (e : Event C) (j : ℕ) → weight_at (e ∷ h) j ≡ weight (change e (job_of h (numbered j)))
 changed {C} h e j = ap (λ (v : Job C). weight v) (changes h e (numbered j))
@@ -161,16 +144,11 @@ act_granted {C} size c h k act n l ends is goes_on receiving =
 weight_of_new : {C : Type 0} (h : List (Event C)) (j : ℕ) → acts_of h j ≡ [] → has_ended h j ≡ false → weight_at h j ≡ 0
 weight_of_new h j a e = rw (a, e) refl
 
-opened_same : {C : Type 0} (h : List (Event C)) (k s q j : ℕ) → weight_at (Opened k s q ∷ h) j ≡ weight_at h j
-opened_same h k s q j = changed h (Opened k s q) j ∙ elim (test k j) [ inl r ↦ rw r.1 refl | inr r ↦ rw r.1 refl ]
-
-abort_less : {C : Type 0} (v : Job C) (l : Bool) → v.lent ≡ l → weight (record v { lent = false; ended = true }) ≤ weight (record v { ended = true })
-abort_less v true e =
-    let w : weight (record v { ended = true }) ≡ 1 = rw e refl in
+abort_less : {C : Type 0} (v : Job C) → weight (record v { lent = false; ended = true }) ≤ weight (record v { ended = true })
+abort_less v =
+    let w = weight_ended (record v { ended = true }) refl in
     let u = weight_ended (record v { lent = false; ended = true }) refl in
-    let o = cond_one (has_page_out (record v { lent = false; ended = true })) in
     omega arith
-abort_less v false e = let w : weight (record v { ended = true }) ≡ weight (record v { lent = false; ended = true }) = rw e refl in omega arith
 
 aborted_here : {C : Type 0} (h : List (Event C)) (k : ℕ) → weight_at (OfJob k Aborted ∷ h) k ≡ weight (record (job_of h (numbered k)) { lent = false; ended = true })
 aborted_here h k = changed h (OfJob k Aborted) k ∙ elim (test k k) [ inl s ↦ rw s.1 refl | inr s ↦ absurd (s.0 refl) ]
@@ -180,32 +158,22 @@ aborted_here h k = changed h (OfJob k Aborted) k ∙ elim (test k k) [ inl s ↦
 handed_less : {C : Type 0} (v : Job C) → v.ended ≡ false → weight (record v { handed = v.handed + 1 }) ≤ weight v
 handed_less v e = let a = weight_going v e in let b = weight_going (record v { handed = v.handed + 1 }) e in omega arith
 
-page_out : {C : Type 0} (v : Job C) → v.handed ≡ v.back + 1 → has_page_out v ≡ true
-page_out v e = let ne : (v.handed == v.back) ≡ false = grind (arith, nat_tests) in rw ne (or_true v.lent)
-
-out_least : {C : Type 0} (v : Job C) → v.handed ≡ v.back + 1 → Sound v → 1 ≤ weight v
-out_least v e s =
-    let o = out_one v v.ended true v.lent (is_received v) refl (page_out v e) refl refl s in
-    omega arith
-
-back_ended : {C : Type 0} (v : Job C) → v.handed ≡ v.back + 1 → Sound v → weight (record v { back = v.back + 1; ended = true }) ≤ weight v
-back_ended v e s =
+back_ended : {C : Type 0} (v : Job C) → Sound v → weight (record v { back = v.back + 1; ended = true }) ≤ weight v
+back_ended v s =
     let w = weight_ended (record v { back = v.back + 1; ended = true }) refl in
-    let o = cond_one (has_page_out (record v { back = v.back + 1; ended = true })) in
-    let l = out_least v e s in
+    let l = out_least v v.ended refl s in
     omega arith
 
-back_going : {C : Type 0} (v : Job C) (e r : Bool) → v.ended ≡ e → is_received v ≡ r → v.handed ≡ v.back + 1 → Sound v → weight (record v { back = v.back + 1 }) ≤ weight v
-back_going v true r is re out s =
-    let w = weight_ended (record v { back = v.back + 1 }) is in
-    let o = cond_one (has_page_out (record v { back = v.back + 1 })) in
-    let l = out_least v out s in
+back_going : {C : Type 0} (v : Job C) (e r : Bool) → v.ended ≡ e → is_received v ≡ r → weight (record v { back = v.back + 1 }) ≤ weight v
+back_going v true r is re =
+    let a = weight_ended v is in
+    let b = weight_ended (record v { back = v.back + 1 }) is in
     omega arith
-back_going v false true is re out s =
+back_going v false true is re =
     let a = weight_received v is re in
     let b = weight_received (record v { back = v.back + 1 }) is re in
     omega arith
-back_going v false false is re out s =
+back_going v false false is re =
     let a = weight_receiving v is re in
     let b = weight_receiving (record v { back = v.back + 1 }) is re in
     omega arith
@@ -225,10 +193,10 @@ turn_less {C} h p sheet turn le j = elim (test sheet.job j) [
   | inr s ↦ let o = other_turn h p sheet turn j s.0 in omega arith
 ]
 
-printed_less : {C : Type 0} (size : C → ℕ) (c : Config) (h : List (Event C)) (p : ℕ) (sheet : Sheet C) (x : Progress) → IsLegal size c h → handed_at h sheet.job ≡ back_of h sheet.job + 1 → weight (turned (Printed x) (job_of h (numbered sheet.job))) ≤ weight_at h sheet.job
-printed_less size c h p sheet Going l out = back_going (job_of h (numbered sheet.job)) _ _ refl refl out (sound size c h l (numbered sheet.job))
-printed_less size c h p sheet Done l out = back_ended (job_of h (numbered sheet.job)) out (sound size c h l (numbered sheet.job))
-printed_less size c h p sheet Ended l out = back_going (job_of h (numbered sheet.job)) _ _ refl refl out (sound size c h l (numbered sheet.job))
+printed_less : {C : Type 0} (size : C → ℕ) (c : Config) (h : List (Event C)) (sheet : Sheet C) (x : Progress) → IsLegal size c h → weight (turned (Printed x) (job_of h (numbered sheet.job))) ≤ weight_at h sheet.job
+printed_less size c h sheet Going l = back_going (job_of h (numbered sheet.job)) _ _ refl refl
+printed_less size c h sheet Done l = back_ended (job_of h (numbered sheet.job)) (sound size c h l (numbered sheet.job))
+printed_less size c h sheet Ended l = back_going (job_of h (numbered sheet.job)) _ _ refl refl
 
 removed_less : {C : Type 0} (h : List (Event C)) (q : ℕ) (jobs : List ℕ) (j : ℕ) (b : Bool) → list_any (λ (k : ℕ). k == j) jobs ≡ b → Sound (job_of h (numbered j)) → weight_at (Removed q jobs ∷ h) j ≤ weight_at h j
 removed_less h q jobs j true e s =
@@ -255,19 +223,13 @@ free_rest c h = ap (λ (n : ℕ). c.pages - n) (rows_held c (now c h).jobs)
 
 -- each event
 
-act_weights : {C : Type 0} (h : List (Event C)) (k : ℕ) (act : Act C) (m : ℕ) → openings (OfJob k act ∷ h) ≡ openings h → sum_by (weight_at (OfJob k act ∷ h)) (up_to (length (openings h))) ≤ m → weights (OfJob k act ∷ h) ≤ m
-act_weights {C} h k act m os le = subst (λ (l : List Opening). sum_by (weight_at (OfJob k act ∷ h)) (up_to (length l)) ≤ m) (sym os) le
-
 opened_weights : {C : Type 0} (h : List (Event C)) (k s q : ℕ) → weight_at h (suc (length (openings h))) ≡ 0 → weights (Opened k s q ∷ h) ≤ weights h
 opened_weights {C} h k s q none =
     let e : Event C = Opened k s q in
-    let n = length (openings h) in
     let l = length_push (openings h) (record { job = k; sender = s; queue = q }) in
     let m : length (openings (e ∷ h)) ≡ suc (length (openings h)) = omega arith in
-    let u : weights (e ∷ h) ≡ sum_by (weight_at (e ∷ h)) (up_to (length (openings h)) ++ suc (length (openings h)) ∷ []) = ap (λ (i : ℕ). sum_by (weight_at (e ∷ h)) (up_to i)) m in
-    let b = sum_by_push (weight_at (e ∷ h)) (up_to (length (openings h))) (suc (length (openings h))) in
-    let last = opened_same h k s q (suc (length (openings h))) in
-    let le = up_less (weight_at h) (weight_at (e ∷ h)) (length (openings h)) (λ j. (let o = opened_same h k s q j in omega arith)) in
+    let u : weights (e ∷ h) ≡ sum_by (weight_at h) (up_to (length (openings h)) ++ suc (length (openings h)) ∷ []) = ap (λ (i : ℕ). sum_by (weight_at (e ∷ h)) (up_to i)) m in
+    let b = sum_by_push (weight_at h) (up_to (length (openings h))) (suc (length (openings h))) in
     omega arith
 
 step_weights : {C : Type 0} (size : C → ℕ) (c : Config) (h : List (Event C)) (e : Event C) → IsLegal size c h → May size (now c h) e → weights h ≤ c.pages → weights (e ∷ h) ≤ c.pages
@@ -280,48 +242,46 @@ step_weights size c h (OfJob k Granted) l m w =
     let free = m.1.0 in
     let f = free_rest c h in
     let held = held_weights size c h l in
-    let one = act_granted size c h k Granted 1 (m, l) refl refl a.is.0.0 a.is.0.1 in
+    let one = act_granted size c h k Granted 1 (m, l) refl refl a.is.0.0.0 a.is.0.0.1 in
     let s = up_one (weight_at h) (weight_at (OfJob k Granted ∷ h)) k (length (openings h)) (λ j ne. (let o = other_act h k Granted j (λ x. ne (sym x)) in omega arith)) one in
-    act_weights h k Granted c.pages (append-nil (openings h)) (omega arith)
+    omega arith
 step_weights size c h (OfJob k (Began name count)) l m w =
-    let a = has_at c h k _ m.1 in
+    let a = has_at c h k _ m.0 in
     let here = act_granted size c h k (Began name count) 0 (m, l) refl (omega arith) a.is.0.0 a.is.0.1 in
     let s = up_less (weight_at h) (weight_at (OfJob k (Began name count) ∷ h)) (length (openings h)) (act_less h k (Began name count) (omega arith)) in
-    act_weights h k (Began name count) c.pages (append-nil (openings h)) (omega arith)
+    omega arith
 step_weights size c h (OfJob k (Put file number page)) l m w =
-    let a = has_at c h k _ m in
+    let a = has_at c h k _ m.0 in
     let here = act_granted size c h k (Put file number page) 0 (m, l) refl (omega arith) a.is.0.0 a.is.0.1 in
     let s = up_less (weight_at h) (weight_at (OfJob k (Put file number page) ∷ h)) (length (openings h)) (act_less h k (Put file number page) (omega arith)) in
-    act_weights h k (Put file number page) c.pages (append-nil (openings h)) (omega arith)
+    omega arith
 step_weights size c h (OfJob k (FileEnded file whole)) l m w =
-    let a = has_at c h k _ m in
+    let a = has_at c h k _ m.0 in
     let here = act_granted size c h k (FileEnded file whole) 0 (m, l) refl (omega arith) a.is.0.0 a.is.0.1 in
     let s = up_less (weight_at h) (weight_at (OfJob k (FileEnded file whole) ∷ h)) (length (openings h)) (act_less h k (FileEnded file whole) (omega arith)) in
-    act_weights h k (FileEnded file whole) c.pages (append-nil (openings h)) (omega arith)
+    omega arith
 step_weights size c h (OfJob k (Controlled control whole)) l m w =
-    let a = has_at c h k _ m.1 in
+    let a = has_at c h k _ m.0 in
     let here = act_granted size c h k (Controlled control whole) 0 (m, l) refl (omega arith) a.is.0.0 a.is.0.1 in
     let s = up_less (weight_at h) (weight_at (OfJob k (Controlled control whole) ∷ h)) (length (openings h)) (act_less h k (Controlled control whole) (omega arith)) in
-    act_weights h k (Controlled control whole) c.pages (append-nil (openings h)) (omega arith)
+    omega arith
 step_weights {C} size c h (OfJob k Aborted) l m w =
     let v : Job C = job_of h (numbered k) in
     let a = aborted_here h k in
-    let b = abort_less v v.lent refl in
+    let b = abort_less v in
     let d = ending v (sound size c h l (numbered k)) in
     let s = up_less (weight_at h) (weight_at (OfJob k Aborted ∷ h)) (length (openings h)) (act_less h k Aborted (omega arith)) in
-    act_weights h k Aborted c.pages (append-nil (openings h)) (omega arith)
+    omega arith
 step_weights {C} size c h (AtPrinter p sheet Handed) l m w =
     let t = turn_of_page c h p sheet m.0.0 m.0.1 m.1 in
     let v : Job C = job_of h (numbered sheet.job) in
     let s = up_less (weight_at h) (weight_at (AtPrinter p sheet Handed ∷ h)) (length (openings h)) (turn_less h p sheet Handed (handed_less v t.at.is.goes_on)) in
     omega arith
 step_weights size c h (AtPrinter p sheet (Printed x)) l m w =
-    let out = ((facts size c h l).out p sheet (is_out c h p sheet m.0 m.1.0)).1 in
-    let s = up_less (weight_at h) (weight_at (AtPrinter p sheet (Printed x) ∷ h)) (length (openings h)) (turn_less h p sheet (Printed x) (printed_less size c h p sheet x l out)) in
+    let s = up_less (weight_at h) (weight_at (AtPrinter p sheet (Printed x) ∷ h)) (length (openings h)) (turn_less h p sheet (Printed x) (printed_less size c h sheet x l)) in
     omega arith
 step_weights size c h (AtPrinter p sheet Failed) l m w =
-    let out = ((facts size c h l).out p sheet (is_out c h p sheet m.0 m.1)).1 in
-    let s = up_less (weight_at h) (weight_at (AtPrinter p sheet Failed ∷ h)) (length (openings h)) (turn_less h p sheet Failed (back_ended (job_of h (numbered sheet.job)) out (sound size c h l (numbered sheet.job)))) in
+    let s = up_less (weight_at h) (weight_at (AtPrinter p sheet Failed ∷ h)) (length (openings h)) (turn_less h p sheet Failed (back_ended (job_of h (numbered sheet.job)) (sound size c h l (numbered sheet.job)))) in
     omega arith
 step_weights size c h (Removed q jobs) l m w =
     let s = up_less (weight_at h) (weight_at (Removed q jobs ∷ h)) (length (openings h)) (λ j. removed_less h q jobs j (list_any (λ (k : ℕ). k == j) jobs) refl (sound size c h l (numbered j))) in

@@ -1,21 +1,20 @@
 -- How often each thing may be told of a job.
-use Rattle.std.proofs.Common.{inl, inr, ◌≡◌, ◌==◌, ◌≢◌, ℕ, ◌+◌, ◌<◌, ◌≤◌, Bool, true, false, List, [], ◌∷◌, ◌++◌, length, refl, sym, ◌∙◌, ap, subst, arith}
+use Rattle.std.proofs.Common.{inl, inr, ◌≡◌, ◌==◌, ◌≢◌, ℕ, ◌+◌, ◌<◌, ◌≤◌, Bool, true, false, List, [], ◌∷◌, length, refl, sym, ◌∙◌, ap, subst, arith}
 use Rattle.std.specs.Prelude.{◌&&◌, if◌then◌else◌}
 use Rattle.std.specs.List.{list_any, AllByRecursion}
-use Rattle.std.proofs.lemmas.List.{append-nil}
 use Rattle.spool_history.specs.Events.{Act, Event, Sheet, Turn, Progress}
 use Rattle.spool_history.specs.Events.Act.{Granted, Began, Put, FileEnded, Controlled, Aborted}
 use Rattle.spool_history.specs.Events.Turn.{Handed, Printed, Failed}
 use Rattle.spool_history.specs.Events.Event.{Opened, OfJob, AtPrinter, Removed, Started, Closed}
 use Rattle.config_values.specs.Config.{Config, limit_of, reserve_of}
 use Rattle.spool_history.specs.Acts.{granted_by, files_by}
-use Rattle.spool_history.specs.Said.{Opening, openings, opening_by, acts_of, is_failed, back_of, has_ended}
+use Rattle.spool_history.specs.Said.{Opening, openings, acts_of, is_failed, back_of, has_ended}
 use Rattle.spool_history.specs.Now.{Job, now}
 use Rattle.spool_history.specs.Legal.{HasJob, IsLegal, May}
 use Rattle.spool_laws.proofs.Known.{Has, At, has_at, has_last, test, clash}
 use Rattle.spool_laws.proofs.Facts.{Facts, facts, is_out, Turn', turn_of_page, handed_at, handed_more, handed_same, acts_other, back_same, back_more, back_one}
 use Rattle.spool_laws.proofs.Whole.{still_ended}
-use Rattle.spool_laws.proofs.Counts.{none_by, Fits, fits_none, fits_later, fits_opened, fits_granted, fits_began, fits_put, fits_ended, fits_controlled, fits_aborted, all_counted, began_files, count_le}
+use Rattle.spool_laws.proofs.Counts.{none_by, Fits, fits_none, fits_later, fits_granted, fits_began, fits_put, fits_ended, fits_controlled, fits_aborted, all_counted, began_files, count_le}
 use Rattle.spool_laws.proofs.Sound.{sound}
 
 -- how often a page of a job failed, and how often the job was removed
@@ -121,7 +120,7 @@ told_failed h p sheet out t j =
           (still_ended h (AtPrinter p sheet Failed) j w.0, ap length (handed_same h p sheet Failed j refl) ∙ (w.1 ∙ sym (back_more h p sheet Failed j s.0))))
     ]
 
-named_going : {C : Type 0} (c : Config) (h : List (Event C)) (P : Job C → Type 0) (j : ℕ) (jobs : List ℕ) → ((v : Job C) → P v → v.ended ≡ false) → AllByRecursion (λ k. HasJob (now c h) k P) jobs → list_any (λ (k : ℕ). k == j) jobs ≡ true → has_ended h j ≡ false
+named_going : {C : Type 0} (c : Config) (h : List (Event C)) (P : Job C → Type 0) (j : ℕ) (jobs : List ℕ) → ((v : Job C) → P v → v.ended ≡ false) → AllByRecursion (λ k. HasJob (now c h).jobs k P) jobs → list_any (λ (k : ℕ). k == j) jobs ≡ true → has_ended h j ≡ false
 named_going c h P j [] going all e = absurd cc
 named_going {C} c h P j (k ∷ ks) going all e = elim (test k j) [
   | inl s ↦ (let a = has_at c h k P all.0 in subst (λ (i : ℕ). has_ended h i ≡ false) s.0 (going _ a.is))
@@ -160,6 +159,9 @@ told_closed h j u = record {
   gone = λ p. refl;
 }
 
+told_opened : {C : Type 0} (h : List (Event C)) (k s q j : ℕ) → Told h j → Told (Opened k s q ∷ h) j
+told_opened h k s q j u = record { acts = u.acts; failed = u.failed; after = u.after; removed = u.removed; gone = u.gone }
+
 told_started : {C : Type 0} (h : List (Event C)) (q j : ℕ) → Told h j → Told (Started q ∷ h) j
 told_started h q j u = record { acts = u.acts; failed = u.failed; after = u.after; removed = u.removed; gone = u.gone }
 
@@ -167,27 +169,25 @@ ended_aborted : {C : Type 0} (h : List (Event C)) (k : ℕ) → has_ended (OfJob
 ended_aborted h k = elim (test k k) [ inl s ↦ rw s.1 refl | inr s ↦ absurd (s.0 refl) ]
 
 told_step : {C : Type 0} (size : C → ℕ) (c : Config) (h : List (Event C)) (e : Event C) → IsLegal size c h → May size (now c h) e → ((j : ℕ) → Told h j) → (j : ℕ) → Told (e ∷ h) j
-told_step size c h (Opened k s q) l m t =
-    let n = m.4 in
-    told_act h k (Opened s q) (fits_opened (acts_of h k) s q _ ((facts size c h l).fresh k (omega arith)).acts) t
+told_step size c h (Opened k s q) l m t = λ j. told_opened h k s q j (t j)
 told_step size c h (OfJob k Granted) l m t =
     let a = has_at c h k _ m.0 in
-    told_act h k Granted (fits_granted (acts_of h k) (has_ended h k) _ (t k).acts a.is.0.0 a.is.2) t
+    told_act h k Granted (fits_granted (acts_of h k) (has_ended h k) _ (t k).acts a.is.0.0.0 a.is.0.2) t
 told_step size c h (OfJob k (Began name count)) l m t =
-    let a = has_at c h k _ m.1 in
+    let a = has_at c h k _ m.0 in
     told_act h k (Began name count) (fits_began (acts_of h k) name count (has_ended h k) _ (t k).acts a.is.0.0 a.is.3) t
 told_step size c h (OfJob k (Put file number page)) l m t =
-    let a = has_at c h k _ m in
+    let a = has_at c h k _ m.0 in
     told_act h k (Put file number page) (fits_put (acts_of h k) file number page (has_ended h k) _ (t k).acts a.is.0.0 a.is.1) t
 told_step size c h (OfJob k (FileEnded file whole)) l m t =
-    let a = has_at c h k _ m in
+    let a = has_at c h k _ m.0 in
     let o = a.is.2 in
     told_act h k (FileEnded file whole) (fits_ended (acts_of h k) file whole o.0 o.1 (has_ended h k) _ (t k).acts a.is.0.0 o.2 o.4) t
 told_step size c h (OfJob k (Controlled control whole)) l m t =
-    let a = has_at c h k _ m.1 in
+    let a = has_at c h k _ m.0 in
     told_act h k (Controlled control whole) (fits_controlled (acts_of h k) control whole (has_ended h k) _ (t k).acts a.is.0.0 a.is.1) t
 told_step size c h (OfJob k Aborted) l m t =
-    let a = has_at c h k _ m in
+    let a = has_at c h k _ m.0 in
     told_act h k Aborted (fits_aborted (acts_of h k) (has_ended h k) _ (t k).acts (elim a.is [ inl x ↦ inl x.0 | inr x ↦ inr x.1 ]) (ended_aborted h k)) t
 told_step size c h (AtPrinter p sheet Handed) l m t = told_handed h p sheet (turn_of_page c h p sheet m.0.0 m.0.1 m.1) t
 told_step size c h (AtPrinter p sheet (Printed x)) l m t = told_printed h p sheet x ((facts size c h l).out p sheet (is_out c h p sheet m.0 m.1.0)).1 t
@@ -205,21 +205,17 @@ told size c (e ∷ h) l j = told_step size c h e l.1 l.0 (told size c h l.1) j
 abbrev Within : {C : Type 0} → Config → List (Event C) → Type 0
 Within c h = (o : Opening) → Has o (openings h) → granted_by (acts_of h o.job) ≤ limit_of c o.queue
 
-within_act : {C : Type 0} (c : Config) (h : List (Event C)) (k : ℕ) (act : Act C) → opening_by k act ≡ [] → ((o : Opening) → Has o (openings h) → k ≡ o.job → granted_by (act ∷ acts_of h o.job) ≤ limit_of c o.queue) → Within c h → Within c (OfJob k act ∷ h)
-within_act {C} c h k act none here w o has =
-    let os : openings h ++ opening_by k act ≡ openings h = ap (λ (l : List Opening). openings h ++ l) none ∙ append-nil (openings h) in
-    let has' : Has o (openings h) = subst (λ (l : List Opening). Has o l) os has in
-    elim (test k o.job) [ inl s ↦ rw s.1 (here o has' s.0) | inr s ↦ rw s.1 (w o has') ]
+within_act : {C : Type 0} (c : Config) (h : List (Event C)) (k : ℕ) (act : Act C) → ((o : Opening) → Has o (openings h) → k ≡ o.job → granted_by (act ∷ acts_of h o.job) ≤ limit_of c o.queue) → Within c h → Within c (OfJob k act ∷ h)
+within_act c h k act here w o has = elim (test k o.job) [ inl s ↦ rw s.1 (here o has s.0) | inr s ↦ rw s.1 (w o has) ]
 
 within_granted : {C : Type 0} (c : Config) (h : List (Event C)) (k : ℕ) (P : Job C → Type 0) → Facts h → (a : At h k P) → granted_by (acts_of h k) < limit_of c a.queue → Within c h → Within c (OfJob k Granted ∷ h)
-within_granted c h k P f a lt = within_act c h k Granted refl (λ o has same.
+within_granted c h k P f a lt = within_act c h k Granted (λ o has same.
     let e : record { job = k; sender = a.sender; queue = a.queue } ≡ o = f.once (record { job = k; sender = a.sender; queue = a.queue }) o a.there has same in
     let b : granted_by (acts_of h o.job) < limit_of c o.queue = subst (λ (x : Opening). granted_by (acts_of h x.job) < limit_of c x.queue) e lt in
     omega arith)
 
 within_opened : {C : Type 0} (c : Config) (h : List (Event C)) (k s q : ℕ) → Facts h → k ≡ length (openings h) + 1 → Within c h → Within c (Opened k s q ∷ h)
 within_opened {C} c h k s q f is w o has =
-    let same : granted_by (acts_of (Opened k s q ∷ h) o.job) ≡ granted_by (acts_of h o.job) = elim (test k o.job) [ inl r ↦ rw r.1 refl | inr r ↦ rw r.1 refl ] in
     elim (has_last o (openings h) (record { job = k; sender = s; queue = q }) has) [
       | inl t ↦ let old = w o t in omega arith
       | inr e ↦
@@ -230,12 +226,12 @@ within_opened {C} c h k s q f is w o has =
 
 within_step : {C : Type 0} (size : C → ℕ) (c : Config) (h : List (Event C)) (e : Event C) → IsLegal size c h → May size (now c h) e → Within c h → Within c (e ∷ h)
 within_step size c h (Opened k s q) l m w = within_opened c h k s q (facts size c h l) m.4 w
-within_step size c h (OfJob k Granted) l m w = let a = has_at c h k _ m.0 in within_granted c h k _ (facts size c h l) a a.is.3 w
-within_step size c h (OfJob k (Began name count)) l m w = within_act c h k (Began name count) refl (λ o has e. w o has) w
-within_step size c h (OfJob k (Put file number page)) l m w = within_act c h k (Put file number page) refl (λ o has e. w o has) w
-within_step size c h (OfJob k (FileEnded file whole)) l m w = within_act c h k (FileEnded file whole) refl (λ o has e. w o has) w
-within_step size c h (OfJob k (Controlled control whole)) l m w = within_act c h k (Controlled control whole) refl (λ o has e. w o has) w
-within_step size c h (OfJob k Aborted) l m w = within_act c h k Aborted refl (λ o has e. w o has) w
+within_step size c h (OfJob k Granted) l m w = let a = has_at c h k _ m.0 in within_granted c h k _ (facts size c h l) a a.is.1 w
+within_step size c h (OfJob k (Began name count)) l m w = within_act c h k (Began name count) (λ o has e. w o has) w
+within_step size c h (OfJob k (Put file number page)) l m w = within_act c h k (Put file number page) (λ o has e. w o has) w
+within_step size c h (OfJob k (FileEnded file whole)) l m w = within_act c h k (FileEnded file whole) (λ o has e. w o has) w
+within_step size c h (OfJob k (Controlled control whole)) l m w = within_act c h k (Controlled control whole) (λ o has e. w o has) w
+within_step size c h (OfJob k Aborted) l m w = within_act c h k Aborted (λ o has e. w o has) w
 within_step size c h (AtPrinter p sheet turn) l m w = w
 within_step size c h (Removed q jobs) l m w = w
 within_step size c h (Started q) l m w = w
@@ -245,9 +241,9 @@ within : {C : Type 0} (size : C → ℕ) (c : Config) (h : List (Event C)) → I
 within size c [] l = λ o has. absurd has
 within size c (e ∷ h) l = within_step size c h e l.1 l.0 (within size c h l.1)
 
--- all that is told of a job is within its reserve
+-- all that is told of a job, its opening and the rest, is within its reserve
 abbrev pub used : {C : Type 0} → List (Event C) → ℕ → ℕ
-used h j = length (acts_of h j) + (handed_at h j + (back_of h j + (failed_of h j + removed_of h j)))
+used h j = 1 + length (acts_of h j) + (handed_at h j + (back_of h j + (failed_of h j + removed_of h j)))
 
 pub reserved : {C : Type 0} (size : C → ℕ) (c : Config) (h : List (Event C)) → IsLegal size c h → (o : Opening) → Has o (openings h) → used h o.job ≤ reserve_of c o.queue
 reserved {C} size c h l o has =
@@ -255,7 +251,6 @@ reserved {C} size c h l o has =
     let a = acts_of h j in
     let t = told size c h l j in
     let count = all_counted a in
-    let t1 = t.acts.opened in
     let t2 = t.acts.puts in
     let t3 = t.acts.files in
     let t4 = t.acts.ended in

@@ -3,13 +3,14 @@ use Rattle.std.proofs.Common.{◌⊎◌, inl, inr, ◌≡◌, ◌==◌, ℕ, Boo
 use Rattle.std.specs.Prelude.{◌&&◌, not, cond, find, Option, Some, None}
 use Rattle.std.specs.List.{list_any}
 use Rattle.std.proofs.lemmas.Bool.Decides.{nat_tests}
+use Rattle.std.proofs.lemmas.Bool.{and_parts, not-true}
 use Rattle.spool_history.specs.Events.{Event, Sheet}
 use Rattle.config_values.specs.Config.{Config}
 use Rattle.spool_history.specs.Acts.{Page}
 use Rattle.spool_history.specs.Now.{Job, Printer, State, now, is_received, places}
 use Rattle.spool_history.specs.Next.{Next, next_page, next_at, with_out, hand_of, hand_first, turn_of, or_first, first_ready, is_ready, is_preceded_by, printer_at}
 use Rattle.spool_history.specs.Next.Next.{Hands, Stops, Over}
-use Rattle.spool_laws.proofs.Known.{Has, At, known, known_at, find_has, and_true, not_true}
+use Rattle.spool_laws.proofs.Known.{Has, At, known, known_at, find_has}
 
 -- the next place of a job that hasn't ended is this page
 pub record Gets {C : Type 0} (sheet : Sheet C) (v : Job C) : Type 0 where
@@ -34,16 +35,16 @@ pub record TurnOf {C : Type 0} (jobs : List (Job C)) (p : Printer C) (v : Job C)
 first_by : {C : Type 0} (jobs : List (Job C)) (p : Printer C) (x : Job C) → first_ready jobs p.queue ≡ Some x → TurnOf jobs p x
 first_by {C} jobs p x e =
     let f = find_has (λ (w : Job C). (w.queue == p.queue) && is_ready jobs w) x jobs e in
-    let a = and_true (x.queue == p.queue) (is_ready jobs x) f.1 in
-    let b = and_true (is_received x) (not x.ended && ((x.handed == 0) && not (list_any (is_preceded_by x) jobs))) a.1 in
-    let d = and_true (not x.ended) ((x.handed == 0) && not (list_any (is_preceded_by x) jobs)) b.1 in
-    let g = and_true (x.handed == 0) (not (list_any (is_preceded_by x) jobs)) d.1 in
+    let a = and_parts (x.queue == p.queue) (is_ready jobs x) f.1 in
+    let b = and_parts (is_received x) (not x.ended && ((x.handed == 0) && not (list_any (is_preceded_by x) jobs))) a.1 in
+    let d = and_parts (not x.ended) ((x.handed == 0) && not (list_any (is_preceded_by x) jobs)) b.1 in
+    let g = and_parts (x.handed == 0) (not (list_any (is_preceded_by x) jobs)) d.1 in
     let queue : x.queue ≡ p.queue = let z = a.0 in grind (arith, nat_tests) in
     let none : x.handed ≡ 0 = let z = g.0 in grind (arith, nat_tests) in
     record {
       there = f.0;
-      goes_on = not_true x.ended d.0;
-      why = inr (record { queue = queue; received = b.0; unhanded = none; first = not_true (list_any (is_preceded_by x) jobs) g.1 });
+      goes_on = not-true x.ended d.0;
+      why = inr (record { queue = queue; received = b.0; unhanded = none; first = not-true (list_any (is_preceded_by x) jobs) g.1 });
     }
 
 begun_by : {C : Type 0} (jobs : List (Job C)) (p : Printer C) (k : ℕ) (x : Job C) (found : Option (Job C)) → p.began ≡ Some k → find (λ (v : Job C). (v.number == k) && not v.ended) jobs ≡ found → or_first jobs p.queue found ≡ Some x → TurnOf jobs p x
@@ -51,9 +52,9 @@ begun_by jobs p k x None b e h = first_by jobs p x h
 begun_by {C} jobs p k x (Some v) b e h =
     let same : v ≡ x = cc in
     let f = find_has (λ (v : Job C). (v.number == k) && not v.ended) v jobs e in
-    let a = and_true (v.number == k) (not v.ended) f.1 in
+    let a = and_parts (v.number == k) (not v.ended) f.1 in
     let n : v.number ≡ k = let z = a.0 in grind (arith, nat_tests) in
-    subst (λ (u : Job C). TurnOf jobs p u) same (record { there = f.0; goes_on = not_true v.ended a.1; why = inl (b ∙ ap (λ (i : ℕ). Some i) (sym n)) })
+    subst (λ (u : Job C). TurnOf jobs p u) same (record { there = f.0; goes_on = not-true v.ended a.1; why = inl (b ∙ ap (λ (i : ℕ). Some i) (sym n)) })
 
 turn_by : {C : Type 0} (jobs : List (Job C)) (p : Printer C) (x : Job C) (o : Option ℕ) → p.began ≡ o → turn_of jobs p.queue o ≡ Some x → TurnOf jobs p x
 turn_by jobs p x None b e = first_by jobs p x e

@@ -1,7 +1,7 @@
 -- Of a job that is done each place was handed.
-use Rattle.std.proofs.Common.{inl, inr, ◌≡◌, ◌≢◌, ℕ, Bool, true, false, List, [], ◌∷◌, length, take, refl, sym, ◌∙◌, ap, subst, arith}
-use Rattle.std.specs.Prelude.{◌||◌}
+use Rattle.std.proofs.Common.{inl, inr, ◌≡◌, ◌≢◌, ℕ, true, false, List, [], ◌∷◌, length, take, refl, sym, ◌∙◌, ap, subst, arith}
 use Rattle.std.proofs.Math.Seq.{take-length}
+use Rattle.std.proofs.lemmas.Bool.{or_right}
 use Rattle.spool_history.specs.Events.{Act, Event, Sheet, Turn}
 use Rattle.spool_history.specs.Events.Act.{Granted, Began, Put, FileEnded, Controlled, Aborted}
 use Rattle.spool_history.specs.Events.Progress.{Going, Done, Ended}
@@ -16,10 +16,6 @@ use Rattle.spool_laws.proofs.Known.{has_at, test, clash}
 use Rattle.spool_laws.proofs.Facts.{facts, is_out, Turn', turn_of_page, handed_at, handed_more, handed_same}
 use Rattle.spool_laws.proofs.Says.{says}
 use Rattle.spool_laws.proofs.Places.{placed}
-
-or_right : (a b : Bool) → b ≡ true → (a || b) ≡ true
-or_right true b e = refl
-or_right false b e = e
 
 pub still_ended : {C : Type 0} (h : List (Event C)) (e : Event C) (j : ℕ) → has_ended h j ≡ true → has_ended (e ∷ h) j ≡ true
 still_ended h e j is = or_right (ends j e) (has_ended h j) is
@@ -42,9 +38,6 @@ whole_act {C} h k act before w j e =
       | inr s ↦ same_places h k act j s.0
     ] in
     (still_ended h (OfJob k act) j i.0, i.1 ∙ ap length (sym places'))
-
-opened_places : {C : Type 0} (h : List (Event C)) (k s q : ℕ) → places_of (Opened k s q ∷ h) k ≡ places_of h k
-opened_places h k s q = elim (test k k) [ inl r ↦ rw r.1 refl | inr r ↦ rw r.1 refl ]
 
 aborted_places : {C : Type 0} (h : List (Event C)) (k : ℕ) → places_of (OfJob k Aborted ∷ h) k ≡ places_of h k
 aborted_places h k = elim (test k k) [ inl r ↦ rw r.1 refl | inr r ↦ rw r.1 refl ]
@@ -73,12 +66,12 @@ whole_done {C} size c h p sheet l m w j e =
     ]
 
 whole_step : {C : Type 0} (size : C → ℕ) (c : Config) (h : List (Event C)) (e : Event C) → IsLegal size c h → May size (now c h) e → Whole h → Whole (e ∷ h)
-whole_step size c h (Opened k s q) l m w = whole_act h k (Opened s q) (λ e. opened_places h k s q) w
-whole_step size c h (OfJob k Granted) l m w = whole_act h k Granted (λ e. absurd (clash (has_ended h k) e (has_at c h k _ m.0).is.0.0)) w
-whole_step size c h (OfJob k (Began name count)) l m w = whole_act h k (Began name count) (λ e. absurd (clash (has_ended h k) e (has_at c h k _ m.1).is.0.0)) w
-whole_step size c h (OfJob k (Put file number page)) l m w = whole_act h k (Put file number page) (λ e. absurd (clash (has_ended h k) e (has_at c h k _ m).is.0.0)) w
-whole_step size c h (OfJob k (FileEnded file whole)) l m w = whole_act h k (FileEnded file whole) (λ e. absurd (clash (has_ended h k) e (has_at c h k _ m).is.0.0)) w
-whole_step size c h (OfJob k (Controlled control whole)) l m w = whole_act h k (Controlled control whole) (λ e. absurd (clash (has_ended h k) e (has_at c h k _ m.1).is.0.0)) w
+whole_step size c h (Opened k s q) l m w = w
+whole_step size c h (OfJob k Granted) l m w = whole_act h k Granted (λ e. absurd (clash (has_ended h k) e (has_at c h k _ m.0).is.0.0.0)) w
+whole_step size c h (OfJob k (Began name count)) l m w = whole_act h k (Began name count) (λ e. absurd (clash (has_ended h k) e (has_at c h k _ m.0).is.0.0)) w
+whole_step size c h (OfJob k (Put file number page)) l m w = whole_act h k (Put file number page) (λ e. absurd (clash (has_ended h k) e (has_at c h k _ m.0).is.0.0)) w
+whole_step size c h (OfJob k (FileEnded file whole)) l m w = whole_act h k (FileEnded file whole) (λ e. absurd (clash (has_ended h k) e (has_at c h k _ m.0).is.0.0)) w
+whole_step size c h (OfJob k (Controlled control whole)) l m w = whole_act h k (Controlled control whole) (λ e. absurd (clash (has_ended h k) e (has_at c h k _ m.0).is.0.0)) w
 whole_step size c h (OfJob k Aborted) l m w = whole_act h k Aborted (λ e. aborted_places h k) w
 whole_step size c h (AtPrinter p sheet Handed) l m w = whole_handed h p sheet (turn_of_page c h p sheet m.0.0 m.0.1 m.1) w
 whole_step size c h (AtPrinter p sheet (Printed Going)) l m w = λ j e. whole_back h p sheet (Printed Going) j refl (w j e)

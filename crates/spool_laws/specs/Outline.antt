@@ -8,7 +8,6 @@ use Rattle.spool_history.specs.Legal.{IsLegal}
 
 -- of an act: only a page that was put changes
 abbrev pub outline_act : {A B : Type 0} → (A → B) → Act A → Act B
-outline_act f (Opened sender queue) = Opened sender queue
 outline_act f Granted = Granted
 outline_act f (Began name count) = Began name count
 outline_act f (Put file number page) = Put file number (f page)
@@ -22,6 +21,7 @@ outline_sheet f s = record { job = s.job; place = s.place; file = s.file; number
 
 -- of an event
 abbrev pub outline_event : {A B : Type 0} → (A → B) → Event A → Event B
+outline_event f (Opened job sender queue) = Opened job sender queue
 outline_event f (OfJob job act) = OfJob job (outline_act f act)
 outline_event f (AtPrinter printer sheet turn) = AtPrinter printer (outline_sheet f sheet) turn
 outline_event f (Removed queue jobs) = Removed queue jobs

@@ -1,7 +1,7 @@
 -- The pages of a spool, and where each of them is.
 use Rattle.std.specs.Prelude.{◌≡◌, ℕ, ◌+◌, ◌-◌, ◌==◌, ◌≤◌, List, map, length, filter, sum_by, count_by, is_some, if◌then◌else◌}
 use Rattle.counts.specs.Amounts.{amount}
-use Rattle.claims.specs.declared.row.Row.{Row}
+use Rattle.claims.specs.Claims.{held_of}
 use Rattle.spool_history.specs.Events.{Event}
 use Rattle.config_values.specs.Config.{IsQueue, Config, queue_at}
 use Rattle.spool_history.specs.Acts.{File}
@@ -45,17 +45,14 @@ EachPageHasAPlace C =
     (size : C → ℕ) (c : Config) (h : List (Event C)) → IsLegal size c h
     → chained (now c h) + lent (now c h) + at_printers (now c h) + free_pages (now c h) ≡ c.pages
 
--- how much of a kind the held jobs hold: kind 0 are the pages, and each further kind the printers of a queue
-abbrev pub held_of : {C : Type 0} → State C → ℕ → ℕ
-held_of v kind = sum_by (λ (row : Row). amount row.held kind) (map (row_of v.config) v.jobs)
-
 -- how many printers of a queue the held jobs hold
 abbrev pub held_printers : {C : Type 0} → State C → ℕ → ℕ
 held_printers {C} v q = sum_by (λ (job : Job C). printers_held job) (filter (λ (job : Job C). job.queue == q) v.jobs)
 
--- the held jobs hold no more of any kind than there is, and of a queue's printers no more than the queue has
+-- the held jobs hold no more of any kind than there is, where kind 0 are the pages and each further kind the printers
+-- of a queue, and of a queue's printers no more than the queue has
 pub record NoMoreThanThereIs {C : Type 0} (c : Config) (h : List (Event C)) : Type 0 where
-  pub kinds : (kind : ℕ) → held_of (now c h) kind ≤ amount (capacity c) kind
+  pub kinds : (kind : ℕ) → held_of kind (map (row_of c) (now c h).jobs) ≤ amount (capacity c) kind
   pub printers : (q : ℕ) → IsQueue c q → held_printers (now c h) q ≤ (queue_at c q).printers
 
 abbrev pub NoKindRunsOver : Type 0 → Type 0

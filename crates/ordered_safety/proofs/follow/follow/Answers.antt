@@ -13,6 +13,8 @@ use Rattle.ordered_safety.specs.Scan.{rows_at, row_of, MayGoAt, HasTurn, StaysSm
 use Rattle.claims.proofs.Orders.{none_ordered}
 use Rattle.ordered_safety.proofs.Picks.{turn_next, fits_next, numbers_next, numbers_before, held_split, rising_removed, Gives}
 use Rattle.ordered_safety.proofs.Turns.{all_rows, all_there, row_is, held_kinds, gives_back, all_removed, none_left}
+use Rattle.ordered_safety.specs.Compared.{CheckTakes}
+use Rattle.ordered_safety.proofs.Comparisons.{check_none, check_over, check_before}
 use Rattle.ordered_safety.proofs.follow.follow.Goals as goal
 
 pub numbers-init : goal.numbers-init
@@ -30,6 +32,7 @@ numbers-init c =
       kinds = refl;
       only = λ h. subst (λ (r : List Row). AreFinishing free r c.args.numbers.now) all h;
       still = λ h. subst (λ (r : List Row). AreFinishing free r c.args.numbers.now) (sym all) h;
+      taken = λ k h. (let same : k ≡ 0 + k = omega arith in subst (CheckTakes free rows c.args.numbers.now) same (subst (λ (r : List Row). CheckTakes free r c.args.numbers.now k) all h));
       count = omega arith;
       room = c.fill.ensures.room;
     }
@@ -47,6 +50,20 @@ returns-in_default-clause-exact c =
       λ h. absurd cc,
       λ h. absurd (let w = turn_next rows left c.numbers.free n (drop (at + 1) numbers) c.numbers.invariant.rising (subst (AreFinishing (amount c.numbers.free) (rows_at rows left)) next (c.numbers.invariant.still h)) in none w.0 w.1),
     )
+
+pub returns-in_default-clause-tests : goal.returns-in_default-clause-tests
+returns-in_default-clause-tests c =
+    let rows = c.args.rows.now in
+    let left = c.numbers.left.items in
+    let numbers = c.args.numbers.now in
+    let i = c.numbers.number-index in
+    let n = get_or numbers i 0 in
+    let next : drop i numbers ≡ n ∷ drop (i + 1) numbers = drop_more numbers i 0 (omega arith) in
+    let none : (k : ℕ) → HasTurn rows left n k → ⊥ =
+    subst (λ (l : List ℕ). (k : ℕ) → HasTurn rows l n k → ⊥) c.as_slice.ensures.value c.in_default.ensures.none in
+    let sum : c.numbers.tests + 0 ≡ c.numbers.tests = omega arith in
+    subst (CheckTakes (amount c.args.free.now) rows numbers) sum
+    (c.numbers.invariant.taken 0 (subst (λ (ns : List ℕ). CheckTakes (amount c.numbers.free) (rows_at rows left) ns 0) (sym next) (check_none rows left c.numbers.free (drop (i + 1) numbers) n none)))
 
 -- the numbers from here on begin with that of the row whose turn it is
 numbers_from : (rows : List Row) (left numbers : List ℕ) (i at : ℕ) → i < length numbers → HasTurn rows left (get_or numbers i 0) at → drop i numbers ≡ (row_of rows left at).number ∷ drop (i + 1) numbers
@@ -69,6 +86,22 @@ returns-then-not-le-clause-exact c =
           let yes : IsTrue c.le.result = c.le.ensures.1 (subst (λ (r : Row). Fits r.need (amount free)) (sym row) fits) in
           cc),
     )
+
+pub returns-then-not-le-clause-tests : goal.returns-then-not-le-clause-tests
+returns-then-not-le-clause-tests c =
+    let rows = c.args.rows.now in
+    let left = c.numbers.left.items in
+    let numbers = c.args.numbers.now in
+    let free = c.numbers.free in
+    let i = c.numbers.number-index in
+    let at = c.in-Some.at in
+    let n = get_or numbers i 0 in
+    let turn : HasTurn rows left n at = subst (λ (l : List ℕ). HasTurn rows l n at) c.as_slice.ensures.value c.in-Some.ensures.found in
+    let row : c.get-row.result.now ≡ row_of rows left at = row_is rows left at c.index.result.now c.get-row.result.now turn.there c.index.ensures c.get-row.ensures in
+    let next : drop i numbers ≡ n ∷ drop (i + 1) numbers = drop_more numbers i 0 (omega arith) in
+    let over : ¬ (Fits (row_of rows left at).need (amount free)) = λ fits.
+    (let yes : IsTrue c.le.result = c.le.ensures.1 (subst (λ (r : Row). Fits r.need (amount free)) (sym row) fits) in absurd cc) in
+    c.numbers.invariant.taken 1 (subst (λ (ns : List ℕ). CheckTakes (amount free) (rows_at rows left) ns 1) (sym next) (check_over rows left free (drop (i + 1) numbers) n at turn over))
 
 pub add-requires-clause-room : goal.add-requires-clause-room
 add-requires-clause-room c = λ kind.
@@ -111,6 +144,13 @@ numbers-preserved c =
       kinds = ap length c.add.ensures ∙ (length-sum_of free c.get-row.result.now.held ∙ old.kinds);
       only = λ h. old.only (subst (AreFinishing (amount free) (rows_at rows left)) (sym next) (numbers_before rows left free more at rest old.rising m gives (subst (λ (l : List ℕ). AreFinishing (amount more) (rows_at rows l) rest) items h)));
       still = λ h. subst (λ (l : List ℕ). AreFinishing (amount more) (rows_at rows l) rest) (sym items) (numbers_next rows left free more at rest turn.there old.rising gives (subst (AreFinishing (amount free) (rows_at rows left)) next (old.still h)));
+      taken = λ k h.
+          let later : CheckTakes (amount more) (rows_at rows (remove left at)) rest k = subst (λ (l : List ℕ). CheckTakes (amount more) (rows_at rows l) rest k) items h in
+          let n = get_or numbers i 0 in
+          let from : drop i numbers ≡ n ∷ rest = drop_more numbers i 0 (omega arith) in
+          let sum : c.numbers.tests + (k + 1) ≡ (c.numbers.tests + 1) + k = omega arith in
+          subst (CheckTakes (amount c.args.free.now) rows numbers) sum
+          (old.taken (k + 1) (subst (λ (ns : List ℕ). CheckTakes (amount free) (rows_at rows left) ns (k + 1)) (sym from) (check_before rows left free more rest n at k turn m.fits gives later)));
       count = rw items (let l = old.count in omega arith);
       room = let r = old.room in let e = c.remove.ensures.capacity in omega arith;
     }
@@ -123,6 +163,16 @@ past (n ∷ numbers) (suc i) le = past numbers i (omega arith)
 
 gone : (free : ℕ → ℕ) (rows : List Row) (left : List ℕ) → AreFinishing free (rows_at rows left) [] → length left ≡ 0
 gone free rows left h = sym (length-map left (row_at rows)) ∙ ap length (none_ordered free (rows_at rows left) h)
+
+pub returns-clause-tests : goal.returns-clause-tests
+returns-clause-tests c =
+    let rows = c.args.rows.now in
+    let left = c.numbers.left.items in
+    let numbers = c.args.numbers.now in
+    let end : drop c.numbers.number-index numbers ≡ [] = past numbers c.numbers.number-index (omega arith) in
+    let sum : c.numbers.tests + 0 ≡ c.numbers.tests = omega arith in
+    subst (CheckTakes (amount c.args.free.now) rows numbers) sum
+    (c.numbers.invariant.taken 0 (subst (λ (ns : List ℕ). CheckTakes (amount c.numbers.free) (rows_at rows left) ns 0) (sym end) refl))
 
 pub returns-clause-exact : goal.returns-clause-exact
 returns-clause-exact c =

@@ -6,6 +6,7 @@ use Rattle.claims.specs.declared.row.Row.{Row}
 use Rattle.claims.specs.Claims.{row_at}
 use Rattle.claims.specs.Safety.{same_line}
 use Rattle.ordered_safety.specs.Scan.{row_of, IsHead, MayGoAt}
+use Rattle.ordered_safety.proofs.Comparisons.{compared_head, compared_other}
 use Rattle.ordered_safety.proofs.scan.pick.Goals as goal
 use Rattle.ordered_safety.proofs.scan.pick.Goals.{then-is_head+else-le, else-is_head}
 
@@ -29,6 +30,16 @@ loop-at-preserved c = record {
     | then-is_head+else-le w ↦ not_fit c.args.rows.now c.args.left.now c.args.free.now c.loop-at.at w.get.result.now w.le.result w.get.ensures w.le.ensures w.if-le.false
     | else-is_head w ↦ not_head c.args.rows.now c.args.left.now c.args.free.now c.loop-at.at c.is_head.result c.is_head.ensures w.if-is_head.false
   ]);
+  tests = elim c.if-is_head.branch [
+    | then-is_head+else-le w ↦
+        let more = compared_head c.args.rows.now c.args.left.now c.loop-at.at c.is_head.result (omega arith) c.is_head.ensures w.if-is_head.true in
+        let old = c.loop-at.invariant.tests in
+        omega arith
+    | else-is_head w ↦
+        let same = compared_other c.args.rows.now c.args.left.now c.loop-at.at c.is_head.result (omega arith) c.is_head.ensures w.if-is_head.false in
+        let old = c.loop-at.invariant.tests in
+        omega arith
+  ];
   most = elim c.if-is_head.branch [ then-is_head+else-le w ↦ omega arith | else-is_head w ↦ omega arith ];
   least = λ some. elim c.if-is_head.branch [
     | then-is_head+else-le w ↦ omega arith
@@ -38,6 +49,12 @@ loop-at-preserved c = record {
         omega arith
   ];
 }
+
+pub returns-then-le-clause-tests : goal.returns-then-le-clause-tests
+returns-then-le-clause-tests c =
+    let more = compared_head c.args.rows.now c.args.left.now c.loop-at.at c.is_head.result (omega arith) c.is_head.ensures c.if-is_head.true in
+    let old = c.loop-at.invariant.tests in
+    omega arith
 
 pub returns-clause-none : goal.returns-clause-none
 returns-clause-none c = λ at m. c.loop-at.invariant.none at (let t = c.loop-at-test.false in let th = m.there in omega arith) m

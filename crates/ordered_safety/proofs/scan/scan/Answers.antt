@@ -1,9 +1,10 @@
 use Rattle.std.proofs.Common.{◌≡◌, ℕ, ◌+◌, ◌*◌, ◌<◌, ◌≤◌, Option, List, [], ◌∷◌, ◌++◌, length, refl, subst, ap, sym, ◌∙◌, arith, append-nil}
-use Rattle.std.specs.Prelude.{IfNone, remove}
+use Rattle.std.specs.Prelude.{IfSome, IfNone, remove}
 use Rattle.std.proofs.lemmas.Grind.{common_steps}
 use Rattle.std.proofs.lemmas.Bool.Decides.{nat_tests}
 use Rattle.std.proofs.lemmas.List.{length_push}
 use Rattle.std.proofs.lemmas.List.Edits.{length-remove}
+use Rattle.std.proofs.lemmas.Slice.{pushed}
 use Rattle.counts.specs.Amounts.{amount}
 use Rattle.counts.proofs.Sums.{length-sum_of}
 use Rattle.claims.specs.declared.row.Row.{Row}
@@ -13,6 +14,8 @@ use Rattle.ordered_safety.specs.Scan.{rows_at, row_of, MayGoAt, StaysSmall}
 use Rattle.claims.proofs.Orders.{some_order}
 use Rattle.ordered_safety.proofs.Picks.{none_safe, numbers_before, safe_after, held_split, rising_removed, Gives}
 use Rattle.ordered_safety.proofs.Turns.{all_rows, all_there, row_is, held_kinds, gives_back, few_tests, first_tests, found_at, all_removed, numbers_moved, none_left}
+use Rattle.ordered_safety.specs.Compared.{ScanTakes, compared}
+use Rattle.ordered_safety.proofs.Comparisons.{scan_before, scan_end, scan_over}
 use Rattle.ordered_safety.proofs.scan.scan.Goals as goal
 
 pub turns-init : goal.turns-init
@@ -30,6 +33,7 @@ turns-init c =
       kinds = refl;
       only = λ numbers h. subst (λ (ns : List ℕ). AreFinishing free rows (ns ++ numbers)) (sym c.clear.ensures.items) (subst (λ (r : List Row). AreFinishing free r numbers) all h);
       still = λ h. subst (HasFinishingOrder free) (sym all) h;
+      taken = λ n h. (let same : n ≡ 0 + n = omega arith in subst (ScanTakes free rows) same (subst (λ (r : List Row). ScanTakes free r n) all h));
       most = first_tests (length left) (length rows) n;
       least = omega arith;
       all = omega arith;
@@ -45,6 +49,20 @@ returns-in_default-clause-exact c =
       λ h. absurd cc,
       λ h. absurd (none_safe c.args.rows.now c.turns.left.items c.turns.free (grind (arith, common_steps, nat_tests)) c.turns.invariant.rising none (c.turns.invariant.still h)),
     )
+
+pub returns-in_default-clause-tests : goal.returns-in_default-clause-tests
+returns-in_default-clause-tests c =
+    let rows = c.args.rows.now in
+    let left = c.turns.left.items in
+    let free = c.turns.free in
+    let tests = c.pick-choice.result.tests in
+    let none : (at : ℕ) → MayGoAt rows left free at → ⊥ =
+    subst (λ (l : List ℕ). (at : ℕ) → MayGoAt rows l free at → ⊥) c.as_slice.ensures.value
+    (subst (λ (o : Option ℕ). IfNone o ((at : ℕ) → MayGoAt rows c.as_slice.result.now free at → ⊥)) c.in_default.is c.pick-choice.ensures.none) in
+    let all : tests ≡ compared (rows_at rows left) (length left) =
+    subst (λ (l : List ℕ). tests ≡ compared (rows_at rows l) (length l)) c.as_slice.ensures.value
+    (subst (λ (o : Option ℕ). IfNone o (tests ≡ compared (rows_at rows c.as_slice.result.now) (length c.as_slice.result.now))) c.in_default.is c.pick-choice.ensures.all) in
+    c.turns.invariant.taken tests (scan_end rows left free tests none all)
 
 pub add-requires-clause-room : goal.add-requires-clause-room
 add-requires-clause-room c = λ kind.
@@ -72,9 +90,15 @@ turns-preserved c =
     let len = length-remove left at m.there in
     let kinds : length x.held ≡ length free = held_kinds (length c.args.free.now) rows left at c.requires.kinds old.there m.there ∙ sym old.kinds in
     let gives : Gives free x more = gives_back free more c.get-row.result.now x c.add.ensures row kinds in
-    let pushed : c.push.new.self.items ≡ c.turns.order.items ++ x.number ∷ [] = c.in-Ok.ensures.items ∙ ap (λ (r : Row). c.turns.order.items ++ r.number ∷ []) row in
+    let pushed : c.push.new.self.items ≡ c.turns.order.items ++ x.number ∷ [] = pushed (c.get-row.result.now.number ∷ []) refl c.unwrap.ensures c.push.ensures.items ∙ ap (λ (r : Row). c.turns.order.items ++ r.number ∷ []) row in
     let longer : length c.push.new.self.items ≡ length c.turns.order.items + 1 = ap length pushed ∙ length_push c.turns.order.items x.number in
     let tested : c.pick-choice.result.tests ≤ length left = subst (λ (l : List ℕ). c.pick-choice.result.tests ≤ length l) c.as_slice.ensures.value c.pick-choice.ensures.most in
+    let first : (k : ℕ) → k < at → MayGoAt rows left free k → ⊥ =
+    subst (λ (l : List ℕ). (k : ℕ) → k < at → MayGoAt rows l free k → ⊥) c.as_slice.ensures.value
+    (subst (λ (o : Option ℕ). IfSome o (λ i. (k : ℕ) → k < i → MayGoAt rows c.as_slice.result.now free k → ⊥)) c.in-Some.is c.pick-choice.ensures.first) in
+    let turn : c.pick-choice.result.tests ≡ compared (rows_at rows left) (at + 1) =
+    subst (λ (l : List ℕ). c.pick-choice.result.tests ≡ compared (rows_at rows l) (at + 1)) c.as_slice.ensures.value
+    (subst (λ (o : Option ℕ). IfSome o (λ i. c.pick-choice.result.tests ≡ compared (rows_at rows c.as_slice.result.now) (i + 1))) c.in-Some.is c.pick-choice.ensures.tests) in
     let some : 0 < c.pick-choice.result.tests = c.pick-choice.ensures.least (let t = m.there in subst (λ (l : List ℕ). 0 < length l) (sym c.as_slice.ensures.value) (omega arith)) in
     record {
       rising = rw items (rising_removed rows left at m.there old.rising);
@@ -84,11 +108,15 @@ turns-preserved c =
       only = λ numbers h. numbers_moved (amount c.args.free.now) rows c.turns.order.items c.push.new.self.items numbers x.number pushed
           (old.only (x.number ∷ numbers) (numbers_before rows left free more at numbers old.rising m gives (subst (λ (l : List ℕ). AreFinishing (amount more) (rows_at rows l) numbers) items h)));
       still = λ h. subst (λ (l : List ℕ). HasFinishingOrder (amount more) (rows_at rows l)) (sym items) (safe_after rows left free more at m.there gives (old.still h));
+      taken = λ n h.
+          let later : ScanTakes (amount more) (rows_at rows (remove left at)) n = subst (λ (l : List ℕ). ScanTakes (amount more) (rows_at rows l) n) items h in
+          let sum : c.turns.tests + (c.pick-choice.result.tests + n) ≡ (c.turns.tests + c.pick-choice.result.tests) + n = omega arith in
+          subst (ScanTakes (amount c.args.free.now) rows) sum (old.taken (c.pick-choice.result.tests + n) (scan_before rows left free more at c.pick-choice.result.tests n m first gives turn later));
       most = rw items (few_tests c.turns.tests c.pick-choice.result.tests (length left) (length (remove left at)) (length rows * (length rows + 1)) tested old.most len);
       least = let l = old.least in omega arith;
       all = rw items (let l = old.all in omega arith);
       left = let r = old.left in let e = c.remove.ensures.capacity in omega arith;
-      room = let r = old.room in let e = c.in-Ok.ensures.capacity in omega arith;
+      room = let r = old.room in let e = c.push.ensures.capacity in omega arith;
     }
 
 -- what is left at the end
@@ -97,6 +125,13 @@ all_gone free start rows left order e only = subst (AreFinishing start rows) (ap
 
 pub returns-clause-order : goal.returns-clause-order
 returns-clause-order c = λ h. all_gone (amount c.turns.free) (amount c.args.free.now) c.args.rows.now c.turns.left.items c.turns.order.items (grind (arith, common_steps, nat_tests)) c.turns.invariant.only
+
+pub returns-clause-tests : goal.returns-clause-tests
+returns-clause-tests c =
+    let rows = c.args.rows.now in
+    let gone : length c.turns.left.items ≡ 0 = grind (arith, common_steps, nat_tests) in
+    let sum : c.turns.tests + 0 ≡ c.turns.tests = omega arith in
+    subst (ScanTakes (amount c.args.free.now) rows) sum (c.turns.invariant.taken 0 (scan_over rows c.turns.left.items c.turns.free gone))
 
 pub returns-clause-exact : goal.returns-clause-exact
 returns-clause-exact c = (

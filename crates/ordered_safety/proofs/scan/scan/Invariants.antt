@@ -4,6 +4,7 @@ use Rattle.counts.specs.Amounts.{amount}
 use Rattle.claims.specs.Claims.{Pairwise, IsLower}
 use Rattle.claims.specs.Safety.{HasFinishingOrder, AreFinishing}
 use Rattle.ordered_safety.specs.Scan.{rows_at, StaysSmall}
+use Rattle.ordered_safety.specs.Compared.{ScanTakes}
 use Rattle.ordered_safety.proofs.scan.scan.Given as goal
 
 abbrev pub invariant-turns : goal.invariant-turns
@@ -14,6 +15,7 @@ invariant-turns l = record {
   kinds : length l.free ≡ length l.fn.free;
   only : (numbers : List ℕ) → AreFinishing (amount l.free) (rows_at l.rows l.left.items) numbers → AreFinishing (amount l.fn.free) l.rows (l.order.items ++ numbers);
   still : HasFinishingOrder (amount l.fn.free) l.rows → HasFinishingOrder (amount l.free) (rows_at l.rows l.left.items);
+  taken : (n : ℕ) → ScanTakes (amount l.free) (rows_at l.rows l.left.items) n → ScanTakes (amount l.fn.free) l.rows (l.tests + n);
   most : 2 * l.tests + length l.left.items * (length l.left.items + 1) ≤ length l.rows * (length l.rows + 1);
   least : length l.order.items ≤ l.tests;
   all : length l.order.items + length l.left.items ≡ length l.rows;

@@ -37,4 +37,46 @@ alone n row is fit =
     subst P (sym is) (row ∷ [], record { each_once = ([], [], refl, refl); in_line = (tt, tt); fits = (fit, tt) })
 
 pub returns : goal.returns
-returns c = (refl, (((lit≤ tt, lit≤ tt), (refl, record { job = mine 2; there = (0, lit< tt, refl); number = refl; is = refl })), (((lit≤ tt, lit≤ tt), refl), (((lit≤ tt, lit≤ tt), (refl, record { job = mine 4; there = (0, lit< tt, refl); number = refl; is = refl })), (((lit≤ tt, lit≤ tt), refl), ((record { number = lit≤ tt; host = refl; user = refl; prints = refl }, record { job = mine 6; there = (0, lit< tt, refl); number = refl; is = ((refl, refl), refl, refl) }), (record { job = mine 7; there = (0, lit< tt, refl); number = refl; is = ((refl, refl), refl, ([], file 7, refl, refl, refl, refl), refl) }, (record { job = mine 8; there = (0, lit< tt, refl); number = refl; is = ((refl, refl), refl, ([], file 8, refl, refl, refl, (refl, lit< tt, refl))) }, ((record { job = mine 9; there = (0, lit< tt, refl); number = refl; is = ((refl, refl), refl, refl, lit< tt) }, (lit< tt, alone 9 (record { number = 1; sender = 1; queue = 1; held = 2 ∷ 0 ∷ []; need = 1 ∷ 1 ∷ [] }) refl (fits (free_amount (after (OfJob 1 Granted) (before 9))) 1 1 (lit≤ tt) (lit≤ tt)))), (record { job = mine 10; there = (0, lit< tt, refl); number = refl; is = ((refl, refl), refl, ([], file 10, refl, refl, refl, (refl, lit< tt, refl))) }, ((record { job = mine 11; there = (0, lit< tt, refl); number = refl; is = ((refl, refl), refl, refl, lit< tt) }, (lit< tt, alone 11 (record { number = 1; sender = 1; queue = 1; held = 1 ∷ 0 ∷ []; need = 2 ∷ 1 ∷ [] }) refl (fits (free_amount (after (OfJob 1 Granted) (before 11))) 2 1 (lit≤ tt) (lit≤ tt)))), ((lit< tt, record { job = mine 12; there = (0, lit< tt, refl); number = refl; is = ((refl, refl), refl, refl, lit< tt, lit≤ tt) }), ((refl, (lit≤ tt, lit≤ tt), lit< tt, lit≤ tt, refl, lit< tt), tt)))))))))))))
+returns c = (
+  refl,
+  (
+    ((lit≤ tt, lit≤ tt), (refl, record { job = mine 2; there = (0, lit< tt, refl); number = refl; is = refl })),
+    (
+      ((lit≤ tt, lit≤ tt), refl),
+      (
+        ((lit≤ tt, lit≤ tt), (refl, record { job = mine 4; there = (0, lit< tt, refl); number = refl; is = refl })),
+        (
+          ((lit≤ tt, lit≤ tt), refl),
+          (
+            (record { job = mine 6; there = (0, lit< tt, refl); number = refl; is = ((refl, refl), refl, refl) }, record { number = lit≤ tt; host = refl; user = refl; prints = refl }),
+            (
+              (record { job = mine 7; there = (0, lit< tt, refl); number = refl; is = ((refl, refl), refl, ([], file 7, refl, refl, refl, refl), refl) }, tt),
+              (
+                (record { job = mine 8; there = (0, lit< tt, refl); number = refl; is = ((refl, refl), refl, ([], file 8, refl, refl, refl, (refl, lit< tt, refl))) }, tt),
+                (
+                  (
+                    record { job = mine 9; there = (0, lit< tt, refl); number = refl; is = (((refl, refl), refl, refl), lit< tt) },
+                    (lit< tt, alone 9 (record { number = 1; sender = 1; queue = 1; held = 2 ∷ 0 ∷ []; need = 1 ∷ 1 ∷ [] }) refl (fits (free_amount (after (OfJob 1 Granted) (before 9))) 1 1 (lit≤ tt) (lit≤ tt))),
+                  ),
+                  (
+                    (record { job = mine 10; there = (0, lit< tt, refl); number = refl; is = ((refl, refl), refl, ([], file 10, refl, refl, refl, (refl, lit< tt, refl))) }, tt),
+                    (
+                      (
+                        record { job = mine 11; there = (0, lit< tt, refl); number = refl; is = (((refl, refl), refl, refl), lit< tt) },
+                        (lit< tt, alone 11 (record { number = 1; sender = 1; queue = 1; held = 1 ∷ 0 ∷ []; need = 2 ∷ 1 ∷ [] }) refl (fits (free_amount (after (OfJob 1 Granted) (before 11))) 2 1 (lit≤ tt) (lit≤ tt))),
+                      ),
+                      (
+                        (record { job = mine 12; there = (0, lit< tt, refl); number = refl; is = ((refl, refl), refl, refl, lit< tt, lit≤ tt) }, lit< tt),
+                        ((refl, (lit≤ tt, lit≤ tt), lit< tt, lit≤ tt, refl, lit< tt), tt),
+                      ),
+                    ),
+                  ),
+                ),
+              ),
+            ),
+          ),
+        ),
+      ),
+    ),
+  ),
+)

@@ -54,17 +54,17 @@ other_place : (n m : ℕ) → n ≡ m → (n ≡ m → ⊥) → ⊥
 other_place n m e differ = differ e
 
 -- a state with no job has none of which anything holds
-nobody : (v : State (List ℕ)) (j : ℕ) (P : Job (List ℕ) → Type 0) → v.jobs ≡ [] → HasJob v j P → ⊥
-nobody v j P none h = let lt : h.there.0 < length v.jobs = h.there.1 in let e : length v.jobs ≡ 0 = ap length none in omega arith
+nobody : (jobs : List (Job (List ℕ))) (j : ℕ) (P : Job (List ℕ) → Type 0) → jobs ≡ [] → HasJob jobs j P → ⊥
+nobody jobs j P none h = let lt : h.there.0 < length jobs = h.there.1 in let e : length jobs ≡ 0 = ap length none in omega arith
 
 first_of_one : (a x : Job (List ℕ)) (k : ℕ) → k < 1 → slice_index_or (a ∷ []) k x ≡ x → a ≡ x
 first_of_one a x zero lt e = e
 first_of_one a x (suc k) lt e = absurd (omega arith)
 
 -- a state with one job
-single : (v : State (List ℕ)) (a : Job (List ℕ)) (j : ℕ) (P : Job (List ℕ) → Type 0) → v.jobs ≡ a ∷ [] → HasJob v j P → (a.number ≡ j) × P a
-single v a j P one h =
-    let len : length v.jobs ≡ 1 = ap length one in
+single : (jobs : List (Job (List ℕ))) (a : Job (List ℕ)) (j : ℕ) (P : Job (List ℕ) → Type 0) → jobs ≡ a ∷ [] → HasJob jobs j P → (a.number ≡ j) × P a
+single jobs a j P one h =
+    let len : length jobs ≡ 1 = ap length one in
     let at : slice_index_or (a ∷ []) h.there.0 h.job ≡ h.job = subst (λ (l : List (Job (List ℕ))). slice_index_or l h.there.0 h.job ≡ h.job) one h.there.2 in
     let same : a ≡ h.job = first_of_one a h.job h.there.0 (let lt = h.there.1 in omega arith) at in
     (ap (λ (x : Job (List ℕ)). x.number) same ∙ h.number, subst P (sym same) h.is)
@@ -94,21 +94,21 @@ returns-clause-events c = record {
   queue_0 = λ h. let e : 1 ≤ 0 = h.1.0 in omega arith;
   account_full = λ h. let e : 125 ≤ 124 = h.3 in omega arith;
   table_full = λ h. let e : 1 < 1 = h.2 in omega arith;
-  lent_to_nobody = λ h. nobody (now small []) 1 _ refl h.0;
-  lent_with_no_file = λ h. let s = single (now small (drop 12 one_job)) (mine 12) 1 _ refl h.0 in false_is_not_true s.1.1;
-  lent_twice = λ h. let s = single (now small (drop 10 one_job)) (mine 10) 1 _ refl h.0 in true_is_not_false s.1.2;
-  put_unlent = λ h. let s = single (now small (drop 11 one_job)) (mine 11) 1 _ refl h in false_is_not_true s.1.1;
-  put_into_another_file = λ h. let s = single (now small (drop 10 one_job)) (mine 10) 1 _ refl h in second_of_one (mine 10).files (file 10) s.1.2.0 s.1.2.1 refl s.1.2.2 s.1.2.3;
-  file_while_one_is_open = λ h. let s = single (now small (drop 11 one_job)) (mine 11) 1 _ refl h.1 in true_is_not_false s.1.1;
-  name_taken = λ h. let s = single (now small (drop 6 one_job)) (mine 6) 1 _ refl h.1 in true_is_not_false s.1.2;
-  over_the_limit = λ h. let s = single (now small (drop 12 one_job)) (mine 12) 1 _ refl h.1 in let e : 4 ≤ 3 = s.1.4 in omega arith;
-  file_of_no_octet = λ h. let e : 0 < 0 = h.0 in omega arith;
-  ended_while_lent = λ h. let s = single (now small (drop 10 one_job)) (mine 10) 1 _ refl h in true_is_not_false s.1.1;
-  ended_with_the_wrong_word = λ h. let s = single (now small (drop 7 one_job)) (mine 7) 1 _ refl h in true_is_not_false s.1.3;
-  control_twice = λ h. let s = single (now small (drop 5 one_job)) (mine 5) 1 _ refl h.1 in true_is_not_false s.1.0.1;
-  control_with_the_wrong_word = λ h. let s = single (now small (drop 6 one_job)) (mine 6) 1 _ refl h.1 in false_is_not_true s.1.2;
-  control_printing_a_name_twice = λ h. false_is_not_true h.0.prints;
-  aborted_nobody = λ h. nobody (now small []) 1 _ refl h;
+  lent_to_nobody = λ h. nobody (now small []).jobs 1 _ refl h.0;
+  lent_with_no_file = λ h. let s = single (now small (drop 12 one_job)).jobs (mine 12) 1 _ refl h.0 in false_is_not_true s.1.0.1;
+  lent_twice = λ h. let s = single (now small (drop 10 one_job)).jobs (mine 10) 1 _ refl h.0 in true_is_not_false s.1.0.2;
+  put_unlent = λ h. let s = single (now small (drop 11 one_job)).jobs (mine 11) 1 _ refl h.0 in false_is_not_true s.1.1;
+  put_into_another_file = λ h. let s = single (now small (drop 10 one_job)).jobs (mine 10) 1 _ refl h.0 in second_of_one (mine 10).files (file 10) s.1.2.0 s.1.2.1 refl s.1.2.2 s.1.2.3;
+  file_while_one_is_open = λ h. let s = single (now small (drop 11 one_job)).jobs (mine 11) 1 _ refl h.0 in true_is_not_false s.1.1;
+  name_taken = λ h. let s = single (now small (drop 6 one_job)).jobs (mine 6) 1 _ refl h.0 in true_is_not_false s.1.2;
+  over_the_limit = λ h. let s = single (now small (drop 12 one_job)).jobs (mine 12) 1 _ refl h.0 in let e : 4 ≤ 3 = s.1.4 in omega arith;
+  file_of_no_octet = λ h. let e : 0 < 0 = h.1 in omega arith;
+  ended_while_lent = λ h. let s = single (now small (drop 10 one_job)).jobs (mine 10) 1 _ refl h.0 in true_is_not_false s.1.1;
+  ended_with_the_wrong_word = λ h. let s = single (now small (drop 7 one_job)).jobs (mine 7) 1 _ refl h.0 in true_is_not_false s.1.3;
+  control_twice = λ h. let s = single (now small (drop 5 one_job)).jobs (mine 5) 1 _ refl h.0 in true_is_not_false s.1.0.1;
+  control_with_the_wrong_word = λ h. let s = single (now small (drop 6 one_job)).jobs (mine 6) 1 _ refl h.0 in false_is_not_true s.1.2;
+  control_printing_a_name_twice = λ h. false_is_not_true h.1.prints;
+  aborted_nobody = λ h. nobody (now small []).jobs 1 _ refl h.0;
   handed_out_of_order = λ h. other_place 0 1 (ap place_of h.1) (λ e. omega arith);
   handed_while_busy = λ h. other_place 9 1 (ap place_of h.1) (λ e. omega arith);
   handed_again = λ h. other_place 1 0 (ap place_of h.1) (λ e. omega arith);
@@ -117,14 +117,14 @@ returns-clause-events c = record {
   next_job_while_one_is_dying = λ h. other_place 9 2 (ap job_in h.1) (λ e. omega arith);
   other_bytes = λ h. other_place 8 5 (ap length_in h.1) (λ e. omega arith);
   printed_not_out = λ h. none_is_not_some _ h.1.0;
-  printed_done_early = λ h. let s = single (now small (drop 4 one_job)) (mine 4) 1 _ refl h.1.1 in done_is_not_going s.1;
-  printed_going_at_last = λ h. let s = single (now small (drop 2 one_job)) (mine 2) 1 _ refl h.1.1 in going_is_not_done s.1;
+  printed_done_early = λ h. let s = single (now small (drop 4 one_job)).jobs (mine 4) 1 _ refl h.1.1 in done_is_not_going s.1;
+  printed_going_at_last = λ h. let s = single (now small (drop 2 one_job)).jobs (mine 2) 1 _ refl h.1.1 in going_is_not_done s.1;
   failed_not_out = λ h. none_is_not_some _ h.1;
   printer_unknown = λ h. let e : 2 ≤ 1 = h.0.1 in omega arith;
   printer_0 = λ h. let e : 1 ≤ 0 = h.0.0 in omega arith;
   removed_nobody = λ h. let e : 0 < 0 = h.2 in omega arith;
-  removed_while_received = λ h. let s = single (now small (drop 6 one_job)) (mine 6) 1 _ refl h.4.0 in false_is_not_true s.1.1;
-  started_unstopped = λ h. not_stopped h.2 h.3.0 h.3.1 h.5;
+  removed_while_received = λ h. let s = single (now small (drop 6 one_job)).jobs (mine 6) 1 _ refl h.4.0 in false_is_not_true s.1.1;
+  started_unstopped = λ h. not_stopped h.2 h.3.0 h.3.1 h.4.1;
 }
 
 -- the last of one file is that one
@@ -137,7 +137,7 @@ last_of_one files f (x ∷ y ∷ before) last one e = let r : f ∷ [] ≡ x ∷
 due : (n number : ℕ) (page : List ℕ) → let v : State (List ℕ) = now small (drop n one_job) in
     v.jobs ≡ mine n ∷ [] → (mine n).files ≡ file n ∷ [] → May length v (OfJob 1 (Put 0 number page)) → length page ≡ min 8 ((file n).count - number * 8)
 due n number page one files h =
-    let s = single (now small (drop n one_job)) (mine n) 1 _ one h in
+    let s = single (now small (drop n one_job)).jobs (mine n) 1 _ one h.0 in
     let o = s.1.2 in
     let last = last_of_one (mine n).files (file n) o.0 o.1 files o.2 in
     subst (λ (f : File (List ℕ)). length page ≡ min 8 (f.count - number * 8)) (sym last) o.5.2
