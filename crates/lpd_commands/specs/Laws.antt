@@ -1,6 +1,6 @@
 -- What holds of all lines.
 use Rattle.std.specs.Prelude.{◌≡◌, ◌↔◌, ◌⊎◌, ℕ, List, Ok, Err, IsTrue}
-use Rattle.lpd_commands.specs.declared.refusal.Refusal.{Refusal}
+use Rattle.lpd_values.specs.declared.refusal.Refusal.{Refusal}
 use Rattle.lpd_commands.specs.declared.command.Command.{Command}
 use Rattle.lpd_commands.specs.declared.sub.Sub.{Sub}
 use Rattle.lpd_commands.specs.Line.{command_of, sub_of}

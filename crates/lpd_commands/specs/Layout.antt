@@ -1,11 +1,12 @@
 -- How lines are laid out, and which refusal belongs to a line.
 use Rattle.std.specs.Prelude.{MatchResult, Result, ◌≡◌, ◌<◌, ◌≤◌, ◌⊎◌, ◌++◌, ℕ, ◌==◌, false, List, [], ◌∷◌, length, IsTrue, if◌then◌else◌}
 use Rattle.std.specs.List.{list_all}
-use Rattle.lpd_commands.specs.Kinds.{is_space, is_word_octet}
-use Rattle.lpd_commands.specs.Name.{is_control_name, is_data_name}
-use Rattle.lpd_commands.specs.Line.{is_count, count_of}
-use Rattle.lpd_commands.specs.declared.refusal.Refusal.{Refusal}
-use Rattle.lpd_commands.specs.declared.refusal.Refusal.TheVariants.{Memory, LineTooLong, BadCode, BadLine, BadCount, BadName}
+use Rattle.lpd_values.specs.Kinds.{is_space, is_word_octet}
+use Rattle.lpd_values.specs.Name.{is_control_name, is_data_name}
+use Rattle.lpd_values.specs.Digits.{is_count, count_of}
+use Rattle.lpd_values.specs.declared.limits.TheConstants.{MAX_LINE}
+use Rattle.lpd_values.specs.declared.refusal.Refusal.{Refusal}
+use Rattle.lpd_values.specs.declared.refusal.Refusal.TheVariants.{Memory, LineTooLong, BadCode, BadLine, BadCount, BadName}
 use Rattle.lpd_commands.specs.declared.command.Command.{Command}
 use Rattle.lpd_commands.specs.declared.command.Command.TheVariants.{PrintWaiting, Receive, State, Remove}
 use Rattle.lpd_commands.specs.declared.sub.Sub.{Sub}
@@ -30,7 +31,7 @@ abbrev pub IsLine : ℕ → List ℕ → List (List ℕ) → List ℕ → Type 0
 IsLine code word operands line = (rest : List ℕ) × (line ≡ code ∷ (word ++ rest)) × IsWord word × AreLaidOut operands rest
 
 abbrev pub IsShort : List ℕ → Type 0
-IsShort line = length line ≤ 1023
+IsShort line = length line ≤ MAX_LINE
 
 -- no octet, or a code outside 1 to last
 abbrev pub LacksCode : ℕ → List ℕ → Type 0
@@ -50,7 +51,7 @@ MeansCommand line command = IsShort line × IsCommandLine command line
 
 -- this refusal's fault is in the line, and none that is tested earlier
 abbrev pub RefusesCommand : List ℕ → Refusal → Type 0
-RefusesCommand line LineTooLong = 1023 < length line
+RefusesCommand line LineTooLong = MAX_LINE < length line
 RefusesCommand line BadCode = IsShort line × LacksCode 5 line
 RefusesCommand line BadLine = IsShort line × (LacksCode 5 line → ⊥) × ((command : Command) → IsCommandLine command line → ⊥)
 RefusesCommand line _ = ⊥
@@ -67,7 +68,7 @@ IsFileLine code count name line = ((code ≡ 2) ⊎ (code ≡ 3)) × IsLine code
 abbrev pub IsAbortLine : List ℕ → Type 0
 IsAbortLine line = (rest : List ℕ) × (line ≡ 1 ∷ rest) × IsBlank rest
 
--- the count isn't 1 to 19 digits, or it is a data file's 0
+-- the count isn't 1 to MAX_COUNT_DIGITS digits, or it is a data file's 0
 abbrev pub IsBadCount : ℕ → List ℕ → Type 0
 IsBadCount code count = (is_count count ≡ false) ⊎ ((code ≡ 3) × (count_of count ≡ 0))
 
@@ -84,7 +85,7 @@ MeansSub line (DataFile count name) =
     IsShort line × (digits : List ℕ) × IsLine 3 digits (name ∷ []) line × IsTrue (is_count digits) × (count ≡ count_of digits) × (0 < count) × IsTrue (is_data_name name)
 
 abbrev pub RefusesSub : List ℕ → Refusal → Type 0
-RefusesSub line LineTooLong = 1023 < length line
+RefusesSub line LineTooLong = MAX_LINE < length line
 RefusesSub line BadCode = IsShort line × LacksCode 3 line
 RefusesSub line BadLine =
     IsShort line × (LacksCode 3 line → ⊥) × (IsAbortLine line → ⊥) × ((code : ℕ) (count name : List ℕ) → IsFileLine code count name line → ⊥)

@@ -1,11 +1,11 @@
+pub use Rattle.lpd_values.specs.Digits
+pub use Rattle.lpd_values.specs.Given
+pub use Rattle.lpd_values.specs.Kinds
+pub use Rattle.lpd_values.specs.Name
+pub use Rattle.lpd_values.specs.Pieces
+pub use Rattle.lpd_values.specs.Refusals
 pub mod Ends
-pub mod Given
-pub mod Kinds
 pub mod Layout
 pub mod Laws
 pub mod Line
-pub mod Name
-pub mod Pieces
-pub mod Plain
-pub mod Refusals
 pub mod Written

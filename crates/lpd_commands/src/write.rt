@@ -5,9 +5,8 @@ ghost use Rattle.std.specs.Fmt.{decimal};
 ghost use Rattle.lpd_commands.specs.Written.{command_line, spaced, sub_line};
 
 use crate::command::Command;
-use crate::name::FileName;
-use crate::octets::{Octets, Words};
 use crate::sub::Sub;
+use lpd_values::{FileName, Octets, Words};
 use std::alloc::{AllocError, Global};
 
 /// Puts a space and the word at the end of the line.

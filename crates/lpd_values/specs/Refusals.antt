@@ -1,7 +1,7 @@
 -- The number and the acknowledgement octet of each refusal.
 use Rattle.std.specs.Prelude.{ℕ}
-use Rattle.lpd_commands.specs.declared.refusal.Refusal.{Refusal}
-use Rattle.lpd_commands.specs.declared.refusal.Refusal.TheVariants as refusal
+use Rattle.lpd_values.specs.declared.refusal.Refusal.{Refusal}
+use Rattle.lpd_values.specs.declared.refusal.Refusal.TheVariants as refusal
 
 abbrev pub number_of : Refusal → ℕ
 number_of refusal.UnknownQueue = 1

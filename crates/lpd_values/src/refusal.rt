@@ -1,7 +1,7 @@
 //! The refusals that a peer can be given.
 
 ghost use Rattle.std.specs.Prelude.{◌≡◌};
-ghost use Rattle.lpd_commands.specs.Refusals.{number_of, octet_of};
+ghost use Rattle.lpd_values.specs.Refusals.{number_of, octet_of};
 
 use std::alloc::AllocError;
 use std::error::Error;
@@ -115,7 +115,7 @@ impl Error for Refusal {}
 
 impl From<AllocError> for Refusal {
     ghost use Rattle.std.specs.Prelude.{◌≡◌};
-    ghost use Rattle.lpd_commands.specs.declared.refusal.Refusal.TheVariants.{Memory};
+    ghost use Rattle.lpd_values.specs.declared.refusal.Refusal.TheVariants.{Memory};
 
     ghost from_gives = { λ _ e. e ≡ Memory };
 

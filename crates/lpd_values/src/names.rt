@@ -1,9 +1,9 @@
 //! Lists of file names.
 
 ghost use Rattle.std.specs.Prelude.{◌≡◌, ◌==◌, [], ◌∷◌, ◌++◌, length, IfOk, OnOk, OnErr};
-ghost use Rattle.control_file.specs.Kept.{is_among};
+ghost use Rattle.lpd_values.specs.Kept.{is_among};
 
-use lpd_commands::FileName;
+use crate::name::FileName;
 use std::alloc::{AllocError, Global};
 use std::marker::Model;
 
@@ -74,8 +74,6 @@ impl FileNames {
     pub fn contains(&self, name: &FileName) -> bool
         ensures { result ≡ is_among name.now self.now }
     {
-        self.names
-            .iter()
-            .any(|other| other.octets() == name.octets())
+        self.names.iter().any(|other| other == name)
     }
 }

@@ -1,10 +1,11 @@
 //! File names.
 
 ghost use Rattle.std.specs.Prelude.{◌≡◌, ◌≤◌, ◌-◌, IsTrue, MatchResult, true, false, length};
-ghost use Rattle.lpd_commands.specs.Kinds.{is_digit};
-ghost use Rattle.lpd_commands.specs.Name.{is_control_name, is_data_name, is_file_name, is_name, has_head, number_of, padded, IsFileName};
+ghost use Rattle.lpd_values.specs.Kinds.{is_digit};
+ghost use Rattle.lpd_values.specs.Name.{is_control_name, is_data_name, is_file_name, is_name, has_head, number_of, padded, IsFileName};
 
 use crate::kinds::{all_digits, all_word_octets, is_letter};
+use crate::limits::{MAX_NAME, MIN_NAME};
 use crate::refusal::Refusal;
 use std::marker::Model;
 
@@ -12,14 +13,14 @@ use std::marker::Model;
 /// digits that are the job's number, and up to 120 word octets. It has 6 to 126 octets, which are held inline.
 #[derive(Clone, Copy, Debug)]
 pub struct FileName {
-    octets: [u8; 126],
+    octets: [u8; MAX_NAME],
     len: usize,
 }
 
 impl Model for FileName {
     ghost use Rattle.std.specs.Prelude.{ℕ, List, ◌≡◌, take, length};
     ghost use Rattle.std.proofs.Common.{ap, ◌∙◌};
-    ghost use Rattle.lpd_commands.specs.Name.{padded, IsFileName};
+    ghost use Rattle.lpd_values.specs.Name.{padded, IsFileName};
 
     ghost Value = { List ℕ };
 
@@ -27,15 +28,36 @@ impl Model for FileName {
 
     ghost invariant = { λ n. (length (take n.len n.octets) ≡ n.len) × (padded (take n.len n.octets) ≡ n.octets) × IsFileName (take n.len n.octets) };
 
-    ghost use Rattle.lpd_commands.specs.declared.name.FileName.TheInside.{Inside};
+    ghost use Rattle.lpd_values.specs.declared.name.FileName.TheInside.{Inside};
 
     ghost inverse = { λ l. record { octets = padded l; len = length l } };
 
     ghost inverse_ok = { λ n h. ap {B = Inside} (λ (o : List ℕ). record { octets = o; len = length (take n.len n.octets) }) h.1 ∙ ap {B = Inside} (λ (k : ℕ). record { octets = n.octets; len = k }) h.0 };
 }
 
+/// Two names are equal where their octets are.
+impl PartialEq for FileName {
+    ghost use Rattle.std.specs.Str.{bytes_eq};
+    ghost use Rattle.std.specs.Cmp.{partial_equiv_from_equiv};
+    ghost use Rattle.std.specs.Cmp.Lexicographic.{nat_list_eq_equiv};
+
+    ghost eq = { bytes_eq };
+
+    ghost laws = { partial_equiv_from_equiv nat_list_eq_equiv };
+
+    fn eq(&self, other: &FileName) -> bool {
+        self.octets() == other.octets()
+    }
+}
+
+impl Eq for FileName {
+    ghost use Rattle.std.specs.Cmp.Lexicographic.{nat_list_eq_equiv};
+
+    ghost laws = { nat_list_eq_equiv };
+}
+
 fn has_head(kind: u8, octets: &[u8]) -> bool
-    requires { 6 ≤ length octets.now }
+    requires { MIN_NAME ≤ length octets.now }
     ensures { result ≡ has_head kind octets.now }
 {
     octets[0] == kind && octets[1] == b'f' && is_letter(octets[2])
@@ -45,7 +67,7 @@ fn has_head(kind: u8, octets: &[u8]) -> bool
 fn is_name(kind: u8, octets: &[u8]) -> bool
     ensures { result ≡ is_name kind octets.now }
 {
-    if octets.len() < 6 || octets.len() > 126 {
+    if octets.len() < MIN_NAME || octets.len() > MAX_NAME {
         return false;
     }
     has_head(kind, octets) && all_digits(&octets[3..6]) && all_word_octets(&octets[6..])
@@ -53,17 +75,17 @@ fn is_name(kind: u8, octets: &[u8]) -> bool
 
 fn is_file_name(octets: &[u8]) -> bool
     ensures value { result ≡ is_file_name octets.now }
-    ensures within { IsTrue result → length octets.now ≤ 126 }
+    ensures within { IsTrue result → length octets.now ≤ MAX_NAME }
 {
     is_name(b'c', octets) || is_name(b'd', octets)
 }
 
 /// The octets with zeros behind them.
-fn padded(octets: &[u8]) -> [u8; 126]
-    requires { length octets.now ≤ 126 }
+fn padded(octets: &[u8]) -> [u8; MAX_NAME]
+    requires { length octets.now ≤ MAX_NAME }
     ensures { result ≡ padded octets.now }
 {
-    let mut all = [0; 126];
+    let mut all = [0; MAX_NAME];
     all[..octets.len()].copy_from_slice(octets);
     all
 }

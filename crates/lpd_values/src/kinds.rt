@@ -2,10 +2,10 @@
 
 ghost use Rattle.std.specs.Prelude.{◌≡◌};
 ghost use Rattle.std.specs.List.{list_all};
-ghost use Rattle.lpd_commands.specs.Kinds.{is_space, is_word_octet, is_text_octet, is_digit, is_letter};
+ghost use Rattle.lpd_values.specs.Kinds.{is_space, is_word_octet, is_text_octet, is_digit, is_letter};
 
 /// Space, horizontal tab, vertical tab and form feed.
-pub(crate) fn is_space(octet: u8) -> bool
+pub fn is_space(octet: u8) -> bool
     ensures { result ≡ is_space octet }
 {
     octet == b' ' || octet == 9 || octet == 11 || octet == 12
@@ -18,7 +18,7 @@ pub(crate) fn is_word_octet(octet: u8) -> bool
     33 <= octet && octet <= 126 || 128 <= octet
 }
 
-pub(crate) fn is_digit(octet: u8) -> bool
+pub fn is_digit(octet: u8) -> bool
     ensures { result ≡ is_digit octet }
 {
     b'0' <= octet && octet <= b'9'
@@ -30,7 +30,7 @@ pub(crate) fn is_letter(octet: u8) -> bool
     b'A' <= octet && octet <= b'Z' || b'a' <= octet && octet <= b'z'
 }
 
-pub(crate) fn all_spaces(octets: &[u8]) -> bool
+pub fn all_spaces(octets: &[u8]) -> bool
     ensures { result ≡ list_all is_space octets.now }
 {
     octets.iter().all(|b| is_space(*b))
@@ -49,7 +49,7 @@ pub(crate) fn all_word_octets(octets: &[u8]) -> bool
 }
 
 /// Whether there are word octets and white space alone.
-pub(crate) fn all_text(octets: &[u8]) -> bool
+pub fn all_text(octets: &[u8]) -> bool
     ensures { result ≡ list_all is_text_octet octets.now }
 {
     octets.iter().all(|b| is_word_octet(*b) || is_space(*b))
