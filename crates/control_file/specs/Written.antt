@@ -1,6 +1,6 @@
 -- The text that is written.
 use Rattle.std.specs.Prelude.{ℕ, List, [], ◌∷◌, ◌++◌}
-use Rattle.control_file.specs.Text.{Contents}
+use Rattle.lpd_values.specs.Contents.{Contents}
 
 -- one line for each name, with f
 abbrev pub print_lines : List (List ℕ) → List ℕ

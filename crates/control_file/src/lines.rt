@@ -2,14 +2,13 @@
 
 ghost use Rattle.std.specs.Prelude.{◌≡◌, ◌<◌, ◌≤◌, ◌⊎◌, [], ◌∷◌, true, IfSome, IsTrue, OnOk, MatchOption, MatchResult, length, slice_get, Some, None};
 ghost use Rattle.std.specs.List.{list_all, prefix_len};
-ghost use Rattle.lpd_commands.specs.Name.{is_data_name};
-ghost use Rattle.lpd_commands.specs.Pieces.{is_kept, begins_piece};
-ghost use Rattle.control_file.specs.Kept.{is_line_feed, is_print_list};
+ghost use Rattle.lpd_values.specs.Name.{is_data_name};
+ghost use Rattle.lpd_values.specs.Pieces.{is_kept, begins_piece};
+ghost use Rattle.lpd_values.specs.Kept.{is_line_feed, is_print_list};
 ghost use Rattle.control_file.specs.Text.{each_once, lines_of, operands_of, print_list, prints_of};
 ghost use Rattle.control_file.specs.Fields.{letter_test};
 
-use crate::names::FileNames;
-use lpd_commands::{FileName, Refusal};
+use lpd_values::{FileName, FileNames, MAX_PRINTS, Refusal};
 use std::alloc::Global;
 
 /// What a line of a control file is about, as its first octet says.
@@ -129,7 +128,7 @@ pub(crate) fn check_prints(text: &[u8]) -> Result<(), Refusal>
     if count == 0 {
         return Err(Refusal::NoPrintLine);
     }
-    if count > 52 {
+    if count > MAX_PRINTS {
         return Err(Refusal::TooManyPrints);
     }
     if !all_data_names(text) {

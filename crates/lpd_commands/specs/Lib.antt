@@ -1,3 +1,4 @@
+pub use Rattle.lpd_values.specs.Decided
 pub use Rattle.lpd_values.specs.Digits
 pub use Rattle.lpd_values.specs.Given
 pub use Rattle.lpd_values.specs.Kinds

@@ -3,7 +3,7 @@ use Rattle.std.specs.Prelude.{ℕ, Bool, true, false, List, [], ◌∷◌, ◌==
 use Rattle.std.specs.List.{list_all}
 use Rattle.lpd_values.specs.Kinds.{is_space, is_text_octet}
 use Rattle.lpd_values.specs.Pieces.{begins_piece, pieces_of}
-use Rattle.lpd_values.specs.Digits.{is_count, count_of}
+pub use Rattle.lpd_values.specs.Digits.{is_count, count_of}
 use Rattle.lpd_values.specs.Name.{is_control_name, is_data_name}
 use Rattle.lpd_values.specs.declared.limits.TheConstants.{MAX_LINE}
 use Rattle.lpd_values.specs.declared.refusal.Refusal.{Refusal}

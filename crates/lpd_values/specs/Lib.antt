@@ -1,4 +1,5 @@
 pub mod Contents
+pub mod Decided
 pub mod Digits
 pub mod Given
 pub mod Kept
