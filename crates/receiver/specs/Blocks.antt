@@ -1,18 +1,20 @@
 -- How whole blocks are read.
 use Rattle.std.specs.Prelude.{◌≡◌, ℕ, suc, Bool, true, false, List, [], ◌∷◌, ◌++◌, ◌<◌, ◌≤◌, ◌↔◌, length, not, ◌⊎◌, Option, Some, None, Ok, if◌then◌else◌}
+use Rattle.lpd_values.specs.declared.limits.TheConstants.{MAX_LINE, MAX_CONTROL_TEXT}
 use Rattle.std.specs.List.{concat, prefix_len}
 use Rattle.lpd_commands.specs.Line.{command_of, sub_of}
-use Rattle.lpd_commands.specs.declared.refusal.Refusal.TheVariants.{Memory}
+use Rattle.lpd_values.specs.declared.refusal.Refusal.TheVariants.{Memory}
 use Rattle.lpd_commands.specs.declared.command.Command.TheVariants as command
 use Rattle.lpd_commands.specs.declared.sub.Sub.TheVariants as sub
-use Rattle.control_file.specs.Text.{Contents, control_of}
+use Rattle.lpd_values.specs.Contents.{Contents}
+use Rattle.control_file.specs.Text.{control_of}
 use Rattle.receiver.specs.Script.{Queue, Open, BeginFile, AskPage, Filled, EndFile, Control, AbortJob, Ack, Fault, Output, Wrote, Asked, Reply, Yes, Ticket, Later, Stored, Received, Item, FileOctets}
 use Rattle.receiver.specs.Reading.{Progress, is_inner, start}
 use Rattle.receiver.specs.Reads.{Reads}
 
--- at most 1,023 octets, none of them LF
+-- at most MAX_LINE octets, none of them LF
 abbrev pub IsLine : List ℕ → Type 0
-IsLine line = (prefix_len is_inner line ≡ length line) × (length line ≤ 1023)
+IsLine line = (prefix_len is_inner line ≡ length line) × (length line ≤ MAX_LINE)
 
 -- what is cut in pages of z octets: all but the last are full, and the last has an octet
 abbrev pub AreCut : ℕ → List (List ℕ) → Type 0
@@ -79,7 +81,7 @@ abbrev pub ReadsControlBlock : Type 0
 ReadsControlBlock =
     (queue : List ℕ) (job whole : Bool) (line name text : List ℕ) (contents : Contents) →
     (short : Bool) (rest : List ℕ) (a : List Reply) (os : List Output) →
-    IsLine line → 1 ≤ length text → length text ≤ 8192 →
+    IsLine line → 1 ≤ length text → length text ≤ MAX_CONTROL_TEXT →
     sub_of line ≡ Ok (sub.ControlFile (length text) name) → control_of name text ≡ Ok contents →
     Reads short os (between queue (not whole)) rest a →
     Reads short (opened job queue ++ Wrote Ack ∷ Asked (Control contents) ∷ Wrote Ack ∷ os) (between queue job)

@@ -1,6 +1,6 @@
 -- Which outputs a text and answers decide.
 use Rattle.std.specs.Prelude.{◌≡◌, ℕ, Bool, true, false, List, [], ◌∷◌, ◌++◌, Option, Some, None, ◌⊎◌}
-use Rattle.lpd_commands.specs.declared.refusal.Refusal.TheVariants.{Memory}
+use Rattle.lpd_values.specs.declared.refusal.Refusal.TheVariants.{Memory}
 use Rattle.receiver.specs.Script.{Request, Queue, Open, Control, StartPrinters, QueueState, RemoveJobs, Fault, Output, Wrote, Asked, Reply}
 use Rattle.receiver.specs.Reading.{Kind, kind_of, Progress, Due, Waits, Ends, Writes, Requests, due, answered}
 

@@ -1,6 +1,6 @@
 -- What a receiver's needs and answers mean, and what one call does.
 use Rattle.std.specs.Prelude.{◌≡◌, ℕ, Bool, true, false, List, [], ◌∷◌, ◌++◌, ◌≤◌, Option, Some, None, length, drop, ◌⊎◌}
-use Rattle.lpd_commands.specs.declared.refusal.Refusal.TheVariants.{Memory}
+use Rattle.lpd_values.specs.declared.refusal.Refusal.TheVariants.{Memory}
 use Rattle.control_file.specs.View.{contents}
 use Rattle.page_pool.specs.Page.{Page}
 use Rattle.receiver.specs.Script.{Queue, Open, BeginFile, AskPage, Filled, EndFile, Control, AbortJob, StartPrinters, QueueState, RemoveJobs, Ack, Fault, Output, Wrote, Asked, Reply, Yes, Ticket, Later, Stored, Received, Refused, Item, PageOctets, Over}

@@ -9,15 +9,13 @@ ghost use Rattle.receiver.specs.Sound.{state_of, IsSound, IsAtLineEnd, OpensOrNo
 
 use crate::need::{Answer, Need};
 use control_file::Control;
-use lpd_commands::{Command, FileName, Octets, Refusal, Sub, parse_command, parse_sub};
+use lpd_commands::{Command, Sub, parse_command, parse_sub};
+use lpd_values::{FileName, MAX_CONTROL_TEXT, MAX_LINE, Octets, Refusal};
 use page_pool::PageTicket;
 use std::alloc::{AllocError, Global};
 
 /// This many octets without LF are too long a line.
-const LINE_LIMIT: usize = 1024;
-
-/// The most octets of a control text.
-const MAX_TEXT: usize = 8192;
+const LINE_LIMIT: usize = MAX_LINE + 1;
 
 /// Where the machine is in a block.
 ///
@@ -121,7 +119,7 @@ impl Machine {
             job: false,
             queue: Octets::from_vec(Vec::new(alloc)),
             line: Vec::with_capacity(alloc, LINE_LIMIT)?,
-            text: Vec::with_capacity(alloc, MAX_TEXT)?,
+            text: Vec::with_capacity(alloc, MAX_CONTROL_TEXT)?,
             ticket: None,
             alloc,
         })
@@ -467,7 +465,7 @@ impl Machine {
                 }
             }
             Sub::ControlFile { count, name } => {
-                if count == 0 || count > MAX_TEXT as u64 {
+                if count == 0 || count > MAX_CONTROL_TEXT as u64 {
                     return self.fault(Refusal::BadLength);
                 }
                 let count = count as usize;
