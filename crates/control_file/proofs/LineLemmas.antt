@@ -26,7 +26,7 @@ list_all-rest : (p : ℕ → Bool) (s : List ℕ) → list_all p s ≡ true → 
 list_all-rest p [] h = refl
 list_all-rest p (b ∷ bs) h =
     let e : take (length (b ∷ bs) - 1) (drop 1 (b ∷ bs)) ≡ bs = grind (arith, common_steps) in
-    rw e ((and_parts _ _ h).1)
+    rw e (and_parts _ _ h).1
 
 pub operand_kept : (p : ℕ → Bool) (s front : List ℕ) (n : ℕ) → n ≡ prefix_len p s → front ≡ take n s → list_all p (take (length front - 1) (drop 1 front)) ≡ true
 operand_kept p s front n e f = list_all-rest p front (rw (f, e) (list_all-prefix p s))

@@ -111,8 +111,8 @@ all_differ-filter : (p : List ℕ → Bool) (xs : List (List ℕ)) → all_diffe
 all_differ-filter p [] h = refl
 all_differ-filter p (x ∷ xs) h =
     elim (cases_Bool (p x)) [
-      | inl k ↦ rw (filter-yes p x xs k) (and_from _ _ (ap not (not_among-filter p x xs (not-true (is_among x xs) ((and_parts _ _ h).0)))) (all_differ-filter p xs ((and_parts _ _ h).1)))
-      | inr k ↦ rw (filter-no p x xs k) (all_differ-filter p xs ((and_parts _ _ h).1))
+      | inl k ↦ rw (filter-yes p x xs k) (and_from _ _ (ap not (not_among-filter p x xs (not-true (is_among x xs) (and_parts _ _ h).0))) (all_differ-filter p xs (and_parts _ _ h).1))
+      | inr k ↦ rw (filter-no p x xs k) (all_differ-filter p xs (and_parts _ _ h).1)
     ]
 
 pub all_differ-each_once : (ns : List (List ℕ)) → all_differ (each_once ns) ≡ true
@@ -124,14 +124,14 @@ list_all-filter : (q p : List ℕ → Bool) (xs : List (List ℕ)) → list_all 
 list_all-filter q p [] h = refl
 list_all-filter q p (x ∷ xs) h =
     elim (cases_Bool (p x)) [
-      | inl k ↦ rw (filter-yes p x xs k) (and_from _ _ ((and_parts _ _ h).0) (list_all-filter q p xs ((and_parts _ _ h).1)))
-      | inr k ↦ rw (filter-no p x xs k) (list_all-filter q p xs ((and_parts _ _ h).1))
+      | inl k ↦ rw (filter-yes p x xs k) (and_from _ _ (and_parts _ _ h).0 (list_all-filter q p xs (and_parts _ _ h).1))
+      | inr k ↦ rw (filter-no p x xs k) (list_all-filter q p xs (and_parts _ _ h).1)
     ]
 
 pub list_all-each_once : (q : List ℕ → Bool) (ns : List (List ℕ)) → list_all q ns ≡ true → list_all q (each_once ns) ≡ true
 list_all-each_once q [] h = refl
 list_all-each_once q (n ∷ ns) h =
-    and_from _ _ ((and_parts _ _ h).0) (list_all-filter q (is_other n) (each_once ns) (list_all-each_once q ns ((and_parts _ _ h).1)))
+    and_from _ _ (and_parts _ _ h).0 (list_all-filter q (is_other n) (each_once ns) (list_all-each_once q ns (and_parts _ _ h).1))
 
 length-filter-le : (p : List ℕ → Bool) (xs : List (List ℕ)) → length (filter p xs) ≤ length xs
 length-filter-le p [] = omega arith

@@ -94,11 +94,11 @@ passed_over test (b ∷ bs) lines h = ap (λ v. if v then bs ∷ operands_of tes
 
 none_before : (test : ℕ → Bool) (before lines : List (List ℕ)) → NoneLed test before → operands_of test (before ++ lines) ≡ operands_of test lines
 none_before test [] lines h = refl
-none_before test (l ∷ ls) lines h = passed_over test l (ls ++ lines) ((and_parts _ _ h).0) ∙ none_before test ls lines ((and_parts _ _ h).1)
+none_before test (l ∷ ls) lines h = passed_over test l (ls ++ lines) (and_parts _ _ h).0 ∙ none_before test ls lines (and_parts _ _ h).1
 
 pub none_led : (test : ℕ → Bool) (lines : List (List ℕ)) → NoneLed test lines → operands_of test lines ≡ []
 none_led test [] h = refl
-none_led test (l ∷ ls) h = passed_over test l ls ((and_parts _ _ h).0) ∙ none_led test ls ((and_parts _ _ h).1)
+none_led test (l ∷ ls) h = passed_over test l ls (and_parts _ _ h).0 ∙ none_led test ls (and_parts _ _ h).1
 
 pub operands_of-first : (test : ℕ → Bool) (lines : List (List ℕ)) (operand : List ℕ) (h : IsFirst test lines (Some operand)) → operands_of test lines ≡ operand ∷ operands_of test h.2
 operands_of-first test lines operand h =

@@ -1,5 +1,5 @@
 -- What is written, and how it is laid out.
-use Rattle.std.proofs.Common.{◌≡◌, ◌<◌, ℕ, true, false, not, List, [], ◌∷◌, ◌++◌, ◌+◌, length, take, get_or, filter, map, Some, refl, ap, sym, ◌∙◌, arith, append_assoc}
+use Rattle.std.proofs.Common.{◌≡◌, ◌<◌, ◌≤◌, ℕ, true, false, not, List, [], ◌∷◌, ◌++◌, ◌+◌, length, take, get_or, filter, map, Some, refl, ap, sym, ◌∙◌, arith, append_assoc}
 use Rattle.std.specs.List.{list_all}
 use Rattle.std.proofs.lemmas.Bool.{not-true, and_parts, and_from, leb-true, or_parts}
 use Rattle.std.proofs.lemmas.Bool.Decides.{nat_tests}
@@ -46,7 +46,7 @@ print_line n = 102 ∷ n
 prints_laid : (ns : List (List ℕ)) → list_all is_data_name ns ≡ true → AreLines (map print_line ns) (10 ∷ print_lines ns)
 prints_laid [] h = refl
 prints_laid (n ∷ ns) h =
-    (10 ∷ [], 10 ∷ print_lines ns, refl, refl, (omega arith, and_from _ _ refl (name_kept n ((and_parts _ _ h).0))), refl, prints_laid ns ((and_parts _ _ h).1))
+    (10 ∷ [], 10 ∷ print_lines ns, refl, refl, (omega arith, and_from _ _ refl (name_kept n (and_parts _ _ h).0)), refl, prints_laid ns (and_parts _ _ h).1)
 
 prints_are : (ns : List (List ℕ)) → AreOperands is_print_letter ns (map print_line ns)
 prints_are [] = refl
@@ -58,11 +58,11 @@ all_other n [] h = refl
 all_other n (x ∷ xs) h =
     filter-yes (is_other n) x xs (ap not (bytes_eq-sym n x ∙ (or_parts _ _ h).0)) ∙ ap (λ v. x ∷ v) (all_other n xs ((or_parts _ _ h).1))
 
--- names that both_ways are there each once
+-- names that differ are there each once
 each_once-same : (ns : List (List ℕ)) → all_differ ns ≡ true → each_once ns ≡ ns
 each_once-same [] h = refl
 each_once-same (n ∷ ns) h =
-    ap (λ v. n ∷ filter (is_other n) v) (each_once-same ns ((and_parts _ _ h).1)) ∙ ap (λ v. n ∷ v) (all_other n ns (not-true (is_among n ns) ((and_parts _ _ h).0)))
+    ap (λ v. n ∷ filter (is_other n) v) (each_once-same ns (and_parts _ _ h).1) ∙ ap (λ v. n ∷ v) (all_other n ns (not-true (is_among n ns) (and_parts _ _ h).0))
 
 pub control_is_read_back : (control : Control) (name : List ℕ) → ControlIsReadBack control name
 control_is_read_back control name e k =
@@ -70,16 +70,16 @@ control_is_read_back control name e k =
     let user : List ℕ = control.user in
     let prints : List (List ℕ) = control.prints in
     let fit : is_print_list prints ≡ true = control.prints_fit in
-    let distinct = (and_parts _ _ fit).1 in
-    let data_names = (and_parts _ _ ((and_parts _ _ fit).0)).1 in
-    let few = leb-true (length prints) MAX_PRINTS ((and_parts _ _ ((and_parts _ _ ((and_parts _ _ fit).0)).0)).1) in
-    let some = leb-true 1 (length prints) ((and_parts _ _ ((and_parts _ _ ((and_parts _ _ fit).0)).0)).0) in
+    let distinct : all_differ prints ≡ true = (and_parts _ _ fit).1 in
+    let data_names : list_all is_data_name prints ≡ true = (and_parts _ _ (and_parts _ _ fit).0).1 in
+    let few : length prints ≤ MAX_PRINTS = leb-true (length prints) MAX_PRINTS (and_parts _ _ (and_parts _ _ (and_parts _ _ fit).0).0).1 in
+    let some : 1 ≤ length prints = leb-true 1 (length prints) (and_parts _ _ (and_parts _ _ (and_parts _ _ fit).0).0).0 in
     let h = control.host_fits in
     let u = control.user_fits in
     let lines : List (List ℕ) = (72 ∷ host) ∷ (80 ∷ user) ∷ map print_line prints in
-    let user_line : AreLines ((80 ∷ user) ∷ map print_line prints) (10 ∷ (80 ∷ (user ++ 10 ∷ print_lines prints))) = (10 ∷ [], 10 ∷ print_lines prints, refl, refl, (omega arith, and_from _ _ refl ((and_parts _ _ u).1)), refl, prints_laid prints data_names) in
+    let user_line : AreLines ((80 ∷ user) ∷ map print_line prints) (10 ∷ (80 ∷ (user ++ 10 ∷ print_lines prints))) = (10 ∷ [], 10 ∷ print_lines prints, refl, refl, (omega arith, and_from _ _ refl (and_parts _ _ u).1), refl, prints_laid prints data_names) in
     let cut : AreLines lines (control_text (contents control)) =
-    ([], 10 ∷ (80 ∷ (user ++ 10 ∷ print_lines prints)), refl, refl, (omega arith, and_from _ _ refl ((and_parts _ _ h).1)), refl, user_line) in
+    ([], 10 ∷ (80 ∷ (user ++ 10 ∷ print_lines prints)), refl, refl, (omega arith, and_from _ _ refl (and_parts _ _ h).1), refl, user_line) in
     let names : AreOperands is_print_letter prints lines =
     add_before is_print_letter (72 ∷ host) prints ((80 ∷ user) ∷ map print_line prints) refl
     (add_before is_print_letter (80 ∷ user) prints (map print_line prints) refl (prints_are prints)) in

@@ -23,7 +23,8 @@ EndsLine (b ∷ bs) = b ≡ 10
 abbrev pub AreLines : List (List ℕ) → List ℕ → Type 0
 AreLines [] text = IsTrue (list_all is_line_feed text)
 AreLines (line ∷ lines) text =
-    (feeds : List ℕ) × (rest : List ℕ) × (text ≡ feeds ++ (line ++ rest)) × IsTrue (list_all is_line_feed feeds) × IsLine line × EndsLine rest × AreLines lines rest
+    (feeds : List ℕ) × (rest : List ℕ) × (text ≡ feeds ++ (line ++ rest))
+    × IsTrue (list_all is_line_feed feeds) × IsLine line × EndsLine rest × AreLines lines rest
 
 -- whether a line's letter passes the test
 abbrev pub is_led : (ℕ → Bool) → List ℕ → Bool
@@ -44,7 +45,8 @@ IsFirst test lines (Some operand) =
 abbrev pub AreOperands : (ℕ → Bool) → List (List ℕ) → List (List ℕ) → Type 0
 AreOperands test [] lines = NoneLed test lines
 AreOperands test (operand ∷ operands) lines =
-    (before : List (List ℕ)) × (letter : ℕ) × (after : List (List ℕ)) × (lines ≡ before ++ (letter ∷ operand) ∷ after) × IsTrue (test letter) × NoneLed test before
+    (before : List (List ℕ)) × (letter : ℕ) × (after : List (List ℕ))
+    × (lines ≡ before ++ (letter ∷ operand) ∷ after) × IsTrue (test letter) × NoneLed test before
     × AreOperands test operands after
 
 -- what stands in a text: its lines, the operand of the first line for a host and of the first for a user, where there

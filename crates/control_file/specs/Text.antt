@@ -25,7 +25,8 @@ is_user_letter b = b == 80
 -- c, d, f, g, l, n, o, p, r, t, v
 abbrev pub is_print_letter : ℕ → Bool
 is_print_letter b =
-    b == 99 || b == 100 || b == 102 || b == 103 || b == 108 || b == 110 || b == 111 || b == 112 || b == 114 || b == 116 || b == 118
+    b == 99 || b == 100 || b == 102 || b == 103 || b == 108 || b == 110 || b == 111 || b == 112
+    || b == 114 || b == 116 || b == 118
 
 -- the operands of the lines whose letter passes the test, in order
 abbrev pub operands_of : (ℕ → Bool) → List (List ℕ) → List (List ℕ)
@@ -57,11 +58,14 @@ print_list names =
     else if list_all is_data_name names then Ok (each_once names)
     else Err BadName
 
-abbrev pub with_prints : List ℕ → List ℕ → ℕ → Result (List (List ℕ)) Refusal → Result Contents Refusal
-with_prints host user number (Ok prints) = Ok (record { host = host; user = user; number = number; prints = prints })
+abbrev pub with_prints :
+    List ℕ → List ℕ → ℕ → Result (List (List ℕ)) Refusal → Result Contents Refusal
+with_prints host user number (Ok prints) =
+    Ok (record { host = host; user = user; number = number; prints = prints })
 with_prints host user number (Err refusal) = Err refusal
 
-abbrev pub control_with : ℕ → Option (List ℕ) → Option (List ℕ) → List (List ℕ) → Result Contents Refusal
+abbrev pub control_with :
+    ℕ → Option (List ℕ) → Option (List ℕ) → List (List ℕ) → Result Contents Refusal
 control_with number None user names = Err NoHost
 control_with number (Some host) None names = Err NoUser
 control_with number (Some host) (Some user) names =

@@ -10,4 +10,5 @@ contents c = record { host = c.host; user = c.user; number = c.number; prints = 
 
 -- a reader gives the control file that is due, or the refusal, but for want of memory where a control file is due
 abbrev pub GivesControl : Result Control Refusal → Result Contents Refusal → Type 0
-GivesControl result due = MatchResult result (λ c. due ≡ Ok (contents c)) (λ e. (due ≡ Err e) ⊎ ((e ≡ Memory) × IsOk due))
+GivesControl result due =
+    MatchResult result (λ c. due ≡ Ok (contents c)) (λ e. (due ≡ Err e) ⊎ ((e ≡ Memory) × IsOk due))

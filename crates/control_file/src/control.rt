@@ -55,7 +55,8 @@ impl Control {
     /// Reads the lines of a text whose length is fit.
     fn parse_lines(alloc: Global, number: u16, text: &[u8]) -> Result<Control, Refusal>
         requires { number ≤ 999 }
-        ensures { GivesControl result (control_with number (first_host text.now) (first_user text.now) (prints_of text.now)) }
+        ensures { GivesControl result
+            (control_with number (first_host text.now) (first_user text.now) (prints_of text.now)) }
     {
         let Some(host) = first_operand(Field::Host, text) else {
             return Err(Refusal::NoHost);

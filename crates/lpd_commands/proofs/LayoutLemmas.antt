@@ -46,7 +46,7 @@ laid_out-words (w ∷ ws) text h =
 
 begins_with_word : (w rest : List ℕ) → IsWord w → begins_word (w ++ rest) ≡ true
 begins_with_word [] rest h = absurd (omega (arith, h.0))
-begins_with_word (b ∷ bs) rest h = ap not (word_not_space b ((and_parts _ _ h.1).0))
+begins_with_word (b ∷ bs) rest h = ap not (word_not_space b (and_parts _ _ h.1).0)
 
 -- a laid out line is its code and a text of these words
 pub line_words : (code : ℕ) (w : List ℕ) (ops : List (List ℕ)) (line : List ℕ) → IsLine code w ops line → (rest : List ℕ) × (line ≡ code ∷ rest) × (is_worded rest ≡ true) × (words_of rest ≡ w ∷ ops)
@@ -106,14 +106,14 @@ pub shape : (s : List ℕ) → list_all is_text_octet s ≡ true → Shape s
 shape [] h = inl (refl, refl)
 shape (b ∷ bs) h =
     elim (cases_Bool (is_space b)) [
-      | inl k ↦ inl (ap not k, rw (pieces_of-space is_space b bs k) (after_space b bs k (shape bs ((and_parts _ _ h).1))))
-      | inr k ↦ inr (ap not k, word_at b bs k (word_of_text b ((and_parts _ _ h).0) k) (shape bs ((and_parts _ _ h).1)))
+      | inl k ↦ inl (ap not k, rw (pieces_of-space is_space b bs k) (after_space b bs k (shape bs (and_parts _ _ h).1)))
+      | inr k ↦ inr (ap not k, word_at b bs k (word_of_text b (and_parts _ _ h).0 k) (shape bs (and_parts _ _ h).1))
     ]
 
 pub worded : (s : List ℕ) → is_worded s ≡ true → Worded s
 worded s h =
-    elim (shape s ((and_parts _ _ h).1)) [
-      | inl k ↦ absurd (both_ways _ k.0 ((and_parts _ _ h).0))
+    elim (shape s (and_parts _ _ h).1) [
+      | inl k ↦ absurd (both_ways _ k.0 (and_parts _ _ h).0)
       | inr k ↦ k.1
     ]
 

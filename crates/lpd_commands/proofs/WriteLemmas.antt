@@ -31,30 +31,30 @@ put_step old items new ws i w d a b h e =
     ∙ ap (λ t. old ++ t) (sym (spaced-append (take i ws) w) ∙ (ap (λ v. spaced (take i ws ++ v ∷ [])) e ∙ ap spaced (sym (take_more ws i d h))))))
 
 word_of : (w : List ℕ) → is_word w ≡ true → IsWord w
-word_of w h = let some = leb-true 1 (length w) ((and_parts _ _ h).0) in (omega arith, (and_parts _ _ h).1)
+word_of w h = let some = leb-true 1 (length w) (and_parts _ _ h).0 in (omega arith, (and_parts _ _ h).1)
 
 -- words that are written are laid out
 laid_out-spaced : (ws : List (List ℕ)) → list_all is_word ws ≡ true → AreLaidOut ws (spaced ws)
 laid_out-spaced [] h = refl
-laid_out-spaced (w ∷ ws) h = (32 ∷ [], spaced ws, refl, omega arith, refl, word_of w ((and_parts _ _ h).0), laid_out-spaced ws ((and_parts _ _ h).1))
+laid_out-spaced (w ∷ ws) h = (32 ∷ [], spaced ws, refl, omega arith, refl, word_of w (and_parts _ _ h).0, laid_out-spaced ws (and_parts _ _ h).1)
 
 a_line : (code : ℕ) (w : List ℕ) (ws : List (List ℕ)) → is_word w ≡ true → list_all is_word ws ≡ true → IsLine code w ws (code ∷ (w ++ spaced ws))
 a_line code w ws h k = (spaced ws, refl, word_of w h, laid_out-spaced ws k)
 
 pub command_is_read_back : (c : Command) → CommandIsReadBack c
 command_is_read_back (PrintWaiting queue) h =
-    commands.means_ok _ (PrintWaiting queue) (leb-true _ 1023 ((and_parts _ _ h).1), ([], a_line 1 queue [] ((and_parts _ _ h).0) refl))
+    commands.means_ok _ (PrintWaiting queue) (leb-true _ 1023 (and_parts _ _ h).1, ([], a_line 1 queue [] (and_parts _ _ h).0 refl))
 command_is_read_back (Receive queue) h =
-    commands.means_ok _ (Receive queue) (leb-true _ 1023 ((and_parts _ _ h).1), ([], a_line 2 queue [] ((and_parts _ _ h).0) refl))
+    commands.means_ok _ (Receive queue) (leb-true _ 1023 (and_parts _ _ h).1, ([], a_line 2 queue [] (and_parts _ _ h).0 refl))
 command_is_read_back (State queue list false) h =
     let words = (and_parts _ _ h).0 in
-    commands.means_ok _ (State queue list false) (leb-true _ 1023 ((and_parts _ _ h).1), a_line 3 queue list ((and_parts _ _ words).0) ((and_parts _ _ words).1))
+    commands.means_ok _ (State queue list false) (leb-true _ 1023 (and_parts _ _ h).1, a_line 3 queue list (and_parts _ _ words).0 (and_parts _ _ words).1)
 command_is_read_back (State queue list true) h =
     let words = (and_parts _ _ h).0 in
-    commands.means_ok _ (State queue list true) (leb-true _ 1023 ((and_parts _ _ h).1), a_line 4 queue list ((and_parts _ _ words).0) ((and_parts _ _ words).1))
+    commands.means_ok _ (State queue list true) (leb-true _ 1023 (and_parts _ _ h).1, a_line 4 queue list (and_parts _ _ words).0 (and_parts _ _ words).1)
 command_is_read_back (Remove queue agent list) h =
     let words = (and_parts _ _ h).0 in
-    commands.means_ok _ (Remove queue agent list) (leb-true _ 1023 ((and_parts _ _ h).1), a_line 5 queue (agent ∷ list) ((and_parts _ _ words).0) ((and_parts _ _ words).1))
+    commands.means_ok _ (Remove queue agent list) (leb-true _ 1023 (and_parts _ _ h).1, a_line 5 queue (agent ∷ list) (and_parts _ _ words).0 (and_parts _ _ words).1)
 
 decimal_word : (n : ℕ) → n < 10 ^ 19 → is_word (decimal n) ≡ true
 decimal_word n h =
@@ -79,7 +79,7 @@ file_line code n kind name h w k = a_line code (decimal n) (name ∷ []) (decima
 pub sub_is_read_back : (s : Sub) → SubIsReadBack s
 sub_is_read_back Abort h = refl
 sub_is_read_back (ControlFile n name) h =
-    let below = ltb-true n (10 ^ 19) ((and_parts _ _ h).0) in
+    let below = ltb-true n (10 ^ 19) (and_parts _ _ h).0 in
     let named = (and_parts _ _ h).1 in
     subs.means_ok _ (ControlFile n name) (
       file_short 2 n name below (short_enough 99 name named),
@@ -90,8 +90,8 @@ sub_is_read_back (ControlFile n name) h =
       named,
     )
 sub_is_read_back (DataFile n name) h =
-    let some = ltb-true 0 n ((and_parts _ _ ((and_parts _ _ h).0)).0) in
-    let below = ltb-true n (10 ^ 19) ((and_parts _ _ ((and_parts _ _ h).0)).1) in
+    let some = ltb-true 0 n (and_parts _ _ (and_parts _ _ h).0).0 in
+    let below = ltb-true n (10 ^ 19) (and_parts _ _ (and_parts _ _ h).0).1 in
     let named = (and_parts _ _ h).1 in
     subs.means_ok _ (DataFile n name) (
       file_short 3 n name below (short_enough 100 name named),

@@ -28,7 +28,8 @@ SubIsDecided line = IsDecided (MeansSub line) (RefusesSub line)
 
 -- what is written is read back
 abbrev pub CommandIsReadBack : Command → Type 0
-CommandIsReadBack command = IsTrue (command_has_line command) → command_of (command_line command) ≡ Ok command
+CommandIsReadBack command =
+    IsTrue (command_has_line command) → command_of (command_line command) ≡ Ok command
 
 abbrev pub SubIsReadBack : Sub → Type 0
 SubIsReadBack sub = IsTrue (sub_has_line sub) → sub_of (sub_line sub) ≡ Ok sub

@@ -24,11 +24,13 @@ IsBlank s = IsTrue (list_all is_space s)
 abbrev pub AreLaidOut : List (List ℕ) → List ℕ → Type 0
 AreLaidOut [] text = IsBlank text
 AreLaidOut (word ∷ words) text =
-    (gap : List ℕ) × (rest : List ℕ) × (text ≡ gap ++ (word ++ rest)) × (0 < length gap) × IsBlank gap × IsWord word × AreLaidOut words rest
+    (gap : List ℕ) × (rest : List ℕ) × (text ≡ gap ++ (word ++ rest)) × (0 < length gap)
+    × IsBlank gap × IsWord word × AreLaidOut words rest
 
 -- a line: a code, at once a word, then operands
 abbrev pub IsLine : ℕ → List ℕ → List (List ℕ) → List ℕ → Type 0
-IsLine code word operands line = (rest : List ℕ) × (line ≡ code ∷ (word ++ rest)) × IsWord word × AreLaidOut operands rest
+IsLine code word operands line =
+    (rest : List ℕ) × (line ≡ code ∷ (word ++ rest)) × IsWord word × AreLaidOut operands rest
 
 abbrev pub IsShort : List ℕ → Type 0
 IsShort line = length line ≤ MAX_LINE
@@ -53,13 +55,16 @@ MeansCommand line command = IsShort line × IsCommandLine command line
 abbrev pub RefusesCommand : List ℕ → Refusal → Type 0
 RefusesCommand line LineTooLong = MAX_LINE < length line
 RefusesCommand line BadCode = IsShort line × LacksCode 5 line
-RefusesCommand line BadLine = IsShort line × (LacksCode 5 line → ⊥) × ((command : Command) → IsCommandLine command line → ⊥)
+RefusesCommand line BadLine =
+    IsShort line × (LacksCode 5 line → ⊥) × ((command : Command) → IsCommandLine command line → ⊥)
 RefusesCommand line _ = ⊥
 
 -- a reader's answer: the meaning, the refusal, or want of memory where there is a meaning
 abbrev pub AnswersCommand : List ℕ → Result Command Refusal → Type 0
 AnswersCommand line result =
-    MatchResult result (MeansCommand line) (λ e. RefusesCommand line e ⊎ ((e ≡ Memory) × ((command : Command) × MeansCommand line command)))
+    MatchResult result (MeansCommand line)
+    (λ e. RefusesCommand line e
+    ⊎ ((e ≡ Memory) × ((command : Command) × MeansCommand line command)))
 
 -- a count and a name are laid out after the code of a control file or a data file
 abbrev pub IsFileLine : ℕ → List ℕ → List ℕ → List ℕ → Type 0
@@ -80,17 +85,22 @@ IsBadName code name = (if code == 2 then is_control_name name else is_data_name 
 abbrev pub MeansSub : List ℕ → Sub → Type 0
 MeansSub line Abort = IsShort line × IsAbortLine line
 MeansSub line (ControlFile count name) =
-    IsShort line × (digits : List ℕ) × IsLine 2 digits (name ∷ []) line × IsTrue (is_count digits) × (count ≡ count_of digits) × IsTrue (is_control_name name)
+    IsShort line × (digits : List ℕ) × IsLine 2 digits (name ∷ []) line × IsTrue (is_count digits)
+    × (count ≡ count_of digits) × IsTrue (is_control_name name)
 MeansSub line (DataFile count name) =
-    IsShort line × (digits : List ℕ) × IsLine 3 digits (name ∷ []) line × IsTrue (is_count digits) × (count ≡ count_of digits) × (0 < count) × IsTrue (is_data_name name)
+    IsShort line × (digits : List ℕ) × IsLine 3 digits (name ∷ []) line × IsTrue (is_count digits)
+    × (count ≡ count_of digits) × (0 < count) × IsTrue (is_data_name name)
 
 abbrev pub RefusesSub : List ℕ → Refusal → Type 0
 RefusesSub line LineTooLong = MAX_LINE < length line
 RefusesSub line BadCode = IsShort line × LacksCode 3 line
 RefusesSub line BadLine =
-    IsShort line × (LacksCode 3 line → ⊥) × (IsAbortLine line → ⊥) × ((code : ℕ) (count name : List ℕ) → IsFileLine code count name line → ⊥)
+    IsShort line × (LacksCode 3 line → ⊥) × (IsAbortLine line → ⊥)
+    × ((code : ℕ) (count name : List ℕ) → IsFileLine code count name line → ⊥)
 RefusesSub line BadCount =
-    IsShort line × (code : ℕ) × (count : List ℕ) × (name : List ℕ) × IsFileLine code count name line × IsBadCount code count
+    IsShort line × (code : ℕ) × (count : List ℕ) × (name : List ℕ) × IsFileLine code count name line
+    × IsBadCount code count
 RefusesSub line BadName =
-    IsShort line × (code : ℕ) × (count : List ℕ) × (name : List ℕ) × IsFileLine code count name line × (IsBadCount code count → ⊥) × IsBadName code name
+    IsShort line × (code : ℕ) × (count : List ℕ) × (name : List ℕ) × IsFileLine code count name line
+    × (IsBadCount code count → ⊥) × IsBadName code name
 RefusesSub line _ = ⊥

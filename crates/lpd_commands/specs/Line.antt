@@ -54,7 +54,8 @@ command_of line = if nat_lt MAX_LINE (length line) then Err LineTooLong else com
 abbrev pub file_with : ℕ → List ℕ → List ℕ → Result Sub Refusal
 file_with code count name =
     if not (is_count count) then Err BadCount
-    else if code == 2 then (if is_control_name name then Ok (ControlFile (count_of count) name) else Err BadName)
+    else if code == 2
+    then (if is_control_name name then Ok (ControlFile (count_of count) name) else Err BadName)
     else if count_of count == 0 then Err BadCount
     else if is_data_name name then Ok (DataFile (count_of count) name)
     else Err BadName

@@ -44,4 +44,5 @@ command_has_line command = has_words command && nat_le (length (command_line com
 abbrev pub sub_has_line : Sub → Bool
 sub_has_line Abort = true
 sub_has_line (ControlFile count name) = nat_lt count (10 ^ MAX_COUNT_DIGITS) && is_control_name name
-sub_has_line (DataFile count name) = nat_lt 0 count && nat_lt count (10 ^ MAX_COUNT_DIGITS) && is_data_name name
+sub_has_line (DataFile count name) =
+    nat_lt 0 count && nat_lt count (10 ^ MAX_COUNT_DIGITS) && is_data_name name

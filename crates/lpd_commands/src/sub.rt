@@ -22,7 +22,8 @@ pub enum Sub {
 
 /// The number that 1 to 19 decimal digits are.
 fn read_count(digits: &[u8]) -> Option<u64>
-    ensures { MatchOption result (is_count digits.now ≡ false) (λ n. (is_count digits.now ≡ true) × (n ≡ count_of digits.now)) }
+    ensures { MatchOption result (is_count digits.now ≡ false)
+        (λ n. (is_count digits.now ≡ true) × (n ≡ count_of digits.now)) }
 {
     if digits.is_empty() || digits.len() > MAX_COUNT_DIGITS {
         return None;
@@ -38,7 +39,9 @@ fn read_count(digits: &[u8]) -> Option<u64>
 }
 
 fn control_file(count: u64, name: &[u8]) -> Result<Sub, Refusal>
-    ensures { result ≡ (if is_control_name name.now then Ok (Sub.ControlFile count name.now) else Err Refusal.BadName) }
+    ensures { result
+        ≡ (if is_control_name name.now
+        then Ok (Sub.ControlFile count name.now) else Err Refusal.BadName) }
 {
     let name = FileName::read(name)?;
     if !name.is_control() {
@@ -48,7 +51,9 @@ fn control_file(count: u64, name: &[u8]) -> Result<Sub, Refusal>
 }
 
 fn data_file(count: u64, name: &[u8]) -> Result<Sub, Refusal>
-    ensures { result ≡ (if is_data_name name.now then Ok (Sub.DataFile count name.now) else Err Refusal.BadName) }
+    ensures { result
+        ≡ (if is_data_name name.now
+        then Ok (Sub.DataFile count name.now) else Err Refusal.BadName) }
 {
     let name = FileName::read(name)?;
     if name.is_control() {

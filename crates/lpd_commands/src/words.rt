@@ -53,7 +53,9 @@ pub(crate) fn is_worded(text: &[u8]) -> bool
 
 /// The first word of a text and what follows it, or none where there is no word.
 pub(crate) fn next_word(text: &[u8]) -> Option<(&[u8], &[u8])>
-    ensures { MatchOption result (words_of text.now ≡ []) (λ p. (words_of text.now ≡ p.0.now ∷ words_of p.1.now) × (length p.1.now < length text.now)) }
+    ensures { MatchOption result (words_of text.now ≡ [])
+        (λ p. (words_of text.now ≡ p.0.now ∷ words_of p.1.now)
+        × (length p.1.now < length text.now)) }
 {
     let text = skip_space(text);
     if text.is_empty() {

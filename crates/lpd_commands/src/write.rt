@@ -74,7 +74,8 @@ fn put_file(
     count: u64,
     name: &FileName,
 ) -> Result<(), AllocError>
-    ensures { OnOk result (line.new.items ≡ line.old.items ++ code ∷ (decimal count ++ spaced (name.now ∷ []))) }
+    ensures { OnOk result
+        (line.new.items ≡ line.old.items ++ code ∷ (decimal count ++ spaced (name.now ∷ []))) }
 {
     let count = count.to_string(alloc)?;
     line.push(code)?;

@@ -18,10 +18,10 @@ unless_true false x h = h
 
 -- the three digits of a name
 pub digits_of-name : (kind : ℕ) (s : List ℕ) → is_name kind s ≡ true → list_all is_digit (slice_range s 3 6) ≡ true
-digits_of-name kind s h = (and_parts _ _ ((and_parts _ _ (unless_true _ _ h)).0)).1
+digits_of-name kind s h = (and_parts _ _ (and_parts _ _ (unless_true _ _ h)).0).1
 
 last_digit : (s : List ℕ) → list_all is_digit (slice_range s 3 6) ≡ true → 6 ≤ length s → is_digit (slice_index s 5) ≡ true
-last_digit (a ∷ b ∷ c ∷ d ∷ e ∷ f ∷ s) h k = (and_parts _ _ ((and_parts _ _ ((and_parts _ _ h).1)).1)).0
+last_digit (a ∷ b ∷ c ∷ d ∷ e ∷ f ∷ s) h k = (and_parts _ _ (and_parts _ _ (and_parts _ _ h).1).1).0
 last_digit _ h k = absurd (omega arith)
 
 pub long_enough : (kind : ℕ) (s : List ℕ) → is_name kind s ≡ true → 6 ≤ length s
@@ -50,14 +50,14 @@ letter_word b h = grind (arith, nat_tests)
 pub name_octets : (kind : ℕ) (s : List ℕ) → is_word_octet kind ≡ true → is_name kind s ≡ true → 6 ≤ length s → list_all is_word_octet s ≡ true
 name_octets kind (a ∷ b ∷ c ∷ d ∷ e ∷ f ∷ s) w h k =
     let all = unless_true _ _ h in
-    let head = (and_parts _ _ ((and_parts _ _ all).0)).0 in
-    let digits = (and_parts _ _ ((and_parts _ _ all).0)).1 in
-    let first = eqb-true a kind ((and_parts _ _ ((and_parts _ _ head).0)).0) in
-    let second = eqb-true b 102 ((and_parts _ _ ((and_parts _ _ head).0)).1) in
+    let head = (and_parts _ _ (and_parts _ _ all).0).0 in
+    let digits = (and_parts _ _ (and_parts _ _ all).0).1 in
+    let first = eqb-true a kind (and_parts _ _ (and_parts _ _ head).0).0 in
+    let second = eqb-true b 102 (and_parts _ _ (and_parts _ _ head).0).1 in
     and_from _ _ (ap is_word_octet first ∙ w)
     (and_from _ _ (ap is_word_octet second)
-    (and_from _ _ (letter_word c ((and_parts _ _ head).1))
-    (and_from _ _ (digit_word d ((and_parts _ _ digits).0))
-    (and_from _ _ (digit_word e ((and_parts _ _ ((and_parts _ _ digits).1)).0))
-    (and_from _ _ (digit_word f ((and_parts _ _ ((and_parts _ _ ((and_parts _ _ digits).1)).1)).0)) ((and_parts _ _ all).1))))))
+    (and_from _ _ (letter_word c (and_parts _ _ head).1)
+    (and_from _ _ (digit_word d (and_parts _ _ digits).0)
+    (and_from _ _ (digit_word e (and_parts _ _ (and_parts _ _ digits).1).0)
+    (and_from _ _ (digit_word f (and_parts _ _ (and_parts _ _ (and_parts _ _ digits).1).1).0) (and_parts _ _ all).1)))))
 name_octets kind _ w h k = absurd (omega arith)

@@ -72,7 +72,7 @@ split_words cut s front back n h e f b = rw (f, b, e) (pieces_of-word cut s h)
 -- where each octet that passes p passes q, so do lists
 pub list_all-wider : (p q : ℕ → Bool) → ((b : ℕ) → p b ≡ true → q b ≡ true) → (s : List ℕ) → list_all p s ≡ true → list_all q s ≡ true
 list_all-wider p q h [] k = refl
-list_all-wider p q h (b ∷ bs) k = and_from _ _ (h b ((and_parts _ _ k).0)) (list_all-wider p q h bs ((and_parts _ _ k).1))
+list_all-wider p q h (b ∷ bs) k = and_from _ _ (h b (and_parts _ _ k).0) (list_all-wider p q h bs (and_parts _ _ k).1)
 
 pub list_all-join : (p : ℕ → Bool) (s t : List ℕ) → list_all p s ≡ true → list_all p t ≡ true → list_all p (s ++ t) ≡ true
 list_all-join p s t h k = list_all-append p s t ∙ and_from _ _ h k
@@ -80,15 +80,15 @@ list_all-join p s t h k = list_all-append p s t ∙ and_from _ _ h k
 pub pieces_of-append : (cut : ℕ → Bool) (w rest : List ℕ) → 0 < length w → list_all (is_kept cut) w ≡ true → begins_piece cut rest ≡ false → pieces_of cut (w ++ rest) ≡ w ∷ pieces_of cut rest
 pieces_of-append cut [] rest some h k = absurd (omega arith)
 pieces_of-append cut (b ∷ []) rest some h k =
-    pieces_of-octet cut b rest (not_not (cut b) ((and_parts _ _ h).0)) ∙ ap (λ v. octet_before b v (pieces_of cut rest)) k
+    pieces_of-octet cut b rest (not_not (cut b) (and_parts _ _ h).0) ∙ ap (λ v. octet_before b v (pieces_of cut rest)) k
   where
     not_not : (a : Bool) → not a ≡ true → a ≡ false
     not_not true h = sym h
     not_not false h = refl
 pieces_of-append cut (b ∷ c ∷ w) rest some h k =
-    let ih : pieces_of cut (c ∷ (w ++ rest)) ≡ (c ∷ w) ∷ pieces_of cut rest = pieces_of-append cut (c ∷ w) rest (omega arith) ((and_parts _ _ h).1) k in
-    pieces_of-octet cut b (c ∷ (w ++ rest)) (not_not (cut b) ((and_parts _ _ h).0))
-    ∙ (ap (λ v. octet_before b v (pieces_of cut (c ∷ (w ++ rest)))) ((and_parts _ _ ((and_parts _ _ h).1)).0) ∙ ap (octet_before b true) ih)
+    let ih : pieces_of cut (c ∷ (w ++ rest)) ≡ (c ∷ w) ∷ pieces_of cut rest = pieces_of-append cut (c ∷ w) rest (omega arith) (and_parts _ _ h).1 k in
+    pieces_of-octet cut b (c ∷ (w ++ rest)) (not_not (cut b) (and_parts _ _ h).0)
+    ∙ (ap (λ v. octet_before b v (pieces_of cut (c ∷ (w ++ rest)))) (and_parts _ _ (and_parts _ _ h).1).0 ∙ ap (octet_before b true) ih)
   where
     not_not : (a : Bool) → not a ≡ true → a ≡ false
     not_not true h = sym h
@@ -96,16 +96,16 @@ pieces_of-append cut (b ∷ c ∷ w) rest some h k =
 
 pub pieces_of-gap : (cut : ℕ → Bool) (gap rest : List ℕ) → list_all cut gap ≡ true → pieces_of cut (gap ++ rest) ≡ pieces_of cut rest
 pieces_of-gap cut [] rest h = refl
-pieces_of-gap cut (b ∷ bs) rest h = pieces_of-space cut b (bs ++ rest) ((and_parts _ _ h).0) ∙ pieces_of-gap cut bs rest ((and_parts _ _ h).1)
+pieces_of-gap cut (b ∷ bs) rest h = pieces_of-space cut b (bs ++ rest) (and_parts _ _ h).0 ∙ pieces_of-gap cut bs rest (and_parts _ _ h).1
 
 pub begins_piece-gap : (cut : ℕ → Bool) (gap rest : List ℕ) → 0 < length gap → list_all cut gap ≡ true → begins_piece cut (gap ++ rest) ≡ false
 begins_piece-gap cut [] rest some h = absurd (omega arith)
-begins_piece-gap cut (b ∷ bs) rest some h = ap not ((and_parts _ _ h).0)
+begins_piece-gap cut (b ∷ bs) rest some h = ap not (and_parts _ _ h).0
 
 pub pieces_of-blank : (cut : ℕ → Bool) (s : List ℕ) → list_all cut s ≡ true → pieces_of cut s ≡ []
 pieces_of-blank cut [] h = refl
-pieces_of-blank cut (b ∷ bs) h = pieces_of-space cut b bs ((and_parts _ _ h).0) ∙ pieces_of-blank cut bs ((and_parts _ _ h).1)
+pieces_of-blank cut (b ∷ bs) h = pieces_of-space cut b bs (and_parts _ _ h).0 ∙ pieces_of-blank cut bs (and_parts _ _ h).1
 
 pub begins_piece-blank : (cut : ℕ → Bool) (s : List ℕ) → list_all cut s ≡ true → begins_piece cut s ≡ false
 begins_piece-blank cut [] h = refl
-begins_piece-blank cut (b ∷ bs) h = ap not ((and_parts _ _ h).0)
+begins_piece-blank cut (b ∷ bs) h = ap not (and_parts _ _ h).0

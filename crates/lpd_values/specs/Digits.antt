@@ -6,7 +6,8 @@ use Rattle.lpd_values.specs.declared.limits.TheConstants.{MAX_COUNT_DIGITS}
 
 -- 1 to MAX_COUNT_DIGITS decimal digits
 abbrev pub is_count : List ℕ → Bool
-is_count digits = nat_le 1 (length digits) && nat_le (length digits) MAX_COUNT_DIGITS && list_all is_digit digits
+is_count digits =
+    nat_le 1 (length digits) && nat_le (length digits) MAX_COUNT_DIGITS && list_all is_digit digits
 
 abbrev pub count_of : List ℕ → ℕ
 count_of digits = fold (λ n d. 10 * n + (d - 48)) 0 digits

@@ -5,4 +5,5 @@ use Rattle.lpd_values.specs.declared.refusal.Refusal.TheVariants.{Memory}
 
 -- a reader gives the answer that is due, but for want of memory where a value is due
 abbrev pub Gives : {A : Type 0} → Result A Refusal → Result A Refusal → Type 0
-Gives result due = MatchResult result (λ v. due ≡ Ok v) (λ e. (due ≡ Err e) ⊎ ((e ≡ Memory) × IsOk due))
+Gives result due =
+    MatchResult result (λ v. due ≡ Ok v) (λ e. (due ≡ Err e) ⊎ ((e ≡ Memory) × IsOk due))

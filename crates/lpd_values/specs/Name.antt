@@ -12,7 +12,8 @@ has_head kind s = slice_index s 0 == kind && slice_index s 1 == 102 && is_letter
 abbrev pub is_name : ℕ → List ℕ → Bool
 is_name kind s =
     if nat_lt (length s) MIN_NAME || nat_lt MAX_NAME (length s) then false
-    else has_head kind s && list_all is_digit (slice_range s 3 6) && list_all is_word_octet (drop 6 s)
+    else has_head kind s && list_all is_digit (slice_range s 3 6)
+    && list_all is_word_octet (drop 6 s)
 
 -- 99 is c
 abbrev pub is_control_name : List ℕ → Bool

@@ -18,4 +18,5 @@ octet_before b _ ws = (b ∷ []) ∷ ws
 -- the longest pieces, none of them empty, in order
 abbrev pub pieces_of : (ℕ → Bool) → List ℕ → List (List ℕ)
 pieces_of cut [] = []
-pieces_of cut (b ∷ bs) = if cut b then pieces_of cut bs else octet_before b (begins_piece cut bs) (pieces_of cut bs)
+pieces_of cut (b ∷ bs) =
+    if cut b then pieces_of cut bs else octet_before b (begins_piece cut bs) (pieces_of cut bs)

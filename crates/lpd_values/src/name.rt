@@ -26,13 +26,17 @@ impl Model for FileName {
 
     ghost view = { λ n. take n.len n.octets };
 
-    ghost invariant = { λ n. (length (take n.len n.octets) ≡ n.len) × (padded (take n.len n.octets) ≡ n.octets) × IsFileName (take n.len n.octets) };
+    ghost invariant = { λ n. (length (take n.len n.octets) ≡ n.len)
+        × (padded (take n.len n.octets) ≡ n.octets)
+        × IsFileName (take n.len n.octets) };
 
     ghost use Rattle.lpd_values.specs.declared.name.FileName.TheInside.{Inside};
 
     ghost inverse = { λ l. record { octets = padded l; len = length l } };
 
-    ghost inverse_ok = { λ n h. ap {B = Inside} (λ (o : List ℕ). record { octets = o; len = length (take n.len n.octets) }) h.1 ∙ ap {B = Inside} (λ (k : ℕ). record { octets = n.octets; len = k }) h.0 };
+    ghost inverse_ok = { λ n h. ap {B = Inside}
+        (λ (o : List ℕ). record { octets = o; len = length (take n.len n.octets) }) h.1
+        ∙ ap {B = Inside} (λ (k : ℕ). record { octets = n.octets; len = k }) h.0 };
 }
 
 /// Two names are equal where their octets are.
@@ -101,7 +105,8 @@ fn digit_value(octet: u8) -> u16
 impl FileName {
     /// The file name that the octets are, or `BadName` where they are none.
     pub fn read(octets: &[u8]) -> Result<FileName, Refusal>
-        ensures { MatchResult result (λ n. (n ≡ octets.now) × IsFileName octets.now) (λ e. (e ≡ Refusal.BadName) × (is_file_name octets.now ≡ false)) }
+        ensures { MatchResult result (λ n. (n ≡ octets.now) × IsFileName octets.now)
+            (λ e. (e ≡ Refusal.BadName) × (is_file_name octets.now ≡ false)) }
     {
         if !is_file_name(octets) {
             return Err(Refusal::BadName);

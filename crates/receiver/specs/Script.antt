@@ -105,7 +105,8 @@ block job queue (Ok sub.Abort) = (if job then Asks AbortJob ∷ [] else []) ++ A
 block job queue (Ok (sub.ControlFile count name)) =
     if count == 0 || nat_lt MAX_CONTROL_TEXT count then Refuses BadLength ∷ []
     else opening job queue ++ Acks ∷ ControlText name count ∷ Acks ∷ []
-block job queue (Ok (sub.DataFile count name)) = opening job queue ++ Asks (BeginFile name count) ∷ Acks ∷ data_file count
+block job queue (Ok (sub.DataFile count name)) =
+    opening job queue ++ Asks (BeginFile name count) ∷ Acks ∷ data_file count
 block job queue (Err refusal) = Refuses refusal ∷ []
 
 -- what follows the first line; every command but that to receive jobs is answered once and ends the session

@@ -70,9 +70,12 @@ pub record HoldsPage (ticket : Option Page) (piece : ℕ) : Type 0 where
 
 -- what is kept in a phase
 abbrev pub PhaseHolds : List ℕ → List ℕ → Option Page → Phase → Type 0
-PhaseHolds line text ticket phase.Line = (prefix_len is_inner line ≡ length line) × (length line ≤ MAX_LINE) × (ticket ≡ None)
-PhaseHolds line text ticket (phase.AckControl name count) = (count ≤ MAX_CONTROL_TEXT) × (ticket ≡ None)
-PhaseHolds line text ticket (phase.Text name count) = (count ≤ MAX_CONTROL_TEXT) × (length text ≤ count) × (ticket ≡ None)
+PhaseHolds line text ticket phase.Line =
+    (prefix_len is_inner line ≡ length line) × (length line ≤ MAX_LINE) × (ticket ≡ None)
+PhaseHolds line text ticket (phase.AckControl name count) =
+    (count ≤ MAX_CONTROL_TEXT) × (ticket ≡ None)
+PhaseHolds line text ticket (phase.Text name count) =
+    (count ≤ MAX_CONTROL_TEXT) × (length text ≤ count) × (ticket ≡ None)
 PhaseHolds line text ticket (phase.Page piece left) = HoldsPage ticket piece
 PhaseHolds line text ticket _ = ticket ≡ None
 
@@ -108,6 +111,8 @@ pub record IsAtLineEnd (m : Machine) : Type 0 where
 
 -- a job is asked for, and the block goes on in this phase, or memory was refused
 abbrev pub OpensOrNot : Machine → Phase → Need → Machine → Type 0
-OpensOrNot old next (need.Open queue) new = (queue ≡ old.queue) × (new ≡ record old { phase = next; owed = owed.Opening })
-OpensOrNot old next (need.Fault refusal) new = (refusal ≡ Memory) × (new ≡ record old { phase = phase.Over })
+OpensOrNot old next (need.Open queue) new =
+    (queue ≡ old.queue) × (new ≡ record old { phase = next; owed = owed.Opening })
+OpensOrNot old next (need.Fault refusal) new =
+    (refusal ≡ Memory) × (new ≡ record old { phase = phase.Over })
 OpensOrNot old next _ new = ⊥

@@ -223,7 +223,8 @@ impl Machine {
         requires lending { self.old.owed ≡ Owed.Lending }
         requires empty { ticket.octets ≡ [] }
         ensures sound { IsSound self.new }
-        ensures answered { state_of self.new ≡ after_reply (state_of self.old) (Ticket ticket.page_size) }
+        ensures answered { state_of self.new
+            ≡ after_reply (state_of self.old) (Ticket ticket.page_size) }
     {
         match self.phase {
             Phase::Contents(left) => {
@@ -365,7 +366,8 @@ impl Machine {
         requires ended { IsAtLineEnd self.old }
         ensures sound { IsSound self.new }
         ensures step { EndsLine (state_of self.old)
-            (after_line (state_of self.old).queue self.old.job self.old.line.items) result (state_of self.new) }
+            (after_line (state_of self.old).queue self.old.job self.old.line.items)
+            result (state_of self.new) }
         ensures leaves { Leaves result (state_of self.new) }
     {
         if self.admitted {
@@ -394,7 +396,8 @@ impl Machine {
         requires ended { IsAtLineEnd self.old }
         requires first { self.old.admitted ≡ false }
         ensures sound { IsSound self.new }
-        ensures step { EndsLine (state_of self.old) (first_block (Ok command)) result (state_of self.new) }
+        ensures step { EndsLine (state_of self.old) (first_block (Ok command)) result
+            (state_of self.new) }
         ensures leaves { Leaves result (state_of self.new) }
     {
         match command {
@@ -435,7 +438,8 @@ impl Machine {
         requires later { self.old.admitted ≡ true }
         ensures sound { IsSound self.new }
         ensures step { EndsLine (state_of self.old)
-            (after_line (Some self.old.queue) self.old.job self.old.line.items) result (state_of self.new) }
+            (after_line (Some self.old.queue) self.old.job self.old.line.items)
+            result (state_of self.new) }
         ensures leaves { Leaves result (state_of self.new) }
     {
         match parse_sub(self.line.as_slice()) {
