@@ -4,7 +4,7 @@ ghost use Rattle.std.specs.Prelude.{◌≡◌};
 ghost use Rattle.spool_history.specs.Said as D;
 
 use control_file::Control;
-use lpd_commands::FileName;
+use lpd_values::FileName;
 
 /// What an account says of a page: its length in octets and its SHA-256 (FIPS 180-4).
 #[derive(Clone, Copy, PartialEq, Eq)]

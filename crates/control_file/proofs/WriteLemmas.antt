@@ -1,29 +1,25 @@
 -- What is written, and how it is laid out.
-use Rattle.std.proofs.Common.{◌≡◌, ◌<◌, ◌≤◌, ℕ, Bool, true, false, not, ◌||◌, nat_le, List, [], ◌∷◌, ◌++◌, ◌+◌, length, take, get_or, filter, map, refl, ap, sym, ◌∙◌, arith, append_assoc}
+use Rattle.std.proofs.Common.{◌≡◌, ◌<◌, ◌≤◌, ℕ, true, false, not, List, [], ◌∷◌, ◌++◌, ◌+◌, length, take, get_or, filter, map, Some, refl, ap, sym, ◌∙◌, arith, append_assoc}
 use Rattle.std.specs.List.{list_all}
-use Rattle.std.proofs.lemmas.Bool.{not-true}
+use Rattle.std.proofs.lemmas.Bool.{not-true, and_parts, and_from, leb-true, or_parts}
 use Rattle.std.proofs.lemmas.Bool.Decides.{nat_tests}
 use Rattle.std.proofs.lemmas.List.{take_more}
-use Rattle.lpd_commands.specs.Kinds.{is_word_octet}
-use Rattle.lpd_commands.specs.Pieces.{is_kept}
-use Rattle.lpd_commands.specs.Name.{is_data_name, number_of}
-use Rattle.lpd_commands.proofs.NameLemmas.{and_left, and_right, long_enough}
-use Rattle.lpd_commands.proofs.LayoutLemmas.{and_true, list_all-wider}
-use Rattle.lpd_commands.proofs.WriteLemmas.{name_octets}
+use Rattle.lpd_values.specs.Kinds.{is_word_octet}
+use Rattle.lpd_values.specs.Pieces.{is_kept}
+use Rattle.lpd_values.specs.Name.{is_data_name}
+use Rattle.lpd_values.proofs.NameLemmas.{long_enough, name_octets}
+use Rattle.lpd_values.proofs.PieceLemmas.{list_all-wider}
+use Rattle.lpd_values.specs.declared.limits.TheConstants.{MAX_PRINTS}
 use Rattle.control_file.specs.declared.control.Control.{Control}
 use Rattle.control_file.specs.View.{contents}
-use Rattle.control_file.specs.Kept.{is_line_feed, is_among, all_differ, is_print_list}
-use Rattle.control_file.specs.Text.{Contents, each_once, is_print_letter}
+use Rattle.lpd_values.specs.Kept.{is_line_feed, is_among, all_differ, is_print_list}
+use Rattle.control_file.specs.Text.{each_once, is_print_letter}
 use Rattle.control_file.specs.Layout.{AreLines, AreOperands}
 use Rattle.control_file.specs.Written.{print_lines, control_text}
 use Rattle.control_file.specs.Laws.{ControlIsReadBack}
 use Rattle.control_file.proofs.PrintLemmas.{bytes_eq-sym, filter-yes, is_other}
 use Rattle.control_file.proofs.TextLemmas.{add_before}
 use Rattle.control_file.proofs.ControlLaws.{means_ok}
-
-append_nil : (s : List ℕ) → s ++ [] ≡ s
-append_nil [] = refl
-append_nil (b ∷ bs) = ap (λ v. b ∷ v) (append_nil bs)
 
 print_lines-append : (ns : List (List ℕ)) (n : List ℕ) → print_lines (ns ++ n ∷ []) ≡ print_lines ns ++ (102 ∷ (n ++ 10 ∷ []))
 print_lines-append [] n = refl
@@ -50,7 +46,7 @@ print_line n = 102 ∷ n
 prints_laid : (ns : List (List ℕ)) → list_all is_data_name ns ≡ true → AreLines (map print_line ns) (10 ∷ print_lines ns)
 prints_laid [] h = refl
 prints_laid (n ∷ ns) h =
-    (10 ∷ [], 10 ∷ print_lines ns, refl, refl, (omega arith, and_true _ _ refl (name_kept n (and_left _ _ h))), refl, prints_laid ns (and_right _ _ h))
+    (10 ∷ [], 10 ∷ print_lines ns, refl, refl, (omega arith, and_from _ _ refl (name_kept n (and_parts _ _ h).0)), refl, prints_laid ns (and_parts _ _ h).1)
 
 prints_are : (ns : List (List ℕ)) → AreOperands is_print_letter ns (map print_line ns)
 prints_are [] = refl
@@ -60,27 +56,13 @@ prints_are (n ∷ ns) = ([], 102, map print_line ns, refl, refl, refl, prints_ar
 all_other : (n : List ℕ) (xs : List (List ℕ)) → is_among n xs ≡ false → filter (is_other n) xs ≡ xs
 all_other n [] h = refl
 all_other n (x ∷ xs) h =
-    filter-yes (is_other n) x xs (ap not (bytes_eq-sym n x ∙ or_left _ _ h)) ∙ ap (λ v. x ∷ v) (all_other n xs (or_right _ _ h))
-  where
-    or_left : (a b : Bool) → (a || b) ≡ false → a ≡ false
-    or_left true b h = h
-    or_left false b h = refl
+    filter-yes (is_other n) x xs (ap not (bytes_eq-sym n x ∙ (or_parts _ _ h).0)) ∙ ap (λ v. x ∷ v) (all_other n xs ((or_parts _ _ h).1))
 
-    or_right : (a b : Bool) → (a || b) ≡ false → b ≡ false
-    or_right true b h = cc
-    or_right false b h = h
-
--- names that differ are each there once
+-- names that differ are there each once
 each_once-same : (ns : List (List ℕ)) → all_differ ns ≡ true → each_once ns ≡ ns
 each_once-same [] h = refl
 each_once-same (n ∷ ns) h =
-    ap (λ v. n ∷ filter (is_other n) v) (each_once-same ns (and_right _ _ h)) ∙ ap (λ v. n ∷ v) (all_other n ns (not-true (is_among n ns) (and_left _ _ h)))
-
-le_of : (m n : ℕ) → nat_le m n ≡ true → m ≤ n
-le_of m n h = grind (arith, nat_tests)
-
-abbrev said_by : List ℕ → List ℕ → ℕ → List (List ℕ) → Contents
-said_by host user number prints = record { host = host; user = user; number = number; prints = prints }
+    ap (λ v. n ∷ filter (is_other n) v) (each_once-same ns (and_parts _ _ h).1) ∙ ap (λ v. n ∷ v) (all_other n ns (not-true (is_among n ns) (and_parts _ _ h).0))
 
 pub control_is_read_back : (control : Control) (name : List ℕ) → ControlIsReadBack control name
 control_is_read_back control name e k =
@@ -88,30 +70,37 @@ control_is_read_back control name e k =
     let user : List ℕ = control.user in
     let prints : List (List ℕ) = control.prints in
     let fit : is_print_list prints ≡ true = control.prints_fit in
-    let differ = and_right _ _ fit in
-    let data_names = and_right _ _ (and_left _ _ fit) in
-    let few = le_of (length prints) 52 (and_right _ _ (and_left _ _ (and_left _ _ fit))) in
-    let some = le_of 1 (length prints) (and_left _ _ (and_left _ _ (and_left _ _ fit))) in
+    let distinct : all_differ prints ≡ true = (and_parts _ _ fit).1 in
+    let data_names : list_all is_data_name prints ≡ true = (and_parts _ _ (and_parts _ _ fit).0).1 in
+    let few : length prints ≤ MAX_PRINTS = leb-true (length prints) MAX_PRINTS (and_parts _ _ (and_parts _ _ (and_parts _ _ fit).0).0).1 in
+    let some : 1 ≤ length prints = leb-true 1 (length prints) (and_parts _ _ (and_parts _ _ (and_parts _ _ fit).0).0).0 in
     let h = control.host_fits in
     let u = control.user_fits in
     let lines : List (List ℕ) = (72 ∷ host) ∷ (80 ∷ user) ∷ map print_line prints in
-    let user_line : AreLines ((80 ∷ user) ∷ map print_line prints) (10 ∷ (80 ∷ (user ++ 10 ∷ print_lines prints))) = (10 ∷ [], 10 ∷ print_lines prints, refl, refl, (omega arith, and_true _ _ refl (and_right _ _ u)), refl, prints_laid prints data_names) in
+    let user_line : AreLines ((80 ∷ user) ∷ map print_line prints) (10 ∷ (80 ∷ (user ++ 10 ∷ print_lines prints))) = (10 ∷ [], 10 ∷ print_lines prints, refl, refl, (omega arith, and_from _ _ refl (and_parts _ _ u).1), refl, prints_laid prints data_names) in
     let cut : AreLines lines (control_text (contents control)) =
-    ([], 10 ∷ (80 ∷ (user ++ 10 ∷ print_lines prints)), refl, refl, (omega arith, and_true _ _ refl (and_right _ _ h)), refl, user_line) in
+    ([], 10 ∷ (80 ∷ (user ++ 10 ∷ print_lines prints)), refl, refl, (omega arith, and_from _ _ refl (and_parts _ _ h).1), refl, user_line) in
     let names : AreOperands is_print_letter prints lines =
     add_before is_print_letter (72 ∷ host) prints ((80 ∷ user) ∷ map print_line prints) refl
     (add_before is_print_letter (80 ∷ user) prints (map print_line prints) refl (prints_are prints)) in
-    let same : contents control ≡ said_by host user (number_of name) (each_once prints) =
-    ap (λ v. said_by host user v prints) (sym e) ∙ ap (said_by host user (number_of name)) (sym (each_once-same prints differ)) in
-    means_ok name (control_text (contents control)) (contents control) (
-      (omega arith, k),
-      lines,
-      cut,
-      (
-        host,
-        user,
-        ([], 72, (80 ∷ user) ∷ map print_line prints, refl, refl, refl),
-        ((72 ∷ host) ∷ [], 80, map print_line prints, refl, refl, refl),
-        (and_left _ _ h, and_left _ _ u, prints, names, (omega arith, few, data_names, same)),
-      ),
-    )
+    means_ok name (control_text (contents control)) (contents control)
+    (record {
+      parts = record {
+        lines = lines;
+        host = Some host;
+        user = Some user;
+        names = prints;
+        cut = cut;
+        first_host = ([], 72, (80 ∷ user) ∷ map print_line prints, refl, refl, refl);
+        first_user = ((72 ∷ host) ∷ [], 80, map print_line prints, refl, refl, refl);
+        printed = names;
+      };
+      sent = ((omega arith, k), (and_parts _ _ h).0, (and_parts _ _ u).0);
+      some = omega arith;
+      few = few;
+      data_names = data_names;
+      host = refl;
+      user = refl;
+      number = sym e;
+      prints = sym (each_once-same prints distinct);
+    })

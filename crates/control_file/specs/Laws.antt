@@ -1,12 +1,14 @@
 -- What holds of all control texts.
 use Rattle.std.specs.Prelude.{◌≡◌, ◌≤◌, ◌↔◌, ◌⊎◌, ◌++◌, ℕ, List, Result, Ok, Err, IsTrue, filter, length, not, MatchResult}
-use Rattle.lpd_commands.specs.declared.refusal.Refusal.{Refusal}
-use Rattle.lpd_commands.specs.declared.refusal.Refusal.TheVariants.{Memory}
-use Rattle.lpd_commands.specs.Laws.{IsDecided}
-use Rattle.lpd_commands.specs.Name.{number_of}
+use Rattle.lpd_values.specs.declared.refusal.Refusal.{Refusal}
+use Rattle.lpd_values.specs.declared.refusal.Refusal.TheVariants.{Memory}
+use Rattle.lpd_values.specs.Decided.{IsDecided}
+use Rattle.lpd_values.specs.Name.{number_of}
+use Rattle.lpd_values.specs.declared.limits.TheConstants.{MAX_CONTROL_TEXT}
 use Rattle.control_file.specs.declared.control.Control.{Control}
-use Rattle.control_file.specs.Kept.{is_among, all_differ}
-use Rattle.control_file.specs.Text.{Contents, control_of, each_once}
+use Rattle.lpd_values.specs.Kept.{is_among, all_differ}
+use Rattle.lpd_values.specs.Contents.{Contents}
+use Rattle.control_file.specs.Text.{control_of, each_once}
 use Rattle.control_file.specs.Layout.{MeansControl, RefusesControl}
 use Rattle.control_file.specs.Written.{control_text}
 use Rattle.control_file.specs.View.{contents}
@@ -25,15 +27,19 @@ ControlIsDecided name text = IsDecided (MeansControl name text) (RefusesControl 
 pub record KeepsFirsts (names more : List (List ℕ)) : Type 0 where
   pub same : (name : List ℕ) → is_among name (each_once names) ≡ is_among name names
   pub differ : IsTrue (all_differ (each_once names))
-  pub joined : each_once (names ++ more) ≡ each_once names ++ filter (λ name. not (is_among name names)) (each_once more)
+  pub joined :
+      each_once (names ++ more)
+      ≡ each_once names ++ filter (λ name. not (is_among name names)) (each_once more)
 
 -- what is written is read back under a name with its number, where the text isn't too long
 abbrev pub ControlIsReadBack : Control → List ℕ → Type 0
 ControlIsReadBack control name =
-    number_of name ≡ control.number → length (control_text (contents control)) ≤ 8192 → control_of name (control_text (contents control)) ≡ Ok (contents control)
+    number_of name ≡ control.number → length (control_text (contents control)) ≤ MAX_CONTROL_TEXT →
+    control_of name (control_text (contents control)) ≡ Ok (contents control)
 
 -- a reader's answer: the meaning, the refusal, or want of memory where there is a meaning
 abbrev pub AnswersControl : List ℕ → List ℕ → Result Control Refusal → Type 0
 AnswersControl name text result =
     MatchResult result (λ c. MeansControl name text (contents c))
-    (λ e. RefusesControl text e ⊎ ((e ≡ Memory) × ((said : Contents) × MeansControl name text said)))
+    (λ e. RefusesControl text e
+    ⊎ ((e ≡ Memory) × ((said : Contents) × MeansControl name text said)))

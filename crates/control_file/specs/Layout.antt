@@ -1,12 +1,14 @@
 -- How control texts are laid out, and which refusal belongs to a text.
-use Rattle.std.specs.Prelude.{◌≡◌, ◌<◌, ◌≤◌, ◌⊎◌, ◌++◌, ℕ, Bool, false, List, [], ◌∷◌, length, not, IsTrue}
+use Rattle.std.specs.Prelude.{◌≡◌, ◌<◌, ◌≤◌, ◌⊎◌, ◌++◌, ℕ, Bool, false, List, [], ◌∷◌, length, not, IsTrue, IsSome, IsSomeAnd, Option, Some, None}
 use Rattle.std.specs.List.{list_all}
-use Rattle.lpd_commands.specs.Pieces.{is_kept}
-use Rattle.lpd_commands.specs.Name.{is_data_name, number_of}
-use Rattle.lpd_commands.specs.declared.refusal.Refusal.{Refusal}
-use Rattle.lpd_commands.specs.declared.refusal.Refusal.TheVariants.{NoHost, NoUser, NoPrintLine, TooManyPrints, BadLength, BadName}
-use Rattle.control_file.specs.Kept.{is_line_feed, is_operand_len}
-use Rattle.control_file.specs.Text.{Contents, each_once, is_host_letter, is_user_letter, is_print_letter}
+use Rattle.lpd_values.specs.Pieces.{is_kept}
+use Rattle.lpd_values.specs.Name.{is_data_name, number_of}
+use Rattle.lpd_values.specs.declared.refusal.Refusal.{Refusal}
+use Rattle.lpd_values.specs.declared.refusal.Refusal.TheVariants.{NoHost, NoUser, NoPrintLine, TooManyPrints, BadLength, BadName}
+use Rattle.lpd_values.specs.declared.limits.TheConstants.{MAX_CONTROL_TEXT, MAX_PRINTS}
+use Rattle.lpd_values.specs.Kept.{is_line_feed, is_operand_len}
+use Rattle.lpd_values.specs.Contents.{Contents}
+use Rattle.control_file.specs.Text.{each_once, is_host_letter, is_user_letter, is_print_letter}
 
 -- one or more octets without LF
 abbrev pub IsLine : List ℕ → Type 0
@@ -21,7 +23,8 @@ EndsLine (b ∷ bs) = b ≡ 10
 abbrev pub AreLines : List (List ℕ) → List ℕ → Type 0
 AreLines [] text = IsTrue (list_all is_line_feed text)
 AreLines (line ∷ lines) text =
-    (feeds : List ℕ) × (rest : List ℕ) × (text ≡ feeds ++ (line ++ rest)) × IsTrue (list_all is_line_feed feeds) × IsLine line × EndsLine rest × AreLines lines rest
+    (feeds : List ℕ) × (rest : List ℕ) × (text ≡ feeds ++ (line ++ rest))
+    × IsTrue (list_all is_line_feed feeds) × IsLine line × EndsLine rest × AreLines lines rest
 
 -- whether a line's letter passes the test
 abbrev pub is_led : (ℕ → Bool) → List ℕ → Bool
@@ -31,56 +34,70 @@ is_led test (letter ∷ operand) = test letter
 abbrev pub NoneLed : (ℕ → Bool) → List (List ℕ) → Type 0
 NoneLed test lines = IsTrue (list_all (λ line. not (is_led test line)) lines)
 
--- the first line whose letter passes the test has this operand
-abbrev pub IsFirst : (ℕ → Bool) → List (List ℕ) → List ℕ → Type 0
-IsFirst test lines operand =
-    (before : List (List ℕ)) × (letter : ℕ) × (after : List (List ℕ)) × (lines ≡ before ++ (letter ∷ operand) ∷ after) × IsTrue (test letter) × NoneLed test before
+-- the first line whose letter passes the test has this operand, or there is no such line
+abbrev pub IsFirst : (ℕ → Bool) → List (List ℕ) → Option (List ℕ) → Type 0
+IsFirst test lines None = NoneLed test lines
+IsFirst test lines (Some operand) =
+    (before : List (List ℕ)) × (letter : ℕ) × (after : List (List ℕ))
+    × (lines ≡ before ++ (letter ∷ operand) ∷ after) × IsTrue (test letter) × NoneLed test before
 
 -- the lines whose letters pass the test have these operands, in order
 abbrev pub AreOperands : (ℕ → Bool) → List (List ℕ) → List (List ℕ) → Type 0
 AreOperands test [] lines = NoneLed test lines
 AreOperands test (operand ∷ operands) lines =
-    (before : List (List ℕ)) × (letter : ℕ) × (after : List (List ℕ)) × (lines ≡ before ++ (letter ∷ operand) ∷ after) × IsTrue (test letter) × NoneLed test before
+    (before : List (List ℕ)) × (letter : ℕ) × (after : List (List ℕ))
+    × (lines ≡ before ++ (letter ∷ operand) ∷ after) × IsTrue (test letter) × NoneLed test before
     × AreOperands test operands after
+
+-- what stands in a text: its lines, the operand of the first line for a host and of the first for a user, where there
+-- are such lines, and the names of the lines that print
+pub record Parts (text : List ℕ) : Type 0 where
+  pub lines : List (List ℕ)
+  pub host : Option (List ℕ)
+  pub user : Option (List ℕ)
+  pub names : List (List ℕ)
+  pub cut : AreLines lines text
+  pub first_host : IsFirst is_host_letter lines host
+  pub first_user : IsFirst is_user_letter lines user
+  pub printed : AreOperands is_print_letter names lines
 
 -- the lengths that a text may have, in octets
 abbrev pub IsTextLength : ℕ → Type 0
-IsTextLength n = (0 < n) × (n ≤ 8192)
+IsTextLength n = (0 < n) × (n ≤ MAX_CONTROL_TEXT)
 
-abbrev pub IsOperandLength : ℕ → Type 0
-IsOperandLength n = IsTrue (is_operand_len n)
+-- there is a host, or a user, and its length is fit
+abbrev pub IsFit : Option (List ℕ) → Type 0
+IsFit operand = IsSomeAnd operand (λ octets. IsTrue (is_operand_len (length octets)))
 
--- the text has a fit length, and its lines are so
-abbrev pub WithLines : List ℕ → (List (List ℕ) → Type 0) → Type 0
-WithLines text P = IsTextLength (length text) × (lines : List (List ℕ)) × AreLines lines text × P lines
-
--- it has a host and a user too, and they and the lines are so
-abbrev pub WithSender : List ℕ → (List ℕ → List ℕ → List (List ℕ) → Type 0) → Type 0
-WithSender text P =
-    WithLines text (λ lines. (host : List ℕ) × (user : List ℕ) × IsFirst is_host_letter lines host × IsFirst is_user_letter lines user × P host user lines)
-
--- the host and the user have fit lengths too, and these names are printed, and so is this
-abbrev pub WithPrints : List ℕ → (List ℕ → List ℕ → List (List ℕ) → Type 0) → Type 0
-WithPrints text P =
-    WithSender text (λ host user lines.
-    IsOperandLength (length host) × IsOperandLength (length user) × (names : List (List ℕ)) × AreOperands is_print_letter names lines × P host user names)
+-- a text of a fit length whose host and user have fit lengths too
+abbrev pub IsSent : (text : List ℕ) → Parts text → Type 0
+IsSent text parts = IsTextLength (length text) × IsFit parts.host × IsFit parts.user
 
 -- under the name of its control file, the text says this
-abbrev pub MeansControl : List ℕ → List ℕ → Contents → Type 0
-MeansControl name text contents =
-    WithPrints text (λ host user names.
-    (0 < length names) × (length names ≤ 52) × IsTrue (list_all is_data_name names) ×
-    (contents ≡ record { host = host; user = user; number = number_of name; prints = each_once names }))
+pub record MeansControl (name text : List ℕ) (contents : Contents) : Type 0 where
+  pub parts : Parts text
+  pub sent : IsSent text parts
+  pub some : 0 < length parts.names
+  pub few : length parts.names ≤ MAX_PRINTS
+  pub data_names : IsTrue (list_all is_data_name parts.names)
+  pub host : parts.host ≡ Some contents.host
+  pub user : parts.user ≡ Some contents.user
+  pub number : contents.number ≡ number_of name
+  pub prints : contents.prints ≡ each_once parts.names
 
 -- this refusal's fault is in the text, and none that is tested earlier
 abbrev pub RefusesControl : List ℕ → Refusal → Type 0
 RefusesControl text BadLength =
     (IsTextLength (length text) → ⊥)
-    ⊎ WithSender text (λ host user lines. (IsOperandLength (length host) → ⊥) ⊎ (IsOperandLength (length user) → ⊥))
-RefusesControl text NoHost = WithLines text (NoneLed is_host_letter)
-RefusesControl text NoUser = WithLines text (λ lines. ((host : List ℕ) × IsFirst is_host_letter lines host) × NoneLed is_user_letter lines)
-RefusesControl text NoPrintLine = WithPrints text (λ host user names. names ≡ [])
-RefusesControl text TooManyPrints = WithPrints text (λ host user names. 52 < length names)
+    ⊎ ((parts : Parts text) × IsTextLength (length text) × IsSome parts.host × IsSome parts.user
+    × ((IsFit parts.host → ⊥) ⊎ (IsFit parts.user → ⊥)))
+RefusesControl text NoHost = (parts : Parts text) × IsTextLength (length text) × (parts.host ≡ None)
+RefusesControl text NoUser =
+    (parts : Parts text) × IsTextLength (length text) × IsSome parts.host × (parts.user ≡ None)
+RefusesControl text NoPrintLine = (parts : Parts text) × IsSent text parts × (parts.names ≡ [])
+RefusesControl text TooManyPrints =
+    (parts : Parts text) × IsSent text parts × (MAX_PRINTS < length parts.names)
 RefusesControl text BadName =
-    WithPrints text (λ host user names. (0 < length names) × (length names ≤ 52) × (list_all is_data_name names ≡ false))
+    (parts : Parts text) × IsSent text parts × (0 < length parts.names)
+    × (length parts.names ≤ MAX_PRINTS) × (list_all is_data_name parts.names ≡ false)
 RefusesControl text _ = ⊥

@@ -1,8 +1,8 @@
+pub use Rattle.lpd_values.specs.Contents
+pub use Rattle.lpd_values.specs.Kept
 pub mod Fields
-pub mod Kept
 pub mod Laws
 pub mod Layout
-pub mod Plain
 pub mod Text
 pub mod View
 pub mod Written

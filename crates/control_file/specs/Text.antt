@@ -2,18 +2,13 @@
 use Rattle.std.specs.Prelude.{ℕ, Bool, List, [], ◌∷◌, ◌==◌, ◌||◌, nat_lt, length, filter, not, Option, Some, None, Result, Ok, Err, if◌then◌else◌, slice_get}
 use Rattle.std.specs.List.{list_all}
 use Rattle.std.specs.Str.{bytes_eq}
-use Rattle.lpd_commands.specs.Pieces.{pieces_of}
-use Rattle.lpd_commands.specs.Name.{is_data_name, number_of}
-use Rattle.lpd_commands.specs.declared.refusal.Refusal.{Refusal}
-use Rattle.lpd_commands.specs.declared.refusal.Refusal.TheVariants.{NoHost, NoUser, NoPrintLine, TooManyPrints, BadLength, BadName}
-use Rattle.control_file.specs.Kept.{is_line_feed, is_operand_len}
-
--- what a control file says
-pub record Contents : Type 0 where
-  pub host : List ℕ
-  pub user : List ℕ
-  pub number : ℕ
-  pub prints : List (List ℕ)
+use Rattle.lpd_values.specs.Pieces.{pieces_of}
+use Rattle.lpd_values.specs.Name.{is_data_name, number_of}
+use Rattle.lpd_values.specs.declared.refusal.Refusal.{Refusal}
+use Rattle.lpd_values.specs.declared.refusal.Refusal.TheVariants.{NoHost, NoUser, NoPrintLine, TooManyPrints, BadLength, BadName}
+pub use Rattle.lpd_values.specs.Contents.{Contents}
+use Rattle.lpd_values.specs.Kept.{is_line_feed, is_operand_len}
+use Rattle.lpd_values.specs.declared.limits.TheConstants.{MAX_CONTROL_TEXT, MAX_PRINTS}
 
 -- the lines of a text that aren't empty, each without its LF
 abbrev pub lines_of : List ℕ → List (List ℕ)
@@ -30,7 +25,8 @@ is_user_letter b = b == 80
 -- c, d, f, g, l, n, o, p, r, t, v
 abbrev pub is_print_letter : ℕ → Bool
 is_print_letter b =
-    b == 99 || b == 100 || b == 102 || b == 103 || b == 108 || b == 110 || b == 111 || b == 112 || b == 114 || b == 116 || b == 118
+    b == 99 || b == 100 || b == 102 || b == 103 || b == 108 || b == 110 || b == 111 || b == 112
+    || b == 114 || b == 116 || b == 118
 
 -- the operands of the lines whose letter passes the test, in order
 abbrev pub operands_of : (ℕ → Bool) → List (List ℕ) → List (List ℕ)
@@ -58,15 +54,18 @@ each_once (name ∷ names) = name ∷ filter (λ other. not (bytes_eq name other
 abbrev pub print_list : List (List ℕ) → Result (List (List ℕ)) Refusal
 print_list names =
     if length names == 0 then Err NoPrintLine
-    else if nat_lt 52 (length names) then Err TooManyPrints
+    else if nat_lt MAX_PRINTS (length names) then Err TooManyPrints
     else if list_all is_data_name names then Ok (each_once names)
     else Err BadName
 
-abbrev pub with_prints : List ℕ → List ℕ → ℕ → Result (List (List ℕ)) Refusal → Result Contents Refusal
-with_prints host user number (Ok prints) = Ok (record { host = host; user = user; number = number; prints = prints })
+abbrev pub with_prints :
+    List ℕ → List ℕ → ℕ → Result (List (List ℕ)) Refusal → Result Contents Refusal
+with_prints host user number (Ok prints) =
+    Ok (record { host = host; user = user; number = number; prints = prints })
 with_prints host user number (Err refusal) = Err refusal
 
-abbrev pub control_with : ℕ → Option (List ℕ) → Option (List ℕ) → List (List ℕ) → Result Contents Refusal
+abbrev pub control_with :
+    ℕ → Option (List ℕ) → Option (List ℕ) → List (List ℕ) → Result Contents Refusal
 control_with number None user names = Err NoHost
 control_with number (Some host) None names = Err NoUser
 control_with number (Some host) (Some user) names =
@@ -77,5 +76,5 @@ control_with number (Some host) (Some user) names =
 -- what a text means under the name of its control file, or its first refusal
 abbrev pub control_of : List ℕ → List ℕ → Result Contents Refusal
 control_of name text =
-    if length text == 0 || nat_lt 8192 (length text) then Err BadLength
+    if length text == 0 || nat_lt MAX_CONTROL_TEXT (length text) then Err BadLength
     else control_with (number_of name) (first_host text) (first_user text) (prints_of text)

@@ -1,16 +1,12 @@
 //! Control files.
 
 ghost use Rattle.std.specs.Prelude.{◌≡◌, ◌≤◌, IsTrue, IfOk, length};
-ghost use Rattle.control_file.specs.Kept.{is_operand, is_operand_len, is_print_list};
+ghost use Rattle.lpd_values.specs.Kept.{is_operand, is_operand_len, is_print_list};
 ghost use Rattle.control_file.specs.Text.{control_of, control_with, first_host, first_user, prints_of};
 
 use crate::lines::{Field, check_prints, first_operand, read_prints};
-use crate::names::FileNames;
-use lpd_commands::{FileName, Octets, Refusal};
+use lpd_values::{FileName, FileNames, MAX_CONTROL_TEXT, MAX_OPERAND, Octets, Refusal};
 use std::alloc::{AllocError, Global};
-
-/// The octets that a control file may have.
-const MAX_TEXT: usize = 8192;
 
 /// What a control file says: the host and the user that sent the job, the job's number and the names of the data files
 /// to print, in order.
@@ -31,10 +27,10 @@ pub struct Control {
 }
 
 /// Whether the host or the user has 1 to 255 octets.
-pub(crate) fn has_operand_len(operand: &[u8]) -> bool
+fn has_operand_len(operand: &[u8]) -> bool
     ensures { result ≡ is_operand_len (length operand.now) }
 {
-    1 <= operand.len() && operand.len() <= 255
+    1 <= operand.len() && operand.len() <= MAX_OPERAND
 }
 
 impl Control {
@@ -50,7 +46,7 @@ impl Control {
         ensures value { GivesControl result (control_of name.now text.now) }
         ensures layout { AnswersControl name.now text.now result }
     {
-        if text.is_empty() || text.len() > MAX_TEXT {
+        if text.is_empty() || text.len() > MAX_CONTROL_TEXT {
             return Err(Refusal::BadLength);
         }
         Self::parse_lines(alloc, name.number(), text)
@@ -59,7 +55,8 @@ impl Control {
     /// Reads the lines of a text whose length is fit.
     fn parse_lines(alloc: Global, number: u16, text: &[u8]) -> Result<Control, Refusal>
         requires { number ≤ 999 }
-        ensures { GivesControl result (control_with number (first_host text.now) (first_user text.now) (prints_of text.now)) }
+        ensures { GivesControl result
+            (control_with number (first_host text.now) (first_user text.now) (prints_of text.now)) }
     {
         let Some(host) = first_operand(Field::Host, text) else {
             return Err(Refusal::NoHost);

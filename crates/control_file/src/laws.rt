@@ -3,8 +3,7 @@
 ghost use Rattle.control_file.specs.Laws.{ControlIsExact, ControlIsDecided, ControlIsReadBack, KeepsFirsts};
 
 use crate::control::Control;
-use crate::names::FileNames;
-use lpd_commands::FileName;
+use lpd_values::{FileName, FileNames};
 
 /// The meaning and the refusals of a text are exactly those of its layout.
 pub fn control_is_exact(_name: &FileName, _text: &[u8])

@@ -4,11 +4,8 @@
 mod control;
 mod laws;
 mod lines;
-mod names;
-mod reference;
 mod write;
 
 pub use control::Control;
 pub use laws::{control_is_decided, control_is_exact, control_is_read_back, firsts_are_kept};
-pub use names::FileNames;
-pub use reference::{PlainControl, plain_control};
+pub use lpd_values::FileNames;

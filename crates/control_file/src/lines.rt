@@ -2,14 +2,13 @@
 
 ghost use Rattle.std.specs.Prelude.{◌≡◌, ◌<◌, ◌≤◌, ◌⊎◌, [], ◌∷◌, true, IfSome, IsTrue, OnOk, MatchOption, MatchResult, length, slice_get, Some, None};
 ghost use Rattle.std.specs.List.{list_all, prefix_len};
-ghost use Rattle.lpd_commands.specs.Name.{is_data_name};
-ghost use Rattle.lpd_commands.specs.Pieces.{is_kept, begins_piece};
-ghost use Rattle.control_file.specs.Kept.{is_line_feed, is_print_list};
-ghost use Rattle.control_file.specs.Text.{each_once, lines_of, operands_of, print_list, prints_of};
-ghost use Rattle.control_file.specs.Fields.{letter_test};
+ghost use Rattle.lpd_values.specs.Name.{is_data_name};
+ghost use Rattle.lpd_values.specs.Pieces.{is_kept, begins_piece};
+ghost use Rattle.lpd_values.specs.Kept.{is_line_feed, is_print_list};
+ghost use Rattle.control_file.specs.Text.{each_once, lines_of, print_list, prints_of};
+ghost use Rattle.control_file.specs.Fields.{letter_test, operands_in};
 
-use crate::names::FileNames;
-use lpd_commands::{FileName, Refusal};
+use lpd_values::{FileName, FileNames, MAX_PRINTS, Refusal};
 use std::alloc::Global;
 
 /// What a line of a control file is about, as its first octet says.
@@ -69,7 +68,9 @@ fn split_line(text: &[u8]) -> (u8, &[u8], &[u8])
 /// The operand of the first line of this field, and what follows it.
 pub(crate) fn next_operand(field: Field, text: &[u8]) -> Option<(&[u8], &[u8])>
     ensures no_feed { IfSome result (λ p. list_all (is_kept is_line_feed) p.0.now ≡ true) }
-    ensures operands { MatchOption result (operands_of (letter_test field) (lines_of text.now) ≡ []) (λ p. (operands_of (letter_test field) (lines_of text.now) ≡ p.0.now ∷ operands_of (letter_test field) (lines_of p.1.now)) × (length p.1.now < length text.now)) }
+    ensures operands { MatchOption result (operands_in field text.now ≡ [])
+        (λ p. (operands_in field text.now ≡ p.0.now ∷ operands_in field p.1.now)
+        × (length p.1.now < length text.now)) }
 {
     let mut text = skip_empty(text);
     while !text.is_empty() {
@@ -85,7 +86,8 @@ pub(crate) fn next_operand(field: Field, text: &[u8]) -> Option<(&[u8], &[u8])>
 /// The operand of the first line of this field.
 pub(crate) fn first_operand(field: Field, text: &[u8]) -> Option<&[u8]>
     ensures no_feed { IfSome result (λ o. list_all (is_kept is_line_feed) o.now ≡ true) }
-    ensures first { MatchOption result (slice_get (operands_of (letter_test field) (lines_of text.now)) 0 ≡ None) (λ o. slice_get (operands_of (letter_test field) (lines_of text.now)) 0 ≡ Some o.now) }
+    ensures first { MatchOption result (slice_get (operands_in field text.now) 0 ≡ None)
+        (λ o. slice_get (operands_in field text.now) 0 ≡ Some o.now) }
 {
     let (operand, _) = next_operand(field, text)?;
     Some(operand)
@@ -123,13 +125,15 @@ fn all_data_names(text: &[u8]) -> bool
 pub(crate) fn check_prints(text: &[u8]) -> Result<(), Refusal>
     ensures names { OnOk result (list_all is_data_name (prints_of text.now) ≡ true) }
     ensures kept { OnOk result (IsTrue (is_print_list (each_once (prints_of text.now)))) }
-    ensures list { MatchResult result (λ _. print_list (prints_of text.now) ≡ Ok (each_once (prints_of text.now))) (λ e. print_list (prints_of text.now) ≡ Err e) }
+    ensures list { MatchResult result
+        (λ _. print_list (prints_of text.now) ≡ Ok (each_once (prints_of text.now)))
+        (λ e. print_list (prints_of text.now) ≡ Err e) }
 {
     let count = count_prints(text);
     if count == 0 {
         return Err(Refusal::NoPrintLine);
     }
-    if count > 52 {
+    if count > MAX_PRINTS {
         return Err(Refusal::TooManyPrints);
     }
     if !all_data_names(text) {
@@ -142,7 +146,8 @@ pub(crate) fn check_prints(text: &[u8]) -> Result<(), Refusal>
 #[tactic(auto, using(crate::proofs::PrintLemmas::added_none))]
 pub(crate) fn read_prints(alloc: Global, text: &[u8]) -> Result<FileNames, Refusal>
     requires { list_all is_data_name (prints_of text.now) ≡ true }
-    ensures { MatchResult result (λ names. names ≡ each_once (prints_of text.now)) (λ e. e ≡ Refusal.Memory) }
+    ensures { MatchResult result (λ names. names ≡ each_once (prints_of text.now))
+        (λ e. e ≡ Refusal.Memory) }
 {
     let mut names = FileNames::new(alloc);
     let mut rest = text;

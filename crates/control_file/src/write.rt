@@ -5,8 +5,7 @@ ghost use Rattle.control_file.specs.Written.{control_text, print_lines};
 ghost use Rattle.control_file.specs.View.{contents};
 
 use crate::control::Control;
-use crate::names::FileNames;
-use lpd_commands::Octets;
+use lpd_values::{FileNames, Octets};
 use std::alloc::{AllocError, Global};
 
 /// Puts a line of this letter and operand, with its LF, at the end of the text.

@@ -13,7 +13,7 @@ use account::{Act, Outline};
 use config_values::Config;
 use control_file::Control;
 use history_reader::{File, Job, all_begun, is_begun, is_open_in};
-use lpd_commands::FileName;
+use lpd_values::FileName;
 
 /// Whether a job is being received.
 fn is_receiving(job: &Job) -> bool

@@ -1,31 +1,16 @@
 -- Command lines and their layout.
-use Rattle.std.proofs.Common.{◌≡◌, ◌<◌, ◌≤◌, ◌⊎◌, inl, inr, ℕ, zero, suc, Bool, true, false, ◌||◌, ◌==◌, nat_lt, List, [], ◌∷◌, length, refl, ap, sym, ◌∙◌, subst, arith, Result, Ok, Err, IsOk, is_ok, if◌then◌else◌}
+use Rattle.std.proofs.Common.{◌≡◌, ◌<◌, ◌⊎◌, inl, inr, ℕ, zero, suc, true, false, ◌||◌, ◌==◌, nat_lt, List, [], ◌∷◌, length, refl, ap, sym, ◌∙◌, subst, arith, Result, Ok, Err, IsOk, is_ok, if◌then◌else◌}
+use Rattle.std.proofs.lemmas.Bool.{both_ways, cases_Bool, lt-ltb, le-ltb, ltb-true, ltb-false}
 use Rattle.std.proofs.lemmas.Bool.Decides.{nat_tests}
 use Rattle.lpd_commands.specs.Line.{command_of, command_at, command_with, is_worded, words_of}
 use Rattle.lpd_commands.specs.Layout.{IsLine, IsShort, LacksCode, IsCommandLine, MeansCommand, RefusesCommand, AnswersCommand}
-use Rattle.lpd_commands.specs.Given.{Gives}
+use Rattle.lpd_values.specs.Given.{Gives}
 use Rattle.lpd_commands.specs.Laws.{CommandIsExact, CommandIsDecided}
-use Rattle.lpd_commands.specs.declared.refusal.Refusal.{Refusal}
-use Rattle.lpd_commands.specs.declared.refusal.Refusal.TheVariants.{LineTooLong, BadCode, BadLine}
+use Rattle.lpd_values.specs.declared.refusal.Refusal.{Refusal}
+use Rattle.lpd_values.specs.declared.refusal.Refusal.TheVariants.{LineTooLong, BadCode, BadLine}
 use Rattle.lpd_commands.specs.declared.command.Command.{Command}
 use Rattle.lpd_commands.specs.declared.command.Command.TheVariants.{PrintWaiting, Receive, State, Remove}
-use Rattle.lpd_commands.proofs.PieceLemmas.{true_or_false}
 use Rattle.lpd_commands.proofs.LayoutLemmas.{line_words, worded, line_of_worded}
-
-pub differ : (a : Bool) → a ≡ true → a ≡ false → ⊥
-differ a h k = cc
-
-pub long_true : (m n : ℕ) → m < n → nat_lt m n ≡ true
-long_true m n h = grind (arith, nat_tests)
-
-pub short_false : (m n : ℕ) → n ≤ m → nat_lt m n ≡ false
-short_false m n h = grind (arith, nat_tests)
-
-pub lt_of : (m n : ℕ) → nat_lt m n ≡ true → m < n
-lt_of m n h = grind (arith, nat_tests)
-
-pub le_of : (m n : ℕ) → nat_lt m n ≡ false → n ≤ m
-le_of m n h = grind (arith, nat_tests)
 
 pub lacks_of : (last code : ℕ) → (code == 0 || nat_lt last code) ≡ true → (code ≡ 0) ⊎ (last < code)
 lacks_of last code h = grind (arith, nat_tests)
@@ -37,7 +22,7 @@ lacks_test last code h = grind (arith, nat_tests)
 pub line_gives : (code : ℕ) (w : List ℕ) (ops : List (List ℕ)) (line : List ℕ) → IsShort line → (code == 0 || nat_lt 5 code) ≡ false → IsLine code w ops line → command_of line ≡ command_with code (w ∷ ops)
 line_gives code w ops line short fits h =
     let l = line_words code w ops line h in
-    ap (λ v. if v then Err LineTooLong else command_at line) (short_false 1023 (length line) short)
+    ap (λ v. if v then Err LineTooLong else command_at line) (le-ltb 1023 (length line) short)
     ∙ (ap command_at l.1
     ∙ (ap (λ v. if v then Err BadCode else if is_worded l.0 then command_with code (words_of l.0) else Err BadLine) fits
     ∙ (ap (λ v. if v then command_with code (words_of l.0) else Err BadLine) l.2 ∙ ap (command_with code) l.3)))
@@ -65,7 +50,7 @@ head_same a b s t h = cc
 pub unworded : (code code' : ℕ) (w rest : List ℕ) (ops : List (List ℕ)) → is_worded rest ≡ false → IsLine code' w ops (code ∷ rest) → ⊥
 unworded code code' w rest ops h k =
     let l = line_words code' w ops (code ∷ rest) k in
-    differ (is_worded rest) (ap is_worded (tail_same code code' rest l.0 l.1) ∙ l.2) h
+    both_ways (is_worded rest) h (ap is_worded (tail_same code code' rest l.0 l.1) ∙ l.2)
 
 -- the words of a line are those of its text
 pub line_same : (code code' : ℕ) (w rest : List ℕ) (ops : List (List ℕ)) → IsLine code' w ops (code ∷ rest) → (code ≡ code') × (words_of rest ≡ w ∷ ops)
@@ -82,7 +67,7 @@ pub data Code : ℕ → Type 0 where
   five : Code 5
 
 pub code_of : (code : ℕ) → (code == 0 || nat_lt 5 code) ≡ false → Code code
-code_of zero h = absurd (differ _ refl h)
+code_of zero h = absurd (both_ways _ h refl)
 code_of (suc zero) h = one
 code_of (suc (suc zero)) h = two
 code_of (suc (suc (suc zero))) h = three
@@ -122,13 +107,13 @@ Decision line = ((c : Command) × (command_of line ≡ Ok c) × MeansCommand lin
 at_code : (line : List ℕ) → IsShort line → (command_of line ≡ command_at line) → Decision line
 at_code [] short eq = inr (BadCode, eq, (short, tt))
 at_code (code ∷ rest) short eq =
-    elim (true_or_false (code == 0 || nat_lt 5 code)) [
+    elim (cases_Bool (code == 0 || nat_lt 5 code)) [
       | inl h ↦ inr (BadCode, eq ∙ ap (λ v. if v then Err BadCode else if is_worded rest then command_with code (words_of rest) else Err BadLine) h, (short, lacks_of 5 code h))
       | inr h ↦
           let at : command_of (code ∷ rest) ≡ (if is_worded rest then command_with code (words_of rest) else Err BadLine) =
           eq ∙ ap (λ v. if v then Err BadCode else if is_worded rest then command_with code (words_of rest) else Err BadLine) h in
-          let has_code : LacksCode 5 (code ∷ rest) → ⊥ = λ l. differ _ (lacks_test 5 code l) h in
-          elim (true_or_false (is_worded rest)) [
+          let has_code : LacksCode 5 (code ∷ rest) → ⊥ = λ l. both_ways _ h (lacks_test 5 code l) in
+          elim (cases_Bool (is_worded rest)) [
             | inl k ↦
                 let w = worded rest k in
                 let given : command_of (code ∷ rest) ≡ command_with code (w.first ∷ words_of w.rest) =
@@ -148,9 +133,9 @@ at_code (code ∷ rest) short eq =
 
 pub decision : (line : List ℕ) → Decision line
 decision line =
-    elim (true_or_false (nat_lt 1023 (length line))) [
-      | inl h ↦ inr (LineTooLong, ap (λ v. if v then Err LineTooLong else command_at line) h, lt_of 1023 (length line) h)
-      | inr h ↦ at_code line (le_of 1023 (length line) h) (ap (λ v. if v then Err LineTooLong else command_at line) h)
+    elim (cases_Bool (nat_lt 1023 (length line))) [
+      | inl h ↦ inr (LineTooLong, ap (λ v. if v then Err LineTooLong else command_at line) h, ltb-true 1023 (length line) h)
+      | inr h ↦ at_code line (ltb-false 1023 (length line) h) (ap (λ v. if v then Err LineTooLong else command_at line) h)
     ]
 
 bad_line_only : (line : List ℕ) (e : Refusal) → RefusesCommand line e → RefusesCommand line BadLine → e ≡ BadLine
@@ -160,10 +145,10 @@ bad_line_only line BadLine h k = refl
 bad_line_only line _ h k = absurd h
 
 pub refuses_err : (line : List ℕ) (e : Refusal) → RefusesCommand line e → command_of line ≡ Err e
-refuses_err line LineTooLong h = ap (λ v. if v then Err LineTooLong else command_at line) (long_true 1023 (length line) h)
-refuses_err [] BadCode h = ap (λ v. if v then Err LineTooLong else command_at []) (short_false 1023 0 h.0)
+refuses_err line LineTooLong h = ap (λ v. if v then Err LineTooLong else command_at line) (lt-ltb 1023 (length line) h)
+refuses_err [] BadCode h = ap (λ v. if v then Err LineTooLong else command_at []) (le-ltb 1023 0 h.0)
 refuses_err (code ∷ rest) BadCode h =
-    ap (λ v. if v then Err LineTooLong else command_at (code ∷ rest)) (short_false 1023 (length (code ∷ rest)) h.0)
+    ap (λ v. if v then Err LineTooLong else command_at (code ∷ rest)) (le-ltb 1023 (length (code ∷ rest)) h.0)
     ∙ ap (λ v. if v then Err BadCode else if is_worded rest then command_with code (words_of rest) else Err BadLine) (lacks_test 5 code h.1)
 refuses_err line BadLine h =
     elim (decision line) [
@@ -218,8 +203,8 @@ command_layout line (Err e) (inr h) =
     ]
   where
     no_value : (r : Result Command Refusal) (e : Refusal) → r ≡ Err e → IsOk r → ⊥
-    no_value r e h k = differ (is_ok r) k (ap is_ok h)
+    no_value r e h k = both_ways (is_ok r) (ap is_ok h) k
 
 pub short_layout : (line : List ℕ) (r : Result Command Refusal) → IsShort line → Gives r (command_at line) → AnswersCommand line r
 short_layout line r short h =
-    command_layout line r (subst (λ (v : Result Command Refusal). Gives r v) (sym (ap (λ v. if v then Err LineTooLong else command_at line) (short_false 1023 (length line) short))) h)
+    command_layout line r (subst (λ (v : Result Command Refusal). Gives r v) (sym (ap (λ v. if v then Err LineTooLong else command_at line) (le-ltb 1023 (length line) short))) h)

@@ -1,17 +1,13 @@
 -- How a laid out line is cut into words, and back.
-use Rattle.std.proofs.Common.{◌≡◌, ◌<◌, ℕ, Bool, true, false, not, ◌||◌, ◌&&◌, List, [], ◌∷◌, ◌++◌, length, refl, ap, sym, ◌∙◌, ◌⊎◌, inl, inr, arith}
+use Rattle.std.proofs.Common.{◌≡◌, ℕ, Bool, true, false, not, ◌||◌, List, [], ◌∷◌, ◌++◌, refl, ap, sym, ◌∙◌, ◌⊎◌, inl, inr, arith}
+use Rattle.std.proofs.lemmas.Bool.{and_parts, and_from, both_ways, cases_Bool}
 use Rattle.std.specs.List.{list_all}
 use Rattle.std.proofs.lemmas.Bool.Decides.{nat_tests}
-use Rattle.std.proofs.lemmas.List.Folds.{list_all-append}
-use Rattle.lpd_commands.specs.Kinds.{is_space, is_word_octet, is_text_octet}
-use Rattle.lpd_commands.specs.Pieces.{is_kept, begins_piece, octet_before, pieces_of}
+use Rattle.lpd_values.specs.Kinds.{is_space, is_word_octet, is_text_octet}
+use Rattle.lpd_values.specs.Pieces.{is_kept, octet_before}
 use Rattle.lpd_commands.specs.Line.{begins_word, words_of, is_worded}
 use Rattle.lpd_commands.specs.Layout.{IsWord, AreLaidOut, IsLine}
-use Rattle.lpd_commands.proofs.PieceLemmas.{true_or_false, pieces_of-space, pieces_of-octet}
-use Rattle.lpd_commands.proofs.NameLemmas.{and_left, and_right}
-
-pub and_true : (a b : Bool) → a ≡ true → b ≡ true → (a && b) ≡ true
-and_true a b h k = rw h k
+use Rattle.lpd_values.proofs.PieceLemmas.{pieces_of-space, pieces_of-octet, begins_piece-blank, begins_piece-gap, list_all-join, list_all-wider, pieces_of-append, pieces_of-blank, pieces_of-gap}
 
 pub word_not_space : (b : ℕ) → is_word_octet b ≡ true → is_space b ≡ false
 word_not_space b h = grind (arith, nat_tests)
@@ -33,47 +29,6 @@ word_of_text b h k = only (is_word_octet b) (is_space b) h k
     only true c h k = refl
     only false c h k = sym k ∙ h
 
--- where each octet that passes p passes q, so do lists
-pub list_all-wider : (p q : ℕ → Bool) → ((b : ℕ) → p b ≡ true → q b ≡ true) → (s : List ℕ) → list_all p s ≡ true → list_all q s ≡ true
-list_all-wider p q h [] k = refl
-list_all-wider p q h (b ∷ bs) k = and_true _ _ (h b (and_left _ _ k)) (list_all-wider p q h bs (and_right _ _ k))
-
-pub list_all-join : (p : ℕ → Bool) (s t : List ℕ) → list_all p s ≡ true → list_all p t ≡ true → list_all p (s ++ t) ≡ true
-list_all-join p s t h k = list_all-append p s t ∙ and_true _ _ h k
-
-pub pieces_of-append : (cut : ℕ → Bool) (w rest : List ℕ) → 0 < length w → list_all (is_kept cut) w ≡ true → begins_piece cut rest ≡ false → pieces_of cut (w ++ rest) ≡ w ∷ pieces_of cut rest
-pieces_of-append cut [] rest some h k = absurd (omega arith)
-pieces_of-append cut (b ∷ []) rest some h k =
-    pieces_of-octet cut b rest (not_not (cut b) (and_left _ _ h)) ∙ ap (λ v. octet_before b v (pieces_of cut rest)) k
-  where
-    not_not : (a : Bool) → not a ≡ true → a ≡ false
-    not_not true h = sym h
-    not_not false h = refl
-pieces_of-append cut (b ∷ c ∷ w) rest some h k =
-    let ih : pieces_of cut (c ∷ (w ++ rest)) ≡ (c ∷ w) ∷ pieces_of cut rest = pieces_of-append cut (c ∷ w) rest (omega arith) (and_right _ _ h) k in
-    pieces_of-octet cut b (c ∷ (w ++ rest)) (not_not (cut b) (and_left _ _ h))
-    ∙ (ap (λ v. octet_before b v (pieces_of cut (c ∷ (w ++ rest)))) (and_left _ _ (and_right _ _ h)) ∙ ap (octet_before b true) ih)
-  where
-    not_not : (a : Bool) → not a ≡ true → a ≡ false
-    not_not true h = sym h
-    not_not false h = refl
-
-pub pieces_of-gap : (cut : ℕ → Bool) (gap rest : List ℕ) → list_all cut gap ≡ true → pieces_of cut (gap ++ rest) ≡ pieces_of cut rest
-pieces_of-gap cut [] rest h = refl
-pieces_of-gap cut (b ∷ bs) rest h = pieces_of-space cut b (bs ++ rest) (and_left _ _ h) ∙ pieces_of-gap cut bs rest (and_right _ _ h)
-
-pub begins_piece-gap : (cut : ℕ → Bool) (gap rest : List ℕ) → 0 < length gap → list_all cut gap ≡ true → begins_piece cut (gap ++ rest) ≡ false
-begins_piece-gap cut [] rest some h = absurd (omega arith)
-begins_piece-gap cut (b ∷ bs) rest some h = ap not (and_left _ _ h)
-
-pub pieces_of-blank : (cut : ℕ → Bool) (s : List ℕ) → list_all cut s ≡ true → pieces_of cut s ≡ []
-pieces_of-blank cut [] h = refl
-pieces_of-blank cut (b ∷ bs) h = pieces_of-space cut b bs (and_left _ _ h) ∙ pieces_of-blank cut bs (and_right _ _ h)
-
-pub begins_piece-blank : (cut : ℕ → Bool) (s : List ℕ) → list_all cut s ≡ true → begins_piece cut s ≡ false
-begins_piece-blank cut [] h = refl
-begins_piece-blank cut (b ∷ bs) h = ap not (and_left _ _ h)
-
 word_kept : (s : List ℕ) → list_all is_word_octet s ≡ true → list_all (is_kept is_space) s ≡ true
 word_kept = list_all-wider is_word_octet (is_kept is_space) (λ b h. ap not (word_not_space b h))
 
@@ -91,7 +46,7 @@ laid_out-words (w ∷ ws) text h =
 
 begins_with_word : (w rest : List ℕ) → IsWord w → begins_word (w ++ rest) ≡ true
 begins_with_word [] rest h = absurd (omega (arith, h.0))
-begins_with_word (b ∷ bs) rest h = ap not (word_not_space b (and_left _ _ h.1))
+begins_with_word (b ∷ bs) rest h = ap not (word_not_space b (and_parts _ _ h.1).0)
 
 -- a laid out line is its code and a text of these words
 pub line_words : (code : ℕ) (w : List ℕ) (ops : List (List ℕ)) (line : List ℕ) → IsLine code w ops line → (rest : List ℕ) × (line ≡ code ∷ rest) × (is_worded rest ≡ true) × (words_of rest ≡ w ∷ ops)
@@ -99,7 +54,7 @@ line_words code w ops line h =
     let laid = laid_out-words ops h.0 h.3 in (
       w ++ h.0,
       h.1,
-      and_true _ _ (begins_with_word w h.0 h.2) (list_all-join is_text_octet w h.0 (list_all-wider is_word_octet is_text_octet text_of_word w h.2.1) laid.2),
+      and_from _ _ (begins_with_word w h.0 h.2) (list_all-join is_text_octet w h.0 (list_all-wider is_word_octet is_text_octet text_of_word w h.2.1) laid.2),
       pieces_of-append is_space w h.0 h.2.0 (word_kept w h.2.1) laid.1 ∙ ap (λ v. w ∷ v) laid.0,
     )
 
@@ -116,14 +71,14 @@ abbrev pub Shape : List ℕ → Type 0
 Shape s = ((begins_word s ≡ false) × AreLaidOut (words_of s) s) ⊎ ((begins_word s ≡ true) × Worded s)
 
 longer_gap : (b : ℕ) → is_space b ≡ true → (ws : List (List ℕ)) (text : List ℕ) → AreLaidOut ws text → AreLaidOut ws (b ∷ text)
-longer_gap b k [] text h = and_true _ _ k h
-longer_gap b k (w ∷ ws) text h = (b ∷ h.0, h.1, ap (λ v. b ∷ v) h.2, omega arith, and_true _ _ k h.4, h.5, h.6)
+longer_gap b k [] text h = and_from _ _ k h
+longer_gap b k (w ∷ ws) text h = (b ∷ h.0, h.1, ap (λ v. b ∷ v) h.2, omega arith, and_from _ _ k h.4, h.5, h.6)
 
 after_space : (b : ℕ) (bs : List ℕ) → is_space b ≡ true → Shape bs → AreLaidOut (words_of bs) (b ∷ bs)
 after_space b bs k (inl h) = longer_gap b k (words_of bs) bs h.1
 after_space b bs k (inr h) =
     let w = h.1 in
-    rw w.words (b ∷ [], w.rest, ap (λ v. b ∷ v) w.joins, omega arith, and_true _ _ k refl, w.word, w.laid)
+    rw w.words (b ∷ [], w.rest, ap (λ v. b ∷ v) w.joins, omega arith, and_from _ _ k refl, w.word, w.laid)
 
 word_at : (b : ℕ) (bs : List ℕ) → is_space b ≡ false → is_word_octet b ≡ true → Shape bs → Worded (b ∷ bs)
 word_at b bs k m (inl h) =
@@ -131,7 +86,7 @@ word_at b bs k m (inl h) =
       first = b ∷ [];
       rest = bs;
       joins = refl;
-      word = (omega arith, and_true _ _ m refl);
+      word = (omega arith, and_from _ _ m refl);
       laid = h.1;
       words = pieces_of-octet is_space b bs k ∙ ap (λ v. octet_before b v (words_of bs)) h.0;
     }
@@ -141,7 +96,7 @@ word_at b bs k m (inr h) =
       first = b ∷ w.first;
       rest = w.rest;
       joins = ap (λ v. b ∷ v) w.joins;
-      word = (omega arith, and_true _ _ m w.word.1);
+      word = (omega arith, and_from _ _ m w.word.1);
       laid = w.laid;
       words = pieces_of-octet is_space b bs k ∙ (ap (λ v. octet_before b v (words_of bs)) h.0 ∙ ap (octet_before b true) w.words);
     }
@@ -150,20 +105,17 @@ word_at b bs k m (inr h) =
 pub shape : (s : List ℕ) → list_all is_text_octet s ≡ true → Shape s
 shape [] h = inl (refl, refl)
 shape (b ∷ bs) h =
-    elim (true_or_false (is_space b)) [
-      | inl k ↦ inl (ap not k, rw (pieces_of-space is_space b bs k) (after_space b bs k (shape bs (and_right _ _ h))))
-      | inr k ↦ inr (ap not k, word_at b bs k (word_of_text b (and_left _ _ h) k) (shape bs (and_right _ _ h)))
+    elim (cases_Bool (is_space b)) [
+      | inl k ↦ inl (ap not k, rw (pieces_of-space is_space b bs k) (after_space b bs k (shape bs (and_parts _ _ h).1)))
+      | inr k ↦ inr (ap not k, word_at b bs k (word_of_text b (and_parts _ _ h).0 k) (shape bs (and_parts _ _ h).1))
     ]
 
 pub worded : (s : List ℕ) → is_worded s ≡ true → Worded s
 worded s h =
-    elim (shape s (and_right _ _ h)) [
-      | inl k ↦ absurd (differ _ (and_left _ _ h) k.0)
+    elim (shape s (and_parts _ _ h).1) [
+      | inl k ↦ absurd (both_ways _ k.0 (and_parts _ _ h).0)
       | inr k ↦ k.1
     ]
-  where
-    differ : (a : Bool) → a ≡ true → a ≡ false → ⊥
-    differ a h k = cc
 
 pub line_of_worded : (code : ℕ) (s : List ℕ) (w : Worded s) → IsLine code w.first (words_of w.rest) (code ∷ s)
 line_of_worded code s w = (w.rest, ap (λ v. code ∷ v) w.joins, w.word, w.laid)

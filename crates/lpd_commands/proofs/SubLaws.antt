@@ -1,19 +1,20 @@
 -- Subcommand lines and their layout.
 use Rattle.std.proofs.Common.{◌≡◌, ◌<◌, ◌⊎◌, inl, inr, ℕ, zero, suc, Bool, true, false, not, ◌||◌, ◌==◌, nat_lt, List, [], ◌∷◌, length, refl, ap, sym, ◌∙◌, subst, arith, Result, Ok, Err, MatchResult, if◌then◌else◌}
+use Rattle.std.proofs.lemmas.Bool.{both_ways, cases_Bool, lt-ltb, le-ltb, ltb-true, ltb-false, eqb-true, eq-eqb}
 use Rattle.std.specs.List.{list_all}
 use Rattle.std.proofs.lemmas.Bool.Decides.{nat_tests}
-use Rattle.lpd_commands.specs.Kinds.{is_space}
-use Rattle.lpd_commands.specs.Name.{is_control_name, is_data_name}
-use Rattle.lpd_commands.specs.Line.{sub_of, sub_at, file_of, file_with, is_worded, words_of, is_count, count_of}
+use Rattle.lpd_values.specs.Kinds.{is_space}
+use Rattle.lpd_values.specs.Name.{is_control_name, is_data_name}
+use Rattle.lpd_commands.specs.Line.{sub_of, sub_at, file_of, file_with, is_worded, words_of}
+use Rattle.lpd_values.specs.Digits.{is_count, count_of}
 use Rattle.lpd_commands.specs.Layout.{IsLine, IsShort, LacksCode, IsAbortLine, IsFileLine, IsBadCount, IsBadName, MeansSub, RefusesSub}
 use Rattle.lpd_commands.specs.Laws.{SubIsExact, SubIsDecided}
-use Rattle.lpd_commands.specs.declared.refusal.Refusal.{Refusal}
-use Rattle.lpd_commands.specs.declared.refusal.Refusal.TheVariants.{LineTooLong, BadCode, BadLine, BadCount, BadName}
+use Rattle.lpd_values.specs.declared.refusal.Refusal.{Refusal}
+use Rattle.lpd_values.specs.declared.refusal.Refusal.TheVariants.{LineTooLong, BadCode, BadLine, BadCount, BadName}
 use Rattle.lpd_commands.specs.declared.sub.Sub.{Sub}
 use Rattle.lpd_commands.specs.declared.sub.Sub.TheVariants.{Abort, ControlFile, DataFile}
-use Rattle.lpd_commands.proofs.PieceLemmas.{true_or_false}
 use Rattle.lpd_commands.proofs.LayoutLemmas.{line_words, worded, line_of_worded}
-use Rattle.lpd_commands.proofs.CommandLaws.{differ, long_true, short_false, lt_of, le_of, lacks_of, lacks_test, unworded, line_same}
+use Rattle.lpd_commands.proofs.CommandLaws.{lacks_of, lacks_test, unworded, line_same}
 
 -- the codes that a count and a name follow
 pub data FileCode : ℕ → Type 0 where
@@ -33,7 +34,7 @@ sub_by line code rest given lacks abort worded =
     else Err BadLine
 
 short_gives : (line : List ℕ) → IsShort line → sub_of line ≡ sub_at line
-short_gives line short = ap (λ v. if v then Err LineTooLong else sub_at line) (short_false 1023 (length line) short)
+short_gives line short = ap (λ v. if v then Err LineTooLong else sub_at line) (le-ltb 1023 (length line) short)
 
 pub file_line_gives : (code : ℕ) → FileCode code → (count name line : List ℕ) → IsShort line → IsLine code count (name ∷ []) line → sub_of line ≡ file_with code count name
 file_line_gives _ two count name line short h =
@@ -48,14 +49,8 @@ file_line_gives _ three count name line short h =
 pub not_zero : (n : ℕ) → 0 < n → (n == 0) ≡ false
 not_zero n h = grind (arith, nat_tests)
 
-zero_of : (n : ℕ) → (n == 0) ≡ true → n ≡ 0
-zero_of n h = grind (arith, nat_tests)
-
 some_of : (n : ℕ) → (n == 0) ≡ false → 0 < n
 some_of n h = grind (arith, nat_tests)
-
-is_zero : (n : ℕ) → n ≡ 0 → (n == 0) ≡ true
-is_zero n h = grind (arith, nat_tests)
 
 control_gives : (count name : List ℕ) → is_count count ≡ true → is_control_name name ≡ true → file_with 2 count name ≡ Ok (ControlFile (count_of count) name)
 control_gives count name h k =
@@ -104,9 +99,9 @@ Decision line = ((s : Sub) × (sub_of line ≡ Ok s) × MeansSub line s) ⊎ ((e
 control_decision : (count name line : List ℕ) → IsShort line → IsLine 2 count (name ∷ []) line → Decision line
 control_decision count name line short l =
     let given = file_line_gives 2 two count name line short l in
-    elim (true_or_false (is_count count)) [
+    elim (cases_Bool (is_count count)) [
       | inl h ↦
-          elim (true_or_false (is_control_name name)) [
+          elim (cases_Bool (is_control_name name)) [
             | inl k ↦ inl (ControlFile (count_of count) name, given ∙ control_gives count name h k, (short, count, l, h, refl, k))
             | inr k ↦ inr (BadName, given ∙ control_refuses count name h k, (short, 2, count, name, (inl refl, l), good count h, k))
           ]
@@ -114,18 +109,18 @@ control_decision count name line short l =
     ]
   where
     good : (count : List ℕ) → is_count count ≡ true → IsBadCount 2 count → ⊥
-    good count h (inl k) = differ _ h k
+    good count h (inl k) = both_ways _ k h
     good count h (inr k) = absurd (omega (arith, k.0))
 
 data_decision : (count name line : List ℕ) → IsShort line → IsLine 3 count (name ∷ []) line → Decision line
 data_decision count name line short l =
     let given = file_line_gives 3 three count name line short l in
-    elim (true_or_false (is_count count)) [
+    elim (cases_Bool (is_count count)) [
       | inl h ↦
-          elim (true_or_false (count_of count == 0)) [
-            | inl z ↦ inr (BadCount, given ∙ zero_count count name h z, (short, 3, count, name, (inr refl, l), inr (refl, zero_of _ z)))
+          elim (cases_Bool (count_of count == 0)) [
+            | inl z ↦ inr (BadCount, given ∙ zero_count count name h z, (short, 3, count, name, (inr refl, l), inr (refl, eqb-true _ 0 z)))
             | inr z ↦
-                elim (true_or_false (is_data_name name)) [
+                elim (cases_Bool (is_data_name name)) [
                   | inl k ↦ inl (DataFile (count_of count) name, given ∙ data_gives count name true h z k, (short, count, l, h, refl, some_of _ z, k))
                   | inr k ↦ inr (BadName, given ∙ data_gives count name false h z k, (short, 3, count, name, (inr refl, l), good count h z, k))
                 ]
@@ -134,8 +129,8 @@ data_decision count name line short l =
     ]
   where
     good : (count : List ℕ) → is_count count ≡ true → (count_of count == 0) ≡ false → IsBadCount 3 count → ⊥
-    good count h z (inl k) = differ _ h k
-    good count h z (inr k) = differ _ (is_zero _ k.1) z
+    good count h z (inl k) = both_ways _ k h
+    good count h z (inr k) = both_ways _ z (eq-eqb _ 0 k.1)
 
 same_rest : (a b : ℕ) (s t : List ℕ) → a ∷ s ≡ b ∷ t → (a ≡ b) × (s ≡ t)
 same_rest a b s t h = (cc, cc)
@@ -169,7 +164,7 @@ data Code : ℕ → Type 0 where
   file : (code : ℕ) → FileCode code → Code code
 
 code_of : (code : ℕ) → (code == 0 || nat_lt 3 code) ≡ false → Code code
-code_of zero h = absurd (differ _ refl h)
+code_of zero h = absurd (both_ways _ h refl)
 code_of (suc zero) h = abort
 code_of (suc (suc zero)) h = file 2 two
 code_of (suc (suc (suc zero))) h = file 3 three
@@ -181,13 +176,13 @@ file_at _ three rest = refl
 
 at_code : (code : ℕ) → Code code → (rest : List ℕ) → IsShort (code ∷ rest) → (LacksCode 3 (code ∷ rest) → ⊥) → Decision (code ∷ rest)
 at_code _ abort rest short has =
-    elim (true_or_false (list_all is_space rest)) [
+    elim (cases_Bool (list_all is_space rest)) [
       | inl h ↦ inl (Abort, short_gives (1 ∷ rest) short ∙ ap (λ v. if v then Ok Abort else Err BadLine) h, (short, (rest, refl, h)))
       | inr h ↦
           inr (
             BadLine,
             short_gives (1 ∷ rest) short ∙ ap (λ v. if v then Ok Abort else Err BadLine) h,
-            (short, has, λ a. differ _ (ap (list_all is_space) (same_rest 1 1 rest a.0 a.1).1 ∙ a.2) h, λ code count name f. not_file code rest count name f),
+            (short, has, λ a. both_ways _ h (ap (list_all is_space) (same_rest 1 1 rest a.0 a.1).1 ∙ a.2), λ code count name f. not_file code rest count name f),
           )
     ]
   where
@@ -197,7 +192,7 @@ at_code _ abort rest short has =
         elim f.0 [ inl k ↦ absurd (omega arith) | inr k ↦ absurd (omega arith) ]
 at_code _ (file code f) rest short has =
     let at : sub_of (code ∷ rest) ≡ (if is_worded rest then file_of code (words_of rest) else Err BadLine) = short_gives (code ∷ rest) short ∙ file_at code f rest in
-    elim (true_or_false (is_worded rest)) [
+    elim (cases_Bool (is_worded rest)) [
       | inl k ↦
           let w = worded rest k in
           by_words code f rest w.first (words_of w.rest) short has w.words (line_of_worded code rest w)
@@ -216,16 +211,16 @@ lacking code rest h = ap (λ v. sub_by (code ∷ rest) code rest (file_of code (
 short_decision : (line : List ℕ) → IsShort line → Decision line
 short_decision [] short = inr (BadCode, short_gives [] short, (short, tt))
 short_decision (code ∷ rest) short =
-    elim (true_or_false (code == 0 || nat_lt 3 code)) [
+    elim (cases_Bool (code == 0 || nat_lt 3 code)) [
       | inl h ↦ inr (BadCode, short_gives (code ∷ rest) short ∙ lacking code rest h, (short, lacks_of 3 code h))
-      | inr h ↦ at_code code (code_of code h) rest short (λ l. differ _ (lacks_test 3 code l) h)
+      | inr h ↦ at_code code (code_of code h) rest short (λ l. both_ways _ h (lacks_test 3 code l))
     ]
 
 pub decision : (line : List ℕ) → Decision line
 decision line =
-    elim (true_or_false (nat_lt 1023 (length line))) [
-      | inl h ↦ inr (LineTooLong, ap (λ v. if v then Err LineTooLong else sub_at line) h, lt_of 1023 (length line) h)
-      | inr h ↦ short_decision line (le_of 1023 (length line) h)
+    elim (cases_Bool (nat_lt 1023 (length line))) [
+      | inl h ↦ inr (LineTooLong, ap (λ v. if v then Err LineTooLong else sub_at line) h, ltb-true 1023 (length line) h)
+      | inr h ↦ short_decision line (ltb-false 1023 (length line) h)
     ]
 
 bad_line_only : (line : List ℕ) (e : Refusal) → RefusesSub line e → RefusesSub line BadLine → e ≡ BadLine
@@ -240,29 +235,29 @@ bad_count_gives : (code : ℕ) → FileCode code → (count name : List ℕ) →
 bad_count_gives code f count name (inl h) = no_count code f count name h
 bad_count_gives _ two count name (inr h) = absurd (omega (arith, h.0))
 bad_count_gives _ three count name (inr h) =
-    elim (true_or_false (is_count count)) [
-      | inl k ↦ zero_count count name k (is_zero _ h.1)
+    elim (cases_Bool (is_count count)) [
+      | inl k ↦ zero_count count name k (eq-eqb _ 0 h.1)
       | inr k ↦ no_count 3 three count name k
     ]
 
 bad_name_gives : (code : ℕ) → FileCode code → (count name : List ℕ) → (IsBadCount code count → ⊥) → IsBadName code name → file_with code count name ≡ Err BadName
 bad_name_gives _ two count name good h =
-    elim (true_or_false (is_count count)) [
+    elim (cases_Bool (is_count count)) [
       | inl k ↦ control_refuses count name k h
       | inr k ↦ absurd (good (inl k))
     ]
 bad_name_gives _ three count name good h =
-    elim (true_or_false (is_count count)) [
+    elim (cases_Bool (is_count count)) [
       | inl k ↦
-          elim (true_or_false (count_of count == 0)) [
-            | inl z ↦ absurd (good (inr (refl, zero_of _ z)))
+          elim (cases_Bool (count_of count == 0)) [
+            | inl z ↦ absurd (good (inr (refl, eqb-true _ 0 z)))
             | inr z ↦ data_gives count name false k z h
           ]
       | inr k ↦ absurd (good (inl k))
     ]
 
 pub refuses_err : (line : List ℕ) (e : Refusal) → RefusesSub line e → sub_of line ≡ Err e
-refuses_err line LineTooLong h = ap (λ v. if v then Err LineTooLong else sub_at line) (long_true 1023 (length line) h)
+refuses_err line LineTooLong h = ap (λ v. if v then Err LineTooLong else sub_at line) (lt-ltb 1023 (length line) h)
 refuses_err [] BadCode h = short_gives [] h.0
 refuses_err (code ∷ rest) BadCode h = short_gives (code ∷ rest) h.0 ∙ lacking code rest (lacks_test 3 code h.1)
 refuses_err line BadLine h =

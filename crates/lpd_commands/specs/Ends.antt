@@ -8,7 +8,9 @@ one_more n = min (n + 1) (2 ^ 64 - 1)
 -- a read of these octets: they are the next ones; though there is room, there are none only where nothing is left
 abbrev pub Reads : Option (List ℕ) → Option (List ℕ) → List ℕ → ℕ → Type 0
 Reads None rest got room = rest ≡ None
-Reads (Some old) rest got room = (old ≡ got ++ drop (length got) old) × (rest ≡ Some (drop (length got) old)) × (got ≡ [] → 0 < room → old ≡ [])
+Reads (Some old) rest got room =
+    (old ≡ got ++ drop (length got) old) × (rest ≡ Some (drop (length got) old))
+    × (got ≡ [] → 0 < room → old ≡ [])
 
 -- these octets were written
 abbrev pub Writes : Option (List ℕ) → Option (List ℕ) → List ℕ → Type 0

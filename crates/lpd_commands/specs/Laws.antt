@@ -1,6 +1,7 @@
 -- What holds of all lines.
-use Rattle.std.specs.Prelude.{◌≡◌, ◌↔◌, ◌⊎◌, ℕ, List, Ok, Err, IsTrue}
-use Rattle.lpd_commands.specs.declared.refusal.Refusal.{Refusal}
+use Rattle.std.specs.Prelude.{◌≡◌, ◌↔◌, ℕ, List, Ok, Err, IsTrue}
+use Rattle.lpd_values.specs.Decided.{IsDecided}
+use Rattle.lpd_values.specs.declared.refusal.Refusal.{Refusal}
 use Rattle.lpd_commands.specs.declared.command.Command.{Command}
 use Rattle.lpd_commands.specs.declared.sub.Sub.{Sub}
 use Rattle.lpd_commands.specs.Line.{command_of, sub_of}
@@ -19,12 +20,6 @@ SubIsExact line =
     × ((refusal : Refusal) → (sub_of line ≡ Err refusal) ↔ RefusesSub line refusal)
 
 -- a line has one meaning or one refusal, and not both
-pub record IsDecided {A : Type 0} (Means : A → Type 0) (Refuses : Refusal → Type 0) : Type 0 where
-  pub some : ((value : A) × Means value) ⊎ ((refusal : Refusal) × Refuses refusal)
-  pub one_meaning : (a b : A) → Means a → Means b → a ≡ b
-  pub one_refusal : (a b : Refusal) → Refuses a → Refuses b → a ≡ b
-  pub not_both : (value : A) (refusal : Refusal) → Means value → Refuses refusal → ⊥
-
 abbrev pub CommandIsDecided : List ℕ → Type 0
 CommandIsDecided line = IsDecided (MeansCommand line) (RefusesCommand line)
 
@@ -33,7 +28,8 @@ SubIsDecided line = IsDecided (MeansSub line) (RefusesSub line)
 
 -- what is written is read back
 abbrev pub CommandIsReadBack : Command → Type 0
-CommandIsReadBack command = IsTrue (command_has_line command) → command_of (command_line command) ≡ Ok command
+CommandIsReadBack command =
+    IsTrue (command_has_line command) → command_of (command_line command) ≡ Ok command
 
 abbrev pub SubIsReadBack : Sub → Type 0
 SubIsReadBack sub = IsTrue (sub_has_line sub) → sub_of (sub_line sub) ≡ Ok sub

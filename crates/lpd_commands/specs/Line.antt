@@ -1,11 +1,13 @@
 -- What a line means, as a function of its octets.
-use Rattle.std.specs.Prelude.{ℕ, Bool, true, false, List, [], ◌∷◌, ◌==◌, ◌||◌, ◌&&◌, nat_lt, nat_le, length, Result, Ok, Err, if◌then◌else◌, ◌+◌, ◌*◌, ◌-◌, fold, not}
+use Rattle.std.specs.Prelude.{ℕ, Bool, true, false, List, [], ◌∷◌, ◌==◌, ◌||◌, ◌&&◌, nat_lt, length, Result, Ok, Err, if◌then◌else◌, not}
 use Rattle.std.specs.List.{list_all}
-use Rattle.lpd_commands.specs.Kinds.{is_space, is_text_octet, is_digit}
-use Rattle.lpd_commands.specs.Pieces.{begins_piece, pieces_of}
-use Rattle.lpd_commands.specs.Name.{is_control_name, is_data_name}
-use Rattle.lpd_commands.specs.declared.refusal.Refusal.{Refusal}
-use Rattle.lpd_commands.specs.declared.refusal.Refusal.TheVariants.{LineTooLong, BadCode, BadLine, BadCount, BadName}
+use Rattle.lpd_values.specs.Kinds.{is_space, is_text_octet}
+use Rattle.lpd_values.specs.Pieces.{begins_piece, pieces_of}
+pub use Rattle.lpd_values.specs.Digits.{is_count, count_of}
+use Rattle.lpd_values.specs.Name.{is_control_name, is_data_name}
+use Rattle.lpd_values.specs.declared.limits.TheConstants.{MAX_LINE}
+use Rattle.lpd_values.specs.declared.refusal.Refusal.{Refusal}
+use Rattle.lpd_values.specs.declared.refusal.Refusal.TheVariants.{LineTooLong, BadCode, BadLine, BadCount, BadName}
 use Rattle.lpd_commands.specs.declared.command.Command.{Command}
 use Rattle.lpd_commands.specs.declared.command.Command.TheVariants.{PrintWaiting, Receive, State, Remove}
 use Rattle.lpd_commands.specs.declared.sub.Sub.{Sub}
@@ -47,19 +49,13 @@ command_at (code ∷ rest) =
 
 -- the command of a line (without its LF), or its first refusal
 abbrev pub command_of : List ℕ → Result Command Refusal
-command_of line = if nat_lt 1023 (length line) then Err LineTooLong else command_at line
-
--- 1 to 19 decimal digits
-abbrev pub is_count : List ℕ → Bool
-is_count digits = nat_le 1 (length digits) && nat_le (length digits) 19 && list_all is_digit digits
-
-abbrev pub count_of : List ℕ → ℕ
-count_of digits = fold (λ n d. 10 * n + (d - 48)) 0 digits
+command_of line = if nat_lt MAX_LINE (length line) then Err LineTooLong else command_at line
 
 abbrev pub file_with : ℕ → List ℕ → List ℕ → Result Sub Refusal
 file_with code count name =
     if not (is_count count) then Err BadCount
-    else if code == 2 then (if is_control_name name then Ok (ControlFile (count_of count) name) else Err BadName)
+    else if code == 2
+    then (if is_control_name name then Ok (ControlFile (count_of count) name) else Err BadName)
     else if count_of count == 0 then Err BadCount
     else if is_data_name name then Ok (DataFile (count_of count) name)
     else Err BadName
@@ -79,4 +75,4 @@ sub_at (code ∷ rest) =
 
 -- the subcommand of a line (without its LF), or its first refusal
 abbrev pub sub_of : List ℕ → Result Sub Refusal
-sub_of line = if nat_lt 1023 (length line) then Err LineTooLong else sub_at line
+sub_of line = if nat_lt MAX_LINE (length line) then Err LineTooLong else sub_at line

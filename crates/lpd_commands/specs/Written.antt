@@ -2,8 +2,9 @@
 use Rattle.std.specs.Prelude.{ℕ, Bool, true, ◌&&◌, nat_lt, nat_le, ◌^◌, List, [], ◌∷◌, ◌++◌, length, if◌then◌else◌}
 use Rattle.std.specs.List.{list_all}
 use Rattle.std.specs.Fmt.{decimal}
-use Rattle.lpd_commands.specs.Kinds.{is_word_octet}
-use Rattle.lpd_commands.specs.Name.{is_control_name, is_data_name}
+use Rattle.lpd_values.specs.Kinds.{is_word_octet}
+use Rattle.lpd_values.specs.Name.{is_control_name, is_data_name}
+use Rattle.lpd_values.specs.declared.limits.TheConstants.{MAX_LINE, MAX_COUNT_DIGITS}
 use Rattle.lpd_commands.specs.declared.command.Command.{Command}
 use Rattle.lpd_commands.specs.declared.command.Command.TheVariants.{PrintWaiting, Receive, State, Remove}
 use Rattle.lpd_commands.specs.declared.sub.Sub.{Sub}
@@ -37,10 +38,11 @@ has_words (Remove queue agent list) = is_word queue && list_all is_word (agent �
 
 -- whether a command has a line: its words are words, and the line isn't too long
 abbrev pub command_has_line : Command → Bool
-command_has_line command = has_words command && nat_le (length (command_line command)) 1023
+command_has_line command = has_words command && nat_le (length (command_line command)) MAX_LINE
 
--- whether a subcommand has a line: its count has at most 19 digits and isn't a data file's 0, and its name is of its kind
+-- whether a subcommand has a line: its count has at most MAX_COUNT_DIGITS digits and isn't a data file's 0, and its name is of its kind
 abbrev pub sub_has_line : Sub → Bool
 sub_has_line Abort = true
-sub_has_line (ControlFile count name) = nat_lt count (10 ^ 19) && is_control_name name
-sub_has_line (DataFile count name) = nat_lt 0 count && nat_lt count (10 ^ 19) && is_data_name name
+sub_has_line (ControlFile count name) = nat_lt count (10 ^ MAX_COUNT_DIGITS) && is_control_name name
+sub_has_line (DataFile count name) =
+    nat_lt 0 count && nat_lt count (10 ^ MAX_COUNT_DIGITS) && is_data_name name

@@ -2,12 +2,11 @@
 
 ghost use Rattle.std.specs.Prelude.{◌≡◌};
 ghost use Rattle.lpd_commands.specs.Line.{command_at, command_of, command_with, removal, words_of};
-ghost use Rattle.lpd_commands.specs.Given.{Gives};
+ghost use Rattle.lpd_values.specs.Given.{Gives};
 ghost use Rattle.lpd_commands.specs.Layout.{AnswersCommand};
 
-use crate::octets::{Octets, Words};
-use crate::refusal::Refusal;
-use crate::words::{MAX_LINE, is_worded, next_word, words_in};
+use crate::words::{is_worded, next_word, words_in};
+use lpd_values::{MAX_LINE, Octets, Refusal, Words};
 use std::alloc::Global;
 
 /// What a connection asks for first (RFC 1179, section 5).

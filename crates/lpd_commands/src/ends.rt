@@ -18,9 +18,11 @@ pub trait OctetRead {
     /// Reads some octets into the head of the buffer, and answers how many. For a buffer that isn't empty, 0 is the end.
     fn read(&mut self, into: &mut [u8]) -> Result<usize, OctetFault>
         ensures within { IfOk result (λ n. n ≤ length into.old) }
-        ensures octets { IfOk result (λ n. Reads (left self.old) (left self.new) (take n into.new) (length into.old)) }
+        ensures octets { IfOk result
+            (λ n. Reads (left self.old) (left self.new) (take n into.new) (length into.old)) }
         ensures ok { OnOk result (faults self.new ≡ faults self.old) }
-        ensures err { OnErr result ((left self.new ≡ left self.old) × (faults self.new ≡ one_more (faults self.old))) };
+        ensures err { OnErr result
+            ((left self.new ≡ left self.old) × (faults self.new ≡ one_more (faults self.old))) };
 }
 
 /// What octets are written to.
@@ -35,15 +37,22 @@ pub trait OctetWrite {
     fn write(&mut self, octets: &[u8]) -> Result<usize, OctetFault>
         ensures within { IfOk result (λ n. n ≤ length octets.now) }
         ensures some { IfOk result (λ n. 0 < length octets.now → 0 < n) }
-        ensures octets { IfOk result (λ n. Writes (written self.old) (written self.new) (take n octets.now)) }
+        ensures octets { IfOk result
+            (λ n. Writes (written self.old) (written self.new) (take n octets.now)) }
         ensures ok { OnOk result (faults self.new ≡ faults self.old) }
-        ensures err { OnErr result ((written self.new ≡ written self.old) × (faults self.new ≡ one_more (faults self.old))) };
+        ensures err { OnErr result
+            ((written self.new ≡ written self.old)
+            × (faults self.new ≡ one_more (faults self.old))) };
 }
 
 /// Writes all octets, or fails after some of them.
 pub fn write_all<W: OctetWrite>(writer: &mut W, octets: &[u8]) -> Result<(), OctetFault>
-    ensures ok { OnOk result (Writes (W.written writer.old) (W.written writer.new) octets.now × (W.faults writer.new ≡ W.faults writer.old)) }
-    ensures err { OnErr result (WritesSome (W.written writer.old) (W.written writer.new) octets.now × (W.faults writer.new ≡ one_more (W.faults writer.old))) }
+    ensures ok { OnOk result
+        (Writes (W.written writer.old) (W.written writer.new) octets.now
+        × (W.faults writer.new ≡ W.faults writer.old)) }
+    ensures err { OnErr result
+        (WritesSome (W.written writer.old) (W.written writer.new) octets.now
+        × (W.faults writer.new ≡ one_more (W.faults writer.old))) }
 {
     let mut done = 0;
     while done < octets.len() {

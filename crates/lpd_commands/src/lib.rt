@@ -1,15 +1,10 @@
-//! The lines of the line printer daemon protocol (RFC 1179): command lines, subcommand lines, the names of files, and
-//! the refusals that a peer can be given.
+//! The lines of the line printer daemon protocol (RFC 1179): command lines and subcommand lines, read and written, and
+//! what a session reads octets from and writes them to.
 #![tactic(auto)]
 
 mod command;
 mod ends;
-mod kinds;
 mod laws;
-mod name;
-mod octets;
-mod reference;
-mod refusal;
 mod sub;
 mod words;
 mod write;
@@ -20,9 +15,6 @@ pub use laws::{
     command_is_decided, command_is_exact, command_is_read_back, sub_is_decided, sub_is_exact,
     sub_is_read_back,
 };
-pub use name::FileName;
-pub use octets::{Octets, Words};
-pub use reference::{Between, plain_command, plain_pieces, plain_sub};
-pub use refusal::Refusal;
+pub use lpd_values::{FileName, Octets, Refusal, Words};
 pub use sub::{Sub, parse_sub};
 pub use write::{write_command, write_sub};

@@ -1,14 +1,13 @@
 //! Subcommand lines.
 
 ghost use Rattle.std.specs.Prelude.{◌≡◌, ◌⊎◌, [], ◌∷◌, MatchOption, MatchResult, true, false, if◌then◌else◌};
-ghost use Rattle.lpd_commands.specs.Name.{is_control_name, is_data_name};
+ghost use Rattle.lpd_values.specs.Name.{is_control_name, is_data_name};
 ghost use Rattle.lpd_commands.specs.Layout.{MeansSub, RefusesSub};
-ghost use Rattle.lpd_commands.specs.Line.{is_count, count_of, words_of, file_of, file_with, sub_at, sub_of};
+ghost use Rattle.lpd_values.specs.Digits.{is_count, count_of};
+ghost use Rattle.lpd_commands.specs.Line.{words_of, file_of, file_with, sub_at, sub_of};
 
-use crate::kinds::{all_spaces, is_digit};
-use crate::name::FileName;
-use crate::refusal::Refusal;
-use crate::words::{MAX_LINE, is_worded, next_word};
+use crate::words::{is_worded, next_word};
+use lpd_values::{FileName, MAX_COUNT_DIGITS, MAX_LINE, Refusal, all_spaces, is_digit};
 
 /// What a connection that receives jobs asks for (RFC 1179, section 6).
 #[derive(Clone, Copy, Debug)]
@@ -23,9 +22,10 @@ pub enum Sub {
 
 /// The number that 1 to 19 decimal digits are.
 fn read_count(digits: &[u8]) -> Option<u64>
-    ensures { MatchOption result (is_count digits.now ≡ false) (λ n. (is_count digits.now ≡ true) × (n ≡ count_of digits.now)) }
+    ensures { MatchOption result (is_count digits.now ≡ false)
+        (λ n. (is_count digits.now ≡ true) × (n ≡ count_of digits.now)) }
 {
-    if digits.is_empty() || digits.len() > 19 {
+    if digits.is_empty() || digits.len() > MAX_COUNT_DIGITS {
         return None;
     }
     let mut count = 0;
@@ -39,7 +39,9 @@ fn read_count(digits: &[u8]) -> Option<u64>
 }
 
 fn control_file(count: u64, name: &[u8]) -> Result<Sub, Refusal>
-    ensures { result ≡ (if is_control_name name.now then Ok (Sub.ControlFile count name.now) else Err Refusal.BadName) }
+    ensures { result
+        ≡ (if is_control_name name.now
+        then Ok (Sub.ControlFile count name.now) else Err Refusal.BadName) }
 {
     let name = FileName::read(name)?;
     if !name.is_control() {
@@ -49,7 +51,9 @@ fn control_file(count: u64, name: &[u8]) -> Result<Sub, Refusal>
 }
 
 fn data_file(count: u64, name: &[u8]) -> Result<Sub, Refusal>
-    ensures { result ≡ (if is_data_name name.now then Ok (Sub.DataFile count name.now) else Err Refusal.BadName) }
+    ensures { result
+        ≡ (if is_data_name name.now
+        then Ok (Sub.DataFile count name.now) else Err Refusal.BadName) }
 {
     let name = FileName::read(name)?;
     if name.is_control() {
@@ -59,7 +63,7 @@ fn data_file(count: u64, name: &[u8]) -> Result<Sub, Refusal>
 }
 
 /// The file subcommand of this code, 2 or 3, and these words.
-pub(crate) fn parse_named(code: u8, count: &[u8], name: &[u8]) -> Result<Sub, Refusal>
+fn parse_named(code: u8, count: &[u8], name: &[u8]) -> Result<Sub, Refusal>
     requires { (code ≡ 2) ⊎ (code ≡ 3) }
     ensures { result ≡ file_with code count.now name.now }
 {

@@ -2,16 +2,12 @@
 
 ghost use Rattle.std.specs.Prelude.{◌≡◌, ◌<◌, ◌≤◌, ◌⊎◌, [], ◌∷◌, true, IfOk, MatchOption, length};
 ghost use Rattle.std.specs.List.{prefix_len};
-ghost use Rattle.lpd_commands.specs.Kinds.{is_space};
-ghost use Rattle.lpd_commands.specs.Pieces.{is_kept};
+ghost use Rattle.lpd_values.specs.Kinds.{is_space};
+ghost use Rattle.lpd_values.specs.Pieces.{is_kept};
 ghost use Rattle.lpd_commands.specs.Line.{begins_word, is_worded, words_of};
 
-use crate::kinds::{all_text, is_space};
-use crate::octets::{Octets, Words};
+use lpd_values::{Octets, Words, all_text, is_space};
 use std::alloc::{AllocError, Global};
-
-/// The octets that a line may have without its LF.
-pub(crate) const MAX_LINE: usize = 1023;
 
 fn space_len(text: &[u8]) -> usize
     ensures value { result ≡ prefix_len is_space text.now }
@@ -57,7 +53,9 @@ pub(crate) fn is_worded(text: &[u8]) -> bool
 
 /// The first word of a text and what follows it, or none where there is no word.
 pub(crate) fn next_word(text: &[u8]) -> Option<(&[u8], &[u8])>
-    ensures { MatchOption result (words_of text.now ≡ []) (λ p. (words_of text.now ≡ p.0.now ∷ words_of p.1.now) × (length p.1.now < length text.now)) }
+    ensures { MatchOption result (words_of text.now ≡ [])
+        (λ p. (words_of text.now ≡ p.0.now ∷ words_of p.1.now)
+        × (length p.1.now < length text.now)) }
 {
     let text = skip_space(text);
     if text.is_empty() {

@@ -5,9 +5,8 @@ ghost use Rattle.std.specs.Fmt.{decimal};
 ghost use Rattle.lpd_commands.specs.Written.{command_line, spaced, sub_line};
 
 use crate::command::Command;
-use crate::name::FileName;
-use crate::octets::{Octets, Words};
 use crate::sub::Sub;
+use lpd_values::{FileName, Octets, Words};
 use std::alloc::{AllocError, Global};
 
 /// Puts a space and the word at the end of the line.
@@ -75,7 +74,8 @@ fn put_file(
     count: u64,
     name: &FileName,
 ) -> Result<(), AllocError>
-    ensures { OnOk result (line.new.items ≡ line.old.items ++ code ∷ (decimal count ++ spaced (name.now ∷ []))) }
+    ensures { OnOk result
+        (line.new.items ≡ line.old.items ++ code ∷ (decimal count ++ spaced (name.now ∷ []))) }
 {
     let count = count.to_string(alloc)?;
     line.push(code)?;

@@ -5,7 +5,7 @@ ghost use Rattle.page_chain.specs.Changes.{CanBegin, RefusedFor, begun, with_pag
 use crate::error::ChainError;
 use crate::run::{Run, find};
 use crate::slots::{place_named, pour};
-use lpd_commands::FileName;
+use lpd_values::FileName;
 use page_pool::{FilledPage, Pool};
 use std::alloc::{AllocError, Global};
 use std::marker::Model;

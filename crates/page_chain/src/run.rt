@@ -1,7 +1,7 @@
 ghost use Rattle.std.specs.Prelude.{◌≡◌, ◌<◌, ◌^◌, IfSome, IfNone, sum_by};
 ghost use Rattle.page_chain.specs.Runs.{IsFirstNamed, HasNoneNamed, total};
 
-use lpd_commands::FileName;
+use lpd_values::FileName;
 
 /// A file: its name, and how many of the pages that aren't placed yet, after those of the files
 /// before it, are its own.

@@ -4,7 +4,7 @@ ghost use Rattle.page_chain.specs.Runs.{total, files_of, AllThere};
 ghost use Rattle.page_chain.specs.Changes.{pages_named, without, pages_placed, unnamed};
 
 use crate::run::{Run, find, pages_of};
-use lpd_commands::FileName;
+use lpd_values::FileName;
 use page_pool::{FilledPage, Pool};
 
 /// Puts a page, if there is one, back into the pool.

@@ -24,7 +24,8 @@ impl Model for Pool {
 
     ghost Value = { Pages };
 
-    ghost view = { λ p. record { page_size = p.page_size; pages = p.pages; free = vec_len p.tickets } };
+    ghost view = { λ p.
+        record { page_size = p.page_size; pages = p.pages; free = vec_len p.tickets } };
 
     ghost invariant = { λ p. (vec_len p.tickets ≤ p.pages)
         × HoldsPages p.tickets.items p.page_size p.pages (vec_capacity p.tickets) };
@@ -60,7 +61,8 @@ impl Pool {
     ///
     /// BadSize where either is 0 or over 65,536, and Memory where memory for the pages is refused.
     pub fn new(alloc: Global, pages: usize, page_size: usize) -> Result<Pool, PoolError>
-        ensures made { IfOk result (λ p. p ≡ record { page_size = page_size; pages = pages; free = pages }) }
+        ensures made { IfOk result
+            (λ p. p ≡ record { page_size = page_size; pages = pages; free = pages }) }
         ensures sizes { IfOk result (λ _. IsSize pages × IsSize page_size) }
         ensures bad_size { (result ≡ Err PoolError.BadSize) ↔ ¬ (IsSize pages × IsSize page_size) }
         ensures memory { result ≡ Err PoolError.Memory → IsSize pages × IsSize page_size }
@@ -76,7 +78,8 @@ impl Pool {
 
     fn filled(alloc: Global, pages: usize, page_size: usize) -> Result<Pool, AllocError>
         requires { IsSize page_size }
-        ensures { IfOk result (λ p. p ≡ record { page_size = page_size; pages = pages; free = pages }) }
+        ensures { IfOk result
+            (λ p. p ≡ record { page_size = page_size; pages = pages; free = pages }) }
     {
         let mut pool = Pool {
             tickets: Vec::with_capacity(alloc, pages)?,
@@ -93,7 +96,8 @@ impl Pool {
     /// Lends an empty page; None exactly where no page is free.
     pub fn take(&mut self) -> Option<PageTicket>
         ensures none { IfNone result ((self.old.free ≡ 0) × (self.new ≡ self.old)) }
-        ensures page { IfSome result (λ t. t ≡ record { octets = []; page_size = self.old.page_size }) }
+        ensures page { IfSome result
+            (λ t. t ≡ record { octets = []; page_size = self.old.page_size }) }
         ensures left { IfSome result (λ _. (0 < self.old.free)
             × (self.new ≡ record self.old { free = self.old.free - 1 })) }
     {
@@ -106,10 +110,7 @@ impl Pool {
         requires room { self.old.free < self.old.pages }
         ensures { self.new ≡ record self.old { free = self.old.free + 1 } }
     {
-        match self.tickets.push(ticket.wiped()) {
-            Ok(()) => {}
-            Err(failed) => failed.value.surrender(),
-        }
+        self.tickets.push_reserved(ticket.wiped());
     }
 
     /// How many pages are lent to nobody.

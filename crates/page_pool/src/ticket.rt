@@ -37,8 +37,10 @@ impl PageTicket {
 
     /// Appends as many of the octets as fit, and answers how many that are.
     pub fn push(&mut self, octets: &[u8]) -> usize
-        ensures count { result ≡ min (length octets.now) (self.old.page_size - length self.old.octets) }
-        ensures pushed { self.new ≡ record self.old { octets = self.old.octets ++ take result octets.now } }
+        ensures count { result
+            ≡ min (length octets.now) (self.old.page_size - length self.old.octets) }
+        ensures pushed { self.new
+            ≡ record self.old { octets = self.old.octets ++ take result octets.now } }
     {
         let room = self.page_size - self.len();
         let fitting = octets.len().min(room);

@@ -1,4 +1,6 @@
+-- Whole blocks are read as the laws say.
 use Rattle.std.proofs.Common.{◌≡◌, ℕ, zero, suc, Bool, true, false, not, inr, Ok, ◌==◌, ◌||◌, nat_lt, get_or, ◌-◌, ◌<◌, ◌≤◌, List, [], ◌∷◌, ◌++◌, length, min, Some, None, refl, sym, ap, ◌∙◌, subst, arith, inl, append_assoc, add-zero}
+use Rattle.lpd_values.specs.declared.limits.TheConstants.{MAX_LINE, MAX_CONTROL_TEXT}
 use Rattle.std.specs.List.{concat, prefix_len}
 use Rattle.std.proofs.lemmas.Bool.{le-leb, le-ltb, lt-ltb, eq-eqb, ne_eqb}
 use Rattle.std.proofs.Math.Seq.{take-append_seam, drop-append_seam, drop-append-add}
@@ -6,7 +8,8 @@ use Rattle.std.proofs.lemmas.List.{length-append, get_or-append-add}
 use Rattle.std.proofs.lemmas.List.Folds.{prefix_len-append}
 use Rattle.lpd_commands.specs.Line.{command_of}
 use Rattle.lpd_commands.specs.declared.sub.Sub.TheVariants as sub
-use Rattle.control_file.specs.Text.{Contents, control_of}
+use Rattle.lpd_values.specs.Contents.{Contents}
+use Rattle.control_file.specs.Text.{control_of}
 use Rattle.receiver.specs.Script.{AskPage, Filled, EndFile, Control, Ack, Output, Wrote, Asked, Reply, Yes, Ticket, Item, Acks, PageOctets, ControlText, data_file, opening, block, first_block, after_line}
 use Rattle.receiver.specs.Reading.{Progress, Due, Waits, Requests, due, due_at, at_line, at_page, at_text, after_text, is_inner, start}
 use Rattle.receiver.specs.Reads.{GoesOn, Reads}
@@ -62,7 +65,7 @@ due_line : (next : List ℕ → List ℕ → Due) (line r : List ℕ) → IsLine
 due_line next line r h =
     let n : prefix_len is_inner (line ++ 10 ∷ r) ≡ length line = prefix_len-append is_inner line (10 ∷ r) ∙ rw (eq-eqb _ _ h.0) (add-zero (length line)) in
     let k = length-append line (10 ∷ r) in
-    rw (n, le-ltb 1023 (length line) h.1, lt-ltb (length line) (length (line ++ 10 ∷ r)) (omega arith), take-append_seam line (10 ∷ r), drop-append-add line (10 ∷ r) 1) refl
+    rw (n, le-ltb MAX_LINE (length line) h.1, lt-ltb (length line) (length (line ++ 10 ∷ r)) (omega arith), take-append_seam line (10 ∷ r), drop-append-add line (10 ∷ r) 1) refl
 
 -- what is due where a line is whole
 due_whole : (queue : List ℕ) (job : Bool) (line r : List ℕ) → IsLine line → due (between queue job) (line ++ 10 ∷ r) ≡ due_at (λ _. Waits) (after_line (Some queue) job line) r
@@ -98,10 +101,10 @@ control_end short queue false name text contents rest a os e g =
     go short _ _ (at queue true (ControlText name (length text) ∷ Acks ∷ [])) (text ++ 0 ∷ rest) _ _ (text_whole name (Acks ∷ []) text rest ∙ ap (λ r. after_text r (Acks ∷ []) rest) e) (refl, inl (refl, g))
 
 -- a control file's length that is taken
-taken_len : (n : ℕ) → 1 ≤ n → n ≤ 8192 → (n == 0 || nat_lt 8192 n) ≡ false
-taken_len n h k = rw (ne_eqb n 0 (λ e. omega arith), le-ltb 8192 n k) refl
+taken_len : (n : ℕ) → 1 ≤ n → n ≤ MAX_CONTROL_TEXT → (n == 0 || nat_lt MAX_CONTROL_TEXT n) ≡ false
+taken_len n h k = rw (ne_eqb n 0 (λ e. omega arith), le-ltb MAX_CONTROL_TEXT n k) refl
 
-control_items : (job : Bool) (queue name : List ℕ) (n : ℕ) → 1 ≤ n → n ≤ 8192 → block job queue (Ok (sub.ControlFile n name)) ≡ opening job queue ++ Acks ∷ ControlText name n ∷ Acks ∷ []
+control_items : (job : Bool) (queue name : List ℕ) (n : ℕ) → 1 ≤ n → n ≤ MAX_CONTROL_TEXT → block job queue (Ok (sub.ControlFile n name)) ≡ opening job queue ++ Acks ∷ ControlText name n ∷ Acks ∷ []
 control_items job queue name n h k = rw (taken_len n h k) refl
 
 pub control_block_read : ReadsControlBlock

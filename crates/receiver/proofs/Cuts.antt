@@ -1,4 +1,6 @@
+-- What is due, where a text comes in pieces.
 use Rattle.std.proofs.Common.{◌≡◌, ℕ, ◌+◌, ◌≤◌, ◌<◌, List, [], ◌∷◌, ◌++◌, length, take, drop, refl, sym, ap, ◌∙◌, arith, ◌==◌, slice_index_or}
+use Rattle.lpd_values.specs.declared.limits.TheConstants.{MAX_LINE}
 use Rattle.std.proofs.Common.{if◌then◌else◌}
 use Rattle.std.specs.List.{prefix_len}
 use Rattle.std.proofs.lemmas.Bool.{le-leb, le-ltb, lt-ltb, lt-leb, eq-eqb}
@@ -6,7 +8,7 @@ use Rattle.std.proofs.Math.Seq.{take-append-add, drop-append-add}
 use Rattle.std.proofs.lemmas.List.{length-append, take-take, take_all}
 use Rattle.std.proofs.lemmas.List.{get_or-append-add}
 use Rattle.std.proofs.lemmas.List.Folds.{prefix_len-append}
-use Rattle.lpd_commands.specs.declared.refusal.Refusal.TheVariants.{LineTooLong, NoZero}
+use Rattle.lpd_values.specs.declared.refusal.Refusal.TheVariants.{LineTooLong, NoZero}
 use Rattle.control_file.specs.Text.{control_of}
 use Rattle.receiver.specs.Script.{Filled, Fault, Item, Over}
 use Rattle.receiver.specs.Reading.{Due, Waits, Writes, Requests, at_page, at_text, after_text, at_line, is_inner}
@@ -44,16 +46,16 @@ inner_more tail input n h e f = inner tail input h ∙ (ap (λ k. length tail + 
 
 pub line_too_long : (next : List ℕ → List ℕ → Due) (tail input : List ℕ) (room : ℕ) → prefix_len is_inner tail ≡ length tail → length tail + room ≡ 1024 → room ≤ prefix_len is_inner input → at_line next (tail ++ input) ≡ Writes (Fault LineTooLong) (Over ∷ []) (drop room input)
 line_too_long next tail input room h e l =
-    rw (inner tail input h, lt-ltb 1023 (length tail + prefix_len is_inner input) (omega arith), ← e, drop-append-add tail input room) refl
+    rw (inner tail input h, lt-ltb MAX_LINE (length tail + prefix_len is_inner input) (omega arith), ← e, drop-append-add tail input room) refl
 
-pub line_waits : (next : List ℕ → List ℕ → Due) (tail input : List ℕ) → prefix_len is_inner tail ≡ length tail → prefix_len is_inner input ≡ length input → length tail + length input ≤ 1023 → at_line next (tail ++ input) ≡ Waits
+pub line_waits : (next : List ℕ → List ℕ → Due) (tail input : List ℕ) → prefix_len is_inner tail ≡ length tail → prefix_len is_inner input ≡ length input → length tail + length input ≤ MAX_LINE → at_line next (tail ++ input) ≡ Waits
 line_waits next tail input h e l =
-    rw (inner tail input h, length-append tail input, e, le-ltb 1023 (length tail + length input) l, le-ltb (length tail + length input) (length tail + length input) (omega arith)) refl
+    rw (inner tail input h, length-append tail input, e, le-ltb MAX_LINE (length tail + length input) l, le-ltb (length tail + length input) (length tail + length input) (omega arith)) refl
 
-pub line_done : (next : List ℕ → List ℕ → Due) (tail input : List ℕ) (n : ℕ) → prefix_len is_inner tail ≡ length tail → n ≡ prefix_len is_inner input → n < length input → length tail + n ≤ 1023 → at_line next (tail ++ input) ≡ next (tail ++ take n input) (drop (n + 1) input)
+pub line_done : (next : List ℕ → List ℕ → Due) (tail input : List ℕ) (n : ℕ) → prefix_len is_inner tail ≡ length tail → n ≡ prefix_len is_inner input → n < length input → length tail + n ≤ MAX_LINE → at_line next (tail ++ input) ≡ next (tail ++ take n input) (drop (n + 1) input)
 line_done next tail input n h e k l =
     let s : length tail + n + 1 ≡ length tail + (n + 1) = omega arith in
-    rw (inner tail input h, length-append tail input, ← e, le-ltb 1023 (length tail + n) l, lt-ltb (length tail + n) (length tail + length input) (omega arith), take-append-add tail input n, s, drop-append-add tail input (n + 1)) refl
+    rw (inner tail input h, length-append tail input, ← e, le-ltb MAX_LINE (length tail + n) l, lt-ltb (length tail + n) (length tail + length input) (omega arith), take-append-add tail input n, s, drop-append-add tail input (n + 1)) refl
 
 -- what was pushed of a front of the input is that front
 pub pushed_front : (line new : List ℕ) (r n : ℕ) (input : List ℕ) → new ≡ line ++ take r (take n input) → r ≡ n → new ≡ line ++ take n input

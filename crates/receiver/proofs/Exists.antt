@@ -1,10 +1,13 @@
+-- Each text and each list of answers has a reading.
 use Rattle.std.proofs.Common.{◌≡◌, ◌⊎◌, ℕ, zero, suc, Bool, true, false, ◌+◌, ◌≤◌, ◌<◌, List, [], ◌∷◌, length, take, drop, Option, Result, Ok, Err, refl, arith, inl, inr, cond, nat_le, nat_lt, ◌==◌, get_or}
+use Rattle.lpd_values.specs.declared.limits.TheConstants.{MAX_LINE}
 use Rattle.std.specs.List.{prefix_len}
 use Rattle.std.proofs.lemmas.Bool.{ltb-true}
 use Rattle.std.proofs.lemmas.List.{length-drop}
-use Rattle.lpd_commands.specs.declared.refusal.Refusal.{Refusal}
-use Rattle.lpd_commands.specs.declared.refusal.Refusal.TheVariants.{NoZero, LineTooLong}
-use Rattle.control_file.specs.Text.{Contents, control_of}
+use Rattle.lpd_values.specs.declared.refusal.Refusal.{Refusal}
+use Rattle.lpd_values.specs.declared.refusal.Refusal.TheVariants.{NoZero, LineTooLong}
+use Rattle.lpd_values.specs.Contents.{Contents}
+use Rattle.control_file.specs.Text.{control_of}
 use Rattle.receiver.specs.Script.{Filled, Written, Fault, Output, Wrote, Asked, Reply, Item, Asks, Acks, Refuses, FileOctets, PageOctets, ZeroOctet, ControlText, Over, after_line}
 use Rattle.receiver.specs.Reading.{Progress, Due, Waits, Ends, Writes, Requests, due, due_at, at_line, after_text, is_inner, answered, kind_of}
 use Rattle.receiver.specs.Reads.{Reads}
@@ -68,7 +71,7 @@ falls_line queue job m l t h =
     let n = prefix_len is_inner t in
     let rest = drop (n + 1) t in
     let next = λ (line rest : List ℕ). due_at (λ _. Waits) (after_line queue job line) rest in
-    falls_cond (nat_lt 1023 n) m l (Writes (Fault LineTooLong) (Over ∷ []) (drop 1024 t)) (cond (nat_lt n (length t)) (next (take n t) rest) Waits)
+    falls_cond (nat_lt MAX_LINE n) m l (Writes (Fault LineTooLong) (Over ∷ []) (drop 1024 t)) (cond (nat_lt n (length t)) (next (take n t) rest) Waits)
     (λ e. (dropped 1024 l t h, inr (inr refl)))
     (λ e. falls_cond (nat_lt n (length t)) m l (next (take n t) rest) Waits
     (λ f.

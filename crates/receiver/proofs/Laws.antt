@@ -1,12 +1,15 @@
+-- Readings of a text and of more of it.
 use Rattle.std.proofs.Common.{◌≡◌, ℕ, zero, suc, Bool, true, false, ◌+◌, ◌≤◌, ◌<◌, List, [], ◌∷◌, ◌++◌, length, take, drop, Some, None, Result, Ok, Err, refl, sym, ap, ◌∙◌, subst, arith, inl, inr, ◌==◌, append_assoc, append-nil, cond, nat_le, nat_lt, nat_eq, get_or}
+use Rattle.lpd_values.specs.declared.limits.TheConstants.{MAX_LINE}
 use Rattle.std.specs.List.{prefix_len}
 use Rattle.std.proofs.lemmas.Bool.{le-leb, lt-ltb, leb-true, ltb-true, eqb-true}
 use Rattle.std.proofs.lemmas.List.{take-append-le, drop-append-le, length-append, get_or_append_left, drop_all}
 use Rattle.std.proofs.lemmas.List.Folds.{prefix_len-append}
 use Rattle.std.proofs.lemmas.List.Sums.{prefix_len-le-length}
-use Rattle.lpd_commands.specs.declared.refusal.Refusal.{Refusal}
-use Rattle.lpd_commands.specs.declared.refusal.Refusal.TheVariants.{NoZero, Memory}
-use Rattle.control_file.specs.Text.{Contents, control_of}
+use Rattle.lpd_values.specs.declared.refusal.Refusal.{Refusal}
+use Rattle.lpd_values.specs.declared.refusal.Refusal.TheVariants.{NoZero, Memory}
+use Rattle.lpd_values.specs.Contents.{Contents}
+use Rattle.control_file.specs.Text.{control_of}
 use Rattle.receiver.specs.Script.{Fault, Output, Wrote, Asked, Reply, Yes, Ticket, Later, Stored, Received, Refused, Item, Asks, Acks, Refuses, FileOctets, PageOctets, ZeroOctet, ControlText, Over, after_line}
 use Rattle.receiver.specs.Reading.{Progress, Kind, Admission, Opening, Lending, Ending, Aborting, Plain, Due, Waits, Ends, Writes, Requests, due, due_at, at_line, at_page, at_text, after_text, is_inner, answered, answered_owed, after_reply, IsFitting}
 use Rattle.receiver.specs.Reads.{Rests, GoesOn, Reads, ReadsFrom, ReadsOwed, TakesMemory}
@@ -102,10 +105,10 @@ at_line_stable next s t u h =
     let k = length-append t u in
     let q = prefix_len-le-length is_inner t in
     let g = longer t u in
-    by_test (nat_lt 1023 (prefix_len is_inner t)) _
+    by_test (nat_lt MAX_LINE (prefix_len is_inner t)) _
     (λ e.
-    let l : 1023 < prefix_len is_inner t = ltb-true 1023 (prefix_len is_inner t) e in
-    rw (e, lt-ltb 1023 (prefix_len is_inner (t ++ u)) (omega arith), drop-append-le 1024 t u (omega arith)) refl)
+    let l : MAX_LINE < prefix_len is_inner t = ltb-true MAX_LINE (prefix_len is_inner t) e in
+    rw (e, lt-ltb MAX_LINE (prefix_len is_inner (t ++ u)) (omega arith), drop-append-le 1024 t u (omega arith)) refl)
     (λ e.
     let h2 = rw e at h in
     let f = came (nat_lt (prefix_len is_inner t) (length t)) _ h2 in

@@ -1,3 +1,4 @@
+-- One call after another.
 use Rattle.std.proofs.Common.{◌≡◌, ℕ, true, false, List, [], ◌∷◌, ◌++◌, Some, None, IsSome, refl, append_assoc, append-nil}
 use Rattle.receiver.specs.Reading.{Progress}
 use Rattle.receiver.specs.Reads.{ReadsFrom, ReadsOwed}

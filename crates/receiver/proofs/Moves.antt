@@ -1,11 +1,13 @@
+-- One move of the machine.
 use Rattle.std.proofs.Common.{◌≡◌, ◌⊎◌, inr, Result, Ok, Err, IsOk, slice_index, ℕ, ◌+◌, ◌≤◌, ◌<◌, List, [], ◌∷◌, ◌++◌, length, take, Some, None, refl, sym, ap, ◌∙◌, arith, inl, slice_index_or, Vec, if◌then◌else◌, vec_capacity, false, ◌≢◌, drop, ◌==◌, true}
+use Rattle.lpd_values.specs.declared.limits.TheConstants.{MAX_LINE}
 use Rattle.std.proofs.lemmas.Bool.{ne_eqb}
 use Rattle.std.proofs.lemmas.List.{take_all, length-append}
-use Rattle.lpd_commands.specs.declared.refusal.Refusal.{Refusal}
-use Rattle.lpd_commands.specs.declared.refusal.Refusal.TheVariants.{LineTooLong, NoZero, Memory}
+use Rattle.lpd_values.specs.declared.refusal.Refusal.{Refusal}
+use Rattle.lpd_values.specs.declared.refusal.Refusal.TheVariants.{LineTooLong, NoZero, Memory}
 use Rattle.lpd_commands.specs.declared.command.Command.{Command}
 use Rattle.lpd_commands.specs.declared.command.Command.TheVariants as command
-use Rattle.control_file.specs.Text.{Contents}
+use Rattle.lpd_values.specs.Contents.{Contents}
 use Rattle.page_pool.specs.Page.{Page}
 use Rattle.control_file.specs.Text.{control_of}
 use Rattle.control_file.specs.View.{contents}
@@ -46,12 +48,12 @@ pub line_over : (old : Machine) (room : ℕ) (input : List ℕ) → old.phase �
 line_over old room input p h e l w =
     rw (p, line_too_long _ old.line.items input room h e l) (inl (refl, w, refl, refl))
 
-pub line_more : (old : Machine) (line : Vec ℕ Global) (n : ℕ) (input : List ℕ) → old.phase ≡ phase.Line → prefix_len is_inner old.line.items ≡ length old.line.items → n ≡ prefix_len is_inner input → n ≡ length input → length old.line.items + n ≤ 1023 → line.items ≡ old.line.items ++ input →
+pub line_more : (old : Machine) (line : Vec ℕ Global) (n : ℕ) (input : List ℕ) → old.phase ≡ phase.Line → prefix_len is_inner old.line.items ≡ length old.line.items → n ≡ prefix_len is_inner input → n ≡ length input → length old.line.items + n ≤ MAX_LINE → line.items ≡ old.line.items ++ input →
     StepsAt (state_of old) input n need.More (state_of (record old { line = line })) (due (state_of old) ((state_of old).tail ++ input))
 line_more old line n input p h e f l i =
     rw (p, line_waits _ old.line.items input h (sym e ∙ f) (omega arith)) (inl (refl, f, ap (λ x. record { queue = if old.admitted then Some old.queue else None; job = old.job; items = []; owed = owed_of old.queue old.owed; tail = x }) i))
 
-pub line_ends : (old : Machine) (line : Vec ℕ Global) (n : ℕ) (input : List ℕ) (want : Need) (new : Machine) → old.phase ≡ phase.Line → prefix_len is_inner old.line.items ≡ length old.line.items → n ≡ prefix_len is_inner input → n < length input → length old.line.items + n ≤ 1023 → line.items ≡ old.line.items ++ take n input →
+pub line_ends : (old : Machine) (line : Vec ℕ Global) (n : ℕ) (input : List ℕ) (want : Need) (new : Machine) → old.phase ≡ phase.Line → prefix_len is_inner old.line.items ≡ length old.line.items → n ≡ prefix_len is_inner input → n < length input → length old.line.items + n ≤ MAX_LINE → line.items ≡ old.line.items ++ take n input →
     EndsLine (state_of (record old { line = line })) (after_line (state_of old).queue old.job line.items) want (state_of new) →
     StepsAt (state_of old) input (n + 1) want (state_of new) (due (state_of old) ((state_of old).tail ++ input))
 line_ends old line n input want new p h e k l i s =
@@ -65,7 +67,7 @@ page_lacks old piece left ticket s p t =
     let e : ticket ≡ h.page = cc (h.held) in
     (rw e h.lacks, rw e h.fits)
 
-pub line_sound : (old : Machine) (line : Vec ℕ Global) (n : ℕ) (input : List ℕ) → IsSound old → old.phase ≡ phase.Line → 1024 ≤ vec_capacity line → line.items ≡ old.line.items ++ input → n ≡ prefix_len is_inner input → n ≡ length input → length old.line.items + n ≤ 1023 → IsSound (record old { line = line })
+pub line_sound : (old : Machine) (line : Vec ℕ Global) (n : ℕ) (input : List ℕ) → IsSound old → old.phase ≡ phase.Line → 1024 ≤ vec_capacity line → line.items ≡ old.line.items ++ input → n ≡ prefix_len is_inner input → n ≡ length input → length old.line.items + n ≤ MAX_LINE → IsSound (record old { line = line })
 line_sound old line n input s p room i e f l =
     let h = rw p at s.phase in
     let k : length (old.line.items ++ input) ≡ length old.line.items + length input = length-append old.line.items input in

@@ -1,3 +1,4 @@
+-- What outputs write and ask.
 use Rattle.std.proofs.Common.{◌≡◌, List, [], ◌∷◌, ◌++◌, refl, ap}
 use Rattle.receiver.specs.Script.{Output, Wrote, Asked, octet, octets_written, requests_of}
 

@@ -1,5 +1,6 @@
+-- Readings that want of memory cut short.
 use Rattle.std.proofs.Common.{◌≡◌, ◌⊎◌, ℕ, true, false, List, [], ◌∷◌, ◌++◌, refl, ap, inl, inr}
-use Rattle.lpd_commands.specs.declared.refusal.Refusal.TheVariants.{Memory}
+use Rattle.lpd_values.specs.declared.refusal.Refusal.TheVariants.{Memory}
 use Rattle.receiver.specs.Script.{Fault, Output, Wrote, Reply}
 use Rattle.receiver.specs.Reading.{Progress, Due, Waits, Ends, Writes, Requests, due, answered, kind_of}
 use Rattle.receiver.specs.Reads.{GoesOn, Reads}

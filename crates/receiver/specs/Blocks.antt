@@ -1,18 +1,20 @@
 -- How whole blocks are read.
 use Rattle.std.specs.Prelude.{◌≡◌, ℕ, suc, Bool, true, false, List, [], ◌∷◌, ◌++◌, ◌<◌, ◌≤◌, ◌↔◌, length, not, ◌⊎◌, Option, Some, None, Ok, if◌then◌else◌}
+use Rattle.lpd_values.specs.declared.limits.TheConstants.{MAX_LINE, MAX_CONTROL_TEXT}
 use Rattle.std.specs.List.{concat, prefix_len}
 use Rattle.lpd_commands.specs.Line.{command_of, sub_of}
-use Rattle.lpd_commands.specs.declared.refusal.Refusal.TheVariants.{Memory}
+use Rattle.lpd_values.specs.declared.refusal.Refusal.TheVariants.{Memory}
 use Rattle.lpd_commands.specs.declared.command.Command.TheVariants as command
 use Rattle.lpd_commands.specs.declared.sub.Sub.TheVariants as sub
-use Rattle.control_file.specs.Text.{Contents, control_of}
+use Rattle.lpd_values.specs.Contents.{Contents}
+use Rattle.control_file.specs.Text.{control_of}
 use Rattle.receiver.specs.Script.{Queue, Open, BeginFile, AskPage, Filled, EndFile, Control, AbortJob, Ack, Fault, Output, Wrote, Asked, Reply, Yes, Ticket, Later, Stored, Received, Item, FileOctets}
 use Rattle.receiver.specs.Reading.{Progress, is_inner, start}
 use Rattle.receiver.specs.Reads.{Reads}
 
--- at most 1,023 octets, none of them LF
+-- at most MAX_LINE octets, none of them LF
 abbrev pub IsLine : List ℕ → Type 0
-IsLine line = (prefix_len is_inner line ≡ length line) × (length line ≤ 1023)
+IsLine line = (prefix_len is_inner line ≡ length line) × (length line ≤ MAX_LINE)
 
 -- what is cut in pages of z octets: all but the last are full, and the last has an octet
 abbrev pub AreCut : ℕ → List (List ℕ) → Type 0
@@ -34,7 +36,8 @@ opened_told job = if job then [] else Yes ∷ []
 -- for each piece, a page is asked for and handed out
 abbrev pub asked_for : ℕ → List (List ℕ) → List Output
 asked_for z [] = []
-asked_for z (p ∷ ps) = Asked AskPage ∷ Asked (Filled (record { octets = p; page_size = z })) ∷ asked_for z ps
+asked_for z (p ∷ ps) =
+    Asked AskPage ∷ Asked (Filled (record { octets = p; page_size = z })) ∷ asked_for z ps
 
 abbrev pub told_for : ℕ → List (List ℕ) → List Reply
 told_for z [] = []
@@ -68,7 +71,8 @@ ReadsDataBlock =
     IsLine line → AreCut z ps → sub_of line ≡ Ok (sub.DataFile (length (concat ps)) name) →
     Reads short os (between queue (not whole)) rest a →
     Reads short
-    (opened job queue ++ Asked (BeginFile name (length (concat ps))) ∷ Wrote Ack ∷ (asked_for z ps ++ Asked EndFile ∷ Wrote Ack ∷ os))
+    (opened job queue ++ Asked (BeginFile name (length (concat ps))) ∷ Wrote Ack
+    ∷ (asked_for z ps ++ Asked EndFile ∷ Wrote Ack ∷ os))
     (between queue job)
     (line ++ 10 ∷ (concat ps ++ 0 ∷ rest))
     (opened_told job ++ Yes ∷ (told_for z ps ++ ended whole ∷ a))
@@ -79,10 +83,11 @@ abbrev pub ReadsControlBlock : Type 0
 ReadsControlBlock =
     (queue : List ℕ) (job whole : Bool) (line name text : List ℕ) (contents : Contents) →
     (short : Bool) (rest : List ℕ) (a : List Reply) (os : List Output) →
-    IsLine line → 1 ≤ length text → length text ≤ 8192 →
+    IsLine line → 1 ≤ length text → length text ≤ MAX_CONTROL_TEXT →
     sub_of line ≡ Ok (sub.ControlFile (length text) name) → control_of name text ≡ Ok contents →
     Reads short os (between queue (not whole)) rest a →
-    Reads short (opened job queue ++ Wrote Ack ∷ Asked (Control contents) ∷ Wrote Ack ∷ os) (between queue job)
+    Reads short (opened job queue ++ Wrote Ack ∷ Asked (Control contents) ∷ Wrote Ack ∷ os)
+    (between queue job)
     (line ++ 10 ∷ (text ++ 0 ∷ rest)) (opened_told job ++ ended whole ∷ a)
 
 -- An abort: the job in hand is aborted, where there is one, and the line acknowledged.
@@ -92,17 +97,21 @@ ReadsAbortBlock =
     (short : Bool) (rest : List ℕ) (a : List Reply) (os : List Output) →
     IsLine line → sub_of line ≡ Ok sub.Abort →
     Reads short os (between queue false) rest a →
-    Reads short (aborted job ++ Wrote Ack ∷ os) (between queue job) (line ++ 10 ∷ rest) (aborted_told job ++ a)
+    Reads short (aborted job ++ Wrote Ack ∷ os) (between queue job) (line ++ 10 ∷ rest)
+    (aborted_told job ++ a)
 
 -- in a file that lacks octets
 abbrev pub in_file : Option (List ℕ) → Bool → ℕ → List Item → Progress
-in_file queue job n items = record { queue = queue; job = job; items = FileOctets (suc n) ∷ items; owed = None; tail = [] }
+in_file queue job n items =
+    record { queue = queue; job = job; items = FileOctets (suc n) ∷ items; owed = None; tail = [] }
 
 -- Later is no answer: the same page is asked for again, and all goes on as if it had not been.
 abbrev pub LaterAgain : Type 0
 LaterAgain =
-    (short : Bool) (queue : Option (List ℕ)) (job : Bool) (n b : ℕ) (items : List Item) (t : List ℕ) (a : List Reply) (os : List Output) →
-    Reads short (Asked AskPage ∷ os) (in_file queue job n items) (b ∷ t) (Later ∷ a) ↔ Reads short os (in_file queue job n items) (b ∷ t) a
+    (short : Bool) (queue : Option (List ℕ)) (job : Bool) (n b : ℕ) (items : List Item) (t : List ℕ)
+    (a : List Reply) (os : List Output) →
+    Reads short (Asked AskPage ∷ os) (in_file queue job n items) (b ∷ t) (Later ∷ a)
+    ↔ Reads short os (in_file queue job n items) (b ∷ t) a
 
 -- where memory is ample, a text and answers have one reading
 abbrev pub OneReading : Type 0
@@ -112,7 +121,8 @@ OneReading =
 
 -- a text and answers have a reading
 abbrev pub SomeReading : Type 0
-SomeReading = (s : Progress) (t : List ℕ) (a : List Reply) → (os : List Output) × Reads false os s t a
+SomeReading =
+    (s : Progress) (t : List ℕ) (a : List Reply) → (os : List Output) × Reads false os s t a
 
 -- Want of memory only cuts a reading short: outputs are the reading where memory is ample, or a beginning of it and then
 -- the refusal Memory.
@@ -120,4 +130,5 @@ abbrev pub ShortReading : Type 0
 ShortReading =
     (os : List Output) (s : Progress) (t : List ℕ) (a : List Reply) → Reads true os s t a →
     Reads false os s t a
-    ⊎ ((front : List Output) × (rest : List Output) × (os ≡ front ++ Wrote (Fault Memory) ∷ []) × Reads false (front ++ rest) s t a)
+    ⊎ ((front : List Output) × (rest : List Output) × (os ≡ front ++ Wrote (Fault Memory) ∷ [])
+    × Reads false (front ++ rest) s t a)

@@ -9,7 +9,8 @@ use Rattle.receiver.specs.Reads.{ReadsFrom}
 abbrev pub Leads : List Output → List ℕ → List Reply → Progress → List ℕ → Type 0
 Leads outputs text answers s rest =
     (t : List ℕ) (a : List Reply) (os : List Output) →
-    ReadsFrom true os s (rest ++ t) a → ReadsFrom true (outputs ++ os) start (text ++ t) (answers ++ a)
+    ReadsFrom true os s (rest ++ t) a →
+    ReadsFrom true (outputs ++ os) start (text ++ t) (answers ++ a)
 
 -- a call of advance gave these outputs: what comes after it is the rest of what comes from before it
 abbrev pub Advances : Progress → List ℕ → List Output → Progress → List ℕ → Type 0
@@ -19,7 +20,9 @@ Advances old input outputs new rest =
 
 -- a call of reply gave this answer
 abbrev pub Replies : Progress → Reply → Progress → Type 0
-Replies old x new = (t : List ℕ) (a : List Reply) (os : List Output) → ReadsFrom true os new t a → ReadsFrom true os old t (x ∷ a)
+Replies old x new =
+    (t : List ℕ) (a : List Reply) (os : List Output) → ReadsFrom true os new t a →
+    ReadsFrom true os old t (x ∷ a)
 
 -- at first nothing has come
 abbrev pub LeadsAtStart : Type 0
@@ -34,17 +37,22 @@ LeadsOnArrival =
 -- one more call of advance
 abbrev pub LeadsOnAdvance : Type 0
 LeadsOnAdvance =
-    (os more : List Output) (text : List ℕ) (a : List Reply) (old new : Progress) (input rest : List ℕ) →
-    Advances old input more new rest → Leads os text a old input → Leads (os ++ more) text a new rest
+    (os more : List Output) (text : List ℕ) (a : List Reply) (old new : Progress)
+    (input rest : List ℕ) →
+    Advances old input more new rest → Leads os text a old input →
+    Leads (os ++ more) text a new rest
 
 -- one more answer
 abbrev pub LeadsOnReply : Type 0
 LeadsOnReply =
-    (os : List Output) (text : List ℕ) (a : List Reply) (old new : Progress) (rest : List ℕ) (x : Reply) →
+    (os : List Output) (text : List ℕ) (a : List Reply) (old new : Progress) (rest : List ℕ)
+    (x : Reply) →
     Replies old x new → Leads os text a old rest → Leads os text (a ++ x ∷ []) new rest
 
 -- where nothing more is due, the outputs are a reading of all that arrived and was answered
 abbrev pub LeadsToReading : Type 0
 LeadsToReading =
-    (os : List Output) (text : List ℕ) (a : List Reply) (s : Progress) (rest t : List ℕ) (b : List Reply) →
-    Leads os text a s rest → ReadsFrom true [] s (rest ++ t) b → ReadsFrom true os start (text ++ t) (a ++ b)
+    (os : List Output) (text : List ℕ) (a : List Reply) (s : Progress) (rest t : List ℕ)
+    (b : List Reply) →
+    Leads os text a s rest → ReadsFrom true [] s (rest ++ t) b →
+    ReadsFrom true os start (text ++ t) (a ++ b)

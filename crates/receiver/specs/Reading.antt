@@ -1,9 +1,11 @@
 -- The session reading: what a text and answers decide, on whole texts.
 use Rattle.std.specs.Prelude.{◌≡◌, ℕ, zero, suc, Bool, true, false, List, [], ◌∷◌, ◌==◌, nat_lt, nat_le, min, ◌+◌, ◌-◌, Option, Some, None, Result, Ok, Err, if◌then◌else◌, not, length, take, drop, slice_index}
+use Rattle.lpd_values.specs.declared.limits.TheConstants.{MAX_LINE}
 use Rattle.std.specs.List.{prefix_len}
-use Rattle.lpd_commands.specs.declared.refusal.Refusal.{Refusal}
-use Rattle.lpd_commands.specs.declared.refusal.Refusal.TheVariants.{LineTooLong, NoZero}
-use Rattle.control_file.specs.Text.{Contents, control_of}
+use Rattle.lpd_values.specs.declared.refusal.Refusal.{Refusal}
+use Rattle.lpd_values.specs.declared.refusal.Refusal.TheVariants.{LineTooLong, NoZero}
+use Rattle.lpd_values.specs.Contents.{Contents}
+use Rattle.control_file.specs.Text.{control_of}
 use Rattle.receiver.specs.Script.{Request, Queue, Open, BeginFile, AskPage, Filled, EndFile, Control, AbortJob, StartPrinters, QueueState, RemoveJobs, Written, Ack, Fault, Reply, Yes, Ticket, Later, Stored, Received, Refused, Item, Asks, Acks, Refuses, FileOctets, PageOctets, ZeroOctet, ControlText, Over, after_line}
 
 -- what kind of request waits for its answer
@@ -56,8 +58,10 @@ is_inner b = not (b == 10)
 -- a line is the text up to its first LF; next says what is due after it
 abbrev pub at_line : (List ℕ → List ℕ → Due) → List ℕ → Due
 at_line next t =
-    if nat_lt 1023 (prefix_len is_inner t) then Writes (Fault LineTooLong) (Over ∷ []) (drop 1024 t)
-    else if nat_lt (prefix_len is_inner t) (length t) then next (take (prefix_len is_inner t) t) (drop (prefix_len is_inner t + 1) t)
+    if nat_lt MAX_LINE (prefix_len is_inner t)
+    then Writes (Fault LineTooLong) (Over ∷ []) (drop (MAX_LINE + 1) t)
+    else if nat_lt (prefix_len is_inner t) (length t)
+    then next (take (prefix_len is_inner t) t) (drop (prefix_len is_inner t + 1) t)
     else Waits
 
 -- what a control text that is whole leads to
@@ -68,12 +72,16 @@ after_text (Err refusal) items t = Writes (Fault refusal) (Over ∷ []) t
 abbrev pub at_text : List ℕ → ℕ → List Item → List ℕ → Due
 at_text name n items t =
     if nat_lt n (length t)
-    then (if slice_index t n == 0 then after_text (control_of name (take n t)) items (drop (n + 1) t) else Writes (Fault NoZero) (Over ∷ []) (drop (n + 1) t))
+    then (if slice_index t n == 0
+    then after_text (control_of name (take n t)) items (drop (n + 1) t)
+    else Writes (Fault NoZero) (Over ∷ []) (drop (n + 1) t))
     else Waits
 
 abbrev pub at_page : ℕ → ℕ → List Item → List ℕ → Due
 at_page n size items t =
-    if nat_le n (length t) then Requests (Filled (record { octets = take n t; page_size = size })) items (drop n t) else Waits
+    if nat_le n (length t)
+    then Requests (Filled (record { octets = take n t; page_size = size })) items (drop n t)
+    else Waits
 
 -- what is due at these items; where they are done, what next says
 abbrev pub due_at : (List ℕ → Due) → List Item → List ℕ → Due
@@ -83,20 +91,27 @@ due_at next (Acks ∷ items) t = Writes Ack items t
 due_at next (Refuses n ∷ items) t = Writes (Fault n) (Over ∷ []) t
 due_at next (FileOctets zero ∷ items) t = due_at next items t
 due_at next (FileOctets (suc n) ∷ items) [] = Waits
-due_at next (FileOctets (suc n) ∷ items) (b ∷ t) = Requests AskPage (FileOctets (suc n) ∷ items) (b ∷ t)
+due_at next (FileOctets (suc n) ∷ items) (b ∷ t) =
+    Requests AskPage (FileOctets (suc n) ∷ items) (b ∷ t)
 due_at next (PageOctets n size ∷ items) t = at_page n size items t
 due_at next (ZeroOctet ∷ items) [] = Waits
-due_at next (ZeroOctet ∷ items) (b ∷ t) = if b == 0 then due_at next items t else Writes (Fault NoZero) (Over ∷ []) t
+due_at next (ZeroOctet ∷ items) (b ∷ t) =
+    if b == 0 then due_at next items t else Writes (Fault NoZero) (Over ∷ []) t
 due_at next (ControlText name n ∷ items) t = at_text name n items t
 due_at next (Over ∷ items) t = Ends
 
--- what is due; what follows a line begins with something that is due at once
+-- What is due; what follows a line begins with something that is due at once. Whether this is the protocol is to be seen
+-- from whole blocks: the laws data_block, control_block and abort_block (`Blocks.antt`) say, from a block's first octet to
+-- its last acknowledgement, what is read of a data file, of a control file and of an abort.
 abbrev pub due : Progress → List ℕ → Due
-due s t = due_at (at_line (λ line rest. due_at (λ _. Waits) (after_line s.queue s.job line) rest)) s.items t
+due s t =
+    due_at (at_line (λ line rest. due_at (λ _. Waits) (after_line s.queue s.job line) rest))
+    s.items t
 
 -- a ticket takes the next piece of the contents
 abbrev pub with_ticket : ℕ → List Item → List Item
-with_ticket size (FileOctets n ∷ items) = PageOctets (min size n) size ∷ FileOctets (n - min size n) ∷ items
+with_ticket size (FileOctets n ∷ items) =
+    PageOctets (min size n) size ∷ FileOctets (n - min size n) ∷ items
 with_ticket size items = items
 
 abbrev pub with_yes : Kind → Progress → Progress

@@ -1,6 +1,6 @@
 -- Which outputs a text and answers decide.
 use Rattle.std.specs.Prelude.{◌≡◌, ℕ, Bool, true, false, List, [], ◌∷◌, ◌++◌, Option, Some, None, ◌⊎◌}
-use Rattle.lpd_commands.specs.declared.refusal.Refusal.TheVariants.{Memory}
+use Rattle.lpd_values.specs.declared.refusal.Refusal.TheVariants.{Memory}
 use Rattle.receiver.specs.Script.{Request, Queue, Open, Control, StartPrinters, QueueState, RemoveJobs, Fault, Output, Wrote, Asked, Reply}
 use Rattle.receiver.specs.Reading.{Kind, kind_of, Progress, Due, Waits, Ends, Writes, Requests, due, answered}
 
@@ -28,12 +28,16 @@ Rests (Writes w items t) = ⊥
 Rests (Requests r items t) = ⊥
 
 -- o is what is due, and the outputs after it go on as next says
-abbrev pub GoesOn : (Progress → List ℕ → List Reply → Type 0) → Type 0 → Progress → Output → List Reply → Due → Type 0
+abbrev pub GoesOn :
+    (Progress → List ℕ → List Reply → Type 0) → Type 0 → Progress → Output → List Reply → Due →
+    Type 0
 GoesOn next last s o a Waits = ⊥
 GoesOn next last s o a Ends = ⊥
-GoesOn next last s o a (Writes w items t) = (o ≡ Wrote w) × next (record s { items = items; tail = [] }) t a
+GoesOn next last s o a (Writes w items t) =
+    (o ≡ Wrote w) × next (record s { items = items; tail = [] }) t a
 GoesOn next last s o [] (Requests r items t) = (o ≡ Asked r) × last
-GoesOn next last s o (x ∷ a) (Requests r items t) = (o ≡ Asked r) × next (answered (kind_of r) x (record s { items = items; tail = [] })) t a
+GoesOn next last s o (x ∷ a) (Requests r items t) =
+    (o ≡ Asked r) × next (answered (kind_of r) x (record s { items = items; tail = [] })) t a
 
 -- From s, the text t and the answers a decide these outputs and no others. Where memory is short,
 -- the refusal Memory may stand in place of a request that takes memory.

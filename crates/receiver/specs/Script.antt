@@ -1,14 +1,15 @@
 -- What follows each line of a session (RFC 1179, sections 5 and 6).
 use Rattle.std.specs.Prelude.{ℕ, Bool, List, [], ◌∷◌, ◌++◌, ◌==◌, ◌||◌, nat_lt, Result, Ok, Err, Option, Some, None, if◌then◌else◌}
+use Rattle.lpd_values.specs.declared.limits.TheConstants.{MAX_CONTROL_TEXT}
 use Rattle.lpd_commands.specs.Line.{command_of, sub_of}
-use Rattle.lpd_commands.specs.Refusals.{octet_of}
-use Rattle.lpd_commands.specs.declared.refusal.Refusal.{Refusal}
-use Rattle.lpd_commands.specs.declared.refusal.Refusal.TheVariants.{BadLength}
+use Rattle.lpd_values.specs.Refusals.{octet_of}
+use Rattle.lpd_values.specs.declared.refusal.Refusal.{Refusal}
+use Rattle.lpd_values.specs.declared.refusal.Refusal.TheVariants.{BadLength}
 use Rattle.lpd_commands.specs.declared.command.Command.{Command}
 use Rattle.lpd_commands.specs.declared.command.Command.TheVariants as command
 use Rattle.lpd_commands.specs.declared.sub.Sub.{Sub}
 use Rattle.lpd_commands.specs.declared.sub.Sub.TheVariants as sub
-use Rattle.control_file.specs.Text.{Contents}
+use Rattle.lpd_values.specs.Contents.{Contents}
 use Rattle.page_pool.specs.Page.{Page}
 
 -- what a session asks of the spool, and is answered
@@ -102,9 +103,10 @@ data_file count = FileOctets count ∷ ZeroOctet ∷ Asks EndFile ∷ Acks ∷ [
 abbrev pub block : Bool → List ℕ → Result Sub Refusal → List Item
 block job queue (Ok sub.Abort) = (if job then Asks AbortJob ∷ [] else []) ++ Acks ∷ []
 block job queue (Ok (sub.ControlFile count name)) =
-    if count == 0 || nat_lt 8192 count then Refuses BadLength ∷ []
+    if count == 0 || nat_lt MAX_CONTROL_TEXT count then Refuses BadLength ∷ []
     else opening job queue ++ Acks ∷ ControlText name count ∷ Acks ∷ []
-block job queue (Ok (sub.DataFile count name)) = opening job queue ++ Asks (BeginFile name count) ∷ Acks ∷ data_file count
+block job queue (Ok (sub.DataFile count name)) =
+    opening job queue ++ Asks (BeginFile name count) ∷ Acks ∷ data_file count
 block job queue (Err refusal) = Refuses refusal ∷ []
 
 -- what follows the first line; every command but that to receive jobs is answered once and ends the session

@@ -1,7 +1,8 @@
 -- How a machine's fields stand for how far a session was read.
-use Rattle.std.specs.Prelude.{◌≡◌, ℕ, List, [], ◌∷◌, ◌≤◌, ◌<◌, Option, Some, None, length, if◌then◌else◌, vec_capacity}
+use Rattle.std.specs.Prelude.{◌≡◌, ℕ, List, [], ◌∷◌, ◌≤◌, ◌<◌, Option, Some, None, length, if◌then◌else◌, vec_capacity, ◌+◌}
+use Rattle.lpd_values.specs.declared.limits.TheConstants.{MAX_LINE, MAX_CONTROL_TEXT}
 use Rattle.std.specs.List.{prefix_len}
-use Rattle.lpd_commands.specs.declared.refusal.Refusal.TheVariants.{Memory}
+use Rattle.lpd_values.specs.declared.refusal.Refusal.TheVariants.{Memory}
 use Rattle.page_pool.specs.Page.{Page}
 use Rattle.receiver.specs.Script.{BeginFile, Item, Asks, Acks, Refuses, PageOctets, ControlText, Over, data_file}
 use Rattle.receiver.specs.Reading.{Progress, Kind, Admission, Opening, Lending, Ending, Aborting, Plain, is_inner}
@@ -69,9 +70,12 @@ pub record HoldsPage (ticket : Option Page) (piece : ℕ) : Type 0 where
 
 -- what is kept in a phase
 abbrev pub PhaseHolds : List ℕ → List ℕ → Option Page → Phase → Type 0
-PhaseHolds line text ticket phase.Line = (prefix_len is_inner line ≡ length line) × (length line ≤ 1023) × (ticket ≡ None)
-PhaseHolds line text ticket (phase.AckControl name count) = (count ≤ 8192) × (ticket ≡ None)
-PhaseHolds line text ticket (phase.Text name count) = (count ≤ 8192) × (length text ≤ count) × (ticket ≡ None)
+PhaseHolds line text ticket phase.Line =
+    (prefix_len is_inner line ≡ length line) × (length line ≤ MAX_LINE) × (ticket ≡ None)
+PhaseHolds line text ticket (phase.AckControl name count) =
+    (count ≤ MAX_CONTROL_TEXT) × (ticket ≡ None)
+PhaseHolds line text ticket (phase.Text name count) =
+    (count ≤ MAX_CONTROL_TEXT) × (length text ≤ count) × (ticket ≡ None)
 PhaseHolds line text ticket (phase.Page piece left) = HoldsPage ticket piece
 PhaseHolds line text ticket _ = ticket ≡ None
 
@@ -92,21 +96,23 @@ OwedHolds phase owed.Lending = IsContents phase
 OwedHolds phase _ = IsBetween phase
 
 pub record IsSound (m : Machine) : Type 0 where
-  pub line_room : 1024 ≤ vec_capacity m.line
-  pub text_room : 8192 ≤ vec_capacity m.text
+  pub line_room : MAX_LINE + 1 ≤ vec_capacity m.line
+  pub text_room : MAX_CONTROL_TEXT ≤ vec_capacity m.text
   pub phase : PhaseHolds m.line.items m.text.items m.ticket m.phase
   pub owing : OwedHolds m.phase m.owed
 
 -- a line has ended
 pub record IsAtLineEnd (m : Machine) : Type 0 where
-  pub line_room : 1024 ≤ vec_capacity m.line
-  pub text_room : 8192 ≤ vec_capacity m.text
+  pub line_room : MAX_LINE + 1 ≤ vec_capacity m.line
+  pub text_room : MAX_CONTROL_TEXT ≤ vec_capacity m.text
   pub ticket : m.ticket ≡ None
   pub nothing : m.owed ≡ owed.Nothing
   pub phase : m.phase ≡ phase.Line
 
 -- a job is asked for, and the block goes on in this phase, or memory was refused
 abbrev pub OpensOrNot : Machine → Phase → Need → Machine → Type 0
-OpensOrNot old next (need.Open queue) new = (queue ≡ old.queue) × (new ≡ record old { phase = next; owed = owed.Opening })
-OpensOrNot old next (need.Fault refusal) new = (refusal ≡ Memory) × (new ≡ record old { phase = phase.Over })
+OpensOrNot old next (need.Open queue) new =
+    (queue ≡ old.queue) × (new ≡ record old { phase = next; owed = owed.Opening })
+OpensOrNot old next (need.Fault refusal) new =
+    (refusal ≡ Memory) × (new ≡ record old { phase = phase.Over })
 OpensOrNot old next _ new = ⊥

@@ -1,6 +1,6 @@
 -- What a receiver's needs and answers mean, and what one call does.
 use Rattle.std.specs.Prelude.{◌≡◌, ℕ, Bool, true, false, List, [], ◌∷◌, ◌++◌, ◌≤◌, Option, Some, None, length, drop, ◌⊎◌}
-use Rattle.lpd_commands.specs.declared.refusal.Refusal.TheVariants.{Memory}
+use Rattle.lpd_values.specs.declared.refusal.Refusal.TheVariants.{Memory}
 use Rattle.control_file.specs.View.{contents}
 use Rattle.page_pool.specs.Page.{Page}
 use Rattle.receiver.specs.Script.{Queue, Open, BeginFile, AskPage, Filled, EndFile, Control, AbortJob, StartPrinters, QueueState, RemoveJobs, Ack, Fault, Output, Wrote, Asked, Reply, Yes, Ticket, Later, Stored, Received, Refused, Item, PageOctets, Over}
@@ -44,15 +44,19 @@ IsEmptyTicket _ = Unit {0}
 
 -- Where this is due, n octets of the input are consumed for this need, and new is left.
 abbrev pub Gives : Progress → List ℕ → ℕ → Need → Progress → Due → Type 0
-Gives old input n want new Waits = (want ≡ need.More) × (n ≡ length input) × (new ≡ record old { tail = old.tail ++ input })
+Gives old input n want new Waits =
+    (want ≡ need.More) × (n ≡ length input) × (new ≡ record old { tail = old.tail ++ input })
 Gives old input n want new Ends = (want ≡ need.Ended) × (n ≡ 0) × (new ≡ old)
 Gives old input n want new (Writes w items rest) =
-    (outputs want ≡ Wrote w ∷ []) × (n ≤ length input) × (drop n input ≡ rest) × (new ≡ record old { items = items; tail = [] })
+    (outputs want ≡ Wrote w ∷ []) × (n ≤ length input) × (drop n input ≡ rest)
+    × (new ≡ record old { items = items; tail = [] })
 Gives old input n want new (Requests r items rest) =
-    (outputs want ≡ Asked r ∷ []) × (n ≤ length input) × (drop n input ≡ rest) × (new ≡ record old { items = items; owed = Some (kind_of r); tail = [] })
+    (outputs want ≡ Asked r ∷ []) × (n ≤ length input) × (drop n input ≡ rest)
+    × (new ≡ record old { items = items; owed = Some (kind_of r); tail = [] })
 
 -- memory was refused for a line or a control text that has ended
-pub record RunsOut (old : Progress) (input : List ℕ) (n : ℕ) (want : Need) (new : Progress) (due : Due) : Type 0 where
+pub record RunsOut (old : Progress) (input : List ℕ) (n : ℕ) (want : Need) (new : Progress)
+    (due : Due) : Type 0 where
   pub memory : want ≡ need.Fault Memory
   pub come : TakesMemory due
   pub within : n ≤ length input
@@ -69,7 +73,8 @@ Steps old input n want new = StepsAt old input n want new (due old (old.tail ++ 
 -- A line that has ended, which these items follow, leads to this need and this state, whatever input it ended in.
 abbrev pub EndsLine : Progress → List Item → Need → Progress → Type 0
 EndsLine old items want new =
-    (tail input : List ℕ) (n : ℕ) → n ≤ length input → StepsAt (record old { tail = tail }) input n want new (due_at (λ _. Waits) items (drop n input))
+    (tail input : List ℕ) (n : ℕ) → n ≤ length input →
+    StepsAt (record old { tail = tail }) input n want new (due_at (λ _. Waits) items (drop n input))
 
 -- the kind of request that a need is
 abbrev pub asked : Need → Option Kind

@@ -9,15 +9,13 @@ ghost use Rattle.receiver.specs.Sound.{state_of, IsSound, IsAtLineEnd, OpensOrNo
 
 use crate::need::{Answer, Need};
 use control_file::Control;
-use lpd_commands::{Command, FileName, Octets, Refusal, Sub, parse_command, parse_sub};
+use lpd_commands::{Command, Sub, parse_command, parse_sub};
+use lpd_values::{FileName, MAX_CONTROL_TEXT, MAX_LINE, Octets, Refusal};
 use page_pool::PageTicket;
 use std::alloc::{AllocError, Global};
 
 /// This many octets without LF are too long a line.
-const LINE_LIMIT: usize = 1024;
-
-/// The most octets of a control text.
-const MAX_TEXT: usize = 8192;
+const LINE_LIMIT: usize = MAX_LINE + 1;
 
 /// Where the machine is in a block.
 ///
@@ -121,7 +119,7 @@ impl Machine {
             job: false,
             queue: Octets::from_vec(Vec::new(alloc)),
             line: Vec::with_capacity(alloc, LINE_LIMIT)?,
-            text: Vec::with_capacity(alloc, MAX_TEXT)?,
+            text: Vec::with_capacity(alloc, MAX_CONTROL_TEXT)?,
             ticket: None,
             alloc,
         })
@@ -225,7 +223,8 @@ impl Machine {
         requires lending { self.old.owed ≡ Owed.Lending }
         requires empty { ticket.octets ≡ [] }
         ensures sound { IsSound self.new }
-        ensures answered { state_of self.new ≡ after_reply (state_of self.old) (Ticket ticket.page_size) }
+        ensures answered { state_of self.new
+            ≡ after_reply (state_of self.old) (Ticket ticket.page_size) }
     {
         match self.phase {
             Phase::Contents(left) => {
@@ -367,7 +366,8 @@ impl Machine {
         requires ended { IsAtLineEnd self.old }
         ensures sound { IsSound self.new }
         ensures step { EndsLine (state_of self.old)
-            (after_line (state_of self.old).queue self.old.job self.old.line.items) result (state_of self.new) }
+            (after_line (state_of self.old).queue self.old.job self.old.line.items)
+            result (state_of self.new) }
         ensures leaves { Leaves result (state_of self.new) }
     {
         if self.admitted {
@@ -396,7 +396,8 @@ impl Machine {
         requires ended { IsAtLineEnd self.old }
         requires first { self.old.admitted ≡ false }
         ensures sound { IsSound self.new }
-        ensures step { EndsLine (state_of self.old) (first_block (Ok command)) result (state_of self.new) }
+        ensures step { EndsLine (state_of self.old) (first_block (Ok command)) result
+            (state_of self.new) }
         ensures leaves { Leaves result (state_of self.new) }
     {
         match command {
@@ -437,7 +438,8 @@ impl Machine {
         requires later { self.old.admitted ≡ true }
         ensures sound { IsSound self.new }
         ensures step { EndsLine (state_of self.old)
-            (after_line (Some self.old.queue) self.old.job self.old.line.items) result (state_of self.new) }
+            (after_line (Some self.old.queue) self.old.job self.old.line.items)
+            result (state_of self.new) }
         ensures leaves { Leaves result (state_of self.new) }
     {
         match parse_sub(self.line.as_slice()) {
@@ -467,7 +469,7 @@ impl Machine {
                 }
             }
             Sub::ControlFile { count, name } => {
-                if count == 0 || count > MAX_TEXT as u64 {
+                if count == 0 || count > MAX_CONTROL_TEXT as u64 {
                     return self.fault(Refusal::BadLength);
                 }
                 let count = count as usize;

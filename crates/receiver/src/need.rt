@@ -1,7 +1,7 @@
 //! What a receiver needs, and what it is answered.
 
 use control_file::Control;
-use lpd_commands::{FileName, Octets, Refusal, Words};
+use lpd_values::{FileName, Octets, Refusal, Words};
 use page_pool::{FilledPage, PageTicket};
 
 /// What a receiver needs next. A page that comes with it has to be spent.

@@ -49,7 +49,8 @@ impl Receiver {
         // Whether an answer is owed, and what is left after a session.
         ensures leaves { Leaves result.1 self.new }
         // What comes after the call is the rest of what comes from before it.
-        ensures reading { Advances self.old input.now (outputs result.1) self.new (drop result.0 input.now) }
+        ensures reading { Advances self.old input.now (outputs result.1) self.new
+            (drop result.0 input.now) }
         // After the end nothing is read, written or asked any more.
         ensures over { self.old.items ≡ Over ∷ []
             → (result.0 ≡ 0) × (result.1 ≡ Need.Ended) × (self.new ≡ self.old) }

@@ -1,7 +1,7 @@
-//! Control files: by table, and compared with the plain reader.
+//! Control files, by table.
 
 use crate::rows::{expect, octets, refused, sides};
-use control_file::{Control, FileNames, PlainControl, plain_control};
+use control_file::{Control, FileNames};
 use lpd_commands::{FileName, Octets, Refusal};
 use std::alloc::{AllocError, Global};
 use std::process::Abort;
@@ -16,45 +16,13 @@ fn shown(alloc: Global, text: &[u8]) -> Result<Vec<u8>, Refusal> {
     }
 }
 
-/// Whether both say the same, of as many names.
-fn is_alike(control: &Control, plain: &PlainControl) -> bool {
-    let mut is_alike = control.host.as_slice() == plain.host.as_slice()
-        && control.user.as_slice() == plain.user.as_slice()
-        && control.number == plain.number
-        && control.prints.len() == plain.prints.len();
-    for name in control.prints.as_slice() {
-        is_alike &= plain.prints.contains(name);
-    }
-    is_alike
-}
-
-/// Whether both readers read the text alike, but for memory.
-fn readers_agree(alloc: Global, name: &FileName, text: &[u8]) -> bool {
-    match (
-        Control::parse(alloc, name, text),
-        plain_control(alloc, name, text),
-    ) {
-        (Ok(control), Ok(plain)) => is_alike(&control, &plain),
-        (Err(refusal), Err(plain)) => refusal == plain,
-        (Ok(_), Err(refusal)) | (Err(refusal), Ok(_)) => refusal == Refusal::Memory,
-    }
-}
-
-/// Both readers read the text alike.
-fn agree(rt: &impl Abort, alloc: Global, text: &[u8]) -> Result<(), Refusal> {
-    let name = FileName::read(b"cfA001h1")?;
-    let agree = readers_agree(alloc, &name, text);
-    assert!(rt; agree, "{}", text.escape_ascii());
-    Ok(())
-}
-
 fn text_row(rt: &impl Abort, alloc: Global, row: &str) -> Result<(), Refusal> {
     let (asked, wanted) = sides(row);
     let text = octets(alloc, asked)?;
     let wanted = octets(alloc, wanted)?;
     let shown = shown(alloc, text.as_slice())?;
     expect(rt, text.as_slice(), shown.as_slice(), wanted.as_slice());
-    agree(rt, alloc, text.as_slice())
+    Ok(())
 }
 
 /// Texts, and the control files as they are written.
@@ -141,44 +109,6 @@ fn read_and_written(rt: HostRuntime) -> Result<(), Fail> {
     let mut text = String::new(alloc);
     show_control(alloc, &mut text, &control)?;
     expect(&rt, b"fields", text.as_bytes(), FIELDS.as_bytes());
-    Ok(())
-}
-
-/// Texts put together from these lines, by a generator of Lehmer's kind.
-#[test]
-fn generated_texts(rt: HostRuntime) -> Result<(), Fail> {
-    let alloc = rt.alloc();
-    let parts: [&[u8]; 16] = [
-        b"Hh1\n",
-        b"Hh2\n",
-        b"H\n",
-        b"Pann\n",
-        b"Pbob\n",
-        b"P\n",
-        b"fdfA001h1\n",
-        b"ldfB001\n",
-        b"tdfA001h1\n",
-        b"fcfA001\n",
-        b"Nx\n",
-        b"\n",
-        b"vdfC001",
-        b"x",
-        b"p\n",
-        b"Hh1\nPann\n",
-    ];
-    let mut state = 20_261_123u64;
-    for _ in 0..500 {
-        let mut text = Vec::new(alloc);
-        for _ in 0..7 {
-            state = state
-                .wrapping_mul(6_364_136_223_846_793_005)
-                .wrapping_add(1_442_695_040_888_963_407);
-            if let Some(part) = parts.get((state >> 60) as usize) {
-                text.extend_from_slice(part)?;
-            }
-        }
-        agree(&rt, alloc, text.as_slice())?;
-    }
     Ok(())
 }
 

@@ -1,9 +1,9 @@
-//! Command lines and subcommand lines: by table, and compared with the plain readers.
+//! Command lines and subcommand lines, by table.
 
 use crate::rows::{expect, octets, refused, sides};
 use lpd_commands::{
-    Command, FileName, Octets, Refusal, Sub, Words, parse_command, parse_sub, plain_command,
-    plain_sub, write_command, write_sub,
+    Command, FileName, Octets, Refusal, Sub, Words, parse_command, parse_sub, write_command,
+    write_sub,
 };
 use std::alloc::{AllocError, Global};
 use std::process::Abort;
@@ -42,33 +42,6 @@ fn sub_is(rt: &impl Abort, alloc: Global, line: &[u8], wanted: &[u8]) -> Result<
     let read = sub_shown(alloc, parse_sub(line))?;
     expect(rt, line, read.as_slice(), wanted);
     Ok(())
-}
-
-/// Both readers read the line alike as a command. Most lines are refused by both, and then no text is made.
-fn commands_agree(rt: &impl Abort, alloc: Global, line: &[u8]) -> Result<(), AllocError> {
-    let plain = plain_command(alloc, line);
-    match (&plain, parse_command(alloc, line)) {
-        (Err(plain), Err(refusal)) if *plain == refusal => return Ok(()),
-        _ => {}
-    }
-    let plain = command_shown(alloc, plain)?;
-    command_is(rt, alloc, line, plain.as_slice())
-}
-
-/// Both readers read the line alike as a subcommand.
-fn subs_agree(rt: &impl Abort, alloc: Global, line: &[u8]) -> Result<(), AllocError> {
-    let plain = plain_sub(alloc, line);
-    match (&plain, parse_sub(line)) {
-        (Err(plain), Err(refusal)) if *plain == refusal => return Ok(()),
-        _ => {}
-    }
-    let plain = sub_shown(alloc, plain)?;
-    sub_is(rt, alloc, line, plain.as_slice())
-}
-
-fn readers_agree(rt: &impl Abort, alloc: Global, line: &[u8]) -> Result<(), AllocError> {
-    commands_agree(rt, alloc, line)?;
-    subs_agree(rt, alloc, line)
 }
 
 /// Command lines, and the commands as they are written or the refusals.
@@ -136,16 +109,14 @@ fn command_row(rt: &impl Abort, alloc: Global, row: &str) -> Result<(), AllocErr
     let (asked, wanted) = sides(row);
     let line = octets(alloc, asked)?;
     let wanted = octets(alloc, wanted)?;
-    command_is(rt, alloc, line.as_slice(), wanted.as_slice())?;
-    commands_agree(rt, alloc, line.as_slice())
+    command_is(rt, alloc, line.as_slice(), wanted.as_slice())
 }
 
 fn sub_row(rt: &impl Abort, alloc: Global, row: &str) -> Result<(), AllocError> {
     let (asked, wanted) = sides(row);
     let line = octets(alloc, asked)?;
     let wanted = octets(alloc, wanted)?;
-    sub_is(rt, alloc, line.as_slice(), wanted.as_slice())?;
-    subs_agree(rt, alloc, line.as_slice())
+    sub_is(rt, alloc, line.as_slice(), wanted.as_slice())
 }
 
 #[test]
@@ -257,87 +228,10 @@ fn lists_of_words(rt: HostRuntime) -> Result<(), Fail> {
     Ok(())
 }
 
-/// All lines of up to two octets.
 #[test]
-fn short_lines(rt: HostRuntime) -> Result<(), Fail> {
-    let alloc = rt.alloc();
-    readers_agree(&rt, alloc, &[])?;
-    for first in 0..=255u8 {
-        readers_agree(&rt, alloc, &[first])?;
-    }
-    for first in 0..=255u8 {
-        for second in 0..=255u8 {
-            readers_agree(&rt, alloc, &[first, second])?;
-        }
-    }
-    Ok(())
-}
-
-/// All lines of three octets, as commands.
-#[test]
-fn three_octet_commands(rt: HostRuntime) -> Result<(), Fail> {
-    let alloc = rt.alloc();
-    for first in 0..=255u8 {
-        for second in 0..=255u8 {
-            for third in 0..=255u8 {
-                commands_agree(&rt, alloc, &[first, second, third])?;
-            }
-        }
-    }
-    Ok(())
-}
-
-/// All lines of three octets, as subcommands.
-#[test]
-fn three_octet_subcommands(rt: HostRuntime) -> Result<(), Fail> {
-    let alloc = rt.alloc();
-    for first in 0..=255u8 {
-        for second in 0..=255u8 {
-            for third in 0..=255u8 {
-                subs_agree(&rt, alloc, &[first, second, third])?;
-            }
-        }
-    }
-    Ok(())
-}
-
-/// Lines put together from these parts, by a generator of Lehmer's kind.
-#[test]
-fn generated_lines(rt: HostRuntime) -> Result<(), Fail> {
-    let alloc = rt.alloc();
-    let parts: [&[u8]; 16] = [
-        b" ",
-        b"\t",
-        b" \x0b",
-        b"\x0c ",
-        b"lp",
-        b"ann",
-        b"0",
-        b"8",
-        b"9999999999999999999",
-        b"cfA001h1",
-        b"dfA001h1",
-        b"dfA01h1",
-        b"\x7f",
-        b"\x80",
-        b"x",
-        b"",
-    ];
-    let mut state = 20_261_122u64;
-    for code in 0..=6u8 {
-        for _ in 0..200 {
-            let mut line = Vec::new(alloc);
-            line.push(code)?;
-            for _ in 0..5 {
-                state = state
-                    .wrapping_mul(6_364_136_223_846_793_005)
-                    .wrapping_add(1_442_695_040_888_963_407);
-                if let Some(part) = parts.get((state >> 60) as usize) {
-                    line.extend_from_slice(part)?;
-                }
-            }
-            readers_agree(&rt, alloc, line.as_slice())?;
-        }
-    }
+fn equal_names(rt: HostRuntime) -> Result<(), Fail> {
+    let (first, second) = (FileName::read(b"dfA001")?, FileName::read(b"dfA002")?);
+    assert!(rt; first == FileName::read(b"dfA001")?, "equal");
+    assert!(rt; first != second, "different");
     Ok(())
 }

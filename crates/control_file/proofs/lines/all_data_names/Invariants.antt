@@ -1,6 +1,6 @@
 use Rattle.std.proofs.Common.{◌≡◌, length}
 use Rattle.std.specs.List.{list_all}
-use Rattle.lpd_commands.specs.Name.{is_data_name}
+use Rattle.lpd_values.specs.Name.{is_data_name}
 use Rattle.control_file.specs.Text.{prints_of}
 use Rattle.control_file.proofs.lines.all_data_names.Given as goal
 

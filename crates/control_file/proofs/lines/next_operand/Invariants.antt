@@ -1,6 +1,6 @@
 use Rattle.std.proofs.Common.{◌≡◌, ◌≤◌, ◌⊎◌, [], true, length}
-use Rattle.lpd_commands.specs.Pieces.{begins_piece}
-use Rattle.control_file.specs.Kept.{is_line_feed}
+use Rattle.lpd_values.specs.Pieces.{begins_piece}
+use Rattle.lpd_values.specs.Kept.{is_line_feed}
 use Rattle.control_file.specs.Text.{lines_of, operands_of}
 use Rattle.control_file.specs.Fields.{letter_test}
 use Rattle.control_file.proofs.lines.next_operand.Given as goal

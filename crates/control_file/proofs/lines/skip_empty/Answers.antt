@@ -1,5 +1,5 @@
-use Rattle.lpd_commands.proofs.PieceLemmas.{skip_words, skip_begins}
-use Rattle.control_file.specs.Kept.{is_line_feed}
+use Rattle.lpd_values.proofs.PieceLemmas.{skip_words, skip_begins}
+use Rattle.lpd_values.specs.Kept.{is_line_feed}
 use Rattle.control_file.proofs.lines.skip_empty.Goals as goal
 
 pub returns-clause-lines : goal.returns-clause-lines

@@ -1,7 +1,7 @@
 use Rattle.std.proofs.Common.{arith}
-use Rattle.lpd_commands.proofs.PieceLemmas.{word_some}
-use Rattle.lpd_commands.specs.Pieces.{is_kept}
-use Rattle.control_file.specs.Kept.{is_line_feed}
+use Rattle.lpd_values.proofs.PieceLemmas.{word_some}
+use Rattle.lpd_values.specs.Pieces.{is_kept}
+use Rattle.lpd_values.specs.Kept.{is_line_feed}
 use Rattle.control_file.proofs.LineLemmas.{split_lines, operand_kept}
 use Rattle.control_file.proofs.lines.split_line.Goals as goal
 

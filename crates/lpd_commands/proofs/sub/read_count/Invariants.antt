@@ -1,7 +1,7 @@
 use Rattle.std.proofs.Common.{◌≡◌, ◌<◌, ◌^◌, take, true}
 use Rattle.std.specs.List.{list_all}
-use Rattle.lpd_commands.specs.Kinds.{is_digit}
-use Rattle.lpd_commands.specs.Line.{count_of}
+use Rattle.lpd_values.specs.Kinds.{is_digit}
+use Rattle.lpd_values.specs.Digits.{count_of}
 use Rattle.lpd_commands.proofs.sub.read_count.Given as goal
 
 abbrev pub invariant-loop-digit : goal.invariant-loop-digit

@@ -1,5 +1,5 @@
-use Rattle.lpd_commands.proofs.PieceLemmas.{skip_words, skip_begins}
-use Rattle.lpd_commands.specs.Kinds.{is_space}
+use Rattle.lpd_values.proofs.PieceLemmas.{skip_words, skip_begins}
+use Rattle.lpd_values.specs.Kinds.{is_space}
 use Rattle.lpd_commands.proofs.words.skip_space.Goals as goal
 
 pub returns-clause-words : goal.returns-clause-words

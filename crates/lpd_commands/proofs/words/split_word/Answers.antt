@@ -1,6 +1,6 @@
 use Rattle.std.proofs.Common.{arith}
-use Rattle.lpd_commands.proofs.PieceLemmas.{split_words, word_some}
-use Rattle.lpd_commands.specs.Kinds.{is_space}
+use Rattle.lpd_values.proofs.PieceLemmas.{split_words, word_some}
+use Rattle.lpd_values.specs.Kinds.{is_space}
 use Rattle.lpd_commands.proofs.words.split_word.Goals as goal
 
 pub returns-clause-words : goal.returns-clause-words

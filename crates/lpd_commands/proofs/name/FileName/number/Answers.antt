@@ -1,5 +1,0 @@
-use Rattle.lpd_commands.proofs.NameLemmas.{last_digit-octets}
-use Rattle.lpd_commands.proofs.name.FileName.number.Goals as goal
-
-pub digit_value-requires-3 : goal.digit_value-requires-3
-digit_value-requires-3 c = last_digit-octets c.args.self.now _ c.octets-octets.ensures.value c.octets-octets.ensures.name

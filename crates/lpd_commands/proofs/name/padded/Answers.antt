@@ -1,5 +1,0 @@
-use Rattle.lpd_commands.proofs.NameLemmas.{padded_copy}
-use Rattle.lpd_commands.proofs.name.padded.Goals as goal
-
-pub returns : goal.returns
-returns c = padded_copy c.args.octets.now c.copy_from_slice.new.self c.copy_from_slice.ensures.after

@@ -1,0 +1,9 @@
+pub mod Contents
+pub mod Decided
+pub mod Digits
+pub mod Given
+pub mod Kept
+pub mod Kinds
+pub mod Name
+pub mod Pieces
+pub mod Refusals

@@ -1,0 +1,37 @@
+-- The number and the acknowledgement octet of each refusal.
+use Rattle.std.specs.Prelude.{ℕ}
+use Rattle.lpd_values.specs.declared.refusal.Refusal.{Refusal}
+use Rattle.lpd_values.specs.declared.refusal.Refusal.TheVariants as refusal
+
+abbrev pub number_of : Refusal → ℕ
+number_of refusal.UnknownQueue = 1
+number_of refusal.TableFull = 2
+number_of refusal.AccountFull = 3
+number_of refusal.Closed = 4
+number_of refusal.OverClaim = 5
+number_of refusal.ControlTwice = 6
+number_of refusal.NameTaken = 7
+number_of refusal.FilesFull = 8
+number_of refusal.FileOpen = 9
+number_of refusal.NotOpen = 10
+number_of refusal.Memory = 12
+number_of refusal.BadCode = 30
+number_of refusal.BadLine = 31
+number_of refusal.LineTooLong = 32
+number_of refusal.BadCount = 33
+number_of refusal.BadName = 34
+number_of refusal.NoZero = 35
+number_of refusal.NoHost = 40
+number_of refusal.NoUser = 41
+number_of refusal.NoPrintLine = 42
+number_of refusal.TooManyPrints = 43
+number_of refusal.BadLength = 44
+
+-- 2 where it may be granted later, else 1
+abbrev pub octet_of : Refusal → ℕ
+octet_of refusal.TableFull = 2
+octet_of refusal.AccountFull = 2
+octet_of refusal.Closed = 2
+octet_of refusal.NotOpen = 2
+octet_of refusal.Memory = 2
+octet_of _ = 1

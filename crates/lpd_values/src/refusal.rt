@@ -1,0 +1,125 @@
+//! The refusals that a peer can be given.
+
+ghost use Rattle.std.specs.Prelude.{◌≡◌};
+ghost use Rattle.lpd_values.specs.Refusals.{number_of, octet_of};
+
+use std::alloc::AllocError;
+use std::error::Error;
+use std::fmt;
+
+/// Why a request of a peer is refused. Each has a number of this product's own, which is printed, and an
+/// acknowledgement octet, which is sent (RFC 1179, section 6).
+#[derive(Clone, Copy, Debug, PartialEq, Eq)]
+pub enum Refusal {
+    /// The queue isn't configured.
+    UnknownQueue,
+    /// As many jobs are held as there may be.
+    TableFull,
+    /// The account has no room for one job more.
+    AccountFull,
+    /// The spool was closed.
+    Closed,
+    /// The job would hold more pages than its queue allows.
+    OverClaim,
+    /// The job has a control file already.
+    ControlTwice,
+    /// The job has a data file of that name already.
+    NameTaken,
+    /// The job has as many data files as it may have.
+    FilesFull,
+    /// A data file of the job is open.
+    FileOpen,
+    /// The job isn't being received, or nothing is open where the request needs it.
+    NotOpen,
+    /// Memory was refused.
+    Memory,
+    /// The line has no code, or one that isn't known.
+    BadCode,
+    /// The line isn't laid out as its code asks.
+    BadLine,
+    /// The line has more than 1,023 octets.
+    LineTooLong,
+    /// The count isn't 1 to 19 decimal digits, or it is 0 for a data file.
+    BadCount,
+    /// The name isn't a file name of the kind that is due.
+    BadName,
+    /// A file isn't followed by an octet of zeros.
+    NoZero,
+    /// The control file has no line for the host.
+    NoHost,
+    /// The control file has no line for the user.
+    NoUser,
+    /// The control file has no line that prints a file.
+    NoPrintLine,
+    /// The control file has more than 52 lines that print a file.
+    TooManyPrints,
+    /// A control file, its host or its user has a length that isn't allowed.
+    BadLength,
+}
+
+impl Refusal {
+    /// The number of the refusal, 1 to 44.
+    pub fn number(self) -> u8
+        ensures { result ≡ number_of self }
+    {
+        match self {
+            Refusal::UnknownQueue => 1,
+            Refusal::TableFull => 2,
+            Refusal::AccountFull => 3,
+            Refusal::Closed => 4,
+            Refusal::OverClaim => 5,
+            Refusal::ControlTwice => 6,
+            Refusal::NameTaken => 7,
+            Refusal::FilesFull => 8,
+            Refusal::FileOpen => 9,
+            Refusal::NotOpen => 10,
+            Refusal::Memory => 12,
+            Refusal::BadCode => 30,
+            Refusal::BadLine => 31,
+            Refusal::LineTooLong => 32,
+            Refusal::BadCount => 33,
+            Refusal::BadName => 34,
+            Refusal::NoZero => 35,
+            Refusal::NoHost => 40,
+            Refusal::NoUser => 41,
+            Refusal::NoPrintLine => 42,
+            Refusal::TooManyPrints => 43,
+            Refusal::BadLength => 44,
+        }
+    }
+
+    /// The acknowledgement octet that a session writes: 1 where the request is refused for good, 2 where it may be
+    /// granted later.
+    pub fn octet(self) -> u8
+        ensures { result ≡ octet_of self }
+    {
+        match self {
+            Refusal::TableFull
+            | Refusal::AccountFull
+            | Refusal::Closed
+            | Refusal::NotOpen
+            | Refusal::Memory => 2,
+            _ => 1,
+        }
+    }
+}
+
+/// Writes the number and the name, as `1 UnknownQueue`.
+impl fmt::Display for Refusal {
+    fn fmt<W: fmt::Write>(&self, f: &mut fmt::Formatter<W>) -> fmt::Result {
+        write!(f, "{} {:?}", self.number(), self)
+    }
+}
+
+impl Error for Refusal {}
+
+impl From<AllocError> for Refusal {
+    ghost use Rattle.std.specs.Prelude.{◌≡◌};
+    ghost use Rattle.lpd_values.specs.declared.refusal.Refusal.TheVariants.{Memory};
+
+    ghost from_gives = { λ _ e. e ≡ Memory };
+
+    fn from(_error: AllocError) -> Refusal {
+        Refusal::Memory
+    }
+}
