@@ -2,9 +2,13 @@
 #![tactic(auto)]
 
 mod fault;
+mod lines;
 mod run;
 mod script;
 mod session;
+mod streams;
 mod world;
 
 pub use run::run_input;
+pub use script::{LineFault, ScriptLine, line_has_one_meaning, parse_line};
+pub use streams::{StreamReader, StreamWriter};
