@@ -1,6 +1,6 @@
 //! The groups of rows.
 
-use crate::{control, lines, rows, scripts, tables};
+use crate::{control, lines, scripts, tables};
 use std::alloc::{AllocError, Global};
 
 /// A group of rows that are asked of the same function.
@@ -71,19 +71,19 @@ impl Group {
         }
     }
 
+    /// Whether what stands between two of these is a row, and no comment.
+    pub fn is_row(self, row: &str) -> bool {
+        match self {
+            Group::Scripts => !row.is_empty(),
+            _ => !row.is_empty() && !row.starts_with("# "),
+        }
+    }
+
     /// What a row asks, and what it wants answered.
     pub fn sides(self, row: &str) -> (&str, &str) {
         match self {
             Group::Scripts => row.split_once("----\n").unwrap_or((row, "")),
             _ => row.split_once(" => ").unwrap_or((row, "")),
-        }
-    }
-
-    /// The octets that are wanted.
-    pub fn wanted(self, alloc: Global, wanted: &str) -> Result<Vec<u8>, AllocError> {
-        match self {
-            Group::Scripts => Vec::from_slice(alloc, wanted.as_bytes()),
-            _ => rows::octets(alloc, wanted),
         }
     }
 

@@ -1,7 +1,9 @@
 //! Command lines, subcommand lines and file names.
 
 use crate::rows::{octets, refused};
-use lpd_commands::{Command, FileName, Refusal, Sub, parse_command, parse_sub, write_command, write_sub};
+use lpd_commands::{
+    Command, FileName, Refusal, Sub, parse_command, parse_sub, write_command, write_sub,
+};
 use std::alloc::{AllocError, Global};
 
 /// The command of a line, as it is written, or the refusal.

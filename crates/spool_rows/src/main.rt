@@ -28,7 +28,7 @@ fn run_group<R: Files + AllocGlobal + Print>(rt: &R, group: Group) -> io::Result
     let text = fs::read_to_string(rt, file.as_str())?;
     let mut count = 0u64;
     for row in text.split(group.between()) {
-        if !rows::is_row(row) {
+        if !group.is_row(row) {
             continue;
         }
         count = count.saturating_add(1);
@@ -43,12 +43,13 @@ fn run_group<R: Files + AllocGlobal + Print>(rt: &R, group: Group) -> io::Result
 fn difference(alloc: Global, group: Group, row: &str) -> Result<Option<String>, AllocError> {
     let (asked, wanted) = group.sides(row);
     let answer = group.answer(alloc, asked)?;
-    let wanted = group.wanted(alloc, wanted)?;
+    let wanted = rows::octets(alloc, wanted)?;
     if answer.as_slice() == wanted.as_slice() {
         return Ok(None);
     }
-    let (answer, wanted) = (answer.as_slice().escape_ascii(), wanted.as_slice().escape_ascii());
-    Ok(Some(
-        format!(in alloc; "{asked} gives {answer} and not {wanted}")?,
-    ))
+    let (answer, wanted) = (
+        answer.as_slice().escape_ascii(),
+        wanted.as_slice().escape_ascii(),
+    );
+    Ok(Some(format!(in alloc; "{asked} gives {answer} and not {wanted}")?))
 }

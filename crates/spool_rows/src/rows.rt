@@ -5,11 +5,6 @@
 use lpd_commands::Refusal;
 use std::alloc::{AllocError, Global};
 
-/// Whether a line is a row, and no comment.
-pub fn is_row(row: &str) -> bool {
-    !row.is_empty() && !row.starts_with("# ")
-}
-
 /// How much of an escape was read.
 #[derive(Clone, Copy)]
 enum Escape {

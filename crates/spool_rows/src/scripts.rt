@@ -12,7 +12,12 @@ const CONFIG: &str =
 fn told(alloc: Global, input: &[u8]) -> Result<Vec<u8>, AllocError> {
     let mut output = StreamWriter::new(Vec::new(alloc));
     let mut faults = StreamWriter::new(Vec::new(alloc));
-    let status = run_input(alloc, &mut StreamReader::new(input), &mut output, &mut faults);
+    let status = run_input(
+        alloc,
+        &mut StreamReader::new(input),
+        &mut output,
+        &mut faults,
+    );
     let mut told = output.into_stream();
     told.extend_from_slice(faults.into_stream().as_slice())?;
     told.extend_from_slice(format!(in alloc; "status {status}\n")?.as_bytes())?;
@@ -20,17 +25,14 @@ fn told(alloc: Global, input: &[u8]) -> Result<Vec<u8>, AllocError> {
 }
 
 /// What the program prints for this script, which may have a configuration and a line `%%` before it.
-pub fn script(alloc: Global, script: &str) -> Result<Vec<u8>, AllocError> {
-    if script.contains("\n%%\n") {
-        return told(alloc, script.as_bytes());
+pub fn script(alloc: Global, asked: &str) -> Result<Vec<u8>, AllocError> {
+    if asked.contains("\n%%\n") {
+        return told(alloc, octets(alloc, asked)?.as_slice());
     }
-    let mut input = String::from_str(alloc, CONFIG)?;
-    input.push_str("%%\n")?;
-    input.push_str(script)?;
-    told(alloc, input.as_bytes())
+    line(alloc, asked)
 }
 
-/// What the program prints for the script that the octets of a row are.
+/// What the program prints for this script on the configuration above.
 pub fn line(alloc: Global, asked: &str) -> Result<Vec<u8>, AllocError> {
     let mut input = Vec::from_slice(alloc, CONFIG.as_bytes())?;
     input.extend_from_slice(b"%%\n")?;

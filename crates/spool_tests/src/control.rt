@@ -1,111 +1,10 @@
-//! Control files: by table, and compared with the plain reader.
+//! Control files that are copied, and lists of names.
 
-use crate::rows::{expect, octets, refused, sides};
-use control_file::{Control, FileNames, PlainControl, plain_control};
-use lpd_commands::{FileName, Octets, Refusal};
+use crate::rows::expect;
+use control_file::{Control, FileNames};
+use lpd_commands::{FileName, Octets};
 use std::alloc::{AllocError, Global};
-use std::process::Abort;
 use std::test::Fail;
-
-/// The control file as it is written, or the refusal.
-fn shown(alloc: Global, text: &[u8]) -> Result<Vec<u8>, Refusal> {
-    let name = FileName::read(b"cfA001h1")?;
-    match Control::parse(alloc, &name, text) {
-        Ok(control) => Ok(control.write(alloc)?.into_vec()),
-        Err(refusal) => Ok(refused(alloc, refusal)?),
-    }
-}
-
-/// Whether both say the same, of as many names.
-fn is_alike(control: &Control, plain: &PlainControl) -> bool {
-    let mut is_alike = control.host.as_slice() == plain.host.as_slice()
-        && control.user.as_slice() == plain.user.as_slice()
-        && control.number == plain.number
-        && control.prints.len() == plain.prints.len();
-    for name in control.prints.as_slice() {
-        is_alike &= plain.prints.contains(name);
-    }
-    is_alike
-}
-
-/// Whether both readers read the text alike, but for memory.
-fn readers_agree(alloc: Global, name: &FileName, text: &[u8]) -> bool {
-    match (
-        Control::parse(alloc, name, text),
-        plain_control(alloc, name, text),
-    ) {
-        (Ok(control), Ok(plain)) => is_alike(&control, &plain),
-        (Err(refusal), Err(plain)) => refusal == plain,
-        (Ok(_), Err(refusal)) | (Err(refusal), Ok(_)) => refusal == Refusal::Memory,
-    }
-}
-
-/// Both readers read the text alike.
-fn agree(rt: &impl Abort, alloc: Global, text: &[u8]) -> Result<(), Refusal> {
-    let name = FileName::read(b"cfA001h1")?;
-    let agree = readers_agree(alloc, &name, text);
-    assert!(rt; agree, "{}", text.escape_ascii());
-    Ok(())
-}
-
-fn text_row(rt: &impl Abort, alloc: Global, row: &str) -> Result<(), Refusal> {
-    let (asked, wanted) = sides(row);
-    let text = octets(alloc, asked)?;
-    let wanted = octets(alloc, wanted)?;
-    let shown = shown(alloc, text.as_slice())?;
-    expect(rt, text.as_slice(), shown.as_slice(), wanted.as_slice());
-    agree(rt, alloc, text.as_slice())
-}
-
-/// Texts, and the control files as they are written.
-const TEXTS: &str = r"
-Hh1\nPann\nfdfA001h1\n => Hh1\nPann\nfdfA001h1\n
-\n\nldfA001h1\n\nPann\nHh1 => Hh1\nPann\nfdfA001h1\n
-Hh1\nHh2\nPann\nPbob\nfdfA001h1\nUdfA001h1\nNx\nJy\n => Hh1\nPann\nfdfA001h1\n
-Hh1\nPann\nfdfA001h1\nfdfA001h1\n => Hh1\nPann\nfdfA001h1\n
-Hh1\nPann\nfdfB001\ncdfA001h1\npdfB001\n => Hh1\nPann\nfdfB001\nfdfA001h1\n
-H h\xff 1\r\nPann b\nfdfA001h1 => H h\xff 1\r\nPann b\nfdfA001h1\n
-Hh1\nPann\n and 52 times fdfA001h1\n => Hh1\nPann\nfdfA001h1\n
-";
-
-/// Texts that are refused, each for the first refusal that fits.
-const REFUSED: &str = r"
-0 times x => refused 44
-8193 times \n => refused 44
-8192 times \n => refused 40
-Pann\nfdfA001h1\n => refused 40
-\nx\n => refused 40
-Hh1\nfdfA001h1\n => refused 41
-H\n => refused 41
-H\nPann\n => refused 44
-Hh1\nP\n => refused 44
-H\nHh1\nPann\nfdfA001h1\n => refused 44
-Pann\nfdfA001h1\nHx and 255 times h => refused 44
-Hh1\nfdfA001h1\nPx and 255 times p => refused 44
-Hh1\nPann\n => refused 42
-Hh1\nPann\nedfA001h1\n => refused 42
-Hh1\nPann\n and 53 times fdfA001h1\n => refused 43
-Hh1\nPann\n and 53 times fx\n => refused 43
-Hh1\nPann\nfdfA001h1\nfdfA01\n => refused 34
-Hh1\nPann\nf\n => refused 34
-Hh1\nPann\nfcfA001h1\n => refused 34
-";
-
-#[test]
-fn texts_by_table(rt: HostRuntime) -> Result<(), Fail> {
-    for row in TEXTS.trim().lines() {
-        text_row(&rt, rt.alloc(), row)?;
-    }
-    Ok(())
-}
-
-#[test]
-fn refusals_in_order(rt: HostRuntime) -> Result<(), Fail> {
-    for row in REFUSED.trim().lines() {
-        text_row(&rt, rt.alloc(), row)?;
-    }
-    Ok(())
-}
 
 fn show_fields(text: &mut String, control: &Control) -> Result<(), AllocError> {
     let host = control.host.as_slice().escape_ascii();
@@ -141,44 +40,6 @@ fn read_and_written(rt: HostRuntime) -> Result<(), Fail> {
     let mut text = String::new(alloc);
     show_control(alloc, &mut text, &control)?;
     expect(&rt, b"fields", text.as_bytes(), FIELDS.as_bytes());
-    Ok(())
-}
-
-/// Texts put together from these lines, by a generator of Lehmer's kind.
-#[test]
-fn generated_texts(rt: HostRuntime) -> Result<(), Fail> {
-    let alloc = rt.alloc();
-    let parts: [&[u8]; 16] = [
-        b"Hh1\n",
-        b"Hh2\n",
-        b"H\n",
-        b"Pann\n",
-        b"Pbob\n",
-        b"P\n",
-        b"fdfA001h1\n",
-        b"ldfB001\n",
-        b"tdfA001h1\n",
-        b"fcfA001\n",
-        b"Nx\n",
-        b"\n",
-        b"vdfC001",
-        b"x",
-        b"p\n",
-        b"Hh1\nPann\n",
-    ];
-    let mut state = 20_261_123u64;
-    for _ in 0..500 {
-        let mut text = Vec::new(alloc);
-        for _ in 0..7 {
-            state = state
-                .wrapping_mul(6_364_136_223_846_793_005)
-                .wrapping_add(1_442_695_040_888_963_407);
-            if let Some(part) = parts.get((state >> 60) as usize) {
-                text.extend_from_slice(part)?;
-            }
-        }
-        agree(&rt, alloc, text.as_slice())?;
-    }
     Ok(())
 }
 

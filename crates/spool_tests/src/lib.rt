@@ -10,6 +10,8 @@ mod control;
 #[cfg(test)]
 mod core_calls;
 #[cfg(test)]
+mod faults;
+#[cfg(test)]
 mod histories;
 #[cfg(test)]
 mod lines;
