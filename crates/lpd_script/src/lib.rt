@@ -3,12 +3,14 @@
 
 mod fault;
 mod lines;
+mod reader;
 mod run;
 mod script;
 mod session;
-mod streams;
 mod world;
+mod writer;
 
+pub use reader::StreamReader;
 pub use run::run_input;
 pub use script::{LineFault, ScriptLine, line_has_one_meaning, parse_line};
-pub use streams::{StreamReader, StreamWriter};
+pub use writer::StreamWriter;
