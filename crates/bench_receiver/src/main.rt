@@ -15,11 +15,12 @@ fn main(rt: HostRuntime) -> io::Result<()> {
     Ok(())
 }
 
-/// Octets per second through a receiver, in pieces of several sizes, beside a plain copy of the same octets.
+/// Octets per second through a receiver, in pieces of several sizes, beside the digests alone and a plain copy of the same
+/// octets.
 fn measure_receiver<R: AllocGlobal + Clock + Print>(rt: &R) -> io::Result<()> {
     let stream = receiving::stream(rt.alloc())?;
     println!(rt;
-        "one data file of 1 MiB, best of {} runs, octets per second",
+        "one data file of 1 MiB, the best of {} runs of each way, octets per second",
         receiving::RUNS
     )?;
     for piece in [1, 64, 1460, 65536] {

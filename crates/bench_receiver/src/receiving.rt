@@ -19,7 +19,8 @@ const FILE: usize = 1 << 20;
 
 const PAGE: usize = 4096;
 
-/// Nanoseconds that a file took: through the receiver, for the digests of its pages alone, and for a plain copy.
+/// Nanoseconds that a file took, each way in itself: through the receiver with the digests of its pages, for these
+/// digests alone, and for a plain copy.
 #[derive(Clone, Copy, Debug)]
 pub struct Speed {
     piece: usize,
@@ -34,15 +35,13 @@ fn per_second(nanos: u128) -> u128 {
 
 impl fmt::Display for Speed {
     fn fmt<W: fmt::Write>(&self, f: &mut fmt::Formatter<W>) -> fmt::Result {
-        let apart = self.whole.saturating_sub(self.digests).max(1);
         let piece = self.piece;
         let whole = per_second(self.whole);
-        let without = per_second(apart);
+        let digests = per_second(self.digests);
         let copy = per_second(self.copy);
-        let percent = self.copy.saturating_mul(100) / apart;
         write!(
             f,
-            "pieces of {piece}: with digests {whole}, apart from them {without}, copy {copy}, ratio to the copy {percent}%"
+            "pieces of {piece}: receiver {whole}, digests alone {digests}, copy alone {copy}"
         )
     }
 }
@@ -58,7 +57,7 @@ pub fn stream(alloc: Global) -> Result<Vec<u8>, AllocError> {
     Ok(stream)
 }
 
-/// The fastest of several runs.
+/// The fastest of several runs of each way, which take turns.
 pub fn measure<R: AllocGlobal + Clock>(rt: &R, stream: &[u8], piece: usize) -> io::Result<Speed> {
     let mut best = Speed {
         piece,

@@ -1,6 +1,8 @@
 //! What stops the program: one line on standard error, and an exit status.
 
-ghost use Rattle.std.specs.Prelude.{◌≤◌};
+ghost use Rattle.std.specs.Prelude.{◌≡◌};
+ghost use Rattle.lpd_script.specs.Status.{status_of};
+ghost use Rattle.lpd_script.specs.declared.fault.Fault.TheVariants.{Config, Memory};
 
 use spool_config::ConfigFault;
 use std::alloc::AllocError;
@@ -27,12 +29,16 @@ pub enum Fault {
 }
 
 impl From<AllocError> for Fault {
+    ghost from_gives = { λ _ fault. fault ≡ Memory };
+
     fn from(_error: AllocError) -> Fault {
         Fault::Memory
     }
 }
 
 impl From<ConfigFault> for Fault {
+    ghost from_gives = { λ cause fault. fault ≡ Config cause };
+
     fn from(fault: ConfigFault) -> Fault {
         Fault::Config(fault)
     }
@@ -41,7 +47,7 @@ impl From<ConfigFault> for Fault {
 impl Fault {
     /// The exit status: 2 for the configuration, 3 for the script, 4 for the rest.
     pub fn status(self) -> u8
-        ensures { result ≤ 4 }
+        ensures { result ≡ status_of self }
     {
         match self {
             Fault::Config(ConfigFault::Memory) => 4,

@@ -1,232 +1,202 @@
 //! The main job: a configuration and a script in, acknowledgements and pages out.
 
-ghost use Rattle.std.specs.Prelude.{◌≤◌, length};
+ghost use Rattle.std.specs.Prelude.{◌≡◌, ◌≢◌, ◌≤◌, ◌<◌, length, IfOk, IfErr, OnOk, OnErr, Err, []};
+ghost use Rattle.lpd_commands.specs.Ends.{Writes};
+ghost use Rattle.lpd_script.specs.declared.fault.Fault.TheVariants.{Memory, ReadFile, WriteFile};
+ghost use Rattle.lpd_script.specs.Status.{IsStatus};
+ghost use Rattle.lpd_script.specs.Streams.{HasGivenAll, IsReadOut, IsReadOutAfter, IsUntouched, IsReadingFault, write_faults};
 
 use crate::fault::Fault;
-use crate::script::{LineFault, ScriptLine, parse_line};
-use crate::world::{Stop, Told, World};
-use spool_core::{HandedPage, Printed};
-use std::alloc::Global;
-use std::io::{ErrorKind, Read, Write};
+use crate::lines::run_line;
+use crate::world::World;
+use lpd_commands::{OctetRead, OctetWrite, write_all};
+use std::alloc::{AllocError, Global};
+
+/// How often the input is read at most.
+const READS: u32 = u32::MAX;
+
+/// How many octets are asked for by one read.
+const PIECE: usize = 4_096;
+
+/// How many octets of printed lines are collected before they are written.
+const ENOUGH: usize = 16_384;
 
 /// Reads a configuration, a line `%%` and a script from the input, and runs the script.
 ///
 /// Where no such line comes, the script is empty. What is answered is the exit status: 0 when the script was run, 2
 /// where the configuration can't be used, 3 where a line of the script can't be run, 4 where memory, the input or the
-/// output failed. Any but 0 comes with one line for the fault.
-pub fn run_input<R: Read, W: Write, E: Write>(
+/// output failed, or where the input doesn't end in 4,294,967,295 reads. Any but 0 comes with one line for the fault,
+/// after all that was printed before it.
+pub fn run_input<R: OctetRead, W: OctetWrite, E: OctetWrite>(
     alloc: Global,
     input: &mut R,
     output: &mut W,
     faults: &mut E,
 ) -> u8
-    ensures { result ≤ 4 }
+    ensures status { IsStatus result }
+    // Any status but 4 says that all was read, and that no read or write failed.
+    ensures read_out { result ≢ 4 → IsReadOut (R.left input.new) }
+    ensures read_fault { R.faults input.new ≢ R.faults input.old → result ≡ 4 }
+    ensures write_fault { W.faults output.new ≢ W.faults output.old → result ≡ 4 }
+    // A read that failed is the first fault: nothing was printed.
+    ensures unread { R.faults input.new ≢ R.faults input.old
+        → W.written output.new ≡ W.written output.old }
+    ensures quiet { result ≡ 0 → IsUntouched (E.written faults.old) (E.faults faults.old)
+        (E.written faults.new) (E.faults faults.new) }
 {
     match run_all(alloc, input, output) {
         Ok(()) => 0,
         Err(fault) => {
-            let _ = writeln!(faults, "{fault}");
+            tell(alloc, faults, fault);
             fault.status()
         }
     }
 }
 
-fn run_all<R: Read, W: Write>(alloc: Global, input: &mut R, output: &mut W) -> Result<(), Fault> {
+/// Tells a fault in a line of its own. Where memory is short for that line, it says that.
+fn tell<E: OctetWrite>(alloc: Global, faults: &mut E, fault: Fault) {
+    let told = match format!(in alloc; "{fault}\n") {
+        Ok(line) => write_all(faults, line.as_bytes()),
+        Err(AllocError) => write_all(faults, b"fault 12 Memory\n"),
+    };
+    // There is nowhere else to tell of a fault here: the exit status says that there was one.
+    let _ = told;
+}
+
+/// Reads all of the input, and runs it.
+fn run_all<R: OctetRead, W: OctetWrite>(
+    alloc: Global,
+    input: &mut R,
+    output: &mut W,
+) -> Result<(), Fault>
+    ensures read_out { IsReadOutAfter (R.left input.new) result }
+    ensures read_fault { R.faults input.new ≢ R.faults input.old → result ≡ Err ReadFile }
+    ensures write_fault { W.faults output.new ≡ write_faults (W.faults output.old) result }
+    ensures unread { result ≡ Err ReadFile → W.written output.new ≡ W.written output.old }
+{
     let all = read_all(alloc, input)?;
     run_text(alloc, all.as_slice(), output)
 }
 
+/// All octets of the input.
+fn read_all<R: OctetRead>(alloc: Global, input: &mut R) -> Result<Vec<u8>, Fault>
+    ensures all { IfOk result (λ all. HasGivenAll (R.left input.old) (R.left input.new) all.items) }
+    ensures fault { IfErr result (λ fault. IsReadingFault fault) }
+    ensures read_fault { R.faults input.new ≢ R.faults input.old → result ≡ Err ReadFile }
+{
+    let mut all = Vec::new(alloc);
+    let mut piece = [0u8; PIECE];
+    for _ in 0..READS {
+        let Ok(count) = input.read(&mut piece) else {
+            return Err(Fault::ReadFile);
+        };
+        if count == 0 {
+            return Ok(all);
+        }
+        all.extend_from_slice(&piece[..count])?;
+    }
+    Err(Fault::ReadFile)
+}
+
 /// Runs the script of a text on the spool that its configuration gives.
-fn run_text<W: Write>(alloc: Global, text: &[u8], output: &mut W) -> Result<(), Fault> {
+fn run_text<W: OctetWrite>(alloc: Global, text: &[u8], output: &mut W) -> Result<(), Fault>
+    ensures write_fault { W.faults output.new ≡ write_faults (W.faults output.old) result }
+    ensures read { result ≢ Err ReadFile }
+{
     let (config, script) = parts(text);
     let config = spool_config::read(alloc, config)?;
     let mut world = World::new(alloc, config)?;
     run_script(alloc, &mut world, script, output)
 }
 
-/// Runs a script line by line.
-fn run_script<W: Write>(
+/// Runs a script line by line. What its lines print is written before a fault is told.
+fn run_script<W: OctetWrite>(
     alloc: Global,
     world: &mut World,
     script: &[u8],
     output: &mut W,
-) -> Result<(), Fault> {
-    let mut number = 0u64;
-    for line in script.split(|octet| *octet == b'\n') {
-        number = number.saturating_add(1);
-        run_line(alloc, world, line, number, output)?;
-    }
-    Ok(())
-}
-
-/// All octets of the input.
-fn read_all<R: Read>(alloc: Global, input: &mut R) -> Result<Vec<u8>, Fault> {
-    let mut all = Vec::new(alloc);
-    match input.read_to_end(&mut all) {
-        Ok(_) => Ok(all),
-        Err(error) if error.kind() == ErrorKind::OutOfMemory => Err(Fault::Memory),
-        Err(_) => Err(Fault::ReadFile),
-    }
-}
-
-/// Where the line that begins at `start` ends: at its LF, or with the text.
-fn line_end(text: &[u8], start: usize) -> usize
-    requires { start ≤ length text.now }
-    ensures low { start ≤ result }
-    ensures high { result ≤ length text.now }
+) -> Result<(), Fault>
+    ensures write_fault { W.faults output.new ≡ write_faults (W.faults output.old) result }
+    ensures read { result ≢ Err ReadFile }
 {
-    let rest = &text[start..];
-    match rest.iter().position(|octet| *octet == b'\n') {
-        Some(at) => start + at,
-        None => text.len(),
+    let mut printed = Vec::new(alloc);
+    let mut number = 0u64;
+    let mut rest = script;
+    while !rest.is_empty() {
+        let (line, after) = cut_line(rest);
+        number = number.saturating_add(1);
+        rest = after;
+        match run_line(alloc, world, line, number) {
+            Ok(text) => print(&mut printed, text.as_str(), output)?,
+            Err(fault) => {
+                write_out(&mut printed, output)?;
+                return Err(fault);
+            }
+        }
+    }
+    write_out(&mut printed, output)
+}
+
+/// Prints a text. It is collected, and written once there is enough or memory is short.
+fn print<W: OctetWrite>(printed: &mut Vec<u8>, text: &str, output: &mut W) -> Result<(), Fault>
+    ensures write_fault { W.faults output.new ≡ write_faults (W.faults output.old) result }
+    ensures fault { IfErr result (λ fault. fault ≡ WriteFile) }
+{
+    if printed.extend_from_slice(text.as_bytes()).is_err() {
+        write_out(printed, output)?;
+        return write(text.as_bytes(), output);
+    }
+    if printed.len() < ENOUGH {
+        return Ok(());
+    }
+    write_out(printed, output)
+}
+
+/// Writes what was collected.
+fn write_out<W: OctetWrite>(printed: &mut Vec<u8>, output: &mut W) -> Result<(), Fault>
+    ensures written { OnOk result
+        (Writes (W.written output.old) (W.written output.new) printed.old.items) }
+    ensures emptied { printed.new.items ≡ [] }
+    ensures write_fault { W.faults output.new ≡ write_faults (W.faults output.old) result }
+    ensures fault { IfErr result (λ fault. fault ≡ WriteFile) }
+{
+    let written = write(printed.as_slice(), output);
+    printed.clear();
+    written
+}
+
+/// Writes all octets.
+fn write<W: OctetWrite>(octets: &[u8], output: &mut W) -> Result<(), Fault>
+    ensures written { OnOk result (Writes (W.written output.old) (W.written output.new) octets.now) }
+    ensures write_fault { W.faults output.new ≡ write_faults (W.faults output.old) result }
+    ensures fault { IfErr result (λ fault. fault ≡ WriteFile) }
+{
+    match write_all(output, octets) {
+        Ok(()) => Ok(()),
+        Err(_) => Err(Fault::WriteFile),
+    }
+}
+
+/// The first line of a text, and what follows its LF.
+fn cut_line(text: &[u8]) -> (&[u8], &[u8])
+    ensures within { length result.1.now ≤ length text.now }
+    ensures shorter { 0 < length text.now → length result.1.now < length text.now }
+{
+    match text.iter().position(|octet| *octet == b'\n') {
+        Some(end) => (&text[..end], &text[end + 1..]),
+        None => (text, &[]),
     }
 }
 
 /// What stands before the first line `%%`, and what stands after it.
 fn parts(text: &[u8]) -> (&[u8], &[u8]) {
-    let mut start = 0;
-    while start < text.len() {
-        let end = line_end(text, start);
-        let next = if end < text.len() { end + 1 } else { end };
-        if &text[start..end] == b"%%".as_slice() {
-            return (&text[..start], &text[next..]);
+    let mut rest = text;
+    while !rest.is_empty() {
+        let (line, after) = cut_line(rest);
+        if line == b"%%".as_slice() {
+            return (&text[..text.len() - rest.len()], after);
         }
-        if end == text.len() {
-            break;
-        }
-        start = next;
+        rest = after;
     }
-    (text, &text[text.len()..])
-}
-
-/// Runs one line of the script, and prints what it came to.
-fn run_line<W: Write>(
-    alloc: Global,
-    world: &mut World,
-    line: &[u8],
-    number: u64,
-    output: &mut W,
-) -> Result<(), Fault> {
-    let line = match parse_line(alloc, line) {
-        Ok(line) => line,
-        Err(LineFault::Bad) => return Err(Fault::BadScript(number)),
-        Err(LineFault::Memory) => return Err(Fault::Memory),
-    };
-    match line {
-        ScriptLine::Nothing => Ok(()),
-        ScriptLine::Connect if !world.is_connected() => connect(world, output),
-        ScriptLine::Send { session, octets } if world.has_session(session) => {
-            send(alloc, world, octets.as_slice(), output)
-        }
-        ScriptLine::Go { session } if world.has_session(session) => {
-            send(alloc, world, &[], output)
-        }
-        ScriptLine::Break { session } if world.has_session(session) => break_off(world, output),
-        ScriptLine::Next { printer } if world.has_printer(printer) => {
-            next(alloc, world, printer, output)
-        }
-        ScriptLine::Printed { printer } if world.has_printer(printer) => {
-            printed(world, printer, output)
-        }
-        ScriptLine::Free => {
-            let free = world.free();
-            written(writeln!(output, "free {free}"))
-        }
-        _ => Err(Fault::BadScript(number)),
-    }
-}
-
-/// A line that can't be written is a fault.
-fn written(line: std::io::Result<()>) -> Result<(), Fault> {
-    line.map_err(|_| Fault::WriteFile)
-}
-
-/// A host connects.
-fn connect<W: Write>(world: &mut World, output: &mut W) -> Result<(), Fault> {
-    world.connect()?;
-    written(writeln!(output, "session 1"))
-}
-
-/// Octets arrive for the session, which goes on as far as it can.
-fn send<W: Write>(
-    alloc: Global,
-    world: &mut World,
-    octets: &[u8],
-    output: &mut W,
-) -> Result<(), Fault> {
-    if !world.is_open() {
-        return written(writeln!(output, "1: gone"));
-    }
-    world.arrive(octets)?;
-    let mut wrote = Vec::new(alloc);
-    let stop = world.go(&mut wrote)?;
-    print_written(alloc, wrote.as_slice(), stop, output)
-}
-
-/// Prints what the session wrote, and why it stopped.
-fn print_written<W: Write>(
-    alloc: Global,
-    wrote: &[u8],
-    stop: Stop,
-    output: &mut W,
-) -> Result<(), Fault> {
-    let octets = hex::encode(alloc, wrote)?;
-    let text = if wrote.is_empty() {
-        "-"
-    } else {
-        octets.as_str()
-    };
-    let end = match stop {
-        Stop::Waiting => "",
-        Stop::Later => " later",
-        Stop::Ended => " ended",
-    };
-    written(writeln!(output, "1: {text}{end}"))
-}
-
-/// The session's connection breaks.
-fn break_off<W: Write>(world: &mut World, output: &mut W) -> Result<(), Fault> {
-    let told = if world.is_open() { "broken" } else { "gone" };
-    world.break_off();
-    written(writeln!(output, "1: {told}"))
-}
-
-/// A printer asks for its next page.
-fn next<W: Write>(
-    alloc: Global,
-    world: &mut World,
-    printer: u32,
-    output: &mut W,
-) -> Result<(), Fault> {
-    let told = world.next(printer);
-    match (told, world.page_at(printer)) {
-        (Told::Handed, Some(page)) => print_page(alloc, printer, page, output),
-        (Told::Busy, _) => written(writeln!(output, "printer {printer}: busy")),
-        _ => written(writeln!(output, "printer {printer}: nothing")),
-    }
-}
-
-/// Prints the page that a printer gets.
-fn print_page<W: Write>(
-    alloc: Global,
-    printer: u32,
-    page: &HandedPage,
-    output: &mut W,
-) -> Result<(), Fault> {
-    let octets = hex::encode(alloc, page.bytes())?;
-    let (job, place) = (page.job(), page.place());
-    written(writeln!(
-        output,
-        "printer {printer}: job {job} place {place} {octets}"
-    ))
-}
-
-/// A printer has printed its page.
-fn printed<W: Write>(world: &mut World, printer: u32, output: &mut W) -> Result<(), Fault> {
-    let told = match world.printed(printer) {
-        Some(Printed::Going) => "going",
-        Some(Printed::Done) => "done",
-        None => "no page",
-    };
-    written(writeln!(output, "printer {printer}: {told}"))
+    (text, rest)
 }

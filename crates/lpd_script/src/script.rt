@@ -1,6 +1,13 @@
 //! The lines of a script.
 
-use std::alloc::{AllocError, Global};
+ghost use Rattle.std.specs.Prelude.{◌≡◌, ◌↔◌, ◌++◌, ◌∷◌, ℕ, List, IsTrue, MatchOption, MatchResult, codes};
+ghost use Rattle.lpd_script.specs.Grammar.{is_host_octet, IsHost, IsNumber, IsNoNumber, IsHex, RefusesHex, Lacks, IsOther, HasNoSpace, IsAtSpace, AnswersLine};
+ghost use Rattle.lpd_script.specs.Laws.{HasOneMeaning};
+ghost use Rattle.std.specs.List.{list_all};
+ghost use Rattle.hex.specs.Hex.{is_hex_digit};
+
+use lpd_commands::Octets;
+use std::alloc::Global;
 
 /// What a line of a script asks for. Sessions and printers have their numbers from 1.
 #[derive(Drop)]
@@ -10,7 +17,7 @@ pub enum ScriptLine {
     /// A host connects.
     Connect,
     /// Octets arrive for a session, which then goes on as far as it can.
-    Send { session: u32, octets: Vec<u8> },
+    Send { session: u32, octets: Octets },
     /// A session goes on as far as it can.
     Go { session: u32 },
     /// A session's connection breaks.
@@ -32,75 +39,179 @@ pub enum LineFault {
     Memory,
 }
 
-impl From<AllocError> for LineFault {
-    fn from(_error: AllocError) -> LineFault {
-        LineFault::Memory
-    }
-}
+/// A line has one meaning at most.
+pub fn line_has_one_meaning(_line: &[u8])
+    ensures { HasOneMeaning _line.now }
+{}
 
 /// Reads one line, without its LF. Words are separated by one space.
-pub fn parse_line(alloc: Global, line: &[u8]) -> Result<ScriptLine, LineFault> {
+pub fn parse_line(alloc: Global, line: &[u8]) -> Result<ScriptLine, LineFault>
+    ensures { AnswersLine line.now result }
+{
     if line.is_empty() || line[0] == b'#' {
         return Ok(ScriptLine::Nothing);
     }
-    let Ok(text) = std::str::from_utf8(line) else {
-        return Err(LineFault::Bad);
-    };
-    let words: Vec<&str> = text.split(' ').collect(alloc)?;
-    parse_words(alloc, words.as_slice())
+    if let Some(host) = after(line, b"connect ") {
+        return if is_host(host) {
+            Ok(ScriptLine::Connect)
+        } else {
+            Err(LineFault::Bad)
+        };
+    }
+    if let Some(operands) = after(line, b"send ") {
+        return parse_send(alloc, operands);
+    }
+    parse_numbered(line)
 }
 
-/// Reads the words of a line.
-fn parse_words(alloc: Global, words: &[&str]) -> Result<ScriptLine, LineFault> {
-    match words {
-        ["connect", host] if is_host(host) => Ok(ScriptLine::Connect),
-        ["send", session, octets] => Ok(ScriptLine::Send {
+/// What follows a word at the head of a line.
+fn after<'a>(line: &'a [u8], word: &[u8]) -> Option<&'a [u8]>
+    ensures { MatchOption result (Lacks word.now line.now) (λ rest. line.now ≡ word.now ++ rest.now) }
+{
+    if line.len() < word.len() {
+        return None;
+    }
+    let (head, rest) = line.split_at(word.len());
+    if head == word { Some(rest) } else { None }
+}
+
+/// Reads a line of a word and the number of a session or a printer, or the line of one word.
+fn parse_numbered(line: &[u8]) -> Result<ScriptLine, LineFault>
+    requires { IsOther line.now }
+    ensures { AnswersLine line.now result }
+{
+    if let Some(session) = after(line, b"go ") {
+        return Ok(ScriptLine::Go {
             session: number(session)?,
-            octets: octets_of(alloc, octets)?,
-        }),
-        ["free"] => Ok(ScriptLine::Free),
-        [word, operand] => parse_numbered(word, number(operand)?),
-        _ => Err(LineFault::Bad),
+        });
     }
-}
-
-/// Reads a line of a word and the number of a session or a printer.
-fn parse_numbered(word: &str, number: u32) -> Result<ScriptLine, LineFault> {
-    match word {
-        "go" => Ok(ScriptLine::Go { session: number }),
-        "break" => Ok(ScriptLine::Break { session: number }),
-        "next" => Ok(ScriptLine::Next { printer: number }),
-        "printed" => Ok(ScriptLine::Printed { printer: number }),
-        _ => Err(LineFault::Bad),
+    if let Some(session) = after(line, b"break ") {
+        return Ok(ScriptLine::Break {
+            session: number(session)?,
+        });
     }
+    if let Some(printer) = after(line, b"next ") {
+        return Ok(ScriptLine::Next {
+            printer: number(printer)?,
+        });
+    }
+    if let Some(printer) = after(line, b"printed ") {
+        return Ok(ScriptLine::Printed {
+            printer: number(printer)?,
+        });
+    }
+    if line == b"free".as_slice() {
+        return Ok(ScriptLine::Free);
+    }
+    Err(LineFault::Bad)
 }
 
 /// Whether a word may name a host: 1 to 64 octets, each from 21 to 7E in hexadecimal.
-fn is_host(word: &str) -> bool {
-    let octets = word.as_bytes();
-    !octets.is_empty() && octets.len() <= 64 && octets.iter().all(|octet| octet.is_ascii_graphic())
+fn is_host(name: &[u8]) -> bool
+    ensures { IsTrue result ↔ IsHost name.now }
+{
+    if name.is_empty() || name.len() > 64 {
+        return false;
+    }
+    are_host_octets(name)
+}
+
+/// Whether a host's name may have these octets.
+fn are_host_octets(octets: &[u8]) -> bool
+    ensures { result ≡ list_all is_host_octet octets.now }
+{
+    octets.iter().all(|octet| is_host_octet(*octet))
+}
+
+/// Whether a host's name may have the octet.
+fn is_host_octet(octet: u8) -> bool
+    ensures { result ≡ is_host_octet octet }
+{
+    33 <= octet && octet <= 126
 }
 
 /// A decimal number of 1 to 9 digits. 0 names nothing.
-fn number(word: &str) -> Result<u32, LineFault> {
-    let digits = word.as_bytes();
-    if digits.len() > 9 || !digits.iter().all(|digit| digit.is_ascii_digit()) {
+fn number(digits: &[u8]) -> Result<u32, LineFault>
+    ensures { MatchResult result (IsNumber digits.now) (IsNoNumber digits.now) }
+{
+    if digits.is_empty() || digits.len() > 9 {
         return Err(LineFault::Bad);
     }
-    match word.parse::<u32>() {
-        Ok(number) if number > 0 => Ok(number),
-        _ => Err(LineFault::Bad),
+    let mut number = 0;
+    for digit in digits {
+        if *digit < b'0' || b'9' < *digit {
+            return Err(LineFault::Bad);
+        }
+        number = 10 * number + u32::from(*digit - b'0');
+    }
+    if number == 0 {
+        Err(LineFault::Bad)
+    } else {
+        Ok(number)
+    }
+}
+
+/// What stands before the first space, and what stands after it.
+fn at_space(text: &[u8]) -> Option<(&[u8], &[u8])>
+    ensures { MatchOption result (HasNoSpace text.now) (λ parts. IsAtSpace text.now parts.0.now parts.1.now) }
+{
+    for (i, octet) in text.iter().enumerate() {
+        if *octet == b' ' {
+            return Some((&text[..i], &text[i + 1..]));
+        }
+    }
+    None
+}
+
+/// Reads a session's number, a space and octets.
+fn parse_send(alloc: Global, operands: &[u8]) -> Result<ScriptLine, LineFault>
+    ensures { AnswersLine (codes "send " ++ operands.now) result }
+{
+    let Some((session, digits)) = at_space(operands) else {
+        return Err(LineFault::Bad);
+    };
+    let Ok(session) = number(session) else {
+        return Err(LineFault::Bad);
+    };
+    match octets_of(alloc, digits) {
+        Ok(octets) => Ok(ScriptLine::Send {
+            session,
+            octets: Octets::from_vec(octets),
+        }),
+        Err(LineFault::Bad) => Err(LineFault::Bad),
+        Err(LineFault::Memory) => Err(LineFault::Memory),
     }
 }
 
 /// The octets of an even number of hexadecimal digits, two or more.
-fn octets_of(alloc: Global, word: &str) -> Result<Vec<u8>, LineFault> {
-    if word.is_empty() {
+fn octets_of(alloc: Global, digits: &[u8]) -> Result<Vec<u8>, LineFault>
+    ensures { MatchResult result (λ octets. IsHex digits.now octets.items) (RefusesHex digits.now) }
+{
+    if digits.is_empty() {
         return Err(LineFault::Bad);
     }
-    match hex::decode(alloc, word) {
-        Ok(octets) => Ok(octets),
-        Err(hex::FromHexError::OutOfMemory) => Err(LineFault::Memory),
-        Err(_) => Err(LineFault::Bad),
+    if digits.len() % 2 != 0 {
+        return Err(LineFault::Bad);
     }
+    if !are_hexadecimal(digits) {
+        return Err(LineFault::Bad);
+    }
+    match hex::decode(alloc, digits) {
+        Ok(octets) => Ok(octets),
+        Err(_) => Err(LineFault::Memory),
+    }
+}
+
+/// Whether all octets are hexadecimal digits, of either case.
+fn are_hexadecimal(digits: &[u8]) -> bool
+    ensures { result ≡ list_all is_hex_digit digits.now }
+{
+    digits.iter().all(|digit| is_hexadecimal(*digit))
+}
+
+/// Whether an octet is a hexadecimal digit, of either case.
+fn is_hexadecimal(digit: u8) -> bool
+    ensures { result ≡ is_hex_digit digit }
+{
+    digit.is_ascii_hexdigit()
 }

@@ -1,7 +1,6 @@
 //! A spool with one session, as scripts run it.
 
 ghost use Rattle.std.specs.Prelude.{◌≤◌, ◌↔◌, IsTrue, vec_len};
-ghost use Rattle.spool_core.specs.Config.{IsConfig};
 
 use crate::session::{Session, Turn};
 use spool_core::{Config, Core, Foreign, HandedPage, Next, Printed};
@@ -80,9 +79,7 @@ fn surrender_all(mut printing: Vec<Option<HandedPage>>) {
 
 impl World {
     /// A world in which nothing has happened.
-    pub fn new(alloc: Global, config: Config) -> Result<World, AllocError>
-        requires { IsConfig config }
-    {
+    pub fn new(alloc: Global, config: Config) -> Result<World, AllocError> {
         let core = Core::new(alloc, config)?;
         let mut world = World {
             alloc,

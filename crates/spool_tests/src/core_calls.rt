@@ -1,8 +1,5 @@
 //! The core, by its calls.
 
-ghost use Rattle.std.specs.Prelude.{IfOk};
-ghost use Rattle.spool_core.specs.Config.{IsConfig};
-
 use crate::rows::{expect, octets, sides};
 use control_file::Control;
 use lpd_commands::{FileName, Refusal};
@@ -15,23 +12,11 @@ use std::process::Abort;
 use std::test::Fail;
 
 /// Four pages of eight octets, and one queue `lp` with a limit of three pages and one printer.
-fn small(alloc: Global) -> Result<Config, AllocError>
-    ensures { IfOk result IsConfig }
-{
+fn small(alloc: Global) -> Result<Config, AllocError> {
     let name = String::from_str(alloc, "lp")?;
     let mut queues = Vec::new(alloc);
-    queues.push(Queue {
-        name,
-        limit: 3,
-        printers: 1,
-    })?;
-    Ok(Config {
-        pages: 4,
-        page_size: 8,
-        max_jobs: 8,
-        account: 1000,
-        queues,
-    })
+    queues.push(Queue::new(name, 3, 1))?;
+    Ok(Config::new(4, 8, 8, 1000, queues))
 }
 
 /// Asks for a page, writes the octets on it, and puts it.

@@ -10,7 +10,7 @@ mod control;
 #[cfg(test)]
 mod core_calls;
 #[cfg(test)]
-mod histories;
+mod faults;
 #[cfg(test)]
 mod lines;
 #[cfg(test)]

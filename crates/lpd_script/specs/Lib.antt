@@ -1,0 +1,6 @@
+-- The words of this crate's contracts.
+pub mod Config
+pub mod Grammar
+pub mod Laws
+pub mod Status
+pub mod Streams

@@ -1,0 +1,297 @@
+//! Worked histories, entry by entry, as the plain reader reads them.
+//!
+//! A history is a configuration, a line `%%` (both may be left out) and a line for each entry: `WHO NUMBER VERB` and then
+//! up to five times `NAME VALUE`, and behind the bar what the reader says once the entry came, which has to be legal and
+//! safe. This is the count of free pages, what the first printer gets next (a page as its job and place, or a word) and
+//! the jobs that may be lent a page, as the digits of one number. An entry that may not come is `refused`, and the next
+//! line goes on without it. `state QUEUE short WORDS`, `state QUEUE long WORDS` and `removal QUEUE AGENT WORDS` are no
+//! entries: behind their bar stands the text that answers them.
+
+use account::{Act, Entry, Outline, Progress, Sheet, Turn};
+use config_values::Config;
+use control_file::Control;
+use history_legality::{free_pages, is_legal, is_safe_now, may};
+use history_reader::{Next, State, next_page, now};
+use history_texts::{removal_text, state_text};
+use lpd_values::{FileName, Octets};
+use std::alloc::{AllocError, Global};
+
+/// The configuration of a history that has none of its own.
+const CONFIG: &str =
+    "pages = 4\npage_size = 8\nmax_jobs = 8\naccount = 1000\n\n[[queue]]\nname = \"lp\"\nlimit = 3\nprinters = 1\n";
+
+/// The lines of a history, without its configuration.
+pub fn rows_of(history: &str) -> &str {
+    match history.split_once("%%\n") {
+        Some((_, rows)) => rows,
+        None => history,
+    }
+}
+
+/// The lines of a history, each with what the reader says.
+pub fn history(alloc: Global, rows: &str) -> Result<Vec<u8>, AllocError> {
+    let (config, rows) = rows.split_once("%%\n").unwrap_or((CONFIG, rows));
+    let mut told = Vec::new(alloc);
+    let Ok(config) = spool_config::read(alloc, config.as_bytes()) else {
+        told.extend_from_slice(b"no configuration\n")?;
+        return Ok(told);
+    };
+    let mut entries = Vec::new(alloc);
+    for row in rows.lines() {
+        let row = told_row(alloc, &config, &mut entries, row)?;
+        told.extend_from_slice(row.as_bytes())?;
+        told.push(b'\n')?;
+    }
+    Ok(told)
+}
+
+/// A line, with what the reader says behind its bar.
+fn told_row(
+    alloc: Global,
+    config: &Config,
+    entries: &mut Vec<Entry>,
+    row: &str,
+) -> Result<String, AllocError> {
+    let Some((asked, _)) = row.split_once("| ") else {
+        return String::from_str(alloc, row);
+    };
+    let said = match word(asked) {
+        ("state", rest) => state_of(alloc, config, entries.as_slice(), rest)?,
+        ("removal", rest) => removal_of(alloc, config, entries.as_slice(), rest)?,
+        _ => match entry(alloc, asked)? {
+            Some(entry) => answer(alloc, config, entries, entry)?,
+            None => String::from_str(alloc, "no entry")?,
+        },
+    };
+    format!(in alloc; "{asked}| {said}")
+}
+
+/// The first word, and what follows it.
+fn word(text: &str) -> (&str, &str) {
+    match text.split_once(' ') {
+        Some(parts) => parts,
+        None => (text, ""),
+    }
+}
+
+/// The second word, which is the value behind its name, and what follows it.
+fn value(text: &str) -> (&str, &str) {
+    word(word(text).1)
+}
+
+/// The number that a word spells, or 0.
+fn number(word: &str) -> u32 {
+    word.parse::<u32>().unwrap_or(0)
+}
+
+/// A page of so many octets.
+fn page(length: u32) -> Outline {
+    Outline {
+        length,
+        digest: [(length & 0xff) as u8; 32],
+    }
+}
+
+/// A control file of this name that prints these files, with a comma between two.
+fn control(alloc: Global, name: &str, prints: &str) -> Result<Option<Control>, AllocError> {
+    let Ok(name) = FileName::read(name.as_bytes()) else {
+        return Ok(None);
+    };
+    let mut text = String::from_str(alloc, "Hh1\nPann\n")?;
+    for print in prints.split(',') {
+        text.push_str("f")?;
+        text.push_str(print)?;
+        text.push_str("\n")?;
+    }
+    Ok(Control::parse(alloc, &name, text.as_bytes()).ok())
+}
+
+/// What the session of a job did.
+fn act(alloc: Global, verb: &str, values: [&str; 5]) -> Result<Option<Act>, AllocError> {
+    let [name, prints, _, _, _] = values;
+    let (first, second, third) = (number(values[0]), number(values[1]), number(values[2]));
+    Ok(match verb {
+        "began" => match FileName::read(name.as_bytes()) {
+            Ok(name) => Some(Act::Began(name, u64::from(second))),
+            Err(_) => None,
+        },
+        "granted" => Some(Act::Granted),
+        "put" => Some(Act::Put(u64::from(first), u64::from(second), page(third))),
+        "ended" => Some(Act::FileEnded(u64::from(first), second == 1)),
+        "controlled" => match control(alloc, name, prints)? {
+            Some(control) => Some(Act::Controlled(control, third == 1)),
+            None => None,
+        },
+        "aborted" => Some(Act::Aborted),
+        _ => None,
+    })
+}
+
+/// What became of a page at a printer: it was handed to it, failed, or was printed and this is said of its job.
+fn turn(verb: &str) -> Option<Turn> {
+    match verb {
+        "handed" => Some(Turn::Handed),
+        "going" => Some(Turn::Printed(Progress::Going)),
+        "done" => Some(Turn::Printed(Progress::Done)),
+        "ended" => Some(Turn::Printed(Progress::Ended)),
+        "failed" => Some(Turn::Failed),
+        _ => None,
+    }
+}
+
+/// The page of this job and place, of so many octets. Where no file and page number stand behind these, it is the page
+/// of its place's number in the first file.
+fn sheet(values: [&str; 5]) -> Sheet {
+    let [job, place, length, file, page_number] = values;
+    let of_place = if page_number.is_empty() {
+        place
+    } else {
+        page_number
+    };
+    Sheet {
+        job: u64::from(number(job)),
+        place: u64::from(number(place)),
+        file: u64::from(number(file)),
+        number: u64::from(number(of_place)),
+        page: page(number(length)),
+    }
+}
+
+/// Jobs of a queue were removed: their numbers with a comma between two, and none where that is 0.
+fn removed(alloc: Global, queue: u32, numbers: &str) -> Result<Entry, AllocError> {
+    let mut jobs = Vec::new(alloc);
+    for job in numbers.split(',') {
+        if number(job) != 0 {
+            jobs.push(u64::from(number(job)))?;
+        }
+    }
+    Ok(Entry::Removed(queue, jobs))
+}
+
+/// The entry that a line tells, or None where it tells none.
+fn entry(alloc: Global, line: &str) -> Result<Option<Entry>, AllocError> {
+    let (who, rest) = word(line);
+    let (which, rest) = word(rest);
+    let (verb, rest) = word(rest);
+    let (first, rest) = value(rest);
+    let (second, rest) = value(rest);
+    let (third, rest) = value(rest);
+    let (fourth, rest) = value(rest);
+    let (fifth, _) = value(rest);
+    let values = [first, second, third, fourth, fifth];
+    let which = number(which);
+    let job = u64::from(which);
+    Ok(match (who, verb) {
+        ("job", "opened") => Some(Entry::Opened(job, number(first), number(second))),
+        ("job", _) => match act(alloc, verb, values)? {
+            Some(act) => Some(Entry::OfJob(job, act)),
+            None => None,
+        },
+        ("printer", _) => match turn(verb) {
+            Some(turn) => Some(Entry::AtPrinter(which, sheet(values), turn)),
+            None => None,
+        },
+        ("queue", "removed") => Some(removed(alloc, which, first)?),
+        ("queue", "started") => Some(Entry::Started(which)),
+        ("spool", "closed") => Some(Entry::Closed),
+        _ => None,
+    })
+}
+
+/// What a printer gets: a page as its job and place, or a word.
+fn next_word(alloc: Global, next: Next) -> Result<String, AllocError> {
+    match next {
+        Next::Hands(sheet) => format!(in alloc; "{}.{}", sheet.job, sheet.place),
+        Next::Nothing => String::from_str(alloc, "nothing"),
+        Next::Stops => String::from_str(alloc, "stops"),
+        Next::Busy => String::from_str(alloc, "busy"),
+        Next::Over => String::from_str(alloc, "over"),
+    }
+}
+
+/// Which of the first three jobs may be lent a page, as the digits of a number.
+fn lendable(alloc: Global, config: &Config, state: &State) -> Result<u64, AllocError> {
+    let mut digits = 0u64;
+    for job in 1..4 {
+        if may(alloc, config, state, &Entry::OfJob(job, Act::Granted))? {
+            digits = digits.saturating_mul(10).saturating_add(job);
+        }
+    }
+    Ok(digits)
+}
+
+/// What the reader says of a spool that stands like this.
+fn standing(alloc: Global, config: &Config, state: &State) -> Result<String, AllocError> {
+    if !is_safe_now(alloc, config, state)? {
+        return String::from_str(alloc, "not safe");
+    }
+    let free = free_pages(alloc, config, state)?;
+    let lend = lendable(alloc, config, state)?;
+    let next = next_word(alloc, next_page(alloc, config, state, 1)?)?;
+    format!(in alloc; "{free} {next} {lend}")
+}
+
+/// What the reader says once an entry came, if it may. The newest entry stands first.
+fn answer(
+    alloc: Global,
+    config: &Config,
+    entries: &mut Vec<Entry>,
+    entry: Entry,
+) -> Result<String, AllocError> {
+    let before = now(alloc, config, entries.as_slice())?;
+    if !may(alloc, config, &before, &entry)? {
+        return String::from_str(alloc, "refused");
+    }
+    entries.insert(0, entry)?;
+    if !is_legal(alloc, config, entries.as_slice())? {
+        return String::from_str(alloc, "not legal");
+    }
+    let state = now(alloc, config, entries.as_slice())?;
+    standing(alloc, config, &state)
+}
+
+/// The words of a list.
+fn words(alloc: Global, text: &str) -> Result<Vec<Octets>, AllocError> {
+    let mut list = Vec::new(alloc);
+    for word in text.split_whitespace() {
+        list.push(Octets::copy_of(alloc, word.as_bytes())?)?;
+    }
+    Ok(list)
+}
+
+/// A text, with its line feeds as escapes.
+fn shown(alloc: Global, text: &[u8]) -> Result<String, AllocError> {
+    format!(in alloc; "{}", text.escape_ascii())
+}
+
+/// What the reader answers for the state of a queue.
+fn state_of(
+    alloc: Global,
+    config: &Config,
+    entries: &[Entry],
+    asked: &str,
+) -> Result<String, AllocError> {
+    let (queue, rest) = word(asked);
+    let (form, list) = word(rest);
+    let list = words(alloc, list)?;
+    let state = now(alloc, config, entries)?;
+    let long = form == "long";
+    let text = state_text(alloc, config, &state, number(queue), list.as_slice(), long)?;
+    shown(alloc, text.as_slice())
+}
+
+/// What the reader answers for a removal.
+fn removal_of(
+    alloc: Global,
+    config: &Config,
+    entries: &[Entry],
+    asked: &str,
+) -> Result<String, AllocError> {
+    let (queue, rest) = word(asked);
+    let (agent, list) = word(rest);
+    let list = words(alloc, list)?;
+    let state = now(alloc, config, entries)?;
+    let agent = agent.as_bytes();
+    let text = removal_text(alloc, config, &state, number(queue), agent, list.as_slice())?;
+    shown(alloc, text.as_slice())
+}
