@@ -1,6 +1,6 @@
 //! The groups of rows.
 
-use crate::{control, lines, scripts, tables};
+use crate::{control, histories, lines, rows, scripts, tables};
 use std::alloc::{AllocError, Global};
 
 /// A group of rows that are asked of the same function.
@@ -89,6 +89,14 @@ impl Group {
             Group::Scripts => row.split_once("----\n").unwrap_or((row, "")),
             Group::Histories => (row, histories::rows_of(row)),
             _ => row.split_once(" => ").unwrap_or((row, "")),
+        }
+    }
+
+    /// The octets that are wanted: those of a text with escapes, but for a history, which is wanted as it stands.
+    pub fn wanted(self, alloc: Global, wanted: &str) -> Result<Vec<u8>, AllocError> {
+        match self {
+            Group::Histories => Vec::from_slice(alloc, wanted.as_bytes()),
+            _ => rows::octets(alloc, wanted),
         }
     }
 

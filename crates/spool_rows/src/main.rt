@@ -44,7 +44,7 @@ fn run_group<R: Files + AllocGlobal + Print>(rt: &R, group: Group) -> io::Result
 fn difference(alloc: Global, group: Group, row: &str) -> Result<Option<String>, AllocError> {
     let (asked, wanted) = group.sides(row);
     let answer = group.answer(alloc, asked)?;
-    let wanted = rows::octets(alloc, wanted)?;
+    let wanted = group.wanted(alloc, wanted)?;
     if answer.as_slice() == wanted.as_slice() {
         return Ok(None);
     }
