@@ -13,7 +13,7 @@ use account::{Act, Outline};
 use config_values::Config;
 use control_file::Control;
 use history_reader::{File, Job, all_begun, is_begun, is_open_in};
-use lpd_values::FileName;
+use lpd_values::{FileName, MAX_FILES};
 
 /// Whether a job is being received.
 fn is_receiving(job: &Job) -> bool
@@ -56,7 +56,7 @@ fn may_begin(config: &Config, job: &Job, name: &FileName, count: u64) -> bool
     is_receiving(job)
         && !is_open_in(job.files.as_slice())
         && !is_begun(name, job.files.as_slice())
-        && job.files.len() < 52
+        && job.files.len() < MAX_FILES
         && has_pages_for(config, job, count)
 }
 

@@ -3,6 +3,7 @@ use Rattle.std.specs.Prelude.{◌≡◌, ℕ, ◌+◌, ◌-◌, ◌*◌, ◌/◌
 use Rattle.std.specs.List.Sorted.{IsStrictlyIncreasing}
 use Rattle.std.specs.List.{AllByRecursion}
 use Rattle.lpd_values.specs.Kept.{is_among, is_operand, is_print_list}
+use Rattle.lpd_values.specs.declared.limits.TheConstants.{MAX_FILES}
 use Rattle.lpd_values.specs.Contents.{Contents}
 use Rattle.config_values.specs.Config.{Config, IsQueue, IsPrinter, limit_of, reserve_of}
 use Rattle.spool_history.specs.Events.{Act, Sheet, Progress, Turn, Event}
@@ -54,7 +55,7 @@ HasNoFile name job = is_among name (names_in job.files) ≡ false
 
 -- it has fewer files than it may have
 abbrev pub HasFileRoom : {C : Type 0} → Job C → Type 0
-HasFileRoom job = length job.files < 52
+HasFileRoom job = length job.files < MAX_FILES
 
 -- with the pages of a file of so many octets it holds no more than its queue's limit
 abbrev pub IsWithinLimit : {C : Type 0} → Config → ℕ → Job C → Type 0
