@@ -2,8 +2,8 @@
 use Rattle.std.proofs.Common.{◌≡◌, ℕ, zero, suc, ◌<◌, ◌↔◌, Bool, true, false, List, [], ◌∷◌, ◌++◌, length, get_or, refl, sym, ◌∙◌, ap, subst, arith, map, not, ◌||◌, ◌&&◌}
 use Rattle.std.specs.Prelude.{Some}
 use Rattle.std.specs.List.{list_all}
-use Rattle.control_file.specs.Kept.{is_among}
-use Rattle.control_file.specs.Text.{Contents}
+use Rattle.lpd_values.specs.Kept.{is_among}
+use Rattle.lpd_values.specs.Contents.{Contents}
 use Rattle.std.proofs.lemmas.List.{map-append, length-map}
 use Rattle.spool_history.specs.Acts as A
 use Rattle.spool_history.specs.Now.{Job, State}

@@ -1,6 +1,6 @@
 -- What an event asks of a job, a printer or a list of numbers.
 use Rattle.std.specs.Prelude.{◌≡◌, ℕ, ◌+◌, ◌-◌, ◌*◌, ◌<◌, ◌≤◌, ◌⊎◌, min, true, false, List, [], ◌∷◌, ◌++◌, None, length, Contains, slice_index_or}
-use Rattle.control_file.specs.Kept.{is_among}
+use Rattle.lpd_values.specs.Kept.{is_among}
 use Rattle.spool_history.specs.Setup as S
 use Rattle.spool_history.specs.Events as E
 use Rattle.spool_history.specs.Events.Act.{Opened, Granted, Began, Put, FileEnded, Controlled, Aborted}

@@ -1,7 +1,7 @@
 -- What the reader's values say, in the words of the definitions.
 use Rattle.std.specs.Prelude.{ℕ, List, Option, Some, None, map}
 use Rattle.control_file.specs.declared.control.Control.{Control}
-use Rattle.control_file.specs.Text.{Contents}
+use Rattle.lpd_values.specs.Contents.{Contents}
 use Rattle.control_file.specs.View.{contents}
 use Rattle.spool_history.specs.Setup as S
 use Rattle.spool_history.specs.Events as E

@@ -2,14 +2,14 @@
 
 ghost use Rattle.std.specs.Prelude.{◌≡◌, ◌≤◌, ◌==◌, ◌&&◌, ◌-◌, ◌∷◌, [], MatchOption, codes, filter, length, map, not, take};
 ghost use Rattle.std.specs.List.{list_any};
-ghost use Rattle.lpd_commands.specs.Kinds.{is_digit};
-ghost use Rattle.lpd_commands.specs.Line.{count_of};
+ghost use Rattle.lpd_values.specs.Kinds.{is_digit};
+ghost use Rattle.lpd_values.specs.Digits.{count_of};
 ghost use Rattle.spool_history.specs.Choice as C;
 ghost use Rattle.spool_history.specs.Told as O;
 ghost use Rattle.history_reader.specs.Seen.{job_seen};
 
 use crate::state::Job;
-use lpd_commands::Octets;
+use lpd_values::Octets;
 
 /// Whether an octet is a decimal digit.
 fn is_digit(octet: u8) -> bool

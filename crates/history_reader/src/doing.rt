@@ -14,7 +14,7 @@ use crate::received::{all_begun, is_begun, is_open_in};
 use crate::setup::Setup;
 use crate::state::{File, Job};
 use control_file::Control;
-use lpd_commands::FileName;
+use lpd_values::FileName;
 
 /// Whether a job is being received.
 fn is_receiving(job: &Job) -> bool

@@ -1,7 +1,7 @@
 //! What happens to a spool. Lists of events have the newest first.
 
 use control_file::Control;
-use lpd_commands::FileName;
+use lpd_values::FileName;
 
 /// What an account says of a page: its length in octets and its SHA-256 (FIPS 180-4).
 #[derive(Clone, Copy, PartialEq, Eq)]

@@ -2,14 +2,14 @@
 
 ghost use Rattle.std.specs.Prelude.{◌≡◌, ◌==◌, ◌<◌, ◌+◌, ◌^◌, ◌++◌, IfOk, OnOk, length, map};
 ghost use Rattle.std.specs.List.{flat_map, list_all};
-ghost use Rattle.control_file.specs.Kept.{is_among};
+ghost use Rattle.lpd_values.specs.Kept.{is_among};
 ghost use Rattle.spool_history.specs.Acts as A;
 ghost use Rattle.spool_history.specs.Now as N;
 ghost use Rattle.history_reader.specs.Seen.{file_seen, job_seen, page_seen};
 
 use crate::events::Outline;
 use crate::state::{File, Job, Page};
-use lpd_commands::FileName;
+use lpd_values::FileName;
 use std::alloc::{AllocError, Global};
 
 /// Whether a file has not ended.

@@ -2,7 +2,7 @@
 
 ghost use Rattle.std.specs.Prelude.{◌≤◌, length};
 
-use lpd_commands::Octets;
+use lpd_values::Octets;
 
 /// A queue and its printers.
 #[derive(Drop)]

@@ -2,7 +2,7 @@
 
 use crate::events::{Outline, Sheet};
 use control_file::Control;
-use lpd_commands::FileName;
+use lpd_values::FileName;
 
 /// A job that was accepted.
 #[derive(Clone, Copy)]

@@ -13,7 +13,7 @@ ghost use Rattle.history_reader.specs.Seen.{file_seen, job_seen, printer_seen, q
 use crate::choice::{first_active, is_chosen, is_listed, is_picked, may_remove};
 use crate::setup::{Queue, Setup};
 use crate::state::{File, Job, Printer, State};
-use lpd_commands::{FileName, Octets};
+use lpd_values::{FileName, Octets};
 use std::alloc::{AllocError, Global};
 
 /// Puts a number in decimal digits behind a text.

@@ -1,9 +1,9 @@
 -- What the acts of one job say. The newest stands first.
 use Rattle.std.specs.Prelude.{ℕ, ◌+◌, Bool, true, false, ◌&&◌, not, List, [], ◌∷◌, ◌++◌, Option, Some, None, map, is_some, if◌then◌else◌}
 use Rattle.std.specs.List.{list_all, list_any, flat_map}
-use Rattle.control_file.specs.Text.{Contents}
+use Rattle.lpd_values.specs.Contents.{Contents}
 use Rattle.std.specs.Str.{bytes_eq}
-use Rattle.control_file.specs.Kept.{is_among}
+use Rattle.lpd_values.specs.Kept.{is_among}
 use Rattle.spool_history.specs.Events.{Act}
 use Rattle.spool_history.specs.Events.Act.{Granted, Began, Put, FileEnded, Controlled, Aborted}
 

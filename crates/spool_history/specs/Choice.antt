@@ -2,8 +2,8 @@
 use Rattle.std.specs.Prelude.{ℕ, ◌==◌, ◌||◌, ◌&&◌, not, nat_le, Bool, List, [], ◌∷◌, filter, length, take, if◌then◌else◌, codes}
 use Rattle.std.specs.List.{list_all, list_any}
 use Rattle.std.specs.Str.{bytes_eq}
-use Rattle.lpd_commands.specs.Kinds.{is_digit}
-use Rattle.lpd_commands.specs.Line.{count_of}
+use Rattle.lpd_values.specs.Kinds.{is_digit}
+use Rattle.lpd_values.specs.Digits.{count_of}
 use Rattle.spool_history.specs.Now.{Job, State, is_received}
 use Rattle.spool_history.specs.Told.{number_of, user_of}
 

@@ -1,6 +1,6 @@
 -- What happens to a spool. Lists of events have the newest first.
 use Rattle.std.specs.Prelude.{ℕ, Bool, List}
-use Rattle.control_file.specs.Text.{Contents}
+use Rattle.lpd_values.specs.Contents.{Contents}
 
 -- what the session of a job does; C is what a page holds
 pub data Act (C : Type 0) : Type 0 where

@@ -2,8 +2,8 @@
 use Rattle.std.specs.Prelude.{◌≡◌, ℕ, ◌+◌, ◌-◌, ◌*◌, ◌/◌, ◌^◌, ◌==◌, ◌<◌, ◌≤◌, ◌⊎◌, min, Bool, true, false, List, [], ◌∷◌, ◌++◌, Some, None, length, Contains, if◌then◌else◌}
 use Rattle.std.specs.List.Sorted.{IsStrictlyIncreasing}
 use Rattle.std.specs.List.{AllByRecursion}
-use Rattle.control_file.specs.Kept.{is_among, is_operand, is_print_list}
-use Rattle.control_file.specs.Text.{Contents}
+use Rattle.lpd_values.specs.Kept.{is_among, is_operand, is_print_list}
+use Rattle.lpd_values.specs.Contents.{Contents}
 use Rattle.spool_history.specs.Events.{Act, Sheet, Progress, Turn, Event}
 use Rattle.spool_history.specs.Events.Act.{Opened, Granted, Began, Put, FileEnded, Controlled, Aborted}
 use Rattle.spool_history.specs.Events.Progress.{Going, Done, Ended}

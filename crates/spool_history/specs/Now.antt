@@ -3,7 +3,7 @@ use Rattle.std.specs.Prelude.{ℕ, zero, suc, ◌-◌, ◌==◌, ◌||◌, not, 
 use Rattle.counts.specs.Amounts.{amount}
 use Rattle.claims.specs.declared.row.Row.{Row}
 use Rattle.ordered_safety.specs.Safety.{HasFinishingOrder}
-use Rattle.control_file.specs.Text.{Contents}
+use Rattle.lpd_values.specs.Contents.{Contents}
 use Rattle.spool_history.specs.Events.{Event, Sheet}
 use Rattle.spool_history.specs.Setup.{Setup, Queue, limit_of, printer_count, queue_of, reserve_of}
 use Rattle.spool_history.specs.Acts.{File, Page, granted_by, is_lent_by, files_by, control_by, is_whole, places_in}

@@ -1,6 +1,6 @@
 -- A worked history: one job of 11 octets in pages of 8, whose control file comes after its data file, and the close.
 use Rattle.std.specs.Prelude.{◌≡◌, ℕ, ◌+◌, true, false, List, [], ◌∷◌, map, drop, length}
-use Rattle.control_file.specs.Text.{Contents}
+use Rattle.lpd_values.specs.Contents.{Contents}
 use Rattle.spool_history.specs.Events.{Sheet, Event}
 use Rattle.spool_history.specs.Events.Act.{Opened, Granted, Began, Put, FileEnded, Controlled}
 use Rattle.spool_history.specs.Events.Progress.{Going, Done}

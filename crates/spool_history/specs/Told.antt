@@ -1,6 +1,6 @@
 -- What a control file tells of its job.
 use Rattle.std.specs.Prelude.{ℕ, List, [], Option, Some, None}
-use Rattle.control_file.specs.Text.{Contents}
+use Rattle.lpd_values.specs.Contents.{Contents}
 use Rattle.spool_history.specs.Now.{Job}
 
 abbrev pub number_in : Option Contents → ℕ

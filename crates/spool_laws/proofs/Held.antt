@@ -4,9 +4,9 @@ use Rattle.std.specs.Prelude.{◌||◌, ◌&&◌, not, cond, nat_le}
 use Rattle.std.specs.List.{list_all, flat_map}
 use Rattle.std.specs.Str.{bytes_eq}
 use Rattle.std.proofs.lemmas.Slice.Eq.{bytes_eq-Decides}
-use Rattle.control_file.specs.Text.{Contents}
-use Rattle.control_file.specs.Kept.{is_among, is_print_list, all_differ}
-use Rattle.lpd_commands.specs.Name.{is_data_name}
+use Rattle.lpd_values.specs.Contents.{Contents}
+use Rattle.lpd_values.specs.Kept.{is_among, is_print_list, all_differ}
+use Rattle.lpd_values.specs.Name.{is_data_name}
 use Rattle.spool_history.specs.Events.{Act, Event}
 use Rattle.spool_history.specs.Events.Act.{Opened, Granted, Began, Put, FileEnded, Controlled, Aborted}
 use Rattle.spool_history.specs.Events.Event.{OfJob, AtPrinter, Removed, Started, Closed}

@@ -3,7 +3,7 @@ use Rattle.std.proofs.Common.{◌≡◌, ◌==◌, ℕ, ◌+◌, ◌-◌, Bool, 
 use Rattle.std.specs.Prelude.{◌&&◌, ◌||◌, not, cond, find, is_some, option_map, sum_by, Option, Some, None, bytes_eq}
 use Rattle.std.specs.List.{list_any, list_all, flat_map}
 use Rattle.std.proofs.lemmas.List.{map-append, drop-map, length-map}
-use Rattle.control_file.specs.Kept.{is_among}
+use Rattle.lpd_values.specs.Kept.{is_among}
 use Rattle.claims.specs.declared.row.Row.{Row}
 use Rattle.counts.specs.Amounts.{amount}
 use Rattle.ordered_safety.specs.Safety.{HasFinishingOrder}

@@ -2,7 +2,7 @@ use Rattle.std.proofs.Common.{◌≡◌, ◌∙◌, ℕ, List, true, false, ap, 
 use Rattle.std.specs.Prelude.{Option}
 use Rattle.std.specs.List.{list_all}
 use Rattle.control_file.specs.declared.control.Control.{Control}
-use Rattle.control_file.specs.Kept.{is_among}
+use Rattle.lpd_values.specs.Kept.{is_among}
 use Rattle.control_file.specs.View.{contents}
 use Rattle.spool_history.specs.Acts as A
 use Rattle.history_reader.specs.declared.events.Outline.{Outline}
