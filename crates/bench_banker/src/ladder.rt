@@ -37,8 +37,8 @@ fn pages(alloc: Global, amount: u32) -> Result<Counts, AllocError> {
     Ok(counts)
 }
 
-/// Adds a row of a sender of its own that claims so many pages and, if `held`, holds one of them. Answers whether it had
-/// a place.
+/// Adds a row of a sender of its own that claims so many pages and, if `held`, holds one of them.
+/// Answers whether it had a place.
 fn add_row(table: &mut Table, sender: u32, claim: &Counts, held: bool) -> bool {
     let number = u64::from(sender);
     let greater = table.rows().iter().all(|row| row.number < number);
@@ -74,7 +74,8 @@ fn table_of(alloc: Global, ladder: Ladder, rows: u32) -> Result<Option<Table>, A
     Ok(Some(table))
 }
 
-/// How many comparisons one decision on a page takes, and how long. None where the rows can't be made.
+/// How many comparisons one decision on a page takes, and how long. None where the rows can't be
+/// made.
 pub fn decide<R: AllocGlobal + Clock>(
     rt: &R,
     ladder: Ladder,

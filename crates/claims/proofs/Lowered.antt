@@ -1,6 +1,6 @@
 -- Rows that hold and need no more than before can finish as before, and a row may stand last that needs no more than there is.
-use Rattle.std.proofs.Common.{◌⊎◌, inl, inr, ◌≡◌, ℕ, ◌+◌, ◌-◌, ◌≤◌, Bool, true, false, List, [], ◌∷◌, ◌++◌, map, refl, sym, ◌∙◌, ap, subst, arith, append_assoc}
-use Rattle.std.specs.Prelude.{sum_by, filter}
+use Rattle.std.proofs.Common.{◌⊎◌, inl, inr, ◌≡◌, ℕ, ◌+◌, ◌≤◌, List, [], ◌∷◌, ◌++◌, refl, sym, ◌∙◌, ap, subst, arith, append_assoc}
+use Rattle.std.specs.Prelude.{sum_by}
 use Rattle.std.specs.List.{AllByRecursion}
 use Rattle.std.proofs.lemmas.List.{append-nil}
 use Rattle.std.proofs.lemmas.List.Sums.{sum_by-cons}
@@ -8,7 +8,7 @@ use Rattle.counts.specs.Amounts.{amount}
 use Rattle.claims.specs.declared.row.Row.{Row}
 use Rattle.claims.specs.Claims.{Pairwise}
 use Rattle.claims.specs.Safety.{freed, CanFinish, KeepsLine, IsOrderOf, HasFinishingOrder}
-use Rattle.claims.proofs.Orders.{order_without, finish_more, safe_more, safe_without, all_in_order}
+use Rattle.claims.proofs.Orders.{order_without, finish_more, all_in_order}
 
 -- the second is of the same job, and holds and needs no more
 pub record Lower (x y : Row) : Type 0 where

@@ -1,3 +1,5 @@
+//! What one job holds and may still need.
+
 use counts::Counts;
 
 /// What one job holds and may still need, of each kind of resource.

@@ -1,3 +1,5 @@
+//! The table of claims.
+
 ghost use Rattle.std.specs.Prelude.{◌≡◌, ◌≢◌, ℕ, ◌+◌, ◌-◌, ◌<◌, ◌≤◌, ◌↔◌, ◌∷◌, ◌++◌, [], IsTrue, IfOk, IfSome, IfNone, OnOk, OnErr, MatchResult, length, All};
 ghost use Rattle.counts.specs.Amounts.{amount, Fits};
 ghost use Rattle.claims.specs.Claims.{IsTable, row_at};
@@ -50,17 +52,32 @@ impl Model for Table {
 
     ghost Value = { Claims };
 
-    ghost view = { λ t. record { capacity = t.capacity; free = t.free; rows = t.rows.items; room = t.room } };
+    ghost view = { λ t. record {
+      capacity = t.capacity;
+      free = t.free;
+      rows = t.rows.items;
+      room = t.room;
+    } };
 
     ghost invariant = { λ t.
-        IsTable (record { capacity = t.capacity; free = t.free; rows = t.rows.items; room = t.room })
+        IsTable (record {
+          capacity = t.capacity;
+          free = t.free;
+          rows = t.rows.items;
+          room = t.room;
+        })
         × (t.room ≤ vec_capacity t.rows) };
 }
 
 impl Table {
     /// A table of this capacity, all of it free, with no rows and room for so many.
     pub fn new(alloc: Global, capacity: &Counts, rows: u32) -> Result<Table, AllocError>
-        ensures { IfOk result (λ t. t ≡ record { capacity = capacity.now; free = capacity.now; rows = []; room = rows }) }
+        ensures { IfOk result (λ t. t ≡ record {
+          capacity = capacity.now;
+          free = capacity.now;
+          rows = [];
+          room = rows;
+        }) }
     {
         let _kinds = capacity.kinds();
         let room = rows as usize;
@@ -113,7 +130,8 @@ impl Table {
 
     /// The place of the row with this number.
     pub fn position(&self, number: u64) -> Option<usize>
-        ensures found { IfSome result (λ i. (i < length self.now.rows) × ((row_at self.now.rows i).number ≡ number)) }
+        ensures found { IfSome result (λ i.
+            (i < length self.now.rows) × ((row_at self.now.rows i).number ≡ number)) }
         ensures absent { IfNone result (All (λ row. row.number ≢ number) self.now.rows) }
     {
         position(self.rows.as_slice(), number)
@@ -131,7 +149,8 @@ impl Table {
         requires greater { All (λ other. other.number < number) self.old.rows }
         requires kinds { length need.now ≡ length self.old.capacity }
         ensures opened { OnOk result (self.new ≡ opened self.old number sender queue need.now) }
-        ensures cause { MatchResult result (λ _. HasPlace self.old need.now) (RefusedFor self.old need.now) }
+        ensures cause { MatchResult result
+            (λ _. HasPlace self.old need.now) (RefusedFor self.old need.now) }
         ensures unchanged { OnErr result (self.new ≡ self.old) }
     {
         if !need.le(&self.capacity) {
@@ -198,7 +217,8 @@ impl Table {
     fn set_amounts(&mut self, i: usize, kind: usize, held: u32, need: u32)
         requires here { i < length self.old.rows }
         requires kind { kind < length self.old.capacity }
-        requires fits { held ≤ amount self.old.free kind + amount (row_at self.old.rows i).held kind }
+        requires fits { held ≤ amount self.old.free kind
+            + amount (row_at self.old.rows i).held kind }
         ensures { self.new ≡ with_amounts self.old i kind held need }
     {
         let row = &mut self.rows[i];
@@ -214,13 +234,11 @@ impl Table {
         requires room { length self.old.rows < self.old.room }
         requires greater { All (λ other. other.number < row.number) self.old.rows }
         requires holds { (kind : ℕ) → amount row.held kind ≡ 0 }
-        requires kinds { (length row.held ≡ length self.old.capacity) × (length row.need ≡ length self.old.capacity) }
+        requires kinds { (length row.held ≡ length self.old.capacity)
+            × (length row.need ≡ length self.old.capacity) }
         ensures { self.new ≡ record self.old { rows = self.old.rows ++ row ∷ [] } }
     {
-        match self.rows.push(row) {
-            Ok(()) => {}
-            Err(_) => unreachable!(),
-        }
+        self.rows.push(row).unwrap();
     }
 }
 
@@ -245,7 +263,8 @@ fn new_row(
 
 /// The place of the row with this number.
 fn position(rows: &[Row], number: u64) -> Option<usize>
-    ensures found { IfSome result (λ i. (i < length rows.now) × ((row_at rows.now i).number ≡ number)) }
+    ensures found { IfSome result (λ i.
+        (i < length rows.now) × ((row_at rows.now i).number ≡ number)) }
     ensures absent { IfNone result (All (λ row. row.number ≢ number) rows.now) }
 {
     rows.iter().position(|row| row.number == number)

@@ -1,3 +1,5 @@
+//! Amounts of each kind of resource.
+
 ghost use Rattle.std.specs.Prelude.{◌≡◌, ℕ, ◌+◌, ◌<◌, ◌^◌, ◌↔◌, IsTrue, IsOk, IfOk, OnOk, OnErr, length, replicate, slice_set};
 ghost use Rattle.counts.specs.Amounts.{amount, Fits, sum_of, rest_of};
 
@@ -95,7 +97,8 @@ impl Counts {
     /// nothing changes.
     pub fn try_add(&mut self, more: &Counts) -> Result<(), TooLarge>
         requires { length more.now ≡ length self.old }
-        ensures fits { IsOk result ↔ ((kind : ℕ) → amount self.old kind + amount more.now kind < 2 ^ 32) }
+        ensures fits { IsOk result
+            ↔ ((kind : ℕ) → amount self.old kind + amount more.now kind < 2 ^ 32) }
         ensures sum { OnOk result (self.new ≡ sum_of self.old more.now) }
         ensures unchanged { OnErr result (self.new ≡ self.old) }
     {
@@ -155,7 +158,8 @@ fn fits(need: &[u32], free: &[u32]) -> bool
 /// Whether each sum is an amount.
 fn has_room(amounts: &[u32], more: &[u32]) -> bool
     requires { length more.now ≡ length amounts.now }
-    ensures { IsTrue result ↔ ((kind : ℕ) → amount amounts.now kind + amount more.now kind < 2 ^ 32) }
+    ensures { IsTrue result
+        ↔ ((kind : ℕ) → amount amounts.now kind + amount more.now kind < 2 ^ 32) }
 {
     for k in 0..more.len() {
         if amounts[k].checked_add(more[k]).is_none() {

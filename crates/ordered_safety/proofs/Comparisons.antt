@@ -1,5 +1,5 @@
 -- The comparisons of one turn, and of those after it.
-use Rattle.std.proofs.Common.{◌≡◌, ℕ, suc, ◌+◌, ◌<◌, ◌↔◌, Bool, true, false, List, [], ◌∷◌, ◌++◌, length, get_or, take, drop, map, refl, subst, ap, ap₂, sym, ◌∙◌, inl, inr, arith}
+use Rattle.std.proofs.Common.{◌≡◌, ℕ, suc, ◌+◌, ◌<◌, ◌↔◌, Bool, true, false, List, [], ◌∷◌, ◌++◌, length, get_or, take, drop, refl, subst, ap, ap₂, sym, ◌∙◌, inl, inr, arith}
 use Rattle.std.specs.Prelude.{IsTrue, slice_index, remove}
 use Rattle.std.specs.List.{list_any}
 use Rattle.std.proofs.lemmas.List.{get_or_default, get_or-take, length-take-le, map-append, take-map, drop-map, length-map}
@@ -9,7 +9,7 @@ use Rattle.claims.specs.declared.row.Row.{Row}
 use Rattle.claims.specs.Claims.{row_at, no_row}
 use Rattle.claims.specs.Safety.{freed, same_line}
 use Rattle.ordered_safety.specs.Scan.{rows_at, row_of, IsHead, MayGoAt, HasTurn}
-use Rattle.ordered_safety.specs.Compared.{compared, CanGo, GoesNext, NoneCanGo, AreTurns, scan_tests, ScanTakes, IsNext, NoneIsNext, CheckTakes}
+use Rattle.ordered_safety.specs.Compared.{compared, CanGo, GoesNext, AreTurns, scan_tests, ScanTakes, IsNext, CheckTakes}
 use Rattle.ordered_safety.proofs.Picks.{get_or_map, Gives}
 
 -- a row at the places is the row of the place

@@ -1,3 +1,5 @@
+//! The check of an order that was given.
+
 ghost use Rattle.std.specs.Prelude.{◌≡◌, ℕ, ◌<◌, ◌≤◌, ◌^◌, ◌↔◌, IsTrue, IfSome, IfNone, length, vec_capacity, All};
 ghost use Rattle.counts.specs.Amounts.{amount};
 ghost use Rattle.claims.specs.Claims.{IsLower, Pairwise, HaveKinds};

@@ -1,3 +1,5 @@
+//! Orders, as lists of numbers of rows.
+
 ghost use Rattle.std.specs.Prelude.{◌≡◌, IfOk, length};
 
 use std::alloc::{AllocError, Global};

@@ -1,3 +1,5 @@
+//! The rows of a table, one of which may be changed.
+
 ghost use Rattle.std.specs.Prelude.{◌≡◌, ◌<◌, length, slice_set};
 ghost use Rattle.claims.specs.Claims.{row_at};
 
@@ -11,7 +13,8 @@ pub struct Change<'a> {
     pub row: &'a Row,
 }
 
-/// The rows of a table, one of which may be changed. Contracts see the list of them with the change.
+/// The rows of a table, one of which may be changed. Contracts see the list of them with the
+/// change.
 #[derive(Drop)]
 pub struct Rows<'a> {
     rows: &'a [Row],

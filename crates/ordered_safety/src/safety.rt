@@ -1,3 +1,5 @@
+//! The decisions about a table: whether it is safe, and in which order its rows can finish.
+
 ghost use Rattle.std.specs.Prelude.{◌≡◌, ◌+◌, ◌*◌, ◌<◌, ◌≤◌, ◌^◌, ◌↔◌, false, IsTrue, IfOk, MatchOption, IfSome, IfNone, length};
 ghost use Rattle.counts.specs.Amounts.{amount};
 ghost use Rattle.claims.specs.Claims.{row_at};
@@ -16,7 +18,9 @@ use std::alloc::{AllocError, Global};
 /// The kind of resource that is pages.
 pub const PAGES: usize = 0;
 
-/// Whether a finishing order exists. With n rows it takes at most n * (n + 1) / 2 comparisons.
+/// Whether a finishing order exists. With n rows it takes at most n * (n + 1) / 2 comparisons:
+/// in each turn those of the rows that no earlier one of their sender and queue precedes, up to
+/// the row that goes.
 pub fn is_safe(scratch: &mut Scratch, table: &Table) -> Verdict
     requires rows { length table.now.rows ≤ scratch.old.rows }
     requires kinds { length table.now.capacity ≡ scratch.old.kinds }
@@ -66,8 +70,9 @@ pub fn safe_after_page(scratch: &mut Scratch, table: &Table, row: usize) -> Verd
     )
 }
 
-/// Whether these are the numbers of all rows in a finishing order. It stops at the first row that
-/// doesn't fit, and takes at most as many comparisons as there are rows.
+/// Whether these are the numbers of all rows in a finishing order. It stops at the first number
+/// whose row isn't next, which isn't compared, or doesn't fit, which is, and takes at most as many
+/// comparisons as there are rows.
 pub fn check_order(scratch: &mut Scratch, table: &Table, order: &Order) -> Verdict
     requires rows { length table.now.rows ≤ scratch.old.rows }
     requires kinds { length table.now.capacity ≡ scratch.old.kinds }
@@ -96,9 +101,11 @@ pub fn find_order(
 ) -> Result<(Option<Order>, u64), AllocError>
     requires rows { length table.now.rows ≤ scratch.old.rows }
     requires kinds { length table.now.capacity ≡ scratch.old.kinds }
-    ensures exact { IfOk result (λ found. MatchOption found.0 (IsSafe table.now → ⊥) (FinishesBy table.now)) }
+    ensures exact { IfOk result (λ found.
+        MatchOption found.0 (IsSafe table.now → ⊥) (FinishesBy table.now)) }
     ensures tests { IfOk result (λ found. DecisionTakes table.now found.1) }
-    ensures most { IfOk result (λ found. 2 * found.1 ≤ length table.now.rows * (length table.now.rows + 1)) }
+    ensures most { IfOk result (λ found.
+        2 * found.1 ≤ length table.now.rows * (length table.now.rows + 1)) }
     ensures each { IfOk result (λ found. IfSome found.0 (λ _. length table.now.rows ≤ found.1)) }
     ensures some { IfOk result (λ found. IfNone found.0 (0 < found.1)) }
     ensures kept { scratch.new ≡ scratch.old }

@@ -1,3 +1,5 @@
+//! The scan: turn by turn the first row that may go.
+
 ghost use Rattle.std.specs.Prelude.{◌≡◌, ℕ, ◌+◌, ◌*◌, ◌<◌, ◌≤◌, ◌^◌, ◌↔◌, false, IsTrue, IfSome, IfNone, length, slice_index, vec_capacity, All};
 ghost use Rattle.counts.specs.Amounts.{amount};
 ghost use Rattle.claims.specs.Claims.{IsLower, Pairwise, HaveKinds};
@@ -33,16 +35,20 @@ pub fn is_head(rows: &Rows, earlier: &[usize], place: usize) -> bool
 }
 
 /// The first of these places whose row may go now: its need fits, and no earlier row that is left
-/// is of its sender and queue.
+/// is of its sender and queue. It compares the needs of the rows that no earlier one of these
+/// precedes, up to the one that goes.
 fn pick(rows: &Rows, left: &[usize], free: &Counts) -> Choice
     requires kinds { HaveKinds (length free.now) rows.now }
     requires there { All (λ j. j < length rows.now) left.now }
     requires few { length left.now < 2 ^ 32 }
     ensures found { IfSome result.at (MayGoAt rows.now left.now free.now) }
     ensures none { IfNone result.at ((at : ℕ) → MayGoAt rows.now left.now free.now at → ⊥) }
-    ensures first { IfSome result.at (λ at. (k : ℕ) → k < at → MayGoAt rows.now left.now free.now k → ⊥) }
-    ensures tests { IfSome result.at (λ at. result.tests ≡ compared (rows_at rows.now left.now) (at + 1)) }
-    ensures all { IfNone result.at (result.tests ≡ compared (rows_at rows.now left.now) (length left.now)) }
+    ensures first { IfSome result.at (λ at.
+        (k : ℕ) → k < at → MayGoAt rows.now left.now free.now k → ⊥) }
+    ensures tests { IfSome result.at (λ at.
+        result.tests ≡ compared (rows_at rows.now left.now) (at + 1)) }
+    ensures all { IfNone result.at
+        (result.tests ≡ compared (rows_at rows.now left.now) (length left.now)) }
     ensures most { result.tests ≤ length left.now }
     ensures least { 0 < length left.now → 0 < result.tests }
 {

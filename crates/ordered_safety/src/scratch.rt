@@ -1,3 +1,5 @@
+//! Room for a decision, and what it answers.
+
 ghost use Rattle.std.specs.Prelude.{◌≡◌, IfOk};
 
 use claims::Row;

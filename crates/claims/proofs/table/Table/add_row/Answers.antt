@@ -1,5 +1,6 @@
-use Rattle.std.proofs.Common.{◌≡◌, ◌<◌, subst, sym, arith, length}
+use Rattle.std.proofs.Common.{◌≡◌, ◌<◌, [], ◌∷◌, refl, subst, sym, arith, length}
 use Rattle.std.specs.Prelude.{All}
+use Rattle.std.proofs.lemmas.Slice.{pushed}
 use Rattle.claims.specs.declared.row.Row.{Row}
 use Rattle.claims.specs.Claims.{Claims}
 use Rattle.claims.proofs.Tables.{open_table}
@@ -13,4 +14,4 @@ invariant_of-self c =
     let r = subst (λ (u : Claims). length u.rows < u.room) (sym v) c.requires.room in
     let n = subst (λ (u : Claims). All (λ (other : Row). other.number < y.number) u.rows) (sym v) c.requires.greater in
     let k = subst (λ (u : Claims). (length y.held ≡ length u.capacity) × (length y.need ≡ length u.capacity)) (sym v) c.requires.kinds in
-    (rw c.in-Ok.ensures.items (open_table t y c.self.invariant.0 r n c.requires.holds k.0 k.1), let p = c.push.ensures.capacity in let i = c.self.invariant.1 in omega arith)
+    (rw (pushed (y ∷ []) refl c.unwrap.ensures c.push.ensures.items) (open_table t y c.self.invariant.0 r n c.requires.holds k.0 k.1), let p = c.push.ensures.capacity in let i = c.self.invariant.1 in omega arith)
