@@ -14,7 +14,8 @@ use std::alloc::{AllocError, Global};
 /// Runs the line of this number, and answers what it prints.
 pub fn run_line(alloc: Global, world: &mut World, line: &[u8], number: u64) -> Result<String, Fault>
     ensures bad { MeansNothing line.now → result ≡ Err (BadScript number) }
-    ensures passed_over { Means line.now Nothing → IsOkAnd result (λ text. string_bytes text ≡ []) }
+    ensures passed_over { Means line.now Nothing
+        → IsOkAnd result (λ text. string_bytes text ≡ []) }
     ensures fault { IfErr result (λ fault. (fault ≡ BadScript number) ⊎ (fault ≡ Memory)) }
 {
     match parse_line(alloc, line) {

@@ -167,7 +167,8 @@ fn write_out<W: OctetWrite>(printed: &mut Vec<u8>, output: &mut W) -> Result<(),
 
 /// Writes all octets.
 fn write<W: OctetWrite>(octets: &[u8], output: &mut W) -> Result<(), Fault>
-    ensures written { OnOk result (Writes (W.written output.old) (W.written output.new) octets.now) }
+    ensures written { OnOk result
+        (Writes (W.written output.old) (W.written output.new) octets.now) }
     ensures write_fault { W.faults output.new ≡ write_faults (W.faults output.old) result }
     ensures fault { IfErr result (λ fault. fault ≡ WriteFile) }
 {

@@ -66,7 +66,8 @@ pub fn parse_line(alloc: Global, line: &[u8]) -> Result<ScriptLine, LineFault>
 
 /// What follows a word at the head of a line.
 fn after<'a>(line: &'a [u8], word: &[u8]) -> Option<&'a [u8]>
-    ensures { MatchOption result (Lacks word.now line.now) (λ rest. line.now ≡ word.now ++ rest.now) }
+    ensures { MatchOption result (Lacks word.now line.now)
+        (λ rest. line.now ≡ word.now ++ rest.now) }
 {
     if line.len() < word.len() {
         return None;
@@ -153,7 +154,8 @@ fn number(digits: &[u8]) -> Result<u32, LineFault>
 
 /// What stands before the first space, and what stands after it.
 fn at_space(text: &[u8]) -> Option<(&[u8], &[u8])>
-    ensures { MatchOption result (HasNoSpace text.now) (λ parts. IsAtSpace text.now parts.0.now parts.1.now) }
+    ensures { MatchOption result (HasNoSpace text.now)
+        (λ parts. IsAtSpace text.now parts.0.now parts.1.now) }
 {
     for (i, octet) in text.iter().enumerate() {
         if *octet == b' ' {

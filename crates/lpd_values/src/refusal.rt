@@ -51,7 +51,7 @@ pub enum Refusal {
     NoUser,
     /// The control file has no line that prints a file.
     NoPrintLine,
-    /// The control file has more than 52 lines that print a file.
+    /// The control file has more than `MAX_PRINTS` lines that print a file.
     TooManyPrints,
     /// A control file, its host or its user has a length that isn't allowed.
     BadLength,

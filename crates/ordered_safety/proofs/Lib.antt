@@ -1,3 +1,4 @@
 pub mod Picks
 pub mod Turns
 pub mod Comparisons
+pub mod OneNumber

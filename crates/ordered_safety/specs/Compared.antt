@@ -70,3 +70,7 @@ DecisionTakes t tests = ScanTakes (amount t.free) t.rows tests
 -- and so often the check of an order of its rows
 abbrev pub OrderTakes : Claims → List ℕ → ℕ → Type 0
 OrderTakes t numbers tests = CheckTakes (amount t.free) t.rows numbers tests
+
+-- the number of comparisons of a decision is one
+abbrev pub IsOneNumber : Type 0
+IsOneNumber = (t : Claims) (n m : ℕ) → DecisionTakes t n → DecisionTakes t m → n ≡ m

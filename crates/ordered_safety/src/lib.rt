@@ -4,12 +4,14 @@
 #![tactic(auto)]
 
 mod follow;
+mod laws;
 mod order;
 mod rows;
 mod safety;
 mod scan;
 mod scratch;
 
+pub use laws::tests_are_determined;
 pub use order::Order;
 pub use safety::{PAGES, check_order, find_order, is_safe, safe_after_page};
 pub use scratch::{Scratch, Verdict};

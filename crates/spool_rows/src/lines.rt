@@ -39,7 +39,7 @@ pub fn name(alloc: Global, asked: &str) -> Result<Vec<u8>, AllocError> {
         Ok(name) => {
             let octets = name.octets().escape_ascii();
             let text = format!(in alloc; "{octets} {} {}", name.is_control(), name.number())?;
-            Vec::from_slice(alloc, text.as_bytes())
+            Ok(text.into_bytes())
         }
         Err(refusal) => refused(alloc, refusal),
     }

@@ -12,16 +12,22 @@ const CONFIG: &str =
 fn told(alloc: Global, input: &[u8]) -> Result<Vec<u8>, AllocError> {
     let mut output = StreamWriter::new(Vec::new(alloc));
     let mut faults = StreamWriter::new(Vec::new(alloc));
-    let status = run_input(
-        alloc,
-        &mut StreamReader::new(input),
-        &mut output,
-        &mut faults,
-    );
+    let mut input = StreamReader::new(input);
+    let status = run_input(alloc, &mut input, &mut output, &mut faults);
     let mut told = output.into_stream();
-    told.extend_from_slice(faults.into_stream().as_slice())?;
-    told.extend_from_slice(format!(in alloc; "status {status}\n")?.as_bytes())?;
-    Ok(told)
+    let faults = faults.into_stream();
+    match end(&mut told, faults.as_slice(), status) {
+        Ok(()) => Ok(told),
+        Err(AllocError) => Err(AllocError),
+    }
+}
+
+/// Puts the fault and the exit status behind what was printed.
+fn end(told: &mut Vec<u8>, faults: &[u8], status: u8) -> Result<(), AllocError> {
+    told.extend_from_slice(faults)?;
+    told.extend_from_slice(b"status ")?;
+    told.push(b'0'.saturating_add(status))?;
+    told.extend_from_slice(b"\n")
 }
 
 /// What the program prints for this script, which may have a configuration and a line `%%` before it.

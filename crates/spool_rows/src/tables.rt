@@ -1,6 +1,6 @@
 //! Tables of claims, and whether all jobs can finish.
 
-ghost use Rattle.std.specs.Prelude.{◌<◌};
+ghost use Rattle.std.specs.Prelude.{◌≡◌, ◌≤◌, length};
 
 use claims::{OpenError, Table};
 use counts::Counts;
@@ -88,122 +88,109 @@ fn add(alloc: Global, table: &mut Table, claim: Claim) -> Result<(), AllocError>
     Ok(())
 }
 
-/// A table without rows, and with room for eight.
-fn empty_table(alloc: Global, capacity: [u32; 2]) -> Result<Table, AllocError> {
-    let capacity = counts(alloc, capacity)?;
-    Table::new(alloc, &capacity, 8)
-}
-
-/// The table that a test writes as `capacity | claim | claim`, its rows numbered from 1.
+/// The table that a row writes as `capacity | claim | claim`, its rows numbered from 1, with room for eight.
 fn read_table(alloc: Global, text: &str) -> Result<Table, AllocError> {
-    let mut parts = text.split(" | ");
-    let capacity = parts.next().unwrap_or("");
-    let mut table = empty_table(alloc, [number(capacity, 0), number(capacity, 1)])?;
-    for claim in parts {
-        add(alloc, &mut table, read_claim(claim))?;
+    let mut table = Table::new(alloc, &read_counts(alloc, text)?, 8)?;
+    match add_claims(alloc, &mut table, text) {
+        Ok(()) => Ok(table),
+        Err(AllocError) => Err(AllocError),
     }
-    Ok(table)
 }
 
-fn decided(alloc: Global, table: &Table) -> Result<Verdict, AllocError> {
-    let mut scratch = Scratch::with_room(alloc, table.len(), table.capacity().kinds())?;
-    Ok(is_safe(&mut scratch, table))
-}
-
-/// What is decided on a page for the row. None where it may not be asked.
-fn decided_after_page(
-    alloc: Global,
-    table: &Table,
-    row: usize,
-) -> Result<Option<Verdict>, AllocError> {
-    if row >= table.len()
-        || table.capacity().kinds() == 0
-        || table.free().get(PAGES) == 0
-        || table.rows()[row].need.get(PAGES) == 0
-    {
-        return Ok(None);
+fn add_claims(alloc: Global, table: &mut Table, text: &str) -> Result<(), AllocError> {
+    for claim in text.split(" | ").skip(1) {
+        add(alloc, table, read_claim(claim))?;
     }
-    let mut scratch = Scratch::with_room(alloc, table.len(), table.capacity().kinds())?;
-    Ok(Some(safe_after_page(&mut scratch, table, row)))
-}
-
-fn checked(alloc: Global, table: &Table, numbers: &[u64]) -> Result<Verdict, AllocError> {
-    let order = Order::copy_of(alloc, numbers)?;
-    let mut scratch = Scratch::with_room(alloc, table.len(), table.capacity().kinds())?;
-    Ok(check_order(&mut scratch, table, &order))
-}
-
-fn found(alloc: Global, table: &Table) -> Result<(Option<Order>, u64), AllocError> {
-    let mut scratch = Scratch::with_room(alloc, table.len(), table.capacity().kinds())?;
-    find_order(alloc, &mut scratch, table)
+    Ok(())
 }
 
 /// Whether a table is safe, and a finishing order of its rows, each with the comparisons that it took.
 pub fn order(alloc: Global, asked: &str) -> Result<Vec<u8>, AllocError> {
     let table = read_table(alloc, asked)?;
-    let mut shown = String::new(alloc);
-    show_decision(alloc, &mut shown, &table)?;
-    show_order(alloc, &mut shown, &table)?;
-    Vec::from_slice(alloc, shown.as_bytes())
+    let mut scratch = Scratch::with_room(alloc, table.len(), table.capacity().kinds())?;
+    show_order(alloc, &mut scratch, &table)
 }
 
-fn show_decision(alloc: Global, text: &mut String, table: &Table) -> Result<(), AllocError> {
-    let Verdict { safe, tests } = decided(alloc, table)?;
-    let (free, empty) = (table.free().as_slice(), table.is_empty());
-    write!(text, "free {free:?}, empty {empty}, {safe} after {tests}")
-}
-
-fn show_order(alloc: Global, text: &mut String, table: &Table) -> Result<(), AllocError> {
-    let (order, tests) = found(alloc, table)?;
+fn show_order(alloc: Global, scratch: &mut Scratch, table: &Table) -> Result<Vec<u8>, AllocError>
+    requires rows { length table.now.rows ≤ scratch.old.rows }
+    requires kinds { length table.now.capacity ≡ scratch.old.kinds }
+{
+    let verdict = is_safe(scratch, table);
+    let (order, tests) = find_order(alloc, scratch, table)?;
     match order {
-        Some(order) => show_numbers(text, &order, tests),
-        None => Ok(()),
+        Some(order) => show_numbers(alloc, verdict, order.as_slice(), tests),
+        None => show_verdict(alloc, verdict),
     }
 }
 
-fn show_numbers(text: &mut String, order: &Order, tests: u64) -> Result<(), AllocError> {
-    let (numbers, rows) = (order.as_slice(), order.len());
-    write!(text, ", {numbers:?} of {rows} after {tests}")
+fn show_numbers(
+    alloc: Global,
+    verdict: Verdict,
+    numbers: &[u64],
+    found: u64,
+) -> Result<Vec<u8>, AllocError> {
+    let Verdict { safe, tests } = verdict;
+    let text = format!(in alloc; "{safe} after {tests}, {numbers:?} after {found}")?;
+    Ok(text.into_bytes())
 }
 
-/// Whether the rows finish in this order, which stands after the table and a `;`.
+fn show_verdict(alloc: Global, verdict: Verdict) -> Result<Vec<u8>, AllocError> {
+    let Verdict { safe, tests } = verdict;
+    let text = format!(in alloc; "{safe} after {tests}")?;
+    Ok(text.into_bytes())
+}
+
+/// Whether the rows of a table finish in the order that stands after it and a `;`.
 pub fn check(alloc: Global, asked: &str) -> Result<Vec<u8>, AllocError> {
     let (table, order) = asked.split_once("; ").unwrap_or((asked, ""));
-    let numbers = read_order(alloc, order)?;
     let table = read_table(alloc, table)?;
-    let Verdict { safe, tests } = checked(alloc, &table, numbers.as_slice())?;
-    let text = format!(in alloc; "{safe} after {tests}")?;
-    Vec::from_slice(alloc, text.as_bytes())
+    let order = read_order(alloc, order)?;
+    let mut scratch = Scratch::with_room(alloc, table.len(), table.capacity().kinds())?;
+    show_verdict(alloc, check_order(&mut scratch, &table, &order))
 }
 
-fn read_order(alloc: Global, text: &str) -> Result<Vec<u64>, AllocError> {
+fn read_order(alloc: Global, text: &str) -> Result<Order, AllocError> {
     let mut numbers = Vec::new(alloc);
     for word in text.split_whitespace() {
         numbers.push(word.parse().unwrap_or(0))?;
     }
-    Ok(numbers)
+    Order::copy_of(alloc, numbers.as_slice())
 }
 
-/// Whether one page more for the second row is safe, and what is free.
+/// Whether one page more for the second row is safe.
 pub fn page(alloc: Global, asked: &str) -> Result<Vec<u8>, AllocError> {
     let table = read_table(alloc, asked)?;
-    let text = match decided_after_page(alloc, &table, 1)? {
-        Some(verdict) => show_verdict(alloc, verdict, table.free())?,
-        None => String::from_str(alloc, "no page")?,
-    };
-    Vec::from_slice(alloc, text.as_bytes())
+    let mut scratch = Scratch::with_room(alloc, table.len(), table.capacity().kinds())?;
+    match second_page(&mut scratch, &table) {
+        Some(verdict) => show_verdict(alloc, verdict),
+        None => Vec::from_slice(alloc, b"no page"),
+    }
 }
 
-fn show_verdict(alloc: Global, verdict: Verdict, free: &Counts) -> Result<String, AllocError> {
-    let Verdict { safe, tests } = verdict;
-    format!(in alloc; "{safe} after {tests}, free {:?}", free.as_slice())
+/// What is decided on a page for the second row. None where it may not be asked.
+fn second_page(scratch: &mut Scratch, table: &Table) -> Option<Verdict>
+    requires rows { length table.now.rows ≤ scratch.old.rows }
+    requires kinds { length table.now.capacity ≡ scratch.old.kinds }
+{
+    if table.len() < 2 || table.capacity().kinds() == 0 || table.free().get(PAGES) == 0 {
+        return None;
+    }
+    if table.rows()[1].need.get(PAGES) == 0 {
+        return None;
+    }
+    Some(safe_after_page(scratch, table, 1))
 }
 
-/// Asks for a sum, and shows what comes of it.
+/// Asks for a sum of two amounts, and shows what comes of it.
 pub fn sum(alloc: Global, asked: &str) -> Result<Vec<u8>, AllocError> {
     let (sum, more) = asked.split_once(" + ").unwrap_or((asked, ""));
-    let (mut sum, more) = (read_counts(alloc, sum)?, read_counts(alloc, more)?);
-    let added = sum.kinds() == more.kinds() && sum.try_add(&more).is_ok();
+    let mut sum = read_counts(alloc, sum)?;
+    let more = read_counts(alloc, more)?;
+    show_sum(alloc, &mut sum, &more)
+}
+
+fn show_sum(alloc: Global, sum: &mut Counts, more: &Counts) -> Result<Vec<u8>, AllocError> {
+    let added = sum.kinds() == more.kinds() && sum.try_add(more).is_ok();
     let text = format!(in alloc; "{added} {:?}", sum.as_slice())?;
-    Vec::from_slice(alloc, text.as_bytes())
+    Ok(text.into_bytes())
 }
