@@ -4,6 +4,7 @@ use Rattle.std.specs.Prelude.{nat_lt, Option, Some, None}
 use Rattle.std.specs.List.{list_any, AllByRecursion}
 use Rattle.std.proofs.lemmas.List.{length_push}
 use Rattle.std.proofs.lemmas.Bool.Decides.{nat_tests}
+use Rattle.spool_history.specs.Base.{Base}
 use Rattle.spool_history.specs.Events.{Act, Event, Sheet, Turn}
 use Rattle.spool_history.specs.Events.Act.{Granted, Began, Put, FileEnded, Controlled, Aborted}
 use Rattle.spool_history.specs.Events.Turn.{Handed, Printed, Failed}
@@ -28,7 +29,7 @@ pub record Unknown {C : Type 0} (h : List (Event C)) (j : ℕ) : Type 0 where
   pub acts : acts_of h j ≡ []
   pub handed : handed_of h j ≡ []
   pub back : back_of h j ≡ 0
-  pub ended : is_closed h ≡ false → has_ended h j ≡ false
+  pub ended : is_closed base h ≡ false → has_ended h j ≡ false
 
 pub record Facts {C : Type 0} (h : List (Event C)) : Type 0 where
   -- the numbers of the accepted jobs, and what is said of all others
@@ -126,18 +127,18 @@ begins_at {C} h x j q jobs o is n b =
     let r : received_at h o.job ≡ true = sym (ap (λ (v : Job C). is_received v) is) ∙ b.received in
     (subst (λ (i : ℕ). handed_at h i ≡ 0) m a, subst (λ (i : ℕ). received_at h i ≡ true) m r)
 
-pub turn_of_page : {C : Type 0} (c : Config) (h : List (Event C)) (p : ℕ) (sheet : Sheet C) → 1 ≤ p → p ≤ Rattle.config_values.specs.Config.printer_count c → Rattle.spool_history.specs.Next.next_page (now c h) p ≡ Rattle.spool_history.specs.Next.Next.Hands sheet → Turn' h p sheet
-turn_of_page {C} c h p sheet one le e =
-    let g = (given (now c h) p sheet e).1 in
-    let here = at_printer c h p one le in
-    let k = Rattle.spool_laws.proofs.Known.known c h g.job g.turn.there in
+pub turn_of_page : {C : Type 0} (c : Config) (base : Base) (h : List (Event C)) (p : ℕ) (sheet : Sheet C) → 1 ≤ p → p ≤ Rattle.config_values.specs.Config.printer_count c → Rattle.spool_history.specs.Next.next_page (now c base h) p ≡ Rattle.spool_history.specs.Next.Next.Hands sheet → Turn' h p sheet
+turn_of_page {C} c base h p sheet one le e =
+    let g = (given (now c base h) p sheet e).1 in
+    let here = at_printer c base h p one le in
+    let k = Rattle.spool_laws.proofs.Known.known c base h g.job g.turn.there in
     let n : g.job.number ≡ sheet.job = sym (ap (λ (s : Sheet C). s.job) g.gets.is) in
     record {
       idle = sym (ap (λ (x : Printer C). x.out) here) ∙ g.idle;
-      at = given_at c h (printer_at (now c h) p) sheet g;
+      at = given_at c base h (printer_at (now c base h) p) sheet g;
       why = elim g.turn.why [
         | inl b ↦ inl (sym (ap (λ (x : Printer C). x.began) here) ∙ (b ∙ ap (λ (i : ℕ). Some i) n))
-        | inr b ↦ inr (begins_at h g.job sheet.job (printer_at (now c h) p).queue (now c h).jobs k.opening k.is n b)
+        | inr b ↦ inr (begins_at h g.job sheet.job (printer_at (now c base h) p).queue (now c base h).jobs k.opening k.is n b)
       ];
     }
 
@@ -356,20 +357,20 @@ facts_back {C} h p sheet turn is f o =
 
 -- the other events
 
-none_named : {C : Type 0} (c : Config) (h : List (Event C)) (P : Job C → Type 0) (j : ℕ) (jobs : List ℕ) → Facts h → length (openings h) < j → AllByRecursion (λ k. HasJob (now c h).jobs k P) jobs → list_any (λ (k : ℕ). k == j) jobs ≡ false
-none_named c h P j [] f lt all = refl
-none_named c h P j (k ∷ ks) f lt all =
-    let n : k ≤ length (openings h) = number_at h k P f (has_at c h k P all.0) in
-    let rest = none_named c h P j ks f lt all.1 in
+none_named : {C : Type 0} (c : Config) (base : Base) (h : List (Event C)) (P : Job C → Type 0) (j : ℕ) (jobs : List ℕ) → Facts h → length (openings h) < j → AllByRecursion (λ k. HasJob (now c base h).jobs k P) jobs → list_any (λ (k : ℕ). k == j) jobs ≡ false
+none_named c base h P j [] f lt all = refl
+none_named c base h P j (k ∷ ks) f lt all =
+    let n : k ≤ length (openings h) = number_at h k P f (has_at c base h k P all.0) in
+    let rest = none_named c base h P j ks f lt all.1 in
     elim (test k j) [ inl s ↦ let m : k ≡ j = s.0 in absurd (omega arith) | inr s ↦ rw s.1 rest ]
 
-facts_removed : {C : Type 0} (c : Config) (h : List (Event C)) (P : Job C → Type 0) (q : ℕ) (jobs : List ℕ) → Facts h → AllByRecursion (λ k. HasJob (now c h).jobs k P) jobs → Facts (Removed q jobs ∷ h)
-facts_removed c h P q jobs f all = record {
+facts_removed : {C : Type 0} (c : Config) (base : Base) (h : List (Event C)) (P : Job C → Type 0) (q : ℕ) (jobs : List ℕ) → Facts h → AllByRecursion (λ k. HasJob (now c base h).jobs k P) jobs → Facts (Removed q jobs ∷ h)
+facts_removed c base h P q jobs f all = record {
   numbers = f.numbers;
   once = f.once;
   fresh = λ j lt. (
       let u = f.fresh j lt in
-      let none = none_named c h P j jobs f lt all in
+      let none = none_named c base h P j jobs f lt all in
       record { acts = u.acts; handed = u.handed; back = u.back; ended = λ open'. rw none (u.ended open') });
   begun = f.begun;
   back = f.back;
@@ -422,36 +423,36 @@ received_aborted : {C : Type 0} (h : List (Event C)) (k : ℕ) → received_at (
 received_aborted h k e = elim (test k k) [ inl r ↦ rw r.1 at e | inr r ↦ absurd (r.0 refl) ]
 
 -- a page that is out at a printer
-pub is_out : {C : Type 0} (c : Config) (h : List (Event C)) (p : ℕ) (sheet : Sheet C) → IsPrinter c p → (printer_at (now c h) p).out ≡ Some sheet → out_at h p ≡ Some sheet
-is_out {C} c h p sheet is e = sym (ap (λ (x : Printer C). x.out) (at_printer c h p is.0 is.1)) ∙ e
+pub is_out : {C : Type 0} (c : Config) (base : Base) (h : List (Event C)) (p : ℕ) (sheet : Sheet C) → IsPrinter c p → (printer_at (now c base h) p).out ≡ Some sheet → out_at h p ≡ Some sheet
+is_out {C} c base h p sheet is e = sym (ap (λ (x : Printer C). x.out) (at_printer c base h p is.0 is.1)) ∙ e
 
-facts_step : {C : Type 0} (size : C → ℕ) (c : Config) (h : List (Event C)) (e : Event C) → Facts h → May size (now c h) e → Facts (e ∷ h)
-facts_step size c h (Opened k s q) f m = facts_opened h k s q f m.4
-facts_step size c h (OfJob k Granted) f m =
-    let a = has_at c h k _ m.0 in
+facts_step : {C : Type 0} (size : C → ℕ) (c : Config) (base : Base) (h : List (Event C)) (e : Event C) → Facts h → May size (now c base h) e → Facts (e ∷ h)
+facts_step size c base h (Opened k s q) f m = facts_opened h k s q f m.4
+facts_step size c base h (OfJob k Granted) f m =
+    let a = has_at c base h k _ m.0 in
     facts_act h k Granted f (number_at h k _ f a) (λ e. a.is.0.0.1)
-facts_step size c h (OfJob k (Began name count)) f m =
-    let a = has_at c h k _ m.0 in
+facts_step size c base h (OfJob k (Began name count)) f m =
+    let a = has_at c base h k _ m.0 in
     facts_act h k (Began name count) f (number_at h k _ f a) (λ e. a.is.0.1)
-facts_step size c h (OfJob k (Put file number page)) f m =
-    let a = has_at c h k _ m.0 in
+facts_step size c base h (OfJob k (Put file number page)) f m =
+    let a = has_at c base h k _ m.0 in
     facts_act h k (Put file number page) f (number_at h k _ f a) (λ e. a.is.0.1)
-facts_step size c h (OfJob k (FileEnded file whole)) f m =
-    let a = has_at c h k _ m.0 in
+facts_step size c base h (OfJob k (FileEnded file whole)) f m =
+    let a = has_at c base h k _ m.0 in
     facts_act h k (FileEnded file whole) f (number_at h k _ f a) (λ e. a.is.0.1)
-facts_step size c h (OfJob k (Controlled control whole)) f m =
-    let a = has_at c h k _ m.0 in
+facts_step size c base h (OfJob k (Controlled control whole)) f m =
+    let a = has_at c base h k _ m.0 in
     facts_act h k (Controlled control whole) f (number_at h k _ f a) (λ e. a.is.0.1)
-facts_step size c h (OfJob k Aborted) f m =
-    let a = has_at c h k _ m.0 in
+facts_step size c base h (OfJob k Aborted) f m =
+    let a = has_at c base h k _ m.0 in
     facts_act h k Aborted f (number_at h k _ f a) (received_aborted h k)
-facts_step size c h (AtPrinter p sheet Handed) f m = facts_handed h p sheet f (turn_of_page c h p sheet m.0.0 m.0.1 m.1)
-facts_step size c h (AtPrinter p sheet (Printed x)) f m = facts_back h p sheet (Printed x) refl f (is_out c h p sheet m.0 m.1.0)
-facts_step size c h (AtPrinter p sheet Failed) f m = facts_back h p sheet Failed refl f (is_out c h p sheet m.0 m.1)
-facts_step size c h (Removed q jobs) f m = facts_removed c h _ q jobs f m.4
-facts_step size c h (Started q) f m = facts_started h q f
-facts_step size c h Closed f m = facts_closed h f
+facts_step size c base h (AtPrinter p sheet Handed) f m = facts_handed h p sheet f (turn_of_page c base h p sheet m.0.0 m.0.1 m.1)
+facts_step size c base h (AtPrinter p sheet (Printed x)) f m = facts_back h p sheet (Printed x) refl f (is_out c base h p sheet m.0 m.1.0)
+facts_step size c base h (AtPrinter p sheet Failed) f m = facts_back h p sheet Failed refl f (is_out c base h p sheet m.0 m.1)
+facts_step size c base h (Removed q jobs) f m = facts_removed c base h _ q jobs f m.4
+facts_step size c base h (Started q) f m = facts_started h q f
+facts_step size c base h Closed f m = facts_closed h f
 
-pub facts : {C : Type 0} (size : C → ℕ) (c : Config) (h : List (Event C)) → IsLegal size c h → Facts h
-facts size c [] l = no_facts
-facts size c (e ∷ h) l = facts_step size c h e (facts size c h l.1) l.0
+pub facts : {C : Type 0} (size : C → ℕ) (c : Config) (base : Base) (h : List (Event C)) → IsLegal size c base h → Facts h
+facts size c base [] l = no_facts
+facts size c base (e ∷ h) l = facts_step size c base h e (facts size c base h l.1) l.0

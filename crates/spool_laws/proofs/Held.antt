@@ -8,6 +8,7 @@ use Rattle.lpd_values.specs.Contents.{Contents}
 use Rattle.lpd_values.specs.Kept.{is_among, is_print_list, all_differ}
 use Rattle.lpd_values.specs.Name.{is_data_name}
 use Rattle.std.proofs.lemmas.Bool.{and_parts, not-true}
+use Rattle.spool_history.specs.Base.{Base}
 use Rattle.spool_history.specs.Events.{Act, Event}
 use Rattle.spool_history.specs.Events.Act.{Granted, Began, Put, FileEnded, Controlled, Aborted}
 use Rattle.spool_history.specs.Events.Event.{Opened, OfJob, AtPrinter, Removed, Started, Closed}
@@ -79,22 +80,22 @@ keeps_act {C} h k act f new j = elim (test k j) [
   | inr s ↦ rw s.1 (f j)
 ]
 
-keeps_step : {C : Type 0} (size : C → ℕ) (c : Config) (h : List (Event C)) (e : Event C) → May size (now c h) e → ((j : ℕ) → Keeps (acts_of h j)) → (j : ℕ) → Keeps (acts_of (e ∷ h) j)
-keeps_step size c h (Opened k s q) m f = f
-keeps_step size c h (OfJob k Granted) m f = keeps_act h k Granted f (keeps_granted (acts_of h k) (f k) (has_at c h k _ m.0).is.0.1)
-keeps_step size c h (OfJob k (Began name count)) m f = keeps_act h k (Began name count) f (keeps_began (acts_of h k) name count (f k))
-keeps_step size c h (OfJob k (Put file number page)) m f = keeps_act h k (Put file number page) f (keeps_put (acts_of h k) file number page (f k) (has_at c h k _ m.0).is.1)
-keeps_step size c h (OfJob k (FileEnded file whole)) m f = keeps_act h k (FileEnded file whole) f (keeps_ended (acts_of h k) file whole (f k) (has_at c h k _ m.0).is.1)
-keeps_step size c h (OfJob k (Controlled control whole)) m f = keeps_act h k (Controlled control whole) f (keeps_controlled (acts_of h k) control whole (f k) m.1.prints)
-keeps_step size c h (OfJob k Aborted) m f = keeps_act h k Aborted f (keeps_aborted (acts_of h k) (f k))
-keeps_step size c h (AtPrinter p sheet turn) m f = f
-keeps_step size c h (Removed q jobs) m f = f
-keeps_step size c h (Started q) m f = f
-keeps_step size c h Closed m f = f
+keeps_step : {C : Type 0} (size : C → ℕ) (c : Config) (base : Base) (h : List (Event C)) (e : Event C) → May size (now c base h) e → ((j : ℕ) → Keeps (acts_of h j)) → (j : ℕ) → Keeps (acts_of (e ∷ h) j)
+keeps_step size c base h (Opened k s q) m f = f
+keeps_step size c base h (OfJob k Granted) m f = keeps_act h k Granted f (keeps_granted (acts_of h k) (f k) (has_at c base h k _ m.0).is.0.1)
+keeps_step size c base h (OfJob k (Began name count)) m f = keeps_act h k (Began name count) f (keeps_began (acts_of h k) name count (f k))
+keeps_step size c base h (OfJob k (Put file number page)) m f = keeps_act h k (Put file number page) f (keeps_put (acts_of h k) file number page (f k) (has_at c base h k _ m.0).is.1)
+keeps_step size c base h (OfJob k (FileEnded file whole)) m f = keeps_act h k (FileEnded file whole) f (keeps_ended (acts_of h k) file whole (f k) (has_at c base h k _ m.0).is.1)
+keeps_step size c base h (OfJob k (Controlled control whole)) m f = keeps_act h k (Controlled control whole) f (keeps_controlled (acts_of h k) control whole (f k) m.1.prints)
+keeps_step size c base h (OfJob k Aborted) m f = keeps_act h k Aborted f (keeps_aborted (acts_of h k) (f k))
+keeps_step size c base h (AtPrinter p sheet turn) m f = f
+keeps_step size c base h (Removed q jobs) m f = f
+keeps_step size c base h (Started q) m f = f
+keeps_step size c base h Closed m f = f
 
-pub keeps : {C : Type 0} (size : C → ℕ) (c : Config) (h : List (Event C)) → IsLegal size c h → (j : ℕ) → Keeps (acts_of h j)
-keeps size c [] l = λ j. record { lent = λ e. absurd (clash false e refl); count = omega arith; prints = refl }
-keeps size c (e ∷ h) l = keeps_step size c h e l.0 (keeps size c h l.1)
+pub keeps : {C : Type 0} (size : C → ℕ) (c : Config) (base : Base) (h : List (Event C)) → IsLegal size c base h → (j : ℕ) → Keeps (acts_of h j)
+keeps size c base [] l = λ j. record { lent = λ e. absurd (clash false e refl); count = omega arith; prints = refl }
+keeps size c base (e ∷ h) l = keeps_step size c base h e l.0 (keeps size c base h l.1)
 
 -- how many pages the files of these names have, where each counts once
 abbrev tally : {C : Type 0} → List (List ℕ) → List (File C) → ℕ
@@ -146,9 +147,9 @@ places_tally (name ∷ names) fs d =
     omega arith
 
 -- a job has no more places than pages were lent to it
-pub places_within : {C : Type 0} (size : C → ℕ) (c : Config) (h : List (Event C)) → IsLegal size c h → (j : ℕ) → length (places_of h j) ≤ granted_by (acts_of h j)
-places_within size c h l j =
-    let k = keeps size c h l j in
+pub places_within : {C : Type 0} (size : C → ℕ) (c : Config) (base : Base) (h : List (Event C)) → IsLegal size c base h → (j : ℕ) → length (places_of h j) ≤ granted_by (acts_of h j)
+places_within size c base h l j =
+    let k = keeps size c base h l j in
     let n = less_lent (is_lent_by (acts_of h j)) (pages_in (files_by (acts_of h j))) (granted_by (acts_of h j)) k.count in
     let t = places_tally (prints_in (control_by (acts_of h j))) (files_by (acts_of h j)) k.prints in
     let w = tally_within (prints_in (control_by (acts_of h j))) (files_by (acts_of h j)) in

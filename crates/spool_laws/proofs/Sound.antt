@@ -3,6 +3,7 @@ use Rattle.std.proofs.Common.{inl, inr, ◌≡◌, ◌==◌, ℕ, zero, suc, ◌
 use Rattle.std.specs.Prelude.{cond}
 use Rattle.std.specs.List.{list_any}
 use Rattle.counts.specs.Amounts.{amount}
+use Rattle.spool_history.specs.Base.{Base}
 use Rattle.spool_history.specs.Events.{Act, Event, Sheet, Turn}
 use Rattle.spool_history.specs.Events.Act.{Granted, Began, Put, FileEnded, Controlled, Aborted}
 use Rattle.spool_history.specs.Events.Progress.{Going, Done, Ended}
@@ -36,21 +37,21 @@ length_sheets j n zero xs = omega arith
 length_sheets j n (suc k) [] = omega arith
 length_sheets j n (suc k) (x ∷ xs) = let ih = length_sheets j (n + 1) k xs in omega arith
 
-pub sound : {C : Type 0} (size : C → ℕ) (c : Config) (h : List (Event C)) → IsLegal size c h → (o : Opening) → Sound (job_of h o)
-sound {C} size c h l o =
-    let f = facts size c h l in
-    let k = keeps size c h l o.job in
+pub sound : {C : Type 0} (size : C → ℕ) (c : Config) (base : Base) (h : List (Event C)) → IsLegal size c base h → (o : Opening) → Sound (job_of h o)
+sound {C} size c base h l o =
+    let f = facts size c base h l in
+    let k = keeps size c base h l o.job in
     record {
-      within = places_within size c h l o.job;
+      within = places_within size c base h l o.job;
       lent = lent_unreceived h o.job k;
       one = λ e. (let n : pages_in (files_by (acts_of h o.job)) + 1 ≤ granted_by (acts_of h o.job) = rw e at k.count in omega arith);
       back = f.back o.job;
       begun = f.begun o.job;
-      handed = (let e = ap length (placed size c h l o.job) in let b = length_sheets o.job 0 (handed_at h o.job) (places_of h o.job) in omega arith);
+      handed = (let e = ap length (placed size c base h l o.job) in let b = length_sheets o.job 0 (handed_at h o.job) (places_of h o.job) in omega arith);
     }
 
-pub sound_after : {C : Type 0} (size : C → ℕ) (c : Config) (h : List (Event C)) (e : Event C) → IsLegal size c h → May size (now c h) e → (o : Opening) → Sound (change e (job_of h o))
-sound_after {C} size c h e l m o = subst (λ (v : Job C). Sound v) (changes h e o) (sound size c (e ∷ h) (m, l) o)
+pub sound_after : {C : Type 0} (size : C → ℕ) (c : Config) (base : Base) (h : List (Event C)) (e : Event C) → IsLegal size c base h → May size (now c base h) e → (o : Opening) → Sound (change e (job_of h o))
+sound_after {C} size c base h e l m o = subst (λ (v : Job C). Sound v) (changes h e o) (sound size c base (e ∷ h) (m, l) o)
 
 map_le : (q n m : ℕ) (l : List ℕ) (i : ℕ) → n ≤ m → get_or (map (λ (r : ℕ). cond (r == q) n 0) l) i 0 ≤ get_or (map (λ (r : ℕ). cond (r == q) m 0) l) i 0
 map_le q n m [] i le = omega arith
@@ -138,29 +139,29 @@ pub lower_back : {C : Type 0} (c : Config) (v : Job C) → Lower (row_of c v) (r
 lower_back c v = lower_row c v (record v { back = v.back + 1 }) refl refl refl (back_less v.ended (is_received v) (length (places v)) v.back v.granted (cond v.lent 1 0) v.handed) (omega arith) (omega arith) (omega arith)
 
 -- what an event makes of the row of each held job
-abbrev pub LowersAll : {C : Type 0} → Config → List (Event C) → Event C → Type 0
-LowersAll {C} c h e = (o : Opening) → Has o (openings h) → Lower (row_of c (job_of h o)) (row_of c (change e (job_of h o)))
+abbrev pub LowersAll : {C : Type 0} → Config → Base → List (Event C) → Event C → Type 0
+LowersAll {C} c base h e = (o : Opening) → Has o (openings h) → Lower (row_of c (job_of h o)) (row_of c (change e (job_of h o)))
 
 at_is : {C : Type 0} (h : List (Event C)) (k : ℕ) (P : Job C → Type 0) (o : Opening) → Facts h → At h k P → Has o (openings h) → k ≡ o.job → P (job_of h o)
 at_is {C} h k P o f a has e =
     let x : Opening = record { job = k; sender = a.sender; queue = a.queue } in
     subst (λ (y : Opening). P (job_of h y)) (f.once x o a.there has e) a.is
 
-abbrev Acts' : {C : Type 0} → Config → List (Event C) → Act C → Opening → Type 0
-Acts' c h act o = Sound (acted act (job_of h o)) → Lower (row_of c (job_of h o)) (row_of c (acted act (job_of h o)))
+abbrev Acts' : {C : Type 0} → Config → Base → List (Event C) → Act C → Opening → Type 0
+Acts' c base h act o = Sound (acted act (job_of h o)) → Lower (row_of c (job_of h o)) (row_of c (acted act (job_of h o)))
 
-lowers_act : {C : Type 0} (size : C → ℕ) (c : Config) (h : List (Event C)) (k : ℕ) (act : Act C) → IsLegal size c h → May size (now c h) (OfJob k act) → ((o : Opening) → Has o (openings h) → k ≡ o.job → Acts' c h act o) → LowersAll c h (OfJob k act)
-lowers_act {C} size c h k act l m f o has = elim (test k o.job) [
+lowers_act : {C : Type 0} (size : C → ℕ) (c : Config) (base : Base) (h : List (Event C)) (k : ℕ) (act : Act C) → IsLegal size c base h → May size (now c base h) (OfJob k act) → ((o : Opening) → Has o (openings h) → k ≡ o.job → Acts' c base h act o) → LowersAll c base h (OfJob k act)
+lowers_act {C} size c base h k act l m f o has = elim (test k o.job) [
   | inl s ↦
       let e : change (OfJob k act) (job_of h o) ≡ acted act (job_of h o) = rw s.1 refl in
-      subst (λ (v : Job C). Lower (row_of c (job_of h o)) (row_of c v)) (sym e) (f o has s.0 (subst (λ (v : Job C). Sound v) e (sound_after size c h (OfJob k act) l m o)))
+      subst (λ (v : Job C). Lower (row_of c (job_of h o)) (row_of c v)) (sym e) (f o has s.0 (subst (λ (v : Job C). Sound v) e (sound_after size c base h (OfJob k act) l m o)))
   | inr s ↦
       let e : change (OfJob k act) (job_of h o) ≡ job_of h o = rw s.1 refl in
       subst (λ (v : Job C). Lower (row_of c (job_of h o)) (row_of c v)) (sym e) (lower_same c (job_of h o))
 ]
 
-lowers_turn : {C : Type 0} (size : C → ℕ) (c : Config) (h : List (Event C)) (p : ℕ) (sheet : Sheet C) (turn : Turn) → ((o : Opening) → sheet.job ≡ o.job → Lower (row_of c (job_of h o)) (row_of c (turned turn (job_of h o)))) → LowersAll c h (AtPrinter p sheet turn)
-lowers_turn {C} size c h p sheet turn f o has = elim (test sheet.job o.job) [
+lowers_turn : {C : Type 0} (size : C → ℕ) (c : Config) (base : Base) (h : List (Event C)) (p : ℕ) (sheet : Sheet C) (turn : Turn) → ((o : Opening) → sheet.job ≡ o.job → Lower (row_of c (job_of h o)) (row_of c (turned turn (job_of h o)))) → LowersAll c base h (AtPrinter p sheet turn)
+lowers_turn {C} size c base h p sheet turn f o has = elim (test sheet.job o.job) [
   | inl s ↦
       let e : change (AtPrinter p sheet turn) (job_of h o) ≡ turned turn (job_of h o) = rw s.1 refl in
       subst (λ (v : Job C). Lower (row_of c (job_of h o)) (row_of c v)) (sym e) (f o s.0)
@@ -175,11 +176,11 @@ lower_removed c v s = lower_ended c v (record v { ended = true }) s (omega arith
 lower_aborted : {C : Type 0} (c : Config) (v : Job C) → Sound v → Lower (row_of c v) (row_of c (acted Aborted v))
 lower_aborted c v s = lower_ended c v (acted Aborted v) s (omega arith) refl refl refl refl refl
 
-lowers_removed_by : {C : Type 0} (c : Config) (h : List (Event C)) (q : ℕ) (jobs : List ℕ) (o : Opening) (b : Bool) → list_any (λ (k : ℕ). k == o.job) jobs ≡ b → Sound (job_of h o) → Lower (row_of c (job_of h o)) (row_of c (change (Removed q jobs) (job_of h o)))
-lowers_removed_by {C} c h q jobs o true e s =
+lowers_removed_by : {C : Type 0} (c : Config) (base : Base) (h : List (Event C)) (q : ℕ) (jobs : List ℕ) (o : Opening) (b : Bool) → list_any (λ (k : ℕ). k == o.job) jobs ≡ b → Sound (job_of h o) → Lower (row_of c (job_of h o)) (row_of c (change (Removed q jobs) (job_of h o)))
+lowers_removed_by {C} c base h q jobs o true e s =
     let is : change (Removed q jobs) (job_of h o) ≡ record (job_of h o) { ended = true } = rw e refl in
     subst (λ (v : Job C). Lower (row_of c (job_of h o)) (row_of c v)) (sym is) (lower_removed c (job_of h o) s)
-lowers_removed_by {C} c h q jobs o false e s =
+lowers_removed_by {C} c base h q jobs o false e s =
     let is : change (Removed q jobs) (job_of h o) ≡ job_of h o = rw e refl in
     subst (λ (v : Job C). Lower (row_of c (job_of h o)) (row_of c v)) (sym is) (lower_same c (job_of h o))
 
@@ -190,25 +191,25 @@ is_quiet (OfJob k Granted) = false
 is_quiet (AtPrinter p sheet Handed) = false
 is_quiet e = true
 
-pub lowers_all : {C : Type 0} (size : C → ℕ) (c : Config) (h : List (Event C)) (e : Event C) → is_quiet e ≡ true → IsLegal size c h → May size (now c h) e → LowersAll c h e
-lowers_all size c h (Opened k s q) is l m = absurd (clash false is refl)
-lowers_all size c h (OfJob k Granted) is l m = absurd (clash false is refl)
-lowers_all size c h (OfJob k (Began name count)) is l m = lowers_act size c h k (Began name count) l m (λ o has e s.
-    (let a = at_is h k _ o (facts size c h l) (has_at c h k _ m.0) has e in lower_receiving c (job_of h o) (acted (Began name count) (job_of h o)) a.0.0 a.0.1 s refl refl refl refl refl refl))
-lowers_all size c h (OfJob k (Put file number page)) is l m = lowers_act size c h k (Put file number page) l m (λ o has e s.
-    (let a = at_is h k _ o (facts size c h l) (has_at c h k _ m.0) has e in lower_receiving c (job_of h o) (acted (Put file number page) (job_of h o)) a.0.0 a.0.1 s refl refl refl refl refl refl))
-lowers_all size c h (OfJob k (FileEnded file whole)) is l m = lowers_act size c h k (FileEnded file whole) l m (λ o has e s.
-    (let a = at_is h k _ o (facts size c h l) (has_at c h k _ m.0) has e in lower_receiving c (job_of h o) (acted (FileEnded file whole) (job_of h o)) a.0.0 a.0.1 s refl refl refl refl refl refl))
-lowers_all size c h (OfJob k (Controlled control whole)) is l m = lowers_act size c h k (Controlled control whole) l m (λ o has e s.
-    (let a = at_is h k _ o (facts size c h l) (has_at c h k _ m.0) has e in lower_receiving c (job_of h o) (acted (Controlled control whole) (job_of h o)) a.0.0 a.0.1 s refl refl refl refl refl refl))
-lowers_all size c h (OfJob k Aborted) is l m = lowers_act size c h k Aborted l m (λ o has e s. lower_aborted c (job_of h o) (sound size c h l o))
-lowers_all size c h (AtPrinter p sheet Handed) is l m = absurd (clash false is refl)
-lowers_all size c h (AtPrinter p sheet (Printed Going)) is l m = lowers_turn size c h p sheet (Printed Going) (λ o e. lower_back c (job_of h o))
-lowers_all size c h (AtPrinter p sheet (Printed Ended)) is l m = lowers_turn size c h p sheet (Printed Ended) (λ o e. lower_back c (job_of h o))
-lowers_all size c h (AtPrinter p sheet (Printed Done)) is l m = lowers_turn size c h p sheet (Printed Done) (λ o e.
-    lower_ended c (job_of h o) (turned (Printed Done) (job_of h o)) (sound size c h l o) (omega arith) refl refl refl refl refl)
-lowers_all size c h (AtPrinter p sheet Failed) is l m = lowers_turn size c h p sheet Failed (λ o e.
-    lower_ended c (job_of h o) (turned Failed (job_of h o)) (sound size c h l o) (omega arith) refl refl refl refl refl)
-lowers_all size c h (Removed q jobs) is l m = λ o has. lowers_removed_by c h q jobs o (list_any (λ (k : ℕ). k == o.job) jobs) refl (sound size c h l o)
-lowers_all size c h (Started q) is l m = λ o has. lower_same c (job_of h o)
-lowers_all size c h Closed is l m = λ o has. lower_removed c (job_of h o) (sound size c h l o)
+pub lowers_all : {C : Type 0} (size : C → ℕ) (c : Config) (base : Base) (h : List (Event C)) (e : Event C) → is_quiet e ≡ true → IsLegal size c base h → May size (now c base h) e → LowersAll c base h e
+lowers_all size c base h (Opened k s q) is l m = absurd (clash false is refl)
+lowers_all size c base h (OfJob k Granted) is l m = absurd (clash false is refl)
+lowers_all size c base h (OfJob k (Began name count)) is l m = lowers_act size c base h k (Began name count) l m (λ o has e s.
+    (let a = at_is h k _ o (facts size c base h l) (has_at c base h k _ m.0) has e in lower_receiving c (job_of h o) (acted (Began name count) (job_of h o)) a.0.0 a.0.1 s refl refl refl refl refl refl))
+lowers_all size c base h (OfJob k (Put file number page)) is l m = lowers_act size c base h k (Put file number page) l m (λ o has e s.
+    (let a = at_is h k _ o (facts size c base h l) (has_at c base h k _ m.0) has e in lower_receiving c (job_of h o) (acted (Put file number page) (job_of h o)) a.0.0 a.0.1 s refl refl refl refl refl refl))
+lowers_all size c base h (OfJob k (FileEnded file whole)) is l m = lowers_act size c base h k (FileEnded file whole) l m (λ o has e s.
+    (let a = at_is h k _ o (facts size c base h l) (has_at c base h k _ m.0) has e in lower_receiving c (job_of h o) (acted (FileEnded file whole) (job_of h o)) a.0.0 a.0.1 s refl refl refl refl refl refl))
+lowers_all size c base h (OfJob k (Controlled control whole)) is l m = lowers_act size c base h k (Controlled control whole) l m (λ o has e s.
+    (let a = at_is h k _ o (facts size c base h l) (has_at c base h k _ m.0) has e in lower_receiving c (job_of h o) (acted (Controlled control whole) (job_of h o)) a.0.0 a.0.1 s refl refl refl refl refl refl))
+lowers_all size c base h (OfJob k Aborted) is l m = lowers_act size c base h k Aborted l m (λ o has e s. lower_aborted c (job_of h o) (sound size c base h l o))
+lowers_all size c base h (AtPrinter p sheet Handed) is l m = absurd (clash false is refl)
+lowers_all size c base h (AtPrinter p sheet (Printed Going)) is l m = lowers_turn size c base h p sheet (Printed Going) (λ o e. lower_back c (job_of h o))
+lowers_all size c base h (AtPrinter p sheet (Printed Ended)) is l m = lowers_turn size c base h p sheet (Printed Ended) (λ o e. lower_back c (job_of h o))
+lowers_all size c base h (AtPrinter p sheet (Printed Done)) is l m = lowers_turn size c base h p sheet (Printed Done) (λ o e.
+    lower_ended c (job_of h o) (turned (Printed Done) (job_of h o)) (sound size c base h l o) (omega arith) refl refl refl refl refl)
+lowers_all size c base h (AtPrinter p sheet Failed) is l m = lowers_turn size c base h p sheet Failed (λ o e.
+    lower_ended c (job_of h o) (turned Failed (job_of h o)) (sound size c base h l o) (omega arith) refl refl refl refl refl)
+lowers_all size c base h (Removed q jobs) is l m = λ o has. lowers_removed_by c base h q jobs o (list_any (λ (k : ℕ). k == o.job) jobs) refl (sound size c base h l o)
+lowers_all size c base h (Started q) is l m = λ o has. lower_same c (job_of h o)
+lowers_all size c base h Closed is l m = λ o has. lower_removed c (job_of h o) (sound size c base h l o)
