@@ -158,7 +158,7 @@ positive size c base (Removed q jobs ∷ h) l = positive size c base h l.1
 positive size c base (Started q ∷ h) l = positive size c base h l.1
 positive size c base (Closed ∷ h) l = positive size c base h l.1
 
-balanced_opened : {C : Type 0} (c : Config) (base : Base) (h : List (Event C)) (k s q : ℕ) → Facts h → Balanced c base h → Balanced c base (Opened k s q ∷ h)
+balanced_opened : {C : Type 0} (c : Config) (base : Base) (h : List (Event C)) (k s q : ℕ) → Facts base h → Balanced c base h → Balanced c base (Opened k s q ∷ h)
 balanced_opened {C} c base h k s q f b =
     let n = length (openings h) in
     let new = f.fresh (suc n) (omega arith) in
@@ -177,7 +177,7 @@ out_other {C} h p sheet turn q ne = ap (λ (o : Option (Sheet C)). one_for (is_s
 handed_out : {C : Type 0} (h : List (Event C)) (p : ℕ) (sheet : Sheet C) → out_at (AtPrinter p sheet Handed ∷ h) p ≡ Some sheet
 handed_out h p sheet = elim (test p p) [ inl s ↦ rw s.1 refl | inr s ↦ absurd (s.0 refl) ]
 
-balanced_handed : {C : Type 0} (c : Config) (base : Base) (h : List (Event C)) (p : ℕ) (sheet : Sheet C) → Facts h → Positive h → 1 ≤ p → p ≤ printer_count c → Turn' h p sheet → Balanced c base h → Balanced c base (AtPrinter p sheet Handed ∷ h)
+balanced_handed : {C : Type 0} (c : Config) (base : Base) (h : List (Event C)) (p : ℕ) (sheet : Sheet C) → Facts base h → Positive h → 1 ≤ p → p ≤ printer_count c → Turn' h p sheet → Balanced c base h → Balanced c base (AtPrinter p sheet Handed ∷ h)
 balanced_handed {C} c base h p sheet f pos one le t b =
     let e : Event C = AtPrinter p sheet Handed in
     let o : Opening = record { job = sheet.job; sender = t.at.sender; queue = t.at.queue } in
@@ -195,7 +195,7 @@ balanced_handed {C} c base h p sheet f pos one le t b =
     let printers = up_once (out_of h) (out_of (e ∷ h)) p (printer_count c) one le (λ q ne. out_other h p sheet Handed q ne) (omega arith) in
     omega arith
 
-balanced_back : {C : Type 0} (c : Config) (base : Base) (h : List (Event C)) (p : ℕ) (sheet : Sheet C) (turn : Turn) → is_handed turn ≡ false → Facts h → 1 ≤ sheet.job → 1 ≤ p → p ≤ printer_count c → out_at h p ≡ Some sheet → Balanced c base h → Balanced c base (AtPrinter p sheet turn ∷ h)
+balanced_back : {C : Type 0} (c : Config) (base : Base) (h : List (Event C)) (p : ℕ) (sheet : Sheet C) (turn : Turn) → is_handed turn ≡ false → Facts base h → 1 ≤ sheet.job → 1 ≤ p → p ≤ printer_count c → out_at h p ≡ Some sheet → Balanced c base h → Balanced c base (AtPrinter p sheet turn ∷ h)
 balanced_back {C} c base h p sheet turn back f first one le out b =
     let e : Event C = AtPrinter p sheet turn in
     let x = (f.out p sheet out).1 in

@@ -41,7 +41,7 @@ gone_first h os x o has none s q lt = bool_cases (is_held (job_of h o)) (λ held
     let d : nat_lt o.job x.number ≡ true = grind (arith, nat_tests) in
     clash ((o.sender == x.sender) && ((o.queue == x.queue) && nat_lt o.job x.number)) (and_from (o.sender == x.sender) ((o.queue == x.queue) && nat_lt o.job x.number) a (and_from (o.queue == x.queue) (nat_lt o.job x.number) b d)) f)
 
-gone_by : {C : Type 0} (h : List (Event C)) (x : Job C) (o k : Opening) (a : Known h (openings h) x) → Facts h → x.number ≡ k.job → IsBehind h o k → list_any (is_preceded_by x) (filter is_held (map (job_of h) (openings h))) ≡ false → is_held (job_of h o) ≡ false
+gone_by : {C : Type 0} {base : Base} (h : List (Event C)) (x : Job C) (o k : Opening) (a : Known h (openings h) x) → Facts base h → x.number ≡ k.job → IsBehind h o k → list_any (is_preceded_by x) (filter is_held (map (job_of h) (openings h))) ≡ false → is_held (job_of h o) ≡ false
 gone_by {C} h x o k a f n b none =
     let num : a.opening.job ≡ k.job = sym (ap (λ (v : Job C). v.number) a.is) ∙ n in
     let same : a.opening ≡ k = f.once a.opening k a.there b.1 num in
@@ -51,7 +51,7 @@ gone_by {C} h x o k a f n b none =
     gone_first h (openings h) x o b.0 none (b.3 ∙ sym s) (b.4 ∙ sym q) (omega arith)
 
 -- when a page is handed, the earlier jobs are gone
-now_gone : {C : Type 0} (c : Config) (base : Base) (h : List (Event C)) (p : ℕ) (sheet : Sheet C) → Facts h → Behind h → IsPrinter c p → next_page (now c base h) p ≡ Hands sheet → (o k : Opening) → IsBehind h o k → k.job ≡ sheet.job → is_held (job_of h o) ≡ false
+now_gone : {C : Type 0} (c : Config) (base : Base) (h : List (Event C)) (p : ℕ) (sheet : Sheet C) → Facts base h → Behind h → IsPrinter c p → next_page (now c base h) p ≡ Hands sheet → (o k : Opening) → IsBehind h o k → k.job ≡ sheet.job → is_held (job_of h o) ≡ false
 now_gone {C} c base h p sheet f b is e o k behind' same =
     let g = (given (now c base h) p sheet e).1 in
     let n : g.job.number ≡ k.job = sym (ap (λ (s : Sheet C). s.job) g.gets.is) ∙ sym same in
@@ -63,7 +63,7 @@ now_gone {C} c base h p sheet f b is e o k behind' same =
     ]
 
 -- after a job is accepted
-behind_opened : {C : Type 0} (h : List (Event C)) (j s q : ℕ) → Facts h → j ≡ length (openings h) + 1 → ((o : Opening) → is_held (job_of h o) ≡ false → is_held (job_of (Opened j s q ∷ h) o) ≡ false) → Behind h → Behind (Opened j s q ∷ h)
+behind_opened : {C : Type 0} {base : Base} (h : List (Event C)) (j s q : ℕ) → Facts base h → j ≡ last base h + 1 → ((o : Opening) → is_held (job_of h o) ≡ false → is_held (job_of (Opened j s q ∷ h) o) ≡ false) → Behind h → Behind (Opened j s q ∷ h)
 behind_opened {C} h j s q f new st b o k is pos =
     let x : Opening = record { job = j; sender = s; queue = q } in
     let lt = is.2 in
@@ -78,7 +78,7 @@ behind_opened {C} h j s q f new st b o k is pos =
           absurd (omega arith)
     ]
 
-behind_handed : {C : Type 0} (c : Config) (base : Base) (h : List (Event C)) (p : ℕ) (sheet : Sheet C) → Facts h → IsPrinter c p → next_page (now c base h) p ≡ Hands sheet
+behind_handed : {C : Type 0} (c : Config) (base : Base) (h : List (Event C)) (p : ℕ) (sheet : Sheet C) → Facts base h → IsPrinter c p → next_page (now c base h) p ≡ Hands sheet
     → ((o : Opening) → is_held (job_of h o) ≡ false → is_held (job_of (AtPrinter p sheet Handed ∷ h) o) ≡ false) → Behind h → Behind (AtPrinter p sheet Handed ∷ h)
 behind_handed c base h p sheet f at e st b o k is pos = st o (elim (test sheet.job k.job) [
   | inl s ↦ now_gone c base h p sheet f b at e o k is (sym s.0)

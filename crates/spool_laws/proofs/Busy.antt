@@ -43,7 +43,7 @@ held_by v w false e st held = absurd (clash (is_held w) held (st e))
 abbrev Steady : {C : Type 0} → List (Event C) → Event C → Type 0
 Steady h e = (o : Opening) → is_held (job_of h o) ≡ false → is_held (job_of (e ∷ h) o) ≡ false
 
-busy_opened : {C : Type 0} (c : Config) (base : Base) (h : List (Event C)) (j s q : ℕ) → Facts h → j ≡ length (openings h) + 1 → Steady h (Opened j s q) → AreBusy c base h → AreBusy c base (Opened j s q ∷ h)
+busy_opened : {C : Type 0} (c : Config) (base : Base) (h : List (Event C)) (j s q : ℕ) → Facts base h → j ≡ last base h + 1 → Steady h (Opened j s q) → AreBusy c base h → AreBusy c base (Opened j s q ∷ h)
 busy_opened {C} c base h j s q f new st b o has held pos = elim (has_last o (openings h) (record { job = j; sender = s; queue = q }) has) [
   | inl t ↦
       let x = b o t (held_by (job_of h o) (job_of (Opened j s q ∷ h) o) (is_held (job_of h o)) refl (st o) held) pos in
@@ -109,14 +109,14 @@ received_by : (b : Bool) (n : ℕ) → (b ≡ false → n ≡ 0) → 0 < n → b
 received_by true n f pos = refl
 received_by false n f pos = absurd (let z = f refl in omega arith)
 
-pub received_if : {C : Type 0} (h : List (Event C)) (j : ℕ) → Facts h → 0 < handed_at h j → received_at h j ≡ true
+pub received_if : {C : Type 0} {base : Base} (h : List (Event C)) (j : ℕ) → Facts base h → 0 < handed_at h j → received_at h j ≡ true
 received_if h j f pos = received_by (received_at h j) (handed_at h j) (f.begun j) pos
 
 pub unlent : {C : Type 0} (h : List (Event C)) (j : ℕ) → Keeps (acts_of h j) → received_at h j ≡ true → is_lent_by (acts_of h j) ≡ false
 unlent h j k r = unlent_by (is_lent_by (acts_of h j)) (received_at h j) (lent_unreceived h j k) r
 
 -- so it gets a page of no other
-no_other : {C : Type 0} (c : Config) (base : Base) (h : List (Event C)) (p : ℕ) (sheet : Sheet C) (o : Opening) → Facts h → Keeps (acts_of h o.job) → IsPrinter c p → next_page (now c base h) p ≡ Hands sheet → began_at h p ≡ Some o.job → Has o (openings h) → is_held (job_of h o) ≡ true → sheet.job ≢ o.job → ⊥
+no_other : {C : Type 0} (c : Config) (base : Base) (h : List (Event C)) (p : ℕ) (sheet : Sheet C) (o : Opening) → Facts base h → Keeps (acts_of h o.job) → IsPrinter c p → next_page (now c base h) p ≡ Hands sheet → began_at h p ≡ Some o.job → Has o (openings h) → is_held (job_of h o) ≡ true → sheet.job ≢ o.job → ⊥
 no_other {C} c base h p sheet o f k is e began has held ne =
     let here = at_printer c base h p is.0 is.1 in
     let b : (printer_at (now c base h) p).began ≡ Some o.job = ap (λ (x : Printer C). x.began) here ∙ began in
@@ -136,7 +136,7 @@ began_still h p sheet q j same b = elim (test p q) [
 began_here : {C : Type 0} (h : List (Event C)) (p : ℕ) (sheet : Sheet C) (j : ℕ) → sheet.job ≡ j → began_at (AtPrinter p sheet Handed ∷ h) p ≡ Some j
 began_here h p sheet j e = elim (test p p) [ inl s ↦ rw s.1 (ap (λ (i : ℕ). Some i) e) | inr s ↦ absurd (s.0 refl) ]
 
-busy_handed : {C : Type 0} (c : Config) (base : Base) (h : List (Event C)) (p : ℕ) (sheet : Sheet C) → Facts h → ((j : ℕ) → Keeps (acts_of h j)) → IsPrinter c p → next_page (now c base h) p ≡ Hands sheet → Steady h (AtPrinter p sheet Handed) → AreBusy c base h → AreBusy c base (AtPrinter p sheet Handed ∷ h)
+busy_handed : {C : Type 0} (c : Config) (base : Base) (h : List (Event C)) (p : ℕ) (sheet : Sheet C) → Facts base h → ((j : ℕ) → Keeps (acts_of h j)) → IsPrinter c p → next_page (now c base h) p ≡ Hands sheet → Steady h (AtPrinter p sheet Handed) → AreBusy c base h → AreBusy c base (AtPrinter p sheet Handed ∷ h)
 busy_handed {C} c base h p sheet f k is e st b o has held' pos =
     let held = held_by (job_of h o) (job_of (AtPrinter p sheet Handed ∷ h) o) (is_held (job_of h o)) refl (st o) held' in
     elim (test sheet.job o.job) [

@@ -103,7 +103,7 @@ same_state : {C : Type 0} (c : Config) (jobs jobs' : List (Job C)) (n n' r r' : 
     → ◌≡◌ {A = State C} (record { config = c; jobs = jobs; accepted = n; reserved = r; printers = ps; closed = b }) (record { config = c; jobs = jobs'; accepted = n'; reserved = r'; printers = ps; closed = b })
 same_state c jobs jobs' n n' r r' ps b x y z = cc (x, y, z)
 
-moved_opened : {C : Type 0} (c : Config) (base : Base) (h : List (Event C)) (j s q : ℕ) → Facts h → is_closed base h ≡ false → j ≡ length (openings h) + 1 → Moved c base h (Opened j s q)
+moved_opened : {C : Type 0} (c : Config) (base : Base) (h : List (Event C)) (j s q : ℕ) → Facts base h → is_closed base h ≡ false → j ≡ last base h + 1 → Moved c base h (Opened j s q)
 moved_opened {C} c base h j s q f open' is =
     let e : Event C = Opened j s q in
     let o : Opening = record { job = j; sender = s; queue = q } in

@@ -209,13 +209,13 @@ Within c base h = (o : Opening) → Has o (openings h) → granted_by (acts_of h
 within_act : {C : Type 0} (c : Config) (base : Base) (h : List (Event C)) (k : ℕ) (act : Act C) → ((o : Opening) → Has o (openings h) → k ≡ o.job → granted_by (act ∷ acts_of h o.job) ≤ limit_of c o.queue) → Within c base h → Within c base (OfJob k act ∷ h)
 within_act c base h k act here w o has = elim (test k o.job) [ inl s ↦ rw s.1 (here o has s.0) | inr s ↦ rw s.1 (w o has) ]
 
-within_granted : {C : Type 0} (c : Config) (base : Base) (h : List (Event C)) (k : ℕ) (P : Job C → Type 0) → Facts h → (a : At h k P) → granted_by (acts_of h k) < limit_of c a.queue → Within c base h → Within c base (OfJob k Granted ∷ h)
+within_granted : {C : Type 0} (c : Config) (base : Base) (h : List (Event C)) (k : ℕ) (P : Job C → Type 0) → Facts base h → (a : At h k P) → granted_by (acts_of h k) < limit_of c a.queue → Within c base h → Within c base (OfJob k Granted ∷ h)
 within_granted c base h k P f a lt = within_act c base h k Granted (λ o has same.
     let e : record { job = k; sender = a.sender; queue = a.queue } ≡ o = f.once (record { job = k; sender = a.sender; queue = a.queue }) o a.there has same in
     let b : granted_by (acts_of h o.job) < limit_of c o.queue = subst (λ (x : Opening). granted_by (acts_of h x.job) < limit_of c x.queue) e lt in
     omega arith)
 
-within_opened : {C : Type 0} (c : Config) (base : Base) (h : List (Event C)) (k s q : ℕ) → Facts h → k ≡ length (openings h) + 1 → Within c base h → Within c base (Opened k s q ∷ h)
+within_opened : {C : Type 0} (c : Config) (base : Base) (h : List (Event C)) (k s q : ℕ) → Facts base h → k ≡ last base h + 1 → Within c base h → Within c base (Opened k s q ∷ h)
 within_opened {C} c base h k s q f is w o has =
     elim (has_last o (openings h) (record { job = k; sender = s; queue = q }) has) [
       | inl t ↦ let old = w o t in omega arith
