@@ -1,11 +1,15 @@
--- A scan of rows has one list of turns.
-use Rattle.std.proofs.Common.{◌≡◌, ℕ, Bool, true, false, List, [], ◌∷◌, refl, subst, ap, ap₂, sym, ◌∙◌, arith}
+-- A scan of rows has one list of turns, and the check of an order one number of comparisons.
+use Rattle.std.proofs.Common.{◌≡◌, ◌⊎◌, inl, inr, ℕ, zero, suc, ◌+◌, ◌<◌, Bool, true, false, List, [], ◌∷◌, ◌++◌, length, take, drop, drop-cons, refl, subst, ap, ap₂, sym, ◌∙◌, arith}
 use Rattle.std.specs.Prelude.{nat_lt, remove}
 use Rattle.std.proofs.lemmas.Bool.Decides.{nat_tests}
+use Rattle.std.proofs.lemmas.List.{take-append-drop}
+use Rattle.counts.specs.Amounts.{Fits}
 use Rattle.claims.specs.declared.row.Row.{Row}
-use Rattle.claims.specs.Claims.{row_at}
+use Rattle.claims.specs.Claims.{Pairwise, IsLower, row_at, no_row}
+use Rattle.claims.proofs.Tables.{pairwise_without}
 use Rattle.claims.specs.Safety.{freed}
-use Rattle.ordered_safety.specs.Compared.{GoesNext, AreTurns, scan_tests, ScanTakes}
+use Rattle.ordered_safety.specs.Compared.{GoesNext, AreTurns, scan_tests, ScanTakes, IsNext, CheckTakes}
+use Rattle.ordered_safety.proofs.Picks.{all_get}
 
 goes_once : (free : ℕ → ℕ) (rows : List Row) (a b : ℕ) → GoesNext free rows a → GoesNext free rows b → a ≡ b
 goes_once free rows a b g h = by (nat_lt a b) (nat_lt b a) refl refl
@@ -26,3 +30,62 @@ turns_once free rows (a ∷ s) (b ∷ t) x y =
 
 pub one_number : (free : ℕ → ℕ) (rows : List Row) (n m : ℕ) → ScanTakes free rows n → ScanTakes free rows m → n ≡ m
 one_number free rows n m x y = x.2 ∙ (ap (scan_tests rows) (turns_once free rows x.0 y.0 x.1 y.1) ∙ sym y.2)
+
+-- numbers rise with the places
+lower_at : (rows : List Row) (i j : ℕ) → i < j → j < length rows → Pairwise IsLower rows → (row_at rows i).number < (row_at rows j).number
+lower_at [] i j lt le low = absurd (omega arith)
+lower_at (x ∷ xs) zero zero lt le low = absurd (omega arith)
+lower_at (x ∷ xs) zero (suc j) lt le low = all_get (IsLower x) xs j no_row (omega arith) low.0
+lower_at (x ∷ xs) (suc i) zero lt le low = absurd (omega arith)
+lower_at (x ∷ xs) (suc i) (suc j) lt le low = lower_at xs i j (omega arith) (omega arith) low.1
+
+next_once : (rows : List Row) (number a b : ℕ) → Pairwise IsLower rows → IsNext rows number a → IsNext rows number b → a ≡ b
+next_once rows number a b low x y = by (nat_lt a b) (nat_lt b a) refl refl
+  where
+    by : (below above : Bool) → nat_lt a b ≡ below → nat_lt b a ≡ above → a ≡ b
+    by true above e f = absurd (
+        let l = lower_at rows a b (grind (arith, nat_tests)) y.there low in
+        let n = x.numbered in
+        let m = y.numbered in
+        omega arith)
+    by false true e f = absurd (
+        let l = lower_at rows b a (grind (arith, nat_tests)) x.there low in
+        let n = x.numbered in
+        let m = y.numbered in
+        omega arith)
+    by false false e f = grind (arith, nat_tests)
+
+rising_without : (rows : List Row) (at : ℕ) → at < length rows → Pairwise IsLower rows → Pairwise IsLower (remove rows at)
+rising_without rows at lt low =
+    pairwise_without IsLower (take at rows) (row_at rows at) (drop (suc at) rows)
+    (subst (Pairwise IsLower) (sym (take-append-drop at rows) ∙ ap (λ (r : List Row). take at rows ++ r) (drop-cons rows at no_row lt)) low)
+
+-- the comparison of the row at a place, and of those after it
+abbrev Compares : (ℕ → ℕ) → List Row → List ℕ → ℕ → ℕ → Type 0
+Compares free rows numbers tests at =
+    (¬ (Fits (row_at rows at).need free) × (tests ≡ 1))
+    ⊎ (Fits (row_at rows at).need free × (later : ℕ) × (tests ≡ later + 1)
+    × CheckTakes (freed free (row_at rows at)) (remove rows at) numbers later)
+
+pub one_of_order : (free : ℕ → ℕ) (rows : List Row) (numbers : List ℕ) (n m : ℕ) → Pairwise IsLower rows → CheckTakes free rows numbers n → CheckTakes free rows numbers m → n ≡ m
+one_of_order free rows [] n m low x y = x ∙ sym y
+one_of_order free rows (number ∷ numbers) n m low x y = elim x [
+  | inl s ↦ elim y [ inl t ↦ s.1 ∙ sym t.1 | inr t ↦ absurd (s.0 t.0 t.1) ]
+  | inr s ↦ elim y [
+    | inl t ↦ absurd (t.0 s.0 s.1)
+    | inr t ↦
+        let same : t.0 ≡ s.0 = next_once rows number t.0 s.0 low t.1 s.1 in
+        let other : Compares free rows numbers m s.0 = subst (Compares free rows numbers m) same t.2 in
+        elim s.2 [
+          | inl over ↦ elim other [ inl over' ↦ over.1 ∙ sym over'.1 | inr goes ↦ absurd (over.0 goes.0) ]
+          | inr goes ↦ elim other [
+            | inl over ↦ absurd (over.0 goes.0)
+            | inr goes' ↦
+                let later = one_of_order (freed free (row_at rows s.0)) (remove rows s.0) numbers goes.1 goes'.1 (rising_without rows s.0 s.1.there low) goes.3 goes'.3 in
+                let a = goes.2 in
+                let b = goes'.2 in
+                omega arith
+          ]
+        ]
+  ]
+]

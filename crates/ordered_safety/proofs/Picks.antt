@@ -35,7 +35,7 @@ all_weaker : (P Q : Row → Type 0) (a : List Row) → ((x : Row) → P x → Q 
 all_weaker P Q [] w h = tt
 all_weaker P Q (x ∷ a) w h = (w x h.0, all_weaker P Q a w h.1)
 
-all_get : (P : Row → Type 0) (a : List Row) (j : ℕ) (d : Row) → j < length a → AllByRecursion P a → P (get_or a j d)
+pub all_get : (P : Row → Type 0) (a : List Row) (j : ℕ) (d : Row) → j < length a → AllByRecursion P a → P (get_or a j d)
 all_get P [] j d lt h = absurd (omega arith)
 all_get P (x ∷ a) zero d lt h = h.0
 all_get P (x ∷ a) (suc j) d lt h = all_get P a j d (omega arith) h.1

@@ -3,7 +3,7 @@ use Rattle.std.specs.Prelude.{◌≡◌, ◌⊎◌, ℕ, zero, suc, ◌+◌, ◌
 use Rattle.std.specs.List.{list_any}
 use Rattle.counts.specs.Amounts.{amount, Fits}
 use Rattle.claims.specs.declared.row.Row.{Row}
-use Rattle.claims.specs.Claims.{Claims, row_at}
+use Rattle.claims.specs.Claims.{Claims, IsTable, row_at}
 use Rattle.claims.specs.Safety.{freed, same_line}
 
 -- how many of the first n of these rows no earlier one of their line precedes: those whose needs are compared
@@ -74,3 +74,8 @@ OrderTakes t numbers tests = CheckTakes (amount t.free) t.rows numbers tests
 -- the number of comparisons of a decision is one
 abbrev pub IsOneNumber : Type 0
 IsOneNumber = (t : Claims) (n m : ℕ) → DecisionTakes t n → DecisionTakes t m → n ≡ m
+
+-- and so is that of the check of an order
+abbrev pub IsOneNumberOfOrder : Type 0
+IsOneNumberOfOrder =
+    (t : Claims) (numbers : List ℕ) (n m : ℕ) → IsTable t → OrderTakes t numbers n → OrderTakes t numbers m → n ≡ m

@@ -1,9 +1,10 @@
 //! What the words of the contracts determine.
 
-ghost use Rattle.ordered_safety.specs.Compared.{IsOneNumber};
+ghost use Rattle.ordered_safety.specs.Compared.{IsOneNumber, IsOneNumberOfOrder};
 
-/// How often a decision about a table compares needs is one number: the contracts of the decisions
-/// leave no choice of it.
+/// How often a decision about a table, or the check of an order, compares needs is one number: the
+/// contracts leave no choice of it.
 pub fn tests_are_determined()
-    ensures { IsOneNumber }
+    ensures decisions { IsOneNumber }
+    ensures orders { IsOneNumberOfOrder }
 {}

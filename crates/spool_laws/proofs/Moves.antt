@@ -18,7 +18,7 @@ use Rattle.spool_history.specs.Steps.{change, acted, turned, new_job, accepted_b
 use Rattle.spool_history.specs.Legal.{May, IsLegal, IsLeftBy}
 use Rattle.spool_laws.proofs.Known.{has_at, held_at, filter_cons, clash, or_true, test}
 use Rattle.spool_laws.proofs.Changes.{changes}
-use Rattle.spool_laws.proofs.Printers.{printers_turned, printers_started}
+use Rattle.spool_laws.proofs.Printers.{map_twice, printers_turned, printers_started}
 use Rattle.spool_laws.proofs.Facts.{Facts, facts, turn_of_page, is_out, handed_at}
 
 -- a job that is gone stays gone
@@ -35,12 +35,8 @@ held_changes : {C : Type 0} (f : Job C → Job C) (g : Opening → Job C) (os : 
 held_changes f g [] k = refl
 held_changes f g (o ∷ os) k = held_step f (g o) (map g os) (is_held (g o)) refl (k o) (held_changes f g os k)
 
-map_changes : {C : Type 0} (f : Job C → Job C) (g k : Opening → Job C) (os : List Opening) → ((o : Opening) → k o ≡ f (g o)) → map k os ≡ map f (map g os)
-map_changes f g k [] e = refl
-map_changes f g k (o ∷ os) e = cc (e o, map_changes f g k os e)
-
 jobs_change : {C : Type 0} (h : List (Event C)) (e : Event C) → StaysGone h e → filter is_held (map (job_of (e ∷ h)) (openings h)) ≡ filter is_held (map (change e) (filter is_held (map (job_of h) (openings h))))
-jobs_change {C} h e g = ap (filter is_held) (map_changes (change e) (job_of h) (job_of (e ∷ h)) (openings h) (changes h e)) ∙ held_changes (change e) (job_of h) (openings h) g
+jobs_change {C} h e g = ap (filter is_held) (map_twice (job_of h) (change e) (job_of (e ∷ h)) (openings h) (changes h e)) ∙ held_changes (change e) (job_of h) (openings h) g
 
 -- an event that names one held job
 stays_named : {C : Type 0} (h : List (Event C)) (e : Event C) (new : Job C → Job C) (k : ℕ) → ((v : Job C) → change e v ≡ cond (k == v.number) (new v) v) → held_at h k ≡ true → StaysGone h e
