@@ -265,5 +265,5 @@ reserved {C} size c base h l o has =
     let s = sound size c base h l o in
     let back = s.back in
     let handed = s.handed in
-    let places = s.within in
+    let places = s.many in
     omega arith
