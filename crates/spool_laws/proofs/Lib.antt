@@ -26,3 +26,4 @@ pub mod Sound
 pub mod Apart
 pub mod Enough
 pub mod Staying
+pub mod Rotated

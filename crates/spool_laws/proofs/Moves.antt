@@ -55,7 +55,7 @@ stays_removed h q jobs o true e gone = rw e (gone_ended (has_ended h o.job) (has
 stays_removed h q jobs o false e gone = rw e gone
 
 -- a job of which a page is out is held
-out_held : {C : Type 0} (h : List (Event C)) (k : ℕ) → handed_at h k ≡ back_of h k + 1 → held_at h k ≡ true
+pub out_held : {C : Type 0} (h : List (Event C)) (k : ℕ) → handed_at h k ≡ back_of h k + 1 → held_at h k ≡ true
 out_held h k e =
     let ne : (handed_at h k == back_of h k) ≡ false = grind (arith, nat_tests) in
     rw ne (rw (or_true (is_lent_by (acts_of h k))) (or_true (not (has_ended h k))))
@@ -80,7 +80,7 @@ steady {C} size c base h e l m o gone = subst (λ (v : Job C). is_held v ≡ fal
 abbrev Moved : {C : Type 0} → Config → Base → List (Event C) → Event C → Type 0
 Moved c base h e = now c base (e ∷ h) ≡ after e (now c base h)
 
-all_same : {C : Type 0} (c : Config) (jobs jobs' : List (Job C)) (n n' r r' : ℕ) (ps ps' : List (Printer C)) (b b' : Bool) → jobs ≡ jobs' → n ≡ n' → r ≡ r' → ps ≡ ps' → b ≡ b'
+pub all_same : {C : Type 0} (c : Config) (jobs jobs' : List (Job C)) (n n' r r' : ℕ) (ps ps' : List (Printer C)) (b b' : Bool) → jobs ≡ jobs' → n ≡ n' → r ≡ r' → ps ≡ ps' → b ≡ b'
     → ◌≡◌ {A = State C} (record { config = c; jobs = jobs; accepted = n; reserved = r; printers = ps; closed = b }) (record { config = c; jobs = jobs'; accepted = n'; reserved = r'; printers = ps'; closed = b' })
 all_same c jobs jobs' n n' r r' ps ps' b b' x y z u w = cc (x, y, z, u, w)
 
