@@ -49,7 +49,8 @@ abbrev pub queue_of : Config → ℕ → ℕ
 queue_of c p = if p == 0 then 0 else served_from 1 c.queues p
 
 -- what a job of a queue may add to the account: its opening, its control file, its abort, its removal, the start of a
--- printer that failed on it, 52 files that begin and end, and its limit four times (granted, put, handed out, come back),
--- which are four times the limit and 109; the last three entries are slack, which no event takes
+-- printer that failed on it, 52 files that begin and end, its limit twice (granted, put) and 99 times its limit twice
+-- (handed out, come back: each of 99 print lines may print all its pages), which are 200 times the limit and 109; the
+-- last three entries are slack, which no event takes
 abbrev pub reserve_of : Config → ℕ → ℕ
-reserve_of c q = 4 * limit_of c q + 112
+reserve_of c q = 200 * limit_of c q + 112

@@ -29,7 +29,7 @@ pub record IsConfig (c : Config) : Type 0 where
   pub max_jobs_low : 1 ≤ c.max_jobs
   pub max_jobs_high : c.max_jobs ≤ 1024
   pub account_low : 1 ≤ c.account
-  pub account_high : c.account ≤ 1000000
+  pub account_high : c.account ≤ 16000000
   pub some_queue : 1 ≤ length c.queues
   pub few_queues : length c.queues ≤ 64
   pub queues : All (IsWithin c.pages) c.queues

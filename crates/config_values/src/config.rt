@@ -8,7 +8,7 @@ use std::marker::Model;
 
 /// What a spool is made for. Queues have the numbers 1, 2 and so on, and printers are numbered from 1 over all queues,
 /// in the queues' order. It is in its ranges, always: 1 to 65,536 pages of 1 to 65,536 octets, 1 to 1,024 jobs held at
-/// once, 1 to 1,000,000 entries of the account, and 1 to 64 queues, no two of one name; a queue's name has 1 to 64 octets
+/// once, 1 to 16,000,000 entries of the account, and 1 to 64 queues, no two of one name; a queue's name has 1 to 64 octets
 /// from 21 to 7E (hexadecimal), its limit is 1 to the pages of the pool, and it has 1 to 16 printers.
 #[derive(Debug, Drop)]
 pub struct Config {
@@ -199,8 +199,8 @@ impl Config {
     /// The most entries of the account that are about a job of a queue.
     pub fn reserve_of(&self, queue: u32) -> u64
         ensures value { result ≡ C.reserve_of self.now queue }
-        ensures within { result < 2 ^ 35 }
+        ensures within { result < 2 ^ 40 }
     {
-        4 * u64::from(self.limit_of(queue)) + 112
+        200 * u64::from(self.limit_of(queue)) + 112
     }
 }

@@ -1,5 +1,5 @@
 -- What the acts of one job say. The newest stands first.
-use Rattle.std.specs.Prelude.{ℕ, ◌+◌, Bool, true, false, ◌&&◌, not, List, [], ◌∷◌, ◌++◌, Option, Some, None, map, is_some, if◌then◌else◌}
+use Rattle.std.specs.Prelude.{ℕ, ◌+◌, ◌==◌, Bool, true, false, ◌&&◌, not, List, [], ◌∷◌, ◌++◌, Option, Some, None, filter, map, is_some, if◌then◌else◌}
 use Rattle.std.specs.List.{list_all, list_any, flat_map}
 use Rattle.lpd_values.specs.Contents.{Contents}
 use Rattle.std.specs.Str.{bytes_eq}
@@ -83,6 +83,20 @@ abbrev pub pages_named : {C : Type 0} → List ℕ → ℕ → List (File C) →
 pages_named name n [] = []
 pages_named name n (f ∷ fs) = (if bytes_eq f.name name then numbered n 0 f.pages else []) ++ pages_named name (n + 1) fs
 
--- the places of a job: for each name that it prints, the pages of that file, one after the other
+-- the pages of files, each once, where the first of these files has this number
+abbrev pub all_pages : {C : Type 0} → ℕ → List (File C) → List (Page C)
+all_pages n [] = []
+all_pages n (f ∷ fs) = numbered n 0 f.pages ++ all_pages (n + 1) fs
+
+-- whether two are the same page of a job
+abbrev pub is_same_page : {C : Type 0} → Page C → Page C → Bool
+is_same_page p q = (p.file == q.file) && (p.number == q.number)
+
+-- those of these pages of which a place stands in the list
+abbrev pub pages_among : {C : Type 0} → List (Page C) → List (Page C) → List (Page C)
+pages_among places pages = filter (λ page. list_any (is_same_page page) places) pages
+
+-- the places of a job: for each name that it prints, the pages of that file, one after the other; a name that is printed
+-- again adds its pages again
 abbrev pub places_in : {C : Type 0} → Option Contents → List (File C) → List (Page C)
 places_in control files = flat_map (λ name. pages_named name 0 files) (prints_in control)

@@ -6,6 +6,7 @@ use Rattle.lpd_values.specs.Kept.{is_among, is_operand, is_print_list}
 use Rattle.lpd_values.specs.declared.limits.TheConstants.{MAX_FILES}
 use Rattle.lpd_values.specs.Contents.{Contents}
 use Rattle.config_values.specs.Config.{Config, IsQueue, IsPrinter, limit_of, reserve_of}
+use Rattle.spool_history.specs.Base.{Base}
 use Rattle.spool_history.specs.Events.{Act, Sheet, Progress, Turn, Event}
 use Rattle.spool_history.specs.Events.Act.{Granted, Began, Put, FileEnded, Controlled, Aborted}
 use Rattle.spool_history.specs.Events.Progress.{Going, Done, Ended}
@@ -84,7 +85,7 @@ JobMay size c (Controlled control whole) job =
     IsReceiving job × (job.control ≡ None) × (whole ≡ is_received (acted (Controlled control whole) job))
 JobMay size c Aborted job = IsReceiving job ⊎ ((job.ended ≡ true) × (job.lent ≡ true))
 
--- what a control file may hold: a number of three digits, a host and a user, and 1 to 52 different names of data files
+-- what a control file may hold: a number of three digits, a host and a user, and 1 to 99 names of data files
 pub record IsControl (control : Contents) : Type 0 where
   pub number : control.number ≤ 999
   pub host : is_operand control.host ≡ true
@@ -145,12 +146,12 @@ May size v (Started q) =
     (v.closed ≡ false) × IsQueue v.config q × (p : ℕ) × IsPrinter v.config p × IsStoppedFor q (printer_at v p)
 May size v Closed = v.closed ≡ false
 
--- each event meets its conditions on those before it; size tells the octets of a page
-abbrev pub IsLegal : {C : Type 0} → (C → ℕ) → Config → List (Event C) → Type 0
-IsLegal size c [] = Unit {0}
-IsLegal size c (e ∷ h) = May size (now c h) e × IsLegal size c h
+-- each event meets its conditions on those before it, from a base on; size tells the octets of a page
+abbrev pub IsLegal : {C : Type 0} → (C → ℕ) → Config → Base → List (Event C) → Type 0
+IsLegal size c b [] = Unit {0}
+IsLegal size c b (e ∷ h) = May size (now c b h) e × IsLegal size c b h
 
--- the list is legal, and leaves the spool here
-pub record IsLeftBy {C : Type 0} (size : C → ℕ) (h : List (Event C)) (v : State C) : Type 0 where
-  pub legal : IsLegal size v.config h
-  pub here : v ≡ now v.config h
+-- from a base the list is legal, and leaves the spool here
+pub record IsLeftBy {C : Type 0} (size : C → ℕ) (b : Base) (h : List (Event C)) (v : State C) : Type 0 where
+  pub legal : IsLegal size v.config b h
+  pub here : v ≡ now v.config b h

@@ -1,7 +1,9 @@
+pub mod Base
 pub mod Events
 pub mod Acts
 pub mod Said
 pub mod Now
+pub mod Rotated
 pub mod Next
 pub mod Steps
 pub mod Legal

@@ -1,12 +1,13 @@
 -- Where a history leaves a spool: its held jobs, its printers, and what they hold and may still need.
-use Rattle.std.specs.Prelude.{ℕ, zero, suc, ◌+◌, ◌-◌, ◌==◌, ◌||◌, not, Bool, List, [], ◌∷◌, ◌++◌, Option, map, filter, length, sum_by, if◌then◌else◌}
+use Rattle.std.specs.Prelude.{ℕ, zero, suc, ◌+◌, ◌-◌, ◌==◌, ◌||◌, not, Bool, List, [], ◌∷◌, ◌++◌, Option, drop, map, filter, length, sum_by, if◌then◌else◌}
 use Rattle.counts.specs.Amounts.{amount}
 use Rattle.claims.specs.declared.row.Row.{Row}
 use Rattle.claims.specs.Safety.{HasFinishingOrder}
 use Rattle.lpd_values.specs.Contents.{Contents}
+use Rattle.spool_history.specs.Base.{Base}
 use Rattle.spool_history.specs.Events.{Event, Sheet}
 use Rattle.config_values.specs.Config.{Config, Queue, limit_of, printer_count, queue_of, reserve_of}
-use Rattle.spool_history.specs.Acts.{File, Page, granted_by, is_lent_by, files_by, control_by, is_whole, places_in}
+use Rattle.spool_history.specs.Acts.{File, Page, all_pages, granted_by, is_lent_by, files_by, control_by, is_whole, pages_among, places_in}
 use Rattle.spool_history.specs.Said.{Opening, openings, acts_of, handed_of, back_of, has_ended, out_at, began_at, is_stopped_at, is_closed}
 
 -- what is said of a job
@@ -61,12 +62,12 @@ pub record Printer (C : Type 0) : Type 0 where
   pub began : Option ℕ
   pub stopped : Bool
 
-abbrev pub printer_of : {C : Type 0} → Config → List (Event C) → ℕ → Printer C
-printer_of c h p = record {
+abbrev pub printer_of : {C : Type 0} → Config → Base → List (Event C) → ℕ → Printer C
+printer_of c b h p = record {
   queue = queue_of c p;
   out = out_at h p;
   began = began_at h p;
-  stopped = is_stopped_at h (queue_of c p) p;
+  stopped = is_stopped_at b h (queue_of c p) p;
 }
 
 -- the numbers from 1 to n
@@ -78,29 +79,35 @@ pub record State (C : Type 0) : Type 0 where
   pub config : Config
   -- the held jobs, in order of acceptance
   pub jobs : List (Job C)
-  -- how many jobs were accepted, and the reserves of them all
+  -- the last acceptance number, and the counted reserve
   pub accepted : ℕ
   pub reserved : ℕ
   pub printers : List (Printer C)
   pub closed : Bool
 
-abbrev pub now : {C : Type 0} → Config → List (Event C) → State C
-now c h = record {
+-- where events that came after a base leave a spool
+abbrev pub now : {C : Type 0} → Config → Base → List (Event C) → State C
+now c b h = record {
   config = c;
   jobs = filter is_held (map (job_of h) (openings h));
-  accepted = length (openings h);
-  reserved = sum_by (λ (o : Opening). reserve_of c o.queue) (openings h);
-  printers = map (printer_of c h) (up_to (printer_count c));
-  closed = is_closed h;
+  accepted = b.accepted + length (openings h);
+  reserved = b.reserved + sum_by (λ (o : Opening). reserve_of c o.queue) (openings h);
+  printers = map (printer_of c b h) (up_to (printer_count c));
+  closed = is_closed b h;
 }
 
 -- the pages of a job that are out: one where one is lent to its session, and one for each that is at a printer
 abbrev pub pages_out : {C : Type 0} → Job C → ℕ
 pages_out v = (if v.lent then 1 else 0) + (v.handed - v.back)
 
--- the pages that a held job holds: what was lent to it; once received, the places that haven't come back; once ended, those that are out
+-- the pages of a received job of which some place hasn't come back
+abbrev pub pages_kept : {C : Type 0} → Job C → List (Page C)
+pages_kept v = pages_among (drop v.back (places v)) (all_pages 0 v.files)
+
+-- the pages that a held job holds: what was lent to it; once received, those of which some place hasn't come back; once
+-- ended, those that are out
 abbrev pub pages_held : {C : Type 0} → Job C → ℕ
-pages_held v = if v.ended then pages_out v else (if is_received v then length (places v) - v.back else v.granted)
+pages_held v = if v.ended then pages_out v else (if is_received v then length (pages_kept v) else v.granted)
 
 -- the printers of its queue that it holds: one from its first page on
 abbrev pub printers_held : {C : Type 0} → Job C → ℕ

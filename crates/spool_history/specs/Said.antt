@@ -1,6 +1,7 @@
 -- What a history says of each job and each printer.
 use Rattle.std.specs.Prelude.{ℕ, ◌+◌, ◌==◌, ◌||◌, ◌&&◌, not, Bool, true, false, List, [], ◌∷◌, ◌++◌, Option, Some, None, if◌then◌else◌}
 use Rattle.std.specs.List.{list_any}
+use Rattle.spool_history.specs.Base.{Base, was_stopped}
 use Rattle.spool_history.specs.Events.{Act, Sheet, Turn, Event}
 use Rattle.spool_history.specs.Events.Act.{Aborted}
 use Rattle.spool_history.specs.Events.Progress.{Done}
@@ -85,14 +86,15 @@ abbrev pub is_failed : Turn → Bool
 is_failed Failed = true
 is_failed _ = false
 
--- whether a printer of a queue is stopped: a page failed at it, and the queue wasn't started since
-abbrev pub is_stopped_at : {C : Type 0} → List (Event C) → (queue printer : ℕ) → Bool
-is_stopped_at [] q p = false
-is_stopped_at (AtPrinter r sheet turn ∷ h) q p = ((r == p) && is_failed turn) || is_stopped_at h q p
-is_stopped_at (Started r ∷ h) q p = if r == q then false else is_stopped_at h q p
-is_stopped_at (_ ∷ h) q p = is_stopped_at h q p
+-- whether a printer of a queue is stopped: it was, or a page failed at it, and the queue wasn't started since
+abbrev pub is_stopped_at : {C : Type 0} → Base → List (Event C) → (queue printer : ℕ) → Bool
+is_stopped_at b [] q p = was_stopped b p
+is_stopped_at b (AtPrinter r sheet turn ∷ h) q p = ((r == p) && is_failed turn) || is_stopped_at b h q p
+is_stopped_at b (Started r ∷ h) q p = if r == q then false else is_stopped_at b h q p
+is_stopped_at b (_ ∷ h) q p = is_stopped_at b h q p
 
-abbrev pub is_closed : {C : Type 0} → List (Event C) → Bool
-is_closed [] = false
-is_closed (Closed ∷ h) = true
-is_closed (_ ∷ h) = is_closed h
+-- whether the spool is closed: it was, or the close came
+abbrev pub is_closed : {C : Type 0} → Base → List (Event C) → Bool
+is_closed b [] = b.closed
+is_closed b (Closed ∷ h) = true
+is_closed b (_ ∷ h) = is_closed b h

@@ -1,9 +1,10 @@
 -- Each page is in a chain, lent, at a printer or free.
-use Rattle.std.proofs.Common.{inl, inr, ◌≡◌, ◌≢◌, ℕ, suc, ◌+◌, ◌-◌, ◌≤◌, ◌<◌, Bool, true, false, List, [], ◌∷◌, ◌++◌, length, map, refl, sym, ◌∙◌, ap, subst, arith}
+use Rattle.std.proofs.Common.{inl, inr, ◌≡◌, ◌≢◌, ℕ, suc, ◌+◌, ◌-◌, ◌≤◌, Bool, true, false, List, [], ◌∷◌, ◌++◌, length, map, refl, sym, ◌∙◌, ap, subst, arith}
 use Rattle.std.specs.Prelude.{not, cond, sum_by, Option, Some, is_some}
 use Rattle.std.proofs.lemmas.List.{length_push}
 use Rattle.std.proofs.lemmas.List.Sums.{sum_by-cons, sum_by_push}
 use Rattle.std.proofs.lemmas.Bool.{or_parts}
+use Rattle.spool_history.specs.Base.{Base}
 use Rattle.spool_history.specs.Events.{Act, Event, Sheet, Turn}
 use Rattle.spool_history.specs.Events.Act.{Granted, Began, Put, FileEnded, Controlled, Aborted}
 use Rattle.spool_history.specs.Events.Turn.{Handed, Printed, Failed}
@@ -14,13 +15,14 @@ use Rattle.spool_history.specs.Said.{Opening, openings, acts_of, is_handed, back
 use Rattle.spool_history.specs.Now.{Job, Printer, now, job_of, is_held, is_received, has_page_out, pages_held, free_pages, printer_of, up_to}
 use Rattle.spool_history.specs.Legal.{IsLegal, May}
 use Rattle.spool_laws.specs.Sums.{chained_of, chained, lent, at_printers}
-use Rattle.spool_laws.proofs.Known.{Has, has_at, has_last, known, test, clash}
-use Rattle.spool_laws.proofs.Facts.{Facts, facts, Turn', turn_of_page, handed_now, handed_number, handed_at, handed_same, is_out, count_one, count_more, back_same, back_more, back_one, out_here, out_there}
+use Rattle.spool_laws.proofs.Known.{Has, has_at, known, test, clash}
+use Rattle.spool_laws.proofs.Facts.{Facts, Unknown, facts, last, Turn', turn_of_page, handed_now, handed_number, handed_at, handed_same, is_out, count_one, count_more, back_same, back_more, back_one, out_here, out_there}
 use Rattle.spool_laws.proofs.Counts.{with_page, last_push}
-use Rattle.spool_laws.proofs.Held.{pages_in, pages_push, pages_ended}
+use Rattle.spool_laws.proofs.Copies.{pages_in}
+use Rattle.spool_laws.proofs.Held.{pages_push, pages_ended}
 use Rattle.spool_laws.proofs.Adding.{sum_same, sum_parts, sum_filter, sum_map, up_none, up_once}
-use Rattle.spool_laws.proofs.Reserve.{accepted, no_events}
-use Rattle.spool_laws.proofs.Sound.{Sound, sound}
+use Rattle.spool_laws.proofs.Reserve.{no_events}
+use Rattle.spool_laws.proofs.Sound.{Sound, sound, out_kept}
 use Rattle.spool_laws.proofs.Sums.{numbers, pages_add_up}
 
 abbrev one_for : Bool → ℕ
@@ -60,28 +62,28 @@ filled_put {C} a file number page before last e was f =
     let p = length_push last.pages page in
     omega arith
 
-filled_step : {C : Type 0} (size : C → ℕ) (c : Config) (h : List (Event C)) (e : Event C) → May size (now c h) e → ((j : ℕ) → FilledAt h j) → (j : ℕ) → FilledAt (e ∷ h) j
-filled_step size c h (Opened k s q) m f = λ j g. f j (ended_before h (Opened k s q) j g)
-filled_step size c h (OfJob k Granted) m f = filled_act h k Granted (λ g old. (let z : one_for (is_lent_by (acts_of h k)) ≡ 0 = rw (has_at c h k _ m.0).is.0.2 refl in omega arith)) f
-filled_step size c h (OfJob k (Began name count)) m f = filled_act h k (Began name count) (λ g old. (let p = pages_push (files_by (acts_of h k)) name count in omega arith)) f
-filled_step size c h (OfJob k (Put file number page)) m f =
-    let a = (has_at c h k _ m.0).is in
+filled_step : {C : Type 0} (size : C → ℕ) (c : Config) (base : Base) (h : List (Event C)) (e : Event C) → May size (now c base h) e → ((j : ℕ) → FilledAt h j) → (j : ℕ) → FilledAt (e ∷ h) j
+filled_step size c base h (Opened k s q) m f = λ j g. f j (ended_before h (Opened k s q) j g)
+filled_step size c base h (OfJob k Granted) m f = filled_act h k Granted (λ g old. (let z : one_for (is_lent_by (acts_of h k)) ≡ 0 = rw (has_at c base h k _ m.0).is.0.2 refl in omega arith)) f
+filled_step size c base h (OfJob k (Began name count)) m f = filled_act h k (Began name count) (λ g old. (let p = pages_push (files_by (acts_of h k)) name count in omega arith)) f
+filled_step size c base h (OfJob k (Put file number page)) m f =
+    let a = (has_at c base h k _ m.0).is in
     let o = a.2 in
     filled_act h k (Put file number page) (λ g old. filled_put (acts_of h k) file number page o.0 o.1 o.2 a.1 old) f
-filled_step size c h (OfJob k (FileEnded file whole)) m f = filled_act h k (FileEnded file whole) (λ g old. (let p = pages_ended (files_by (acts_of h k)) in omega arith)) f
-filled_step size c h (OfJob k (Controlled control whole)) m f = filled_act h k (Controlled control whole) (λ g old. old) f
-filled_step size c h (OfJob k Aborted) m f = filled_act h k Aborted (λ g old. absurd (clash (has_ended (OfJob k Aborted ∷ h) k) (aborted_ends h k) g)) f
+filled_step size c base h (OfJob k (FileEnded file whole)) m f = filled_act h k (FileEnded file whole) (λ g old. (let p = pages_ended (files_by (acts_of h k)) in omega arith)) f
+filled_step size c base h (OfJob k (Controlled control whole)) m f = filled_act h k (Controlled control whole) (λ g old. old) f
+filled_step size c base h (OfJob k Aborted) m f = filled_act h k Aborted (λ g old. absurd (clash (has_ended (OfJob k Aborted ∷ h) k) (aborted_ends h k) g)) f
   where
     aborted_ends : {C : Type 0} (h : List (Event C)) (k : ℕ) → has_ended (OfJob k Aborted ∷ h) k ≡ true
     aborted_ends h k = elim (test k k) [ inl s ↦ rw s.1 refl | inr s ↦ absurd (s.0 refl) ]
-filled_step size c h (AtPrinter p sheet turn) m f = λ j g. f j (ended_before h (AtPrinter p sheet turn) j g)
-filled_step size c h (Removed q jobs) m f = λ j g. f j (ended_before h (Removed q jobs) j g)
-filled_step size c h (Started q) m f = λ j g. f j (ended_before h (Started q) j g)
-filled_step size c h Closed m f = λ j g. f j (ended_before h Closed j g)
+filled_step size c base h (AtPrinter p sheet turn) m f = λ j g. f j (ended_before h (AtPrinter p sheet turn) j g)
+filled_step size c base h (Removed q jobs) m f = λ j g. f j (ended_before h (Removed q jobs) j g)
+filled_step size c base h (Started q) m f = λ j g. f j (ended_before h (Started q) j g)
+filled_step size c base h Closed m f = λ j g. f j (ended_before h Closed j g)
 
-filled : {C : Type 0} (size : C → ℕ) (c : Config) (h : List (Event C)) → IsLegal size c h → (j : ℕ) → FilledAt h j
-filled size c [] l j = λ goes_on. refl
-filled size c (e ∷ h) l j = filled_step size c h e l.0 (filled size c h l.1) j
+filled : {C : Type 0} (size : C → ℕ) (c : Config) (base : Base) (h : List (Event C)) → IsLegal size c base h → (j : ℕ) → FilledAt h j
+filled size c base [] l j = λ goes_on. refl
+filled size c base (e ∷ h) l j = filled_step size c base h e l.0 (filled size c base h l.1) j
 
 -- what a held job holds
 
@@ -97,8 +99,7 @@ apart_by : {C : Type 0} (v : Job C) (e r l : Bool) → v.ended ≡ e → is_rece
 apart_by v true r l ended received is_lent a = rw ended (omega arith)
 apart_by v false true true ended received is_lent a = absurd (clash (is_received v) received (a.sound.lent is_lent))
 apart_by v false true false ended received is_lent a =
-    let back = a.sound.back in
-    let handed = a.sound.handed in
+    let out = out_kept v a.sound in
     rw (ended, received, is_lent) (omega arith)
 apart_by v false false l ended received is_lent a =
     let none = a.sound.begun received in
@@ -106,13 +107,13 @@ apart_by v false false l ended received is_lent a =
     let sum = pages_sum v.files in
     rw (ended, received) (omega arith)
 
-apart : {C : Type 0} (size : C → ℕ) (c : Config) (h : List (Event C)) → IsLegal size c h → (o : Opening) → Apart (job_of h o)
-apart size c h l o = record { sound = sound size c h l o; filled = filled size c h l o.job }
+apart : {C : Type 0} (size : C → ℕ) (c : Config) (base : Base) (h : List (Event C)) → IsLegal size c base h → (o : Opening) → Apart (job_of h o)
+apart size c base h l o = record { sound = sound size c base h l o; filled = filled size c base h l o.job }
 
-held_apart : {C : Type 0} (size : C → ℕ) (c : Config) (h : List (Event C)) → IsLegal size c h → (v : Job C) → Has v (now c h).jobs → pages_held v ≡ chained_of v + (one_for v.lent + (v.handed - v.back))
-held_apart {C} size c h l v has =
-    let k = known c h v has in
-    apart_by v v.ended (is_received v) v.lent refl refl refl (subst (λ (u : Job C). Apart u) (sym k.is) (apart size c h l k.opening))
+held_apart : {C : Type 0} (size : C → ℕ) (c : Config) (base : Base) (h : List (Event C)) → IsLegal size c base h → (v : Job C) → Has v (now c base h).jobs → pages_held v ≡ chained_of v + (one_for v.lent + (v.handed - v.back))
+held_apart {C} size c base h l v has =
+    let k = known c base h v has in
+    apart_by v v.ended (is_received v) v.lent refl refl refl (subst (λ (u : Job C). Apart u) (sym k.is) (apart size c base h l k.opening))
 
 -- the pages of all jobs that are at printers
 
@@ -129,46 +130,32 @@ out_if_held v false e = elim (test v.handed v.back) [
   | inr s ↦ absurd (clash false (sym (or_parts v.lent true (rw s.1 at (or_parts (not v.ended) (has_page_out v) e).1)).1) refl)
 ]
 
-outs_of_jobs : {C : Type 0} (size : C → ℕ) (c : Config) (h : List (Event C)) → IsLegal size c h → sum_by (λ (v : Job C). v.handed - v.back) (now c h).jobs ≡ sum_by (outs h) (up_to (length (openings h)))
-outs_of_jobs {C} size c h l =
+outs_unknown : {C : Type 0} (h : List (Event C)) (j : ℕ) → Unknown h j → outs h j ≡ 0
+outs_unknown h j u = (let d = ap length u.handed in omega arith)
+
+outs_of_jobs : {C : Type 0} (size : C → ℕ) (c : Config) (base : Base) (h : List (Event C)) → IsLegal size c base h → sum_by (λ (v : Job C). v.handed - v.back) (now c base h).jobs ≡ sum_by (outs h) (up_to (last base h))
+outs_of_jobs {C} size c base h l =
     sum_filter (λ (v : Job C). v.handed - v.back) is_held (map (job_of h) (openings h))
     ∙ (sum_map (λ (v : Job C). cond (is_held v) (v.handed - v.back) 0) (job_of h) (openings h)
     ∙ (sum_same (λ (o : Opening). cond (is_held (job_of h o)) ((job_of h o).handed - (job_of h o).back) 0) (λ (o : Opening). outs h o.job) (openings h) (λ o. out_if_held (job_of h o) (is_held (job_of h o)) refl)
-    ∙ numbers size c h l (outs h)))
+    ∙ numbers size c base h l (outs h) (λ j is. outs_unknown h j ((facts size c base h l).fresh j is))))
 
 -- they are as many as the printers at which one is
 
-abbrev Balanced : {C : Type 0} → Config → List (Event C) → Type 0
-Balanced c h = sum_by (outs h) (up_to (length (openings h))) ≡ sum_by (out_of h) (up_to (printer_count c))
+abbrev Balanced : {C : Type 0} → Config → Base → List (Event C) → Type 0
+Balanced c base h = sum_by (outs h) (up_to (last base h)) ≡ sum_by (out_of h) (up_to (printer_count c))
 
-abbrev Positive : {C : Type 0} → List (Event C) → Type 0
-Positive h = (o : Opening) → Has o (openings h) → 1 ≤ o.job
-
--- the numbers of jobs are at least 1
-positive : {C : Type 0} (size : C → ℕ) (c : Config) (h : List (Event C)) → IsLegal size c h → Positive h
-positive size c [] l = λ o has. absurd has
-positive size c (Opened k s q ∷ h) l = λ o has. elim (has_last o (openings h) (record { job = k; sender = s; queue = q }) has) [
-  | inl t ↦ positive size c h l.1 o t
-  | inr e ↦ let j : k ≡ o.job = ap (λ (x : Opening). x.job) e in let n = l.0.4 in omega arith
-]
-positive size c (OfJob k act ∷ h) l = positive size c h l.1
-positive size c (AtPrinter p sheet turn ∷ h) l = positive size c h l.1
-positive size c (Removed q jobs ∷ h) l = positive size c h l.1
-positive size c (Started q ∷ h) l = positive size c h l.1
-positive size c (Closed ∷ h) l = positive size c h l.1
-
-balanced_opened : {C : Type 0} (c : Config) (h : List (Event C)) (k s q : ℕ) → Facts h → Balanced c h → Balanced c (Opened k s q ∷ h)
-balanced_opened {C} c h k s q f b =
-    let n = length (openings h) in
-    let new = f.fresh (suc n) (omega arith) in
+balanced_opened : {C : Type 0} (c : Config) (base : Base) (h : List (Event C)) (k s q : ℕ) → Facts base h → Balanced c base h → Balanced c base (Opened k s q ∷ h)
+balanced_opened {C} c base h k s q f b =
+    let n = last base h in
+    let new = f.fresh (suc n) (inr (omega arith)) in
     let none = ap length new.handed in
-    let u : sum_by (outs h) (up_to (length (openings h ++ record { job = k; sender = s; queue = q } ∷ []))) ≡ sum_by (outs h) (up_to n ++ suc n ∷ []) =
-    ap (λ (i : ℕ). sum_by (outs h) (up_to i)) (length_push (openings h) (record { job = k; sender = s; queue = q }) ∙ next n) in
+    let l = length_push (openings h) (record { job = k; sender = s; queue = q }) in
+    let m : base.accepted + length (openings h ++ record { job = k; sender = s; queue = q } ∷ []) ≡ suc n = omega arith in
+    let u : sum_by (outs h) (up_to (base.accepted + length (openings h ++ record { job = k; sender = s; queue = q } ∷ []))) ≡ sum_by (outs h) (up_to n ++ suc n ∷ []) =
+    ap (λ (i : ℕ). sum_by (outs h) (up_to i)) m in
     let p = sum_by_push (outs h) (up_to n) (suc n) in
     u ∙ omega arith
-  where
-    next : (n : ℕ) → n + 1 ≡ suc n
-    next n = omega arith
 
 out_other : {C : Type 0} (h : List (Event C)) (p : ℕ) (sheet : Sheet C) (turn : Turn) (q : ℕ) → q ≢ p → out_of (AtPrinter p sheet turn ∷ h) q ≡ out_of h q
 out_other {C} h p sheet turn q ne = ap (λ (o : Option (Sheet C)). one_for (is_some o)) (out_there h p sheet turn q (λ e. ne (sym e)))
@@ -176,16 +163,16 @@ out_other {C} h p sheet turn q ne = ap (λ (o : Option (Sheet C)). one_for (is_s
 handed_out : {C : Type 0} (h : List (Event C)) (p : ℕ) (sheet : Sheet C) → out_at (AtPrinter p sheet Handed ∷ h) p ≡ Some sheet
 handed_out h p sheet = elim (test p p) [ inl s ↦ rw s.1 refl | inr s ↦ absurd (s.0 refl) ]
 
-balanced_handed : {C : Type 0} (c : Config) (h : List (Event C)) (p : ℕ) (sheet : Sheet C) → Facts h → Positive h → 1 ≤ p → p ≤ printer_count c → Turn' h p sheet → Balanced c h → Balanced c (AtPrinter p sheet Handed ∷ h)
-balanced_handed {C} c h p sheet f pos one le t b =
+balanced_handed : {C : Type 0} (c : Config) (base : Base) (h : List (Event C)) (p : ℕ) (sheet : Sheet C) → Facts base h → 1 ≤ p → p ≤ printer_count c → Turn' h p sheet → Balanced c base h → Balanced c base (AtPrinter p sheet Handed ∷ h)
+balanced_handed {C} c base h p sheet f one le t b =
     let e : Event C = AtPrinter p sheet Handed in
     let o : Opening = record { job = sheet.job; sender = t.at.sender; queue = t.at.queue } in
-    let first : 1 ≤ sheet.job = pos o t.at.there in
-    let last : sheet.job ≤ length (openings h) = f.numbers o t.at.there in
+    let number = f.numbers o t.at.there in
+    let number' = number.0 in
     let here = handed_now h p sheet f t in
     let n = count_one h p sheet sheet.job refl in
     let d = back_same h p sheet sheet.job in
-    let jobs = up_once (outs h) (outs (e ∷ h)) sheet.job (length (openings h)) first last (λ j ne. (
+    let jobs = up_once (outs h) (outs (e ∷ h)) sheet.job (last base h) (omega arith) number.1 (λ j ne. (
     let m = count_more h p sheet j (λ s. ne (sym s)) in
     let k = back_same h p sheet j in
     omega arith)) (omega arith) in
@@ -194,14 +181,15 @@ balanced_handed {C} c h p sheet f pos one le t b =
     let printers = up_once (out_of h) (out_of (e ∷ h)) p (printer_count c) one le (λ q ne. out_other h p sheet Handed q ne) (omega arith) in
     omega arith
 
-balanced_back : {C : Type 0} (c : Config) (h : List (Event C)) (p : ℕ) (sheet : Sheet C) (turn : Turn) → is_handed turn ≡ false → Facts h → 1 ≤ sheet.job → 1 ≤ p → p ≤ printer_count c → out_at h p ≡ Some sheet → Balanced c h → Balanced c (AtPrinter p sheet turn ∷ h)
-balanced_back {C} c h p sheet turn back f first one le out b =
+balanced_back : {C : Type 0} (c : Config) (base : Base) (h : List (Event C)) (p : ℕ) (sheet : Sheet C) (turn : Turn) → is_handed turn ≡ false → Facts base h → 1 ≤ p → p ≤ printer_count c → out_at h p ≡ Some sheet → Balanced c base h → Balanced c base (AtPrinter p sheet turn ∷ h)
+balanced_back {C} c base h p sheet turn back f one le out b =
     let e : Event C = AtPrinter p sheet turn in
     let x = (f.out p sheet out).1 in
-    let last = handed_number h sheet.job f (omega arith) in
+    let number = handed_number h sheet.job f (omega arith) in
+    let number' = number.0 in
     let n = ap length (handed_same h p sheet turn sheet.job back) in
     let d = back_one h p sheet turn sheet.job back refl in
-    let jobs = up_once (outs (e ∷ h)) (outs h) sheet.job (length (openings h)) first last (λ j ne. (
+    let jobs = up_once (outs (e ∷ h)) (outs h) sheet.job (last base h) (omega arith) number.1 (λ j ne. (
     let m = ap length (handed_same h p sheet turn j back) in
     let k = back_more h p sheet turn j (λ s. ne (sym s)) in
     omega arith)) (omega arith) in
@@ -210,39 +198,25 @@ balanced_back {C} c h p sheet turn back f first one le out b =
     let printers = up_once (out_of (e ∷ h)) (out_of h) p (printer_count c) one le (λ q ne. sym (out_other h p sheet turn q ne)) (omega arith) in
     omega arith
 
--- a job of which a page is out has a number from 1 on
-first_of : {C : Type 0} (size : C → ℕ) (c : Config) (h : List (Event C)) (j : ℕ) → IsLegal size c h → 0 < handed_at h j → 1 ≤ j
-first_of size c h j l out =
-    let o = accepted size c h l j out in
-    let e = o.2 in
-    let p = positive size c h l o.0 o.1 in
-    omega arith
+balanced : {C : Type 0} (size : C → ℕ) (c : Config) (base : Base) (h : List (Event C)) → IsLegal size c base h → Balanced c base h
+balanced {C} size c base [] l = up_none (outs (no_events C)) (last base (no_events C)) (λ j. refl) ∙ sym (up_none (out_of (no_events C)) (printer_count c) (λ p. refl))
+balanced size c base (Opened k s q ∷ h) l = balanced_opened c base h k s q (facts size c base h l.1) (balanced size c base h l.1)
+balanced size c base (OfJob k act ∷ h) l = balanced size c base h l.1
+balanced size c base (AtPrinter p sheet Handed ∷ h) l =
+    balanced_handed c base h p sheet (facts size c base h l.1) l.0.0.0 l.0.0.1 (turn_of_page c base h p sheet l.0.0.0 l.0.0.1 l.0.1) (balanced size c base h l.1)
+balanced size c base (AtPrinter p sheet (Printed x) ∷ h) l = balanced_back c base h p sheet (Printed x) refl (facts size c base h l.1) l.0.0.0 l.0.0.1 (is_out c base h p sheet l.0.0 l.0.1.0) (balanced size c base h l.1)
+balanced size c base (AtPrinter p sheet Failed ∷ h) l = balanced_back c base h p sheet Failed refl (facts size c base h l.1) l.0.0.0 l.0.0.1 (is_out c base h p sheet l.0.0 l.0.1) (balanced size c base h l.1)
+balanced size c base (Removed q jobs ∷ h) l = balanced size c base h l.1
+balanced size c base (Started q ∷ h) l = balanced size c base h l.1
+balanced size c base (Closed ∷ h) l = balanced size c base h l.1
 
-came_back : {C : Type 0} (size : C → ℕ) (c : Config) (h : List (Event C)) (p : ℕ) (sheet : Sheet C) (turn : Turn) → is_handed turn ≡ false → IsLegal size c h → 1 ≤ p → p ≤ printer_count c → out_at h p ≡ Some sheet → Balanced c h → Balanced c (AtPrinter p sheet turn ∷ h)
-came_back size c h p sheet turn back l one le out b =
-    let f = facts size c h l in
-    let x = (f.out p sheet out).1 in
-    balanced_back c h p sheet turn back f (first_of size c h sheet.job l (omega arith)) one le out b
-
-balanced : {C : Type 0} (size : C → ℕ) (c : Config) (h : List (Event C)) → IsLegal size c h → Balanced c h
-balanced {C} size c [] l = sym (up_none (out_of (no_events C)) (printer_count c) (λ p. refl))
-balanced size c (Opened k s q ∷ h) l = balanced_opened c h k s q (facts size c h l.1) (balanced size c h l.1)
-balanced size c (OfJob k act ∷ h) l = balanced size c h l.1
-balanced size c (AtPrinter p sheet Handed ∷ h) l =
-    balanced_handed c h p sheet (facts size c h l.1) (positive size c h l.1) l.0.0.0 l.0.0.1 (turn_of_page c h p sheet l.0.0.0 l.0.0.1 l.0.1) (balanced size c h l.1)
-balanced size c (AtPrinter p sheet (Printed x) ∷ h) l = came_back size c h p sheet (Printed x) refl l.1 l.0.0.0 l.0.0.1 (is_out c h p sheet l.0.0 l.0.1.0) (balanced size c h l.1)
-balanced size c (AtPrinter p sheet Failed ∷ h) l = came_back size c h p sheet Failed refl l.1 l.0.0.0 l.0.0.1 (is_out c h p sheet l.0.0 l.0.1) (balanced size c h l.1)
-balanced size c (Removed q jobs ∷ h) l = balanced size c h l.1
-balanced size c (Started q ∷ h) l = balanced size c h l.1
-balanced size c (Closed ∷ h) l = balanced size c h l.1
-
-pub each_has_a_place : {C : Type 0} (size : C → ℕ) (c : Config) (h : List (Event C)) → IsLegal size c h
-    → chained (now c h) + lent (now c h) + at_printers (now c h) + free_pages (now c h) ≡ c.pages
-each_has_a_place {C} size c h l =
-    let jobs = (now c h).jobs in
-    let parts = sum_parts (λ (v : Job C). pages_held v) (λ (v : Job C). chained_of v) (λ (v : Job C). one_for v.lent) (λ (v : Job C). v.handed - v.back) jobs (held_apart size c h l) in
-    let out = outs_of_jobs size c h l in
-    let same = balanced size c h l in
-    let printers : at_printers (now c h) ≡ sum_by (out_of h) (up_to (printer_count c)) = sum_map (λ (p : Printer C). one_for (is_some p.out)) (printer_of c h) (up_to (printer_count c)) in
-    let all = (pages_add_up size c h l).all in
+pub each_has_a_place : {C : Type 0} (size : C → ℕ) (c : Config) (base : Base) (h : List (Event C)) → IsLegal size c base h
+    → chained (now c base h) + lent (now c base h) + at_printers (now c base h) + free_pages (now c base h) ≡ c.pages
+each_has_a_place {C} size c base h l =
+    let jobs = (now c base h).jobs in
+    let parts = sum_parts (λ (v : Job C). pages_held v) (λ (v : Job C). chained_of v) (λ (v : Job C). one_for v.lent) (λ (v : Job C). v.handed - v.back) jobs (held_apart size c base h l) in
+    let out = outs_of_jobs size c base h l in
+    let same = balanced size c base h l in
+    let printers : at_printers (now c base h) ≡ sum_by (out_of h) (up_to (printer_count c)) = sum_map (λ (p : Printer C). one_for (is_some p.out)) (printer_of c base h) (up_to (printer_count c)) in
+    let all = (pages_add_up size c base h l).all in
     omega arith

@@ -4,6 +4,7 @@ use Rattle.std.specs.Prelude.{◌&&◌, filter, nat_lt, Some}
 use Rattle.std.specs.List.{list_any}
 use Rattle.std.proofs.lemmas.Bool.Decides.{nat_tests}
 use Rattle.std.proofs.lemmas.Bool.{and_from}
+use Rattle.spool_history.specs.Base.{Base}
 use Rattle.spool_history.specs.Events.{Event, Sheet, Turn}
 use Rattle.spool_history.specs.Events.Turn.{Handed, Printed, Failed}
 use Rattle.spool_history.specs.Events.Event.{Opened, OfJob, AtPrinter, Removed, Started, Closed}
@@ -17,7 +18,7 @@ use Rattle.spool_laws.specs.Leaving.{EachHanded, EarlierAreGone}
 use Rattle.spool_laws.proofs.Known.{Has, has_contained, has_last, has_kept, none_of, clash, test, Known, known}
 use Rattle.spool_laws.proofs.Printers.{at_printer}
 use Rattle.spool_laws.proofs.Turns.{given}
-use Rattle.spool_laws.proofs.Facts.{Facts, facts, handed_at, handed_more, handed_same}
+use Rattle.spool_laws.proofs.Facts.{Facts, facts, last, handed_at, handed_more, handed_same}
 use Rattle.spool_laws.proofs.Moves.{steady}
 
 abbrev IsBehind : {C : Type 0} → List (Event C) → Opening → Opening → Type 0
@@ -40,7 +41,7 @@ gone_first h os x o has none s q lt = bool_cases (is_held (job_of h o)) (λ held
     let d : nat_lt o.job x.number ≡ true = grind (arith, nat_tests) in
     clash ((o.sender == x.sender) && ((o.queue == x.queue) && nat_lt o.job x.number)) (and_from (o.sender == x.sender) ((o.queue == x.queue) && nat_lt o.job x.number) a (and_from (o.queue == x.queue) (nat_lt o.job x.number) b d)) f)
 
-gone_by : {C : Type 0} (h : List (Event C)) (x : Job C) (o k : Opening) (a : Known h (openings h) x) → Facts h → x.number ≡ k.job → IsBehind h o k → list_any (is_preceded_by x) (filter is_held (map (job_of h) (openings h))) ≡ false → is_held (job_of h o) ≡ false
+gone_by : {C : Type 0} {base : Base} (h : List (Event C)) (x : Job C) (o k : Opening) (a : Known h (openings h) x) → Facts base h → x.number ≡ k.job → IsBehind h o k → list_any (is_preceded_by x) (filter is_held (map (job_of h) (openings h))) ≡ false → is_held (job_of h o) ≡ false
 gone_by {C} h x o k a f n b none =
     let num : a.opening.job ≡ k.job = sym (ap (λ (v : Job C). v.number) a.is) ∙ n in
     let same : a.opening ≡ k = f.once a.opening k a.there b.1 num in
@@ -50,19 +51,19 @@ gone_by {C} h x o k a f n b none =
     gone_first h (openings h) x o b.0 none (b.3 ∙ sym s) (b.4 ∙ sym q) (omega arith)
 
 -- when a page is handed, the earlier jobs are gone
-now_gone : {C : Type 0} (c : Config) (h : List (Event C)) (p : ℕ) (sheet : Sheet C) → Facts h → Behind h → IsPrinter c p → next_page (now c h) p ≡ Hands sheet → (o k : Opening) → IsBehind h o k → k.job ≡ sheet.job → is_held (job_of h o) ≡ false
-now_gone {C} c h p sheet f b is e o k behind' same =
-    let g = (given (now c h) p sheet e).1 in
+now_gone : {C : Type 0} (c : Config) (base : Base) (h : List (Event C)) (p : ℕ) (sheet : Sheet C) → Facts base h → Behind h → IsPrinter c p → next_page (now c base h) p ≡ Hands sheet → (o k : Opening) → IsBehind h o k → k.job ≡ sheet.job → is_held (job_of h o) ≡ false
+now_gone {C} c base h p sheet f b is e o k behind' same =
+    let g = (given (now c base h) p sheet e).1 in
     let n : g.job.number ≡ k.job = sym (ap (λ (s : Sheet C). s.job) g.gets.is) ∙ sym same in
     elim g.turn.why [
       | inl began ↦
-          let began' = sym (ap (λ (x : Printer C). x.began) (at_printer c h p is.0 is.1)) ∙ (began ∙ ap (λ (i : ℕ). Some i) n) in
+          let began' = sym (ap (λ (x : Printer C). x.began) (at_printer c base h p is.0 is.1)) ∙ (began ∙ ap (λ (i : ℕ). Some i) n) in
           b o k behind' (f.began p k.job began')
-      | inr first ↦ gone_by h g.job o k (known c h g.job g.turn.there) f n behind' first.first
+      | inr first ↦ gone_by h g.job o k (known c base h g.job g.turn.there) f n behind' first.first
     ]
 
 -- after a job is accepted
-behind_opened : {C : Type 0} (h : List (Event C)) (j s q : ℕ) → Facts h → j ≡ length (openings h) + 1 → ((o : Opening) → is_held (job_of h o) ≡ false → is_held (job_of (Opened j s q ∷ h) o) ≡ false) → Behind h → Behind (Opened j s q ∷ h)
+behind_opened : {C : Type 0} {base : Base} (h : List (Event C)) (j s q : ℕ) → Facts base h → j ≡ last base h + 1 → ((o : Opening) → is_held (job_of h o) ≡ false → is_held (job_of (Opened j s q ∷ h) o) ≡ false) → Behind h → Behind (Opened j s q ∷ h)
 behind_opened {C} h j s q f new st b o k is pos =
     let x : Opening = record { job = j; sender = s; queue = q } in
     let lt = is.2 in
@@ -73,45 +74,45 @@ behind_opened {C} h j s q f new st b o k is pos =
       ]
       | inr e ↦
           let m : j ≡ k.job = ap (λ (y : Opening). y.job) e in
-          let z : handed_at h k.job ≡ 0 = ap length (f.fresh k.job (omega arith)).handed in
+          let z : handed_at h k.job ≡ 0 = ap length (f.fresh k.job (inr (omega arith))).handed in
           absurd (omega arith)
     ]
 
-behind_handed : {C : Type 0} (c : Config) (h : List (Event C)) (p : ℕ) (sheet : Sheet C) → Facts h → IsPrinter c p → next_page (now c h) p ≡ Hands sheet
+behind_handed : {C : Type 0} (c : Config) (base : Base) (h : List (Event C)) (p : ℕ) (sheet : Sheet C) → Facts base h → IsPrinter c p → next_page (now c base h) p ≡ Hands sheet
     → ((o : Opening) → is_held (job_of h o) ≡ false → is_held (job_of (AtPrinter p sheet Handed ∷ h) o) ≡ false) → Behind h → Behind (AtPrinter p sheet Handed ∷ h)
-behind_handed c h p sheet f at e st b o k is pos = st o (elim (test sheet.job k.job) [
-  | inl s ↦ now_gone c h p sheet f b at e o k is (sym s.0)
+behind_handed c base h p sheet f at e st b o k is pos = st o (elim (test sheet.job k.job) [
+  | inl s ↦ now_gone c base h p sheet f b at e o k is (sym s.0)
   | inr s ↦ b o k is (let m = ap length (handed_more h p sheet k.job s.0) in omega arith)
 ])
 
 behind_back : {C : Type 0} (h : List (Event C)) (p : ℕ) (sheet : Sheet C) (turn : Turn) → is_handed turn ≡ false → ((o : Opening) → is_held (job_of h o) ≡ false → is_held (job_of (AtPrinter p sheet turn ∷ h) o) ≡ false) → Behind h → Behind (AtPrinter p sheet turn ∷ h)
 behind_back h p sheet turn not' st b o k is pos = st o (b o k is (let m = ap length (handed_same h p sheet turn k.job not') in omega arith))
 
-behind_step : {C : Type 0} (size : C → ℕ) (c : Config) (h : List (Event C)) (e : Event C) → IsLegal size c h → May size (now c h) e → Behind h → Behind (e ∷ h)
-behind_step size c h (Opened k s q) l m b = behind_opened h k s q (facts size c h l) m.4 (steady size c h (Opened k s q) l m) b
-behind_step size c h (OfJob j act) l m b = λ o k is pos. steady size c h (OfJob j act) l m o (b o k is pos)
-behind_step size c h (AtPrinter p sheet Handed) l m b = behind_handed c h p sheet (facts size c h l) m.0 m.1 (steady size c h (AtPrinter p sheet Handed) l m) b
-behind_step size c h (AtPrinter p sheet (Printed x)) l m b = behind_back h p sheet (Printed x) refl (steady size c h (AtPrinter p sheet (Printed x)) l m) b
-behind_step size c h (AtPrinter p sheet Failed) l m b = behind_back h p sheet Failed refl (steady size c h (AtPrinter p sheet Failed) l m) b
-behind_step size c h (Removed q jobs) l m b = λ o k is pos. steady size c h (Removed q jobs) l m o (b o k is pos)
-behind_step size c h (Started q) l m b = λ o k is pos. steady size c h (Started q) l m o (b o k is pos)
-behind_step size c h Closed l m b = λ o k is pos. steady size c h Closed l m o (b o k is pos)
+behind_step : {C : Type 0} (size : C → ℕ) (c : Config) (base : Base) (h : List (Event C)) (e : Event C) → IsLegal size c base h → May size (now c base h) e → Behind h → Behind (e ∷ h)
+behind_step size c base h (Opened k s q) l m b = behind_opened h k s q (facts size c base h l) m.4 (steady size c base h (Opened k s q) l m) b
+behind_step size c base h (OfJob j act) l m b = λ o k is pos. steady size c base h (OfJob j act) l m o (b o k is pos)
+behind_step size c base h (AtPrinter p sheet Handed) l m b = behind_handed c base h p sheet (facts size c base h l) m.0 m.1 (steady size c base h (AtPrinter p sheet Handed) l m) b
+behind_step size c base h (AtPrinter p sheet (Printed x)) l m b = behind_back h p sheet (Printed x) refl (steady size c base h (AtPrinter p sheet (Printed x)) l m) b
+behind_step size c base h (AtPrinter p sheet Failed) l m b = behind_back h p sheet Failed refl (steady size c base h (AtPrinter p sheet Failed) l m) b
+behind_step size c base h (Removed q jobs) l m b = λ o k is pos. steady size c base h (Removed q jobs) l m o (b o k is pos)
+behind_step size c base h (Started q) l m b = λ o k is pos. steady size c base h (Started q) l m o (b o k is pos)
+behind_step size c base h Closed l m b = λ o k is pos. steady size c base h Closed l m o (b o k is pos)
 
-behind : {C : Type 0} (size : C → ℕ) (c : Config) (h : List (Event C)) → IsLegal size c h → Behind h
-behind size c [] l = λ o k is pos. absurd is.0
-behind size c (e ∷ h) l = behind_step size c h e l.1 l.0 (behind size c h l.1)
+behind : {C : Type 0} (size : C → ℕ) (c : Config) (base : Base) (h : List (Event C)) → IsLegal size c base h → Behind h
+behind size c base [] l = λ o k is pos. absurd is.0
+behind size c base (e ∷ h) l = behind_step size c base h e l.1 l.0 (behind size c base h l.1)
 
-gone_before : {C : Type 0} (size : C → ℕ) (c : Config) (h : List (Event C)) (p : ℕ) (sheet : Sheet C) → IsLegal size c h → May size (now c h) (AtPrinter p sheet Handed) → EarlierAreGone h sheet
-gone_before size c h p sheet l m o k has also same lt s q =
-    now_gone c h p sheet (facts size c h l) (behind size c h l) m.0 m.1 o k (has_contained o (openings h) has, has_contained k (openings h) also, lt, s, q) same
+gone_before : {C : Type 0} (size : C → ℕ) (c : Config) (base : Base) (h : List (Event C)) (p : ℕ) (sheet : Sheet C) → IsLegal size c base h → May size (now c base h) (AtPrinter p sheet Handed) → EarlierAreGone h sheet
+gone_before size c base h p sheet l m o k has also same lt s q =
+    now_gone c base h p sheet (facts size c base h l) (behind size c base h l) m.0 m.1 o k (has_contained o (openings h) has, has_contained k (openings h) also, lt, s, q) same
 
-pub each_in_order : {C : Type 0} (size : C → ℕ) (c : Config) (h : List (Event C)) → IsLegal size c h → EachHanded EarlierAreGone h
-each_in_order size c [] l = tt
-each_in_order size c (Opened k s q ∷ h) l = each_in_order size c h l.1
-each_in_order size c (OfJob k act ∷ h) l = each_in_order size c h l.1
-each_in_order size c (AtPrinter p sheet Handed ∷ h) l = (gone_before size c h p sheet l.1 l.0, each_in_order size c h l.1)
-each_in_order size c (AtPrinter p sheet (Printed x) ∷ h) l = each_in_order size c h l.1
-each_in_order size c (AtPrinter p sheet Failed ∷ h) l = each_in_order size c h l.1
-each_in_order size c (Removed q jobs ∷ h) l = each_in_order size c h l.1
-each_in_order size c (Started q ∷ h) l = each_in_order size c h l.1
-each_in_order size c (Closed ∷ h) l = each_in_order size c h l.1
+pub each_in_order : {C : Type 0} (size : C → ℕ) (c : Config) (base : Base) (h : List (Event C)) → IsLegal size c base h → EachHanded EarlierAreGone h
+each_in_order size c base [] l = tt
+each_in_order size c base (Opened k s q ∷ h) l = each_in_order size c base h l.1
+each_in_order size c base (OfJob k act ∷ h) l = each_in_order size c base h l.1
+each_in_order size c base (AtPrinter p sheet Handed ∷ h) l = (gone_before size c base h p sheet l.1 l.0, each_in_order size c base h l.1)
+each_in_order size c base (AtPrinter p sheet (Printed x) ∷ h) l = each_in_order size c base h l.1
+each_in_order size c base (AtPrinter p sheet Failed ∷ h) l = each_in_order size c base h l.1
+each_in_order size c base (Removed q jobs ∷ h) l = each_in_order size c base h l.1
+each_in_order size c base (Started q ∷ h) l = each_in_order size c base h l.1
+each_in_order size c base (Closed ∷ h) l = each_in_order size c base h l.1

@@ -3,6 +3,7 @@ use Rattle.std.proofs.Common.{◌⊎◌, inl, inr, ◌≡◌, ◌==◌, ◌≢�
 use Rattle.std.specs.Prelude.{◌&&◌, ◌||◌, not, filter, find, Option, Some, None, is_some}
 use Rattle.std.proofs.lemmas.Bool.Decides.{nat_tests}
 use Rattle.std.proofs.lemmas.Bool.{and_parts}
+use Rattle.spool_history.specs.Base.{Base}
 use Rattle.spool_history.specs.Events.{Event, Sheet, Turn}
 use Rattle.spool_history.specs.Events.Turn.{Handed, Printed, Failed}
 use Rattle.spool_history.specs.Events.Event.{Opened, OfJob, AtPrinter, Removed, Started, Closed}
@@ -17,7 +18,7 @@ use Rattle.spool_history.specs.Legal.{IsLegal, May}
 use Rattle.spool_laws.proofs.Known.{Has, find_has, has_last, has_kept, known, test, clash, and_false, filter_cons}
 use Rattle.spool_laws.proofs.Printers.{at_printer}
 use Rattle.spool_laws.proofs.Turns.{given, open_by, runs_by, idle_by}
-use Rattle.spool_laws.proofs.Facts.{Facts, facts, began_same, turn_of_page, handed_at, received_at, handed_more, handed_same}
+use Rattle.spool_laws.proofs.Facts.{Facts, facts, last, began_same, turn_of_page, handed_at, received_at, handed_more, handed_same}
 use Rattle.spool_laws.proofs.Moves.{steady}
 use Rattle.spool_laws.proofs.Held.{Keeps, keeps}
 use Rattle.spool_laws.proofs.Pigeons.{Rises, rises_push}
@@ -26,14 +27,14 @@ use Rattle.spool_laws.proofs.Pigeons.{Rises, rises_push}
 pub lent_unreceived : {C : Type 0} (h : List (Event C)) (j : ℕ) → Keeps (acts_of h j) → is_lent_by (acts_of h j) ≡ true → received_at h j ≡ false
 lent_unreceived h j k e = rw (k.lent e) (and_false (is_some (control_by (acts_of h j))))
 
-pub record Busy {C : Type 0} (c : Config) (h : List (Event C)) (o : Opening) : Type 0 where
+pub record Busy {C : Type 0} (c : Config) (base : Base) (h : List (Event C)) (o : Opening) : Type 0 where
   pub at : ℕ
   pub is : IsPrinter c at
   pub began : began_at h at ≡ Some o.job
   pub queue : queue_of c at ≡ o.queue
 
-abbrev pub AreBusy : {C : Type 0} → Config → List (Event C) → Type 0
-AreBusy c h = (o : Opening) → Has o (openings h) → is_held (job_of h o) ≡ true → 0 < handed_at h o.job → Busy c h o
+abbrev pub AreBusy : {C : Type 0} → Config → Base → List (Event C) → Type 0
+AreBusy c base h = (o : Opening) → Has o (openings h) → is_held (job_of h o) ≡ true → 0 < handed_at h o.job → Busy c base h o
 
 held_by : {C : Type 0} (v w : Job C) (b : Bool) → is_held v ≡ b → (is_held v ≡ false → is_held w ≡ false) → is_held w ≡ true → is_held v ≡ true
 held_by v w true e st held = e
@@ -42,19 +43,19 @@ held_by v w false e st held = absurd (clash (is_held w) held (st e))
 abbrev Steady : {C : Type 0} → List (Event C) → Event C → Type 0
 Steady h e = (o : Opening) → is_held (job_of h o) ≡ false → is_held (job_of (e ∷ h) o) ≡ false
 
-busy_opened : {C : Type 0} (c : Config) (h : List (Event C)) (j s q : ℕ) → Facts h → j ≡ length (openings h) + 1 → Steady h (Opened j s q) → AreBusy c h → AreBusy c (Opened j s q ∷ h)
-busy_opened {C} c h j s q f new st b o has held pos = elim (has_last o (openings h) (record { job = j; sender = s; queue = q }) has) [
+busy_opened : {C : Type 0} (c : Config) (base : Base) (h : List (Event C)) (j s q : ℕ) → Facts base h → j ≡ last base h + 1 → Steady h (Opened j s q) → AreBusy c base h → AreBusy c base (Opened j s q ∷ h)
+busy_opened {C} c base h j s q f new st b o has held pos = elim (has_last o (openings h) (record { job = j; sender = s; queue = q }) has) [
   | inl t ↦
       let x = b o t (held_by (job_of h o) (job_of (Opened j s q ∷ h) o) (is_held (job_of h o)) refl (st o) held) pos in
       record { at = x.at; is = x.is; began = x.began; queue = x.queue }
   | inr e ↦
       let m : j ≡ o.job = ap (λ (y : Opening). y.job) e in
-      let z : handed_at h o.job ≡ 0 = ap length (f.fresh o.job (omega arith)).handed in
+      let z : handed_at h o.job ≡ 0 = ap length (f.fresh o.job (inr (omega arith))).handed in
       absurd (omega arith)
 ]
 
-busy_back : {C : Type 0} (c : Config) (h : List (Event C)) (p : ℕ) (sheet : Sheet C) (turn : Turn) → is_handed turn ≡ false → Steady h (AtPrinter p sheet turn) → AreBusy c h → AreBusy c (AtPrinter p sheet turn ∷ h)
-busy_back c h p sheet turn not' st b o has held pos =
+busy_back : {C : Type 0} (c : Config) (base : Base) (h : List (Event C)) (p : ℕ) (sheet : Sheet C) (turn : Turn) → is_handed turn ≡ false → Steady h (AtPrinter p sheet turn) → AreBusy c base h → AreBusy c base (AtPrinter p sheet turn ∷ h)
+busy_back c base h p sheet turn not' st b o has held pos =
     let m = ap length (handed_same h p sheet turn o.job not') in
     let x = b o has (held_by (job_of h o) (job_of (AtPrinter p sheet turn ∷ h) o) (is_held (job_of h o)) refl (st o) held) (omega arith) in
     record { at = x.at; is = x.is; began = began_same h p sheet turn x.at not' ∙ x.began; queue = x.queue }
@@ -88,9 +89,9 @@ ended_by {C} jobs q j x sheet (Some v) e h ne has n =
     let m : v.number ≡ j = grind (arith, nat_tests) in
     absurd (ne (sym (first_is v.number v.handed _ sheet h) ∙ m))
 
-hands_by : {C : Type 0} (c : Config) (h : List (Event C)) (p : ℕ) (sheet : Sheet C) → next_page (now c h) p ≡ Hands sheet → hand_of (turn_of (now c h).jobs (printer_at (now c h) p).queue (printer_at (now c h) p).began) ≡ Hands sheet
-hands_by c h p sheet e =
-    let v = now c h in
+hands_by : {C : Type 0} (c : Config) (base : Base) (h : List (Event C)) (p : ℕ) (sheet : Sheet C) → next_page (now c base h) p ≡ Hands sheet → hand_of (turn_of (now c base h).jobs (printer_at (now c base h) p).queue (printer_at (now c base h) p).began) ≡ Hands sheet
+hands_by c base h p sheet e =
+    let v = now c base h in
     let x = printer_at v p in
     (idle_by v.jobs x x.out sheet (runs_by x.stopped (with_out v.jobs x x.out) sheet (open_by v.closed (next_at v.jobs x) sheet e).1).1).1
 
@@ -108,21 +109,21 @@ received_by : (b : Bool) (n : ℕ) → (b ≡ false → n ≡ 0) → 0 < n → b
 received_by true n f pos = refl
 received_by false n f pos = absurd (let z = f refl in omega arith)
 
-pub received_if : {C : Type 0} (h : List (Event C)) (j : ℕ) → Facts h → 0 < handed_at h j → received_at h j ≡ true
+pub received_if : {C : Type 0} {base : Base} (h : List (Event C)) (j : ℕ) → Facts base h → 0 < handed_at h j → received_at h j ≡ true
 received_if h j f pos = received_by (received_at h j) (handed_at h j) (f.begun j) pos
 
 pub unlent : {C : Type 0} (h : List (Event C)) (j : ℕ) → Keeps (acts_of h j) → received_at h j ≡ true → is_lent_by (acts_of h j) ≡ false
 unlent h j k r = unlent_by (is_lent_by (acts_of h j)) (received_at h j) (lent_unreceived h j k) r
 
 -- so it gets a page of no other
-no_other : {C : Type 0} (c : Config) (h : List (Event C)) (p : ℕ) (sheet : Sheet C) (o : Opening) → Facts h → Keeps (acts_of h o.job) → IsPrinter c p → next_page (now c h) p ≡ Hands sheet → began_at h p ≡ Some o.job → Has o (openings h) → is_held (job_of h o) ≡ true → sheet.job ≢ o.job → ⊥
-no_other {C} c h p sheet o f k is e began has held ne =
-    let here = at_printer c h p is.0 is.1 in
-    let b : (printer_at (now c h) p).began ≡ Some o.job = ap (λ (x : Printer C). x.began) here ∙ began in
-    let hands = subst (λ (r : Option ℕ). hand_of (turn_of (now c h).jobs (printer_at (now c h) p).queue r) ≡ Hands sheet) b (hands_by c h p sheet e) in
-    let ended : has_ended h o.job ≡ true = ended_by (now c h).jobs (printer_at (now c h) p).queue o.job (job_of h o) sheet _ refl hands ne (has_kept h o (openings h) held has) refl in
+no_other : {C : Type 0} (c : Config) (base : Base) (h : List (Event C)) (p : ℕ) (sheet : Sheet C) (o : Opening) → Facts base h → Keeps (acts_of h o.job) → IsPrinter c p → next_page (now c base h) p ≡ Hands sheet → began_at h p ≡ Some o.job → Has o (openings h) → is_held (job_of h o) ≡ true → sheet.job ≢ o.job → ⊥
+no_other {C} c base h p sheet o f k is e began has held ne =
+    let here = at_printer c base h p is.0 is.1 in
+    let b : (printer_at (now c base h) p).began ≡ Some o.job = ap (λ (x : Printer C). x.began) here ∙ began in
+    let hands = subst (λ (r : Option ℕ). hand_of (turn_of (now c base h).jobs (printer_at (now c base h) p).queue r) ≡ Hands sheet) b (hands_by c base h p sheet e) in
+    let ended : has_ended h o.job ≡ true = ended_by (now c base h).jobs (printer_at (now c base h) p).queue o.job (job_of h o) sheet _ refl hands ne (has_kept h o (openings h) held has) refl in
     let pos = f.began p o.job began in
-    let t = turn_of_page c h p sheet is.0 is.1 e in
+    let t = turn_of_page c base h p sheet is.0 is.1 e in
     let back = f.idle p o.job t.idle began in
     gone_or_out (has_ended h o.job) (is_lent_by (acts_of h o.job)) (handed_at h o.job) (back_of h o.job) ended (unlent h o.job k (received_if h o.job f pos)) back held
 
@@ -135,13 +136,13 @@ began_still h p sheet q j same b = elim (test p q) [
 began_here : {C : Type 0} (h : List (Event C)) (p : ℕ) (sheet : Sheet C) (j : ℕ) → sheet.job ≡ j → began_at (AtPrinter p sheet Handed ∷ h) p ≡ Some j
 began_here h p sheet j e = elim (test p p) [ inl s ↦ rw s.1 (ap (λ (i : ℕ). Some i) e) | inr s ↦ absurd (s.0 refl) ]
 
-busy_handed : {C : Type 0} (c : Config) (h : List (Event C)) (p : ℕ) (sheet : Sheet C) → Facts h → ((j : ℕ) → Keeps (acts_of h j)) → IsPrinter c p → next_page (now c h) p ≡ Hands sheet → Steady h (AtPrinter p sheet Handed) → AreBusy c h → AreBusy c (AtPrinter p sheet Handed ∷ h)
-busy_handed {C} c h p sheet f k is e st b o has held' pos =
+busy_handed : {C : Type 0} (c : Config) (base : Base) (h : List (Event C)) (p : ℕ) (sheet : Sheet C) → Facts base h → ((j : ℕ) → Keeps (acts_of h j)) → IsPrinter c p → next_page (now c base h) p ≡ Hands sheet → Steady h (AtPrinter p sheet Handed) → AreBusy c base h → AreBusy c base (AtPrinter p sheet Handed ∷ h)
+busy_handed {C} c base h p sheet f k is e st b o has held' pos =
     let held = held_by (job_of h o) (job_of (AtPrinter p sheet Handed ∷ h) o) (is_held (job_of h o)) refl (st o) held' in
     elim (test sheet.job o.job) [
       | inl s ↦
-          let g = (given (now c h) p sheet e).1 in
-          let here = at_printer c h p is.0 is.1 in
+          let g = (given (now c base h) p sheet e).1 in
+          let here = at_printer c base h p is.0 is.1 in
           let n : g.job.number ≡ sheet.job = sym (ap (λ (s : Sheet C). s.job) g.gets.is) in
           elim g.turn.why [
             | inl w ↦
@@ -149,7 +150,7 @@ busy_handed {C} c h p sheet f k is e st b o has held' pos =
                 let x = b o has held (f.began p o.job began) in
                 record { at = x.at; is = x.is; began = began_still h p sheet x.at o.job (λ _. s.0) x.began; queue = x.queue }
             | inr w ↦
-                let a = known c h g.job g.turn.there in
+                let a = known c base h g.job g.turn.there in
                 let num : a.opening.job ≡ o.job = sym (ap (λ (v : Job C). v.number) a.is) ∙ (n ∙ s.0) in
                 let same : a.opening ≡ o = f.once a.opening o a.there has num in
                 let q : g.job.queue ≡ o.queue = ap (λ (v : Job C). v.queue) a.is ∙ ap (λ (y : Opening). y.queue) same in
@@ -158,42 +159,42 @@ busy_handed {C} c h p sheet f k is e st b o has held' pos =
       | inr s ↦
           let m = ap length (handed_more h p sheet o.job s.0) in
           let x = b o has held (omega arith) in
-          let other : p ≡ x.at → sheet.job ≡ o.job = λ same. absurd (no_other c h p sheet o f (k o.job) is e (subst (λ (i : ℕ). began_at h i ≡ Some o.job) (sym same) x.began) has held s.0) in
+          let other : p ≡ x.at → sheet.job ≡ o.job = λ same. absurd (no_other c base h p sheet o f (k o.job) is e (subst (λ (i : ℕ). began_at h i ≡ Some o.job) (sym same) x.began) has held s.0) in
           record { at = x.at; is = x.is; began = began_still h p sheet x.at o.job other x.began; queue = x.queue }
     ]
 
-busy_same : {C : Type 0} (c : Config) (h : List (Event C)) (e : Event C) → openings (e ∷ h) ≡ openings h → ((j : ℕ) → handed_at (e ∷ h) j ≡ handed_at h j) → ((p : ℕ) → began_at (e ∷ h) p ≡ began_at h p) → Steady h e → AreBusy c h → AreBusy c (e ∷ h)
-busy_same c h e os hs bs st b o has held pos =
+busy_same : {C : Type 0} (c : Config) (base : Base) (h : List (Event C)) (e : Event C) → openings (e ∷ h) ≡ openings h → ((j : ℕ) → handed_at (e ∷ h) j ≡ handed_at h j) → ((p : ℕ) → began_at (e ∷ h) p ≡ began_at h p) → Steady h e → AreBusy c base h → AreBusy c base (e ∷ h)
+busy_same c base h e os hs bs st b o has held pos =
     let m = hs o.job in
     let x = b o (subst (λ (l : List Opening). Has o l) os has) (held_by (job_of h o) (job_of (e ∷ h) o) (is_held (job_of h o)) refl (st o) held) (omega arith) in
     record { at = x.at; is = x.is; began = bs x.at ∙ x.began; queue = x.queue }
 
-busy_step : {C : Type 0} (size : C → ℕ) (c : Config) (h : List (Event C)) (e : Event C) → IsLegal size c h → May size (now c h) e → AreBusy c h → AreBusy c (e ∷ h)
-busy_step size c h (Opened k s q) l m b = busy_opened c h k s q (facts size c h l) m.4 (steady size c h (Opened k s q) l m) b
-busy_step size c h (OfJob k act) l m b = busy_same c h (OfJob k act) refl (λ j. refl) (λ p. refl) (steady size c h (OfJob k act) l m) b
-busy_step size c h (AtPrinter p sheet Handed) l m b = busy_handed c h p sheet (facts size c h l) (keeps size c h l) m.0 m.1 (steady size c h (AtPrinter p sheet Handed) l m) b
-busy_step size c h (AtPrinter p sheet (Printed x)) l m b = busy_back c h p sheet (Printed x) refl (steady size c h (AtPrinter p sheet (Printed x)) l m) b
-busy_step size c h (AtPrinter p sheet Failed) l m b = busy_back c h p sheet Failed refl (steady size c h (AtPrinter p sheet Failed) l m) b
-busy_step size c h (Removed q jobs) l m b = busy_same c h (Removed q jobs) refl (λ j. refl) (λ p. refl) (steady size c h (Removed q jobs) l m) b
-busy_step size c h (Started q) l m b = busy_same c h (Started q) refl (λ j. refl) (λ p. refl) (steady size c h (Started q) l m) b
-busy_step size c h Closed l m b = busy_same c h Closed refl (λ j. refl) (λ p. refl) (steady size c h Closed l m) b
+busy_step : {C : Type 0} (size : C → ℕ) (c : Config) (base : Base) (h : List (Event C)) (e : Event C) → IsLegal size c base h → May size (now c base h) e → AreBusy c base h → AreBusy c base (e ∷ h)
+busy_step size c base h (Opened k s q) l m b = busy_opened c base h k s q (facts size c base h l) m.4 (steady size c base h (Opened k s q) l m) b
+busy_step size c base h (OfJob k act) l m b = busy_same c base h (OfJob k act) refl (λ j. refl) (λ p. refl) (steady size c base h (OfJob k act) l m) b
+busy_step size c base h (AtPrinter p sheet Handed) l m b = busy_handed c base h p sheet (facts size c base h l) (keeps size c base h l) m.0 m.1 (steady size c base h (AtPrinter p sheet Handed) l m) b
+busy_step size c base h (AtPrinter p sheet (Printed x)) l m b = busy_back c base h p sheet (Printed x) refl (steady size c base h (AtPrinter p sheet (Printed x)) l m) b
+busy_step size c base h (AtPrinter p sheet Failed) l m b = busy_back c base h p sheet Failed refl (steady size c base h (AtPrinter p sheet Failed) l m) b
+busy_step size c base h (Removed q jobs) l m b = busy_same c base h (Removed q jobs) refl (λ j. refl) (λ p. refl) (steady size c base h (Removed q jobs) l m) b
+busy_step size c base h (Started q) l m b = busy_same c base h (Started q) refl (λ j. refl) (λ p. refl) (steady size c base h (Started q) l m) b
+busy_step size c base h Closed l m b = busy_same c base h Closed refl (λ j. refl) (λ p. refl) (steady size c base h Closed l m) b
 
-pub busy : {C : Type 0} (size : C → ℕ) (c : Config) (h : List (Event C)) → IsLegal size c h → AreBusy c h
-busy size c [] l = λ o has held pos. absurd has
-busy size c (e ∷ h) l = busy_step size c h e l.1 l.0 (busy size c h l.1)
+pub busy : {C : Type 0} (size : C → ℕ) (c : Config) (base : Base) (h : List (Event C)) → IsLegal size c base h → AreBusy c base h
+busy size c base [] l = λ o has held pos. absurd has
+busy size c base (e ∷ h) l = busy_step size c base h e l.1 l.0 (busy size c base h l.1)
 
 -- the numbers of the jobs rise
 
-rising_openings : {C : Type 0} (size : C → ℕ) (c : Config) (h : List (Event C)) → IsLegal size c h → Rises (λ (o : Opening). o.job) (openings h)
-rising_openings size c [] l = tt
-rising_openings size c (Opened k s q ∷ h) l =
-    rises_push (λ (o : Opening). o.job) (openings h) (record { job = k; sender = s; queue = q }) (rising_openings size c h l.1)
-    (λ y t. let n = (facts size c h l.1).numbers y t in let is = l.0.4 in omega arith)
-rising_openings size c (OfJob k act ∷ h) l = rising_openings size c h l.1
-rising_openings size c (AtPrinter p sheet turn ∷ h) l = rising_openings size c h l.1
-rising_openings size c (Removed q jobs ∷ h) l = rising_openings size c h l.1
-rising_openings size c (Started q ∷ h) l = rising_openings size c h l.1
-rising_openings size c (Closed ∷ h) l = rising_openings size c h l.1
+rising_openings : {C : Type 0} (size : C → ℕ) (c : Config) (base : Base) (h : List (Event C)) → IsLegal size c base h → Rises (λ (o : Opening). o.job) (openings h)
+rising_openings size c base [] l = tt
+rising_openings size c base (Opened k s q ∷ h) l =
+    rises_push (λ (o : Opening). o.job) (openings h) (record { job = k; sender = s; queue = q }) (rising_openings size c base h l.1)
+    (λ y t. let n = (facts size c base h l.1).numbers y t in let is = l.0.4 in omega arith)
+rising_openings size c base (OfJob k act ∷ h) l = rising_openings size c base h l.1
+rising_openings size c base (AtPrinter p sheet turn ∷ h) l = rising_openings size c base h l.1
+rising_openings size c base (Removed q jobs ∷ h) l = rising_openings size c base h l.1
+rising_openings size c base (Started q ∷ h) l = rising_openings size c base h l.1
+rising_openings size c base (Closed ∷ h) l = rising_openings size c base h l.1
 
 abbrev Comes : {C : Type 0} → List (Event C) → List Opening → Job C → Type 0
 Comes h os x = (o : Opening) × Has o os × (x ≡ job_of h o)
@@ -222,5 +223,5 @@ rising_in : {C : Type 0} (h : List (Event C)) (os : List Opening) → Rises (λ 
 rising_in h [] r = tt
 rising_in h (o ∷ os) r = rising_by h o os (is_held (job_of h o)) refl r.0 (rising_in h os r.1)
 
-pub rising_jobs : {C : Type 0} (size : C → ℕ) (c : Config) (h : List (Event C)) → IsLegal size c h → Rises (λ (v : Job C). v.number) (now c h).jobs
-rising_jobs size c h l = rising_in h (openings h) (rising_openings size c h l)
+pub rising_jobs : {C : Type 0} (size : C → ℕ) (c : Config) (base : Base) (h : List (Event C)) → IsLegal size c base h → Rises (λ (v : Job C). v.number) (now c base h).jobs
+rising_jobs size c base h l = rising_in h (openings h) (rising_openings size c base h l)

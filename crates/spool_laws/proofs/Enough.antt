@@ -4,6 +4,7 @@ use Rattle.std.specs.Prelude.{cond, sum_by, Option, Some, slice_index_or}
 use Rattle.std.proofs.lemmas.List.Sums.{sum_by-cons}
 use Rattle.counts.specs.Amounts.{amount}
 use Rattle.claims.specs.declared.row.Row.{Row}
+use Rattle.spool_history.specs.Base.{Base}
 use Rattle.spool_history.specs.Events.{Event}
 use Rattle.config_values.specs.Config.{IsQueue, Config, Queue, queue_at, queue_of, served_from, printer_count, no_queue}
 use Rattle.spool_history.specs.Said.{Opening, openings, began_at}
@@ -59,10 +60,10 @@ Tied h p j = began_at h p ≡ Some j
 queue_from : (c : Config) (p : ℕ) → 1 ≤ p → queue_of c p ≡ served_from 1 c.queues p
 queue_from c p one = elim (test p 0) [ inl s ↦ (let z : p ≡ 0 = s.0 in absurd (omega arith)) | inr s ↦ rw s.1 refl ]
 
-place_at : {C : Type 0} (size : C → ℕ) (c : Config) (h : List (Event C)) (i : ℕ) → IsLegal size c h → (o : Opening) → Has o (openings h) → is_held (job_of h o) ≡ true → 0 < weight i (job_of h o) → Place (Tied h) (serves 1 c.queues (1 + i)) (printer_count c) o.job
-place_at size c h i l o has held pos =
+place_at : {C : Type 0} (size : C → ℕ) (c : Config) (base : Base) (h : List (Event C)) (i : ℕ) → IsLegal size c base h → (o : Opening) → Has o (openings h) → is_held (job_of h o) ≡ true → 0 < weight i (job_of h o) → Place (Tied h) (serves 1 c.queues (1 + i)) (printer_count c) o.job
+place_at size c base h i l o has held pos =
     let g = begun_if i (job_of h o) pos in
-    let b = busy size c h l o has held g.1 in
+    let b = busy size c base h l o has held g.1 in
     let q : queue_of c b.at ≡ 1 + i = (let e : o.queue ≡ suc i = g.0 in let d = b.queue in omega arith) in
     let is = b.is in
     record {
@@ -73,21 +74,21 @@ place_at size c h i l o has held pos =
       tied = b.began;
     }
 
-printers_counted : {C : Type 0} (size : C → ℕ) (c : Config) (h : List (Event C)) (i : ℕ) → IsLegal size c h → tally (weight i) (now c h).jobs ≤ amount (capacity c) (suc i)
-printers_counted {C} size c h i l =
-    let jobs = (now c h).jobs in
+printers_counted : {C : Type 0} (size : C → ℕ) (c : Config) (base : Base) (h : List (Event C)) (i : ℕ) → IsLegal size c base h → tally (weight i) (now c base h).jobs ≤ amount (capacity c) (suc i)
+printers_counted {C} size c base h i l =
+    let jobs = (now c base h).jobs in
     let place : (v : Job C) → Has v jobs → 0 < weight i v → Place (Tied h) (serves 1 c.queues (1 + i)) (printer_count c) v.number = λ v has pos.
-    (let k = known c h v has in
+    (let k = known c base h v has in
     subst (λ (u : Job C). Place (Tied h) (serves 1 c.queues (1 + i)) (printer_count c) u.number) (sym k.is)
-    (place_at size c h i l k.opening k.there (subst (λ (u : Job C). is_held u ≡ true) k.is k.held) (subst (λ (u : Job C). 0 < weight i u) k.is pos))) in
-    let b = pigeons (Tied h) (λ p j k x y. some_one j k (sym x ∙ y)) (weight i) (λ (v : Job C). v.number) (printer_count c) (serves 1 c.queues (1 + i)) jobs (weight_small i) (rising_jobs size c h l) place in
+    (place_at size c base h i l k.opening k.there (subst (λ (u : Job C). is_held u ≡ true) k.is k.held) (subst (λ (u : Job C). 0 < weight i u) k.is pos))) in
+    let b = pigeons (Tied h) (λ p j k x y. some_one j k (sym x ∙ y)) (weight i) (λ (v : Job C). v.number) (printer_count c) (serves 1 c.queues (1 + i)) jobs (weight_small i) (rising_jobs size c base h l) place in
     let d = served_total 1 c.queues i (omega arith) in
     omega arith
 
-printers_within : {C : Type 0} (size : C → ℕ) (c : Config) (h : List (Event C)) (i : ℕ) → IsLegal size c h → holds (suc i) (rows c (now c h).jobs) ≤ amount (capacity c) (suc i)
-printers_within {C} size c h i l =
-    let a = holds_weight c i (now c h).jobs in
-    let b = printers_counted size c h i l in
+printers_within : {C : Type 0} (size : C → ℕ) (c : Config) (base : Base) (h : List (Event C)) (i : ℕ) → IsLegal size c base h → holds (suc i) (rows c (now c base h).jobs) ≤ amount (capacity c) (suc i)
+printers_within {C} size c base h i l =
+    let a = holds_weight c i (now c base h).jobs in
+    let b = printers_counted size c base h i l in
     omega arith
 
 pub get_printers : (qs : List Queue) (i : ℕ) → get_or (map (λ (q : Queue). q.printers) qs) i 0 ≡ (slice_index_or qs i no_queue).printers
@@ -97,13 +98,13 @@ get_printers (q ∷ qs) (suc i) = get_printers qs i
 
 -- each kind
 
-pub kind_within : {C : Type 0} (size : C → ℕ) (c : Config) (h : List (Event C)) → IsLegal size c h → (k : ℕ) → holds k (rows c (now c h).jobs) ≤ amount (capacity c) k
-kind_within size c h l zero =
-    let e = holds_sum 0 (rows c (now c h).jobs) in
-    let r = rows_held c (now c h).jobs in
-    let w = (pages_add_up size c h l).within in
+pub kind_within : {C : Type 0} (size : C → ℕ) (c : Config) (base : Base) (h : List (Event C)) → IsLegal size c base h → (k : ℕ) → holds k (rows c (now c base h).jobs) ≤ amount (capacity c) k
+kind_within size c base h l zero =
+    let e = holds_sum 0 (rows c (now c base h).jobs) in
+    let r = rows_held c (now c base h).jobs in
+    let w = (pages_add_up size c base h l).within in
     omega arith
-kind_within size c h l (suc i) = printers_within size c h i l
+kind_within size c base h l (suc i) = printers_within size c base h i l
 
 of_queue : {C : Type 0} (q i : ℕ) (v : Job C) → suc i ≡ q → cond (v.queue == q) (printers_held v) 0 ≤ weight i v
 of_queue q i v e = elim (test v.queue q) [
@@ -119,17 +120,17 @@ of_queues {C} q i (v ∷ vs) e =
     let k = sum_by-cons (λ (v : Job C). cond (v.queue == q) (printers_held v) 0) v vs in
     omega arith
 
-enough_printers : {C : Type 0} (size : C → ℕ) (c : Config) (h : List (Event C)) (q : ℕ) → IsLegal size c h → IsQueue c q → held_printers (now c h) q ≤ (queue_at c q).printers
-enough_printers size c h zero l is = absurd (omega (arith, is.0))
-enough_printers {C} size c h (suc i) l is =
-    let all = sum_filter (λ (v : Job C). printers_held v) (λ (v : Job C). v.queue == suc i) (now c h).jobs in
-    let few = of_queues (suc i) i (now c h).jobs refl in
-    let most = printers_counted size c h i l in
+enough_printers : {C : Type 0} (size : C → ℕ) (c : Config) (base : Base) (h : List (Event C)) (q : ℕ) → IsLegal size c base h → IsQueue c q → held_printers (now c base h) q ≤ (queue_at c q).printers
+enough_printers size c base h zero l is = absurd (omega (arith, is.0))
+enough_printers {C} size c base h (suc i) l is =
+    let all = sum_filter (λ (v : Job C). printers_held v) (λ (v : Job C). v.queue == suc i) (now c base h).jobs in
+    let few = of_queues (suc i) i (now c base h).jobs refl in
+    let most = printers_counted size c base h i l in
     let there = get_printers c.queues i in
     omega arith
 
-pub no_kind_runs_over : {C : Type 0} (size : C → ℕ) (c : Config) (h : List (Event C)) → IsLegal size c h → NoMoreThanThereIs c h
-no_kind_runs_over size c h l = record {
-  kinds = λ k. (let e = holds_sum k (rows c (now c h).jobs) in let w = kind_within size c h l k in omega arith);
-  printers = λ q is. enough_printers size c h q l is;
+pub no_kind_runs_over : {C : Type 0} (size : C → ℕ) (c : Config) (base : Base) (h : List (Event C)) → IsLegal size c base h → NoMoreThanThereIs c base h
+no_kind_runs_over size c base h l = record {
+  kinds = λ k. (let e = holds_sum k (rows c (now c base h).jobs) in let w = kind_within size c base h l k in omega arith);
+  printers = λ q is. enough_printers size c base h q l is;
 }

@@ -1,9 +1,10 @@
 -- What holds of every legal history.
 use Rattle.std.proofs.Common.{◌⊎◌, inl, inr, ◌≡◌, ◌==◌, ◌≢◌, ℕ, ◌+◌, ◌<◌, ◌≤◌, Bool, true, false, List, [], ◌∷◌, ◌++◌, length, refl, sym, ◌∙◌, ap, subst, arith}
-use Rattle.std.specs.Prelude.{nat_lt, Option, Some, None}
+use Rattle.std.specs.Prelude.{Option, Some, None}
 use Rattle.std.specs.List.{list_any, AllByRecursion}
 use Rattle.std.proofs.lemmas.List.{length_push}
-use Rattle.std.proofs.lemmas.Bool.Decides.{nat_tests}
+use Rattle.std.proofs.lemmas.Bool.{cases_lt}
+use Rattle.spool_history.specs.Base.{Base, first_base}
 use Rattle.spool_history.specs.Events.{Act, Event, Sheet, Turn}
 use Rattle.spool_history.specs.Events.Act.{Granted, Began, Put, FileEnded, Controlled, Aborted}
 use Rattle.spool_history.specs.Events.Turn.{Handed, Printed, Failed}
@@ -28,13 +29,37 @@ pub record Unknown {C : Type 0} (h : List (Event C)) (j : ℕ) : Type 0 where
   pub acts : acts_of h j ≡ []
   pub handed : handed_of h j ≡ []
   pub back : back_of h j ≡ 0
-  pub ended : is_closed h ≡ false → has_ended h j ≡ false
+  pub ended : is_closed first_base h ≡ false → has_ended h j ≡ false
 
-pub record Facts {C : Type 0} (h : List (Event C)) : Type 0 where
+-- what isn't closed from a base isn't closed from the first one
+pub open_first : {C : Type 0} (base : Base) (h : List (Event C)) → is_closed base h ≡ false → is_closed first_base h ≡ false
+open_first base [] e = refl
+open_first base (Opened k s q ∷ h) e = open_first base h e
+open_first base (OfJob k act ∷ h) e = open_first base h e
+open_first base (AtPrinter p sheet turn ∷ h) e = open_first base h e
+open_first base (Removed q jobs ∷ h) e = open_first base h e
+open_first base (Started q ∷ h) e = open_first base h e
+open_first base (Closed ∷ h) e = absurd (clash true refl e)
+
+-- the last acceptance number
+abbrev pub last : {C : Type 0} → Base → List (Event C) → ℕ
+last base h = base.accepted + length (openings h)
+
+-- the numbers of the jobs that were accepted since the base, and all others
+abbrev pub IsNumber : {C : Type 0} → Base → List (Event C) → ℕ → Type 0
+IsNumber base h k = (base.accepted < k) × (k ≤ last base h)
+
+abbrev pub IsOther : {C : Type 0} → Base → List (Event C) → ℕ → Type 0
+IsOther base h j = (j ≤ base.accepted) ⊎ (last base h < j)
+
+other_number : {C : Type 0} (base : Base) (h : List (Event C)) (k j : ℕ) → IsNumber base h k → IsOther base h j → k ≡ j → ⊥
+other_number base h k j is other same = elim other [ inl l ↦ absurd (omega (arith, is.0)) | inr l ↦ absurd (omega (arith, is.1)) ]
+
+pub record Facts {C : Type 0} (base : Base) (h : List (Event C)) : Type 0 where
   -- the numbers of the accepted jobs, and what is said of all others
-  pub numbers : (o : Opening) → Has o (openings h) → o.job ≤ length (openings h)
+  pub numbers : (o : Opening) → Has o (openings h) → IsNumber base h o.job
   pub once : (o k : Opening) → Has o (openings h) → Has k (openings h) → o.job ≡ k.job → o ≡ k
-  pub fresh : (j : ℕ) → length (openings h) < j → Unknown h j
+  pub fresh : (j : ℕ) → IsOther base h j → Unknown h j
   pub begun : (j : ℕ) → received_at h j ≡ false → handed_at h j ≡ 0
   pub back : (j : ℕ) → back_of h j ≤ handed_at h j
   -- the page that is out at a printer is the only one of its job that is out, and the next place after those that came back
@@ -43,10 +68,7 @@ pub record Facts {C : Type 0} (h : List (Event C)) : Type 0 where
   pub began : (p j : ℕ) → began_at h p ≡ Some j → 0 < handed_at h j
   pub alone : (p q j : ℕ) → began_at h p ≡ Some j → began_at h q ≡ Some j → p ≡ q
 
-abbrev pub IsNumber : {C : Type 0} → List (Event C) → ℕ → Type 0
-IsNumber h k = k ≤ length (openings h)
-
-pub number_at : {C : Type 0} (h : List (Event C)) (k : ℕ) (P : Job C → Type 0) → Facts h → At h k P → IsNumber h k
+pub number_at : {C : Type 0} {base : Base} (h : List (Event C)) (k : ℕ) (P : Job C → Type 0) → Facts base h → At h k P → IsNumber base h k
 number_at h k P f a = f.numbers (record { job = k; sender = a.sender; queue = a.queue }) a.there
 
 -- the acts of a job's session
@@ -65,17 +87,17 @@ unknown_act h k act j ne u = record {
   ended = λ open'. ended_other h k act j ne (u.ended open');
 }
 
-begun_act : {C : Type 0} (h : List (Event C)) (k : ℕ) (act : Act C) → Facts h → (received_at (OfJob k act ∷ h) k ≡ false → received_at h k ≡ false) → (j : ℕ) → received_at (OfJob k act ∷ h) j ≡ false → handed_at h j ≡ 0
+begun_act : {C : Type 0} {base : Base} (h : List (Event C)) (k : ℕ) (act : Act C) → Facts base h → (received_at (OfJob k act ∷ h) k ≡ false → received_at h k ≡ false) → (j : ℕ) → received_at (OfJob k act ∷ h) j ≡ false → handed_at h j ≡ 0
 begun_act {C} h k act f before j e = elim (test k j) [
   | inl s ↦ subst (λ (i : ℕ). handed_at h i ≡ 0) s.0 (f.begun k (before (subst (λ (i : ℕ). received_at (OfJob k act ∷ h) i ≡ false) (sym s.0) e)))
   | inr s ↦ f.begun j (rw s.1 at e)
 ]
 
-facts_act : {C : Type 0} (h : List (Event C)) (k : ℕ) (act : Act C) → Facts h → IsNumber h k → (received_at (OfJob k act ∷ h) k ≡ false → received_at h k ≡ false) → Facts (OfJob k act ∷ h)
-facts_act h k act f le before = record {
+facts_act : {C : Type 0} {base : Base} (h : List (Event C)) (k : ℕ) (act : Act C) → Facts base h → IsNumber base h k → (received_at (OfJob k act ∷ h) k ≡ false → received_at h k ≡ false) → Facts base (OfJob k act ∷ h)
+facts_act {base = base} h k act f le before = record {
   numbers = f.numbers;
   once = f.once;
-  fresh = λ j lt. unknown_act h k act j (λ same. omega arith) (f.fresh j lt);
+  fresh = λ j lt. unknown_act h k act j (other_number base h k j le lt) (f.fresh j lt);
   begun = begun_act h k act f before;
   back = f.back;
   out = f.out;
@@ -84,26 +106,26 @@ facts_act h k act f le before = record {
   alone = f.alone;
 }
 
-facts_opened : {C : Type 0} (h : List (Event C)) (k s q : ℕ) → Facts h → k ≡ length (openings h) + 1 → Facts (Opened k s q ∷ h)
-facts_opened {C} h k s q f is =
+facts_opened : {C : Type 0} {base : Base} (h : List (Event C)) (k s q : ℕ) → Facts base h → k ≡ last base h + 1 → Facts base (Opened k s q ∷ h)
+facts_opened {C} {base = base} h k s q f is =
     let x : Opening = record { job = k; sender = s; queue = q } in
     let n : length (openings h ++ x ∷ []) ≡ length (openings h) + 1 = length_push (openings h) x in
     record {
       numbers = λ o has. elim (has_last o (openings h) x has) [
-        | inl t ↦ let old = f.numbers o t in omega arith
-        | inr e ↦ let j : k ≡ o.job = ap (λ (y : Opening). y.job) e in omega arith
+        | inl t ↦ let old = f.numbers o t in (old.0, let le = old.1 in omega arith)
+        | inr e ↦ let j : k ≡ o.job = ap (λ (y : Opening). y.job) e in (omega arith, omega arith)
       ];
       once = λ o i has also same. elim (has_last o (openings h) x has) [
         | inl t ↦ elim (has_last i (openings h) x also) [
           | inl u ↦ f.once o i t u same
-          | inr e ↦ let old = f.numbers o t in let j : k ≡ i.job = ap (λ (y : Opening). y.job) e in absurd (omega arith)
+          | inr e ↦ let old = (f.numbers o t).1 in let j : k ≡ i.job = ap (λ (y : Opening). y.job) e in absurd (omega arith)
         ]
         | inr e ↦ elim (has_last i (openings h) x also) [
-          | inl u ↦ let old = f.numbers i u in let j : k ≡ o.job = ap (λ (y : Opening). y.job) e in absurd (omega arith)
+          | inl u ↦ let old = (f.numbers i u).1 in let j : k ≡ o.job = ap (λ (y : Opening). y.job) e in absurd (omega arith)
           | inr d ↦ sym e ∙ d
         ]
       ];
-      fresh = λ j lt. (let u = f.fresh j (omega arith) in record { acts = u.acts; handed = u.handed; back = u.back; ended = u.ended });
+      fresh = λ j lt. (let u = f.fresh j (elim lt [ inl l ↦ inl l | inr l ↦ inr (omega arith) ]) in record { acts = u.acts; handed = u.handed; back = u.back; ended = u.ended });
       begun = f.begun;
       back = f.back;
       out = f.out;
@@ -126,35 +148,35 @@ begins_at {C} h x j q jobs o is n b =
     let r : received_at h o.job ≡ true = sym (ap (λ (v : Job C). is_received v) is) ∙ b.received in
     (subst (λ (i : ℕ). handed_at h i ≡ 0) m a, subst (λ (i : ℕ). received_at h i ≡ true) m r)
 
-pub turn_of_page : {C : Type 0} (c : Config) (h : List (Event C)) (p : ℕ) (sheet : Sheet C) → 1 ≤ p → p ≤ Rattle.config_values.specs.Config.printer_count c → Rattle.spool_history.specs.Next.next_page (now c h) p ≡ Rattle.spool_history.specs.Next.Next.Hands sheet → Turn' h p sheet
-turn_of_page {C} c h p sheet one le e =
-    let g = (given (now c h) p sheet e).1 in
-    let here = at_printer c h p one le in
-    let k = Rattle.spool_laws.proofs.Known.known c h g.job g.turn.there in
+pub turn_of_page : {C : Type 0} (c : Config) (base : Base) (h : List (Event C)) (p : ℕ) (sheet : Sheet C) → 1 ≤ p → p ≤ Rattle.config_values.specs.Config.printer_count c → Rattle.spool_history.specs.Next.next_page (now c base h) p ≡ Rattle.spool_history.specs.Next.Next.Hands sheet → Turn' h p sheet
+turn_of_page {C} c base h p sheet one le e =
+    let g = (given (now c base h) p sheet e).1 in
+    let here = at_printer c base h p one le in
+    let k = Rattle.spool_laws.proofs.Known.known c base h g.job g.turn.there in
     let n : g.job.number ≡ sheet.job = sym (ap (λ (s : Sheet C). s.job) g.gets.is) in
     record {
       idle = sym (ap (λ (x : Printer C). x.out) here) ∙ g.idle;
-      at = given_at c h (printer_at (now c h) p) sheet g;
+      at = given_at c base h (printer_at (now c base h) p) sheet g;
       why = elim g.turn.why [
         | inl b ↦ inl (sym (ap (λ (x : Printer C). x.began) here) ∙ (b ∙ ap (λ (i : ℕ). Some i) n))
-        | inr b ↦ inr (begins_at h g.job sheet.job (printer_at (now c h) p).queue (now c h).jobs k.opening k.is n b)
+        | inr b ↦ inr (begins_at h g.job sheet.job (printer_at (now c base h) p).queue (now c base h).jobs k.opening k.is n b)
       ];
     }
 
-pub handed_now : {C : Type 0} (h : List (Event C)) (p : ℕ) (sheet : Sheet C) → Facts h → Turn' h p sheet → handed_at h sheet.job ≡ back_of h sheet.job
+pub handed_now : {C : Type 0} {base : Base} (h : List (Event C)) (p : ℕ) (sheet : Sheet C) → Facts base h → Turn' h p sheet → handed_at h sheet.job ≡ back_of h sheet.job
 handed_now h p sheet f t = elim t.why [
   | inl b ↦ f.idle p sheet.job t.idle b
   | inr z ↦ let b = f.back sheet.job in let zero' = z.0 in omega arith
 ]
 
 -- no other printer began the job
-others : {C : Type 0} (h : List (Event C)) (p : ℕ) (sheet : Sheet C) → Facts h → Turn' h p sheet → (q : ℕ) → q ≢ p → began_at h q ≡ Some sheet.job → ⊥
+others : {C : Type 0} {base : Base} (h : List (Event C)) (p : ℕ) (sheet : Sheet C) → Facts base h → Turn' h p sheet → (q : ℕ) → q ≢ p → began_at h q ≡ Some sheet.job → ⊥
 others h p sheet f t q ne b = elim t.why [
   | inl a ↦ ne (f.alone q p sheet.job b a)
   | inr z ↦ let w = f.began q sheet.job b in let zero' = z.0 in omega arith
 ]
 
-received_now : {C : Type 0} (h : List (Event C)) (p : ℕ) (sheet : Sheet C) → Facts h → Turn' h p sheet → received_at h sheet.job ≡ false → ⊥
+received_now : {C : Type 0} {base : Base} (h : List (Event C)) (p : ℕ) (sheet : Sheet C) → Facts base h → Turn' h p sheet → received_at h sheet.job ≡ false → ⊥
 received_now h p sheet f t e = elim t.why [
   | inl b ↦ let w = f.began p sheet.job b in let z = f.begun sheet.job e in omega arith
   | inr z ↦ clash (received_at h sheet.job) z.1 e
@@ -187,7 +209,7 @@ some_sheet s t e = cc
 none_some : {C : Type 0} (s : Sheet C) → ◌≡◌ {A = Option (Sheet C)} None (Some s) → ⊥
 none_some s e = cc
 
-facts_handed : {C : Type 0} (h : List (Event C)) (p : ℕ) (sheet : Sheet C) → Facts h → Turn' h p sheet → Facts (AtPrinter p sheet Handed ∷ h)
+facts_handed : {C : Type 0} {base : Base} (h : List (Event C)) (p : ℕ) (sheet : Sheet C) → Facts base h → Turn' h p sheet → Facts base (AtPrinter p sheet Handed ∷ h)
 facts_handed {C} h p sheet f t =
     let here = handed_now h p sheet f t in
     let le = number_at h sheet.job (λ v. Gets sheet v) f t.at in
@@ -284,17 +306,21 @@ pub out_there : {C : Type 0} (h : List (Event C)) (p : ℕ) (sheet : Sheet C) (t
 out_there h p sheet turn q ne = elim (test p q) [ inl s ↦ absurd (ne s.0) | inr s ↦ rw s.1 refl ]
 
 -- a job of which a page is out was accepted
-known_by : {C : Type 0} (h : List (Event C)) (j : ℕ) (b : Bool) → nat_lt (length (openings h)) j ≡ b → Facts h → 0 < handed_at h j → IsNumber h j
-known_by h j false e f pos = grind (arith, nat_tests)
-known_by h j true e f pos =
-    let lt : length (openings h) < j = grind (arith, nat_tests) in
-    let z : handed_at h j ≡ 0 = ap length (f.fresh j lt).handed in
+nothing_handed : {C : Type 0} {base : Base} (h : List (Event C)) (j : ℕ) → Facts base h → 0 < handed_at h j → IsOther base h j → ⊥
+nothing_handed h j f pos other =
+    let z : handed_at h j ≡ 0 = ap length (f.fresh j other).handed in
     absurd (omega arith)
 
-pub handed_number : {C : Type 0} (h : List (Event C)) (j : ℕ) → Facts h → 0 < handed_at h j → IsNumber h j
-handed_number h j f pos = known_by h j (nat_lt (length (openings h)) j) refl f pos
+pub handed_number : {C : Type 0} {base : Base} (h : List (Event C)) (j : ℕ) → Facts base h → 0 < handed_at h j → IsNumber base h j
+handed_number {base = base} h j f pos = elim (cases_lt base.accepted j) [
+  | inl low ↦ elim (cases_lt (last base h) j) [
+    | inl lt ↦ absurd (nothing_handed h j f pos (inr lt))
+    | inr le ↦ (low, le)
+  ]
+  | inr le ↦ absurd (nothing_handed h j f pos (inl le))
+]
 
-facts_back : {C : Type 0} (h : List (Event C)) (p : ℕ) (sheet : Sheet C) (turn : Turn) → is_handed turn ≡ false → Facts h → out_at h p ≡ Some sheet → Facts (AtPrinter p sheet turn ∷ h)
+facts_back : {C : Type 0} {base : Base} (h : List (Event C)) (p : ℕ) (sheet : Sheet C) (turn : Turn) → is_handed turn ≡ false → Facts base h → out_at h p ≡ Some sheet → Facts base (AtPrinter p sheet turn ∷ h)
 facts_back {C} h p sheet turn is f o =
     let was = f.out p sheet o in
     let was1 = was.1 in
@@ -356,20 +382,20 @@ facts_back {C} h p sheet turn is f o =
 
 -- the other events
 
-none_named : {C : Type 0} (c : Config) (h : List (Event C)) (P : Job C → Type 0) (j : ℕ) (jobs : List ℕ) → Facts h → length (openings h) < j → AllByRecursion (λ k. HasJob (now c h).jobs k P) jobs → list_any (λ (k : ℕ). k == j) jobs ≡ false
-none_named c h P j [] f lt all = refl
-none_named c h P j (k ∷ ks) f lt all =
-    let n : k ≤ length (openings h) = number_at h k P f (has_at c h k P all.0) in
-    let rest = none_named c h P j ks f lt all.1 in
-    elim (test k j) [ inl s ↦ let m : k ≡ j = s.0 in absurd (omega arith) | inr s ↦ rw s.1 rest ]
+none_named : {C : Type 0} (c : Config) (base : Base) (h : List (Event C)) (P : Job C → Type 0) (j : ℕ) (jobs : List ℕ) → Facts base h → IsOther base h j → AllByRecursion (λ k. HasJob (now c base h).jobs k P) jobs → list_any (λ (k : ℕ). k == j) jobs ≡ false
+none_named c base h P j [] f lt all = refl
+none_named c base h P j (k ∷ ks) f lt all =
+    let n = number_at h k P f (has_at c base h k P all.0) in
+    let rest = none_named c base h P j ks f lt all.1 in
+    elim (test k j) [ inl s ↦ absurd (other_number base h k j n lt s.0) | inr s ↦ rw s.1 rest ]
 
-facts_removed : {C : Type 0} (c : Config) (h : List (Event C)) (P : Job C → Type 0) (q : ℕ) (jobs : List ℕ) → Facts h → AllByRecursion (λ k. HasJob (now c h).jobs k P) jobs → Facts (Removed q jobs ∷ h)
-facts_removed c h P q jobs f all = record {
+facts_removed : {C : Type 0} (c : Config) (base : Base) (h : List (Event C)) (P : Job C → Type 0) (q : ℕ) (jobs : List ℕ) → Facts base h → AllByRecursion (λ k. HasJob (now c base h).jobs k P) jobs → Facts base (Removed q jobs ∷ h)
+facts_removed c base h P q jobs f all = record {
   numbers = f.numbers;
   once = f.once;
   fresh = λ j lt. (
       let u = f.fresh j lt in
-      let none = none_named c h P j jobs f lt all in
+      let none = none_named c base h P j jobs f lt all in
       record { acts = u.acts; handed = u.handed; back = u.back; ended = λ open'. rw none (u.ended open') });
   begun = f.begun;
   back = f.back;
@@ -379,7 +405,7 @@ facts_removed c h P q jobs f all = record {
   alone = f.alone;
 }
 
-facts_started : {C : Type 0} (h : List (Event C)) (q : ℕ) → Facts h → Facts (Started q ∷ h)
+facts_started : {C : Type 0} {base : Base} (h : List (Event C)) (q : ℕ) → Facts base h → Facts base (Started q ∷ h)
 facts_started h q f = record {
   numbers = f.numbers;
   once = f.once;
@@ -392,7 +418,7 @@ facts_started h q f = record {
   alone = f.alone;
 }
 
-facts_closed : {C : Type 0} (h : List (Event C)) → Facts h → Facts (Closed ∷ h)
+facts_closed : {C : Type 0} {base : Base} (h : List (Event C)) → Facts base h → Facts base (Closed ∷ h)
 facts_closed h f = record {
   numbers = f.numbers;
   once = f.once;
@@ -405,8 +431,8 @@ facts_closed h f = record {
   alone = f.alone;
 }
 
-no_facts : {C : Type 0} → Facts {C = C} []
-no_facts = record {
+no_facts : {C : Type 0} (base : Base) → Facts {C = C} base []
+no_facts base = record {
   numbers = λ o has. absurd has;
   once = λ o i has also same. absurd has;
   fresh = λ j lt. record { acts = refl; handed = refl; back = refl; ended = λ open'. refl };
@@ -422,36 +448,36 @@ received_aborted : {C : Type 0} (h : List (Event C)) (k : ℕ) → received_at (
 received_aborted h k e = elim (test k k) [ inl r ↦ rw r.1 at e | inr r ↦ absurd (r.0 refl) ]
 
 -- a page that is out at a printer
-pub is_out : {C : Type 0} (c : Config) (h : List (Event C)) (p : ℕ) (sheet : Sheet C) → IsPrinter c p → (printer_at (now c h) p).out ≡ Some sheet → out_at h p ≡ Some sheet
-is_out {C} c h p sheet is e = sym (ap (λ (x : Printer C). x.out) (at_printer c h p is.0 is.1)) ∙ e
+pub is_out : {C : Type 0} (c : Config) (base : Base) (h : List (Event C)) (p : ℕ) (sheet : Sheet C) → IsPrinter c p → (printer_at (now c base h) p).out ≡ Some sheet → out_at h p ≡ Some sheet
+is_out {C} c base h p sheet is e = sym (ap (λ (x : Printer C). x.out) (at_printer c base h p is.0 is.1)) ∙ e
 
-facts_step : {C : Type 0} (size : C → ℕ) (c : Config) (h : List (Event C)) (e : Event C) → Facts h → May size (now c h) e → Facts (e ∷ h)
-facts_step size c h (Opened k s q) f m = facts_opened h k s q f m.4
-facts_step size c h (OfJob k Granted) f m =
-    let a = has_at c h k _ m.0 in
+facts_step : {C : Type 0} (size : C → ℕ) (c : Config) (base : Base) (h : List (Event C)) (e : Event C) → Facts base h → May size (now c base h) e → Facts base (e ∷ h)
+facts_step size c base h (Opened k s q) f m = facts_opened h k s q f m.4
+facts_step size c base h (OfJob k Granted) f m =
+    let a = has_at c base h k _ m.0 in
     facts_act h k Granted f (number_at h k _ f a) (λ e. a.is.0.0.1)
-facts_step size c h (OfJob k (Began name count)) f m =
-    let a = has_at c h k _ m.0 in
+facts_step size c base h (OfJob k (Began name count)) f m =
+    let a = has_at c base h k _ m.0 in
     facts_act h k (Began name count) f (number_at h k _ f a) (λ e. a.is.0.1)
-facts_step size c h (OfJob k (Put file number page)) f m =
-    let a = has_at c h k _ m.0 in
+facts_step size c base h (OfJob k (Put file number page)) f m =
+    let a = has_at c base h k _ m.0 in
     facts_act h k (Put file number page) f (number_at h k _ f a) (λ e. a.is.0.1)
-facts_step size c h (OfJob k (FileEnded file whole)) f m =
-    let a = has_at c h k _ m.0 in
+facts_step size c base h (OfJob k (FileEnded file whole)) f m =
+    let a = has_at c base h k _ m.0 in
     facts_act h k (FileEnded file whole) f (number_at h k _ f a) (λ e. a.is.0.1)
-facts_step size c h (OfJob k (Controlled control whole)) f m =
-    let a = has_at c h k _ m.0 in
+facts_step size c base h (OfJob k (Controlled control whole)) f m =
+    let a = has_at c base h k _ m.0 in
     facts_act h k (Controlled control whole) f (number_at h k _ f a) (λ e. a.is.0.1)
-facts_step size c h (OfJob k Aborted) f m =
-    let a = has_at c h k _ m.0 in
+facts_step size c base h (OfJob k Aborted) f m =
+    let a = has_at c base h k _ m.0 in
     facts_act h k Aborted f (number_at h k _ f a) (received_aborted h k)
-facts_step size c h (AtPrinter p sheet Handed) f m = facts_handed h p sheet f (turn_of_page c h p sheet m.0.0 m.0.1 m.1)
-facts_step size c h (AtPrinter p sheet (Printed x)) f m = facts_back h p sheet (Printed x) refl f (is_out c h p sheet m.0 m.1.0)
-facts_step size c h (AtPrinter p sheet Failed) f m = facts_back h p sheet Failed refl f (is_out c h p sheet m.0 m.1)
-facts_step size c h (Removed q jobs) f m = facts_removed c h _ q jobs f m.4
-facts_step size c h (Started q) f m = facts_started h q f
-facts_step size c h Closed f m = facts_closed h f
+facts_step size c base h (AtPrinter p sheet Handed) f m = facts_handed h p sheet f (turn_of_page c base h p sheet m.0.0 m.0.1 m.1)
+facts_step size c base h (AtPrinter p sheet (Printed x)) f m = facts_back h p sheet (Printed x) refl f (is_out c base h p sheet m.0 m.1.0)
+facts_step size c base h (AtPrinter p sheet Failed) f m = facts_back h p sheet Failed refl f (is_out c base h p sheet m.0 m.1)
+facts_step size c base h (Removed q jobs) f m = facts_removed c base h _ q jobs f m.4
+facts_step size c base h (Started q) f m = facts_started h q f
+facts_step size c base h Closed f m = facts_closed h f
 
-pub facts : {C : Type 0} (size : C → ℕ) (c : Config) (h : List (Event C)) → IsLegal size c h → Facts h
-facts size c [] l = no_facts
-facts size c (e ∷ h) l = facts_step size c h e (facts size c h l.1) l.0
+pub facts : {C : Type 0} (size : C → ℕ) (c : Config) (base : Base) (h : List (Event C)) → IsLegal size c base h → Facts base h
+facts size c base [] l = no_facts base
+facts size c base (e ∷ h) l = facts_step size c base h e (facts size c base h l.1) l.0

@@ -4,6 +4,7 @@ use Rattle.std.specs.Prelude.{◌&&◌, ◌||◌, cond, filter, find, Contains, 
 use Rattle.std.specs.List.{list_any}
 use Rattle.std.proofs.lemmas.Bool.Decides.{nat_tests}
 use Rattle.std.proofs.lemmas.Bool.{or_parts}
+use Rattle.spool_history.specs.Base.{Base}
 use Rattle.spool_history.specs.Events.{Event}
 use Rattle.config_values.specs.Config.{Config}
 use Rattle.spool_history.specs.Said.{Opening, openings}
@@ -94,8 +95,8 @@ known_in : {C : Type 0} (h : List (Event C)) (os : List Opening) (x : Job C) →
 known_in h [] x has = absurd has
 known_in h (o ∷ os) x has = known_step h o os x (is_held (job_of h o)) refl has (known_in h os x)
 
-pub known : {C : Type 0} (c : Config) (h : List (Event C)) (x : Job C) → Has x (now c h).jobs → Known h (openings h) x
-known c h x there = known_in h (openings h) x there
+pub known : {C : Type 0} (c : Config) (base : Base) (h : List (Event C)) (x : Job C) → Has x (now c base h).jobs → Known h (openings h) x
+known c base h x there = known_in h (openings h) x there
 
 -- whether the job of this number is held
 abbrev pub held_at : {C : Type 0} → List (Event C) → ℕ → Bool
@@ -121,8 +122,8 @@ known_at {C} h x j P k e p =
       is = subst (λ (q : Opening). P (job_of h q)) (sym o) (subst P k.is p);
     }
 
-pub has_at : {C : Type 0} (c : Config) (h : List (Event C)) (j : ℕ) (P : Job C → Type 0) → HasJob (now c h).jobs j P → At h j P
-has_at c h j P m = known_at h m.job j P (known c h m.job (has_contained m.job (now c h).jobs m.there)) m.number m.is
+pub has_at : {C : Type 0} (c : Config) (base : Base) (h : List (Event C)) (j : ℕ) (P : Job C → Type 0) → HasJob (now c base h).jobs j P → At h j P
+has_at c base h j P m = known_at h m.job j P (known c base h m.job (has_contained m.job (now c base h).jobs m.there)) m.number m.is
 
 -- an accepted job that is held is among the held ones
 has_kept_by : {C : Type 0} (h : List (Event C)) (o q : Opening) (os : List Opening) (b : Bool) → is_held (job_of h q) ≡ b → is_held (job_of h o) ≡ true → (q ≡ o) ⊎ Has o os → (Has o os → Has (job_of h o) (filter is_held (map (job_of h) os))) → Has (job_of h o) (filter is_held (map (job_of h) (q ∷ os)))

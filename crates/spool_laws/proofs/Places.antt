@@ -1,6 +1,7 @@
 -- The places of a job leave in order.
 use Rattle.std.proofs.Common.{inl, inr, ◌≡◌, ℕ, zero, suc, ◌+◌, false, List, [], ◌∷◌, ◌++◌, length, take, drop, refl, sym, ◌∙◌, ap, subst, arith}
 use Rattle.std.proofs.lemmas.List.{length_push}
+use Rattle.spool_history.specs.Base.{Base}
 use Rattle.spool_history.specs.Events.{Act, Event, Sheet, Turn}
 use Rattle.spool_history.specs.Events.Act.{Granted, Began, Put, FileEnded, Controlled, Aborted}
 use Rattle.spool_history.specs.Events.Turn.{Handed, Printed, Failed}
@@ -83,21 +84,21 @@ placed_handed {C} h p sheet t f j = elim (test sheet.job j) [
 placed_back : {C : Type 0} (h : List (Event C)) (p : ℕ) (sheet : Sheet C) (turn : Turn) → is_handed turn ≡ false → Placed h → Placed (AtPrinter p sheet turn ∷ h)
 placed_back {C} h p sheet turn is f j = subst (λ (l : List (Sheet C)). PlacedAs l j (places_of h j)) (sym (handed_same h p sheet turn j is)) (f j)
 
-placed_step : {C : Type 0} (size : C → ℕ) (c : Config) (h : List (Event C)) (e : Event C) → IsLegal size c h → May size (now c h) e → Placed h → Placed (e ∷ h)
-placed_step size c h (Opened k s q) l m f = f
-placed_step size c h (OfJob k Granted) l m f = placed_act h k Granted ((facts size c h l).begun k (has_at c h k _ m.0).is.0.0.1) f
-placed_step size c h (OfJob k (Began name count)) l m f = placed_act h k (Began name count) ((facts size c h l).begun k (has_at c h k _ m.0).is.0.1) f
-placed_step size c h (OfJob k (Put file number page)) l m f = placed_act h k (Put file number page) ((facts size c h l).begun k (has_at c h k _ m.0).is.0.1) f
-placed_step size c h (OfJob k (FileEnded file whole)) l m f = placed_act h k (FileEnded file whole) ((facts size c h l).begun k (has_at c h k _ m.0).is.0.1) f
-placed_step size c h (OfJob k (Controlled control whole)) l m f = placed_act h k (Controlled control whole) ((facts size c h l).begun k (has_at c h k _ m.0).is.0.1) f
-placed_step size c h (OfJob k Aborted) l m f = placed_aborted h k f
-placed_step size c h (AtPrinter p sheet Handed) l m f = placed_handed h p sheet (turn_of_page c h p sheet m.0.0 m.0.1 m.1) f
-placed_step size c h (AtPrinter p sheet (Printed x)) l m f = placed_back h p sheet (Printed x) refl f
-placed_step size c h (AtPrinter p sheet Failed) l m f = placed_back h p sheet Failed refl f
-placed_step size c h (Removed q jobs) l m f = f
-placed_step size c h (Started q) l m f = f
-placed_step size c h Closed l m f = f
+placed_step : {C : Type 0} (size : C → ℕ) (c : Config) (base : Base) (h : List (Event C)) (e : Event C) → IsLegal size c base h → May size (now c base h) e → Placed h → Placed (e ∷ h)
+placed_step size c base h (Opened k s q) l m f = f
+placed_step size c base h (OfJob k Granted) l m f = placed_act h k Granted ((facts size c base h l).begun k (has_at c base h k _ m.0).is.0.0.1) f
+placed_step size c base h (OfJob k (Began name count)) l m f = placed_act h k (Began name count) ((facts size c base h l).begun k (has_at c base h k _ m.0).is.0.1) f
+placed_step size c base h (OfJob k (Put file number page)) l m f = placed_act h k (Put file number page) ((facts size c base h l).begun k (has_at c base h k _ m.0).is.0.1) f
+placed_step size c base h (OfJob k (FileEnded file whole)) l m f = placed_act h k (FileEnded file whole) ((facts size c base h l).begun k (has_at c base h k _ m.0).is.0.1) f
+placed_step size c base h (OfJob k (Controlled control whole)) l m f = placed_act h k (Controlled control whole) ((facts size c base h l).begun k (has_at c base h k _ m.0).is.0.1) f
+placed_step size c base h (OfJob k Aborted) l m f = placed_aborted h k f
+placed_step size c base h (AtPrinter p sheet Handed) l m f = placed_handed h p sheet (turn_of_page c base h p sheet m.0.0 m.0.1 m.1) f
+placed_step size c base h (AtPrinter p sheet (Printed x)) l m f = placed_back h p sheet (Printed x) refl f
+placed_step size c base h (AtPrinter p sheet Failed) l m f = placed_back h p sheet Failed refl f
+placed_step size c base h (Removed q jobs) l m f = f
+placed_step size c base h (Started q) l m f = f
+placed_step size c base h Closed l m f = f
 
-pub placed : {C : Type 0} (size : C → ℕ) (c : Config) (h : List (Event C)) → IsLegal size c h → (j : ℕ) → handed_of h j ≡ sheets j 0 (take (length (handed_of h j)) (places_of h j))
-placed size c [] l = λ j. refl
-placed size c (e ∷ h) l = placed_step size c h e l.1 l.0 (placed size c h l.1)
+pub placed : {C : Type 0} (size : C → ℕ) (c : Config) (base : Base) (h : List (Event C)) → IsLegal size c base h → (j : ℕ) → handed_of h j ≡ sheets j 0 (take (length (handed_of h j)) (places_of h j))
+placed size c base [] l = λ j. refl
+placed size c base (e ∷ h) l = placed_step size c base h e l.1 l.0 (placed size c base h l.1)

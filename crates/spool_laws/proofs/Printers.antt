@@ -3,6 +3,7 @@ use Rattle.std.proofs.Common.{inl, inr, ◌≡◌, ◌==◌, ◌≢◌, ℕ, zer
 use Rattle.std.specs.Prelude.{cond}
 use Rattle.std.proofs.lemmas.List.{map-append, length-set, same_lists, get_or-set_same, get_or-set_other, get_or_append_left, get_or_at}
 use Rattle.std.proofs.lemmas.Bool.Decides.{nat_tests}
+use Rattle.spool_history.specs.Base.{Base}
 use Rattle.spool_history.specs.Events.{Event, Sheet, Turn}
 use Rattle.spool_history.specs.Events.Turn.{Handed, Printed, Failed}
 use Rattle.spool_history.specs.Events.Event.{AtPrinter, Started}
@@ -21,7 +22,7 @@ get_last f n i d false e lt ih =
     let less : i < n = grind (arith, nat_tests) in
     get_or_append_left (map f (up_to n)) (f (suc n) ∷ []) d i (let l = length_up_to f n in omega arith) ∙ ih less
 
-get_up_to : {P : Type 0} (f : ℕ → P) (n i : ℕ) (d : P) → i < n → get_or (map f (up_to n)) i d ≡ f (suc i)
+pub get_up_to : {P : Type 0} (f : ℕ → P) (n i : ℕ) (d : P) → i < n → get_or (map f (up_to n)) i d ≡ f (suc i)
 get_up_to f zero i d lt = absurd (omega arith)
 get_up_to {P} f (suc n) i d lt =
     ap (λ (l : List P). get_or l i d) (map-append f (up_to n) (suc n ∷ [])) ∙ get_last f n i d (i == n) refl lt (get_up_to f n i d)
@@ -44,34 +45,34 @@ set_up_to {P} f g n p x lt is other =
         let ne' : suc k ≢ suc p = grind (arith, nat_tests) in
         other (suc k) ne' ∙ sym (get_or-set_other (map f (up_to n)) p k x d ne ∙ get_up_to f n k d below)
 
-pub at_printer : {C : Type 0} (c : Config) (h : List (Event C)) (p : ℕ) → 1 ≤ p → p ≤ printer_count c → printer_at (now c h) p ≡ printer_of c h p
-at_printer c h zero one le = absurd (omega arith)
-at_printer c h (suc p) one le = get_up_to (printer_of c h) (printer_count c) p no_printer le
+pub at_printer : {C : Type 0} (c : Config) (base : Base) (h : List (Event C)) (p : ℕ) → 1 ≤ p → p ≤ printer_count c → printer_at (now c base h) p ≡ printer_of c base h p
+at_printer c base h zero one le = absurd (omega arith)
+at_printer c base h (suc p) one le = get_up_to (printer_of c base h) (printer_count c) p no_printer le
 
-turned_other : {C : Type 0} (c : Config) (h : List (Event C)) (p : ℕ) (sheet : Sheet C) (turn : Turn) (q : ℕ) (b : Bool) → (p == q) ≡ b → q ≢ p → printer_of c (AtPrinter p sheet turn ∷ h) q ≡ printer_of c h q
-turned_other c h p sheet turn q true e ne = absurd (ne (grind (arith, nat_tests)))
-turned_other c h p sheet turn q false e ne = rw e refl
+turned_other : {C : Type 0} (c : Config) (base : Base) (h : List (Event C)) (p : ℕ) (sheet : Sheet C) (turn : Turn) (q : ℕ) (b : Bool) → (p == q) ≡ b → q ≢ p → printer_of c base (AtPrinter p sheet turn ∷ h) q ≡ printer_of c base h q
+turned_other c base h p sheet turn q true e ne = absurd (ne (grind (arith, nat_tests)))
+turned_other c base h p sheet turn q false e ne = rw e refl
 
-turned_here : {C : Type 0} (c : Config) (h : List (Event C)) (p : ℕ) (sheet : Sheet C) (turn : Turn) (b : Bool) → (p == p) ≡ b → printer_of c (AtPrinter p sheet turn ∷ h) p ≡ printer_turned sheet turn (printer_of c h p)
-turned_here c h p sheet Handed true e = rw e refl
-turned_here c h p sheet (Printed x) true e = rw e refl
-turned_here c h p sheet Failed true e = rw e refl
-turned_here c h p sheet turn false e = absurd (grind (arith, nat_tests))
+turned_here : {C : Type 0} (c : Config) (base : Base) (h : List (Event C)) (p : ℕ) (sheet : Sheet C) (turn : Turn) (b : Bool) → (p == p) ≡ b → printer_of c base (AtPrinter p sheet turn ∷ h) p ≡ printer_turned sheet turn (printer_of c base h p)
+turned_here c base h p sheet Handed true e = rw e refl
+turned_here c base h p sheet (Printed x) true e = rw e refl
+turned_here c base h p sheet Failed true e = rw e refl
+turned_here c base h p sheet turn false e = absurd (grind (arith, nat_tests))
 
-pub printers_turned : {C : Type 0} (c : Config) (h : List (Event C)) (p : ℕ) (sheet : Sheet C) (turn : Turn) → 1 ≤ p → p ≤ printer_count c → (now c (AtPrinter p sheet turn ∷ h)).printers ≡ printers_after (AtPrinter p sheet turn) (now c h)
-printers_turned {C} c h p sheet turn one le =
+pub printers_turned : {C : Type 0} (c : Config) (base : Base) (h : List (Event C)) (p : ℕ) (sheet : Sheet C) (turn : Turn) → 1 ≤ p → p ≤ printer_count c → (now c base (AtPrinter p sheet turn ∷ h)).printers ≡ printers_after (AtPrinter p sheet turn) (now c base h)
+printers_turned {C} c base h p sheet turn one le =
     let e : suc (p - 1) ≡ p = omega arith in
-    let here : printer_of c (AtPrinter p sheet turn ∷ h) (suc (p - 1)) ≡ printer_turned sheet turn (printer_at (now c h) p) =
-    ap (printer_of c (AtPrinter p sheet turn ∷ h)) e ∙ (turned_here c h p sheet turn (p == p) refl ∙ ap (printer_turned sheet turn) (sym (at_printer c h p one le))) in
-    set_up_to (printer_of c h) (printer_of c (AtPrinter p sheet turn ∷ h)) (printer_count c) (p - 1) (printer_turned sheet turn (printer_at (now c h) p)) (omega arith) here
-    (λ q ne. turned_other c h p sheet turn q (p == q) refl (λ same. ne (same ∙ sym e)))
+    let here : printer_of c base (AtPrinter p sheet turn ∷ h) (suc (p - 1)) ≡ printer_turned sheet turn (printer_at (now c base h) p) =
+    ap (printer_of c base (AtPrinter p sheet turn ∷ h)) e ∙ (turned_here c base h p sheet turn (p == p) refl ∙ ap (printer_turned sheet turn) (sym (at_printer c base h p one le))) in
+    set_up_to (printer_of c base h) (printer_of c base (AtPrinter p sheet turn ∷ h)) (printer_count c) (p - 1) (printer_turned sheet turn (printer_at (now c base h) p)) (omega arith) here
+    (λ q ne. turned_other c base h p sheet turn q (p == q) refl (λ same. ne (same ∙ sym e)))
 
 -- the start of a queue
 abbrev start : {C : Type 0} → ℕ → Printer C → Printer C
 start q p = cond (p.queue == q) (record p { stopped = false }) p
 
-started_one : {C : Type 0} (c : Config) (h : List (Event C)) (q p : ℕ) → printer_of c (Started q ∷ h) p ≡ start q (printer_of c h p)
-started_one c h q p = elim (test q (queue_of c p)) [
+started_one : {C : Type 0} (c : Config) (base : Base) (h : List (Event C)) (q p : ℕ) → printer_of c base (Started q ∷ h) p ≡ start q (printer_of c base h p)
+started_one c base h q p = elim (test q (queue_of c p)) [
   | inl s ↦ elim (test (queue_of c p) q) [ inl t ↦ rw (s.1, t.1) refl | inr t ↦ absurd (t.0 (sym s.0)) ]
   | inr s ↦ elim (test (queue_of c p) q) [ inl t ↦ absurd (s.0 (sym t.0)) | inr t ↦ rw (s.1, t.1) refl ]
 ]
@@ -80,5 +81,5 @@ pub map_twice : {X Y : Type 0} (f : X → Y) (g : Y → Y) (k : X → Y) (xs : L
 map_twice f g k [] e = refl
 map_twice f g k (x ∷ xs) e = cc (e x, map_twice f g k xs e)
 
-pub printers_started : {C : Type 0} (c : Config) (h : List (Event C)) (q : ℕ) → (now c (Started q ∷ h)).printers ≡ printers_after (Started q) (now c h)
-printers_started {C} c h q = map_twice (printer_of c h) (start q) (printer_of c (Started q ∷ h)) (up_to (printer_count c)) (started_one c h q)
+pub printers_started : {C : Type 0} (c : Config) (base : Base) (h : List (Event C)) (q : ℕ) → (now c base (Started q ∷ h)).printers ≡ printers_after (Started q) (now c base h)
+printers_started {C} c base h q = map_twice (printer_of c base h) (start q) (printer_of c base (Started q ∷ h)) (up_to (printer_count c)) (started_one c base h q)

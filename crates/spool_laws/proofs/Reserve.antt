@@ -1,8 +1,9 @@
 -- The entries of a history are within the reserves of its accepted jobs, and one.
 use Rattle.std.proofs.Common.{inl, inr, ◌≡◌, ◌==◌, ◌≢◌, ℕ, suc, ◌+◌, ◌<◌, ◌≤◌, Bool, true, false, List, [], ◌∷◌, length, refl, sym, ◌∙◌, ap, arith}
-use Rattle.std.specs.Prelude.{sum_by}
+use Rattle.std.specs.Prelude.{cond, sum_by}
 use Rattle.std.specs.List.{list_any, AllByRecursion}
 use Rattle.std.proofs.lemmas.List.Sums.{sum_by_push}
+use Rattle.spool_history.specs.Base.{Base, was_stopped}
 use Rattle.spool_history.specs.Events.{Act, Event, Sheet, Turn}
 use Rattle.spool_history.specs.Events.Turn.{Handed, Printed, Failed}
 use Rattle.spool_history.specs.Events.Event.{Opened, OfJob, AtPrinter, Removed, Started, Closed}
@@ -10,11 +11,12 @@ use Rattle.config_values.specs.Config.{Config, printer_count, queue_of, reserve_
 use Rattle.spool_history.specs.Said.{Opening, openings, acts_of, is_handed, is_failed, is_stopped_at, is_closed}
 use Rattle.spool_history.specs.Now.{Job, Printer, now, up_to}
 use Rattle.spool_history.specs.Legal.{HasJob, IsLegal, May}
+use Rattle.spool_laws.specs.Reserve.{CountsStops}
 use Rattle.spool_laws.proofs.Known.{Has, At, has_at, test}
 use Rattle.spool_laws.proofs.Printers.{at_printer}
 use Rattle.spool_laws.proofs.Facts.{facts, is_out, turn_of_page, handed_at, handed_more, handed_same, count_one, acts_other, back_same, back_more, back_one}
 use Rattle.spool_laws.proofs.Counts.{one_if, one_le}
-use Rattle.spool_laws.proofs.Adding.{sum_less, sum_more, up_less, up_one, up_none, has_left, has_up_to}
+use Rattle.spool_laws.proofs.Adding.{sum_less, sum_more, sum_same, up_less, up_one, has_left, has_up_to}
 use Rattle.spool_laws.proofs.Told.{failed_of, removed_of, used, failed_one, reserved}
 
 -- a job of which a page was handed was accepted
@@ -22,24 +24,24 @@ use Rattle.spool_laws.proofs.Told.{failed_of, removed_of, used, failed_one, rese
 abbrev pub Accepted : {C : Type 0} → List (Event C) → ℕ → Type 0
 Accepted h j = (o : Opening) × Has o (openings h) × (o.job ≡ j)
 
-accepted_step : {C : Type 0} (size : C → ℕ) (c : Config) (h : List (Event C)) (e : Event C) → IsLegal size c h → May size (now c h) e → ((j : ℕ) → 0 < handed_at h j → Accepted h j) → (j : ℕ) → 0 < handed_at (e ∷ h) j → Accepted (e ∷ h) j
-accepted_step size c h (Opened k s q) l m a j pos =
+accepted_step : {C : Type 0} (size : C → ℕ) (c : Config) (base : Base) (h : List (Event C)) (e : Event C) → IsLegal size c base h → May size (now c base h) e → ((j : ℕ) → 0 < handed_at h j → Accepted h j) → (j : ℕ) → 0 < handed_at (e ∷ h) j → Accepted (e ∷ h) j
+accepted_step size c base h (Opened k s q) l m a j pos =
     let o = a j pos in
     (o.0, has_left o.0 (openings h) (record { job = k; sender = s; queue = q } ∷ []) o.1, o.2)
-accepted_step size c h (OfJob k act) l m a j pos = a j pos
-accepted_step size c h (AtPrinter p sheet Handed) l m a j pos = elim (test sheet.job j) [
-  | inl s ↦ (let t = (turn_of_page c h p sheet m.0.0 m.0.1 m.1).at in (record { job = sheet.job; sender = t.sender; queue = t.queue }, t.there, s.0))
+accepted_step size c base h (OfJob k act) l m a j pos = a j pos
+accepted_step size c base h (AtPrinter p sheet Handed) l m a j pos = elim (test sheet.job j) [
+  | inl s ↦ (let t = (turn_of_page c base h p sheet m.0.0 m.0.1 m.1).at in (record { job = sheet.job; sender = t.sender; queue = t.queue }, t.there, s.0))
   | inr s ↦ a j (let n = ap length (handed_more h p sheet j s.0) in omega arith)
 ]
-accepted_step size c h (AtPrinter p sheet (Printed x)) l m a j pos = a j (let n = ap length (handed_same h p sheet (Printed x) j refl) in omega arith)
-accepted_step size c h (AtPrinter p sheet Failed) l m a j pos = a j (let n = ap length (handed_same h p sheet Failed j refl) in omega arith)
-accepted_step size c h (Removed q jobs) l m a j pos = a j pos
-accepted_step size c h (Started q) l m a j pos = a j pos
-accepted_step size c h Closed l m a j pos = a j pos
+accepted_step size c base h (AtPrinter p sheet (Printed x)) l m a j pos = a j (let n = ap length (handed_same h p sheet (Printed x) j refl) in omega arith)
+accepted_step size c base h (AtPrinter p sheet Failed) l m a j pos = a j (let n = ap length (handed_same h p sheet Failed j refl) in omega arith)
+accepted_step size c base h (Removed q jobs) l m a j pos = a j pos
+accepted_step size c base h (Started q) l m a j pos = a j pos
+accepted_step size c base h Closed l m a j pos = a j pos
 
-pub accepted : {C : Type 0} (size : C → ℕ) (c : Config) (h : List (Event C)) → IsLegal size c h → (j : ℕ) → 0 < handed_at h j → Accepted h j
-accepted size c [] l j pos = absurd (omega arith)
-accepted size c (e ∷ h) l j pos = accepted_step size c h e l.1 l.0 (accepted size c h l.1) j pos
+pub accepted : {C : Type 0} (size : C → ℕ) (c : Config) (base : Base) (h : List (Event C)) → IsLegal size c base h → (j : ℕ) → 0 < handed_at h j → Accepted h j
+accepted size c base [] l j pos = absurd (omega arith)
+accepted size c base (e ∷ h) l j pos = accepted_step size c base h e l.1 l.0 (accepted size c base h l.1) j pos
 
 -- what is told of one job more
 
@@ -108,11 +110,11 @@ any_first k j ks e = elim (test k j) [ inl s ↦ rw s.1 refl | inr s ↦ absurd 
 
 -- how many printers are stopped
 
-abbrev stop : {C : Type 0} → Config → List (Event C) → ℕ → ℕ
-stop c h p = one_if (is_stopped_at h (queue_of c p) p)
+abbrev stop : {C : Type 0} → Config → Base → List (Event C) → ℕ → ℕ
+stop c base h p = one_if (is_stopped_at base h (queue_of c p) p)
 
-abbrev stops : {C : Type 0} → Config → List (Event C) → ℕ
-stops c h = sum_by (stop c h) (up_to (printer_count c))
+abbrev stops : {C : Type 0} → Config → Base → List (Event C) → ℕ
+stops c base h = sum_by (stop c base h) (up_to (printer_count c))
 
 abbrev used_by : {C : Type 0} → List (Event C) → Opening → ℕ
 used_by h o = used h o.job
@@ -120,109 +122,113 @@ used_by h o = used h o.job
 abbrev all_used : {C : Type 0} → List (Event C) → List Opening → ℕ
 all_used h os = sum_by (used_by h) os
 
-stop_same : {C : Type 0} (c : Config) (h : List (Event C)) (r : ℕ) (sheet : Sheet C) (turn : Turn) (p : ℕ) → is_failed turn ≡ false → stop c (AtPrinter r sheet turn ∷ h) p ≤ stop c h p
-stop_same c h r sheet turn p e =
-    let n : stop c (AtPrinter r sheet turn ∷ h) p ≡ stop c h p = elim (test r p) [ inl s ↦ rw (s.1, e) refl | inr s ↦ rw s.1 refl ] in
+stop_same : {C : Type 0} (c : Config) (base : Base) (h : List (Event C)) (r : ℕ) (sheet : Sheet C) (turn : Turn) (p : ℕ) → is_failed turn ≡ false → stop c base (AtPrinter r sheet turn ∷ h) p ≤ stop c base h p
+stop_same c base h r sheet turn p e =
+    let n : stop c base (AtPrinter r sheet turn ∷ h) p ≡ stop c base h p = elim (test r p) [ inl s ↦ rw (s.1, e) refl | inr s ↦ rw s.1 refl ] in
     omega arith
 
-stop_other : {C : Type 0} (c : Config) (h : List (Event C)) (r : ℕ) (sheet : Sheet C) (turn : Turn) (p : ℕ) → p ≢ r → stop c (AtPrinter r sheet turn ∷ h) p ≤ stop c h p
-stop_other c h r sheet turn p ne =
-    let n : stop c (AtPrinter r sheet turn ∷ h) p ≡ stop c h p = elim (test r p) [ inl s ↦ absurd (ne (sym s.0)) | inr s ↦ rw s.1 refl ] in
+stop_other : {C : Type 0} (c : Config) (base : Base) (h : List (Event C)) (r : ℕ) (sheet : Sheet C) (turn : Turn) (p : ℕ) → p ≢ r → stop c base (AtPrinter r sheet turn ∷ h) p ≤ stop c base h p
+stop_other c base h r sheet turn p ne =
+    let n : stop c base (AtPrinter r sheet turn ∷ h) p ≡ stop c base h p = elim (test r p) [ inl s ↦ absurd (ne (sym s.0)) | inr s ↦ rw s.1 refl ] in
     omega arith
 
-stop_started : {C : Type 0} (c : Config) (h : List (Event C)) (q p : ℕ) → stop c (Started q ∷ h) p ≤ stop c h p
-stop_started c h q p = elim (test q (queue_of c p)) [
-  | inl s ↦ (let n : stop c (Started q ∷ h) p ≡ 0 = rw s.1 refl in omega arith)
-  | inr s ↦ (let n : stop c (Started q ∷ h) p ≡ stop c h p = rw s.1 refl in omega arith)
+stop_started : {C : Type 0} (c : Config) (base : Base) (h : List (Event C)) (q p : ℕ) → stop c base (Started q ∷ h) p ≤ stop c base h p
+stop_started c base h q p = elim (test q (queue_of c p)) [
+  | inl s ↦ (let n : stop c base (Started q ∷ h) p ≡ 0 = rw s.1 refl in omega arith)
+  | inr s ↦ (let n : stop c base (Started q ∷ h) p ≡ stop c base h p = rw s.1 refl in omega arith)
 ]
 
-starts_one : {C : Type 0} (c : Config) (h : List (Event C)) (q p : ℕ) → queue_of c p ≡ q → is_stopped_at h (queue_of c p) p ≡ true → stop c (Started q ∷ h) p + 1 ≤ stop c h p
-starts_one c h q p e is = elim (test q (queue_of c p)) [
-  | inl s ↦ (let n : stop c (Started q ∷ h) p ≡ 0 = rw s.1 refl in let m : stop c h p ≡ 1 = ap one_if is in omega arith)
+starts_one : {C : Type 0} (c : Config) (base : Base) (h : List (Event C)) (q p : ℕ) → queue_of c p ≡ q → is_stopped_at base h (queue_of c p) p ≡ true → stop c base (Started q ∷ h) p + 1 ≤ stop c base h p
+starts_one c base h q p e is = elim (test q (queue_of c p)) [
+  | inl s ↦ (let n : stop c base (Started q ∷ h) p ≡ 0 = rw s.1 refl in let m : stop c base h p ≡ 1 = ap one_if is in omega arith)
   | inr s ↦ absurd (s.0 (sym e))
 ]
 
 -- the entries and the stopped printers are among what is told of the jobs, and the close
-abbrev Told' : {C : Type 0} → Config → List (Event C) → Type 0
-Told' c h = length h + stops c h ≤ all_used h (openings h) + one_if (is_closed h)
+abbrev Told' : {C : Type 0} → Config → Base → List (Event C) → Type 0
+Told' c base h = length h + stops c base h ≤ base.reserved + all_used h (openings h) + one_if (is_closed base h)
 
-act_told : {C : Type 0} (c : Config) (h : List (Event C)) (k : ℕ) (act : Act C) (P : Job C → Type 0) → At h k P → Told' c h → Told' c (OfJob k act ∷ h)
-act_told c h k act P a t =
+act_told : {C : Type 0} (c : Config) (base : Base) (h : List (Event C)) (k : ℕ) (act : Act C) (P : Job C → Type 0) → At h k P → Told' c base h → Told' c base (OfJob k act ∷ h)
+act_told c base h k act P a t =
     let s = sum_more (used_by h) (used_by (OfJob k act ∷ h)) 1 (record { job = k; sender = a.sender; queue = a.queue }) (openings h) a.there (λ o. more_act h k act o.job) (one_act h k act k refl) in
     omega arith
 
-opened_told : {C : Type 0} (c : Config) (h : List (Event C)) (k s q : ℕ) → Told' c h → Told' c (Opened k s q ∷ h)
-opened_told {C} c h k s q t =
+opened_told : {C : Type 0} (c : Config) (base : Base) (h : List (Event C)) (k s q : ℕ) → Told' c base h → Told' c base (Opened k s q ∷ h)
+opened_told {C} c base h k s q t =
     let e : Event C = Opened k s q in
     let x : Opening = record { job = k; sender = s; queue = q } in
     let p = sum_by_push (used_by (e ∷ h)) (openings h) x in
     let m = sum_less (used_by h) (used_by (e ∷ h)) (openings h) (λ o has. omega arith) in
     omega arith
 
-turn_told : {C : Type 0} (c : Config) (h : List (Event C)) (p : ℕ) (sheet : Sheet C) (turn : Turn) (o : Opening) → Has o (openings h) → is_failed turn ≡ false → ((j : ℕ) → used h j ≤ used (AtPrinter p sheet turn ∷ h) j) → used h o.job + 1 ≤ used (AtPrinter p sheet turn ∷ h) o.job → Told' c h → Told' c (AtPrinter p sheet turn ∷ h)
-turn_told c h p sheet turn o has is le one t =
+turn_told : {C : Type 0} (c : Config) (base : Base) (h : List (Event C)) (p : ℕ) (sheet : Sheet C) (turn : Turn) (o : Opening) → Has o (openings h) → is_failed turn ≡ false → ((j : ℕ) → used h j ≤ used (AtPrinter p sheet turn ∷ h) j) → used h o.job + 1 ≤ used (AtPrinter p sheet turn ∷ h) o.job → Told' c base h → Told' c base (AtPrinter p sheet turn ∷ h)
+turn_told c base h p sheet turn o has is le one t =
     let s = sum_more (used_by h) (used_by (AtPrinter p sheet turn ∷ h)) 1 o (openings h) has (λ x. le x.job) one in
-    let z = up_less (stop c h) (stop c (AtPrinter p sheet turn ∷ h)) (printer_count c) (λ q. stop_same c h p sheet turn q is) in
+    let z = up_less (stop c base h) (stop c base (AtPrinter p sheet turn ∷ h)) (printer_count c) (λ q. stop_same c base h p sheet turn q is) in
     omega arith
 
-failed_told : {C : Type 0} (c : Config) (h : List (Event C)) (p : ℕ) (sheet : Sheet C) (o : Opening) → Has o (openings h) → sheet.job ≡ o.job → Told' c h → Told' c (AtPrinter p sheet Failed ∷ h)
-failed_told c h p sheet o has same t =
+failed_told : {C : Type 0} (c : Config) (base : Base) (h : List (Event C)) (p : ℕ) (sheet : Sheet C) (o : Opening) → Has o (openings h) → sheet.job ≡ o.job → Told' c base h → Told' c base (AtPrinter p sheet Failed ∷ h)
+failed_told c base h p sheet o has same t =
     let s = sum_more (used_by h) (used_by (AtPrinter p sheet Failed ∷ h)) 2 o (openings h) has (λ x. more_back h p sheet Failed refl x.job) (two_failed h p sheet o.job same) in
-    let one = one_le (is_stopped_at (AtPrinter p sheet Failed ∷ h) (queue_of c p) p) in
-    let z = up_one (stop c h) (stop c (AtPrinter p sheet Failed ∷ h)) p (printer_count c) (λ q ne. stop_other c h p sheet Failed q ne) (omega arith) in
+    let one = one_le (is_stopped_at base (AtPrinter p sheet Failed ∷ h) (queue_of c p) p) in
+    let z = up_one (stop c base h) (stop c base (AtPrinter p sheet Failed ∷ h)) p (printer_count c) (λ q ne. stop_other c base h p sheet Failed q ne) (omega arith) in
     omega arith
 
-removed_told : {C : Type 0} (c : Config) (h : List (Event C)) (P : Job C → Type 0) (q : ℕ) (jobs : List ℕ) → 0 < length jobs → AllByRecursion (λ k. HasJob (now c h).jobs k P) jobs → Told' c h → Told' c (Removed q jobs ∷ h)
-removed_told c h P q [] pos all t = absurd (omega arith)
-removed_told {C} c h P q (k ∷ ks) pos all t =
-    let a = has_at c h k P all.0 in
+removed_told : {C : Type 0} (c : Config) (base : Base) (h : List (Event C)) (P : Job C → Type 0) (q : ℕ) (jobs : List ℕ) → 0 < length jobs → AllByRecursion (λ k. HasJob (now c base h).jobs k P) jobs → Told' c base h → Told' c base (Removed q jobs ∷ h)
+removed_told c base h P q [] pos all t = absurd (omega arith)
+removed_told {C} c base h P q (k ∷ ks) pos all t =
+    let a = has_at c base h k P all.0 in
     let le : (o : Opening) → used h o.job ≤ used (Removed q (k ∷ ks) ∷ h) o.job = λ o. (let m = more_removed h q (k ∷ ks) o.job (list_any (λ (i : ℕ). i == o.job) (k ∷ ks)) refl in omega arith) in
     let one : used h k + 1 ≤ used (Removed q (k ∷ ks) ∷ h) k = more_removed h q (k ∷ ks) k true (any_first k k ks refl) in
     let s = sum_more (used_by h) (used_by (Removed q (k ∷ ks) ∷ h)) 1 (record { job = k; sender = a.sender; queue = a.queue }) (openings h) a.there le one in
     omega arith
 
-started_told : {C : Type 0} (c : Config) (h : List (Event C)) (q p : ℕ) → 1 ≤ p → p ≤ printer_count c → queue_of c p ≡ q → is_stopped_at h (queue_of c p) p ≡ true → Told' c h → Told' c (Started q ∷ h)
-started_told c h q p one le e is t =
-    let s = sum_more (stop c (Started q ∷ h)) (stop c h) 1 p (up_to (printer_count c)) (has_up_to p (printer_count c) one le) (λ r. stop_started c h q r) (starts_one c h q p e is) in
+started_told : {C : Type 0} (c : Config) (base : Base) (h : List (Event C)) (q p : ℕ) → 1 ≤ p → p ≤ printer_count c → queue_of c p ≡ q → is_stopped_at base h (queue_of c p) p ≡ true → Told' c base h → Told' c base (Started q ∷ h)
+started_told c base h q p one le e is t =
+    let s = sum_more (stop c base (Started q ∷ h)) (stop c base h) 1 p (up_to (printer_count c)) (has_up_to p (printer_count c) one le) (λ r. stop_started c base h q r) (starts_one c base h q p e is) in
     let m = sum_less (used_by h) (used_by (Started q ∷ h)) (openings h) (λ o has. omega arith) in
     omega arith
 
-closed_told : {C : Type 0} (c : Config) (h : List (Event C)) → is_closed h ≡ false → Told' c h → Told' c (Closed ∷ h)
-closed_told c h e t =
-    let z : one_if (is_closed h) ≡ 0 = ap one_if e in
+closed_told : {C : Type 0} (c : Config) (base : Base) (h : List (Event C)) → is_closed base h ≡ false → Told' c base h → Told' c base (Closed ∷ h)
+closed_told c base h e t =
+    let z : one_if (is_closed base h) ≡ 0 = ap one_if e in
     let m = sum_less (used_by h) (used_by (Closed ∷ h)) (openings h) (λ o has. omega arith) in
     omega arith
 
 abbrev pub no_events : (C : Type 0) → List (Event C)
 no_events C = []
 
-told_step : {C : Type 0} (size : C → ℕ) (c : Config) (h : List (Event C)) (e : Event C) → IsLegal size c h → May size (now c h) e → Told' c h → Told' c (e ∷ h)
-told_step size c h (Opened k s q) l m t = opened_told c h k s q t
-told_step size c h (OfJob k act) l m t = act_told c h k act _ (has_at c h k _ m.0) t
-told_step size c h (AtPrinter p sheet Handed) l m t =
-    let a = (turn_of_page c h p sheet m.0.0 m.0.1 m.1).at in
-    turn_told c h p sheet Handed (record { job = sheet.job; sender = a.sender; queue = a.queue }) a.there refl (more_handed h p sheet) (one_handed h p sheet sheet.job refl) t
-told_step size c h (AtPrinter p sheet (Printed x)) l m t =
-    let n = ((facts size c h l).out p sheet (is_out c h p sheet m.0 m.1.0)).1 in
-    let o = accepted size c h l sheet.job (omega arith) in
-    turn_told c h p sheet (Printed x) o.0 o.1 refl (more_back h p sheet (Printed x) refl) (one_back h p sheet (Printed x) refl o.0.job (sym o.2)) t
-told_step size c h (AtPrinter p sheet Failed) l m t =
-    let n = ((facts size c h l).out p sheet (is_out c h p sheet m.0 m.1)).1 in
-    let o = accepted size c h l sheet.job (omega arith) in
-    failed_told c h p sheet o.0 o.1 (sym o.2) t
-told_step size c h (Removed q jobs) l m t = removed_told c h _ q jobs m.2 m.4 t
-told_step {C} size c h (Started q) l m t =
-    let here = at_printer c h m.2 m.3.0 m.3.1 in
-    started_told c h q m.2 m.3.0 m.3.1 (sym (ap (λ (x : Printer C). x.queue) here) ∙ m.4.0) (sym (ap (λ (x : Printer C). x.stopped) here) ∙ m.4.1) t
-told_step size c h Closed l m t = closed_told c h m t
+told_step : {C : Type 0} (size : C → ℕ) (c : Config) (base : Base) (h : List (Event C)) (e : Event C) → IsLegal size c base h → May size (now c base h) e → Told' c base h → Told' c base (e ∷ h)
+told_step size c base h (Opened k s q) l m t = opened_told c base h k s q t
+told_step size c base h (OfJob k act) l m t = act_told c base h k act _ (has_at c base h k _ m.0) t
+told_step size c base h (AtPrinter p sheet Handed) l m t =
+    let a = (turn_of_page c base h p sheet m.0.0 m.0.1 m.1).at in
+    turn_told c base h p sheet Handed (record { job = sheet.job; sender = a.sender; queue = a.queue }) a.there refl (more_handed h p sheet) (one_handed h p sheet sheet.job refl) t
+told_step size c base h (AtPrinter p sheet (Printed x)) l m t =
+    let n = ((facts size c base h l).out p sheet (is_out c base h p sheet m.0 m.1.0)).1 in
+    let o = accepted size c base h l sheet.job (omega arith) in
+    turn_told c base h p sheet (Printed x) o.0 o.1 refl (more_back h p sheet (Printed x) refl) (one_back h p sheet (Printed x) refl o.0.job (sym o.2)) t
+told_step size c base h (AtPrinter p sheet Failed) l m t =
+    let n = ((facts size c base h l).out p sheet (is_out c base h p sheet m.0 m.1)).1 in
+    let o = accepted size c base h l sheet.job (omega arith) in
+    failed_told c base h p sheet o.0 o.1 (sym o.2) t
+told_step size c base h (Removed q jobs) l m t = removed_told c base h _ q jobs m.2 m.4 t
+told_step {C} size c base h (Started q) l m t =
+    let here = at_printer c base h m.2 m.3.0 m.3.1 in
+    started_told c base h q m.2 m.3.0 m.3.1 (sym (ap (λ (x : Printer C). x.queue) here) ∙ m.4.0) (sym (ap (λ (x : Printer C). x.stopped) here) ∙ m.4.1) t
+told_step size c base h Closed l m t = closed_told c base h m t
 
-told_of : {C : Type 0} (size : C → ℕ) (c : Config) (h : List (Event C)) → IsLegal size c h → Told' c h
-told_of {C} size c [] l = let z = up_none (stop c (no_events C)) (printer_count c) (λ p. refl) in omega arith
-told_of size c (e ∷ h) l = told_step size c h e l.1 l.0 (told_of size c h l.1)
+told_of : {C : Type 0} (size : C → ℕ) (c : Config) (base : Base) (h : List (Event C)) → CountsStops c base → IsLegal size c base h → Told' c base h
+told_of {C} size c base [] k l = (let z = sum_same (stop c base (no_events C)) (λ (p : ℕ). cond (was_stopped base p) 1 0) (up_to (printer_count c)) (λ p. one_is (was_stopped base p)) in omega arith)
+  where
+    one_is : (b : Bool) → one_if b ≡ cond b 1 0
+    one_is true = refl
+    one_is false = refl
+told_of size c base (e ∷ h) k l = told_step size c base h e l.1 l.0 (told_of size c base h k l.1)
 
-pub reserve_is_enough : {C : Type 0} (size : C → ℕ) (c : Config) (h : List (Event C)) → IsLegal size c h → length h ≤ (now c h).reserved + 1
-reserve_is_enough size c h l =
-    let t = told_of size c h l in
-    let s = sum_less (used_by h) (λ (o : Opening). reserve_of c o.queue) (openings h) (λ o has. reserved size c h l o has) in
-    let one = one_le (is_closed h) in
+pub reserve_is_enough : {C : Type 0} (size : C → ℕ) (c : Config) (base : Base) (h : List (Event C)) → CountsStops c base → IsLegal size c base h → length h ≤ (now c base h).reserved + 1
+reserve_is_enough size c base h k l =
+    let t = told_of size c base h k l in
+    let s = sum_less (used_by h) (λ (o : Opening). reserve_of c o.queue) (openings h) (λ o has. reserved size c base h l o has) in
+    let one = one_le (is_closed base h) in
     omega arith

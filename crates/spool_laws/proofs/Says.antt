@@ -2,6 +2,7 @@
 use Rattle.std.proofs.Common.{◌≡◌, ◌==◌, ℕ, ◌+◌, Bool, true, false, List, [], ◌∷◌, length, refl, sym, ◌∙◌, subst, arith}
 use Rattle.std.specs.Prelude.{◌↔◌, cond}
 use Rattle.std.proofs.lemmas.Bool.Decides.{nat_tests}
+use Rattle.spool_history.specs.Base.{Base}
 use Rattle.spool_history.specs.Events.{Event, Sheet, Progress}
 use Rattle.spool_history.specs.Events.Progress.{Going, Done, Ended}
 use Rattle.spool_history.specs.Events.Turn.{Handed, Printed, Failed}
@@ -24,10 +25,10 @@ ended_by true b x e = (λ d. refl, λ d. e)
 ended_by false true x e = (λ d. absurd (cc (sym e ∙ d)), λ d. absurd cc)
 ended_by false false x e = (λ d. absurd (cc (sym e ∙ d)), λ d. absurd cc)
 
-pub says : {C : Type 0} (size : C → ℕ) (c : Config) (h : List (Event C)) (p : ℕ) (sheet : Sheet C) (x : Progress) → IsLegal size c h → May size (now c h) (AtPrinter p sheet (Printed x)) → SaysWhatIs h sheet x
-says {C} size c h p sheet x l m =
-    let a : At h sheet.job (λ (v : Job C). x ≡ progress_of v) = has_at c h sheet.job (λ v. x ≡ progress_of v) m.1.1 in
-    let place : sheet.place ≡ back_of h sheet.job = ((facts size c h l).out p sheet (is_out c h p sheet m.0 m.1.0)).2 in
+pub says : {C : Type 0} (size : C → ℕ) (c : Config) (base : Base) (h : List (Event C)) (p : ℕ) (sheet : Sheet C) (x : Progress) → IsLegal size c base h → May size (now c base h) (AtPrinter p sheet (Printed x)) → SaysWhatIs h sheet x
+says {C} size c base h p sheet x l m =
+    let a : At h sheet.job (λ (v : Job C). x ≡ progress_of v) = has_at c base h sheet.job (λ v. x ≡ progress_of v) m.1.1 in
+    let place : sheet.place ≡ back_of h sheet.job = ((facts size c base h l).out p sheet (is_out c base h p sheet m.0 m.1.0)).2 in
     let is : x ≡ cond (has_ended h sheet.job) Ended (cond (sheet.place + 1 == length (places_of h sheet.job)) Done Going) =
     subst (λ (n : ℕ). x ≡ cond (has_ended h sheet.job) Ended (cond (n + 1 == length (places_of h sheet.job)) Done Going)) (sym place) a.is in
     record {
@@ -35,13 +36,13 @@ says {C} size c h p sheet x l m =
       ended = ended_by (has_ended h sheet.job) (sheet.place + 1 == length (places_of h sheet.job)) x is;
     }
 
-pub each_says : {C : Type 0} (size : C → ℕ) (c : Config) (h : List (Event C)) → IsLegal size c h → EachPrinted SaysWhatIs h
-each_says size c [] l = tt
-each_says size c (Opened k s q ∷ h) l = each_says size c h l.1
-each_says size c (OfJob k act ∷ h) l = each_says size c h l.1
-each_says size c (AtPrinter p sheet Handed ∷ h) l = each_says size c h l.1
-each_says size c (AtPrinter p sheet (Printed x) ∷ h) l = (says size c h p sheet x l.1 l.0, each_says size c h l.1)
-each_says size c (AtPrinter p sheet Failed ∷ h) l = each_says size c h l.1
-each_says size c (Removed q jobs ∷ h) l = each_says size c h l.1
-each_says size c (Started q ∷ h) l = each_says size c h l.1
-each_says size c (Closed ∷ h) l = each_says size c h l.1
+pub each_says : {C : Type 0} (size : C → ℕ) (c : Config) (base : Base) (h : List (Event C)) → IsLegal size c base h → EachPrinted SaysWhatIs h
+each_says size c base [] l = tt
+each_says size c base (Opened k s q ∷ h) l = each_says size c base h l.1
+each_says size c base (OfJob k act ∷ h) l = each_says size c base h l.1
+each_says size c base (AtPrinter p sheet Handed ∷ h) l = each_says size c base h l.1
+each_says size c base (AtPrinter p sheet (Printed x) ∷ h) l = (says size c base h p sheet x l.1 l.0, each_says size c base h l.1)
+each_says size c base (AtPrinter p sheet Failed ∷ h) l = each_says size c base h l.1
+each_says size c base (Removed q jobs ∷ h) l = each_says size c base h l.1
+each_says size c base (Started q ∷ h) l = each_says size c base h l.1
+each_says size c base (Closed ∷ h) l = each_says size c base h l.1

@@ -9,6 +9,7 @@ use Rattle.claims.specs.declared.row.Row.{Row}
 use Rattle.claims.specs.Safety.{freed, KeepsLine, same_line, HasFinishingOrder}
 use Rattle.claims.proofs.Orders.{MayGo, safe_more, safe_without, safe_first}
 use Rattle.std.proofs.lemmas.Bool.{and_parts}
+use Rattle.spool_history.specs.Base.{Base}
 use Rattle.spool_history.specs.Events.{Event, Sheet}
 use Rattle.spool_history.specs.Events.Act.{Granted, Began, Put, FileEnded, Controlled, Aborted}
 use Rattle.spool_history.specs.Events.Turn.{Handed, Printed, Failed}
@@ -53,22 +54,22 @@ quiet_accepts (Removed q jobs) is = refl
 quiet_accepts (Started q) is = refl
 quiet_accepts Closed is = refl
 
-jobs_after : {C : Type 0} (size : C → ℕ) (c : Config) (h : List (Event C)) (e : Event C) → IsLegal size c h → May size (now c h) e → accepted_by e ≡ [] → (now c (e ∷ h)).jobs ≡ left (change e) (now c h).jobs
-jobs_after {C} size c h e l m none =
-    ap (λ (v : State C). v.jobs) (moved size c h e l m) ∙ (ap (λ (r : List (Job C)). left (change e) (now c h).jobs ++ r) none ∙ append-nil (left (change e) (now c h).jobs))
+jobs_after : {C : Type 0} (size : C → ℕ) (c : Config) (base : Base) (h : List (Event C)) (e : Event C) → IsLegal size c base h → May size (now c base h) e → accepted_by e ≡ [] → (now c base (e ∷ h)).jobs ≡ left (change e) (now c base h).jobs
+jobs_after {C} size c base h e l m none =
+    ap (λ (v : State C). v.jobs) (moved size c base h e l m) ∙ (ap (λ (r : List (Job C)). left (change e) (now c base h).jobs ++ r) none ∙ append-nil (left (change e) (now c base h).jobs))
 
 all_of : {X : Type 0} (P : X → Type 0) (xs : List X) → ((x : X) → Has x xs → P x) → AllByRecursion P xs
 all_of P [] f = tt
 all_of P (x ∷ xs) f = (f x (inl refl), all_of P xs (λ y t. f y (inr t)))
 
-quiet : {C : Type 0} (size : C → ℕ) (c : Config) (h : List (Event C)) (e : Event C) → is_quiet e ≡ true → IsLegal size c h → May size (now c h) e → IsGood c (now c h).jobs → IsGood c (now c (e ∷ h)).jobs
-quiet {C} size c h e is l m s =
-    let jobs = (now c h).jobs in
+quiet : {C : Type 0} (size : C → ℕ) (c : Config) (base : Base) (h : List (Event C)) (e : Event C) → is_quiet e ≡ true → IsLegal size c base h → May size (now c base h) e → IsGood c (now c base h).jobs → IsGood c (now c base (e ∷ h)).jobs
+quiet {C} size c base h e is l m s =
+    let jobs = (now c base h).jobs in
     let later = left (change e) jobs in
     let P : Job C → Type 0 = λ (v : Job C). is_held (change e v) ≡ true → Lower (row_of c v) (row_of c (change e v)) in
-    let each : Lowers (row_of c) (change e) jobs = all_of P jobs (λ v has. (let k = known c h v has in subst P (sym k.is) (λ held. lowers_all size c h e is l m k.opening k.there))) in
-    let j = jobs_after size c h e l m (quiet_accepts e is) in
-    let room = kind_within size c h l in
+    let each : Lowers (row_of c) (change e) jobs = all_of P jobs (λ v has. (let k = known c base h v has in subst P (sym k.is) (λ held. lowers_all size c base h e is l m k.opening k.there))) in
+    let j = jobs_after size c base h e l m (quiet_accepts e is) in
+    let room = kind_within size c base h l in
     let good : IsGood c later = lowers (row_of c) (change e) jobs each [] (free c jobs) (free c later) (λ k. let r = room k in omega arith) s in
     subst (λ (r : List (Job C)). IsGood c r) (sym j) good
 
@@ -117,16 +118,16 @@ split {C} g (y ∷ us) w has r same held now' = elim has [
       }
 ]
 
-held_jobs : {C : Type 0} (c : Config) (h : List (Event C)) (u : Job C) → Has u (now c h).jobs → is_held u ≡ true
-held_jobs c h u has = (known c h u has).held
+held_jobs : {C : Type 0} (c : Config) (base : Base) (h : List (Event C)) (u : Job C) → Has u (now c base h).jobs → is_held u ≡ true
+held_jobs c base h u has = (known c base h u has).held
 
 holds_at : {C : Type 0} (c : Config) (k : ℕ) (a b : List (Job C)) (w : Job C) → holds k (rows c (a ++ w ∷ b)) ≡ holds k (rows c a) + (amount (row_of c w).held k + holds k (rows c b))
 holds_at c k a b w = ap (holds k) (map-append (row_of c) a (w ∷ b)) ∙ holds_append k (rows c a) (rows c (w ∷ b))
 
 -- a page is lent
 
-granted : {C : Type 0} (size : C → ℕ) (c : Config) (h : List (Event C)) (k : ℕ) → IsLegal size c h → May size (now c h) (OfJob k Granted) → IsGood c (now c (OfJob k Granted ∷ h)).jobs
-granted {C} size c h k l m = of_safe (now c (OfJob k Granted ∷ h)) (subst (λ (v : State C). IsSafeNow v) (sym (moved size c h (OfJob k Granted) l m)) m.1.1)
+granted : {C : Type 0} (size : C → ℕ) (c : Config) (base : Base) (h : List (Event C)) (k : ℕ) → IsLegal size c base h → May size (now c base h) (OfJob k Granted) → IsGood c (now c base (OfJob k Granted ∷ h)).jobs
+granted {C} size c base h k l m = of_safe (now c base (OfJob k Granted ∷ h)) (subst (λ (v : State C). IsSafeNow v) (sym (moved size c base h (OfJob k Granted) l m)) m.1.1)
 
 -- a job is accepted
 
@@ -159,17 +160,17 @@ all_rows : {C : Type 0} (P : Row → Type 0) (row : Job C → Row) (us : List (J
 all_rows P row [] f = tt
 all_rows P row (u ∷ us) f = (f u (inl refl), all_rows P row us (λ v t. f v (inr t)))
 
-opened : {C : Type 0} (size : C → ℕ) (c : Config) (h : List (Event C)) (k s q : ℕ) → EachCouldFinish c → IsLegal size c h → May size (now c h) (Opened k s q) → IsGood c (now c h).jobs → IsGood c (now c (Opened k s q ∷ h)).jobs
-opened {C} size c h k s q each l m st =
+opened : {C : Type 0} (size : C → ℕ) (c : Config) (base : Base) (h : List (Event C)) (k s q : ℕ) → EachCouldFinish c → IsLegal size c base h → May size (now c base h) (Opened k s q) → IsGood c (now c base h).jobs → IsGood c (now c base (Opened k s q ∷ h)).jobs
+opened {C} size c base h k s q each l m st =
     let e : Event C = Opened k s q in
-    let jobs = (now c h).jobs in
+    let jobs = (now c base h).jobs in
     let w : Job C = new_job k s q in
     let x = row_of c w in
-    let same : left (change e) jobs ≡ jobs = left_same (change e) jobs (λ u has. (refl, held_jobs c h u has)) in
-    let j : (now c (e ∷ h)).jobs ≡ jobs ++ w ∷ [] = ap (λ (v : State C). v.jobs) (moved size c h e l m) ∙ ap (λ (r : List (Job C)). r ++ w ∷ []) same in
+    let same : left (change e) jobs ≡ jobs = left_same (change e) jobs (λ u has. (refl, held_jobs c base h u has)) in
+    let j : (now c base (e ∷ h)).jobs ≡ jobs ++ w ∷ [] = ap (λ (v : State C). v.jobs) (moved size c base h e l m) ∙ ap (λ (r : List (Job C)). r ++ w ∷ []) same in
     let line : AllByRecursion (λ z. KeepsLine z x) (rows c jobs) = all_rows (λ z. KeepsLine z x) (row_of c) jobs (λ u has _.
-    (let kn = known c h u has in
-    let n = (facts size c h l).numbers kn.opening kn.there in
+    (let kn = known c base h u has in
+    let n = (facts size c base h l).numbers kn.opening kn.there in
     let u' : u.number ≡ kn.opening.job = ap (λ (v : Job C). v.number) kn.is in
     let new = m.4 in
     omega arith)) in
@@ -199,14 +200,14 @@ contains_at x (y ∷ ys) has = elim has [
 ]
 
 -- of its sender and queue each other held job has a higher number
-line_of : {C : Type 0} (size : C → ℕ) (c : Config) (h : List (Event C)) (sheet : Sheet C) → IsLegal size c h → (o : Opening) → Has o (openings h) → o.job ≡ sheet.job → EarlierAreGone h sheet
-    → (u : Job C) → Has u (now c h).jobs → u.number ≢ o.job → (o.sender ≡ u.sender) × (o.queue ≡ u.queue) → o.job < u.number
-line_of {C} size c h sheet l o there is gone u has ne line = by (nat_lt o.job u.number) refl
+line_of : {C : Type 0} (size : C → ℕ) (c : Config) (base : Base) (h : List (Event C)) (sheet : Sheet C) → IsLegal size c base h → (o : Opening) → Has o (openings h) → o.job ≡ sheet.job → EarlierAreGone h sheet
+    → (u : Job C) → Has u (now c base h).jobs → u.number ≢ o.job → (o.sender ≡ u.sender) × (o.queue ≡ u.queue) → o.job < u.number
+line_of {C} size c base h sheet l o there is gone u has ne line = by (nat_lt o.job u.number) refl
   where
     by : (b : Bool) → nat_lt o.job u.number ≡ b → o.job < u.number
     by true e = grind (arith, nat_tests)
     by false e =
-        let k = known c h u has in
+        let k = known c base h u has in
         let x = k.opening in
         let n : u.number ≡ x.job = ap (λ (v : Job C). v.number) k.is in
         let s : u.sender ≡ x.sender = ap (λ (v : Job C). v.sender) k.is in
@@ -217,12 +218,12 @@ line_of {C} size c h sheet l o there is gone u has ne line = by (nat_lt o.job u.
         let g : is_held (job_of h x) ≡ false = gone x o (contains_at x (openings h) k.there) (contains_at o (openings h) there) is lt (sym s ∙ sym line.0) (sym q ∙ sym line.1) in
         absurd (clash (is_held (job_of h x)) (subst (λ (v : Job C). is_held v ≡ true) k.is k.held) g)
 
-handed : {C : Type 0} (size : C → ℕ) (c : Config) (h : List (Event C)) (p : ℕ) (sheet : Sheet C) → IsLegal size c h → May size (now c h) (AtPrinter p sheet Handed) → IsGood c (now c h).jobs → IsGood c (now c (AtPrinter p sheet Handed ∷ h)).jobs
-handed {C} size c h p sheet l m st =
+handed : {C : Type 0} (size : C → ℕ) (c : Config) (base : Base) (h : List (Event C)) (p : ℕ) (sheet : Sheet C) → IsLegal size c base h → May size (now c base h) (AtPrinter p sheet Handed) → IsGood c (now c base h).jobs → IsGood c (now c base (AtPrinter p sheet Handed ∷ h)).jobs
+handed {C} size c base h p sheet l m st =
     let e : Event C = AtPrinter p sheet Handed in
-    let jobs = (now c h).jobs in
-    let f = facts size c h l in
-    let t = turn_of_page c h p sheet m.0.0 m.0.1 m.1 in
+    let jobs = (now c base h).jobs in
+    let f = facts size c base h l in
+    let t = turn_of_page c base h p sheet m.0.0 m.0.1 m.1 in
     let o : Opening = record { job = sheet.job; sender = t.at.sender; queue = t.at.queue } in
     let w = job_of h o in
     let w' : Job C = record w { handed = w.handed + 1 } in
@@ -231,8 +232,8 @@ handed {C} size c h p sheet l m st =
     let goes : w.ended ≡ false = t.at.is.goes_on in
     let received : is_received w ≡ true = elim t.why [ inl b ↦ received_if h sheet.job f (f.began p sheet.job b) | inr z ↦ z.1 ] in
     let held : is_held (change e w) ≡ true = subst (λ (v : Job C). is_held v ≡ true) (sym here) (rw goes refl) in
-    let sp = split (change e) jobs w (has_kept h o (openings h) t.at.held t.at.there) (rising_jobs size c h l) other (held_jobs c h) held in
-    let j : (now c (e ∷ h)).jobs ≡ sp.a ++ w' ∷ sp.b = jobs_after size c h e l m refl ∙ (sp.is ∙ ap (λ (v : Job C). sp.a ++ v ∷ sp.b) here) in
+    let sp = split (change e) jobs w (has_kept h o (openings h) t.at.held t.at.there) (rising_jobs size c base h l) other (held_jobs c base h) held in
+    let j : (now c base (e ∷ h)).jobs ≡ sp.a ++ w' ∷ sp.b = jobs_after size c base h e l m refl ∙ (sp.is ∙ ap (λ (v : Job C). sp.a ++ v ∷ sp.b) here) in
     let x = row_of c w in
     let y = row_of c w' in
     let more : (w.handed + 1 == 0) ≡ false = grind (arith, nat_tests) in
@@ -245,8 +246,8 @@ handed {C} size c h p sheet l m st =
     let none : (k : ℕ) → amount y.need k ≡ 0 = nothing_more c w' pg pn in
     let A = rows c sp.a in
     let B = rows c sp.b in
-    let gone = (each_in_order size c (e ∷ h) (m, l)).0 in
-    let line : AllByRecursion (KeepsLine y) (rows c (sp.a ++ sp.b)) = all_rows (KeepsLine y) (row_of c) (sp.a ++ sp.b) (λ u has tr. line_of size c h sheet l o t.at.there refl gone u (sp.others u has).0 (sp.others u has).1 (line_true (row_of c u) y tr)) in
+    let gone = (each_in_order size c base (e ∷ h) (m, l)).0 in
+    let line : AllByRecursion (KeepsLine y) (rows c (sp.a ++ sp.b)) = all_rows (KeepsLine y) (row_of c) (sp.a ++ sp.b) (λ u has tr. line_of size c base h sheet l o t.at.there refl gone u (sp.others u has).0 (sp.others u has).1 (line_true (row_of c u) y tr)) in
     let line' : AllByRecursion (KeepsLine y) (A ++ B) = subst (AllByRecursion (KeepsLine y)) (map-append (row_of c) sp.a sp.b) line in
     let m1 = map-append (row_of c) sp.a (w ∷ sp.b) in
     let m2 = map-append (row_of c) sp.a (w' ∷ sp.b) in
@@ -263,24 +264,24 @@ handed {C} size c h p sheet l m st =
     let good : IsGood c (sp.a ++ w' ∷ sp.b) = subst (HasFinishingOrder f') (sym m2) (safe_first f' A y B go g3) in
     subst (λ (r : List (Job C)). IsGood c r) (sym j) good
 
-step : {C : Type 0} (size : C → ℕ) (c : Config) (h : List (Event C)) (e : Event C) → EachCouldFinish c → IsLegal size c h → May size (now c h) e → IsGood c (now c h).jobs → IsGood c (now c (e ∷ h)).jobs
-step size c h (Opened k s q) each l m st = opened size c h k s q each l m st
-step size c h (OfJob k Granted) each l m st = granted size c h k l m
-step size c h (OfJob k (Began name count)) each l m st = quiet size c h (OfJob k (Began name count)) refl l m st
-step size c h (OfJob k (Put file number page)) each l m st = quiet size c h (OfJob k (Put file number page)) refl l m st
-step size c h (OfJob k (FileEnded file whole)) each l m st = quiet size c h (OfJob k (FileEnded file whole)) refl l m st
-step size c h (OfJob k (Controlled control whole)) each l m st = quiet size c h (OfJob k (Controlled control whole)) refl l m st
-step size c h (OfJob k Aborted) each l m st = quiet size c h (OfJob k Aborted) refl l m st
-step size c h (AtPrinter p sheet Handed) each l m st = handed size c h p sheet l m st
-step size c h (AtPrinter p sheet (Printed x)) each l m st = quiet size c h (AtPrinter p sheet (Printed x)) refl l m st
-step size c h (AtPrinter p sheet Failed) each l m st = quiet size c h (AtPrinter p sheet Failed) refl l m st
-step size c h (Removed q jobs) each l m st = quiet size c h (Removed q jobs) refl l m st
-step size c h (Started q) each l m st = quiet size c h (Started q) refl l m st
-step size c h Closed each l m st = quiet size c h Closed refl l m st
+step : {C : Type 0} (size : C → ℕ) (c : Config) (base : Base) (h : List (Event C)) (e : Event C) → EachCouldFinish c → IsLegal size c base h → May size (now c base h) e → IsGood c (now c base h).jobs → IsGood c (now c base (e ∷ h)).jobs
+step size c base h (Opened k s q) each l m st = opened size c base h k s q each l m st
+step size c base h (OfJob k Granted) each l m st = granted size c base h k l m
+step size c base h (OfJob k (Began name count)) each l m st = quiet size c base h (OfJob k (Began name count)) refl l m st
+step size c base h (OfJob k (Put file number page)) each l m st = quiet size c base h (OfJob k (Put file number page)) refl l m st
+step size c base h (OfJob k (FileEnded file whole)) each l m st = quiet size c base h (OfJob k (FileEnded file whole)) refl l m st
+step size c base h (OfJob k (Controlled control whole)) each l m st = quiet size c base h (OfJob k (Controlled control whole)) refl l m st
+step size c base h (OfJob k Aborted) each l m st = quiet size c base h (OfJob k Aborted) refl l m st
+step size c base h (AtPrinter p sheet Handed) each l m st = handed size c base h p sheet l m st
+step size c base h (AtPrinter p sheet (Printed x)) each l m st = quiet size c base h (AtPrinter p sheet (Printed x)) refl l m st
+step size c base h (AtPrinter p sheet Failed) each l m st = quiet size c base h (AtPrinter p sheet Failed) refl l m st
+step size c base h (Removed q jobs) each l m st = quiet size c base h (Removed q jobs) refl l m st
+step size c base h (Started q) each l m st = quiet size c base h (Started q) refl l m st
+step size c base h Closed each l m st = quiet size c base h Closed refl l m st
 
-stays_by : {C : Type 0} (size : C → ℕ) (c : Config) (h : List (Event C)) → EachCouldFinish c → IsLegal size c h → IsGood c (now c h).jobs
-stays_by size c [] each l = ([], record { each_once = refl; in_line = tt; fits = tt })
-stays_by size c (e ∷ h) each l = step size c h e each l.1 l.0 (stays_by size c h each l.1)
+stays_by : {C : Type 0} (size : C → ℕ) (c : Config) (base : Base) (h : List (Event C)) → EachCouldFinish c → IsLegal size c base h → IsGood c (now c base h).jobs
+stays_by size c base [] each l = ([], record { each_once = refl; in_line = tt; fits = tt })
+stays_by size c base (e ∷ h) each l = step size c base h e each l.1 l.0 (stays_by size c base h each l.1)
 
-pub stays : {C : Type 0} (size : C → ℕ) (c : Config) (h : List (Event C)) → EachCouldFinish c → IsLegal size c h → IsSafeNow (now c h)
-stays size c h each l = to_safe (now c h) (stays_by size c h each l)
+pub stays : {C : Type 0} (size : C → ℕ) (c : Config) (base : Base) (h : List (Event C)) → EachCouldFinish c → IsLegal size c base h → IsSafeNow (now c base h)
+stays size c base h each l = to_safe (now c base h) (stays_by size c base h each l)

@@ -6,6 +6,7 @@ use Rattle.std.proofs.lemmas.List.{length_push}
 use Rattle.std.proofs.lemmas.List.Sums.{sum_by-cons, sum_by_push}
 use Rattle.claims.specs.declared.row.Row.{Row}
 use Rattle.counts.specs.Amounts.{amount}
+use Rattle.spool_history.specs.Base.{Base}
 use Rattle.spool_history.specs.Events.{Act, Event, Sheet, Turn, Progress}
 use Rattle.spool_history.specs.Events.Act.{Granted, Began, Put, FileEnded, Controlled, Aborted}
 use Rattle.spool_history.specs.Events.Progress.{Going, Done, Ended}
@@ -14,14 +15,16 @@ use Rattle.spool_history.specs.Events.Event.{Opened, OfJob, AtPrinter, Removed, 
 use Rattle.config_values.specs.Config.{Config}
 use Rattle.spool_history.specs.Acts.{granted_by}
 use Rattle.spool_history.specs.Said.{Opening, openings, acts_of, has_ended, ends_by_act}
-use Rattle.spool_history.specs.Now.{Job, now, job_of, is_held, is_received, places, pages_out, pages_held, free_pages, row_of, up_to}
+use Rattle.spool_history.specs.Now.{Job, now, job_of, is_held, is_received, pages_kept, pages_out, pages_held, free_pages, row_of, up_to}
 use Rattle.spool_history.specs.Steps.{change, turned}
 use Rattle.spool_history.specs.Legal.{IsLegal, May}
 use Rattle.spool_laws.specs.Sums.{held_pages, AddUp}
 use Rattle.spool_laws.proofs.Known.{has_at, test}
 use Rattle.spool_laws.proofs.Changes.{changes}
-use Rattle.spool_laws.proofs.Facts.{facts, turn_of_page, received_at}
-use Rattle.spool_laws.proofs.Adding.{sum_filter, sum_map, up_less, up_one}
+use Rattle.spool_laws.proofs.Facts.{Unknown, facts, last, IsOther, turn_of_page, received_at}
+use Rattle.spool_laws.proofs.Adding.{sum_filter, sum_map, up_below, up_less, up_none, up_one}
+use Rattle.spool_laws.proofs.Copies.{kept_fewer}
+use Rattle.spool_laws.proofs.Reserve.{no_events}
 use Rattle.spool_laws.proofs.Sound.{Sound, sound, out_within}
 
 -- the pages that a job holds, if it is held
@@ -35,39 +38,59 @@ numbered j = record { job = j; sender = 0; queue = 0 }
 abbrev weight_at : {C : Type 0} → List (Event C) → ℕ → ℕ
 weight_at h j = weight (job_of h (numbered j))
 
-abbrev weights : {C : Type 0} → List (Event C) → ℕ
-weights h = sum_by (weight_at h) (up_to (length (openings h)))
+abbrev weights : {C : Type 0} → Base → List (Event C) → ℕ
+weights base h = sum_by (weight_at h) (up_to (last base h))
 
 sum_held : {C : Type 0} (h : List (Event C)) (os : List Opening) → sum_by (λ (v : Job C). pages_held v) (filter is_held (map (job_of h) os)) ≡ sum_by (λ (p : Opening). weight_at h p.job) os
 sum_held {C} h os = sum_filter (λ (v : Job C). pages_held v) is_held (map (job_of h) os) ∙ sum_map (λ (v : Job C). weight v) (job_of h) os
 
--- the numbers of the accepted jobs are 1, 2 and so on
+-- the numbers of the accepted jobs are those after the base's last one, in order
 
-abbrev Numbers : (ℕ → ℕ) → List Opening → Type 0
-Numbers f os = sum_by (λ (p : Opening). f p.job) os ≡ sum_by f (up_to (length os))
+abbrev Numbers : (ℕ → ℕ) → ℕ → List Opening → Type 0
+Numbers f n os = sum_by f (up_to n) + sum_by (λ (p : Opening). f p.job) os ≡ sum_by f (up_to (n + length os))
 
-more_numbers : (f : ℕ → ℕ) (os : List Opening) (x : Opening) → x.job ≡ length os + 1 → Numbers f os → Numbers f (os ++ x ∷ [])
-more_numbers f os x e n =
+more_numbers : (f : ℕ → ℕ) (n : ℕ) (os : List Opening) (x : Opening) → x.job ≡ n + length os + 1 → Numbers f n os → Numbers f n (os ++ x ∷ [])
+more_numbers f n os x e ih =
     let l = length_push os x in
-    let m : length (os ++ x ∷ []) ≡ suc (length os) = omega arith in
-    let j : x.job ≡ suc (length os) = omega arith in
-    let fj : f x.job ≡ f (suc (length os)) = ap f j in
+    let m : n + length (os ++ x ∷ []) ≡ suc (n + length os) = omega arith in
+    let j : x.job ≡ suc (n + length os) = omega arith in
+    let fj : f x.job ≡ f (suc (n + length os)) = ap f j in
     let a = sum_by_push (λ (p : Opening). f p.job) os x in
-    let b = sum_by_push f (up_to (length os)) (suc (length os)) in
-    let u : sum_by f (up_to (length (os ++ x ∷ []))) ≡ sum_by f (up_to (length os) ++ suc (length os) ∷ []) = ap (λ (i : ℕ). sum_by f (up_to i)) m in
+    let b = sum_by_push f (up_to (n + length os)) (suc (n + length os)) in
+    let u : sum_by f (up_to (n + length (os ++ x ∷ []))) ≡ sum_by f (up_to (n + length os) ++ suc (n + length os) ∷ []) = ap (λ (i : ℕ). sum_by f (up_to i)) m in
     omega arith
 
-pub numbers : {C : Type 0} (size : C → ℕ) (c : Config) (h : List (Event C)) → IsLegal size c h → (f : ℕ → ℕ) → Numbers f (openings h)
-numbers size c [] l f = refl
-numbers size c (Opened k s q ∷ h) l f = more_numbers f (openings h) (record { job = k; sender = s; queue = q }) l.0.4 (numbers size c h l.1 f)
-numbers size c (OfJob k act ∷ h) l f = numbers size c h l.1 f
-numbers size c (AtPrinter p sheet turn ∷ h) l f = numbers size c h l.1 f
-numbers size c (Removed q jobs ∷ h) l f = numbers size c h l.1 f
-numbers size c (Started q ∷ h) l f = numbers size c h l.1 f
-numbers size c (Closed ∷ h) l f = numbers size c h l.1 f
+all_numbers : {C : Type 0} (size : C → ℕ) (c : Config) (base : Base) (h : List (Event C)) → IsLegal size c base h → (f : ℕ → ℕ) → Numbers f base.accepted (openings h)
+all_numbers size c base [] l f = (let e = ap (λ (i : ℕ). sum_by f (up_to i)) (sym (and_none base.accepted)) in omega arith)
+  where
+    and_none : (n : ℕ) → n + 0 ≡ n
+    and_none n = omega arith
+all_numbers size c base (Opened k s q ∷ h) l f = more_numbers f base.accepted (openings h) (record { job = k; sender = s; queue = q }) l.0.4 (all_numbers size c base h l.1 f)
+all_numbers size c base (OfJob k act ∷ h) l f = all_numbers size c base h l.1 f
+all_numbers size c base (AtPrinter p sheet turn ∷ h) l f = all_numbers size c base h l.1 f
+all_numbers size c base (Removed q jobs ∷ h) l f = all_numbers size c base h l.1 f
+all_numbers size c base (Started q ∷ h) l f = all_numbers size c base h l.1 f
+all_numbers size c base (Closed ∷ h) l f = all_numbers size c base h l.1 f
 
-held_weights : {C : Type 0} (size : C → ℕ) (c : Config) (h : List (Event C)) → IsLegal size c h → held_pages c h ≡ weights h
-held_weights size c h l = sum_held h (openings h) ∙ numbers size c h l (weight_at h)
+-- of jobs that the history doesn't know there is nothing to add
+pub numbers : {C : Type 0} (size : C → ℕ) (c : Config) (base : Base) (h : List (Event C)) → IsLegal size c base h → (f : ℕ → ℕ) → ((j : ℕ) → IsOther base h j → f j ≡ 0) → sum_by (λ (p : Opening). f p.job) (openings h) ≡ sum_by f (up_to (last base h))
+numbers size c base h l f none =
+    let all = all_numbers size c base h l f in
+    let nothing : ℕ → ℕ = λ (j : ℕ). 0 in
+    let below = up_below nothing f base.accepted (λ j le. (let z = none j (inl le) in omega arith)) in
+    let zero' = up_none nothing base.accepted (λ j. refl) in
+    omega arith
+
+-- nothing is held of a job of which nothing is said
+weight_unknown_by : {C : Type 0} (h : List (Event C)) (j : ℕ) (b : Bool) → has_ended h j ≡ b → Unknown h j → weight_at h j ≡ 0
+weight_unknown_by h j true e u = (let a = u.acts in let d = u.handed in let r = u.back in rw (a, d, r, e) refl)
+weight_unknown_by h j false e u = (let a = u.acts in let d = u.handed in let r = u.back in rw (a, d, r, e) refl)
+
+weight_unknown : {C : Type 0} (h : List (Event C)) (j : ℕ) → Unknown h j → weight_at h j ≡ 0
+weight_unknown h j u = weight_unknown_by h j (has_ended h j) refl u
+
+held_weights : {C : Type 0} (size : C → ℕ) (c : Config) (base : Base) (h : List (Event C)) → IsLegal size c base h → held_pages c base h ≡ weights base h
+held_weights size c base h l = sum_held h (openings h) ∙ numbers size c base h l (weight_at h) (λ j is. weight_unknown h j ((facts size c base h l).fresh j is))
 
 cond_true : (b : Bool) (n m : ℕ) → b ≡ true → cond b n m ≡ n
 cond_true b n m e = rw e refl
@@ -83,14 +106,14 @@ out_alone false a b = elim (test a b) [ inl s ↦ (let same : a ≡ b = s.0 in r
 weight_ended : {C : Type 0} (v : Job C) → v.ended ≡ true → weight v ≡ pages_out v
 weight_ended v e = rw e (out_alone v.lent v.handed v.back)
 
-weight_going : {C : Type 0} (v : Job C) → v.ended ≡ false → weight v ≡ cond (is_received v) (length (places v) - v.back) v.granted
+weight_going : {C : Type 0} (v : Job C) → v.ended ≡ false → weight v ≡ cond (is_received v) (length (pages_kept v)) v.granted
 weight_going v e = rw e refl
 
-weight_received : {C : Type 0} (v : Job C) → v.ended ≡ false → is_received v ≡ true → weight v ≡ length (places v) - v.back
-weight_received v e r = weight_going v e ∙ cond_true (is_received v) (length (places v) - v.back) v.granted r
+weight_received : {C : Type 0} (v : Job C) → v.ended ≡ false → is_received v ≡ true → weight v ≡ length (pages_kept v)
+weight_received v e r = weight_going v e ∙ cond_true (is_received v) (length (pages_kept v)) v.granted r
 
 weight_receiving : {C : Type 0} (v : Job C) → v.ended ≡ false → is_received v ≡ false → weight v ≡ v.granted
-weight_receiving v e r = weight_going v e ∙ cond_false (is_received v) (length (places v) - v.back) v.granted r
+weight_receiving v e r = weight_going v e ∙ cond_false (is_received v) (length (pages_kept v)) v.granted r
 
 -- a job that hasn't ended holds no more than was lent to it
 weight_granted : {C : Type 0} (v : Job C) (b : Bool) → is_received v ≡ b → v.ended ≡ false → Sound v → weight v ≤ v.granted
@@ -133,16 +156,13 @@ granted_here : {C : Type 0} (h : List (Event C)) (k : ℕ) (act : Act C) → gra
 granted_here h k act = elim (test k k) [ inl s ↦ rw s.1 refl | inr s ↦ absurd (s.0 refl) ]
 
 -- an act on a job that is being received
-act_granted : {C : Type 0} (size : C → ℕ) (c : Config) (h : List (Event C)) (k : ℕ) (act : Act C) (n : ℕ) → IsLegal size c (OfJob k act ∷ h) → ends_by_act act ≡ false → granted_by (act ∷ acts_of h k) ≡ granted_by (acts_of h k) + n → has_ended h k ≡ false → received_at h k ≡ false → weight_at (OfJob k act ∷ h) k ≤ weight_at h k + n
-act_granted {C} size c h k act n l ends is goes_on receiving =
+act_granted : {C : Type 0} (size : C → ℕ) (c : Config) (base : Base) (h : List (Event C)) (k : ℕ) (act : Act C) (n : ℕ) → IsLegal size c base (OfJob k act ∷ h) → ends_by_act act ≡ false → granted_by (act ∷ acts_of h k) ≡ granted_by (acts_of h k) + n → has_ended h k ≡ false → received_at h k ≡ false → weight_at (OfJob k act ∷ h) k ≤ weight_at h k + n
+act_granted {C} size c base h k act n l ends is goes_on receiving =
     let v : Job C = job_of (OfJob k act ∷ h) (numbered k) in
     let w = weight_receiving (job_of h (numbered k)) goes_on receiving in
     let g = granted_here h k act in
-    let u = weight_granted v (is_received v) refl (ended_same h k act ends ∙ goes_on) (sound size c (OfJob k act ∷ h) l (numbered k)) in
+    let u = weight_granted v (is_received v) refl (ended_same h k act ends ∙ goes_on) (sound size c base (OfJob k act ∷ h) l (numbered k)) in
     omega arith
-
-weight_of_new : {C : Type 0} (h : List (Event C)) (j : ℕ) → acts_of h j ≡ [] → has_ended h j ≡ false → weight_at h j ≡ 0
-weight_of_new h j a e = rw (a, e) refl
 
 abort_less : {C : Type 0} (v : Job C) → weight (record v { lent = false; ended = true }) ≤ weight (record v { ended = true })
 abort_less v =
@@ -172,6 +192,7 @@ back_going v true r is re =
 back_going v false true is re =
     let a = weight_received v is re in
     let b = weight_received (record v { back = v.back + 1 }) is re in
+    let n = kept_fewer v in
     omega arith
 back_going v false false is re =
     let a = weight_receiving v is re in
@@ -193,10 +214,10 @@ turn_less {C} h p sheet turn le j = elim (test sheet.job j) [
   | inr s ↦ let o = other_turn h p sheet turn j s.0 in omega arith
 ]
 
-printed_less : {C : Type 0} (size : C → ℕ) (c : Config) (h : List (Event C)) (sheet : Sheet C) (x : Progress) → IsLegal size c h → weight (turned (Printed x) (job_of h (numbered sheet.job))) ≤ weight_at h sheet.job
-printed_less size c h sheet Going l = back_going (job_of h (numbered sheet.job)) _ _ refl refl
-printed_less size c h sheet Done l = back_ended (job_of h (numbered sheet.job)) (sound size c h l (numbered sheet.job))
-printed_less size c h sheet Ended l = back_going (job_of h (numbered sheet.job)) _ _ refl refl
+printed_less : {C : Type 0} (size : C → ℕ) (c : Config) (base : Base) (h : List (Event C)) (sheet : Sheet C) (x : Progress) → IsLegal size c base h → weight (turned (Printed x) (job_of h (numbered sheet.job))) ≤ weight_at h sheet.job
+printed_less size c base h sheet Going l = back_going (job_of h (numbered sheet.job)) _ _ refl refl
+printed_less size c base h sheet Done l = back_ended (job_of h (numbered sheet.job)) (sound size c base h l (numbered sheet.job))
+printed_less size c base h sheet Ended l = back_going (job_of h (numbered sheet.job)) _ _ refl refl
 
 removed_less : {C : Type 0} (h : List (Event C)) (q : ℕ) (jobs : List ℕ) (j : ℕ) (b : Bool) → list_any (λ (k : ℕ). k == j) jobs ≡ b → Sound (job_of h (numbered j)) → weight_at (Removed q jobs ∷ h) j ≤ weight_at h j
 removed_less h q jobs j true e s =
@@ -218,88 +239,88 @@ rows_held {C} c (v ∷ vs) =
     let a : amount (row_of c v).held 0 ≡ pages_held v = refl in
     omega arith
 
-pub free_rest : {C : Type 0} (c : Config) (h : List (Event C)) → free_pages (now c h) ≡ c.pages - held_pages c h
-free_rest c h = ap (λ (n : ℕ). c.pages - n) (rows_held c (now c h).jobs)
+pub free_rest : {C : Type 0} (c : Config) (base : Base) (h : List (Event C)) → free_pages (now c base h) ≡ c.pages - held_pages c base h
+free_rest c base h = ap (λ (n : ℕ). c.pages - n) (rows_held c (now c base h).jobs)
 
 -- each event
 
-opened_weights : {C : Type 0} (h : List (Event C)) (k s q : ℕ) → weight_at h (suc (length (openings h))) ≡ 0 → weights (Opened k s q ∷ h) ≤ weights h
-opened_weights {C} h k s q none =
+opened_weights : {C : Type 0} (base : Base) (h : List (Event C)) (k s q : ℕ) → weight_at h (suc (last base h)) ≡ 0 → weights base (Opened k s q ∷ h) ≤ weights base h
+opened_weights {C} base h k s q none =
     let e : Event C = Opened k s q in
     let l = length_push (openings h) (record { job = k; sender = s; queue = q }) in
-    let m : length (openings (e ∷ h)) ≡ suc (length (openings h)) = omega arith in
-    let u : weights (e ∷ h) ≡ sum_by (weight_at h) (up_to (length (openings h)) ++ suc (length (openings h)) ∷ []) = ap (λ (i : ℕ). sum_by (weight_at (e ∷ h)) (up_to i)) m in
-    let b = sum_by_push (weight_at h) (up_to (length (openings h))) (suc (length (openings h))) in
+    let m : last base (e ∷ h) ≡ suc (last base h) = omega arith in
+    let u : weights base (e ∷ h) ≡ sum_by (weight_at h) (up_to (last base h) ++ suc (last base h) ∷ []) = ap (λ (i : ℕ). sum_by (weight_at (e ∷ h)) (up_to i)) m in
+    let b = sum_by_push (weight_at h) (up_to (last base h)) (suc (last base h)) in
     omega arith
 
-step_weights : {C : Type 0} (size : C → ℕ) (c : Config) (h : List (Event C)) (e : Event C) → IsLegal size c h → May size (now c h) e → weights h ≤ c.pages → weights (e ∷ h) ≤ c.pages
-step_weights size c h (Opened k s q) l m w =
-    let u = (facts size c h l).fresh (suc (length (openings h))) (omega arith) in
-    let o = opened_weights h k s q (weight_of_new h (suc (length (openings h))) u.acts (u.ended m.0)) in
+step_weights : {C : Type 0} (size : C → ℕ) (c : Config) (base : Base) (h : List (Event C)) (e : Event C) → IsLegal size c base h → May size (now c base h) e → weights base h ≤ c.pages → weights base (e ∷ h) ≤ c.pages
+step_weights size c base h (Opened k s q) l m w =
+    let u = (facts size c base h l).fresh (suc (last base h)) (inr (omega arith)) in
+    let o = opened_weights base h k s q (weight_unknown h (suc (last base h)) u) in
     omega arith
-step_weights size c h (OfJob k Granted) l m w =
-    let a = has_at c h k _ m.0 in
+step_weights size c base h (OfJob k Granted) l m w =
+    let a = has_at c base h k _ m.0 in
     let free = m.1.0 in
-    let f = free_rest c h in
-    let held = held_weights size c h l in
-    let one = act_granted size c h k Granted 1 (m, l) refl refl a.is.0.0.0 a.is.0.0.1 in
-    let s = up_one (weight_at h) (weight_at (OfJob k Granted ∷ h)) k (length (openings h)) (λ j ne. (let o = other_act h k Granted j (λ x. ne (sym x)) in omega arith)) one in
+    let f = free_rest c base h in
+    let held = held_weights size c base h l in
+    let one = act_granted size c base h k Granted 1 (m, l) refl refl a.is.0.0.0 a.is.0.0.1 in
+    let s = up_one (weight_at h) (weight_at (OfJob k Granted ∷ h)) k (last base h) (λ j ne. (let o = other_act h k Granted j (λ x. ne (sym x)) in omega arith)) one in
     omega arith
-step_weights size c h (OfJob k (Began name count)) l m w =
-    let a = has_at c h k _ m.0 in
-    let here = act_granted size c h k (Began name count) 0 (m, l) refl (omega arith) a.is.0.0 a.is.0.1 in
-    let s = up_less (weight_at h) (weight_at (OfJob k (Began name count) ∷ h)) (length (openings h)) (act_less h k (Began name count) (omega arith)) in
+step_weights size c base h (OfJob k (Began name count)) l m w =
+    let a = has_at c base h k _ m.0 in
+    let here = act_granted size c base h k (Began name count) 0 (m, l) refl (omega arith) a.is.0.0 a.is.0.1 in
+    let s = up_less (weight_at h) (weight_at (OfJob k (Began name count) ∷ h)) (last base h) (act_less h k (Began name count) (omega arith)) in
     omega arith
-step_weights size c h (OfJob k (Put file number page)) l m w =
-    let a = has_at c h k _ m.0 in
-    let here = act_granted size c h k (Put file number page) 0 (m, l) refl (omega arith) a.is.0.0 a.is.0.1 in
-    let s = up_less (weight_at h) (weight_at (OfJob k (Put file number page) ∷ h)) (length (openings h)) (act_less h k (Put file number page) (omega arith)) in
+step_weights size c base h (OfJob k (Put file number page)) l m w =
+    let a = has_at c base h k _ m.0 in
+    let here = act_granted size c base h k (Put file number page) 0 (m, l) refl (omega arith) a.is.0.0 a.is.0.1 in
+    let s = up_less (weight_at h) (weight_at (OfJob k (Put file number page) ∷ h)) (last base h) (act_less h k (Put file number page) (omega arith)) in
     omega arith
-step_weights size c h (OfJob k (FileEnded file whole)) l m w =
-    let a = has_at c h k _ m.0 in
-    let here = act_granted size c h k (FileEnded file whole) 0 (m, l) refl (omega arith) a.is.0.0 a.is.0.1 in
-    let s = up_less (weight_at h) (weight_at (OfJob k (FileEnded file whole) ∷ h)) (length (openings h)) (act_less h k (FileEnded file whole) (omega arith)) in
+step_weights size c base h (OfJob k (FileEnded file whole)) l m w =
+    let a = has_at c base h k _ m.0 in
+    let here = act_granted size c base h k (FileEnded file whole) 0 (m, l) refl (omega arith) a.is.0.0 a.is.0.1 in
+    let s = up_less (weight_at h) (weight_at (OfJob k (FileEnded file whole) ∷ h)) (last base h) (act_less h k (FileEnded file whole) (omega arith)) in
     omega arith
-step_weights size c h (OfJob k (Controlled control whole)) l m w =
-    let a = has_at c h k _ m.0 in
-    let here = act_granted size c h k (Controlled control whole) 0 (m, l) refl (omega arith) a.is.0.0 a.is.0.1 in
-    let s = up_less (weight_at h) (weight_at (OfJob k (Controlled control whole) ∷ h)) (length (openings h)) (act_less h k (Controlled control whole) (omega arith)) in
+step_weights size c base h (OfJob k (Controlled control whole)) l m w =
+    let a = has_at c base h k _ m.0 in
+    let here = act_granted size c base h k (Controlled control whole) 0 (m, l) refl (omega arith) a.is.0.0 a.is.0.1 in
+    let s = up_less (weight_at h) (weight_at (OfJob k (Controlled control whole) ∷ h)) (last base h) (act_less h k (Controlled control whole) (omega arith)) in
     omega arith
-step_weights {C} size c h (OfJob k Aborted) l m w =
+step_weights {C} size c base h (OfJob k Aborted) l m w =
     let v : Job C = job_of h (numbered k) in
     let a = aborted_here h k in
     let b = abort_less v in
-    let d = ending v (sound size c h l (numbered k)) in
-    let s = up_less (weight_at h) (weight_at (OfJob k Aborted ∷ h)) (length (openings h)) (act_less h k Aborted (omega arith)) in
+    let d = ending v (sound size c base h l (numbered k)) in
+    let s = up_less (weight_at h) (weight_at (OfJob k Aborted ∷ h)) (last base h) (act_less h k Aborted (omega arith)) in
     omega arith
-step_weights {C} size c h (AtPrinter p sheet Handed) l m w =
-    let t = turn_of_page c h p sheet m.0.0 m.0.1 m.1 in
+step_weights {C} size c base h (AtPrinter p sheet Handed) l m w =
+    let t = turn_of_page c base h p sheet m.0.0 m.0.1 m.1 in
     let v : Job C = job_of h (numbered sheet.job) in
-    let s = up_less (weight_at h) (weight_at (AtPrinter p sheet Handed ∷ h)) (length (openings h)) (turn_less h p sheet Handed (handed_less v t.at.is.goes_on)) in
+    let s = up_less (weight_at h) (weight_at (AtPrinter p sheet Handed ∷ h)) (last base h) (turn_less h p sheet Handed (handed_less v t.at.is.goes_on)) in
     omega arith
-step_weights size c h (AtPrinter p sheet (Printed x)) l m w =
-    let s = up_less (weight_at h) (weight_at (AtPrinter p sheet (Printed x) ∷ h)) (length (openings h)) (turn_less h p sheet (Printed x) (printed_less size c h sheet x l)) in
+step_weights size c base h (AtPrinter p sheet (Printed x)) l m w =
+    let s = up_less (weight_at h) (weight_at (AtPrinter p sheet (Printed x) ∷ h)) (last base h) (turn_less h p sheet (Printed x) (printed_less size c base h sheet x l)) in
     omega arith
-step_weights size c h (AtPrinter p sheet Failed) l m w =
-    let s = up_less (weight_at h) (weight_at (AtPrinter p sheet Failed ∷ h)) (length (openings h)) (turn_less h p sheet Failed (back_ended (job_of h (numbered sheet.job)) (sound size c h l (numbered sheet.job)))) in
+step_weights size c base h (AtPrinter p sheet Failed) l m w =
+    let s = up_less (weight_at h) (weight_at (AtPrinter p sheet Failed ∷ h)) (last base h) (turn_less h p sheet Failed (back_ended (job_of h (numbered sheet.job)) (sound size c base h l (numbered sheet.job)))) in
     omega arith
-step_weights size c h (Removed q jobs) l m w =
-    let s = up_less (weight_at h) (weight_at (Removed q jobs ∷ h)) (length (openings h)) (λ j. removed_less h q jobs j (list_any (λ (k : ℕ). k == j) jobs) refl (sound size c h l (numbered j))) in
+step_weights size c base h (Removed q jobs) l m w =
+    let s = up_less (weight_at h) (weight_at (Removed q jobs ∷ h)) (last base h) (λ j. removed_less h q jobs j (list_any (λ (k : ℕ). k == j) jobs) refl (sound size c base h l (numbered j))) in
     omega arith
-step_weights size c h (Started q) l m w =
-    let s = up_less (weight_at h) (weight_at (Started q ∷ h)) (length (openings h)) (λ j. (let e = changed h (Started q) j in omega arith)) in
+step_weights size c base h (Started q) l m w =
+    let s = up_less (weight_at h) (weight_at (Started q ∷ h)) (last base h) (λ j. (let e = changed h (Started q) j in omega arith)) in
     omega arith
-step_weights size c h Closed l m w =
-    let s = up_less (weight_at h) (weight_at (Closed ∷ h)) (length (openings h)) (λ j. (let e = changed h Closed j in let d = ending (job_of h (numbered j)) (sound size c h l (numbered j)) in omega arith)) in
+step_weights size c base h Closed l m w =
+    let s = up_less (weight_at h) (weight_at (Closed ∷ h)) (last base h) (λ j. (let e = changed h Closed j in let d = ending (job_of h (numbered j)) (sound size c base h l (numbered j)) in omega arith)) in
     omega arith
 
-weights_within : {C : Type 0} (size : C → ℕ) (c : Config) (h : List (Event C)) → IsLegal size c h → weights h ≤ c.pages
-weights_within size c [] l = omega arith
-weights_within size c (e ∷ h) l = step_weights size c h e l.1 l.0 (weights_within size c h l.1)
+weights_within : {C : Type 0} (size : C → ℕ) (c : Config) (base : Base) (h : List (Event C)) → IsLegal size c base h → weights base h ≤ c.pages
+weights_within {C} size c base [] l = (let z = up_none (weight_at (no_events C)) (last base (no_events C)) (λ j. refl) in omega arith)
+weights_within size c base (e ∷ h) l = step_weights size c base h e l.1 l.0 (weights_within size c base h l.1)
 
-pub pages_add_up : {C : Type 0} (size : C → ℕ) (c : Config) (h : List (Event C)) → IsLegal size c h → AddUp c h
-pages_add_up size c h l =
-    let w = weights_within size c h l in
-    let e = held_weights size c h l in
-    let f = free_rest c h in
+pub pages_add_up : {C : Type 0} (size : C → ℕ) (c : Config) (base : Base) (h : List (Event C)) → IsLegal size c base h → AddUp c base h
+pages_add_up size c base h l =
+    let w = weights_within size c base h l in
+    let e = held_weights size c base h l in
+    let f = free_rest c base h in
     record { within = omega arith; all = omega arith }

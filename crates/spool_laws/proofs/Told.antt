@@ -2,6 +2,7 @@
 use Rattle.std.proofs.Common.{inl, inr, ◌≡◌, ◌==◌, ◌≢◌, ℕ, ◌+◌, ◌<◌, ◌≤◌, Bool, true, false, List, [], ◌∷◌, length, refl, sym, ◌∙◌, ap, subst, arith}
 use Rattle.std.specs.Prelude.{◌&&◌, if◌then◌else◌}
 use Rattle.std.specs.List.{list_any, AllByRecursion}
+use Rattle.spool_history.specs.Base.{Base}
 use Rattle.spool_history.specs.Events.{Act, Event, Sheet, Turn, Progress}
 use Rattle.spool_history.specs.Events.Act.{Granted, Began, Put, FileEnded, Controlled, Aborted}
 use Rattle.spool_history.specs.Events.Turn.{Handed, Printed, Failed}
@@ -12,7 +13,7 @@ use Rattle.spool_history.specs.Said.{Opening, openings, acts_of, is_failed, back
 use Rattle.spool_history.specs.Now.{Job, now}
 use Rattle.spool_history.specs.Legal.{HasJob, IsLegal, May}
 use Rattle.spool_laws.proofs.Known.{Has, At, has_at, has_last, test, clash}
-use Rattle.spool_laws.proofs.Facts.{Facts, facts, is_out, Turn', turn_of_page, handed_at, handed_more, handed_same, acts_other, back_same, back_more, back_one}
+use Rattle.spool_laws.proofs.Facts.{Facts, facts, last, is_out, Turn', turn_of_page, handed_at, handed_more, handed_same, acts_other, back_same, back_more, back_one}
 use Rattle.spool_laws.proofs.Whole.{still_ended}
 use Rattle.spool_laws.proofs.Counts.{none_by, Fits, fits_none, fits_later, fits_granted, fits_began, fits_put, fits_ended, fits_controlled, fits_aborted, all_counted, began_files, count_le}
 use Rattle.spool_laws.proofs.Sound.{sound}
@@ -120,11 +121,11 @@ told_failed h p sheet out t j =
           (still_ended h (AtPrinter p sheet Failed) j w.0, ap length (handed_same h p sheet Failed j refl) ∙ (w.1 ∙ sym (back_more h p sheet Failed j s.0))))
     ]
 
-named_going : {C : Type 0} (c : Config) (h : List (Event C)) (P : Job C → Type 0) (j : ℕ) (jobs : List ℕ) → ((v : Job C) → P v → v.ended ≡ false) → AllByRecursion (λ k. HasJob (now c h).jobs k P) jobs → list_any (λ (k : ℕ). k == j) jobs ≡ true → has_ended h j ≡ false
-named_going c h P j [] going all e = absurd cc
-named_going {C} c h P j (k ∷ ks) going all e = elim (test k j) [
-  | inl s ↦ (let a = has_at c h k P all.0 in subst (λ (i : ℕ). has_ended h i ≡ false) s.0 (going _ a.is))
-  | inr s ↦ named_going c h P j ks going all.1 (rw s.1 at e)
+named_going : {C : Type 0} (c : Config) (base : Base) (h : List (Event C)) (P : Job C → Type 0) (j : ℕ) (jobs : List ℕ) → ((v : Job C) → P v → v.ended ≡ false) → AllByRecursion (λ k. HasJob (now c base h).jobs k P) jobs → list_any (λ (k : ℕ). k == j) jobs ≡ true → has_ended h j ≡ false
+named_going c base h P j [] going all e = absurd cc
+named_going {C} c base h P j (k ∷ ks) going all e = elim (test k j) [
+  | inl s ↦ (let a = has_at c base h k P all.0 in subst (λ (i : ℕ). has_ended h i ≡ false) s.0 (going _ a.is))
+  | inr s ↦ named_going c base h P j ks going all.1 (rw s.1 at e)
 ]
 
 told_removed : {C : Type 0} (h : List (Event C)) (q : ℕ) (jobs : List ℕ) (j : ℕ) (b : Bool) → list_any (λ (k : ℕ). k == j) jobs ≡ b → (b ≡ true → has_ended h j ≡ false) → Told h j → Told (Removed q jobs ∷ h) j
@@ -168,88 +169,88 @@ told_started h q j u = record { acts = u.acts; failed = u.failed; after = u.afte
 ended_aborted : {C : Type 0} (h : List (Event C)) (k : ℕ) → has_ended (OfJob k Aborted ∷ h) k ≡ true
 ended_aborted h k = elim (test k k) [ inl s ↦ rw s.1 refl | inr s ↦ absurd (s.0 refl) ]
 
-told_step : {C : Type 0} (size : C → ℕ) (c : Config) (h : List (Event C)) (e : Event C) → IsLegal size c h → May size (now c h) e → ((j : ℕ) → Told h j) → (j : ℕ) → Told (e ∷ h) j
-told_step size c h (Opened k s q) l m t = λ j. told_opened h k s q j (t j)
-told_step size c h (OfJob k Granted) l m t =
-    let a = has_at c h k _ m.0 in
+told_step : {C : Type 0} (size : C → ℕ) (c : Config) (base : Base) (h : List (Event C)) (e : Event C) → IsLegal size c base h → May size (now c base h) e → ((j : ℕ) → Told h j) → (j : ℕ) → Told (e ∷ h) j
+told_step size c base h (Opened k s q) l m t = λ j. told_opened h k s q j (t j)
+told_step size c base h (OfJob k Granted) l m t =
+    let a = has_at c base h k _ m.0 in
     told_act h k Granted (fits_granted (acts_of h k) (has_ended h k) _ (t k).acts a.is.0.0.0 a.is.0.2) t
-told_step size c h (OfJob k (Began name count)) l m t =
-    let a = has_at c h k _ m.0 in
+told_step size c base h (OfJob k (Began name count)) l m t =
+    let a = has_at c base h k _ m.0 in
     told_act h k (Began name count) (fits_began (acts_of h k) name count (has_ended h k) _ (t k).acts a.is.0.0 a.is.3) t
-told_step size c h (OfJob k (Put file number page)) l m t =
-    let a = has_at c h k _ m.0 in
+told_step size c base h (OfJob k (Put file number page)) l m t =
+    let a = has_at c base h k _ m.0 in
     told_act h k (Put file number page) (fits_put (acts_of h k) file number page (has_ended h k) _ (t k).acts a.is.0.0 a.is.1) t
-told_step size c h (OfJob k (FileEnded file whole)) l m t =
-    let a = has_at c h k _ m.0 in
+told_step size c base h (OfJob k (FileEnded file whole)) l m t =
+    let a = has_at c base h k _ m.0 in
     let o = a.is.2 in
     told_act h k (FileEnded file whole) (fits_ended (acts_of h k) file whole o.0 o.1 (has_ended h k) _ (t k).acts a.is.0.0 o.2 o.4) t
-told_step size c h (OfJob k (Controlled control whole)) l m t =
-    let a = has_at c h k _ m.0 in
+told_step size c base h (OfJob k (Controlled control whole)) l m t =
+    let a = has_at c base h k _ m.0 in
     told_act h k (Controlled control whole) (fits_controlled (acts_of h k) control whole (has_ended h k) _ (t k).acts a.is.0.0 a.is.1) t
-told_step size c h (OfJob k Aborted) l m t =
-    let a = has_at c h k _ m.0 in
+told_step size c base h (OfJob k Aborted) l m t =
+    let a = has_at c base h k _ m.0 in
     told_act h k Aborted (fits_aborted (acts_of h k) (has_ended h k) _ (t k).acts (elim a.is [ inl x ↦ inl x.0 | inr x ↦ inr x.1 ]) (ended_aborted h k)) t
-told_step size c h (AtPrinter p sheet Handed) l m t = told_handed h p sheet (turn_of_page c h p sheet m.0.0 m.0.1 m.1) t
-told_step size c h (AtPrinter p sheet (Printed x)) l m t = told_printed h p sheet x ((facts size c h l).out p sheet (is_out c h p sheet m.0 m.1.0)).1 t
-told_step size c h (AtPrinter p sheet Failed) l m t = told_failed h p sheet ((facts size c h l).out p sheet (is_out c h p sheet m.0 m.1)).1 t
-told_step size c h (Removed q jobs) l m t = λ j. told_removed h q jobs j (list_any (λ (k : ℕ). k == j) jobs) refl (named_going c h _ j jobs (λ v x. x.2) m.4) (t j)
-told_step size c h (Started q) l m t = λ j. told_started h q j (t j)
-told_step size c h Closed l m t = λ j. told_closed h j (t j)
+told_step size c base h (AtPrinter p sheet Handed) l m t = told_handed h p sheet (turn_of_page c base h p sheet m.0.0 m.0.1 m.1) t
+told_step size c base h (AtPrinter p sheet (Printed x)) l m t = told_printed h p sheet x ((facts size c base h l).out p sheet (is_out c base h p sheet m.0 m.1.0)).1 t
+told_step size c base h (AtPrinter p sheet Failed) l m t = told_failed h p sheet ((facts size c base h l).out p sheet (is_out c base h p sheet m.0 m.1)).1 t
+told_step size c base h (Removed q jobs) l m t = λ j. told_removed h q jobs j (list_any (λ (k : ℕ). k == j) jobs) refl (named_going c base h _ j jobs (λ v x. x.2) m.4) (t j)
+told_step size c base h (Started q) l m t = λ j. told_started h q j (t j)
+told_step size c base h Closed l m t = λ j. told_closed h j (t j)
 
-pub told : {C : Type 0} (size : C → ℕ) (c : Config) (h : List (Event C)) → IsLegal size c h → (j : ℕ) → Told h j
-told size c [] l j = record { acts = fits_none false; failed = omega arith; after = λ p. absurd (omega arith); removed = omega arith; gone = λ p. absurd (omega arith) }
-told size c (e ∷ h) l j = told_step size c h e l.1 l.0 (told size c h l.1) j
+pub told : {C : Type 0} (size : C → ℕ) (c : Config) (base : Base) (h : List (Event C)) → IsLegal size c base h → (j : ℕ) → Told h j
+told size c base [] l j = record { acts = fits_none false; failed = omega arith; after = λ p. absurd (omega arith); removed = omega arith; gone = λ p. absurd (omega arith) }
+told size c base (e ∷ h) l j = told_step size c base h e l.1 l.0 (told size c base h l.1) j
 
 -- pages within the limit
 
-abbrev Within : {C : Type 0} → Config → List (Event C) → Type 0
-Within c h = (o : Opening) → Has o (openings h) → granted_by (acts_of h o.job) ≤ limit_of c o.queue
+abbrev Within : {C : Type 0} → Config → Base → List (Event C) → Type 0
+Within c base h = (o : Opening) → Has o (openings h) → granted_by (acts_of h o.job) ≤ limit_of c o.queue
 
-within_act : {C : Type 0} (c : Config) (h : List (Event C)) (k : ℕ) (act : Act C) → ((o : Opening) → Has o (openings h) → k ≡ o.job → granted_by (act ∷ acts_of h o.job) ≤ limit_of c o.queue) → Within c h → Within c (OfJob k act ∷ h)
-within_act c h k act here w o has = elim (test k o.job) [ inl s ↦ rw s.1 (here o has s.0) | inr s ↦ rw s.1 (w o has) ]
+within_act : {C : Type 0} (c : Config) (base : Base) (h : List (Event C)) (k : ℕ) (act : Act C) → ((o : Opening) → Has o (openings h) → k ≡ o.job → granted_by (act ∷ acts_of h o.job) ≤ limit_of c o.queue) → Within c base h → Within c base (OfJob k act ∷ h)
+within_act c base h k act here w o has = elim (test k o.job) [ inl s ↦ rw s.1 (here o has s.0) | inr s ↦ rw s.1 (w o has) ]
 
-within_granted : {C : Type 0} (c : Config) (h : List (Event C)) (k : ℕ) (P : Job C → Type 0) → Facts h → (a : At h k P) → granted_by (acts_of h k) < limit_of c a.queue → Within c h → Within c (OfJob k Granted ∷ h)
-within_granted c h k P f a lt = within_act c h k Granted (λ o has same.
+within_granted : {C : Type 0} (c : Config) (base : Base) (h : List (Event C)) (k : ℕ) (P : Job C → Type 0) → Facts base h → (a : At h k P) → granted_by (acts_of h k) < limit_of c a.queue → Within c base h → Within c base (OfJob k Granted ∷ h)
+within_granted c base h k P f a lt = within_act c base h k Granted (λ o has same.
     let e : record { job = k; sender = a.sender; queue = a.queue } ≡ o = f.once (record { job = k; sender = a.sender; queue = a.queue }) o a.there has same in
     let b : granted_by (acts_of h o.job) < limit_of c o.queue = subst (λ (x : Opening). granted_by (acts_of h x.job) < limit_of c x.queue) e lt in
     omega arith)
 
-within_opened : {C : Type 0} (c : Config) (h : List (Event C)) (k s q : ℕ) → Facts h → k ≡ length (openings h) + 1 → Within c h → Within c (Opened k s q ∷ h)
-within_opened {C} c h k s q f is w o has =
+within_opened : {C : Type 0} (c : Config) (base : Base) (h : List (Event C)) (k s q : ℕ) → Facts base h → k ≡ last base h + 1 → Within c base h → Within c base (Opened k s q ∷ h)
+within_opened {C} c base h k s q f is w o has =
     elim (has_last o (openings h) (record { job = k; sender = s; queue = q }) has) [
       | inl t ↦ let old = w o t in omega arith
       | inr e ↦
           let j : k ≡ o.job = ap (λ (y : Opening). y.job) e in
-          let z : granted_by (acts_of h o.job) ≡ 0 = ap granted_by (f.fresh o.job (omega arith)).acts in
+          let z : granted_by (acts_of h o.job) ≡ 0 = ap granted_by (f.fresh o.job (inr (omega arith))).acts in
           omega arith
     ]
 
-within_step : {C : Type 0} (size : C → ℕ) (c : Config) (h : List (Event C)) (e : Event C) → IsLegal size c h → May size (now c h) e → Within c h → Within c (e ∷ h)
-within_step size c h (Opened k s q) l m w = within_opened c h k s q (facts size c h l) m.4 w
-within_step size c h (OfJob k Granted) l m w = let a = has_at c h k _ m.0 in within_granted c h k _ (facts size c h l) a a.is.1 w
-within_step size c h (OfJob k (Began name count)) l m w = within_act c h k (Began name count) (λ o has e. w o has) w
-within_step size c h (OfJob k (Put file number page)) l m w = within_act c h k (Put file number page) (λ o has e. w o has) w
-within_step size c h (OfJob k (FileEnded file whole)) l m w = within_act c h k (FileEnded file whole) (λ o has e. w o has) w
-within_step size c h (OfJob k (Controlled control whole)) l m w = within_act c h k (Controlled control whole) (λ o has e. w o has) w
-within_step size c h (OfJob k Aborted) l m w = within_act c h k Aborted (λ o has e. w o has) w
-within_step size c h (AtPrinter p sheet turn) l m w = w
-within_step size c h (Removed q jobs) l m w = w
-within_step size c h (Started q) l m w = w
-within_step size c h Closed l m w = w
+within_step : {C : Type 0} (size : C → ℕ) (c : Config) (base : Base) (h : List (Event C)) (e : Event C) → IsLegal size c base h → May size (now c base h) e → Within c base h → Within c base (e ∷ h)
+within_step size c base h (Opened k s q) l m w = within_opened c base h k s q (facts size c base h l) m.4 w
+within_step size c base h (OfJob k Granted) l m w = let a = has_at c base h k _ m.0 in within_granted c base h k _ (facts size c base h l) a a.is.1 w
+within_step size c base h (OfJob k (Began name count)) l m w = within_act c base h k (Began name count) (λ o has e. w o has) w
+within_step size c base h (OfJob k (Put file number page)) l m w = within_act c base h k (Put file number page) (λ o has e. w o has) w
+within_step size c base h (OfJob k (FileEnded file whole)) l m w = within_act c base h k (FileEnded file whole) (λ o has e. w o has) w
+within_step size c base h (OfJob k (Controlled control whole)) l m w = within_act c base h k (Controlled control whole) (λ o has e. w o has) w
+within_step size c base h (OfJob k Aborted) l m w = within_act c base h k Aborted (λ o has e. w o has) w
+within_step size c base h (AtPrinter p sheet turn) l m w = w
+within_step size c base h (Removed q jobs) l m w = w
+within_step size c base h (Started q) l m w = w
+within_step size c base h Closed l m w = w
 
-within : {C : Type 0} (size : C → ℕ) (c : Config) (h : List (Event C)) → IsLegal size c h → Within c h
-within size c [] l = λ o has. absurd has
-within size c (e ∷ h) l = within_step size c h e l.1 l.0 (within size c h l.1)
+within : {C : Type 0} (size : C → ℕ) (c : Config) (base : Base) (h : List (Event C)) → IsLegal size c base h → Within c base h
+within size c base [] l = λ o has. absurd has
+within size c base (e ∷ h) l = within_step size c base h e l.1 l.0 (within size c base h l.1)
 
 -- all that is told of a job, its opening and the rest, is within its reserve
 abbrev pub used : {C : Type 0} → List (Event C) → ℕ → ℕ
 used h j = 1 + length (acts_of h j) + (handed_at h j + (back_of h j + (failed_of h j + removed_of h j)))
 
-pub reserved : {C : Type 0} (size : C → ℕ) (c : Config) (h : List (Event C)) → IsLegal size c h → (o : Opening) → Has o (openings h) → used h o.job ≤ reserve_of c o.queue
-reserved {C} size c h l o has =
+pub reserved : {C : Type 0} (size : C → ℕ) (c : Config) (base : Base) (h : List (Event C)) → IsLegal size c base h → (o : Opening) → Has o (openings h) → used h o.job ≤ reserve_of c o.queue
+reserved {C} size c base h l o has =
     let j = o.job in
     let a = acts_of h j in
-    let t = told size c h l j in
+    let t = told size c base h l j in
     let count = all_counted a in
     let t2 = t.acts.puts in
     let t3 = t.acts.files in
@@ -260,9 +261,9 @@ reserved {C} size c h l o has =
     let t8 = t.removed in
     let b1 = began_files a in
     let b2 = count_le (files_by a) in
-    let w = within size c h l o has in
-    let s = sound size c h l o in
+    let w = within size c base h l o has in
+    let s = sound size c base h l o in
     let back = s.back in
     let handed = s.handed in
-    let places = s.within in
+    let places = s.many in
     omega arith

@@ -4,6 +4,7 @@ use Rattle.std.specs.Prelude.{◌&&◌, not, cond, find, Option, Some, None}
 use Rattle.std.specs.List.{list_any}
 use Rattle.std.proofs.lemmas.Bool.Decides.{nat_tests}
 use Rattle.std.proofs.lemmas.Bool.{and_parts, not-true}
+use Rattle.spool_history.specs.Base.{Base}
 use Rattle.spool_history.specs.Events.{Event, Sheet}
 use Rattle.config_values.specs.Config.{Config}
 use Rattle.spool_history.specs.Acts.{Page}
@@ -97,6 +98,6 @@ given v p sheet e =
     (o.0, given_by v.jobs (printer_at v p) sheet (turn_of v.jobs (printer_at v p).queue (printer_at v p).began) i.0 refl i.1)
 
 -- that job is an accepted one
-pub given_at : {C : Type 0} (c : Config) (h : List (Event C)) (p : Printer C) (sheet : Sheet C) → Given (now c h).jobs p sheet → At h sheet.job (λ v. Gets sheet v)
-given_at {C} c h p sheet g =
-    known_at h g.job sheet.job (λ v. Gets sheet v) (known c h g.job g.turn.there) (sym (ap (λ (s : Sheet C). s.job) g.gets.is)) g.gets
+pub given_at : {C : Type 0} (c : Config) (base : Base) (h : List (Event C)) (p : Printer C) (sheet : Sheet C) → Given (now c base h).jobs p sheet → At h sheet.job (λ v. Gets sheet v)
+given_at {C} c base h p sheet g =
+    known_at h g.job sheet.job (λ v. Gets sheet v) (known c base h g.job g.turn.there) (sym (ap (λ (s : Sheet C). s.job) g.gets.is)) g.gets

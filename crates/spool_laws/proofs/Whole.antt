@@ -2,6 +2,7 @@
 use Rattle.std.proofs.Common.{inl, inr, ◌≡◌, ◌≢◌, ℕ, true, false, List, [], ◌∷◌, length, take, refl, sym, ◌∙◌, ap, subst, arith}
 use Rattle.std.proofs.Math.Seq.{take-length}
 use Rattle.std.proofs.lemmas.Bool.{or_right}
+use Rattle.spool_history.specs.Base.{Base}
 use Rattle.spool_history.specs.Events.{Act, Event, Sheet, Turn}
 use Rattle.spool_history.specs.Events.Act.{Granted, Began, Put, FileEnded, Controlled, Aborted}
 use Rattle.spool_history.specs.Events.Progress.{Going, Done, Ended}
@@ -53,10 +54,10 @@ whole_handed {C} h p sheet t w j e =
 whole_back : {C : Type 0} (h : List (Event C)) (p : ℕ) (sheet : Sheet C) (turn : Turn) (j : ℕ) → is_handed turn ≡ false → WholeAt h j → WholeAt (AtPrinter p sheet turn ∷ h) j
 whole_back h p sheet turn j is i = (still_ended h (AtPrinter p sheet turn) j i.0, ap length (handed_same h p sheet turn j is) ∙ i.1)
 
-whole_done : {C : Type 0} (size : C → ℕ) (c : Config) (h : List (Event C)) (p : ℕ) (sheet : Sheet C) → IsLegal size c h → May size (now c h) (AtPrinter p sheet (Printed Done)) → Whole h → Whole (AtPrinter p sheet (Printed Done) ∷ h)
-whole_done {C} size c h p sheet l m w j e =
-    let last = ((says size c h p sheet Done l m).done.0 refl).1 in
-    let out = (facts size c h l).out p sheet (is_out c h p sheet m.0 m.1.0) in
+whole_done : {C : Type 0} (size : C → ℕ) (c : Config) (base : Base) (h : List (Event C)) (p : ℕ) (sheet : Sheet C) → IsLegal size c base h → May size (now c base h) (AtPrinter p sheet (Printed Done)) → Whole h → Whole (AtPrinter p sheet (Printed Done) ∷ h)
+whole_done {C} size c base h p sheet l m w j e =
+    let last = ((says size c base h p sheet Done l m).done.0 refl).1 in
+    let out = (facts size c base h l).out p sheet (is_out c base h p sheet m.0 m.1.0) in
     let o1 = out.1 in
     let o2 = out.2 in
     let full : handed_at h sheet.job ≡ length (places_of h sheet.job) = omega arith in
@@ -65,28 +66,28 @@ whole_done {C} size c h p sheet l m w j e =
       | inr s ↦ whole_back h p sheet (Printed Done) j refl (w j (rw s.1 at e))
     ]
 
-whole_step : {C : Type 0} (size : C → ℕ) (c : Config) (h : List (Event C)) (e : Event C) → IsLegal size c h → May size (now c h) e → Whole h → Whole (e ∷ h)
-whole_step size c h (Opened k s q) l m w = w
-whole_step size c h (OfJob k Granted) l m w = whole_act h k Granted (λ e. absurd (clash (has_ended h k) e (has_at c h k _ m.0).is.0.0.0)) w
-whole_step size c h (OfJob k (Began name count)) l m w = whole_act h k (Began name count) (λ e. absurd (clash (has_ended h k) e (has_at c h k _ m.0).is.0.0)) w
-whole_step size c h (OfJob k (Put file number page)) l m w = whole_act h k (Put file number page) (λ e. absurd (clash (has_ended h k) e (has_at c h k _ m.0).is.0.0)) w
-whole_step size c h (OfJob k (FileEnded file whole)) l m w = whole_act h k (FileEnded file whole) (λ e. absurd (clash (has_ended h k) e (has_at c h k _ m.0).is.0.0)) w
-whole_step size c h (OfJob k (Controlled control whole)) l m w = whole_act h k (Controlled control whole) (λ e. absurd (clash (has_ended h k) e (has_at c h k _ m.0).is.0.0)) w
-whole_step size c h (OfJob k Aborted) l m w = whole_act h k Aborted (λ e. aborted_places h k) w
-whole_step size c h (AtPrinter p sheet Handed) l m w = whole_handed h p sheet (turn_of_page c h p sheet m.0.0 m.0.1 m.1) w
-whole_step size c h (AtPrinter p sheet (Printed Going)) l m w = λ j e. whole_back h p sheet (Printed Going) j refl (w j e)
-whole_step size c h (AtPrinter p sheet (Printed Done)) l m w = whole_done size c h p sheet l m w
-whole_step size c h (AtPrinter p sheet (Printed Ended)) l m w = λ j e. whole_back h p sheet (Printed Ended) j refl (w j e)
-whole_step size c h (AtPrinter p sheet Failed) l m w = λ j e. whole_back h p sheet Failed j refl (w j e)
-whole_step size c h (Removed q jobs) l m w = λ j e. (still_ended h (Removed q jobs) j (w j e).0, (w j e).1)
-whole_step size c h (Started q) l m w = w
-whole_step size c h Closed l m w = λ j e. (refl, (w j e).1)
+whole_step : {C : Type 0} (size : C → ℕ) (c : Config) (base : Base) (h : List (Event C)) (e : Event C) → IsLegal size c base h → May size (now c base h) e → Whole h → Whole (e ∷ h)
+whole_step size c base h (Opened k s q) l m w = w
+whole_step size c base h (OfJob k Granted) l m w = whole_act h k Granted (λ e. absurd (clash (has_ended h k) e (has_at c base h k _ m.0).is.0.0.0)) w
+whole_step size c base h (OfJob k (Began name count)) l m w = whole_act h k (Began name count) (λ e. absurd (clash (has_ended h k) e (has_at c base h k _ m.0).is.0.0)) w
+whole_step size c base h (OfJob k (Put file number page)) l m w = whole_act h k (Put file number page) (λ e. absurd (clash (has_ended h k) e (has_at c base h k _ m.0).is.0.0)) w
+whole_step size c base h (OfJob k (FileEnded file whole)) l m w = whole_act h k (FileEnded file whole) (λ e. absurd (clash (has_ended h k) e (has_at c base h k _ m.0).is.0.0)) w
+whole_step size c base h (OfJob k (Controlled control whole)) l m w = whole_act h k (Controlled control whole) (λ e. absurd (clash (has_ended h k) e (has_at c base h k _ m.0).is.0.0)) w
+whole_step size c base h (OfJob k Aborted) l m w = whole_act h k Aborted (λ e. aborted_places h k) w
+whole_step size c base h (AtPrinter p sheet Handed) l m w = whole_handed h p sheet (turn_of_page c base h p sheet m.0.0 m.0.1 m.1) w
+whole_step size c base h (AtPrinter p sheet (Printed Going)) l m w = λ j e. whole_back h p sheet (Printed Going) j refl (w j e)
+whole_step size c base h (AtPrinter p sheet (Printed Done)) l m w = whole_done size c base h p sheet l m w
+whole_step size c base h (AtPrinter p sheet (Printed Ended)) l m w = λ j e. whole_back h p sheet (Printed Ended) j refl (w j e)
+whole_step size c base h (AtPrinter p sheet Failed) l m w = λ j e. whole_back h p sheet Failed j refl (w j e)
+whole_step size c base h (Removed q jobs) l m w = λ j e. (still_ended h (Removed q jobs) j (w j e).0, (w j e).1)
+whole_step size c base h (Started q) l m w = w
+whole_step size c base h Closed l m w = λ j e. (refl, (w j e).1)
 
-whole : {C : Type 0} (size : C → ℕ) (c : Config) (h : List (Event C)) → IsLegal size c h → Whole h
-whole size c [] l = λ j e. absurd cc
-whole size c (e ∷ h) l = whole_step size c h e l.1 l.0 (whole size c h l.1)
+whole : {C : Type 0} (size : C → ℕ) (c : Config) (base : Base) (h : List (Event C)) → IsLegal size c base h → Whole h
+whole size c base [] l = λ j e. absurd cc
+whole size c base (e ∷ h) l = whole_step size c base h e l.1 l.0 (whole size c base h l.1)
 
-pub all_placed : {C : Type 0} (size : C → ℕ) (c : Config) (h : List (Event C)) → IsLegal size c h → (j : ℕ) → is_done h j ≡ true → handed_of h j ≡ sheets j 0 (places_of h j)
-all_placed size c h l j e =
-    let n = (whole size c h l j e).1 in
-    placed size c h l j ∙ (ap (λ (m : ℕ). sheets j 0 (take m (places_of h j))) n ∙ ap (sheets j 0) (take-length (places_of h j)))
+pub all_placed : {C : Type 0} (size : C → ℕ) (c : Config) (base : Base) (h : List (Event C)) → IsLegal size c base h → (j : ℕ) → is_done h j ≡ true → handed_of h j ≡ sheets j 0 (places_of h j)
+all_placed size c base h l j e =
+    let n = (whole size c base h l j e).1 in
+    placed size c base h l j ∙ (ap (λ (m : ℕ). sheets j 0 (take m (places_of h j))) n ∙ ap (sheets j 0) (take-length (places_of h j)))

@@ -7,6 +7,7 @@ use Rattle.spool_history.specs.Events.Event.{AtPrinter}
 use Rattle.spool_history.specs.Acts.{Page, control_by, files_by, places_in}
 use Rattle.spool_history.specs.Said.{Opening, openings, acts_of, handed_of, has_ended, is_closed, is_done}
 use Rattle.config_values.specs.Config.{Config}
+use Rattle.spool_history.specs.Base.{Base}
 use Rattle.spool_history.specs.Now.{is_held, job_of}
 use Rattle.spool_history.specs.Legal.{IsLegal}
 
@@ -17,8 +18,8 @@ EachHanded P (AtPrinter printer sheet Handed ∷ h) = P h sheet × EachHanded P 
 EachHanded P (_ ∷ h) = EachHanded P h
 
 -- the spool was not closed
-abbrev pub IsOpen : {C : Type 0} → List (Event C) → Sheet C → Type 0
-IsOpen h sheet = is_closed h ≡ false
+abbrev pub IsOpen : {C : Type 0} → Base → List (Event C) → Sheet C → Type 0
+IsOpen b h sheet = is_closed b h ≡ false
 
 -- the job of the page had not ended
 abbrev pub HasNotEnded : {C : Type 0} → List (Event C) → Sheet C → Type 0
@@ -26,11 +27,15 @@ HasNotEnded h sheet = has_ended h sheet.job ≡ false
 
 -- nothing is handed after the close
 abbrev pub NothingAfterTheClose : Type 0 → Type 0
-NothingAfterTheClose C = (size : C → ℕ) (c : Config) (h : List (Event C)) → IsLegal size c h → EachHanded IsOpen h
+NothingAfterTheClose C =
+    (size : C → ℕ) (c : Config) (b : Base) (h : List (Event C)) → IsLegal size c b h
+    → EachHanded (IsOpen b) h
 
 -- nothing of a job is handed after its end
 abbrev pub NothingAfterTheEnd : Type 0 → Type 0
-NothingAfterTheEnd C = (size : C → ℕ) (c : Config) (h : List (Event C)) → IsLegal size c h → EachHanded HasNotEnded h
+NothingAfterTheEnd C =
+    (size : C → ℕ) (c : Config) (b : Base) (h : List (Event C)) → IsLegal size c b h
+    → EachHanded HasNotEnded h
 
 -- of each page that is printed, P holds of the events before it, of the page and of what is said of its job
 abbrev pub EachPrinted : {C : Type 0} → (List (Event C) → Sheet C → Progress → Type 0) → List (Event C) → Type 0
@@ -52,7 +57,9 @@ pub record SaysWhatIs {C : Type 0} (h : List (Event C)) (sheet : Sheet C) (progr
   pub ended : (progress ≡ Ended) ↔ (has_ended h sheet.job ≡ true)
 
 abbrev pub DoneForTheLastPlace : Type 0 → Type 0
-DoneForTheLastPlace C = (size : C → ℕ) (c : Config) (h : List (Event C)) → IsLegal size c h → EachPrinted SaysWhatIs h
+DoneForTheLastPlace C =
+    (size : C → ℕ) (c : Config) (b : Base) (h : List (Event C)) → IsLegal size c b h
+    → EachPrinted SaysWhatIs h
 
 -- places of a job as printers get them, the first of which has this number
 abbrev pub sheets : {C : Type 0} → (job place : ℕ) → List (Page C) → List (Sheet C)
@@ -61,11 +68,15 @@ sheets job n (x ∷ xs) = record { job = job; place = n; file = x.file; number =
 
 -- what was handed of a job are its first places, in order, each once and as it was put
 abbrev pub FirstPlacesInOrder : Type 0 → Type 0
-FirstPlacesInOrder C = (size : C → ℕ) (c : Config) (h : List (Event C)) → IsLegal size c h → (j : ℕ) → handed_of h j ≡ sheets j 0 (take (length (handed_of h j)) (places_of h j))
+FirstPlacesInOrder C =
+    (size : C → ℕ) (c : Config) (b : Base) (h : List (Event C)) → IsLegal size c b h → (j : ℕ)
+    → handed_of h j ≡ sheets j 0 (take (length (handed_of h j)) (places_of h j))
 
 -- and all of them, where the job is done
 abbrev pub AllPlacesOfDone : Type 0 → Type 0
-AllPlacesOfDone C = (size : C → ℕ) (c : Config) (h : List (Event C)) → IsLegal size c h → (j : ℕ) → is_done h j ≡ true → handed_of h j ≡ sheets j 0 (places_of h j)
+AllPlacesOfDone C =
+    (size : C → ℕ) (c : Config) (b : Base) (h : List (Event C)) → IsLegal size c b h → (j : ℕ)
+    → is_done h j ≡ true → handed_of h j ≡ sheets j 0 (places_of h j)
 
 -- each earlier job of the same sender and queue was gone: it had ended, and no page of it was out
 abbrev pub EarlierAreGone : {C : Type 0} → List (Event C) → Sheet C → Type 0
@@ -73,4 +84,6 @@ EarlierAreGone h sheet = (earlier later : Opening) → Contains (openings h) ear
     → earlier.job < later.job → earlier.sender ≡ later.sender → earlier.queue ≡ later.queue → is_held (job_of h earlier) ≡ false
 
 abbrev pub InOrderOfAcceptance : Type 0 → Type 0
-InOrderOfAcceptance C = (size : C → ℕ) (c : Config) (h : List (Event C)) → IsLegal size c h → EachHanded EarlierAreGone h
+InOrderOfAcceptance C =
+    (size : C → ℕ) (c : Config) (b : Base) (h : List (Event C)) → IsLegal size c b h
+    → EachHanded EarlierAreGone h

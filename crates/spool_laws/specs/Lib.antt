@@ -4,3 +4,4 @@ pub mod Reserve
 pub mod Outline
 pub mod Sums
 pub mod Safety
+pub mod Rotating

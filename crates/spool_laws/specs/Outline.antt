@@ -4,6 +4,7 @@ use Rattle.spool_history.specs.Events.{Act, Sheet, Event}
 use Rattle.spool_history.specs.Events.Act.{Granted, Began, Put, FileEnded, Controlled, Aborted}
 use Rattle.spool_history.specs.Events.Event.{Opened, OfJob, AtPrinter, Removed, Started, Closed}
 use Rattle.config_values.specs.Config.{Config}
+use Rattle.spool_history.specs.Base.{Base}
 use Rattle.spool_history.specs.Legal.{IsLegal}
 
 -- of an act: only a page that was put changes
@@ -36,4 +37,4 @@ outline f h = map (outline_event f) h
 abbrev pub OutlineIsLegal : Type 0 → Type 0 → Type 0
 OutlineIsLegal A B =
     (f : A → B) (size : A → ℕ) (short : B → ℕ) → ((page : A) → short (f page) ≡ size page)
-    → (c : Config) (h : List (Event A)) → IsLegal size c h → IsLegal short c (outline f h)
+    → (c : Config) (b : Base) (h : List (Event A)) → IsLegal size c b h → IsLegal short c b (outline f h)

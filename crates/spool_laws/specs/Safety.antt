@@ -2,6 +2,7 @@
 use Rattle.std.specs.Prelude.{ℕ, ◌≤◌, List}
 use Rattle.spool_history.specs.Events.{Event}
 use Rattle.config_values.specs.Config.{IsQueue, Config, queue_at, limit_of}
+use Rattle.spool_history.specs.Base.{Base}
 use Rattle.spool_history.specs.Now.{now, IsSafeNow}
 use Rattle.spool_history.specs.Legal.{IsLegal}
 
@@ -12,4 +13,6 @@ pub record EachCouldFinish (c : Config) : Type 0 where
 
 -- after every legal history the held jobs have a finishing order
 abbrev pub StaysSafe : Type 0 → Type 0
-StaysSafe C = (size : C → ℕ) (c : Config) (h : List (Event C)) → EachCouldFinish c → IsLegal size c h → IsSafeNow (now c h)
+StaysSafe C =
+    (size : C → ℕ) (c : Config) (b : Base) (h : List (Event C)) → EachCouldFinish c
+    → IsLegal size c b h → IsSafeNow (now c b h)
