@@ -1,6 +1,6 @@
 //! Where a history leaves a spool.
 
-ghost use Rattle.std.specs.Prelude.{◌≡◌, ◌≤◌, ◌*◌, ◌^◌, ◌++◌, IfOk, OnOk, filter, length, map, sum_by};
+ghost use Rattle.std.specs.Prelude.{◌≡◌, ◌≤◌, ◌+◌, ◌*◌, ◌^◌, ◌++◌, IfOk, OnOk, filter, length, map, sum_by};
 ghost use Rattle.spool_history.specs.Now as N;
 ghost use Rattle.spool_history.specs.Said as D;
 ghost use Rattle.config_values.specs.Config as S;
@@ -45,6 +45,16 @@ fn reserves_of(config: &Config, opened: &[Opening]) -> u128
     u128::from(config.reserve_of(first.queue)) + reserves_of(config, rest)
 }
 
+/// So many entries, and the reserves of these jobs.
+fn counted(config: &Config, before: u64, opened: &[Opening]) -> u128
+    ensures { result
+        ≡ before
+        + sum_by (λ (o : D.Opening). S.reserve_of config.now o.queue)
+        (map opening_seen opened.now) }
+{
+    u128::from(before) + reserves_of(config, opened)
+}
+
 /// What a history says of each printer, in order of their numbers.
 fn printers_in(
     alloc: Global,
@@ -80,7 +90,7 @@ pub fn now(
     Ok(State {
         jobs,
         accepted: u128::from(base.accepted) + opened.len() as u128,
-        reserved: u128::from(base.reserved) + reserves_of(config, opened),
+        reserved: counted(config, base.reserved, opened),
         printers: printers_in(alloc, config, base, entries)?,
         closed: is_closed(base, entries),
     })
