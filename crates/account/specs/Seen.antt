@@ -1,7 +1,9 @@
 -- What entries say, in the words of the definitions.
 use Rattle.std.specs.Prelude.{ℕ, List, map}
 use Rattle.control_file.specs.View.{contents}
+use Rattle.spool_history.specs.Base as B
 use Rattle.spool_history.specs.Events as E
+use Rattle.account.specs.declared.base.Base.{Base}
 use Rattle.account.specs.declared.entry.Outline.{Outline}
 use Rattle.account.specs.declared.entry.Act.{Act}
 use Rattle.account.specs.declared.entry.Act.TheVariants as act
@@ -46,6 +48,9 @@ event_seen entry.Closed = E.Event.Closed
 -- the history that a list of entries tells, the newest first
 abbrev pub history : List Entry → List (E.Event Outline)
 history entries = map event_seen entries
+
+abbrev pub base_seen : Base → B.Base
+base_seen b = record { accepted = b.accepted; reserved = b.reserved; closed = b.closed; stopped = b.stopped.items }
 
 -- the octets of a page
 abbrev pub octets : Outline → ℕ

@@ -10,7 +10,7 @@ use Rattle.control_file.specs.declared.control.Control.{Control}
 use Rattle.control_file.specs.View.{contents, GivesControl}
 use Rattle.lpd_values.specs.Kept.{is_operand_len}
 use Rattle.lpd_values.specs.Contents.{Contents}
-use Rattle.control_file.specs.Text.{lines_of, operands_of, is_host_letter, is_user_letter, is_print_letter, first_host, first_user, prints_of, each_once, print_list, with_prints, control_with, control_of}
+use Rattle.control_file.specs.Text.{lines_of, operands_of, is_host_letter, is_user_letter, is_print_letter, first_host, first_user, prints_of, print_list, with_prints, control_with, control_of}
 use Rattle.control_file.specs.Layout.{AreLines, IsFirst, AreOperands, Parts, IsTextLength, IsFit, IsSent, MeansControl, RefusesControl}
 use Rattle.lpd_values.specs.declared.limits.TheConstants.{MAX_CONTROL_TEXT, MAX_PRINTS}
 use Rattle.control_file.specs.Laws.{ControlIsExact, ControlIsDecided, AnswersControl}
@@ -80,7 +80,7 @@ unfit_gives n (Some host) (Some user) names a b h =
 -- the names that are printed
 abbrev list_by : List (List ℕ) → Bool → Bool → Bool → Result (List (List ℕ)) Refusal
 list_by names none many all =
-    if none then Err NoPrintLine else if many then Err TooManyPrints else if all then Ok (each_once names) else Err BadName
+    if none then Err NoPrintLine else if many then Err TooManyPrints else if all then Ok names else Err BadName
 
 list_gives : (names : List (List ℕ)) (none many all : Bool) → (length names == 0) ≡ none → nat_lt MAX_PRINTS (length names) ≡ many → list_all is_data_name names ≡ all → print_list names ≡ list_by names none many all
 list_gives names none many all a b c =
@@ -117,7 +117,7 @@ means_ok name text said h =
     ∙ (ap (λ v. control_with n v h.parts.user names) h.host ∙ (ap (λ v. control_with n (Some said.host) v names) h.user
     ∙ (lengths_fit n said.host said.user names host_fits user_fits
     ∙ (ap (with_prints said.host said.user n) (list_gives names false false true (not_zero _ h.some) (le-ltb MAX_PRINTS _ h.few) h.data_names)
-    ∙ (ap (λ v. Ok (said_by said.host said.user v (each_once names))) (sym h.number) ∙ ap (λ v. Ok (said_by said.host said.user said.number v)) (sym h.prints))))))
+    ∙ (ap (λ v. Ok (said_by said.host said.user v names)) (sym h.number) ∙ ap (λ v. Ok (said_by said.host said.user said.number v)) (sym h.prints))))))
 
 no_names : (names : List (List ℕ)) → names ≡ [] → print_list names ≡ Err NoPrintLine
 no_names names h = ap print_list h
@@ -172,7 +172,7 @@ sent_decision name text host user parts sent h u =
                 elim (cases_Bool (list_all is_data_name parts.names)) [
                   | inl d ↦
                       inl (
-                        said_by host user (number_of name) (each_once parts.names),
+                        said_by host user (number_of name) parts.names,
                         record {
                           parts = parts;
                           sent = sent;

@@ -1,7 +1,7 @@
 -- What is written, and how it is laid out.
-use Rattle.std.proofs.Common.{◌≡◌, ◌<◌, ◌≤◌, ℕ, true, false, not, List, [], ◌∷◌, ◌++◌, ◌+◌, length, take, get_or, filter, map, Some, refl, ap, sym, ◌∙◌, arith, append_assoc}
+use Rattle.std.proofs.Common.{◌≡◌, ◌<◌, ◌≤◌, ℕ, true, List, [], ◌∷◌, ◌++◌, ◌+◌, length, take, get_or, map, Some, refl, ap, sym, ◌∙◌, arith, append_assoc}
 use Rattle.std.specs.List.{list_all}
-use Rattle.std.proofs.lemmas.Bool.{not-true, and_parts, and_from, leb-true, or_parts}
+use Rattle.std.proofs.lemmas.Bool.{and_parts, and_from, leb-true}
 use Rattle.std.proofs.lemmas.Bool.Decides.{nat_tests}
 use Rattle.std.proofs.lemmas.List.{take_more}
 use Rattle.lpd_values.specs.Kinds.{is_word_octet}
@@ -12,12 +12,11 @@ use Rattle.lpd_values.proofs.PieceLemmas.{list_all-wider}
 use Rattle.lpd_values.specs.declared.limits.TheConstants.{MAX_PRINTS}
 use Rattle.control_file.specs.declared.control.Control.{Control}
 use Rattle.control_file.specs.View.{contents}
-use Rattle.lpd_values.specs.Kept.{is_line_feed, is_among, all_differ, is_print_list}
-use Rattle.control_file.specs.Text.{each_once, is_print_letter}
+use Rattle.lpd_values.specs.Kept.{is_line_feed, is_print_list}
+use Rattle.control_file.specs.Text.{is_print_letter}
 use Rattle.control_file.specs.Layout.{AreLines, AreOperands}
 use Rattle.control_file.specs.Written.{print_lines, control_text}
 use Rattle.control_file.specs.Laws.{ControlIsReadBack}
-use Rattle.control_file.proofs.PrintLemmas.{bytes_eq-sym, filter-yes, is_other}
 use Rattle.control_file.proofs.TextLemmas.{add_before}
 use Rattle.control_file.proofs.ControlLaws.{means_ok}
 
@@ -52,28 +51,15 @@ prints_are : (ns : List (List ℕ)) → AreOperands is_print_letter ns (map prin
 prints_are [] = refl
 prints_are (n ∷ ns) = ([], 102, map print_line ns, refl, refl, refl, prints_are ns)
 
--- where no name is n, all stay
-all_other : (n : List ℕ) (xs : List (List ℕ)) → is_among n xs ≡ false → filter (is_other n) xs ≡ xs
-all_other n [] h = refl
-all_other n (x ∷ xs) h =
-    filter-yes (is_other n) x xs (ap not (bytes_eq-sym n x ∙ (or_parts _ _ h).0)) ∙ ap (λ v. x ∷ v) (all_other n xs ((or_parts _ _ h).1))
-
--- names that differ are there each once
-each_once-same : (ns : List (List ℕ)) → all_differ ns ≡ true → each_once ns ≡ ns
-each_once-same [] h = refl
-each_once-same (n ∷ ns) h =
-    ap (λ v. n ∷ filter (is_other n) v) (each_once-same ns (and_parts _ _ h).1) ∙ ap (λ v. n ∷ v) (all_other n ns (not-true (is_among n ns) (and_parts _ _ h).0))
-
 pub control_is_read_back : (control : Control) (name : List ℕ) → ControlIsReadBack control name
 control_is_read_back control name e k =
     let host : List ℕ = control.host in
     let user : List ℕ = control.user in
     let prints : List (List ℕ) = control.prints in
     let fit : is_print_list prints ≡ true = control.prints_fit in
-    let distinct : all_differ prints ≡ true = (and_parts _ _ fit).1 in
-    let data_names : list_all is_data_name prints ≡ true = (and_parts _ _ (and_parts _ _ fit).0).1 in
-    let few : length prints ≤ MAX_PRINTS = leb-true (length prints) MAX_PRINTS (and_parts _ _ (and_parts _ _ (and_parts _ _ fit).0).0).1 in
-    let some : 1 ≤ length prints = leb-true 1 (length prints) (and_parts _ _ (and_parts _ _ (and_parts _ _ fit).0).0).0 in
+    let data_names : list_all is_data_name prints ≡ true = (and_parts _ _ fit).1 in
+    let few : length prints ≤ MAX_PRINTS = leb-true (length prints) MAX_PRINTS (and_parts _ _ (and_parts _ _ fit).0).1 in
+    let some : 1 ≤ length prints = leb-true 1 (length prints) (and_parts _ _ (and_parts _ _ fit).0).0 in
     let h = control.host_fits in
     let u = control.user_fits in
     let lines : List (List ℕ) = (72 ∷ host) ∷ (80 ∷ user) ∷ map print_line prints in
@@ -102,5 +88,5 @@ control_is_read_back control name e k =
       host = refl;
       user = refl;
       number = sym e;
-      prints = sym (each_once-same prints distinct);
+      prints = refl;
     })

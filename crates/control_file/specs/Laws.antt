@@ -1,14 +1,13 @@
 -- What holds of all control texts.
-use Rattle.std.specs.Prelude.{◌≡◌, ◌≤◌, ◌↔◌, ◌⊎◌, ◌++◌, ℕ, List, Result, Ok, Err, IsTrue, filter, length, not, MatchResult}
+use Rattle.std.specs.Prelude.{◌≡◌, ◌≤◌, ◌↔◌, ◌⊎◌, ℕ, List, Result, Ok, Err, length, MatchResult}
 use Rattle.lpd_values.specs.declared.refusal.Refusal.{Refusal}
 use Rattle.lpd_values.specs.declared.refusal.Refusal.TheVariants.{Memory}
 use Rattle.lpd_values.specs.Decided.{IsDecided}
 use Rattle.lpd_values.specs.Name.{number_of}
 use Rattle.lpd_values.specs.declared.limits.TheConstants.{MAX_CONTROL_TEXT}
 use Rattle.control_file.specs.declared.control.Control.{Control}
-use Rattle.lpd_values.specs.Kept.{is_among, all_differ}
 use Rattle.lpd_values.specs.Contents.{Contents}
-use Rattle.control_file.specs.Text.{control_of, each_once}
+use Rattle.control_file.specs.Text.{control_of}
 use Rattle.control_file.specs.Layout.{MeansControl, RefusesControl}
 use Rattle.control_file.specs.Written.{control_text}
 use Rattle.control_file.specs.View.{contents}
@@ -22,14 +21,6 @@ ControlIsExact name text =
 -- a text has one meaning or one refusal, and not both
 abbrev pub ControlIsDecided : List ℕ → List ℕ → Type 0
 ControlIsDecided name text = IsDecided (MeansControl name text) (RefusesControl text)
-
--- a list with each name once has the same names, all different, and of two lists joined the second adds what is new
-pub record KeepsFirsts (names more : List (List ℕ)) : Type 0 where
-  pub same : (name : List ℕ) → is_among name (each_once names) ≡ is_among name names
-  pub differ : IsTrue (all_differ (each_once names))
-  pub joined :
-      each_once (names ++ more)
-      ≡ each_once names ++ filter (λ name. not (is_among name names)) (each_once more)
 
 -- what is written is read back under a name with its number, where the text isn't too long
 abbrev pub ControlIsReadBack : Control → List ℕ → Type 0

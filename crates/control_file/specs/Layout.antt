@@ -8,7 +8,7 @@ use Rattle.lpd_values.specs.declared.refusal.Refusal.TheVariants.{NoHost, NoUser
 use Rattle.lpd_values.specs.declared.limits.TheConstants.{MAX_CONTROL_TEXT, MAX_PRINTS}
 use Rattle.lpd_values.specs.Kept.{is_line_feed, is_operand_len}
 use Rattle.lpd_values.specs.Contents.{Contents}
-use Rattle.control_file.specs.Text.{each_once, is_host_letter, is_user_letter, is_print_letter}
+use Rattle.control_file.specs.Text.{is_host_letter, is_user_letter, is_print_letter}
 
 -- one or more octets without LF
 abbrev pub IsLine : List ℕ → Type 0
@@ -83,7 +83,7 @@ pub record MeansControl (name text : List ℕ) (contents : Contents) : Type 0 wh
   pub host : parts.host ≡ Some contents.host
   pub user : parts.user ≡ Some contents.user
   pub number : contents.number ≡ number_of name
-  pub prints : contents.prints ≡ each_once parts.names
+  pub prints : contents.prints ≡ parts.names
 
 -- this refusal's fault is in the text, and none that is tested earlier
 abbrev pub RefusesControl : List ℕ → Refusal → Type 0

@@ -1,7 +1,6 @@
 -- What the text of a control file means, as a function of its octets.
-use Rattle.std.specs.Prelude.{ℕ, Bool, List, [], ◌∷◌, ◌==◌, ◌||◌, nat_lt, length, filter, not, Option, Some, None, Result, Ok, Err, if◌then◌else◌, slice_get}
+use Rattle.std.specs.Prelude.{ℕ, Bool, List, [], ◌∷◌, ◌==◌, ◌||◌, nat_lt, length, not, Option, Some, None, Result, Ok, Err, if◌then◌else◌, slice_get}
 use Rattle.std.specs.List.{list_all}
-use Rattle.std.specs.Str.{bytes_eq}
 use Rattle.lpd_values.specs.Pieces.{pieces_of}
 use Rattle.lpd_values.specs.Name.{is_data_name, number_of}
 use Rattle.lpd_values.specs.declared.refusal.Refusal.{Refusal}
@@ -45,17 +44,12 @@ first_user text = slice_get (operands_of is_user_letter (lines_of text)) 0
 abbrev pub prints_of : List ℕ → List (List ℕ)
 prints_of text = operands_of is_print_letter (lines_of text)
 
--- the names in order, each where it stands first
-abbrev pub each_once : List (List ℕ) → List (List ℕ)
-each_once [] = []
-each_once (name ∷ names) = name ∷ filter (λ other. not (bytes_eq name other)) (each_once names)
-
 -- the print list of these names, or the first refusal of them
 abbrev pub print_list : List (List ℕ) → Result (List (List ℕ)) Refusal
 print_list names =
     if length names == 0 then Err NoPrintLine
     else if nat_lt MAX_PRINTS (length names) then Err TooManyPrints
-    else if list_all is_data_name names then Ok (each_once names)
+    else if list_all is_data_name names then Ok names
     else Err BadName
 
 abbrev pub with_prints :

@@ -18,7 +18,7 @@ pub struct Control {
     pub user: Octets,
     /// The job's number, 0 to 999.
     pub number: u16,
-    /// The names of 1 to `MAX_PRINTS` data files, all different.
+    /// The names of 1 to `MAX_PRINTS` data files. A name that stands again prints its file again.
     pub prints: FileNames,
     ghost number_fits: { number ≤ 999 },
     ghost host_fits: { IsTrue (is_operand host) },
@@ -38,7 +38,7 @@ impl Control {
     ghost use Rattle.control_file.specs.Laws.{AnswersControl};
 
     /// Reads the text of the control file of this name, of which the first line for a host and for a user and all lines
-    /// that print a file count (RFC 1179, section 7). A name that is printed again adds nothing. Answers the first refusal
+    /// that print a file count (RFC 1179, section 7). A name that is printed again stands again. Answers the first refusal
     /// that fits: `BadLength` for a text that isn't 1 to 8,192 octets long, `NoHost`, `NoUser`, `BadLength` for a host and
     /// then for a user that isn't 1 to 255 octets long, `NoPrintLine`, `TooManyPrints` for over `MAX_PRINTS` lines that print,
     /// `BadName` where one doesn't name a data file, and then `Memory`.

@@ -7,5 +7,5 @@ mod lines;
 mod write;
 
 pub use control::Control;
-pub use laws::{control_is_decided, control_is_exact, control_is_read_back, firsts_are_kept};
+pub use laws::{control_is_decided, control_is_exact, control_is_read_back};
 pub use lpd_values::FileNames;

@@ -5,7 +5,7 @@ ghost use Rattle.std.specs.List.{list_all, prefix_len};
 ghost use Rattle.lpd_values.specs.Name.{is_data_name};
 ghost use Rattle.lpd_values.specs.Pieces.{is_kept, begins_piece};
 ghost use Rattle.lpd_values.specs.Kept.{is_line_feed, is_print_list};
-ghost use Rattle.control_file.specs.Text.{each_once, lines_of, print_list, prints_of};
+ghost use Rattle.control_file.specs.Text.{lines_of, print_list, prints_of};
 ghost use Rattle.control_file.specs.Fields.{letter_test, operands_in};
 
 use lpd_values::{FileName, FileNames, MAX_PRINTS, Refusal};
@@ -121,12 +121,12 @@ fn all_data_names(text: &[u8]) -> bool
 }
 
 /// The first refusal that the lines that print a file meet: `NoPrintLine`, `TooManyPrints`, `BadName`.
-#[tactic(auto, using(crate::proofs::PrintLemmas::is_print_list_kept))]
+#[tactic(auto, using(crate::proofs::PrintLemmas::is_print_list_of))]
 pub(crate) fn check_prints(text: &[u8]) -> Result<(), Refusal>
     ensures names { OnOk result (list_all is_data_name (prints_of text.now) ≡ true) }
-    ensures kept { OnOk result (IsTrue (is_print_list (each_once (prints_of text.now)))) }
+    ensures kept { OnOk result (IsTrue (is_print_list (prints_of text.now))) }
     ensures list { MatchResult result
-        (λ _. print_list (prints_of text.now) ≡ Ok (each_once (prints_of text.now)))
+        (λ _. print_list (prints_of text.now) ≡ Ok (prints_of text.now))
         (λ e. print_list (prints_of text.now) ≡ Err e) }
 {
     let count = count_prints(text);
@@ -142,20 +142,17 @@ pub(crate) fn check_prints(text: &[u8]) -> Result<(), Refusal>
     Ok(())
 }
 
-/// The names of the lines that print a file, each once.
-#[tactic(auto, using(crate::proofs::PrintLemmas::added_none))]
+/// The names of the lines that print a file, in order.
 pub(crate) fn read_prints(alloc: Global, text: &[u8]) -> Result<FileNames, Refusal>
     requires { list_all is_data_name (prints_of text.now) ≡ true }
-    ensures { MatchResult result (λ names. names ≡ each_once (prints_of text.now))
+    ensures { MatchResult result (λ names. names ≡ prints_of text.now)
         (λ e. e ≡ Refusal.Memory) }
 {
     let mut names = FileNames::new(alloc);
     let mut rest = text;
     while let Some((operand, after)) = next_operand(Field::Print, rest) {
         let name = FileName::read(operand)?;
-        if !names.contains(&name) {
-            names.push(name)?;
-        }
+        names.push(name)?;
         rest = after;
     }
     Ok(names)

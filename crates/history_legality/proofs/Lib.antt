@@ -2,3 +2,4 @@ pub mod KindLaws
 pub mod OrderLaws
 pub mod DoingLaws
 pub mod LegalLaws
+pub mod LentLaws

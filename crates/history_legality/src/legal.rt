@@ -3,14 +3,14 @@
 ghost use Rattle.std.specs.Prelude.{◌≡◌, ◌+◌, ◌≤◌, ◌↔◌, IfOk, IsTrue};
 ghost use Rattle.config_values.specs.Config as S;
 ghost use Rattle.spool_history.specs.Legal as L;
-ghost use Rattle.account.specs.Seen.{act_seen, event_seen, history, octets};
+ghost use Rattle.account.specs.Seen.{act_seen, base_seen, event_seen, history, octets};
 ghost use Rattle.history_reader.specs.Seen.{state_seen};
 
 use crate::doing::some_job_may;
 use crate::queues::{may_remove, may_start};
 use crate::safety::may_grant;
 use crate::turning::may_turn;
-use account::{Act, Entry};
+use account::{Act, Base, Entry};
 use config_values::Config;
 use history_reader::{State, now};
 use std::alloc::{AllocError, Global};
@@ -33,7 +33,7 @@ fn may_open(config: &Config, state: &State, job: u64, queue: u32) -> bool
         && state.jobs.len() < config.max_jobs() as usize
         && has_room(config, state, queue)
         && 0 < job
-        && job - 1 == state.accepted
+        && u128::from(job) - 1 == state.accepted
 }
 
 /// Whether a job's session may do what an act says.
@@ -75,16 +75,23 @@ pub fn may(alloc: Global, config: &Config, state: &State, entry: &Entry) -> Resu
     }
 }
 
-/// Whether each entry meets its conditions on those before it. The newest entry stands first.
-pub fn is_legal(alloc: Global, config: &Config, entries: &[Entry]) -> Result<bool, AllocError>
-    ensures { IfOk result (λ b. IsTrue b ↔ L.IsLegal octets config.now (history entries.now)) }
+/// Whether each entry meets its conditions on those before it, from a base on. The newest entry stands first. Fails where
+/// memory is short.
+pub fn is_legal(
+    alloc: Global,
+    config: &Config,
+    base: &Base,
+    entries: &[Entry],
+) -> Result<bool, AllocError>
+    ensures { IfOk result (λ b. IsTrue b
+        ↔ L.IsLegal octets config.now (base_seen base.now) (history entries.now)) }
 {
     let Some((entry, before)) = entries.split_first() else {
         return Ok(true);
     };
-    if !is_legal(alloc, config, before)? {
+    if !is_legal(alloc, config, base, before)? {
         return Ok(false);
     }
-    let state = now(alloc, config, before)?;
+    let state = now(alloc, config, base, before)?;
     may(alloc, config, &state, entry)
 }

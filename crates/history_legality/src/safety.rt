@@ -32,8 +32,8 @@ fn pages_held(alloc: Global, job: &Job, granted: u128, lent: bool) -> Result<u12
     if !job.is_received() {
         return Ok(granted);
     }
-    let places = job.places(alloc)?;
-    Ok((places.len() as u128).saturating_sub(u128::from(job.back)))
+    let kept = job.pages_kept(alloc)?;
+    Ok(kept.len() as u128)
 }
 
 /// The printers that a job holds.

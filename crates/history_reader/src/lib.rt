@@ -7,6 +7,7 @@ mod hands;
 mod jobs;
 mod printers;
 mod received;
+mod rotations;
 mod said;
 mod state;
 mod states;
@@ -14,5 +15,6 @@ mod told;
 
 pub use hands::{next_page, printer_numbered};
 pub use received::{all_begun, is_begun, is_open_in};
+pub use rotations::rotated;
 pub use state::{File, Job, Next, Page, Printer, State};
 pub use states::now;

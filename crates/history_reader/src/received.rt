@@ -1,7 +1,7 @@
 //! Whether a job is received or held, and its places in print order.
 
-ghost use Rattle.std.specs.Prelude.{◌≡◌, ◌==◌, ◌<◌, ◌+◌, ◌^◌, ◌++◌, IfOk, OnOk, length, map};
-ghost use Rattle.std.specs.List.{flat_map, list_all};
+ghost use Rattle.std.specs.Prelude.{◌≡◌, ◌==◌, ◌<◌, ◌+◌, ◌^◌, ◌++◌, IfOk, OnOk, drop, length, map};
+ghost use Rattle.std.specs.List.{flat_map, list_all, list_any};
 ghost use Rattle.lpd_values.specs.Kept.{is_among};
 ghost use Rattle.spool_history.specs.Acts as A;
 ghost use Rattle.spool_history.specs.Now as N;
@@ -93,6 +93,57 @@ fn add_places(places: &mut Vec<Page>, names: &[FileName], files: &[File]) -> Res
     add_places(places, rest, files)
 }
 
+/// Puts the pages of these files behind those, each once, where the first of the files has this number.
+fn add_all(pages: &mut Vec<Page>, number: u64, files: &[File]) -> Result<(), AllocError>
+    requires { number + length files.now < 2 ^ 64 }
+    ensures { OnOk result (map page_seen pages.new.items
+        ≡ map page_seen pages.old.items ++ A.all_pages number (map file_seen files.now)) }
+{
+    let Some((first, rest)) = files.split_first() else {
+        return Ok(());
+    };
+    add_numbered(pages, number, 0, first.pages.as_slice())?;
+    add_all(pages, number + 1, rest)
+}
+
+/// Whether one of these places is a place of this page.
+fn has_place(page: &Page, places: &[Page]) -> bool
+    ensures { result ≡ list_any (A.is_same_page (page_seen page.now)) (map page_seen places.now) }
+{
+    let Some((first, rest)) = places.split_first() else {
+        return false;
+    };
+    (page.file == first.file && page.number == first.number) || has_place(page, rest)
+}
+
+/// Puts those of these pages behind those of which a place is among these places.
+fn add_kept(kept: &mut Vec<Page>, places: &[Page], pages: &[Page]) -> Result<(), AllocError>
+    ensures { OnOk result (map page_seen kept.new.items
+        ≡ map page_seen kept.old.items
+        ++ A.pages_among (map page_seen places.now) (map page_seen pages.now)) }
+{
+    let Some((first, rest)) = pages.split_first() else {
+        return Ok(());
+    };
+    if has_place(first, places) {
+        kept.push(*first)?;
+    }
+    add_kept(kept, places, rest)
+}
+
+/// What stands behind so many places.
+fn behind(places: &[Page], back: u64) -> &[Page]
+    ensures { map page_seen result.now ≡ drop back (map page_seen places.now) }
+{
+    let Some((_, rest)) = places.split_first() else {
+        return places;
+    };
+    if back == 0 {
+        return places;
+    }
+    behind(rest, back - 1)
+}
+
 impl Job {
     /// Whether its control file is there, each file that it prints has ended, and none is open.
     pub fn is_received(&self) -> bool
@@ -132,5 +183,18 @@ impl Job {
             )?;
         }
         Ok(places)
+    }
+
+    /// Its pages of which some place hasn't come back, each once. Fails where memory is short.
+    pub fn pages_kept(&self, alloc: Global) -> Result<Vec<Page>, AllocError>
+        ensures { IfOk result (λ v. map page_seen v.items ≡ N.pages_kept (job_seen self.now)) }
+    {
+        let places = self.places(alloc)?;
+        let left = behind(places.as_slice(), self.back);
+        let mut pages = Vec::new(alloc);
+        add_all(&mut pages, 0, self.files.as_slice())?;
+        let mut kept = Vec::new(alloc);
+        add_kept(&mut kept, left, pages.as_slice())?;
+        Ok(kept)
     }
 }

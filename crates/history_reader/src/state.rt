@@ -82,9 +82,9 @@ pub struct Printer {
 pub struct State {
     /// The held jobs, in order of acceptance.
     pub jobs: Vec<Job>,
-    /// How many jobs were accepted.
-    pub accepted: u64,
-    /// The reserves of all accepted jobs in the account, in entries.
+    /// The last acceptance number, or 0 before the first.
+    pub accepted: u128,
+    /// The counted reserve, in entries of the account.
     pub reserved: u128,
     /// The printers, in order of their numbers.
     pub printers: Vec<Printer>,

@@ -1,5 +1,5 @@
 -- What a control file's fields keep.
-use Rattle.std.specs.Prelude.{ℕ, Bool, true, List, [], ◌∷◌, ◌==◌, ◌&&◌, nat_le, length, not}
+use Rattle.std.specs.Prelude.{ℕ, Bool, List, ◌==◌, ◌&&◌, nat_le, length}
 use Rattle.std.specs.List.{list_all, list_any}
 use Rattle.std.specs.Str.{bytes_eq}
 use Rattle.lpd_values.specs.Pieces.{is_kept}
@@ -21,13 +21,7 @@ is_operand s = is_operand_len (length s) && list_all (is_kept is_line_feed) s
 abbrev pub is_among : List ℕ → List (List ℕ) → Bool
 is_among name names = list_any (λ other. bytes_eq other name) names
 
--- whether no name stands twice
-abbrev pub all_differ : List (List ℕ) → Bool
-all_differ [] = true
-all_differ (name ∷ names) = not (is_among name names) && all_differ names
-
--- 1 to MAX_PRINTS names of data files, all different
+-- 1 to MAX_PRINTS names of data files; a name may stand again
 abbrev pub is_print_list : List (List ℕ) → Bool
 is_print_list names =
     nat_le 1 (length names) && nat_le (length names) MAX_PRINTS && list_all is_data_name names
-    && all_differ names

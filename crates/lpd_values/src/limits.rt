@@ -13,7 +13,7 @@ pub const MAX_CONTROL_TEXT: usize = 8192;
 pub const MAX_FILES: usize = 52;
 
 /// The lines of a control file that may print a file.
-pub const MAX_PRINTS: usize = 52;
+pub const MAX_PRINTS: usize = 99;
 
 /// The octets that a host or a user of a control file may have.
 pub const MAX_OPERAND: usize = 255;

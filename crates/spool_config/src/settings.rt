@@ -81,7 +81,7 @@ pub fn read(alloc: Global, text: &[u8]) -> Result<Config, ConfigFault>
     let pages = number(&table, "pages", Key::Pages, MOST)?;
     let page_size = number(&table, "page_size", Key::PageSize, MOST)?;
     let max_jobs = number(&table, "max_jobs", Key::MaxJobs, 1024)?;
-    let account = number(&table, "account", Key::Account, 1_000_000)?;
+    let account = number(&table, "account", Key::Account, 16_000_000)?;
     let queues = queues(alloc, &table)?;
     if has_same_name(queues.as_slice()) {
         return Err(ConfigFault::SameName);

@@ -6,19 +6,36 @@
 //! the jobs that may be lent a page, as the digits of one number. An entry that may not come is `refused`, and the next
 //! line goes on without it. `state QUEUE short WORDS`, `state QUEUE long WORDS` and `removal QUEUE AGENT WORDS` are no
 //! entries: behind their bar stands the text that answers them.
+//!
+//! A line `base ACCEPTED RESERVED CLOSED STOPPED ..`, of numbers and then 0 or 1 each, has the history begin from that
+//! base. A line `rotated` has it go on from the base after it, and is refused where a job is held.
 
-use account::{Act, Entry, Outline, Progress, Sheet, Turn};
+use account::{Act, Base, Entry, Outline, Progress, Sheet, Turn};
 use config_values::Config;
 use control_file::Control;
 use history_legality::{free_pages, is_legal, is_safe_now, may};
-use history_reader::{Next, State, next_page, now};
+use history_reader::{Next, State, next_page, now, rotated};
 use history_texts::{removal_text, state_text};
 use lpd_values::{FileName, Octets};
 use std::alloc::{AllocError, Global};
 
 /// The configuration of a history that has none of its own.
 const CONFIG: &str =
-    "pages = 4\npage_size = 8\nmax_jobs = 8\naccount = 1000\n\n[[queue]]\nname = \"lp\"\nlimit = 3\nprinters = 1\n";
+    "pages = 4\npage_size = 8\nmax_jobs = 8\naccount = 100000\n\n[[queue]]\nname = \"lp\"\nlimit = 3\nprinters = 1\n";
+
+/// What a history begins from, and its entries, the newest first.
+#[derive(Drop)]
+struct Account {
+    base: Base,
+    entries: Vec<Entry>,
+}
+
+impl Account {
+    /// Where it leaves a spool.
+    fn state(&self, alloc: Global, config: &Config) -> Result<State, AllocError> {
+        now(alloc, config, &self.base, self.entries.as_slice())
+    }
+}
 
 /// The lines of a history, without its configuration.
 pub fn rows_of(history: &str) -> &str {
@@ -36,9 +53,12 @@ pub fn history(alloc: Global, rows: &str) -> Result<Vec<u8>, AllocError> {
         told.extend_from_slice(b"no configuration\n")?;
         return Ok(told);
     };
-    let mut entries = Vec::new(alloc);
+    let mut account = Account {
+        base: Base::first(alloc),
+        entries: Vec::new(alloc),
+    };
     for row in rows.lines() {
-        let row = told_row(alloc, &config, &mut entries, row)?;
+        let row = told_row(alloc, &config, &mut account, row)?;
         told.extend_from_slice(row.as_bytes())?;
         told.push(b'\n')?;
     }
@@ -49,17 +69,21 @@ pub fn history(alloc: Global, rows: &str) -> Result<Vec<u8>, AllocError> {
 fn told_row(
     alloc: Global,
     config: &Config,
-    entries: &mut Vec<Entry>,
+    account: &mut Account,
     row: &str,
 ) -> Result<String, AllocError> {
     let Some((asked, _)) = row.split_once("| ") else {
+        if let ("base", base) = word(row) {
+            account.base = base_of(alloc, base)?;
+        }
         return String::from_str(alloc, row);
     };
     let said = match word(asked) {
-        ("state", rest) => state_of(alloc, config, entries.as_slice(), rest)?,
-        ("removal", rest) => removal_of(alloc, config, entries.as_slice(), rest)?,
+        ("state", rest) => state_of(alloc, config, account, rest)?,
+        ("removal", rest) => removal_of(alloc, config, account, rest)?,
+        ("rotated", _) => rotate(alloc, config, account)?,
         _ => match entry(alloc, asked)? {
-            Some(entry) => answer(alloc, config, entries, entry)?,
+            Some(entry) => answer(alloc, config, account, entry)?,
             None => String::from_str(alloc, "no entry")?,
         },
     };
@@ -82,6 +106,24 @@ fn value(text: &str) -> (&str, &str) {
 /// The number that a word spells, or 0.
 fn number(word: &str) -> u32 {
     word.parse::<u32>().unwrap_or(0)
+}
+
+/// The base that these words tell: the last acceptance number, the counted reserve, whether the spool is closed, and for
+/// each printer whether it is stopped.
+fn base_of(alloc: Global, told: &str) -> Result<Base, AllocError> {
+    let (accepted, rest) = word(told);
+    let (reserved, rest) = word(rest);
+    let (closed, rest) = word(rest);
+    let mut stopped = Vec::new(alloc);
+    for printer in rest.split_whitespace() {
+        stopped.push(printer == "1")?;
+    }
+    Ok(Base {
+        accepted: accepted.parse::<u64>().unwrap_or(0),
+        reserved: reserved.parse::<u64>().unwrap_or(0),
+        closed: closed == "1",
+        stopped,
+    })
 }
 
 /// A page of so many octets.
@@ -235,19 +277,29 @@ fn standing(alloc: Global, config: &Config, state: &State) -> Result<String, All
 fn answer(
     alloc: Global,
     config: &Config,
-    entries: &mut Vec<Entry>,
+    account: &mut Account,
     entry: Entry,
 ) -> Result<String, AllocError> {
-    let before = now(alloc, config, entries.as_slice())?;
+    let before = account.state(alloc, config)?;
     if !may(alloc, config, &before, &entry)? {
         return String::from_str(alloc, "refused");
     }
-    entries.insert(0, entry)?;
-    if !is_legal(alloc, config, entries.as_slice())? {
+    account.entries.insert(0, entry)?;
+    if !is_legal(alloc, config, &account.base, account.entries.as_slice())? {
         return String::from_str(alloc, "not legal");
     }
-    let state = now(alloc, config, entries.as_slice())?;
-    standing(alloc, config, &state)
+    standing(alloc, config, &account.state(alloc, config)?)
+}
+
+/// What the reader says once the history goes on from the base after it, where no job is held.
+fn rotate(alloc: Global, config: &Config, account: &mut Account) -> Result<String, AllocError> {
+    let state = account.state(alloc, config)?;
+    if !state.jobs.is_empty() || state.accepted > u128::from(u64::MAX) {
+        return String::from_str(alloc, "refused");
+    }
+    account.base = rotated(alloc, &state)?;
+    account.entries.clear();
+    standing(alloc, config, &account.state(alloc, config)?)
 }
 
 /// The words of a list.
@@ -268,13 +320,13 @@ fn shown(alloc: Global, text: &[u8]) -> Result<String, AllocError> {
 fn state_of(
     alloc: Global,
     config: &Config,
-    entries: &[Entry],
+    account: &Account,
     asked: &str,
 ) -> Result<String, AllocError> {
     let (queue, rest) = word(asked);
     let (form, list) = word(rest);
     let list = words(alloc, list)?;
-    let state = now(alloc, config, entries)?;
+    let state = account.state(alloc, config)?;
     let long = form == "long";
     let text = state_text(alloc, config, &state, number(queue), list.as_slice(), long)?;
     shown(alloc, text.as_slice())
@@ -284,13 +336,13 @@ fn state_of(
 fn removal_of(
     alloc: Global,
     config: &Config,
-    entries: &[Entry],
+    account: &Account,
     asked: &str,
 ) -> Result<String, AllocError> {
     let (queue, rest) = word(asked);
     let (agent, list) = word(rest);
     let list = words(alloc, list)?;
-    let state = now(alloc, config, entries)?;
+    let state = account.state(alloc, config)?;
     let agent = agent.as_bytes();
     let text = removal_text(alloc, config, &state, number(queue), agent, list.as_slice())?;
     shown(alloc, text.as_slice())

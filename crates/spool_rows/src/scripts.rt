@@ -6,7 +6,7 @@ use std::alloc::{AllocError, Global};
 
 /// The configuration of a script that has none of its own.
 const CONFIG: &str =
-    "pages = 4\npage_size = 8\nmax_jobs = 8\naccount = 1000\n\n[[queue]]\nname = \"lp\"\nlimit = 3\nprinters = 1\n";
+    "pages = 4\npage_size = 8\nmax_jobs = 8\naccount = 100000\n\n[[queue]]\nname = \"lp\"\nlimit = 3\nprinters = 1\n";
 
 /// What the program prints on this input: its lines, its fault, and its exit status in a line of its own.
 fn told(alloc: Global, input: &[u8]) -> Result<Vec<u8>, AllocError> {

@@ -16,7 +16,7 @@ fn small(alloc: Global) -> Result<Config, AllocError> {
     let name = String::from_str(alloc, "lp")?;
     let mut queues = Vec::new(alloc);
     queues.push(Queue::new(name, 3, 1))?;
-    Ok(Config::new(4, 8, 8, 1000, queues))
+    Ok(Config::new(4, 8, 8, 100_000, queues))
 }
 
 /// Asks for a page, writes the octets on it, and puts it.

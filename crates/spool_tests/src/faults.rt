@@ -10,7 +10,7 @@ use std::test::Fail;
 
 /// A configuration and a script that prints three lines.
 const INPUT: &[u8] =
-    b"pages = 4\npage_size = 8\nmax_jobs = 8\naccount = 1000\n[[queue]]\nname = \"lp\"\nlimit = 3\nprinters = 1\n%%\nfree\nconnect h1\nfree\n";
+    b"pages = 4\npage_size = 8\nmax_jobs = 8\naccount = 100000\n[[queue]]\nname = \"lp\"\nlimit = 3\nprinters = 1\n%%\nfree\nconnect h1\nfree\n";
 
 /// What is printed for it.
 const PRINTED: &[u8] = b"free 4\nsession 1\nfree 4\n";

@@ -6,7 +6,7 @@ use std::process::Abort;
 use std::test::Fail;
 
 const CONFIG: &str =
-    "pages = 4\npage_size = 8\nmax_jobs = 8\naccount = 1000\n\n[[queue]]\nname = \"lp\"\nlimit = 3\nprinters = 1\n";
+    "pages = 4\npage_size = 8\nmax_jobs = 8\naccount = 100000\n\n[[queue]]\nname = \"lp\"\nlimit = 3\nprinters = 1\n";
 
 /// One job of 11 octets in queue lp, its data file first.
 const STREAM: &[u8] =
