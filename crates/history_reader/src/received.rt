@@ -29,7 +29,7 @@ pub fn is_begun(name: &FileName, files: &[File]) -> bool
     let Some((first, rest)) = files.split_first() else {
         return false;
     };
-    first.name.octets() == name.octets() || is_begun(name, rest)
+    first.name == *name || is_begun(name, rest)
 }
 
 /// Whether a file of each of these names began.
@@ -76,7 +76,7 @@ fn add_named(
     let Some((first, rest)) = files.split_first() else {
         return Ok(());
     };
-    if first.name.octets() == name.octets() {
+    if first.name == *name {
         add_numbered(places, number, 0, first.pages.as_slice())?;
     }
     add_named(places, name, number + 1, rest)

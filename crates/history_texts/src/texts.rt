@@ -95,7 +95,7 @@ fn put_where_named(
 ) -> Result<(), AllocError>
     ensures { OnOk result (text.new.items ≡ text.old.items ++ (if bytes_eq file.now.name name.now then codes "  " ++ file.now.name ++ codes " " ++ decimal file.now.count ++ 10 ∷ [] else [])) }
 {
-    if file.name.octets() == name.octets() {
+    if file.name == *name {
         put_word(text, b"  ".as_slice(), file.name.octets())?;
         put_count(alloc, text, b" ".as_slice(), file.count)?;
         text.push(b'\n')?;
