@@ -1,3 +1,5 @@
+//! The chain of the pages of one job.
+
 ghost use Rattle.std.specs.Prelude.{◌≡◌, ◌+◌, ◌<◌, ◌≤◌, ◌↔◌, true, false, [], Some, IsSome, IsTrue, IfOk, OnOk, OnErr, MatchResult, length};
 ghost use Rattle.page_chain.specs.Files.{pages_of, every_page, AreOfSize};
 ghost use Rattle.page_chain.specs.Changes.{CanBegin, RefusedFor, begun, with_page, unnamed, placed, place_at, taken, emptied};
@@ -89,7 +91,13 @@ fn surrender_all(mut slots: Vec<Option<FilledPage>>) {
 impl Chain {
     /// A chain with room for so many pages and so many files.
     pub fn with_room(alloc: Global, pages: usize, files: usize) -> Result<Chain, AllocError>
-        ensures { IfOk result (λ c. c ≡ record { files = []; is_open = false; places = []; page_room = pages; file_room = files }) }
+        ensures { IfOk result (λ c. c ≡ record {
+          files = [];
+          is_open = false;
+          places = [];
+          page_room = pages;
+          file_room = files;
+        }) }
     {
         let runs = Vec::with_capacity(alloc, files)?;
         Ok(Chain {
@@ -112,8 +120,10 @@ impl Chain {
 
     /// Whether there is no room for a page.
     pub fn is_full(&self) -> bool
-        ensures full { IsTrue result ↔ (self.now.page_room ≤ length self.now.places + length (pages_of self.now.files)) }
-        ensures within { length self.now.places + length (pages_of self.now.files) ≤ self.now.page_room }
+        ensures full { IsTrue result ↔ (self.now.page_room
+            ≤ length self.now.places + length (pages_of self.now.files)) }
+        ensures within { length self.now.places + length (pages_of self.now.files)
+            ≤ self.now.page_room }
     {
         self.slots.len() >= self.page_room
     }
@@ -123,7 +133,8 @@ impl Chain {
     pub fn begin_file(&mut self, name: FileName) -> Result<(), ChainError>
         requires { self.old.is_open ≡ false }
         ensures begun { OnOk result (self.new ≡ begun self.old name) }
-        ensures cause { MatchResult result (λ _. CanBegin self.old name) (RefusedFor self.old name) }
+        ensures cause { MatchResult result (λ _. CanBegin self.old name)
+            (RefusedFor self.old name) }
         ensures unchanged { OnErr result (self.new ≡ self.old) }
     {
         if find(self.runs.as_slice(), &name).is_some() {
@@ -143,7 +154,8 @@ impl Chain {
     /// Adds a page to the open file.
     pub fn push(&mut self, page: FilledPage)
         requires opened { self.old.is_open ≡ true }
-        requires room { length self.old.places + length (pages_of self.old.files) < self.old.page_room }
+        requires room { length self.old.places + length (pages_of self.old.files)
+            < self.old.page_room }
         ensures { self.new ≡ record self.old { files = with_page self.old.files page } }
     {
         match self.slots.push(Some(page)) {
@@ -166,10 +178,16 @@ impl Chain {
     /// pages of all other files back into the pool.
     pub fn drop_unnamed(&mut self, names: &[FileName], pool: &mut Pool)
         requires closed { self.old.is_open ≡ false }
-        requires sizes { AreOfSize pool.old.page_size (pages_of (unnamed self.old.files names.now)) }
-        requires room { pool.old.free + length (pages_of (unnamed self.old.files names.now)) ≤ pool.old.pages }
+        requires sizes { AreOfSize pool.old.page_size (pages_of
+            (unnamed self.old.files names.now)) }
+        requires room { pool.old.free + length (pages_of (unnamed self.old.files names.now))
+            ≤ pool.old.pages }
         ensures chain { self.new ≡ placed self.old names.now }
-        ensures pool { pool.new ≡ record pool.old { free = pool.old.free + length (pages_of (unnamed self.old.files names.now)) } }
+        ensures pool { pool.new
+            ≡ record pool.old {
+              free = pool.old.free + length (pages_of
+                  (unnamed self.old.files names.now));
+            } }
     {
         self.placed = place_named(
             self.slots.as_mut_slice(),
@@ -217,7 +235,8 @@ impl Chain {
         requires sizes { AreOfSize pool.old.page_size (every_page self.old) }
         requires room { pool.old.free + length (every_page self.old) ≤ pool.old.pages }
         ensures chain { self.new ≡ emptied self.old }
-        ensures pool { pool.new ≡ record pool.old { free = pool.old.free + length (every_page self.old) } }
+        ensures pool { pool.new
+            ≡ record pool.old { free = pool.old.free + length (every_page self.old) } }
     {
         self.is_open = false;
         self.placed = 0;

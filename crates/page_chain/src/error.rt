@@ -1,3 +1,5 @@
+//! Why a chain takes no file.
+
 use std::error::Error;
 use std::fmt;
 

@@ -1,3 +1,5 @@
+//! A run of pages: those of one file.
+
 ghost use Rattle.std.specs.Prelude.{◌≡◌, ◌<◌, ◌^◌, IfSome, IfNone, sum_by};
 ghost use Rattle.page_chain.specs.Runs.{IsFirstNamed, HasNoneNamed, total};
 

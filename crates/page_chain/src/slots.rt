@@ -1,3 +1,5 @@
+//! Slots of pages, and places among them.
+
 ghost use Rattle.std.specs.Prelude.{◌≡◌, ◌+◌, ◌-◌, ◌≤◌, ◌++◌, ◌∷◌, [], Some, length, map, take, drop, vec_capacity};
 ghost use Rattle.page_chain.specs.Files.{kept, AreOfSize};
 ghost use Rattle.page_chain.specs.Runs.{total, files_of, AllThere};
@@ -26,7 +28,8 @@ pub fn pour(slots: &mut Vec<Option<FilledPage>>, from: usize, pool: &mut Pool)
     requires room { pool.old.free + length (kept (drop from slots.old.items)) ≤ pool.old.pages }
     ensures slots { slots.new.items ≡ take from slots.old.items }
     ensures capacity { vec_capacity slots.new ≡ vec_capacity slots.old }
-    ensures pool { pool.new ≡ record pool.old { free = pool.old.free + length (kept (drop from slots.old.items)) } }
+    ensures pool { pool.new
+        ≡ record pool.old { free = pool.old.free + length (kept (drop from slots.old.items)) } }
 {
     'slots: while slots.len() > from {
         let slot = slots.pop().unwrap();
@@ -37,7 +40,8 @@ pub fn pour(slots: &mut Vec<Option<FilledPage>>, from: usize, pool: &mut Pool)
 /// Moves `pages` pages, which stand behind `skipped` others, to the front.
 pub fn bring_forward(slots: &mut [Option<FilledPage>], skipped: usize, pages: usize)
     requires { skipped + pages ≤ length slots.old }
-    ensures { slots.new ≡ take pages (drop skipped slots.old) ++ (take skipped slots.old ++ drop pages (drop skipped slots.old)) }
+    ensures { slots.new ≡ take pages (drop skipped slots.old) ++ (take skipped slots.old
+        ++ drop pages (drop skipped slots.old)) }
 {
     slots[..skipped + pages].rotate_right(pages);
 }
@@ -55,8 +59,11 @@ fn place_file(
     ensures counted { result + total runs.new.items ≡ length slots.new }
     ensures there { AllThere (drop result slots.new) }
     ensures capacity { vec_capacity runs.new ≡ vec_capacity runs.old }
-    ensures placed { take result slots.new ≡ take placed slots.old ++ map (λ page. Some page) (pages_named (files_of runs.old.items (drop placed slots.old)) name.now) }
-    ensures others { files_of runs.new.items (drop result slots.new) ≡ without (files_of runs.old.items (drop placed slots.old)) name.now }
+    ensures placed { take result slots.new ≡ take placed slots.old
+        ++ map (λ page. Some page) (pages_named (files_of runs.old.items
+        (drop placed slots.old)) name.now) }
+    ensures others { files_of runs.new.items (drop result slots.new)
+        ≡ without (files_of runs.old.items (drop placed slots.old)) name.now }
 {
     let Some(found) = find(runs.as_slice(), name) else {
         return placed;
@@ -80,8 +87,11 @@ pub fn place_named(
     ensures counted { result + total runs.new.items ≡ length slots.new }
     ensures there { AllThere (drop result slots.new) }
     ensures capacity { vec_capacity runs.new ≡ vec_capacity runs.old }
-    ensures placed { take result slots.new ≡ take from slots.old ++ map (λ page. Some page) (pages_placed (files_of runs.old.items (drop from slots.old)) names.now) }
-    ensures others { files_of runs.new.items (drop result slots.new) ≡ unnamed (files_of runs.old.items (drop from slots.old)) names.now }
+    ensures placed { take result slots.new ≡ take from slots.old
+        ++ map (λ page. Some page) (pages_placed (files_of runs.old.items
+        (drop from slots.old)) names.now) }
+    ensures others { files_of runs.new.items (drop result slots.new)
+        ≡ unnamed (files_of runs.old.items (drop from slots.old)) names.now }
 {
     let mut placed = from;
     'names: for name in names {

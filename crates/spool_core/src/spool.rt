@@ -123,7 +123,8 @@ impl Core {
 
     /// Accepts a job for a queue.
     ///
-    /// `UnknownQueue`; `TableFull` while a job is held; `Memory` where there is no room for the job.
+    /// `UnknownQueue`; `TableFull` while a job is held; `AccountFull` at the last number of acceptance; `Memory` where
+    /// there is no room for the job.
     pub fn open(&mut self, queue: &[u8]) -> Result<JobNumber, Refusal>
         ensures { self.new ≡ self.old }
     {
@@ -135,7 +136,7 @@ impl Core {
             None => {}
         }
         if self.accepted == u64::MAX {
-            return Err(Refusal::TableFull);
+            return Err(Refusal::AccountFull);
         }
         let number = JobNumber(self.accepted + 1);
         let limit = self.config.limit_of(queue) as usize;

@@ -1,5 +1,5 @@
 -- Each page is in a chain, lent, at a printer or free.
-use Rattle.std.proofs.Common.{inl, inr, ◌≡◌, ◌≢◌, ℕ, suc, ◌+◌, ◌-◌, ◌≤◌, ◌<◌, Bool, true, false, List, [], ◌∷◌, ◌++◌, length, map, refl, sym, ◌∙◌, ap, subst, arith}
+use Rattle.std.proofs.Common.{inl, inr, ◌≡◌, ◌≢◌, ℕ, suc, ◌+◌, ◌-◌, ◌≤◌, Bool, true, false, List, [], ◌∷◌, ◌++◌, length, map, refl, sym, ◌∙◌, ap, subst, arith}
 use Rattle.std.specs.Prelude.{not, cond, sum_by, Option, Some, is_some}
 use Rattle.std.proofs.lemmas.List.{length_push}
 use Rattle.std.proofs.lemmas.List.Sums.{sum_by-cons, sum_by_push}
@@ -15,13 +15,14 @@ use Rattle.spool_history.specs.Said.{Opening, openings, acts_of, is_handed, back
 use Rattle.spool_history.specs.Now.{Job, Printer, now, job_of, is_held, is_received, has_page_out, pages_held, free_pages, printer_of, up_to}
 use Rattle.spool_history.specs.Legal.{IsLegal, May}
 use Rattle.spool_laws.specs.Sums.{chained_of, chained, lent, at_printers}
-use Rattle.spool_laws.proofs.Known.{Has, has_at, has_last, known, test, clash}
-use Rattle.spool_laws.proofs.Facts.{Facts, facts, Turn', turn_of_page, handed_now, handed_number, handed_at, handed_same, is_out, count_one, count_more, back_same, back_more, back_one, out_here, out_there}
+use Rattle.spool_laws.proofs.Known.{Has, has_at, known, test, clash}
+use Rattle.spool_laws.proofs.Facts.{Facts, Unknown, facts, last, Turn', turn_of_page, handed_now, handed_number, handed_at, handed_same, is_out, count_one, count_more, back_same, back_more, back_one, out_here, out_there}
 use Rattle.spool_laws.proofs.Counts.{with_page, last_push}
-use Rattle.spool_laws.proofs.Held.{pages_in, pages_push, pages_ended}
+use Rattle.spool_laws.proofs.Copies.{pages_in}
+use Rattle.spool_laws.proofs.Held.{pages_push, pages_ended}
 use Rattle.spool_laws.proofs.Adding.{sum_same, sum_parts, sum_filter, sum_map, up_none, up_once}
-use Rattle.spool_laws.proofs.Reserve.{accepted, no_events}
-use Rattle.spool_laws.proofs.Sound.{Sound, sound}
+use Rattle.spool_laws.proofs.Reserve.{no_events}
+use Rattle.spool_laws.proofs.Sound.{Sound, sound, out_kept}
 use Rattle.spool_laws.proofs.Sums.{numbers, pages_add_up}
 
 abbrev one_for : Bool → ℕ
@@ -98,8 +99,7 @@ apart_by : {C : Type 0} (v : Job C) (e r l : Bool) → v.ended ≡ e → is_rece
 apart_by v true r l ended received is_lent a = rw ended (omega arith)
 apart_by v false true true ended received is_lent a = absurd (clash (is_received v) received (a.sound.lent is_lent))
 apart_by v false true false ended received is_lent a =
-    let back = a.sound.back in
-    let handed = a.sound.handed in
+    let out = out_kept v a.sound in
     rw (ended, received, is_lent) (omega arith)
 apart_by v false false l ended received is_lent a =
     let none = a.sound.begun received in
@@ -130,46 +130,32 @@ out_if_held v false e = elim (test v.handed v.back) [
   | inr s ↦ absurd (clash false (sym (or_parts v.lent true (rw s.1 at (or_parts (not v.ended) (has_page_out v) e).1)).1) refl)
 ]
 
-outs_of_jobs : {C : Type 0} (size : C → ℕ) (c : Config) (base : Base) (h : List (Event C)) → IsLegal size c base h → sum_by (λ (v : Job C). v.handed - v.back) (now c base h).jobs ≡ sum_by (outs h) (up_to (length (openings h)))
+outs_unknown : {C : Type 0} (h : List (Event C)) (j : ℕ) → Unknown h j → outs h j ≡ 0
+outs_unknown h j u = (let d = ap length u.handed in omega arith)
+
+outs_of_jobs : {C : Type 0} (size : C → ℕ) (c : Config) (base : Base) (h : List (Event C)) → IsLegal size c base h → sum_by (λ (v : Job C). v.handed - v.back) (now c base h).jobs ≡ sum_by (outs h) (up_to (last base h))
 outs_of_jobs {C} size c base h l =
     sum_filter (λ (v : Job C). v.handed - v.back) is_held (map (job_of h) (openings h))
     ∙ (sum_map (λ (v : Job C). cond (is_held v) (v.handed - v.back) 0) (job_of h) (openings h)
     ∙ (sum_same (λ (o : Opening). cond (is_held (job_of h o)) ((job_of h o).handed - (job_of h o).back) 0) (λ (o : Opening). outs h o.job) (openings h) (λ o. out_if_held (job_of h o) (is_held (job_of h o)) refl)
-    ∙ numbers size c base h l (outs h)))
+    ∙ numbers size c base h l (outs h) (λ j is. outs_unknown h j ((facts size c base h l).fresh j is))))
 
 -- they are as many as the printers at which one is
 
 abbrev Balanced : {C : Type 0} → Config → Base → List (Event C) → Type 0
-Balanced c base h = sum_by (outs h) (up_to (length (openings h))) ≡ sum_by (out_of h) (up_to (printer_count c))
-
-abbrev Positive : {C : Type 0} → List (Event C) → Type 0
-Positive h = (o : Opening) → Has o (openings h) → 1 ≤ o.job
-
--- the numbers of jobs are at least 1
-positive : {C : Type 0} (size : C → ℕ) (c : Config) (base : Base) (h : List (Event C)) → IsLegal size c base h → Positive h
-positive size c base [] l = λ o has. absurd has
-positive size c base (Opened k s q ∷ h) l = λ o has. elim (has_last o (openings h) (record { job = k; sender = s; queue = q }) has) [
-  | inl t ↦ positive size c base h l.1 o t
-  | inr e ↦ let j : k ≡ o.job = ap (λ (x : Opening). x.job) e in let n = l.0.4 in omega arith
-]
-positive size c base (OfJob k act ∷ h) l = positive size c base h l.1
-positive size c base (AtPrinter p sheet turn ∷ h) l = positive size c base h l.1
-positive size c base (Removed q jobs ∷ h) l = positive size c base h l.1
-positive size c base (Started q ∷ h) l = positive size c base h l.1
-positive size c base (Closed ∷ h) l = positive size c base h l.1
+Balanced c base h = sum_by (outs h) (up_to (last base h)) ≡ sum_by (out_of h) (up_to (printer_count c))
 
 balanced_opened : {C : Type 0} (c : Config) (base : Base) (h : List (Event C)) (k s q : ℕ) → Facts base h → Balanced c base h → Balanced c base (Opened k s q ∷ h)
 balanced_opened {C} c base h k s q f b =
-    let n = length (openings h) in
-    let new = f.fresh (suc n) (omega arith) in
+    let n = last base h in
+    let new = f.fresh (suc n) (inr (omega arith)) in
     let none = ap length new.handed in
-    let u : sum_by (outs h) (up_to (length (openings h ++ record { job = k; sender = s; queue = q } ∷ []))) ≡ sum_by (outs h) (up_to n ++ suc n ∷ []) =
-    ap (λ (i : ℕ). sum_by (outs h) (up_to i)) (length_push (openings h) (record { job = k; sender = s; queue = q }) ∙ next n) in
+    let l = length_push (openings h) (record { job = k; sender = s; queue = q }) in
+    let m : base.accepted + length (openings h ++ record { job = k; sender = s; queue = q } ∷ []) ≡ suc n = omega arith in
+    let u : sum_by (outs h) (up_to (base.accepted + length (openings h ++ record { job = k; sender = s; queue = q } ∷ []))) ≡ sum_by (outs h) (up_to n ++ suc n ∷ []) =
+    ap (λ (i : ℕ). sum_by (outs h) (up_to i)) m in
     let p = sum_by_push (outs h) (up_to n) (suc n) in
     u ∙ omega arith
-  where
-    next : (n : ℕ) → n + 1 ≡ suc n
-    next n = omega arith
 
 out_other : {C : Type 0} (h : List (Event C)) (p : ℕ) (sheet : Sheet C) (turn : Turn) (q : ℕ) → q ≢ p → out_of (AtPrinter p sheet turn ∷ h) q ≡ out_of h q
 out_other {C} h p sheet turn q ne = ap (λ (o : Option (Sheet C)). one_for (is_some o)) (out_there h p sheet turn q (λ e. ne (sym e)))
@@ -177,16 +163,16 @@ out_other {C} h p sheet turn q ne = ap (λ (o : Option (Sheet C)). one_for (is_s
 handed_out : {C : Type 0} (h : List (Event C)) (p : ℕ) (sheet : Sheet C) → out_at (AtPrinter p sheet Handed ∷ h) p ≡ Some sheet
 handed_out h p sheet = elim (test p p) [ inl s ↦ rw s.1 refl | inr s ↦ absurd (s.0 refl) ]
 
-balanced_handed : {C : Type 0} (c : Config) (base : Base) (h : List (Event C)) (p : ℕ) (sheet : Sheet C) → Facts base h → Positive h → 1 ≤ p → p ≤ printer_count c → Turn' h p sheet → Balanced c base h → Balanced c base (AtPrinter p sheet Handed ∷ h)
-balanced_handed {C} c base h p sheet f pos one le t b =
+balanced_handed : {C : Type 0} (c : Config) (base : Base) (h : List (Event C)) (p : ℕ) (sheet : Sheet C) → Facts base h → 1 ≤ p → p ≤ printer_count c → Turn' h p sheet → Balanced c base h → Balanced c base (AtPrinter p sheet Handed ∷ h)
+balanced_handed {C} c base h p sheet f one le t b =
     let e : Event C = AtPrinter p sheet Handed in
     let o : Opening = record { job = sheet.job; sender = t.at.sender; queue = t.at.queue } in
-    let first : 1 ≤ sheet.job = pos o t.at.there in
-    let last : sheet.job ≤ length (openings h) = f.numbers o t.at.there in
+    let number = f.numbers o t.at.there in
+    let number' = number.0 in
     let here = handed_now h p sheet f t in
     let n = count_one h p sheet sheet.job refl in
     let d = back_same h p sheet sheet.job in
-    let jobs = up_once (outs h) (outs (e ∷ h)) sheet.job (length (openings h)) first last (λ j ne. (
+    let jobs = up_once (outs h) (outs (e ∷ h)) sheet.job (last base h) (omega arith) number.1 (λ j ne. (
     let m = count_more h p sheet j (λ s. ne (sym s)) in
     let k = back_same h p sheet j in
     omega arith)) (omega arith) in
@@ -195,14 +181,15 @@ balanced_handed {C} c base h p sheet f pos one le t b =
     let printers = up_once (out_of h) (out_of (e ∷ h)) p (printer_count c) one le (λ q ne. out_other h p sheet Handed q ne) (omega arith) in
     omega arith
 
-balanced_back : {C : Type 0} (c : Config) (base : Base) (h : List (Event C)) (p : ℕ) (sheet : Sheet C) (turn : Turn) → is_handed turn ≡ false → Facts base h → 1 ≤ sheet.job → 1 ≤ p → p ≤ printer_count c → out_at h p ≡ Some sheet → Balanced c base h → Balanced c base (AtPrinter p sheet turn ∷ h)
-balanced_back {C} c base h p sheet turn back f first one le out b =
+balanced_back : {C : Type 0} (c : Config) (base : Base) (h : List (Event C)) (p : ℕ) (sheet : Sheet C) (turn : Turn) → is_handed turn ≡ false → Facts base h → 1 ≤ p → p ≤ printer_count c → out_at h p ≡ Some sheet → Balanced c base h → Balanced c base (AtPrinter p sheet turn ∷ h)
+balanced_back {C} c base h p sheet turn back f one le out b =
     let e : Event C = AtPrinter p sheet turn in
     let x = (f.out p sheet out).1 in
-    let last = handed_number h sheet.job f (omega arith) in
+    let number = handed_number h sheet.job f (omega arith) in
+    let number' = number.0 in
     let n = ap length (handed_same h p sheet turn sheet.job back) in
     let d = back_one h p sheet turn sheet.job back refl in
-    let jobs = up_once (outs (e ∷ h)) (outs h) sheet.job (length (openings h)) first last (λ j ne. (
+    let jobs = up_once (outs (e ∷ h)) (outs h) sheet.job (last base h) (omega arith) number.1 (λ j ne. (
     let m = ap length (handed_same h p sheet turn j back) in
     let k = back_more h p sheet turn j (λ s. ne (sym s)) in
     omega arith)) (omega arith) in
@@ -211,28 +198,14 @@ balanced_back {C} c base h p sheet turn back f first one le out b =
     let printers = up_once (out_of (e ∷ h)) (out_of h) p (printer_count c) one le (λ q ne. sym (out_other h p sheet turn q ne)) (omega arith) in
     omega arith
 
--- a job of which a page is out has a number from 1 on
-first_of : {C : Type 0} (size : C → ℕ) (c : Config) (base : Base) (h : List (Event C)) (j : ℕ) → IsLegal size c base h → 0 < handed_at h j → 1 ≤ j
-first_of size c base h j l out =
-    let o = accepted size c base h l j out in
-    let e = o.2 in
-    let p = positive size c base h l o.0 o.1 in
-    omega arith
-
-came_back : {C : Type 0} (size : C → ℕ) (c : Config) (base : Base) (h : List (Event C)) (p : ℕ) (sheet : Sheet C) (turn : Turn) → is_handed turn ≡ false → IsLegal size c base h → 1 ≤ p → p ≤ printer_count c → out_at h p ≡ Some sheet → Balanced c base h → Balanced c base (AtPrinter p sheet turn ∷ h)
-came_back size c base h p sheet turn back l one le out b =
-    let f = facts size c base h l in
-    let x = (f.out p sheet out).1 in
-    balanced_back c base h p sheet turn back f (first_of size c base h sheet.job l (omega arith)) one le out b
-
 balanced : {C : Type 0} (size : C → ℕ) (c : Config) (base : Base) (h : List (Event C)) → IsLegal size c base h → Balanced c base h
-balanced {C} size c base [] l = sym (up_none (out_of (no_events C)) (printer_count c) (λ p. refl))
+balanced {C} size c base [] l = up_none (outs (no_events C)) (last base (no_events C)) (λ j. refl) ∙ sym (up_none (out_of (no_events C)) (printer_count c) (λ p. refl))
 balanced size c base (Opened k s q ∷ h) l = balanced_opened c base h k s q (facts size c base h l.1) (balanced size c base h l.1)
 balanced size c base (OfJob k act ∷ h) l = balanced size c base h l.1
 balanced size c base (AtPrinter p sheet Handed ∷ h) l =
-    balanced_handed c base h p sheet (facts size c base h l.1) (positive size c base h l.1) l.0.0.0 l.0.0.1 (turn_of_page c base h p sheet l.0.0.0 l.0.0.1 l.0.1) (balanced size c base h l.1)
-balanced size c base (AtPrinter p sheet (Printed x) ∷ h) l = came_back size c base h p sheet (Printed x) refl l.1 l.0.0.0 l.0.0.1 (is_out c base h p sheet l.0.0 l.0.1.0) (balanced size c base h l.1)
-balanced size c base (AtPrinter p sheet Failed ∷ h) l = came_back size c base h p sheet Failed refl l.1 l.0.0.0 l.0.0.1 (is_out c base h p sheet l.0.0 l.0.1) (balanced size c base h l.1)
+    balanced_handed c base h p sheet (facts size c base h l.1) l.0.0.0 l.0.0.1 (turn_of_page c base h p sheet l.0.0.0 l.0.0.1 l.0.1) (balanced size c base h l.1)
+balanced size c base (AtPrinter p sheet (Printed x) ∷ h) l = balanced_back c base h p sheet (Printed x) refl (facts size c base h l.1) l.0.0.0 l.0.0.1 (is_out c base h p sheet l.0.0 l.0.1.0) (balanced size c base h l.1)
+balanced size c base (AtPrinter p sheet Failed ∷ h) l = balanced_back c base h p sheet Failed refl (facts size c base h l.1) l.0.0.0 l.0.0.1 (is_out c base h p sheet l.0.0 l.0.1) (balanced size c base h l.1)
 balanced size c base (Removed q jobs ∷ h) l = balanced size c base h l.1
 balanced size c base (Started q ∷ h) l = balanced size c base h l.1
 balanced size c base (Closed ∷ h) l = balanced size c base h l.1

@@ -18,7 +18,7 @@ use Rattle.spool_laws.specs.Leaving.{EachHanded, EarlierAreGone}
 use Rattle.spool_laws.proofs.Known.{Has, has_contained, has_last, has_kept, none_of, clash, test, Known, known}
 use Rattle.spool_laws.proofs.Printers.{at_printer}
 use Rattle.spool_laws.proofs.Turns.{given}
-use Rattle.spool_laws.proofs.Facts.{Facts, facts, handed_at, handed_more, handed_same}
+use Rattle.spool_laws.proofs.Facts.{Facts, facts, last, handed_at, handed_more, handed_same}
 use Rattle.spool_laws.proofs.Moves.{steady}
 
 abbrev IsBehind : {C : Type 0} → List (Event C) → Opening → Opening → Type 0
@@ -74,7 +74,7 @@ behind_opened {C} h j s q f new st b o k is pos =
       ]
       | inr e ↦
           let m : j ≡ k.job = ap (λ (y : Opening). y.job) e in
-          let z : handed_at h k.job ≡ 0 = ap length (f.fresh k.job (omega arith)).handed in
+          let z : handed_at h k.job ≡ 0 = ap length (f.fresh k.job (inr (omega arith))).handed in
           absurd (omega arith)
     ]
 

@@ -18,7 +18,7 @@ use Rattle.spool_history.specs.Legal.{IsLegal, May}
 use Rattle.spool_laws.proofs.Known.{Has, find_has, has_last, has_kept, known, test, clash, and_false, filter_cons}
 use Rattle.spool_laws.proofs.Printers.{at_printer}
 use Rattle.spool_laws.proofs.Turns.{given, open_by, runs_by, idle_by}
-use Rattle.spool_laws.proofs.Facts.{Facts, facts, began_same, turn_of_page, handed_at, received_at, handed_more, handed_same}
+use Rattle.spool_laws.proofs.Facts.{Facts, facts, last, began_same, turn_of_page, handed_at, received_at, handed_more, handed_same}
 use Rattle.spool_laws.proofs.Moves.{steady}
 use Rattle.spool_laws.proofs.Held.{Keeps, keeps}
 use Rattle.spool_laws.proofs.Pigeons.{Rises, rises_push}
@@ -50,7 +50,7 @@ busy_opened {C} c base h j s q f new st b o has held pos = elim (has_last o (ope
       record { at = x.at; is = x.is; began = x.began; queue = x.queue }
   | inr e ↦
       let m : j ≡ o.job = ap (λ (y : Opening). y.job) e in
-      let z : handed_at h o.job ≡ 0 = ap length (f.fresh o.job (omega arith)).handed in
+      let z : handed_at h o.job ≡ 0 = ap length (f.fresh o.job (inr (omega arith))).handed in
       absurd (omega arith)
 ]
 

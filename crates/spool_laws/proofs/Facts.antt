@@ -1,9 +1,8 @@
 -- What holds of every legal history.
 use Rattle.std.proofs.Common.{◌⊎◌, inl, inr, ◌≡◌, ◌==◌, ◌≢◌, ℕ, ◌+◌, ◌<◌, ◌≤◌, Bool, true, false, List, [], ◌∷◌, ◌++◌, length, refl, sym, ◌∙◌, ap, subst, arith}
-use Rattle.std.specs.Prelude.{nat_lt, Option, Some, None}
+use Rattle.std.specs.Prelude.{Option, Some, None}
 use Rattle.std.specs.List.{list_any, AllByRecursion}
 use Rattle.std.proofs.lemmas.List.{length_push}
-use Rattle.std.proofs.lemmas.Bool.Decides.{nat_tests}
 use Rattle.std.proofs.lemmas.Bool.{cases_lt}
 use Rattle.spool_history.specs.Base.{Base, first_base}
 use Rattle.spool_history.specs.Events.{Act, Event, Sheet, Turn}
@@ -31,6 +30,16 @@ pub record Unknown {C : Type 0} (h : List (Event C)) (j : ℕ) : Type 0 where
   pub handed : handed_of h j ≡ []
   pub back : back_of h j ≡ 0
   pub ended : is_closed first_base h ≡ false → has_ended h j ≡ false
+
+-- what isn't closed from a base isn't closed from the first one
+pub open_first : {C : Type 0} (base : Base) (h : List (Event C)) → is_closed base h ≡ false → is_closed first_base h ≡ false
+open_first base [] e = refl
+open_first base (Opened k s q ∷ h) e = open_first base h e
+open_first base (OfJob k act ∷ h) e = open_first base h e
+open_first base (AtPrinter p sheet turn ∷ h) e = open_first base h e
+open_first base (Removed q jobs ∷ h) e = open_first base h e
+open_first base (Started q ∷ h) e = open_first base h e
+open_first base (Closed ∷ h) e = absurd (clash true refl e)
 
 -- the last acceptance number
 abbrev pub last : {C : Type 0} → Base → List (Event C) → ℕ

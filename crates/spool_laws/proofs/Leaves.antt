@@ -11,7 +11,7 @@ use Rattle.spool_history.specs.Legal.{IsLegal}
 use Rattle.spool_laws.specs.Leaving.{EachHanded, IsOpen, HasNotEnded}
 use Rattle.spool_laws.proofs.Turns.{given, given_at}
 
-pub each_open : {C : Type 0} (size : C → ℕ) (c : Config) (base : Base) (h : List (Event C)) → IsLegal size c base h → EachHanded IsOpen h
+pub each_open : {C : Type 0} (size : C → ℕ) (c : Config) (base : Base) (h : List (Event C)) → IsLegal size c base h → EachHanded (IsOpen base) h
 each_open size c base [] l = tt
 each_open size c base (Opened k s q ∷ h) l = each_open size c base h l.1
 each_open size c base (OfJob k act ∷ h) l = each_open size c base h l.1

@@ -18,6 +18,7 @@ pub mod OutlinedMay
 pub mod Adding
 pub mod Sums
 pub mod Busy
+pub mod Copies
 pub mod Held
 pub mod StillHeld
 pub mod Pigeons
@@ -25,3 +26,4 @@ pub mod Sound
 pub mod Apart
 pub mod Enough
 pub mod Staying
+pub mod Rotated

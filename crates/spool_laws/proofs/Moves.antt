@@ -19,7 +19,7 @@ use Rattle.spool_history.specs.Legal.{May, IsLegal, IsLeftBy}
 use Rattle.spool_laws.proofs.Known.{has_at, held_at, filter_cons, clash, or_true, test}
 use Rattle.spool_laws.proofs.Changes.{changes}
 use Rattle.spool_laws.proofs.Printers.{map_twice, printers_turned, printers_started}
-use Rattle.spool_laws.proofs.Facts.{Facts, facts, turn_of_page, is_out, handed_at}
+use Rattle.spool_laws.proofs.Facts.{Facts, facts, last, open_first, turn_of_page, is_out, handed_at}
 
 -- a job that is gone stays gone
 abbrev pub StaysGone : {C : Type 0} → List (Event C) → Event C → Type 0
@@ -55,7 +55,7 @@ stays_removed h q jobs o true e gone = rw e (gone_ended (has_ended h o.job) (has
 stays_removed h q jobs o false e gone = rw e gone
 
 -- a job of which a page is out is held
-out_held : {C : Type 0} (h : List (Event C)) (k : ℕ) → handed_at h k ≡ back_of h k + 1 → held_at h k ≡ true
+pub out_held : {C : Type 0} (h : List (Event C)) (k : ℕ) → handed_at h k ≡ back_of h k + 1 → held_at h k ≡ true
 out_held h k e =
     let ne : (handed_at h k == back_of h k) ≡ false = grind (arith, nat_tests) in
     rw ne (rw (or_true (is_lent_by (acts_of h k))) (or_true (not (has_ended h k))))
@@ -80,6 +80,10 @@ steady {C} size c base h e l m o gone = subst (λ (v : Job C). is_held v ≡ fal
 abbrev Moved : {C : Type 0} → Config → Base → List (Event C) → Event C → Type 0
 Moved c base h e = now c base (e ∷ h) ≡ after e (now c base h)
 
+pub all_same : {C : Type 0} (c : Config) (jobs jobs' : List (Job C)) (n n' r r' : ℕ) (ps ps' : List (Printer C)) (b b' : Bool) → jobs ≡ jobs' → n ≡ n' → r ≡ r' → ps ≡ ps' → b ≡ b'
+    → ◌≡◌ {A = State C} (record { config = c; jobs = jobs; accepted = n; reserved = r; printers = ps; closed = b }) (record { config = c; jobs = jobs'; accepted = n'; reserved = r'; printers = ps'; closed = b' })
+all_same c jobs jobs' n n' r r' ps ps' b b' x y z u w = cc (x, y, z, u, w)
+
 -- an event that accepts no job
 moved_by : {C : Type 0} (c : Config) (base : Base) (h : List (Event C)) (e : Event C) → openings (e ∷ h) ≡ openings h → accepted_by e ≡ [] → StaysGone h e
     → map (printer_of c base (e ∷ h)) (up_to (printer_count c)) ≡ printers_after e (now c base h) → is_closed base (e ∷ h) ≡ closed_after e (is_closed base h) → Moved c base h e
@@ -87,27 +91,23 @@ moved_by {C} c base h e os none st pr cl =
     let kept = filter is_held (map (change e) (now c base h).jobs) in
     let jobs : filter is_held (map (job_of (e ∷ h)) (openings (e ∷ h))) ≡ kept ++ accepted_by e =
     ap (λ (l : List Opening). filter is_held (map (job_of (e ∷ h)) l)) os ∙ (jobs_change h e st ∙ (sym (append-nil kept) ∙ ap (λ (l : List (Job C)). kept ++ l) (sym none))) in
-    let count : length (openings (e ∷ h)) ≡ length (openings h) + length (accepted_by e) =
-    ap length os ∙ (let z = ap length none in omega arith) in
+    let count : base.accepted + length (openings (e ∷ h)) ≡ base.accepted + length (openings h) + length (accepted_by e) =
+    (let o = ap length os in let z = ap length none in omega arith) in
     let reserve : Opening → ℕ = λ (o : Opening). reserve_of c o.queue in
     let reserve' : Job C → ℕ = λ (v : Job C). reserve_of c v.queue in
-    let sums : sum_by reserve (openings (e ∷ h)) ≡ sum_by reserve (openings h) + sum_by reserve' (accepted_by e) =
-    ap (sum_by reserve) os ∙ (let z : sum_by reserve' (accepted_by e) ≡ 0 = ap (sum_by reserve') none in omega arith) in
-    cc (jobs, count, sums, pr, cl)
-
-same_state : {C : Type 0} (c : Config) (jobs jobs' : List (Job C)) (n n' r r' : ℕ) (ps : List (Printer C)) (b : Bool) → jobs ≡ jobs' → n ≡ n' → r ≡ r'
-    → ◌≡◌ {A = State C} (record { config = c; jobs = jobs; accepted = n; reserved = r; printers = ps; closed = b }) (record { config = c; jobs = jobs'; accepted = n'; reserved = r'; printers = ps; closed = b })
-same_state c jobs jobs' n n' r r' ps b x y z = cc (x, y, z)
+    let sums : base.reserved + sum_by reserve (openings (e ∷ h)) ≡ base.reserved + sum_by reserve (openings h) + sum_by reserve' (accepted_by e) =
+    (let s = ap (sum_by reserve) os in let z : sum_by reserve' (accepted_by e) ≡ 0 = ap (sum_by reserve') none in omega arith) in
+    all_same c _ _ _ _ _ _ _ _ _ _ jobs count sums pr cl
 
 moved_opened : {C : Type 0} (c : Config) (base : Base) (h : List (Event C)) (j s q : ℕ) → Facts base h → is_closed base h ≡ false → j ≡ last base h + 1 → Moved c base h (Opened j s q)
 moved_opened {C} c base h j s q f open' is =
     let e : Event C = Opened j s q in
     let o : Opening = record { job = j; sender = s; queue = q } in
-    let u = f.fresh j (omega arith) in
+    let u = f.fresh j (inr (omega arith)) in
     let a = u.acts in
     let b = u.handed in
     let d = u.back in
-    let n = u.ended open' in
+    let n = u.ended (open_first base h open') in
     let new : job_of h o ≡ new_job j s q = rw (a, b, d, n) refl in
     let last : filter is_held (map (job_of (e ∷ h)) (o ∷ [])) ≡ new_job j s q ∷ [] = ap (λ (v : Job C). filter is_held (v ∷ [])) new in
     let split : filter is_held (map (job_of (e ∷ h)) (openings h ++ o ∷ [])) ≡ filter is_held (map (job_of (e ∷ h)) (openings h)) ++ filter is_held (map (job_of (e ∷ h)) (o ∷ [])) =
@@ -116,10 +116,12 @@ moved_opened {C} c base h j s q f open' is =
     let kept : filter is_held (map (job_of (e ∷ h)) (openings h)) ≡ old = jobs_change h e (λ x gone. gone) in
     let jobs : filter is_held (map (job_of (e ∷ h)) (openings h ++ o ∷ [])) ≡ old ++ new_job j s q ∷ [] =
     split ∙ (ap (λ (l : List (Job C)). l ++ filter is_held (map (job_of (e ∷ h)) (o ∷ []))) kept ∙ ap (λ (l : List (Job C)). old ++ l) last) in
-    let count : length (openings h ++ o ∷ []) ≡ length (openings h) + 1 = length_push (openings h) o in
-    let sums : sum_by (λ (o : Opening). reserve_of c o.queue) (openings h ++ o ∷ []) ≡ sum_by (λ (o : Opening). reserve_of c o.queue) (openings h) + reserve_of c q = sum_by_push (λ (o : Opening). reserve_of c o.queue) (openings h) o in
-    let one : reserve_of c q ≡ sum_by (λ (v : Job C). reserve_of c v.queue) (new_job j s q ∷ []) = omega arith in
-    same_state c _ _ _ _ _ _ (now c base h).printers (is_closed base h) jobs count (sums ∙ ap (λ (n : ℕ). sum_by (λ (o : Opening). reserve_of c o.queue) (openings h) + n) one)
+    let count : base.accepted + length (openings h ++ o ∷ []) ≡ base.accepted + length (openings h) + 1 = (let p = length_push (openings h) o in omega arith) in
+    let reserve : Opening → ℕ = λ (o : Opening). reserve_of c o.queue in
+    let reserve' : Job C → ℕ = λ (v : Job C). reserve_of c v.queue in
+    let one : sum_by reserve' (new_job j s q ∷ []) ≡ reserve_of c q = omega arith in
+    let sums : base.reserved + sum_by reserve (openings h ++ o ∷ []) ≡ base.reserved + sum_by reserve (openings h) + sum_by reserve' (new_job j s q ∷ []) = (let p = sum_by_push reserve (openings h) o in omega arith) in
+    all_same c _ _ _ _ _ _ _ _ _ _ jobs count sums refl refl
 
 pub moved : {C : Type 0} (size : C → ℕ) (c : Config) (base : Base) (h : List (Event C)) (e : Event C) → IsLegal size c base h → May size (now c base h) e → now c base (e ∷ h) ≡ after e (now c base h)
 moved size c base h (Opened k s q) l m = moved_opened c base h k s q (facts size c base h l) m.0 m.4
@@ -129,8 +131,8 @@ moved size c base h (Removed q jobs) l m = moved_by c base h (Removed q jobs) re
 moved size c base h (Started q) l m = moved_by c base h (Started q) refl refl (stays size c base h (Started q) l m) (printers_started c base h q) refl
 moved size c base h Closed l m = moved_by c base h Closed refl refl (stays size c base h Closed l m) refl refl
 
-pub left_by : {C : Type 0} (size : C → ℕ) (h : List (Event C)) (e : Event C) (v : State C) → IsLeftBy size h v → May size v e → IsLeftBy size (e ∷ h) (after e v)
-left_by {C} size h e v l m =
+pub left_by : {C : Type 0} (size : C → ℕ) (base : Base) (h : List (Event C)) (e : Event C) (v : State C) → IsLeftBy size base h v → May size v e → IsLeftBy size base (e ∷ h) (after e v)
+left_by {C} size base h e v l m =
     let c = v.config in
     let may : May size (now c base h) e = subst (λ (u : State C). May size u e) l.here m in
     record { legal = (may, l.legal); here = ap (after e) l.here ∙ sym (moved size c base h e l.legal may) }

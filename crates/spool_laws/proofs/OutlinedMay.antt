@@ -1,5 +1,5 @@
 -- The conditions of an event carry over to the outline of a history, so that this is legal.
-use Rattle.std.proofs.Common.{inl, inr, ◌≡◌, ℕ, ◌<◌, false, List, [], ◌∷◌, map, refl, sym, ◌∙◌, ap, subst}
+use Rattle.std.proofs.Common.{inl, inr, ◌≡◌, ℕ, ◌+◌, ◌<◌, List, [], ◌∷◌, map, refl, sym, ◌∙◌, ap, subst}
 use Rattle.std.specs.Prelude.{Contains, Some, option_map}
 use Rattle.std.specs.List.{AllByRecursion}
 use Rattle.std.proofs.lemmas.List.{map-append, length-map}
@@ -117,26 +117,28 @@ may_in {A} {B} f size short same v (Started q) m = (
 may_in f size short same v Closed m = m
 
 -- before the first event
-starts_in : {A B : Type 0} (f : A → B) (c : Config) (ps : List ℕ) → map (printer_of c []) ps ≡ map (printer_in f) (map (printer_of c []) ps)
-starts_in f c [] = refl
-starts_in f c (p ∷ ps) = ap (λ l. printer_of c [] p ∷ l) (starts_in f c ps)
+starts_in : {A B : Type 0} (f : A → B) (c : Config) (base : Base) (ps : List ℕ) → map (printer_of c base []) ps ≡ map (printer_in f) (map (printer_of c base []) ps)
+starts_in f c base [] = refl
+starts_in f c base (p ∷ ps) = ap (λ l. printer_of c base [] p ∷ l) (starts_in f c base ps)
 
-start_in : {A B : Type 0} (f : A → B) (c : Config) → now c base [] ≡ state_in f (now c base [])
-start_in {A} {B} f c = ap (λ (ps : List (Printer B)). record { config = c; jobs = []; accepted = 0; reserved = 0; printers = ps; closed = false }) (starts_in f c (up_to (printer_count c)))
+start_in : {A B : Type 0} (f : A → B) (c : Config) (base : Base) → now c base [] ≡ state_in f (now c base [])
+start_in {A} {B} f c base =
+    ap (λ (ps : List (Printer B)). record { config = c; jobs = []; accepted = base.accepted + 0; reserved = base.reserved + 0; printers = ps; closed = base.closed })
+    (starts_in f c base (up_to (printer_count c)))
 
 record Outlined {A B : Type 0} (f : A → B) (short : B → ℕ) (c : Config) (base : Base) (h : List (Event A)) : Type 0 where
-  legal : IsLegal short c (outline f h)
-  here : now c (outline f h) ≡ state_in f (now c base h)
+  legal : IsLegal short c base (outline f h)
+  here : now c base (outline f h) ≡ state_in f (now c base h)
 
 outlined : {A B : Type 0} (f : A → B) (size : A → ℕ) (short : B → ℕ) → ((page : A) → short (f page) ≡ size page) → (c : Config) (base : Base) (h : List (Event A)) → IsLegal size c base h → Outlined f short c base h
-outlined f size short same c [] l = record { legal = tt; here = start_in f c }
+outlined f size short same c base [] l = record { legal = tt; here = start_in f c base }
 outlined {A} {B} f size short same c base (e ∷ h) l =
     let o = outlined f size short same c base h l.1 in
-    let may : May short (now c (outline f h)) (outline_event f e) = subst (λ (v : State B). May short v (outline_event f e)) (sym o.here) (may_in f size short same (now c base h) e l.0) in
+    let may : May short (now c base (outline f h)) (outline_event f e) = subst (λ (v : State B). May short v (outline_event f e)) (sym o.here) (may_in f size short same (now c base h) e l.0) in
     record {
       legal = (may, o.legal);
-      here = moved short c (outline f h) (outline_event f e) o.legal may ∙ (ap (after (outline_event f e)) o.here ∙ (after_in f e (now c base h) ∙ sym (ap (state_in f) (moved size c base h e l.1 l.0))));
+      here = moved short c base (outline f h) (outline_event f e) o.legal may ∙ (ap (after (outline_event f e)) o.here ∙ (after_in f e (now c base h) ∙ sym (ap (state_in f) (moved size c base h e l.1 l.0))));
     }
 
-pub outline_legal : {A B : Type 0} (f : A → B) (size : A → ℕ) (short : B → ℕ) → ((page : A) → short (f page) ≡ size page) → (c : Config) (base : Base) (h : List (Event A)) → IsLegal size c base h → IsLegal short c (outline f h)
+pub outline_legal : {A B : Type 0} (f : A → B) (size : A → ℕ) (short : B → ℕ) → ((page : A) → short (f page) ≡ size page) → (c : Config) (base : Base) (h : List (Event A)) → IsLegal size c base h → IsLegal short c base (outline f h)
 outline_legal f size short same c base h l = (outlined f size short same c base h l).legal

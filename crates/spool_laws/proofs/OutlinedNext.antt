@@ -10,8 +10,8 @@ use Rattle.claims.specs.Safety.{HasFinishingOrder}
 use Rattle.spool_history.specs.Events.{Sheet}
 use Rattle.spool_history.specs.Events.Progress.{Going, Done, Ended}
 use Rattle.config_values.specs.Config.{Config, limit_of}
-use Rattle.spool_history.specs.Acts.{File, Page, prints_in, is_open_in, names_in, numbered, pages_named}
-use Rattle.spool_history.specs.Now.{Job, Printer, State, is_received, places, pages_out, printers_held, printers_needed, amounts, row_of, capacity, free_pages, IsSafeNow}
+use Rattle.spool_history.specs.Acts.{File, Page, all_pages, is_same_page, prints_in, is_open_in, names_in, numbered, pages_among, pages_named}
+use Rattle.spool_history.specs.Now.{Job, Printer, State, is_received, places, pages_kept, pages_out, printers_held, printers_needed, amounts, row_of, capacity, free_pages, IsSafeNow}
 use Rattle.spool_history.specs.Next.{Next, hand_first, hand_of, is_preceded_by, is_ready, first_ready, or_first, turn_of, with_out, next_at, printer_at, next_page}
 use Rattle.spool_history.specs.Next.Next.{Hands, Nothing, Stops, Busy, Over}
 use Rattle.spool_history.specs.Legal.{progress_of}
@@ -72,19 +72,45 @@ place_count f v = ap length (places_same f v) ∙ length-map (places v) (page_in
 pub progress_in : {A B : Type 0} (f : A → B) (v : Job A) → progress_of (job_in f v) ≡ progress_of v
 progress_in f v = ap (λ (n : ℕ). cond v.ended Ended (cond (v.back + 1 == n) Done Going)) (place_count f v)
 
+-- and the pages that it keeps
+all_in : {A B : Type 0} (f : A → B) (n : ℕ) (fs : List (File A)) → all_pages n (map (file_in f) fs) ≡ map (page_in f) (all_pages n fs)
+all_in f n [] = refl
+all_in f n (x ∷ xs) =
+    ap₂ (λ k l. k ++ l) (numbered_in f n 0 x.pages) (all_in f (n + 1) xs)
+    ∙ sym (map-append (page_in f) (numbered n 0 x.pages) (all_pages (n + 1) xs))
+
+same_in : {A B : Type 0} (f : A → B) (x : Page A) (ps : List (Page A)) → list_any (is_same_page (page_in f x)) (map (page_in f) ps) ≡ list_any (is_same_page x) ps
+same_in f x [] = refl
+same_in f x (p ∷ ps) = ap (λ b. is_same_page x p || b) (same_in f x ps)
+
+keep_in : {X Y : Type 0} (g : X → Y) (b : Bool) (x : X) (xs : List X) (ys : List Y) → ys ≡ map g xs → cond b (g x ∷ ys) ys ≡ map g (cond b (x ∷ xs) xs)
+keep_in g true x xs ys e = ap (λ l. g x ∷ l) e
+keep_in g false x xs ys e = e
+
+among_in : {A B : Type 0} (f : A → B) (ps xs : List (Page A)) → pages_among (map (page_in f) ps) (map (page_in f) xs) ≡ map (page_in f) (pages_among ps xs)
+among_in f ps [] = refl
+among_in {A} {B} f ps (x ∷ xs) =
+    ap (λ b. cond b (page_in f x ∷ pages_among (map (page_in f) ps) (map (page_in f) xs)) (pages_among (map (page_in f) ps) (map (page_in f) xs))) (same_in f x ps)
+    ∙ keep_in (page_in f) (list_any (is_same_page x) ps) x (pages_among ps xs) _ (among_in f ps xs)
+
+kept_count : {A B : Type 0} (f : A → B) (v : Job A) → length (pages_kept (job_in f v)) ≡ length (pages_kept v)
+kept_count f v =
+    ap length (ap₂ pages_among (ap (drop v.back) (places_same f v) ∙ drop-map (page_in f) v.back (places v)) (all_in f 0 v.files) ∙ among_in f (drop v.back (places v)) (all_pages 0 v.files))
+    ∙ length-map (pages_kept v) (page_in f)
+
 -- what it holds and may still need
 row_by : {C : Type 0} → Config → Job C → Bool → ℕ → Row
 row_by c v received n = record {
   number = v.number;
   sender = v.sender;
   queue = v.queue;
-  held = amounts c (cond v.ended (pages_out v) (cond received (n - v.back) v.granted)) v.queue (printers_held v);
+  held = amounts c (cond v.ended (pages_out v) (cond received n v.granted)) v.queue (printers_held v);
   need = amounts c (cond (v.ended || received) 0 (limit_of c v.queue - v.granted)) v.queue (printers_needed v);
 }
 
 row_in : {A B : Type 0} (f : A → B) (c : Config) (v : Job A) → row_of c (job_in f v) ≡ row_of c v
 unfolding row_by
-row_in f c v = ap₂ (row_by c v) (received_in f v) (place_count f v)
+row_in f c v = ap₂ (row_by c v) (received_in f v) (kept_count f v)
 
 rows_in : {A B : Type 0} (f : A → B) (c : Config) (vs : List (Job A)) → map (row_of c) (map (job_in f) vs) ≡ map (row_of c) vs
 rows_in f c [] = refl

@@ -22,7 +22,7 @@ get_last f n i d false e lt ih =
     let less : i < n = grind (arith, nat_tests) in
     get_or_append_left (map f (up_to n)) (f (suc n) ∷ []) d i (let l = length_up_to f n in omega arith) ∙ ih less
 
-get_up_to : {P : Type 0} (f : ℕ → P) (n i : ℕ) (d : P) → i < n → get_or (map f (up_to n)) i d ≡ f (suc i)
+pub get_up_to : {P : Type 0} (f : ℕ → P) (n i : ℕ) (d : P) → i < n → get_or (map f (up_to n)) i d ≡ f (suc i)
 get_up_to f zero i d lt = absurd (omega arith)
 get_up_to {P} f (suc n) i d lt =
     ap (λ (l : List P). get_or l i d) (map-append f (up_to n) (suc n ∷ [])) ∙ get_last f n i d (i == n) refl lt (get_up_to f n i d)

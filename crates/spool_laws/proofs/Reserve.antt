@@ -1,9 +1,9 @@
 -- The entries of a history are within the reserves of its accepted jobs, and one.
 use Rattle.std.proofs.Common.{inl, inr, ◌≡◌, ◌==◌, ◌≢◌, ℕ, suc, ◌+◌, ◌<◌, ◌≤◌, Bool, true, false, List, [], ◌∷◌, length, refl, sym, ◌∙◌, ap, arith}
-use Rattle.std.specs.Prelude.{sum_by}
+use Rattle.std.specs.Prelude.{cond, sum_by}
 use Rattle.std.specs.List.{list_any, AllByRecursion}
 use Rattle.std.proofs.lemmas.List.Sums.{sum_by_push}
-use Rattle.spool_history.specs.Base.{Base}
+use Rattle.spool_history.specs.Base.{Base, was_stopped}
 use Rattle.spool_history.specs.Events.{Act, Event, Sheet, Turn}
 use Rattle.spool_history.specs.Events.Turn.{Handed, Printed, Failed}
 use Rattle.spool_history.specs.Events.Event.{Opened, OfJob, AtPrinter, Removed, Started, Closed}
@@ -11,11 +11,12 @@ use Rattle.config_values.specs.Config.{Config, printer_count, queue_of, reserve_
 use Rattle.spool_history.specs.Said.{Opening, openings, acts_of, is_handed, is_failed, is_stopped_at, is_closed}
 use Rattle.spool_history.specs.Now.{Job, Printer, now, up_to}
 use Rattle.spool_history.specs.Legal.{HasJob, IsLegal, May}
+use Rattle.spool_laws.specs.Reserve.{CountsStops}
 use Rattle.spool_laws.proofs.Known.{Has, At, has_at, test}
 use Rattle.spool_laws.proofs.Printers.{at_printer}
 use Rattle.spool_laws.proofs.Facts.{facts, is_out, turn_of_page, handed_at, handed_more, handed_same, count_one, acts_other, back_same, back_more, back_one}
 use Rattle.spool_laws.proofs.Counts.{one_if, one_le}
-use Rattle.spool_laws.proofs.Adding.{sum_less, sum_more, up_less, up_one, up_none, has_left, has_up_to}
+use Rattle.spool_laws.proofs.Adding.{sum_less, sum_more, sum_same, up_less, up_one, has_left, has_up_to}
 use Rattle.spool_laws.proofs.Told.{failed_of, removed_of, used, failed_one, reserved}
 
 -- a job of which a page was handed was accepted
@@ -145,7 +146,7 @@ starts_one c base h q p e is = elim (test q (queue_of c p)) [
 
 -- the entries and the stopped printers are among what is told of the jobs, and the close
 abbrev Told' : {C : Type 0} → Config → Base → List (Event C) → Type 0
-Told' c base h = length h + stops c base h ≤ all_used h (openings h) + one_if (is_closed base h)
+Told' c base h = length h + stops c base h ≤ base.reserved + all_used h (openings h) + one_if (is_closed base h)
 
 act_told : {C : Type 0} (c : Config) (base : Base) (h : List (Event C)) (k : ℕ) (act : Act C) (P : Job C → Type 0) → At h k P → Told' c base h → Told' c base (OfJob k act ∷ h)
 act_told c base h k act P a t =
@@ -217,13 +218,17 @@ told_step {C} size c base h (Started q) l m t =
     started_told c base h q m.2 m.3.0 m.3.1 (sym (ap (λ (x : Printer C). x.queue) here) ∙ m.4.0) (sym (ap (λ (x : Printer C). x.stopped) here) ∙ m.4.1) t
 told_step size c base h Closed l m t = closed_told c base h m t
 
-told_of : {C : Type 0} (size : C → ℕ) (c : Config) (base : Base) (h : List (Event C)) → IsLegal size c base h → Told' c base h
-told_of {C} size c base [] l = let z = up_none (stop c (no_events C)) (printer_count c) (λ p. refl) in omega arith
-told_of size c base (e ∷ h) l = told_step size c base h e l.1 l.0 (told_of size c base h l.1)
+told_of : {C : Type 0} (size : C → ℕ) (c : Config) (base : Base) (h : List (Event C)) → CountsStops c base → IsLegal size c base h → Told' c base h
+told_of {C} size c base [] k l = (let z = sum_same (stop c base (no_events C)) (λ (p : ℕ). cond (was_stopped base p) 1 0) (up_to (printer_count c)) (λ p. one_is (was_stopped base p)) in omega arith)
+  where
+    one_is : (b : Bool) → one_if b ≡ cond b 1 0
+    one_is true = refl
+    one_is false = refl
+told_of size c base (e ∷ h) k l = told_step size c base h e l.1 l.0 (told_of size c base h k l.1)
 
-pub reserve_is_enough : {C : Type 0} (size : C → ℕ) (c : Config) (base : Base) (h : List (Event C)) → IsLegal size c base h → length h ≤ (now c base h).reserved + 1
-reserve_is_enough size c base h l =
-    let t = told_of size c base h l in
+pub reserve_is_enough : {C : Type 0} (size : C → ℕ) (c : Config) (base : Base) (h : List (Event C)) → CountsStops c base → IsLegal size c base h → length h ≤ (now c base h).reserved + 1
+reserve_is_enough size c base h k l =
+    let t = told_of size c base h k l in
     let s = sum_less (used_by h) (λ (o : Opening). reserve_of c o.queue) (openings h) (λ o has. reserved size c base h l o has) in
     let one = one_le (is_closed base h) in
     omega arith

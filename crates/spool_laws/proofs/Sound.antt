@@ -1,6 +1,7 @@
 -- What holds of each accepted job, and what each event makes of the row of a held one.
-use Rattle.std.proofs.Common.{inl, inr, ◌≡◌, ◌==◌, ℕ, zero, suc, ◌+◌, ◌-◌, ◌≤◌, Bool, true, false, List, [], ◌∷◌, length, get_or, map, take, refl, sym, ◌∙◌, ap, subst, arith}
-use Rattle.std.specs.Prelude.{cond}
+use Rattle.std.proofs.Common.{inl, inr, ◌≡◌, ◌==◌, ℕ, zero, suc, ◌+◌, ◌-◌, ◌*◌, ◌<◌, ◌≤◌, Bool, true, false, List, [], ◌∷◌, length, get_or, map, take, refl, sym, ◌∙◌, ap, subst, arith}
+use Rattle.std.specs.Prelude.{cond, nat_lt}
+use Rattle.std.proofs.lemmas.Bool.Decides.{nat_tests}
 use Rattle.std.specs.List.{list_any}
 use Rattle.counts.specs.Amounts.{amount}
 use Rattle.spool_history.specs.Base.{Base}
@@ -11,26 +12,60 @@ use Rattle.spool_history.specs.Events.Turn.{Handed, Printed, Failed}
 use Rattle.spool_history.specs.Events.Event.{Opened, OfJob, AtPrinter, Removed, Started, Closed}
 use Rattle.config_values.specs.Config.{Config, limit_of}
 use Rattle.spool_history.specs.Acts.{Page, granted_by, files_by}
-use Rattle.spool_history.specs.Said.{Opening, openings, acts_of}
-use Rattle.spool_history.specs.Now.{Job, now, job_of, is_received, places, pages_out, pages_held, printers_held, pages_needed, printers_needed, amounts, row_of, up_to}
+use Rattle.spool_history.specs.Said.{Opening, openings, acts_of, back_of, is_handed}
+use Rattle.spool_history.specs.Now.{Job, now, job_of, is_received, places, pages_kept, pages_out, pages_held, printers_held, pages_needed, printers_needed, amounts, row_of, up_to}
 use Rattle.spool_history.specs.Steps.{change, acted, turned}
 use Rattle.spool_history.specs.Legal.{IsLegal, May}
 use Rattle.spool_laws.specs.Leaving.{places_of, sheets}
 use Rattle.spool_laws.proofs.Known.{Has, At, has_at, test, clash}
 use Rattle.spool_laws.proofs.Changes.{changes}
-use Rattle.spool_laws.proofs.Facts.{Facts, facts, handed_at}
+use Rattle.spool_laws.proofs.Facts.{Facts, facts, turn_of_page, handed_now, handed_at, handed_same, count_one, count_more, back_same, back_more, back_one}
 use Rattle.spool_laws.proofs.Places.{placed}
-use Rattle.spool_laws.proofs.Held.{keeps, places_within, pages_in}
+use Rattle.spool_laws.proofs.Copies.{pages_in, kept_within, kept_fewer, kept_some, places_many}
+use Rattle.spool_laws.proofs.Held.{keeps, files_within}
 use Rattle.spool_laws.proofs.Busy.{lent_unreceived}
 use Rattle.claims.proofs.Lowered.{Lower}
 
 pub record Sound {C : Type 0} (v : Job C) : Type 0 where
-  pub within : length (places v) ≤ v.granted
+  pub within : length (pages_kept v) ≤ v.granted
+  pub many : length (places v) ≤ 99 * v.granted
   pub lent : v.lent ≡ true → is_received v ≡ false
   pub one : v.lent ≡ true → 1 ≤ v.granted
   pub back : v.back ≤ v.handed
   pub begun : is_received v ≡ false → v.handed ≡ 0
   pub handed : v.handed ≤ length (places v)
+  pub out : v.handed ≤ v.back + 1
+
+-- of each job one page at most is at a printer
+
+more_back : {C : Type 0} (h : List (Event C)) (p : ℕ) (sheet : Sheet C) (turn : Turn) → is_handed turn ≡ false → (j : ℕ) → handed_at h j ≤ back_of h j + 1 → handed_at (AtPrinter p sheet turn ∷ h) j ≤ back_of (AtPrinter p sheet turn ∷ h) j + 1
+more_back h p sheet turn is j le =
+    let n = ap length (handed_same h p sheet turn j is) in
+    elim (test sheet.job j) [
+      | inl s ↦ let b = back_one h p sheet turn j is s.0 in omega arith
+      | inr s ↦ let b = back_more h p sheet turn j s.0 in omega arith
+    ]
+
+one_out : {C : Type 0} (size : C → ℕ) (c : Config) (base : Base) (h : List (Event C)) → IsLegal size c base h → (j : ℕ) → handed_at h j ≤ back_of h j + 1
+one_out size c base [] l j = omega arith
+one_out size c base (Opened k s q ∷ h) l j = one_out size c base h l.1 j
+one_out size c base (OfJob k act ∷ h) l j = one_out size c base h l.1 j
+one_out size c base (AtPrinter p sheet Handed ∷ h) l j =
+    let ih = one_out size c base h l.1 j in
+    let b = back_same h p sheet j in
+    elim (test sheet.job j) [
+      | inl s ↦
+          let n = count_one h p sheet j s.0 in
+          let here = handed_now h p sheet (facts size c base h l.1) (turn_of_page c base h p sheet l.0.0.0 l.0.0.1 l.0.1) in
+          let here' : handed_at h j ≡ back_of h j = subst (λ (i : ℕ). handed_at h i ≡ back_of h i) s.0 here in
+          omega arith
+      | inr s ↦ let n = count_more h p sheet j s.0 in omega arith
+    ]
+one_out size c base (AtPrinter p sheet (Printed x) ∷ h) l j = more_back h p sheet (Printed x) refl j (one_out size c base h l.1 j)
+one_out size c base (AtPrinter p sheet Failed ∷ h) l j = more_back h p sheet Failed refl j (one_out size c base h l.1 j)
+one_out size c base (Removed q jobs ∷ h) l j = one_out size c base h l.1 j
+one_out size c base (Started q ∷ h) l j = one_out size c base h l.1 j
+one_out size c base (Closed ∷ h) l j = one_out size c base h l.1 j
 
 length_sheets : {C : Type 0} (j n k : ℕ) (xs : List (Page C)) → length (sheets j n (take k xs)) ≤ length xs
 length_sheets j n zero xs = omega arith
@@ -42,12 +77,14 @@ sound {C} size c base h l o =
     let f = facts size c base h l in
     let k = keeps size c base h l o.job in
     record {
-      within = places_within size c base h l o.job;
+      within = (let w = files_within size c base h l o.job in let n = kept_within (job_of h o) in omega arith);
+      many = (let w = files_within size c base h l o.job in let n = places_many (job_of h o) k.prints in omega arith);
       lent = lent_unreceived h o.job k;
       one = λ e. (let n : pages_in (files_by (acts_of h o.job)) + 1 ≤ granted_by (acts_of h o.job) = rw e at k.count in omega arith);
       back = f.back o.job;
       begun = f.begun o.job;
       handed = (let e = ap length (placed size c base h l o.job) in let b = length_sheets o.job 0 (handed_at h o.job) (places_of h o.job) in omega arith);
+      out = one_out size c base h l o.job;
     }
 
 pub sound_after : {C : Type 0} (size : C → ℕ) (c : Config) (base : Base) (h : List (Event C)) (e : Event C) → IsLegal size c base h → May size (now c base h) e → (o : Opening) → Sound (change e (job_of h o))
@@ -76,9 +113,9 @@ lower_same c v = record { number = refl; sender = refl; queue = refl; held = λ 
 
 -- while a job is received
 
-held_within : (r : Bool) (n m g : ℕ) → n ≤ g → cond r (n - m) g ≤ g
-held_within true n m g le = omega arith
-held_within false n m g le = omega arith
+held_within : (r : Bool) (n g : ℕ) → n ≤ g → cond r n g ≤ g
+held_within true n g le = le
+held_within false n g le = omega arith
 
 need_within : (r : Bool) (n : ℕ) → cond r 0 n ≤ n
 need_within true n = omega arith
@@ -87,10 +124,10 @@ need_within false n = omega arith
 pub lower_receiving : {C : Type 0} (c : Config) (v w : Job C) → v.ended ≡ false → is_received v ≡ false → Sound w → w.ended ≡ v.ended → w.granted ≡ v.granted → w.handed ≡ v.handed → w.number ≡ v.number → w.sender ≡ v.sender → w.queue ≡ v.queue → Lower (row_of c v) (row_of c w)
 lower_receiving {C} c v w e r s we wg wh n s' q =
     let we' : w.ended ≡ false = we ∙ e in
-    let a = held_within (is_received w) (length (places w)) w.back w.granted s.within in
+    let a = held_within (is_received w) (length (pages_kept w)) w.granted s.within in
     let b = need_within (is_received w) (limit_of c v.queue - v.granted) in
     let ph : pages_held v ≡ v.granted = rw (e, r) refl in
-    let ph' : pages_held w ≡ cond (is_received w) (length (places w) - w.back) w.granted = rw we' refl in
+    let ph' : pages_held w ≡ cond (is_received w) (length (pages_kept w)) w.granted = rw we' refl in
     let pn : pages_needed c v ≡ limit_of c v.queue - v.granted = rw (e, r) refl in
     let pn' : pages_needed c w ≡ cond (is_received w) 0 (limit_of c v.queue - v.granted) = rw (we', q, wg) refl in
     let h1 : printers_held w ≡ printers_held v = ap (λ (i : ℕ). cond (i == 0) 0 1) wh in
@@ -99,13 +136,27 @@ lower_receiving {C} c v w e r s we wg wh n s' q =
 
 -- when it ends
 
+-- the page of it that is at a printer is among those that it keeps
+pub out_kept : {C : Type 0} (v : Job C) → Sound v → v.handed - v.back ≤ length (pages_kept v)
+out_kept v s = by (nat_lt v.back (length (places v))) refl
+  where
+    by : (b : Bool) → nat_lt v.back (length (places v)) ≡ b → v.handed - v.back ≤ length (pages_kept v)
+    by true e =
+        let lt : v.back < length (places v) = grind (arith, nat_tests) in
+        let one = kept_some v lt in
+        let out = s.out in
+        omega arith
+    by false e =
+        let le : length (places v) ≤ v.back = grind (arith, nat_tests) in
+        let handed = s.handed in
+        omega arith
+
 -- the pages of it that are out are among those that it holds
 pub out_within_by : {C : Type 0} (v : Job C) (e r l : Bool) → v.ended ≡ e → is_received v ≡ r → v.lent ≡ l → Sound v → pages_out v ≤ pages_held v
 out_within_by v true r l e is le s = rw e (omega arith)
 out_within_by v false true true e is le s = absurd (clash (is_received v) is (s.lent le))
 out_within_by v false true false e is le s =
-    let a = s.handed in
-    let b = s.back in
+    let a = out_kept v s in
     rw (e, is, le) (omega arith)
 out_within_by v false false true e is le s =
     let z = s.begun is in
@@ -130,13 +181,13 @@ lower_ended c v w s o we wh n s' q =
     lower_row c v w n s' q (omega arith) (omega arith) (omega arith) (omega arith)
 
 -- when a page of it comes back
-back_less : (e r : Bool) (n m g l k : ℕ) → cond e (l + (k - (m + 1))) (cond r (n - (m + 1)) g) ≤ cond e (l + (k - m)) (cond r (n - m) g)
-back_less true r n m g l k = omega arith
-back_less false true n m g l k = omega arith
-back_less false false n m g l k = omega arith
+back_less : (e r : Bool) (n n' m g l k : ℕ) → n' ≤ n → cond e (l + (k - (m + 1))) (cond r n' g) ≤ cond e (l + (k - m)) (cond r n g)
+back_less true r n n' m g l k le = omega arith
+back_less false true n n' m g l k le = le
+back_less false false n n' m g l k le = omega arith
 
 pub lower_back : {C : Type 0} (c : Config) (v : Job C) → Lower (row_of c v) (row_of c (record v { back = v.back + 1 }))
-lower_back c v = lower_row c v (record v { back = v.back + 1 }) refl refl refl (back_less v.ended (is_received v) (length (places v)) v.back v.granted (cond v.lent 1 0) v.handed) (omega arith) (omega arith) (omega arith)
+lower_back c v = lower_row c v (record v { back = v.back + 1 }) refl refl refl (back_less v.ended (is_received v) (length (pages_kept v)) (length (pages_kept (record v { back = v.back + 1 }))) v.back v.granted (cond v.lent 1 0) v.handed (kept_fewer v)) (omega arith) (omega arith) (omega arith)
 
 -- what an event makes of the row of each held job
 abbrev pub LowersAll : {C : Type 0} → Config → Base → List (Event C) → Event C → Type 0

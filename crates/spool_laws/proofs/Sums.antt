@@ -15,14 +15,16 @@ use Rattle.spool_history.specs.Events.Event.{Opened, OfJob, AtPrinter, Removed, 
 use Rattle.config_values.specs.Config.{Config}
 use Rattle.spool_history.specs.Acts.{granted_by}
 use Rattle.spool_history.specs.Said.{Opening, openings, acts_of, has_ended, ends_by_act}
-use Rattle.spool_history.specs.Now.{Job, now, job_of, is_held, is_received, places, pages_out, pages_held, free_pages, row_of, up_to}
+use Rattle.spool_history.specs.Now.{Job, now, job_of, is_held, is_received, pages_kept, pages_out, pages_held, free_pages, row_of, up_to}
 use Rattle.spool_history.specs.Steps.{change, turned}
 use Rattle.spool_history.specs.Legal.{IsLegal, May}
 use Rattle.spool_laws.specs.Sums.{held_pages, AddUp}
 use Rattle.spool_laws.proofs.Known.{has_at, test}
 use Rattle.spool_laws.proofs.Changes.{changes}
-use Rattle.spool_laws.proofs.Facts.{facts, turn_of_page, received_at}
-use Rattle.spool_laws.proofs.Adding.{sum_filter, sum_map, up_less, up_one}
+use Rattle.spool_laws.proofs.Facts.{Unknown, facts, last, IsOther, turn_of_page, received_at}
+use Rattle.spool_laws.proofs.Adding.{sum_filter, sum_map, up_below, up_less, up_none, up_one}
+use Rattle.spool_laws.proofs.Copies.{kept_fewer}
+use Rattle.spool_laws.proofs.Reserve.{no_events}
 use Rattle.spool_laws.proofs.Sound.{Sound, sound, out_within}
 
 -- the pages that a job holds, if it is held
@@ -36,39 +38,59 @@ numbered j = record { job = j; sender = 0; queue = 0 }
 abbrev weight_at : {C : Type 0} → List (Event C) → ℕ → ℕ
 weight_at h j = weight (job_of h (numbered j))
 
-abbrev weights : {C : Type 0} → List (Event C) → ℕ
-weights h = sum_by (weight_at h) (up_to (length (openings h)))
+abbrev weights : {C : Type 0} → Base → List (Event C) → ℕ
+weights base h = sum_by (weight_at h) (up_to (last base h))
 
 sum_held : {C : Type 0} (h : List (Event C)) (os : List Opening) → sum_by (λ (v : Job C). pages_held v) (filter is_held (map (job_of h) os)) ≡ sum_by (λ (p : Opening). weight_at h p.job) os
 sum_held {C} h os = sum_filter (λ (v : Job C). pages_held v) is_held (map (job_of h) os) ∙ sum_map (λ (v : Job C). weight v) (job_of h) os
 
--- the numbers of the accepted jobs are 1, 2 and so on
+-- the numbers of the accepted jobs are those after the base's last one, in order
 
-abbrev Numbers : (ℕ → ℕ) → List Opening → Type 0
-Numbers f os = sum_by (λ (p : Opening). f p.job) os ≡ sum_by f (up_to (length os))
+abbrev Numbers : (ℕ → ℕ) → ℕ → List Opening → Type 0
+Numbers f n os = sum_by f (up_to n) + sum_by (λ (p : Opening). f p.job) os ≡ sum_by f (up_to (n + length os))
 
-more_numbers : (f : ℕ → ℕ) (os : List Opening) (x : Opening) → x.job ≡ length os + 1 → Numbers f os → Numbers f (os ++ x ∷ [])
-more_numbers f os x e n =
+more_numbers : (f : ℕ → ℕ) (n : ℕ) (os : List Opening) (x : Opening) → x.job ≡ n + length os + 1 → Numbers f n os → Numbers f n (os ++ x ∷ [])
+more_numbers f n os x e ih =
     let l = length_push os x in
-    let m : length (os ++ x ∷ []) ≡ suc (length os) = omega arith in
-    let j : x.job ≡ suc (length os) = omega arith in
-    let fj : f x.job ≡ f (suc (length os)) = ap f j in
+    let m : n + length (os ++ x ∷ []) ≡ suc (n + length os) = omega arith in
+    let j : x.job ≡ suc (n + length os) = omega arith in
+    let fj : f x.job ≡ f (suc (n + length os)) = ap f j in
     let a = sum_by_push (λ (p : Opening). f p.job) os x in
-    let b = sum_by_push f (up_to (length os)) (suc (length os)) in
-    let u : sum_by f (up_to (length (os ++ x ∷ []))) ≡ sum_by f (up_to (length os) ++ suc (length os) ∷ []) = ap (λ (i : ℕ). sum_by f (up_to i)) m in
+    let b = sum_by_push f (up_to (n + length os)) (suc (n + length os)) in
+    let u : sum_by f (up_to (n + length (os ++ x ∷ []))) ≡ sum_by f (up_to (n + length os) ++ suc (n + length os) ∷ []) = ap (λ (i : ℕ). sum_by f (up_to i)) m in
     omega arith
 
-pub numbers : {C : Type 0} (size : C → ℕ) (c : Config) (base : Base) (h : List (Event C)) → IsLegal size c base h → (f : ℕ → ℕ) → Numbers f (openings h)
-numbers size c base [] l f = refl
-numbers size c base (Opened k s q ∷ h) l f = more_numbers f (openings h) (record { job = k; sender = s; queue = q }) l.0.4 (numbers size c base h l.1 f)
-numbers size c base (OfJob k act ∷ h) l f = numbers size c base h l.1 f
-numbers size c base (AtPrinter p sheet turn ∷ h) l f = numbers size c base h l.1 f
-numbers size c base (Removed q jobs ∷ h) l f = numbers size c base h l.1 f
-numbers size c base (Started q ∷ h) l f = numbers size c base h l.1 f
-numbers size c base (Closed ∷ h) l f = numbers size c base h l.1 f
+all_numbers : {C : Type 0} (size : C → ℕ) (c : Config) (base : Base) (h : List (Event C)) → IsLegal size c base h → (f : ℕ → ℕ) → Numbers f base.accepted (openings h)
+all_numbers size c base [] l f = (let e = ap (λ (i : ℕ). sum_by f (up_to i)) (sym (and_none base.accepted)) in omega arith)
+  where
+    and_none : (n : ℕ) → n + 0 ≡ n
+    and_none n = omega arith
+all_numbers size c base (Opened k s q ∷ h) l f = more_numbers f base.accepted (openings h) (record { job = k; sender = s; queue = q }) l.0.4 (all_numbers size c base h l.1 f)
+all_numbers size c base (OfJob k act ∷ h) l f = all_numbers size c base h l.1 f
+all_numbers size c base (AtPrinter p sheet turn ∷ h) l f = all_numbers size c base h l.1 f
+all_numbers size c base (Removed q jobs ∷ h) l f = all_numbers size c base h l.1 f
+all_numbers size c base (Started q ∷ h) l f = all_numbers size c base h l.1 f
+all_numbers size c base (Closed ∷ h) l f = all_numbers size c base h l.1 f
 
-held_weights : {C : Type 0} (size : C → ℕ) (c : Config) (base : Base) (h : List (Event C)) → IsLegal size c base h → held_pages c base h ≡ weights h
-held_weights size c base h l = sum_held h (openings h) ∙ numbers size c base h l (weight_at h)
+-- of jobs that the history doesn't know there is nothing to add
+pub numbers : {C : Type 0} (size : C → ℕ) (c : Config) (base : Base) (h : List (Event C)) → IsLegal size c base h → (f : ℕ → ℕ) → ((j : ℕ) → IsOther base h j → f j ≡ 0) → sum_by (λ (p : Opening). f p.job) (openings h) ≡ sum_by f (up_to (last base h))
+numbers size c base h l f none =
+    let all = all_numbers size c base h l f in
+    let nothing : ℕ → ℕ = λ (j : ℕ). 0 in
+    let below = up_below nothing f base.accepted (λ j le. (let z = none j (inl le) in omega arith)) in
+    let zero' = up_none nothing base.accepted (λ j. refl) in
+    omega arith
+
+-- nothing is held of a job of which nothing is said
+weight_unknown_by : {C : Type 0} (h : List (Event C)) (j : ℕ) (b : Bool) → has_ended h j ≡ b → Unknown h j → weight_at h j ≡ 0
+weight_unknown_by h j true e u = (let a = u.acts in let d = u.handed in let r = u.back in rw (a, d, r, e) refl)
+weight_unknown_by h j false e u = (let a = u.acts in let d = u.handed in let r = u.back in rw (a, d, r, e) refl)
+
+weight_unknown : {C : Type 0} (h : List (Event C)) (j : ℕ) → Unknown h j → weight_at h j ≡ 0
+weight_unknown h j u = weight_unknown_by h j (has_ended h j) refl u
+
+held_weights : {C : Type 0} (size : C → ℕ) (c : Config) (base : Base) (h : List (Event C)) → IsLegal size c base h → held_pages c base h ≡ weights base h
+held_weights size c base h l = sum_held h (openings h) ∙ numbers size c base h l (weight_at h) (λ j is. weight_unknown h j ((facts size c base h l).fresh j is))
 
 cond_true : (b : Bool) (n m : ℕ) → b ≡ true → cond b n m ≡ n
 cond_true b n m e = rw e refl
@@ -84,14 +106,14 @@ out_alone false a b = elim (test a b) [ inl s ↦ (let same : a ≡ b = s.0 in r
 weight_ended : {C : Type 0} (v : Job C) → v.ended ≡ true → weight v ≡ pages_out v
 weight_ended v e = rw e (out_alone v.lent v.handed v.back)
 
-weight_going : {C : Type 0} (v : Job C) → v.ended ≡ false → weight v ≡ cond (is_received v) (length (places v) - v.back) v.granted
+weight_going : {C : Type 0} (v : Job C) → v.ended ≡ false → weight v ≡ cond (is_received v) (length (pages_kept v)) v.granted
 weight_going v e = rw e refl
 
-weight_received : {C : Type 0} (v : Job C) → v.ended ≡ false → is_received v ≡ true → weight v ≡ length (places v) - v.back
-weight_received v e r = weight_going v e ∙ cond_true (is_received v) (length (places v) - v.back) v.granted r
+weight_received : {C : Type 0} (v : Job C) → v.ended ≡ false → is_received v ≡ true → weight v ≡ length (pages_kept v)
+weight_received v e r = weight_going v e ∙ cond_true (is_received v) (length (pages_kept v)) v.granted r
 
 weight_receiving : {C : Type 0} (v : Job C) → v.ended ≡ false → is_received v ≡ false → weight v ≡ v.granted
-weight_receiving v e r = weight_going v e ∙ cond_false (is_received v) (length (places v) - v.back) v.granted r
+weight_receiving v e r = weight_going v e ∙ cond_false (is_received v) (length (pages_kept v)) v.granted r
 
 -- a job that hasn't ended holds no more than was lent to it
 weight_granted : {C : Type 0} (v : Job C) (b : Bool) → is_received v ≡ b → v.ended ≡ false → Sound v → weight v ≤ v.granted
@@ -142,9 +164,6 @@ act_granted {C} size c base h k act n l ends is goes_on receiving =
     let u = weight_granted v (is_received v) refl (ended_same h k act ends ∙ goes_on) (sound size c base (OfJob k act ∷ h) l (numbered k)) in
     omega arith
 
-weight_of_new : {C : Type 0} (h : List (Event C)) (j : ℕ) → acts_of h j ≡ [] → has_ended h j ≡ false → weight_at h j ≡ 0
-weight_of_new h j a e = rw (a, e) refl
-
 abort_less : {C : Type 0} (v : Job C) → weight (record v { lent = false; ended = true }) ≤ weight (record v { ended = true })
 abort_less v =
     let w = weight_ended (record v { ended = true }) refl in
@@ -173,6 +192,7 @@ back_going v true r is re =
 back_going v false true is re =
     let a = weight_received v is re in
     let b = weight_received (record v { back = v.back + 1 }) is re in
+    let n = kept_fewer v in
     omega arith
 back_going v false false is re =
     let a = weight_receiving v is re in
@@ -224,19 +244,19 @@ free_rest c base h = ap (λ (n : ℕ). c.pages - n) (rows_held c (now c base h).
 
 -- each event
 
-opened_weights : {C : Type 0} (h : List (Event C)) (k s q : ℕ) → weight_at h (suc (length (openings h))) ≡ 0 → weights (Opened k s q ∷ h) ≤ weights h
-opened_weights {C} h k s q none =
+opened_weights : {C : Type 0} (base : Base) (h : List (Event C)) (k s q : ℕ) → weight_at h (suc (last base h)) ≡ 0 → weights base (Opened k s q ∷ h) ≤ weights base h
+opened_weights {C} base h k s q none =
     let e : Event C = Opened k s q in
     let l = length_push (openings h) (record { job = k; sender = s; queue = q }) in
-    let m : length (openings (e ∷ h)) ≡ suc (length (openings h)) = omega arith in
-    let u : weights (e ∷ h) ≡ sum_by (weight_at h) (up_to (length (openings h)) ++ suc (length (openings h)) ∷ []) = ap (λ (i : ℕ). sum_by (weight_at (e ∷ h)) (up_to i)) m in
-    let b = sum_by_push (weight_at h) (up_to (length (openings h))) (suc (length (openings h))) in
+    let m : last base (e ∷ h) ≡ suc (last base h) = omega arith in
+    let u : weights base (e ∷ h) ≡ sum_by (weight_at h) (up_to (last base h) ++ suc (last base h) ∷ []) = ap (λ (i : ℕ). sum_by (weight_at (e ∷ h)) (up_to i)) m in
+    let b = sum_by_push (weight_at h) (up_to (last base h)) (suc (last base h)) in
     omega arith
 
-step_weights : {C : Type 0} (size : C → ℕ) (c : Config) (base : Base) (h : List (Event C)) (e : Event C) → IsLegal size c base h → May size (now c base h) e → weights h ≤ c.pages → weights (e ∷ h) ≤ c.pages
+step_weights : {C : Type 0} (size : C → ℕ) (c : Config) (base : Base) (h : List (Event C)) (e : Event C) → IsLegal size c base h → May size (now c base h) e → weights base h ≤ c.pages → weights base (e ∷ h) ≤ c.pages
 step_weights size c base h (Opened k s q) l m w =
-    let u = (facts size c base h l).fresh (suc (length (openings h))) (omega arith) in
-    let o = opened_weights h k s q (weight_of_new h (suc (length (openings h))) u.acts (u.ended m.0)) in
+    let u = (facts size c base h l).fresh (suc (last base h)) (inr (omega arith)) in
+    let o = opened_weights base h k s q (weight_unknown h (suc (last base h)) u) in
     omega arith
 step_weights size c base h (OfJob k Granted) l m w =
     let a = has_at c base h k _ m.0 in
@@ -244,58 +264,58 @@ step_weights size c base h (OfJob k Granted) l m w =
     let f = free_rest c base h in
     let held = held_weights size c base h l in
     let one = act_granted size c base h k Granted 1 (m, l) refl refl a.is.0.0.0 a.is.0.0.1 in
-    let s = up_one (weight_at h) (weight_at (OfJob k Granted ∷ h)) k (length (openings h)) (λ j ne. (let o = other_act h k Granted j (λ x. ne (sym x)) in omega arith)) one in
+    let s = up_one (weight_at h) (weight_at (OfJob k Granted ∷ h)) k (last base h) (λ j ne. (let o = other_act h k Granted j (λ x. ne (sym x)) in omega arith)) one in
     omega arith
 step_weights size c base h (OfJob k (Began name count)) l m w =
     let a = has_at c base h k _ m.0 in
     let here = act_granted size c base h k (Began name count) 0 (m, l) refl (omega arith) a.is.0.0 a.is.0.1 in
-    let s = up_less (weight_at h) (weight_at (OfJob k (Began name count) ∷ h)) (length (openings h)) (act_less h k (Began name count) (omega arith)) in
+    let s = up_less (weight_at h) (weight_at (OfJob k (Began name count) ∷ h)) (last base h) (act_less h k (Began name count) (omega arith)) in
     omega arith
 step_weights size c base h (OfJob k (Put file number page)) l m w =
     let a = has_at c base h k _ m.0 in
     let here = act_granted size c base h k (Put file number page) 0 (m, l) refl (omega arith) a.is.0.0 a.is.0.1 in
-    let s = up_less (weight_at h) (weight_at (OfJob k (Put file number page) ∷ h)) (length (openings h)) (act_less h k (Put file number page) (omega arith)) in
+    let s = up_less (weight_at h) (weight_at (OfJob k (Put file number page) ∷ h)) (last base h) (act_less h k (Put file number page) (omega arith)) in
     omega arith
 step_weights size c base h (OfJob k (FileEnded file whole)) l m w =
     let a = has_at c base h k _ m.0 in
     let here = act_granted size c base h k (FileEnded file whole) 0 (m, l) refl (omega arith) a.is.0.0 a.is.0.1 in
-    let s = up_less (weight_at h) (weight_at (OfJob k (FileEnded file whole) ∷ h)) (length (openings h)) (act_less h k (FileEnded file whole) (omega arith)) in
+    let s = up_less (weight_at h) (weight_at (OfJob k (FileEnded file whole) ∷ h)) (last base h) (act_less h k (FileEnded file whole) (omega arith)) in
     omega arith
 step_weights size c base h (OfJob k (Controlled control whole)) l m w =
     let a = has_at c base h k _ m.0 in
     let here = act_granted size c base h k (Controlled control whole) 0 (m, l) refl (omega arith) a.is.0.0 a.is.0.1 in
-    let s = up_less (weight_at h) (weight_at (OfJob k (Controlled control whole) ∷ h)) (length (openings h)) (act_less h k (Controlled control whole) (omega arith)) in
+    let s = up_less (weight_at h) (weight_at (OfJob k (Controlled control whole) ∷ h)) (last base h) (act_less h k (Controlled control whole) (omega arith)) in
     omega arith
 step_weights {C} size c base h (OfJob k Aborted) l m w =
     let v : Job C = job_of h (numbered k) in
     let a = aborted_here h k in
     let b = abort_less v in
     let d = ending v (sound size c base h l (numbered k)) in
-    let s = up_less (weight_at h) (weight_at (OfJob k Aborted ∷ h)) (length (openings h)) (act_less h k Aborted (omega arith)) in
+    let s = up_less (weight_at h) (weight_at (OfJob k Aborted ∷ h)) (last base h) (act_less h k Aborted (omega arith)) in
     omega arith
 step_weights {C} size c base h (AtPrinter p sheet Handed) l m w =
     let t = turn_of_page c base h p sheet m.0.0 m.0.1 m.1 in
     let v : Job C = job_of h (numbered sheet.job) in
-    let s = up_less (weight_at h) (weight_at (AtPrinter p sheet Handed ∷ h)) (length (openings h)) (turn_less h p sheet Handed (handed_less v t.at.is.goes_on)) in
+    let s = up_less (weight_at h) (weight_at (AtPrinter p sheet Handed ∷ h)) (last base h) (turn_less h p sheet Handed (handed_less v t.at.is.goes_on)) in
     omega arith
 step_weights size c base h (AtPrinter p sheet (Printed x)) l m w =
-    let s = up_less (weight_at h) (weight_at (AtPrinter p sheet (Printed x) ∷ h)) (length (openings h)) (turn_less h p sheet (Printed x) (printed_less size c base h sheet x l)) in
+    let s = up_less (weight_at h) (weight_at (AtPrinter p sheet (Printed x) ∷ h)) (last base h) (turn_less h p sheet (Printed x) (printed_less size c base h sheet x l)) in
     omega arith
 step_weights size c base h (AtPrinter p sheet Failed) l m w =
-    let s = up_less (weight_at h) (weight_at (AtPrinter p sheet Failed ∷ h)) (length (openings h)) (turn_less h p sheet Failed (back_ended (job_of h (numbered sheet.job)) (sound size c base h l (numbered sheet.job)))) in
+    let s = up_less (weight_at h) (weight_at (AtPrinter p sheet Failed ∷ h)) (last base h) (turn_less h p sheet Failed (back_ended (job_of h (numbered sheet.job)) (sound size c base h l (numbered sheet.job)))) in
     omega arith
 step_weights size c base h (Removed q jobs) l m w =
-    let s = up_less (weight_at h) (weight_at (Removed q jobs ∷ h)) (length (openings h)) (λ j. removed_less h q jobs j (list_any (λ (k : ℕ). k == j) jobs) refl (sound size c base h l (numbered j))) in
+    let s = up_less (weight_at h) (weight_at (Removed q jobs ∷ h)) (last base h) (λ j. removed_less h q jobs j (list_any (λ (k : ℕ). k == j) jobs) refl (sound size c base h l (numbered j))) in
     omega arith
 step_weights size c base h (Started q) l m w =
-    let s = up_less (weight_at h) (weight_at (Started q ∷ h)) (length (openings h)) (λ j. (let e = changed h (Started q) j in omega arith)) in
+    let s = up_less (weight_at h) (weight_at (Started q ∷ h)) (last base h) (λ j. (let e = changed h (Started q) j in omega arith)) in
     omega arith
 step_weights size c base h Closed l m w =
-    let s = up_less (weight_at h) (weight_at (Closed ∷ h)) (length (openings h)) (λ j. (let e = changed h Closed j in let d = ending (job_of h (numbered j)) (sound size c base h l (numbered j)) in omega arith)) in
+    let s = up_less (weight_at h) (weight_at (Closed ∷ h)) (last base h) (λ j. (let e = changed h Closed j in let d = ending (job_of h (numbered j)) (sound size c base h l (numbered j)) in omega arith)) in
     omega arith
 
-weights_within : {C : Type 0} (size : C → ℕ) (c : Config) (base : Base) (h : List (Event C)) → IsLegal size c base h → weights h ≤ c.pages
-weights_within size c base [] l = omega arith
+weights_within : {C : Type 0} (size : C → ℕ) (c : Config) (base : Base) (h : List (Event C)) → IsLegal size c base h → weights base h ≤ c.pages
+weights_within {C} size c base [] l = (let z = up_none (weight_at (no_events C)) (last base (no_events C)) (λ j. refl) in omega arith)
 weights_within size c base (e ∷ h) l = step_weights size c base h e l.1 l.0 (weights_within size c base h l.1)
 
 pub pages_add_up : {C : Type 0} (size : C → ℕ) (c : Config) (base : Base) (h : List (Event C)) → IsLegal size c base h → AddUp c base h

@@ -13,7 +13,7 @@ use Rattle.spool_history.specs.Said.{Opening, openings, acts_of, is_failed, back
 use Rattle.spool_history.specs.Now.{Job, now}
 use Rattle.spool_history.specs.Legal.{HasJob, IsLegal, May}
 use Rattle.spool_laws.proofs.Known.{Has, At, has_at, has_last, test, clash}
-use Rattle.spool_laws.proofs.Facts.{Facts, facts, is_out, Turn', turn_of_page, handed_at, handed_more, handed_same, acts_other, back_same, back_more, back_one}
+use Rattle.spool_laws.proofs.Facts.{Facts, facts, last, is_out, Turn', turn_of_page, handed_at, handed_more, handed_same, acts_other, back_same, back_more, back_one}
 use Rattle.spool_laws.proofs.Whole.{still_ended}
 use Rattle.spool_laws.proofs.Counts.{none_by, Fits, fits_none, fits_later, fits_granted, fits_began, fits_put, fits_ended, fits_controlled, fits_aborted, all_counted, began_files, count_le}
 use Rattle.spool_laws.proofs.Sound.{sound}
@@ -221,7 +221,7 @@ within_opened {C} c base h k s q f is w o has =
       | inl t ↦ let old = w o t in omega arith
       | inr e ↦
           let j : k ≡ o.job = ap (λ (y : Opening). y.job) e in
-          let z : granted_by (acts_of h o.job) ≡ 0 = ap granted_by (f.fresh o.job (omega arith)).acts in
+          let z : granted_by (acts_of h o.job) ≡ 0 = ap granted_by (f.fresh o.job (inr (omega arith))).acts in
           omega arith
     ]
 
@@ -265,5 +265,5 @@ reserved {C} size c base h l o has =
     let s = sound size c base h l o in
     let back = s.back in
     let handed = s.handed in
-    let places = s.within in
+    let places = s.many in
     omega arith

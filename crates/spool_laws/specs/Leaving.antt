@@ -27,11 +27,15 @@ HasNotEnded h sheet = has_ended h sheet.job ≡ false
 
 -- nothing is handed after the close
 abbrev pub NothingAfterTheClose : Type 0 → Type 0
-NothingAfterTheClose C = (size : C → ℕ) (c : Config) (b : Base) (h : List (Event C)) → IsLegal size c b h → EachHanded (IsOpen b) h
+NothingAfterTheClose C =
+    (size : C → ℕ) (c : Config) (b : Base) (h : List (Event C)) → IsLegal size c b h
+    → EachHanded (IsOpen b) h
 
 -- nothing of a job is handed after its end
 abbrev pub NothingAfterTheEnd : Type 0 → Type 0
-NothingAfterTheEnd C = (size : C → ℕ) (c : Config) (b : Base) (h : List (Event C)) → IsLegal size c b h → EachHanded HasNotEnded h
+NothingAfterTheEnd C =
+    (size : C → ℕ) (c : Config) (b : Base) (h : List (Event C)) → IsLegal size c b h
+    → EachHanded HasNotEnded h
 
 -- of each page that is printed, P holds of the events before it, of the page and of what is said of its job
 abbrev pub EachPrinted : {C : Type 0} → (List (Event C) → Sheet C → Progress → Type 0) → List (Event C) → Type 0
@@ -53,7 +57,9 @@ pub record SaysWhatIs {C : Type 0} (h : List (Event C)) (sheet : Sheet C) (progr
   pub ended : (progress ≡ Ended) ↔ (has_ended h sheet.job ≡ true)
 
 abbrev pub DoneForTheLastPlace : Type 0 → Type 0
-DoneForTheLastPlace C = (size : C → ℕ) (c : Config) (b : Base) (h : List (Event C)) → IsLegal size c b h → EachPrinted SaysWhatIs h
+DoneForTheLastPlace C =
+    (size : C → ℕ) (c : Config) (b : Base) (h : List (Event C)) → IsLegal size c b h
+    → EachPrinted SaysWhatIs h
 
 -- places of a job as printers get them, the first of which has this number
 abbrev pub sheets : {C : Type 0} → (job place : ℕ) → List (Page C) → List (Sheet C)
@@ -62,11 +68,15 @@ sheets job n (x ∷ xs) = record { job = job; place = n; file = x.file; number =
 
 -- what was handed of a job are its first places, in order, each once and as it was put
 abbrev pub FirstPlacesInOrder : Type 0 → Type 0
-FirstPlacesInOrder C = (size : C → ℕ) (c : Config) (b : Base) (h : List (Event C)) → IsLegal size c b h → (j : ℕ) → handed_of h j ≡ sheets j 0 (take (length (handed_of h j)) (places_of h j))
+FirstPlacesInOrder C =
+    (size : C → ℕ) (c : Config) (b : Base) (h : List (Event C)) → IsLegal size c b h → (j : ℕ)
+    → handed_of h j ≡ sheets j 0 (take (length (handed_of h j)) (places_of h j))
 
 -- and all of them, where the job is done
 abbrev pub AllPlacesOfDone : Type 0 → Type 0
-AllPlacesOfDone C = (size : C → ℕ) (c : Config) (b : Base) (h : List (Event C)) → IsLegal size c b h → (j : ℕ) → is_done h j ≡ true → handed_of h j ≡ sheets j 0 (places_of h j)
+AllPlacesOfDone C =
+    (size : C → ℕ) (c : Config) (b : Base) (h : List (Event C)) → IsLegal size c b h → (j : ℕ)
+    → is_done h j ≡ true → handed_of h j ≡ sheets j 0 (places_of h j)
 
 -- each earlier job of the same sender and queue was gone: it had ended, and no page of it was out
 abbrev pub EarlierAreGone : {C : Type 0} → List (Event C) → Sheet C → Type 0
@@ -74,4 +84,6 @@ EarlierAreGone h sheet = (earlier later : Opening) → Contains (openings h) ear
     → earlier.job < later.job → earlier.sender ≡ later.sender → earlier.queue ≡ later.queue → is_held (job_of h earlier) ≡ false
 
 abbrev pub InOrderOfAcceptance : Type 0 → Type 0
-InOrderOfAcceptance C = (size : C → ℕ) (c : Config) (b : Base) (h : List (Event C)) → IsLegal size c b h → EachHanded EarlierAreGone h
+InOrderOfAcceptance C =
+    (size : C → ℕ) (c : Config) (b : Base) (h : List (Event C)) → IsLegal size c b h
+    → EachHanded EarlierAreGone h

@@ -12,4 +12,6 @@ CountsStops c b = count_by (was_stopped b) (up_to (printer_count c)) ≤ b.reser
 
 -- the entries since the base never pass the base's counted reserve, the reserves of the jobs accepted since, and one
 abbrev pub ReserveIsEnough : Type 0 → Type 0
-ReserveIsEnough C = (size : C → ℕ) (c : Config) (b : Base) (h : List (Event C)) → CountsStops c b → IsLegal size c b h → length h ≤ (now c b h).reserved + 1
+ReserveIsEnough C =
+    (size : C → ℕ) (c : Config) (b : Base) (h : List (Event C)) → CountsStops c b
+    → IsLegal size c b h → length h ≤ (now c b h).reserved + 1

@@ -30,5 +30,5 @@ abbrev pub RotationOpens : Type 0 → Type 0
 RotationOpens C =
     (c : Config) (b : Base) (h : List (Event C)) (j q : ℕ)
     → let v : State C = now c b h in MayOpen (now {C = C} c (rotated v) []) j q
-        ↔ (v.closed ≡ false) × IsQueue c q × (0 < c.max_jobs) × (stopped_in v + reserve_of c q + 1 ≤ c.account)
-        × (j ≡ v.accepted + 1) × (j < 2 ^ 64)
+    ↔ (v.closed ≡ false) × IsQueue c q × (0 < c.max_jobs) × (stopped_in v + reserve_of c q + 1 ≤ c.account)
+    × (j ≡ v.accepted + 1) × (j < 2 ^ 64)

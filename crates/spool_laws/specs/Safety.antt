@@ -13,4 +13,6 @@ pub record EachCouldFinish (c : Config) : Type 0 where
 
 -- after every legal history the held jobs have a finishing order
 abbrev pub StaysSafe : Type 0 → Type 0
-StaysSafe C = (size : C → ℕ) (c : Config) (b : Base) (h : List (Event C)) → EachCouldFinish c → IsLegal size c b h → IsSafeNow (now c b h)
+StaysSafe C =
+    (size : C → ℕ) (c : Config) (b : Base) (h : List (Event C)) → EachCouldFinish c
+    → IsLegal size c b h → IsSafeNow (now c b h)

@@ -19,7 +19,8 @@ pub record AddUp {C : Type 0} (c : Config) (b : Base) (h : List (Event C)) : Typ
   pub all : free_pages (now c b h) + held_pages c b h ≡ c.pages
 
 abbrev pub PagesAddUp : Type 0 → Type 0
-PagesAddUp C = (size : C → ℕ) (c : Config) (b : Base) (h : List (Event C)) → IsLegal size c b h → AddUp c b h
+PagesAddUp C =
+    (size : C → ℕ) (c : Config) (b : Base) (h : List (Event C)) → IsLegal size c b h → AddUp c b h
 
 -- what a job has in its chains: while it is being received, the pages of all its files; once it is received, those of
 -- which some place hasn't come back and that are not at a printer; and once it has ended, none
@@ -57,4 +58,6 @@ pub record NoMoreThanThereIs {C : Type 0} (c : Config) (b : Base) (h : List (Eve
   pub printers : (q : ℕ) → IsQueue c q → held_printers (now c b h) q ≤ (queue_at c q).printers
 
 abbrev pub NoKindRunsOver : Type 0 → Type 0
-NoKindRunsOver C = (size : C → ℕ) (c : Config) (b : Base) (h : List (Event C)) → IsLegal size c b h → NoMoreThanThereIs c b h
+NoKindRunsOver C =
+    (size : C → ℕ) (c : Config) (b : Base) (h : List (Event C)) → IsLegal size c b h
+    → NoMoreThanThereIs c b h

@@ -7,6 +7,7 @@ mod entries;
 mod leaving;
 mod outline;
 mod pages;
+mod rotating;
 mod safe;
 mod stepping;
 
@@ -16,5 +17,6 @@ pub use leaving::{
 };
 pub use outline::outline_is_legal;
 pub use pages::pages_add_up;
+pub use rotating::rotation_keeps;
 pub use safe::stays_safe;
 pub use stepping::step_leads;

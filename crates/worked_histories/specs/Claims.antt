@@ -1,6 +1,7 @@
 -- Two jobs whose claims meet: three pages each, over a pool of four.
 use Rattle.std.specs.Prelude.{◌≡◌, ℕ, List, [], ◌∷◌, ◌++◌, map}
 use Rattle.claims.specs.Safety.{AreFinishing, HasFinishingOrder}
+use Rattle.spool_history.specs.Base.{first_base}
 use Rattle.spool_history.specs.Events.{Event}
 use Rattle.spool_history.specs.Events.Act.{Granted, Began, Put}
 use Rattle.spool_history.specs.Events.Event.{Opened, OfJob}
@@ -23,14 +24,14 @@ abbrev pub second_page : (first second : ℕ) → List (Event (List ℕ))
 second_page s t = OfJob 2 Granted ∷ (one_page 2 0 ++ (begun 2 t ++ (one_page 1 0 ++ begun 1 s)))
 
 abbrev pub IsFinishing : List (Event (List ℕ)) → List ℕ → Type 0
-IsFinishing h numbers = AreFinishing (free_amount (now small h)) (map (row_of small) (now small h).jobs) numbers
+IsFinishing h numbers = AreFinishing (free_amount (now small first_base h)) (map (row_of small) (now small first_base h).jobs) numbers
 
 abbrev pub IsSafe : List (Event (List ℕ)) → Type 0
-IsSafe h = HasFinishingOrder (free_amount (now small h)) (map (row_of small) (now small h).jobs)
+IsSafe h = HasFinishingOrder (free_amount (now small first_base h)) (map (row_of small) (now small first_base h).jobs)
 
 pub record ClaimsMeet : Type 0 where
   -- with the last page lent nothing is free, and the second job can finish first
-  pub none_free : free_pages (now small (last_page 2 1)) ≡ 0
+  pub none_free : free_pages (now small first_base (last_page 2 1)) ≡ 0
   pub second_first : IsFinishing (last_page 2 1) (2 ∷ 1 ∷ [])
   -- no order begins with the first job
   pub not_first : (rest : List ℕ) → IsFinishing (last_page 2 1) (1 ∷ rest) → ⊥

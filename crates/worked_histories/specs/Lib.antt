@@ -4,3 +4,5 @@ pub mod Claims
 pub mod Refused
 pub mod TextRows
 pub mod Waiting
+pub mod Copies
+pub mod Bases

@@ -1,5 +1,6 @@
 -- More worked histories over the same small spool. The newest event stands first.
 use Rattle.std.specs.Prelude.{◌≡◌, ℕ, ◌+◌, true, false, List, [], ◌∷◌, ◌++◌, map, length}
+use Rattle.spool_history.specs.Base.{first_base}
 use Rattle.spool_history.specs.Events.{Progress, Event}
 use Rattle.spool_history.specs.Events.Act.{Granted, Began, Put, FileEnded, Controlled, Aborted}
 use Rattle.spool_history.specs.Events.Progress.{Going, Done, Ended}
@@ -10,7 +11,7 @@ use Rattle.spool_history.specs.Said.{has_ended, is_done}
 use Rattle.spool_history.specs.Now.{now, free_pages}
 use Rattle.spool_history.specs.Next.{Next, next_page}
 use Rattle.spool_history.specs.Next.Next.{Hands, Nothing, Stops, Busy, Over}
-use Rattle.spool_history.specs.Legal.{progress_of}
+use Rattle.spool_history.specs.Legal.{May, progress_of}
 use Rattle.worked_histories.specs.Rows.{small, data_name, control, hello, rld, sheet}
 
 -- a job of 11 octets of this sender is received
@@ -33,10 +34,10 @@ abbrev pub printed : (job place : ℕ) → List ℕ → Progress → List (Event
 printed j k page progress = AtPrinter 1 (sheet j k page) (Printed progress) ∷ AtPrinter 1 (sheet j k page) Handed ∷ []
 
 abbrev pub next_of : List (Event (List ℕ)) → Next (List ℕ)
-next_of h = next_page (now small h) 1
+next_of h = next_page (now small first_base h) 1
 
 abbrev pub free_of : List (Event (List ℕ)) → ℕ
-free_of h = free_pages (now small h)
+free_of h = free_pages (now small first_base h)
 
 -- two jobs of one sender: the pages of the first leave, and then that of the second
 abbrev pub two_jobs : List (Event (List ℕ))
@@ -67,7 +68,7 @@ pub record RemovedJob : Type 0 where
   pub not_done : is_done (AtPrinter 1 (sheet 1 0 hello) (Printed Ended) ∷ removed) 1 ≡ false
   pub then_next : next_of (AtPrinter 1 (sheet 1 0 hello) (Printed Ended) ∷ removed) ≡ Hands (sheet 2 0 again)
   -- also with a second printer's eyes: while the first job is dying, the second isn't ready
-  pub said : map progress_of (now small removed).jobs ≡ Ended ∷ Done ∷ []
+  pub said : map progress_of (now small first_base removed).jobs ≡ Ended ∷ Done ∷ []
 
 -- a page fails: the job ends, all its pages are back, and the printer is stopped until its queue is started
 abbrev pub failed : List (Event (List ℕ))
@@ -76,7 +77,7 @@ failed = AtPrinter 1 (sheet 1 0 hello) Failed ∷ AtPrinter 1 (sheet 1 0 hello) 
 pub record FailedPage : Type 0 where
   pub stops : next_of failed ≡ Stops
   pub free : free_of failed ≡ 4
-  pub gone : length (now small failed).jobs ≡ 0
+  pub gone : length (now small first_base failed).jobs ≡ 0
   pub started : next_of (Started 1 ∷ failed) ≡ Nothing
 
 -- a spool is closed with a page at the printer, a job that waits and a job that is being received
@@ -88,9 +89,14 @@ closed =
 pub record ClosedSpool : Type 0 where
   pub over : next_of closed ≡ Over
   pub one_out : free_of closed ≡ 3
-  pub dying : map progress_of (now small closed).jobs ≡ Ended ∷ []
+  pub dying : map progress_of (now small first_base closed).jobs ≡ Ended ∷ []
   pub all_back : free_of (AtPrinter 1 (sheet 1 0 again) (Printed Ended) ∷ closed) ≡ 4
 
--- two jobs that fill the account: their reserves and one more entry are 249
-abbrev pub FillsAccount : Type 0
-FillsAccount = let h : List (Event (List ℕ)) = Opened 1 1 1 ∷ [] in (now small h).reserved + reserve_of small 1 + 1 ≡ 249
+-- two jobs that fill the account: their reserves and one more entry are 1,425
+abbrev pub one_opened : List (Event (List ℕ))
+one_opened = Opened 1 1 1 ∷ []
+
+pub record FilledAccount : Type 0 where
+  pub needs : (now small first_base one_opened).reserved + reserve_of small 1 + 1 ≡ 1425
+  pub fits : May length (now (record small { account = 1425 }) first_base one_opened) (Opened 2 1 1)
+  pub is_full : May length (now (record small { account = 1424 }) first_base one_opened) (Opened 2 1 1) → ⊥

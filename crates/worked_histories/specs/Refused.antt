@@ -1,5 +1,6 @@
 -- Events that may not come: what each stands after, and why it is refused.
-use Rattle.std.specs.Prelude.{ℕ, true, false, List, [], ◌∷◌, drop, length}
+use Rattle.std.specs.Prelude.{ℕ, true, false, List, [], ◌∷◌, drop, length, replicate}
+use Rattle.spool_history.specs.Base.{Base, first_base}
 use Rattle.spool_history.specs.Events.{Event}
 use Rattle.spool_history.specs.Events.Act.{Granted, Began, Put, FileEnded, Controlled, Aborted}
 use Rattle.spool_history.specs.Events.Progress.{Going, Done}
@@ -11,9 +12,12 @@ use Rattle.spool_history.specs.Legal.{May}
 use Rattle.worked_histories.specs.Rows.{small, data_name, control, hello, rld, sheet, one_job}
 use Rattle.worked_histories.specs.MoreRows.{again, two_jobs, removed, closed}
 
--- after this history this event may not come
+-- from this base, after this history, this event may not come
+abbrev pub IsRefusedFrom : Config → Base → List (Event (List ℕ)) → Event (List ℕ) → Type 0
+IsRefusedFrom c b h e = May length (now c b h) e → ⊥
+
 abbrev pub IsRefused : Config → List (Event (List ℕ)) → Event (List ℕ) → Type 0
-IsRefused c h e = May length (now c h) e → ⊥
+IsRefused c h e = IsRefusedFrom c first_base h e
 
 -- of the history of one job, drop n is what it was before its newest n events
 pub record AreRefused : Type 0 where
@@ -26,7 +30,7 @@ pub record AreRefused : Type 0 where
   pub number_skipped : IsRefused small (drop 1 one_job) (Opened 3 1 1)
   pub queue_unknown : IsRefused small (drop 1 one_job) (Opened 2 1 2)
   pub queue_0 : IsRefused small (drop 1 one_job) (Opened 2 1 0)
-  pub account_full : IsRefused (record small { account = 124 }) [] (Opened 1 1 1)
+  pub account_full : IsRefused (record small { account = 712 }) [] (Opened 1 1 1)
   pub table_full : IsRefused (record small { max_jobs = 1 }) (drop 12 one_job) (Opened 2 1 1)
   pub lent_to_nobody : IsRefused small (drop 13 one_job) (OfJob 1 Granted)
   pub lent_with_no_file : IsRefused small (drop 12 one_job) (OfJob 1 Granted)
@@ -41,7 +45,8 @@ pub record AreRefused : Type 0 where
   pub ended_with_the_wrong_word : IsRefused small (drop 7 one_job) (OfJob 1 (FileEnded 0 true))
   pub control_twice : IsRefused small (drop 5 one_job) (OfJob 1 (Controlled (control 1) true))
   pub control_with_the_wrong_word : IsRefused small (drop 6 one_job) (OfJob 1 (Controlled (control 1) false))
-  pub control_printing_a_name_twice : IsRefused small (drop 6 one_job) (OfJob 1 (Controlled (record (control 1) { prints = data_name 1 ∷ data_name 1 ∷ [] }) true))
+  pub control_printing_nothing : IsRefused small (drop 6 one_job) (OfJob 1 (Controlled (record (control 1) { prints = [] }) true))
+  pub control_printing_100_names : IsRefused small (drop 6 one_job) (OfJob 1 (Controlled (record (control 1) { prints = replicate 100 (data_name 1) }) true))
   pub aborted_nobody : IsRefused small [] (OfJob 1 Aborted)
   pub handed_out_of_order : IsRefused small (drop 5 one_job) (AtPrinter 1 (sheet 1 1 rld) Handed)
   pub handed_while_busy : IsRefused small (drop 4 one_job) (AtPrinter 1 (sheet 1 1 rld) Handed)

@@ -1,6 +1,7 @@
 -- A worked history: one job of 11 octets in pages of 8, whose control file comes after its data file, and the close.
 use Rattle.std.specs.Prelude.{◌≡◌, ℕ, ◌+◌, true, false, List, [], ◌∷◌, map, drop, length}
 use Rattle.lpd_values.specs.Contents.{Contents}
+use Rattle.spool_history.specs.Base.{first_base}
 use Rattle.spool_history.specs.Events.{Sheet, Event}
 use Rattle.spool_history.specs.Events.Act.{Granted, Began, Put, FileEnded, Controlled}
 use Rattle.spool_history.specs.Events.Progress.{Going, Done}
@@ -18,7 +19,7 @@ small = record {
   pages = 4;
   page_size = 8;
   max_jobs = 8;
-  account = 1000;
+  account = 10000;
   queues = record { name = 108 ∷ 112 ∷ []; limit = 3; printers = 1 } ∷ [];
 }
 
@@ -49,10 +50,10 @@ one_job =
 
 -- what is free after each of the first n events, and what a printer gets next
 abbrev pub free_after : Config → List (Event (List ℕ)) → ℕ → ℕ
-free_after c h dropped = free_pages (now c (drop dropped h))
+free_after c h dropped = free_pages (now c first_base (drop dropped h))
 
 abbrev pub next_after : Config → List (Event (List ℕ)) → ℕ → Next (List ℕ)
-next_after c h dropped = next_page (now c (drop dropped h)) 1
+next_after c h dropped = next_page (now c first_base (drop dropped h)) 1
 
 -- the free pages and the next page, event by event, the newest first
 pub record OneJob : Type 0 where
@@ -61,4 +62,4 @@ pub record OneJob : Type 0 where
 
 -- each event of it meets its conditions
 abbrev pub OneJobIsLegal : Type 0
-OneJobIsLegal = IsLegal length small one_job
+OneJobIsLegal = IsLegal length small first_base one_job

@@ -2,6 +2,7 @@ use Rattle.std.proofs.Common.{◌≡◌, ℕ, zero, suc, ◌+◌, ◌≤◌, ◌
 use Rattle.claims.specs.declared.row.Row.{Row}
 use Rattle.counts.specs.Amounts.{amount, Fits}
 use Rattle.claims.specs.Safety.{AreFinishing}
+use Rattle.spool_history.specs.Base.{first_base}
 use Rattle.spool_history.specs.Events.{Event}
 use Rattle.worked_histories.specs.Rows.{small}
 use Rattle.spool_history.specs.Now.{now, free_amount}
@@ -17,7 +18,7 @@ abbrev second : (sender held need : ℕ) → Row
 second t held need = record { number = 2; sender = t; queue = 1; held = held ∷ 0 ∷ []; need = need ∷ 1 ∷ [] }
 
 abbrev free : List (Event (List ℕ)) → ℕ → ℕ
-free h = free_amount (now small h)
+free h = free_amount (now small first_base h)
 
 fits : (f : ℕ → ℕ) (a b : ℕ) → a ≤ f 0 → b ≤ f 1 → Fits (a ∷ b ∷ []) f
 fits f a b h i zero = h

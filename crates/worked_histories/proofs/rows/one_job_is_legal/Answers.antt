@@ -2,6 +2,7 @@ use Rattle.std.proofs.Common.{◌≡◌, ℕ, zero, suc, ◌≤◌, List, [], �
 use Rattle.std.specs.Prelude.{slice_index_or}
 use Rattle.counts.specs.Amounts.{Fits}
 use Rattle.claims.specs.Safety.{HasFinishingOrder}
+use Rattle.spool_history.specs.Base.{first_base}
 use Rattle.spool_history.specs.Events.Act.{Granted}
 use Rattle.spool_history.specs.Events.Event.{OfJob}
 use Rattle.claims.specs.declared.row.Row.{Row}
@@ -13,7 +14,7 @@ use Rattle.worked_histories.proofs.rows.one_job_is_legal.Goals as goal
 
 -- where the spool is before the newest n events
 abbrev before : ℕ → State (List ℕ)
-before n = now small (drop n one_job)
+before n = now small first_base (drop n one_job)
 
 -- its one job
 abbrev mine : ℕ → Job (List ℕ)
