@@ -18,17 +18,18 @@ recounted {C} v = record v {
 -- from the base after it, with no events, the spool is where the history left it
 abbrev pub RotationKeeps : Type 0 → Type 0
 RotationKeeps C =
-    (size : C → ℕ) (c : Config) (b : Base) (h : List (Event C)) → IsLegal size c b h → (now c b h).jobs ≡ []
-    → now c (rotated (now c b h)) [] ≡ recounted (now c b h)
+    (size : C → ℕ) (c : Config) (b : Base) (h : List (Event C)) → IsLegal size c b h
+    → (now c b h).jobs ≡ [] → now c (rotated (now c b h)) [] ≡ recounted (now c b h)
 
 -- that base counts its stopped printers
 abbrev pub RotationCounts : Type 0 → Type 0
-RotationCounts C = (c : Config) (b : Base) (h : List (Event C)) → CountsStops c (rotated (now c b h))
+RotationCounts C =
+    (c : Config) (b : Base) (h : List (Event C)) → CountsStops c (rotated (now c b h))
 
 -- from that base a job may be opened exactly where the limits say
 abbrev pub RotationOpens : Type 0 → Type 0
 RotationOpens C =
     (c : Config) (b : Base) (h : List (Event C)) (j q : ℕ)
     → let v : State C = now c b h in MayOpen (now {C = C} c (rotated v) []) j q
-    ↔ (v.closed ≡ false) × IsQueue c q × (0 < c.max_jobs) × (stopped_in v + reserve_of c q + 1 ≤ c.account)
-    × (j ≡ v.accepted + 1) × (j < 2 ^ 64)
+    ↔ (v.closed ≡ false) × IsQueue c q × (0 < c.max_jobs)
+    × (stopped_in v + reserve_of c q + 1 ≤ c.account) × (j ≡ v.accepted + 1) × (j < 2 ^ 64)

@@ -36,7 +36,8 @@ pub record AfterRotation : Type 0 where
   pub base : after_one ≡ record { accepted = 1; reserved = 0; closed = false; stopped = false ∷ [] }
   pub free : free_from after_one [] ≡ 4
   pub is_legal : IsLegal length small after_one second_job
-  pub next : map (next_from after_one) (short_job 2 1 ∷ second_job ∷ []) ≡ Hands (sheet 2 0 again) ∷ Nothing ∷ []
+  pub next : map (next_from after_one) (short_job 2 1 ∷ second_job ∷ [])
+      ≡ Hands (sheet 2 0 again) ∷ Nothing ∷ []
   pub free_again : map (free_from after_one) (short_job 2 1 ∷ second_job ∷ []) ≡ 3 ∷ 4 ∷ []
   -- the counted reserve is that of the second job alone
   pub reserved : (now small after_one second_job).reserved ≡ reserve_of small 1
@@ -49,7 +50,8 @@ abbrev pub with_account : ℕ → Config
 with_account n = record small { account = n }
 
 pub record StoppedBefore : Type 0 where
-  pub base : after_failure ≡ record { accepted = 1; reserved = 1; closed = false; stopped = true ∷ [] }
+  pub base : after_failure
+      ≡ record { accepted = 1; reserved = 1; closed = false; stopped = true ∷ [] }
   pub stops : next_from after_failure (short_job 2 1) ≡ Stops
   pub started : next_from after_failure (Started 1 ∷ short_job 2 1) ≡ Hands (sheet 2 0 again)
   pub may_start : May length (now {C = List ℕ} small after_failure []) (Started 1)
@@ -61,7 +63,8 @@ abbrev pub after_close : Base
 after_close = rotated (now small first_base one_job)
 
 pub record ClosedBefore : Type 0 where
-  pub base : after_close ≡ record { accepted = 1; reserved = 0; closed = true; stopped = false ∷ [] }
+  pub base : after_close
+      ≡ record { accepted = 1; reserved = 0; closed = true; stopped = false ∷ [] }
   pub over : next_from after_close [] ≡ Over
   pub free : free_from after_close [] ≡ 4
 
@@ -73,9 +76,11 @@ pub record BasesAreRefused : Type 0 where
   pub number_of_the_base : IsRefusedFrom small after_one [] (Opened 1 1 1)
   pub number_skipped : IsRefusedFrom small after_one [] (Opened 3 1 1)
   pub started_unstopped : IsRefusedFrom small after_one [] (Started 1)
-  pub handed_of_the_last_job : IsRefusedFrom small after_one [] (AtPrinter 1 (sheet 1 0 again) Handed)
+  pub handed_of_the_last_job :
+      IsRefusedFrom small after_one [] (AtPrinter 1 (sheet 1 0 again) Handed)
   pub removed_of_the_last_job : IsRefusedFrom small after_one [] (Removed 1 (1 ∷ []))
-  pub handed_while_stopped : IsRefusedFrom small after_failure (short_job 2 1) (AtPrinter 1 (sheet 2 0 again) Handed)
+  pub handed_while_stopped :
+      IsRefusedFrom small after_failure (short_job 2 1) (AtPrinter 1 (sheet 2 0 again) Handed)
   pub started_twice : IsRefusedFrom small after_failure (Started 1 ∷ []) (Started 1)
   pub account_full : IsRefusedFrom (with_account 713) after_failure [] (Opened 2 1 1)
   pub opened_when_closed : IsRefusedFrom small after_close [] (Opened 2 1 1)

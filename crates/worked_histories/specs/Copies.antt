@@ -1,4 +1,5 @@
--- Copies: one file of 11 octets, printed by two lines of its job's control file. The newest event stands first.
+-- Copies: one file of 11 octets, printed by two lines of its job's control file. The newest event
+-- stands first.
 use Rattle.std.specs.Prelude.{◌≡◌, ℕ, true, List, [], ◌∷◌, drop, map}
 use Rattle.lpd_values.specs.Contents.{Contents}
 use Rattle.spool_history.specs.Base.{first_base}
@@ -11,13 +12,13 @@ use Rattle.spool_history.specs.Acts.{Page}
 use Rattle.spool_history.specs.Now.{now, places}
 use Rattle.spool_history.specs.Next.Next.{Hands, Nothing}
 use Rattle.spool_history.specs.Legal.{progress_of}
-use Rattle.worked_histories.specs.Rows.{small, data_name, control, hello, rld}
+use Rattle.worked_histories.specs.Rows.{small, hello, rld}
 use Rattle.worked_histories.specs.MoreRows.{received, next_of, free_of}
-use Rattle.worked_histories.specs.Refused.{IsRefused}
+use Rattle.worked_histories.specs.Refused.{IsRefused, printing}
 
 -- the control file prints the one data file twice
 abbrev pub twice : Contents
-twice = record (control 1) { prints = data_name 1 ∷ data_name 1 ∷ [] }
+twice = printing 2
 
 abbrev pub copied : List (Event (List ℕ))
 copied = OfJob 1 (Controlled twice true) ∷ drop 1 (received 1 1)
@@ -58,9 +59,11 @@ abbrev pub said_of : List (Event (List ℕ)) → List Progress
 said_of h = map progress_of (now small first_base h).jobs
 
 pub record PrintedTwice : Type 0 where
-  pub places : map places (now small first_base copied).jobs ≡ (page_of 0 hello ∷ page_of 1 rld ∷ page_of 0 hello ∷ page_of 1 rld ∷ []) ∷ []
+  pub places : map places (now small first_base copied).jobs
+      ≡ (page_of 0 hello ∷ page_of 1 rld ∷ page_of 0 hello ∷ page_of 1 rld ∷ []) ∷ []
   pub next : map next_of (copied ∷ back_0 ∷ back_1 ∷ back_2 ∷ back_3 ∷ [])
-      ≡ Hands (copy 0 0 hello) ∷ Hands (copy 1 1 rld) ∷ Hands (copy 2 0 hello) ∷ Hands (copy 3 1 rld) ∷ Nothing ∷ []
+      ≡ Hands (copy 0 0 hello) ∷ Hands (copy 1 1 rld) ∷ Hands (copy 2 0 hello)
+      ∷ Hands (copy 3 1 rld) ∷ Nothing ∷ []
   pub said : map said_of (out_0 ∷ out_1 ∷ out_2 ∷ out_3 ∷ [])
       ≡ (Going ∷ []) ∷ (Going ∷ []) ∷ (Going ∷ []) ∷ (Done ∷ []) ∷ []
   -- a page is free once its last place came back

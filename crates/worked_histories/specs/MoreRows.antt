@@ -96,7 +96,11 @@ pub record ClosedSpool : Type 0 where
 abbrev pub one_opened : List (Event (List ℕ))
 one_opened = Opened 1 1 1 ∷ []
 
+-- a second job may be accepted where the account has so many entries
+abbrev pub MayOpenSecond : ℕ → Type 0
+MayOpenSecond n = May length (now (record small { account = n }) first_base one_opened) (Opened 2 1 1)
+
 pub record FilledAccount : Type 0 where
   pub needs : (now small first_base one_opened).reserved + reserve_of small 1 + 1 ≡ 1425
-  pub fits : May length (now (record small { account = 1425 }) first_base one_opened) (Opened 2 1 1)
-  pub is_full : May length (now (record small { account = 1424 }) first_base one_opened) (Opened 2 1 1) → ⊥
+  pub fits : MayOpenSecond 1425
+  pub is_full : MayOpenSecond 1424 → ⊥

@@ -1,5 +1,6 @@
 -- Events that may not come: what each stands after, and why it is refused.
 use Rattle.std.specs.Prelude.{ℕ, true, false, List, [], ◌∷◌, drop, length, replicate}
+use Rattle.lpd_values.specs.Contents.{Contents}
 use Rattle.spool_history.specs.Base.{Base, first_base}
 use Rattle.spool_history.specs.Events.{Event}
 use Rattle.spool_history.specs.Events.Act.{Granted, Began, Put, FileEnded, Controlled, Aborted}
@@ -18,6 +19,10 @@ IsRefusedFrom c b h e = May length (now c b h) e → ⊥
 
 abbrev pub IsRefused : Config → List (Event (List ℕ)) → Event (List ℕ) → Type 0
 IsRefused c h e = IsRefusedFrom c first_base h e
+
+-- a control file that prints the one data file by so many lines
+abbrev pub printing : ℕ → Contents
+printing n = record (control 1) { prints = replicate n (data_name 1) }
 
 -- of the history of one job, drop n is what it was before its newest n events
 pub record AreRefused : Type 0 where
@@ -45,8 +50,8 @@ pub record AreRefused : Type 0 where
   pub ended_with_the_wrong_word : IsRefused small (drop 7 one_job) (OfJob 1 (FileEnded 0 true))
   pub control_twice : IsRefused small (drop 5 one_job) (OfJob 1 (Controlled (control 1) true))
   pub control_with_the_wrong_word : IsRefused small (drop 6 one_job) (OfJob 1 (Controlled (control 1) false))
-  pub control_printing_nothing : IsRefused small (drop 6 one_job) (OfJob 1 (Controlled (record (control 1) { prints = [] }) true))
-  pub control_printing_100_names : IsRefused small (drop 6 one_job) (OfJob 1 (Controlled (record (control 1) { prints = replicate 100 (data_name 1) }) true))
+  pub control_printing_nothing : IsRefused small (drop 6 one_job) (OfJob 1 (Controlled (printing 0) true))
+  pub control_printing_100_names : IsRefused small (drop 6 one_job) (OfJob 1 (Controlled (printing 100) true))
   pub aborted_nobody : IsRefused small [] (OfJob 1 Aborted)
   pub handed_out_of_order : IsRefused small (drop 5 one_job) (AtPrinter 1 (sheet 1 1 rld) Handed)
   pub handed_while_busy : IsRefused small (drop 4 one_job) (AtPrinter 1 (sheet 1 1 rld) Handed)
