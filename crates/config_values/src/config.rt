@@ -44,7 +44,8 @@ impl Model for Config {
 
 /// The place of the queue of this name.
 fn place_of(queues: &[Queue], name: &[u8]) -> Option<usize>
-    ensures found { IfSome result (λ at. (at < length queues.now) × ((slice_index_or queues.now at C.no_queue).name ≡ name.now)) }
+    ensures found { IfSome result (λ at. (at < length queues.now)
+        × ((slice_index_or queues.now at C.no_queue).name ≡ name.now)) }
     ensures absent { IfNone result (All (λ (q : C.Queue). q.name ≢ name.now) queues.now) }
 {
     queues.iter().position(|queue| queue.name() == name)
@@ -127,7 +128,8 @@ impl Config {
 
     /// The number of the queue of this name.
     pub fn queue_named(&self, name: &[u8]) -> Option<u32>
-        ensures found { IfSome result (λ q. C.IsQueue self.now q × ((C.queue_at self.now q).name ≡ name.now)) }
+        ensures found { IfSome result (λ q. C.IsQueue self.now q × ((C.queue_at self.now q).name
+            ≡ name.now)) }
         ensures absent { IfNone result (All (λ (q : C.Queue). q.name ≢ name.now) self.now.queues) }
     {
         let at = place_of(self.queues.as_slice(), name)?;

@@ -51,7 +51,8 @@ fn has_pages_for(config: &Config, job: &Job, count: u64) -> bool
 
 /// Whether a data file of this name and so many octets may begin.
 fn may_begin(config: &Config, job: &Job, name: &FileName, count: u64) -> bool
-    ensures { IsTrue result ↔ L.JobMay octets config.now (E.Act.Began name.now count) (job_seen job.now) }
+    ensures { IsTrue result
+        ↔ L.JobMay octets config.now (E.Act.Began name.now count) (job_seen job.now) }
 {
     is_receiving(job)
         && !is_open_in(job.files.as_slice())
@@ -62,7 +63,8 @@ fn may_begin(config: &Config, job: &Job, name: &FileName, count: u64) -> bool
 
 /// Whether a page is the next one of a file.
 fn is_next_page(config: &Config, file: &File, number: u64, page: &Outline) -> bool
-    ensures { IsTrue result ↔ L.IsNextPage config.now.page_size number page.now.length (file_seen file.now) }
+    ensures { IsTrue result
+        ↔ L.IsNextPage config.now.page_size number page.now.length (file_seen file.now) }
 {
     let size = u128::from(config.page_size());
     let start = u128::from(number) * size;
@@ -84,7 +86,9 @@ fn has_pages(config: &Config, file: &File) -> bool
 
 /// Whether the last file has this number and is open, and the page is its next one.
 fn is_open_for(config: &Config, files: &[File], place: u64, number: u64, page: &Outline) -> bool
-    ensures { IsTrue result ↔ L.HasOpen (map file_seen files.now) place (L.IsNextPage config.now.page_size number page.now.length) }
+    ensures { IsTrue result
+        ↔ L.HasOpen (map file_seen files.now) place
+        (L.IsNextPage config.now.page_size number page.now.length) }
 {
     let Some((last, before)) = files.split_last() else {
         return false;
@@ -100,7 +104,8 @@ fn is_open_for(config: &Config, files: &[File], place: u64, number: u64, page: &
 
 /// Whether the last file has this number and is open, and has all its pages.
 fn is_open_at_end(config: &Config, files: &[File], place: u64) -> bool
-    ensures { IsTrue result ↔ L.HasOpen (map file_seen files.now) place (L.HasPages config.now.page_size) }
+    ensures { IsTrue result
+        ↔ L.HasOpen (map file_seen files.now) place (L.HasPages config.now.page_size) }
 {
     let Some((last, before)) = files.split_last() else {
         return false;
@@ -116,14 +121,16 @@ fn is_open_at_end(config: &Config, files: &[File], place: u64) -> bool
 
 /// Whether a page may be put into a file of a job.
 fn may_put(config: &Config, job: &Job, place: u64, number: u64, page: &Outline) -> bool
-    ensures { IsTrue result ↔ L.JobMay octets config.now (E.Act.Put place number page.now) (job_seen job.now) }
+    ensures { IsTrue result
+        ↔ L.JobMay octets config.now (E.Act.Put place number page.now) (job_seen job.now) }
 {
     is_receiving(job) && job.lent && is_open_for(config, job.files.as_slice(), place, number, page)
 }
 
 /// Whether a file but the last is open.
 fn has_open_before_last(files: &[File]) -> bool
-    ensures { result ≡ A.is_open_in (A.at_last (λ f. record f { ended = true }) (map file_seen files.now)) }
+    ensures { result
+        ≡ A.is_open_in (A.at_last (λ f. record f { ended = true }) (map file_seen files.now)) }
 {
     match files.split_last() {
         None => false,
@@ -133,7 +140,9 @@ fn has_open_before_last(files: &[File]) -> bool
 
 /// Whether a job is received once its last file ended.
 fn is_whole_by_end(job: &Job) -> bool
-    ensures { result ≡ A.is_whole (control_seen job.now.control) (A.at_last (λ f. record f { ended = true }) (map file_seen job.now.files.items)) }
+    ensures { result
+        ≡ A.is_whole (control_seen job.now.control) (A.at_last (λ f. record f { ended = true })
+        (map file_seen job.now.files.items)) }
 {
     match &job.control {
         None => false,
@@ -146,7 +155,8 @@ fn is_whole_by_end(job: &Job) -> bool
 
 /// Whether a file of a job may end, and make it whole or not.
 fn may_end_file(config: &Config, job: &Job, place: u64, whole: bool) -> bool
-    ensures { IsTrue result ↔ L.JobMay octets config.now (E.Act.FileEnded place whole) (job_seen job.now) }
+    ensures { IsTrue result
+        ↔ L.JobMay octets config.now (E.Act.FileEnded place whole) (job_seen job.now) }
 {
     is_receiving(job)
         && !job.lent
@@ -156,7 +166,8 @@ fn may_end_file(config: &Config, job: &Job, place: u64, whole: bool) -> bool
 
 /// Whether a job is received once it has this control file.
 fn is_whole_by_control(job: &Job, control: &Control) -> bool
-    ensures { result ≡ A.is_whole (Some (contents control.now)) (map file_seen job.now.files.items) }
+    ensures { result
+        ≡ A.is_whole (Some (contents control.now)) (map file_seen job.now.files.items) }
 {
     !is_open_in(job.files.as_slice()) && all_begun(control.prints.as_slice(), job.files.as_slice())
 }
@@ -174,7 +185,8 @@ fn may_control(job: &Job, control: &Control, whole: bool) -> bool
 
 /// Whether a job may be aborted.
 fn may_abort(job: &Job) -> bool
-    ensures { IsTrue result ↔ L.IsReceiving (job_seen job.now) ⊎ ((job.now.ended ≡ true) × (job.now.lent ≡ true)) }
+    ensures { IsTrue result ↔ L.IsReceiving (job_seen job.now) ⊎ ((job.now.ended ≡ true)
+        × (job.now.lent ≡ true)) }
 {
     is_receiving(job) || (job.ended && job.lent)
 }
@@ -195,7 +207,8 @@ fn job_may(config: &Config, job: &Job, act: &Act) -> bool
 
 /// Whether a job of this number may do what an act says.
 pub(crate) fn some_job_may(config: &Config, jobs: &[Job], number: u64, act: &Act) -> bool
-    ensures { IsTrue result ↔ L.HasJob (map job_seen jobs.now) number (L.JobMay octets config.now (act_seen act.now)) }
+    ensures { IsTrue result
+        ↔ L.HasJob (map job_seen jobs.now) number (L.JobMay octets config.now (act_seen act.now)) }
 {
     let Some((job, rest)) = jobs.split_first() else {
         return false;

@@ -44,7 +44,8 @@ fn may_act(
     number: u64,
     act: &Act,
 ) -> Result<bool, AllocError>
-    ensures { IfOk result (λ b. IsTrue b ↔ L.MayAct octets (state_seen config.now state.now) number (act_seen act.now)) }
+    ensures { IfOk result (λ b. IsTrue b
+        ↔ L.MayAct octets (state_seen config.now state.now) number (act_seen act.now)) }
 {
     if !some_job_may(config, state.jobs.as_slice(), number, act) {
         return Ok(false);
@@ -58,7 +59,8 @@ fn may_act(
 
 /// Whether an entry meets its conditions where a spool is left so.
 pub fn may(alloc: Global, config: &Config, state: &State, entry: &Entry) -> Result<bool, AllocError>
-    ensures { IfOk result (λ b. IsTrue b ↔ L.May octets (state_seen config.now state.now) (event_seen entry.now)) }
+    ensures { IfOk result (λ b. IsTrue b
+        ↔ L.May octets (state_seen config.now state.now) (event_seen entry.now)) }
 {
     match entry {
         Entry::Opened(job, _, queue) => Ok(may_open(config, state, *job, *queue)),

@@ -146,7 +146,8 @@ pub fn has_finishing_order(
     free: &[u128],
     claims: &[Claim],
 ) -> Result<bool, AllocError>
-    ensures { IfOk result (λ b. IsTrue b ↔ HasFinishingOrder (amount free.now) (rows_seen config.now claims.now)) }
+    ensures { IfOk result (λ b. IsTrue b
+        ↔ HasFinishingOrder (amount free.now) (rows_seen config.now claims.now)) }
 {
     has_order(alloc, config, free, &[], claims)
 }

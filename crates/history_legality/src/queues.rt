@@ -34,7 +34,9 @@ fn some_may_be_removed(jobs: &[Job], queue: u32, number: u64) -> bool
 
 /// Whether for each of these numbers a job of it and of this queue may be removed.
 fn all_may_be_removed(jobs: &[Job], queue: u32, numbers: &[u64]) -> bool
-    ensures { IsTrue result ↔ AllByRecursion (λ j. L.HasJob (map job_seen jobs.now) j (L.MayBeRemoved queue)) numbers.now }
+    ensures { IsTrue result
+        ↔ AllByRecursion (λ j. L.HasJob (map job_seen jobs.now) j
+        (L.MayBeRemoved queue)) numbers.now }
 {
     let Some((number, rest)) = numbers.split_first() else {
         return true;
@@ -56,7 +58,8 @@ fn rises(numbers: &[u64]) -> bool
 
 /// Whether jobs of these numbers may be removed from a queue.
 pub(crate) fn may_remove(config: &Config, state: &State, queue: u32, numbers: &[u64]) -> bool
-    ensures { IsTrue result ↔ L.May octets (state_seen config.now state.now) (E.Event.Removed queue numbers.now) }
+    ensures { IsTrue result
+        ↔ L.May octets (state_seen config.now state.now) (E.Event.Removed queue numbers.now) }
 {
     if state.closed || !config.is_queue(queue) || numbers.is_empty() || !rises(numbers) {
         return false;
@@ -66,7 +69,8 @@ pub(crate) fn may_remove(config: &Config, state: &State, queue: u32, numbers: &[
 
 /// Whether one of the printers up to this number serves this queue and is stopped.
 fn has_stopped(state: &State, printers: u32, queue: u32) -> bool
-    ensures { IsTrue result ↔ HasStopped (map printer_seen state.now.printers.items) printers queue }
+    ensures { IsTrue result
+        ↔ HasStopped (map printer_seen state.now.printers.items) printers queue }
 {
     for before in 0..printers {
         let printer = printer_numbered(state, before + 1);
@@ -79,7 +83,8 @@ fn has_stopped(state: &State, printers: u32, queue: u32) -> bool
 
 /// Whether the stopped printers of a queue may be started.
 pub(crate) fn may_start(config: &Config, state: &State, queue: u32) -> bool
-    ensures { IsTrue result ↔ L.May octets (state_seen config.now state.now) (E.Event.Started queue) }
+    ensures { IsTrue result
+        ↔ L.May octets (state_seen config.now state.now) (E.Event.Started queue) }
 {
     !state.closed && config.is_queue(queue) && has_stopped(state, config.printer_count(), queue)
 }

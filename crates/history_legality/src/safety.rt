@@ -71,7 +71,8 @@ fn claim_of(
     granted: u128,
     lent: bool,
 ) -> Result<Claim, AllocError>
-    ensures { IfOk result (λ x. row_seen config.now x ≡ N.row_of config.now (with_lent granted lent (job_seen job.now))) }
+    ensures { IfOk result (λ x. row_seen config.now x
+        ≡ N.row_of config.now (with_lent granted lent (job_seen job.now))) }
 {
     Ok(Claim {
         number: job.number,
@@ -86,7 +87,8 @@ fn claim_of(
 
 /// The claims of these jobs.
 fn claims_of(alloc: Global, config: &Config, jobs: &[Job]) -> Result<Vec<Claim>, AllocError>
-    ensures { IfOk result (λ v. rows_seen config.now v.items ≡ map (N.row_of config.now) (map job_seen jobs.now)) }
+    ensures { IfOk result (λ v. rows_seen config.now v.items
+        ≡ map (N.row_of config.now) (map job_seen jobs.now)) }
 {
     let Some((job, rest)) = jobs.split_first() else {
         return Ok(Vec::new(alloc));
@@ -155,7 +157,8 @@ fn free_of(config: &Config, claims: &[Claim], kind: usize) -> u128
 
 /// What is free of each kind, where these claims are all.
 fn free_amounts(alloc: Global, config: &Config, claims: &[Claim]) -> Result<Vec<u128>, AllocError>
-    ensures { IfOk result (λ v. (kind : ℕ) → amount v.items kind ≡ free_beside config.now (rows_seen config.now claims.now) kind) }
+    ensures { IfOk result (λ v. (kind : ℕ) → amount v.items kind
+        ≡ free_beside config.now (rows_seen config.now claims.now) kind) }
 {
     let mut free = Vec::new(alloc);
     for kind in 0..kinds(config) {

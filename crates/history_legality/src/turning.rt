@@ -37,7 +37,8 @@ fn may_hand(
     printer: u32,
     sheet: &Sheet,
 ) -> Result<bool, AllocError>
-    ensures { IfOk result (λ b. IsTrue b ↔ X.next_page (state_seen config.now state.now) printer ≡ X.Next.Hands (sheet_seen sheet.now)) }
+    ensures { IfOk result (λ b. IsTrue b ↔ X.next_page (state_seen config.now state.now) printer
+        ≡ X.Next.Hands (sheet_seen sheet.now)) }
 {
     match next_page(alloc, config, state, printer)? {
         Next::Hands(next) => Ok(is_same_sheet(&next, sheet)),
@@ -73,7 +74,8 @@ fn is_same_progress(a: Progress, b: Progress) -> bool
 
 /// Whether this is said of a job when a page of it was printed.
 fn makes(alloc: Global, job: &Job, progress: Progress) -> Result<bool, AllocError>
-    ensures { IfOk result (λ b. IsTrue b ↔ progress_seen progress ≡ L.progress_of (job_seen job.now)) }
+    ensures { IfOk result (λ b. IsTrue b ↔ progress_seen progress
+        ≡ L.progress_of (job_seen job.now)) }
 {
     let made = progress_of(alloc, job)?;
     Ok(is_same_progress(progress, made))
@@ -86,7 +88,9 @@ fn some_job_makes(
     number: u64,
     progress: Progress,
 ) -> Result<bool, AllocError>
-    ensures { IfOk result (λ b. IsTrue b ↔ L.HasJob (map job_seen jobs.now) number (λ job. progress_seen progress ≡ L.progress_of job)) }
+    ensures { IfOk result (λ b. IsTrue b
+        ↔ L.HasJob (map job_seen jobs.now) number (λ job. progress_seen progress
+        ≡ L.progress_of job)) }
 {
     let Some((job, rest)) = jobs.split_first() else {
         return Ok(false);
@@ -106,7 +110,9 @@ pub(crate) fn may_turn(
     sheet: &Sheet,
     turn: Turn,
 ) -> Result<bool, AllocError>
-    ensures { IfOk result (λ b. IsTrue b ↔ L.MayTurn (state_seen config.now state.now) printer (sheet_seen sheet.now) (turn_seen turn)) }
+    ensures { IfOk result (λ b. IsTrue b
+        ↔ L.MayTurn (state_seen config.now state.now) printer (sheet_seen sheet.now)
+        (turn_seen turn)) }
 {
     match turn {
         Turn::Handed => may_hand(alloc, config, state, printer, sheet),

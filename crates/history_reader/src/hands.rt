@@ -22,7 +22,8 @@ const NO_PRINTER: Printer = Printer {
 
 /// The printer at this place, or one of no queue where there is none.
 fn printer_at(printers: &[Printer], place: usize) -> Printer
-    ensures { printer_seen result ≡ slice_index_or (map printer_seen printers.now) place X.no_printer }
+    ensures { printer_seen result
+        ≡ slice_index_or (map printer_seen printers.now) place X.no_printer }
 {
     let Some((first, rest)) = printers.split_first() else {
         return NO_PRINTER;
@@ -65,7 +66,10 @@ fn is_ready(job: &Job, jobs: &[Job]) -> bool
 
 /// The first of these jobs that is of a queue and ready among all jobs.
 fn first_ready<'a>(some: &'a [Job], jobs: &[Job], queue: u32) -> Option<&'a Job>
-    ensures { MatchOption result (find (λ w. (w.queue == queue) && X.is_ready (map job_seen jobs.now) w) (map job_seen some.now) ≡ None) (λ v. find (λ w. (w.queue == queue) && X.is_ready (map job_seen jobs.now) w) (map job_seen some.now) ≡ Some (job_seen v.now)) }
+    ensures { MatchOption result (find (λ w. (w.queue == queue)
+        && X.is_ready (map job_seen jobs.now) w) (map job_seen some.now)
+        ≡ None) (λ v. find (λ w. (w.queue == queue)
+        && X.is_ready (map job_seen jobs.now) w) (map job_seen some.now) ≡ Some (job_seen v.now)) }
 {
     let Some((first, rest)) = some.split_first() else {
         return None;
@@ -78,7 +82,9 @@ fn first_ready<'a>(some: &'a [Job], jobs: &[Job], queue: u32) -> Option<&'a Job>
 
 /// The job of a number that has not ended.
 fn first_unended(jobs: &[Job], number: u64) -> Option<&Job>
-    ensures { MatchOption result (find (λ v. (v.number == number) && not v.ended) (map job_seen jobs.now) ≡ None) (λ w. find (λ v. (v.number == number) && not v.ended) (map job_seen jobs.now) ≡ Some (job_seen w.now)) }
+    ensures { MatchOption result (find (λ v. (v.number == number)
+        && not v.ended) (map job_seen jobs.now) ≡ None) (λ w. find (λ v. (v.number == number)
+        && not v.ended) (map job_seen jobs.now) ≡ Some (job_seen w.now)) }
 {
     let Some((first, rest)) = jobs.split_first() else {
         return None;
@@ -91,7 +97,8 @@ fn first_unended(jobs: &[Job], number: u64) -> Option<&Job>
 
 /// The job that a printer of a queue, which began this one last, goes on with or begins.
 fn turn_of(jobs: &[Job], queue: u32, began: Option<u64>) -> Option<&Job>
-    ensures { MatchOption result (X.turn_of (map job_seen jobs.now) queue began ≡ None) (λ v. X.turn_of (map job_seen jobs.now) queue began ≡ Some (job_seen v.now)) }
+    ensures { MatchOption result (X.turn_of (map job_seen jobs.now) queue began
+        ≡ None) (λ v. X.turn_of (map job_seen jobs.now) queue began ≡ Some (job_seen v.now)) }
 {
     if let Some(number) = began {
         if let Some(job) = first_unended(jobs, number) {
@@ -130,7 +137,8 @@ fn hand_of(alloc: Global, job: &Job) -> Result<Next, AllocError>
 
 /// What a printer gets that serves these jobs.
 fn next_at(alloc: Global, jobs: &[Job], printer: Printer) -> Result<Next, AllocError>
-    ensures { IfOk result (λ n. next_seen n ≡ X.next_at (map job_seen jobs.now) (printer_seen printer)) }
+    ensures { IfOk result (λ n. next_seen n
+        ≡ X.next_at (map job_seen jobs.now) (printer_seen printer)) }
 {
     if printer.stopped {
         return Ok(Next::Stops);
@@ -151,7 +159,8 @@ pub fn next_page(
     state: &State,
     printer: u32,
 ) -> Result<Next, AllocError>
-    ensures { IfOk result (λ n. next_seen n ≡ X.next_page (state_seen config.now state.now) printer) }
+    ensures { IfOk result (λ n. next_seen n
+        ≡ X.next_page (state_seen config.now state.now) printer) }
 {
     if state.closed {
         return Ok(Next::Over);

@@ -22,7 +22,10 @@ fn is_named(number: u64, jobs: &[u64]) -> bool
 
 /// Puts a page at the end of the last file.
 fn put_in_last(files: &mut [File], page: Outline) -> Result<(), AllocError>
-    ensures { OnOk result (map file_seen files.new ≡ A.at_last (λ f. record f { pages = f.pages ++ page ∷ [] }) (map file_seen files.old)) }
+    ensures { OnOk result (map file_seen files.new ≡ A.at_last (λ f. record f {
+      pages = f.pages
+          ++ page ∷ [];
+    }) (map file_seen files.old)) }
 {
     if let Some(file) = files.last_mut() {
         file.pages.push(page)?;
@@ -32,7 +35,8 @@ fn put_in_last(files: &mut [File], page: Outline) -> Result<(), AllocError>
 
 /// Ends the last file.
 fn end_last(files: &mut [File])
-    ensures { map file_seen files.new ≡ A.at_last (λ f. record f { ended = true }) (map file_seen files.old) }
+    ensures { map file_seen files.new
+        ≡ A.at_last (λ f. record f { ended = true }) (map file_seen files.old) }
 {
     if let Some(file) = files.last_mut() {
         file.ended = true;
@@ -43,7 +47,8 @@ impl Job {
     /// What an act makes of its job.
     fn act(&mut self, alloc: Global, act: &Act) -> Result<(), AllocError>
         requires { self.old.granted < 2 ^ 63 }
-        ensures value { OnOk result (job_seen self.new ≡ T.acted (act_seen act.now) (job_seen self.old)) }
+        ensures value { OnOk result (job_seen self.new
+            ≡ T.acted (act_seen act.now) (job_seen self.old)) }
         ensures granted { OnOk result (self.new.granted ≤ self.old.granted + 1) }
         ensures handed { OnOk result (self.new.handed ≡ self.old.handed) }
         ensures back { OnOk result (self.new.back ≡ self.old.back) }
@@ -97,7 +102,8 @@ impl Job {
         requires granted { self.old.granted < 2 ^ 63 }
         requires handed { self.old.handed < 2 ^ 63 }
         requires back { self.old.back < 2 ^ 63 }
-        ensures value { OnOk result (job_seen self.new ≡ T.change (event_seen entry.now) (job_seen self.old)) }
+        ensures value { OnOk result (job_seen self.new
+            ≡ T.change (event_seen entry.now) (job_seen self.old)) }
         ensures granted { OnOk result (self.new.granted ≤ self.old.granted + 1) }
         ensures handed { OnOk result (self.new.handed ≤ self.old.handed + 1) }
         ensures back { OnOk result (self.new.back ≤ self.old.back + 1) }
@@ -128,7 +134,8 @@ impl Job {
 
 /// What a history says of a job that it opened.
 pub fn job_in(alloc: Global, entries: &[Entry], opening: &Opening) -> Result<Job, AllocError>
-    ensures value { IfOk result (λ v. job_seen v ≡ N.job_of (history entries.now) (opening_seen opening.now)) }
+    ensures value { IfOk result (λ v. job_seen v
+        ≡ N.job_of (history entries.now) (opening_seen opening.now)) }
     ensures granted { IfOk result (λ v. v.granted ≤ length entries.now) }
     ensures handed { IfOk result (λ v. v.handed ≤ length entries.now) }
     ensures back { IfOk result (λ v. v.back ≤ length entries.now) }

@@ -34,7 +34,8 @@ pub fn is_begun(name: &FileName, files: &[File]) -> bool
 
 /// Whether a file of each of these names began.
 pub fn all_begun(names: &[FileName], files: &[File]) -> bool
-    ensures { result ≡ list_all (λ name. is_among name (A.names_in (map file_seen files.now))) names.now }
+    ensures { result
+        ≡ list_all (λ name. is_among name (A.names_in (map file_seen files.now))) names.now }
 {
     let Some((first, rest)) = names.split_first() else {
         return true;
@@ -50,7 +51,8 @@ fn add_numbered(
     pages: &[Outline],
 ) -> Result<(), AllocError>
     requires { number + length pages.now < 2 ^ 64 }
-    ensures { OnOk result (map page_seen places.new.items ≡ map page_seen places.old.items ++ A.numbered file number pages.now) }
+    ensures { OnOk result (map page_seen places.new.items ≡ map page_seen places.old.items
+        ++ A.numbered file number pages.now) }
 {
     let Some((first, rest)) = pages.split_first() else {
         return Ok(());
@@ -71,7 +73,8 @@ fn add_named(
     files: &[File],
 ) -> Result<(), AllocError>
     requires { number + length files.now < 2 ^ 64 }
-    ensures { OnOk result (map page_seen places.new.items ≡ map page_seen places.old.items ++ A.pages_named name.now number (map file_seen files.now)) }
+    ensures { OnOk result (map page_seen places.new.items ≡ map page_seen places.old.items
+        ++ A.pages_named name.now number (map file_seen files.now)) }
 {
     let Some((first, rest)) = files.split_first() else {
         return Ok(());
@@ -84,7 +87,8 @@ fn add_named(
 
 /// Puts the pages of each of these names behind these places.
 fn add_places(places: &mut Vec<Page>, names: &[FileName], files: &[File]) -> Result<(), AllocError>
-    ensures { OnOk result (map page_seen places.new.items ≡ map page_seen places.old.items ++ flat_map (λ name. A.pages_named name 0 (map file_seen files.now)) names.now) }
+    ensures { OnOk result (map page_seen places.new.items ≡ map page_seen places.old.items
+        ++ flat_map (λ name. A.pages_named name 0 (map file_seen files.now)) names.now) }
 {
     let Some((first, rest)) = names.split_first() else {
         return Ok(());

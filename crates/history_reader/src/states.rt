@@ -22,7 +22,8 @@ fn add_held(
     entries: &[Entry],
     opened: &[Opening],
 ) -> Result<(), AllocError>
-    ensures { OnOk result (map job_seen jobs.new.items ≡ map job_seen jobs.old.items ++ filter N.is_held (map (N.job_of (history entries.now)) (map opening_seen opened.now))) }
+    ensures { OnOk result (map job_seen jobs.new.items ≡ map job_seen jobs.old.items
+        ++ filter N.is_held (map (N.job_of (history entries.now)) (map opening_seen opened.now))) }
 {
     let Some((first, rest)) = opened.split_first() else {
         return Ok(());
@@ -36,7 +37,9 @@ fn add_held(
 
 /// The reserves of these jobs, in entries.
 fn reserves_of(config: &Config, opened: &[Opening]) -> u128
-    ensures value { result ≡ sum_by (λ (o : D.Opening). S.reserve_of config.now o.queue) (map opening_seen opened.now) }
+    ensures value { result
+        ≡ sum_by (λ (o : D.Opening). S.reserve_of config.now o.queue)
+        (map opening_seen opened.now) }
     ensures within { result ≤ 2 ^ 40 * length opened.now }
 {
     let Some((first, rest)) = opened.split_first() else {

@@ -130,7 +130,10 @@ pub(crate) fn is_picked(agent: &[u8], job: &Job, words: &[Octets]) -> bool
 
 /// The job of a queue that is being printed and was accepted first.
 pub(crate) fn first_active(queue: u32, jobs: &[Job]) -> Option<&Job>
-    ensures { MatchOption result (take 1 (filter (λ job. not (job.handed == 0)) (filter (C.is_listed queue) (map job_seen jobs.now))) ≡ []) (λ v. take 1 (filter (λ job. not (job.handed == 0)) (filter (C.is_listed queue) (map job_seen jobs.now))) ≡ job_seen v.now ∷ []) }
+    ensures { MatchOption result (take 1 (filter (λ job. not (job.handed == 0)) (filter
+        (C.is_listed queue) (map job_seen jobs.now)))
+        ≡ []) (λ v. take 1 (filter (λ job. not (job.handed == 0)) (filter (C.is_listed queue)
+        (map job_seen jobs.now))) ≡ job_seen v.now ∷ []) }
 {
     let Some((first, rest)) = jobs.split_first() else {
         return None;

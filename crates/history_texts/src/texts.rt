@@ -63,7 +63,8 @@ fn places_left(alloc: Global, job: &Job) -> Result<u64, AllocError>
 
 /// Puts whether a job is begun behind a text.
 fn put_stage(text: &mut Vec<u8>, job: &Job) -> Result<(), AllocError>
-    ensures { OnOk result (text.new.items ≡ text.old.items ++ (if job.now.handed == 0 then codes "waiting " else codes "active ")) }
+    ensures { OnOk result (text.new.items ≡ text.old.items
+        ++ (if job.now.handed == 0 then codes "waiting " else codes "active ")) }
 {
     if job.handed == 0 {
         text.extend_from_slice(b"waiting ".as_slice())?;
@@ -93,7 +94,9 @@ fn put_where_named(
     name: &FileName,
     file: &File,
 ) -> Result<(), AllocError>
-    ensures { OnOk result (text.new.items ≡ text.old.items ++ (if bytes_eq file.now.name name.now then codes "  " ++ file.now.name ++ codes " " ++ decimal file.now.count ++ 10 ∷ [] else [])) }
+    ensures { OnOk result (text.new.items ≡ text.old.items
+        ++ (if bytes_eq file.now.name name.now then codes "  " ++ file.now.name ++ codes " "
+        ++ decimal file.now.count ++ 10 ∷ [] else [])) }
 {
     if file.name == *name {
         put_word(text, b"  ".as_slice(), file.name.octets())?;
@@ -110,7 +113,8 @@ fn put_file_lines(
     name: &FileName,
     files: &[File],
 ) -> Result<(), AllocError>
-    ensures { OnOk result (text.new.items ≡ text.old.items ++ T.file_lines name.now (map file_seen files.now)) }
+    ensures { OnOk result (text.new.items ≡ text.old.items
+        ++ T.file_lines name.now (map file_seen files.now)) }
 {
     let Some((first, rest)) = files.split_first() else {
         return Ok(());
@@ -126,7 +130,8 @@ fn put_print_lines(
     names: &[FileName],
     files: &[File],
 ) -> Result<(), AllocError>
-    ensures { OnOk result (text.new.items ≡ text.old.items ++ flat_map (λ name. T.file_lines name (map file_seen files.now)) names.now) }
+    ensures { OnOk result (text.new.items ≡ text.old.items
+        ++ flat_map (λ name. T.file_lines name (map file_seen files.now)) names.now) }
 {
     let Some((first, rest)) = names.split_first() else {
         return Ok(());
@@ -156,7 +161,8 @@ fn put_listed(
     queue: u32,
     jobs: &[Job],
 ) -> Result<(), AllocError>
-    ensures { OnOk result (text.new.items ≡ text.old.items ++ flat_map (T.job_lines long) (filter (C.is_listed queue) (map job_seen jobs.now))) }
+    ensures { OnOk result (text.new.items ≡ text.old.items
+        ++ flat_map (T.job_lines long) (filter (C.is_listed queue) (map job_seen jobs.now))) }
 {
     let Some((first, rest)) = jobs.split_first() else {
         return Ok(());
@@ -176,7 +182,9 @@ fn put_chosen(
     words: &[Octets],
     jobs: &[Job],
 ) -> Result<(), AllocError>
-    ensures { OnOk result (text.new.items ≡ text.old.items ++ flat_map (T.job_lines long) (filter (λ job. list_any (C.chooses job) words.now) (filter (C.is_listed queue) (map job_seen jobs.now)))) }
+    ensures { OnOk result (text.new.items ≡ text.old.items
+        ++ flat_map (T.job_lines long) (filter (λ job. list_any (C.chooses job) words.now) (filter
+        (C.is_listed queue) (map job_seen jobs.now)))) }
 {
     let Some((first, rest)) = jobs.split_first() else {
         return Ok(());
@@ -197,7 +205,8 @@ fn put_shown(
     list: &[Octets],
     long: bool,
 ) -> Result<(), AllocError>
-    ensures { OnOk result (text.new.items ≡ text.old.items ++ flat_map (T.job_lines long) (C.shown (state_seen config.now state.now) queue list.now)) }
+    ensures { OnOk result (text.new.items ≡ text.old.items
+        ++ flat_map (T.job_lines long) (C.shown (state_seen config.now state.now) queue list.now)) }
 {
     let jobs = state.jobs.as_slice();
     match list {
@@ -230,7 +239,8 @@ fn count_printers(queue: u32, printers: &[Printer]) -> usize
 
 /// How many of these printers serve a queue and are stopped.
 fn count_stopped(queue: u32, printers: &[Printer]) -> usize
-    ensures value { result ≡ length (filter (λ p. p.stopped) (T.printers_in queue (map printer_seen printers.now))) }
+    ensures value { result
+        ≡ length (filter (λ p. p.stopped) (T.printers_in queue (map printer_seen printers.now))) }
     ensures within { result ≤ length printers.now }
 {
     let Some((first, rest)) = printers.split_first() else {
@@ -247,7 +257,14 @@ fn put_head(
     state: &State,
     queue: u32,
 ) -> Result<(), AllocError>
-    ensures { OnOk result (text.new.items ≡ text.old.items ++ (codes "queue " ++ (S.queue_at (state_seen config.now state.now).config queue).name ++ codes " jobs " ++ decimal (length (C.listed (state_seen config.now state.now) queue)) ++ codes " printers " ++ decimal (length (T.printers_in queue (state_seen config.now state.now).printers)) ++ codes " stopped " ++ decimal (length (filter (λ p. p.stopped) (T.printers_in queue (state_seen config.now state.now).printers))) ++ 10 ∷ [])) }
+    ensures { OnOk result (text.new.items ≡ text.old.items ++ (codes "queue "
+        ++ (S.queue_at (state_seen config.now state.now).config queue).name ++ codes " jobs "
+        ++ decimal (length (C.listed (state_seen config.now state.now) queue))
+        ++ codes " printers "
+        ++ decimal (length (T.printers_in queue (state_seen config.now state.now).printers))
+        ++ codes " stopped "
+        ++ decimal (length (filter (λ p. p.stopped) (T.printers_in queue
+        (state_seen config.now state.now).printers))) ++ 10 ∷ [])) }
 {
     let printers = state.printers.as_slice();
     let name = config.name_of(queue);
@@ -280,7 +297,8 @@ pub fn state_text(
     list: &[Octets],
     long: bool,
 ) -> Result<Vec<u8>, AllocError>
-    ensures { IfOk result (λ text. text.items ≡ T.state_text (state_seen config.now state.now) queue list.now long) }
+    ensures { IfOk result (λ text. text.items
+        ≡ T.state_text (state_seen config.now state.now) queue list.now long) }
 {
     let mut text = Vec::new(alloc);
     put_head(alloc, &mut text, config, state, queue)?;
@@ -307,7 +325,10 @@ fn put_where_picked(
     words: &[Octets],
     job: &Job,
 ) -> Result<(), AllocError>
-    ensures { OnOk result (text.new.items ≡ text.old.items ++ (if C.is_listed queue (job_seen job.now) && (C.may_remove agent.now (job_seen job.now) && list_any (C.picks agent.now (job_seen job.now)) words.now) then T.removed_line (job_seen job.now) else [])) }
+    ensures { OnOk result (text.new.items ≡ text.old.items
+        ++ (if C.is_listed queue (job_seen job.now) && (C.may_remove agent.now (job_seen job.now)
+        && list_any (C.picks agent.now (job_seen job.now)) words.now) then T.removed_line
+        (job_seen job.now) else [])) }
 {
     if is_listed(queue, job) && (may_remove(agent, job) && is_picked(agent, job, words)) {
         put_removed_line(text, job)?;
@@ -323,7 +344,10 @@ fn put_picked(
     words: &[Octets],
     jobs: &[Job],
 ) -> Result<(), AllocError>
-    ensures { OnOk result (text.new.items ≡ text.old.items ++ flat_map T.removed_line (filter (λ job. C.may_remove agent.now job && list_any (C.picks agent.now job) words.now) (filter (C.is_listed queue) (map job_seen jobs.now)))) }
+    ensures { OnOk result (text.new.items ≡ text.old.items
+        ++ flat_map T.removed_line (filter (λ job. C.may_remove agent.now job
+        && list_any (C.picks agent.now job) words.now) (filter (C.is_listed queue)
+        (map job_seen jobs.now)))) }
 {
     let Some((first, rest)) = jobs.split_first() else {
         return Ok(());
@@ -334,7 +358,9 @@ fn put_picked(
 
 /// Puts the line of the active job of a queue behind a text, where an agent may remove it.
 fn put_active(text: &mut Vec<u8>, queue: u32, agent: &[u8], jobs: &[Job]) -> Result<(), AllocError>
-    ensures { OnOk result (text.new.items ≡ text.old.items ++ flat_map T.removed_line (filter (C.may_remove agent.now) (take 1 (filter (λ job. not (job.handed == 0)) (filter (C.is_listed queue) (map job_seen jobs.now)))))) }
+    ensures { OnOk result (text.new.items ≡ text.old.items
+        ++ flat_map T.removed_line (filter (C.may_remove agent.now) (take 1 (filter (λ job. not
+        (job.handed == 0)) (filter (C.is_listed queue) (map job_seen jobs.now)))))) }
 {
     if let Some(job) = first_active(queue, jobs) {
         if may_remove(agent, job) {
@@ -353,7 +379,9 @@ fn removed_lines(
     agent: &[u8],
     list: &[Octets],
 ) -> Result<Vec<u8>, AllocError>
-    ensures { IfOk result (λ text. text.items ≡ flat_map T.removed_line (C.chosen (state_seen config.now state.now) queue agent.now list.now)) }
+    ensures { IfOk result (λ text. text.items
+        ≡ flat_map T.removed_line (C.chosen
+        (state_seen config.now state.now) queue agent.now list.now)) }
 {
     let mut text = Vec::new(alloc);
     let jobs = state.jobs.as_slice();
@@ -374,7 +402,8 @@ pub fn removal_text(
     agent: &[u8],
     list: &[Octets],
 ) -> Result<Vec<u8>, AllocError>
-    ensures { IfOk result (λ text. text.items ≡ T.removal_text (state_seen config.now state.now) queue agent.now list.now) }
+    ensures { IfOk result (λ text. text.items
+        ≡ T.removal_text (state_seen config.now state.now) queue agent.now list.now) }
 {
     let mut text = removed_lines(alloc, config, state, queue, agent, list)?;
     if text.is_empty() {

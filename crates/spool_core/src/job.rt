@@ -139,7 +139,8 @@ impl Job {
         requires job { IsJob page_size self.old }
         requires size { 0 < page_size }
         ensures job { IsJob page_size self.new }
-        ensures same { (vec_len self.new.pages ≡ vec_len self.old.pages) × (lent_in self.new.phase ≡ lent_in self.old.phase) × (out_in self.new.phase ≡ out_in self.old.phase) }
+        ensures same { (vec_len self.new.pages ≡ vec_len self.old.pages) × (lent_in self.new.phase
+            ≡ lent_in self.old.phase) × (out_in self.new.phase ≡ out_in self.old.phase) }
         ensures err { OnErr result (self.new ≡ self.old) }
     {
         let Phase::Receiving { is_open, is_lent } = self.phase else {
@@ -176,7 +177,8 @@ impl Job {
 
     /// Whether a page may be asked for, or why not.
     pub(crate) fn may_ask(&self) -> Result<(), Refusal>
-        ensures { OnOk result ((lent_in self.now.phase ≡ 0) × (out_in self.now.phase ≡ 0) × (vec_len self.now.pages < self.now.limit)) }
+        ensures { OnOk result ((lent_in self.now.phase ≡ 0) × (out_in self.now.phase ≡ 0)
+            × (vec_len self.now.pages < self.now.limit)) }
     {
         match self.phase {
             Phase::Receiving {
@@ -205,7 +207,8 @@ impl Job {
 
     /// Whether this is the page that the open file wants next.
     pub(crate) fn wants(&self, page: &FilledPage, page_size: usize) -> bool
-        ensures { IsTrue result → (lent_in self.now.phase ≡ 1) × (out_in self.now.phase ≡ 0) × (page.now.page_size ≡ page_size) × (0 < vec_len self.now.files) }
+        ensures { IsTrue result → (lent_in self.now.phase ≡ 1) × (out_in self.now.phase ≡ 0)
+            × (page.now.page_size ≡ page_size) × (0 < vec_len self.now.files) }
     {
         match self.phase {
             Phase::Receiving {
@@ -346,7 +349,8 @@ impl Job {
     pub(crate) fn hand(&mut self, printer: u32, place: usize) -> Option<HandedPage>
         requires none { (lent_in self.old.phase ≡ 0) × (out_in self.old.phase ≡ 0) }
         ensures none { IfNone result (self.new ≡ self.old) }
-        ensures handed { OnSome result ((vec_len self.new.pages + 1 ≡ vec_len self.old.pages) × (lent_in self.new.phase ≡ 0) × (out_in self.new.phase ≡ 1)) }
+        ensures handed { OnSome result ((vec_len self.new.pages + 1 ≡ vec_len self.old.pages)
+            × (lent_in self.new.phase ≡ 0) × (out_in self.new.phase ≡ 1)) }
         ensures job { (size : ℕ) → IsJob size self.old → IsJob size self.new }
     {
         let at = self.next_stored()?;
@@ -371,7 +375,8 @@ impl Job {
 
     /// Whether this is the page that is out at the printer.
     pub(crate) fn is_out(&self, printer: u32, handed: &HandedPage, page_size: usize) -> bool
-        ensures { IsTrue result → (lent_in self.now.phase ≡ 0) × (out_in self.now.phase ≡ 1) × (handed.now.sheet.page_size ≡ page_size) }
+        ensures { IsTrue result → (lent_in self.now.phase ≡ 0) × (out_in self.now.phase ≡ 1)
+            × (handed.now.sheet.page_size ≡ page_size) }
     {
         match self.phase {
             Phase::Printing {

@@ -68,7 +68,8 @@ fn receive(job: &mut Job, pool: &mut Pool) -> Receipt
     requires held { IsHeld pool.old job.old }
     ensures held { IsHeld pool.new job.new }
     ensures pool { IsSamePool pool.old pool.new }
-    ensures none { (lent_in job.new.phase ≡ lent_in job.old.phase) × (out_in job.new.phase ≡ out_in job.old.phase) }
+    ensures none { (lent_in job.new.phase ≡ lent_in job.old.phase) × (out_in job.new.phase
+        ≡ out_in job.old.phase) }
 {
     if !job.is_whole() {
         return Receipt::Stored;
@@ -81,7 +82,14 @@ fn receive(job: &mut Job, pool: &mut Pool) -> Receipt
 impl Core {
     /// A spool in which nothing has happened.
     pub fn new(alloc: Global, config: Config) -> Result<Core, AllocError>
-        ensures { IfOk result (λ c. c ≡ record { pages = config.pages; page_size = config.page_size; free = config.pages; stored = 0; lent = 0; out = 0 }) }
+        ensures { IfOk result (λ c. c ≡ record {
+          pages = config.pages;
+          page_size = config.page_size;
+          free = config.pages;
+          stored = 0;
+          lent = 0;
+          out = 0;
+        }) }
     {
         match Pool::new(alloc, config.pages() as usize, config.page_size() as usize) {
             Ok(pool) => Ok(Core {
@@ -194,8 +202,12 @@ impl Core {
     ///
     /// `NotOpen`, with the page, where no page is lent to the job, or it isn't the page that the file wants next.
     pub fn put(&mut self, job: JobNumber, page: FilledPage) -> Result<(), PutRefused>
-        ensures ok { OnOk result (self.new ≡ record self.old { stored = self.old.stored + 1; lent = self.old.lent - 1 }) }
-        ensures err { IfErr result (λ e. (self.new ≡ self.old) × (e.page ≡ page) × (e.refusal ≡ Refusal.NotOpen)) }
+        ensures ok { OnOk result (self.new ≡ record self.old {
+          stored = self.old.stored + 1;
+          lent = self.old.lent - 1;
+        }) }
+        ensures err { IfErr result (λ e. (self.new ≡ self.old) × (e.page ≡ page) × (e.refusal
+            ≡ Refusal.NotOpen)) }
         ensures sum { AddsUp self.new }
     {
         let page_size = self.pool.page_size();
@@ -216,7 +228,8 @@ impl Core {
     /// `NotOpen` where the job isn't being received, no file is open, or the file lacks octets.
     pub fn end_file(&mut self, job: JobNumber) -> Result<Receipt, Refusal>
         ensures err { OnErr result (self.new ≡ self.old) }
-        ensures kept { (self.new.lent ≡ self.old.lent) × (self.new.out ≡ self.old.out) × (self.new.pages ≡ self.old.pages) }
+        ensures kept { (self.new.lent ≡ self.old.lent) × (self.new.out ≡ self.old.out)
+            × (self.new.pages ≡ self.old.pages) }
         ensures sum { AddsUp self.new }
     {
         match &mut self.job {
@@ -236,7 +249,8 @@ impl Core {
     /// `NotOpen` where the job isn't being received; `ControlTwice` where it has one.
     pub fn control(&mut self, job: JobNumber, control: Control) -> Result<Receipt, Refusal>
         ensures err { OnErr result (self.new ≡ self.old) }
-        ensures kept { (self.new.lent ≡ self.old.lent) × (self.new.out ≡ self.old.out) × (self.new.pages ≡ self.old.pages) }
+        ensures kept { (self.new.lent ≡ self.old.lent) × (self.new.out ≡ self.old.out)
+            × (self.new.pages ≡ self.old.pages) }
         ensures sum { AddsUp self.new }
     {
         match &mut self.job {
@@ -255,8 +269,14 @@ impl Core {
     ///
     /// `NotOpen`, with the ticket, where the job isn't being received, or the ticket isn't that of the lent page.
     pub fn abort(&mut self, job: JobNumber, ticket: Option<PageTicket>) -> Result<(), AbortRefused>
-        ensures ok { OnOk result (self.new ≡ record self.old { free = self.old.pages; stored = 0; lent = 0; out = 0 }) }
-        ensures err { IfErr result (λ e. (self.new ≡ self.old) × (e.ticket ≡ ticket) × (e.refusal ≡ Refusal.NotOpen)) }
+        ensures ok { OnOk result (self.new ≡ record self.old {
+          free = self.old.pages;
+          stored = 0;
+          lent = 0;
+          out = 0;
+        }) }
+        ensures err { IfErr result (λ e. (self.new ≡ self.old) × (e.ticket ≡ ticket) × (e.refusal
+            ≡ Refusal.NotOpen)) }
     {
         let page_size = self.pool.page_size();
         match &mut self.job {
