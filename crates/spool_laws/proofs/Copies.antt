@@ -3,6 +3,7 @@ use Rattle.std.proofs.Common.{◌⊎◌, inl, inr, ◌≡◌, ℕ, zero, suc, �
 use Rattle.std.specs.Prelude.{cond, filter}
 use Rattle.std.specs.List.{list_any, flat_map}
 use Rattle.std.specs.Str.{bytes_eq}
+use Rattle.std.proofs.lemmas.List.Sums.{length-filter, count_by-le-length}
 use Rattle.spool_history.specs.Acts.{File, Page, all_pages, is_same_page, numbered, pages_among, pages_named, prints_in}
 use Rattle.spool_history.specs.Now.{Job, pages_kept, places}
 use Rattle.spool_laws.proofs.Known.{Has, clash, or_true, test}
@@ -37,14 +38,6 @@ filter_fewer : {X : Type 0} (t u : X → Bool) (xs : List X) → ((x : X) → t 
 filter_fewer t u [] up = omega arith
 filter_fewer t u (x ∷ xs) up = filter_one t u x xs (t x) (u x) refl refl (up x) (filter_fewer t u xs up)
 
-filter_within_by : {X : Type 0} (t : X → Bool) (x : X) (xs : List X) (a : Bool) → t x ≡ a → length (filter t xs) ≤ length xs → length (filter t (x ∷ xs)) ≤ length (x ∷ xs)
-filter_within_by t x xs true e ih = rw e (omega arith)
-filter_within_by t x xs false e ih = rw e (omega arith)
-
-filter_within : {X : Type 0} (t : X → Bool) (xs : List X) → length (filter t xs) ≤ length xs
-filter_within t [] = omega arith
-filter_within t (x ∷ xs) = filter_within_by t x xs (t x) refl (filter_within t xs)
-
 filter_has_by : {X : Type 0} (t : X → Bool) (x y : X) (xs : List X) (a : Bool) → t y ≡ a → t x ≡ true → (y ≡ x) ⊎ Has x xs → (Has x xs → 1 ≤ length (filter t xs)) → 1 ≤ length (filter t (y ∷ xs))
 filter_has_by t x y xs true e is has ih = rw e (omega arith)
 filter_has_by {X} t x y xs false e is has ih = rw e (elim has [
@@ -71,8 +64,10 @@ any_later t (suc n) (x ∷ xs) e = any_later t n xs (subst (λ (m : ℕ). list_a
 -- the pages that a job keeps are among the pages of its files
 pub kept_within : {C : Type 0} (v : Job C) → length (pages_kept v) ≤ pages_in v.files
 kept_within {C} v =
-    let a = filter_within (λ (page : Page C). list_any (is_same_page page) (drop v.back (places v))) (all_pages 0 v.files) in
-    let b = length_all 0 v.files in
+    let is_kept : Page C → Bool = λ page. list_any (is_same_page page) (drop v.back (places v)) in
+    let n = length-filter is_kept (all_pages 0 v.files) in
+    let le = count_by-le-length is_kept (all_pages 0 v.files) in
+    let all = length_all 0 v.files in
     omega arith
 
 -- and no more of them once one more place came back

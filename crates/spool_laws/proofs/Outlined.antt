@@ -92,7 +92,7 @@ change_in f (Removed q jobs) v = if_in (job_in f) (list_any (λ k. k == v.number
 change_in f (Started q) v = refl
 change_in f Closed v = refl
 
-keep_in : {X Y : Type 0} (g : X → Y) (b : Bool) (x : X) (xs : List X) (ys : List Y) → ys ≡ map g xs → cond b (g x ∷ ys) ys ≡ map g (cond b (x ∷ xs) xs)
+pub keep_in : {X Y : Type 0} (g : X → Y) (b : Bool) (x : X) (xs : List X) (ys : List Y) → ys ≡ map g xs → cond b (g x ∷ ys) ys ≡ map g (cond b (x ∷ xs) xs)
 keep_in g true x xs ys e = ap (λ l. g x ∷ l) e
 keep_in g false x xs ys e = e
 

@@ -16,7 +16,7 @@ use Rattle.spool_history.specs.Next.{Next, hand_first, hand_of, is_preceded_by, 
 use Rattle.spool_history.specs.Next.Next.{Hands, Nothing, Stops, Busy, Over}
 use Rattle.spool_history.specs.Legal.{progress_of}
 use Rattle.spool_laws.specs.Outline.{outline_sheet}
-use Rattle.spool_laws.proofs.Outlined.{file_in, job_in, printer_in, state_in, printer_at_in}
+use Rattle.spool_laws.proofs.Outlined.{file_in, job_in, keep_in, printer_in, state_in, printer_at_in}
 
 abbrev page_in : {A B : Type 0} → (A → B) → Page A → Page B
 page_in f x = record { file = x.file; number = x.number; page = f x.page }
@@ -82,10 +82,6 @@ all_in f n (x ∷ xs) =
 same_in : {A B : Type 0} (f : A → B) (x : Page A) (ps : List (Page A)) → list_any (is_same_page (page_in f x)) (map (page_in f) ps) ≡ list_any (is_same_page x) ps
 same_in f x [] = refl
 same_in f x (p ∷ ps) = ap (λ b. is_same_page x p || b) (same_in f x ps)
-
-keep_in : {X Y : Type 0} (g : X → Y) (b : Bool) (x : X) (xs : List X) (ys : List Y) → ys ≡ map g xs → cond b (g x ∷ ys) ys ≡ map g (cond b (x ∷ xs) xs)
-keep_in g true x xs ys e = ap (λ l. g x ∷ l) e
-keep_in g false x xs ys e = e
 
 among_in : {A B : Type 0} (f : A → B) (ps xs : List (Page A)) → pages_among (map (page_in f) ps) (map (page_in f) xs) ≡ map (page_in f) (pages_among ps xs)
 among_in f ps [] = refl
