@@ -68,6 +68,12 @@ for name in "${names[@]}"; do
         rt must-fail "$name" > "$copy/log" 2>&1
         grep 'must-fail' "$copy/log" | grep -v 'refused, as it must be' | sed 's/^rt: /not refused: /'
         refused=$((refused + $(grep -c 'refused, as it must be' "$copy/log")))
+        # Where the crate itself isn't proved, no edit is tried: the log says why.
+        told=$(grep -c 'must-fail' "$copy/log")
+        if [ "$told" -lt "$own" ]; then
+            echo "$name: $((own - told)) of $own not tried"
+            tail -n 5 "$copy/log"
+        fi
     fi
 done
 
