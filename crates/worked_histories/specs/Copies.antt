@@ -1,6 +1,6 @@
 -- Copies: one file of 11 octets, printed by two lines of its job's control file. The newest event
 -- stands first.
-use Rattle.std.specs.Prelude.{◌≡◌, ℕ, true, List, [], ◌∷◌, drop, map}
+use Rattle.std.specs.Prelude.{◌≡◌, ℕ, true, List, [], ◌∷◌, drop, length, map}
 use Rattle.lpd_values.specs.Contents.{Contents}
 use Rattle.spool_history.specs.Base.{first_base}
 use Rattle.spool_history.specs.Events.{Sheet, Progress, Event}
@@ -11,7 +11,7 @@ use Rattle.spool_history.specs.Events.Event.{OfJob, AtPrinter}
 use Rattle.spool_history.specs.Acts.{Page}
 use Rattle.spool_history.specs.Now.{now, places}
 use Rattle.spool_history.specs.Next.Next.{Hands, Nothing}
-use Rattle.spool_history.specs.Legal.{progress_of}
+use Rattle.spool_history.specs.Legal.{IsLegal, progress_of}
 use Rattle.worked_histories.specs.Rows.{small, hello, rld}
 use Rattle.worked_histories.specs.MoreRows.{received, next_of, free_of}
 use Rattle.worked_histories.specs.Refused.{IsRefused, printing}
@@ -59,6 +59,7 @@ abbrev pub said_of : List (Event (List ℕ)) → List Progress
 said_of h = map progress_of (now small first_base h).jobs
 
 pub record PrintedTwice : Type 0 where
+  pub is_legal : IsLegal length small first_base back_3
   pub places : map places (now small first_base copied).jobs
       ≡ (page_of 0 hello ∷ page_of 1 rld ∷ page_of 0 hello ∷ page_of 1 rld ∷ []) ∷ []
   pub next : map next_of (copied ∷ back_0 ∷ back_1 ∷ back_2 ∷ back_3 ∷ [])
