@@ -1,10 +1,10 @@
 //! Worked histories, entry by entry, as the plain reader reads them.
 //!
 //! A history is a configuration, a line `%%` (both may be left out) and a line for each entry: `WHO NUMBER VERB` and then
-//! up to five times `NAME VALUE`, and behind the bar what the reader says once the entry came, which has to be legal and
-//! safe. This is the count of free pages, what the first printer gets next (a page as its job and place, or a word) and
-//! the jobs that may be lent a page, as the digits of one number. An entry that may not come is `refused`, and the next
-//! line goes on without it. `state QUEUE short WORDS`, `state QUEUE long WORDS` and `removal QUEUE AGENT WORDS` are no
+//! up to five times `NAME VALUE`, and behind the bar what the reader says once the entry came, which has to leave the
+//! spool safe. This is the count of free pages, what the first printer gets next (a page as its job and place, or a word)
+//! and the jobs that may be lent a page, as the digits of one number. An entry that may not come is `refused`, and the next
+//! line goes on without it. At its end, and where it is rotated, a history has to be legal. `state QUEUE short WORDS`, `state QUEUE long WORDS` and `removal QUEUE AGENT WORDS` are no
 //! entries: behind their bar stands the text that answers them.
 //!
 //! A line `base ACCEPTED RESERVED CLOSED STOPPED ..`, of numbers and then 0 or 1 each, has the history begin from that
@@ -35,6 +35,11 @@ impl Account {
     fn state(&self, alloc: Global, config: &Config) -> Result<State, AllocError> {
         now(alloc, config, &self.base, self.entries.as_slice())
     }
+
+    /// Whether each of its entries met its conditions.
+    fn is_legal(&self, alloc: Global, config: &Config) -> Result<bool, AllocError> {
+        is_legal(alloc, config, &self.base, self.entries.as_slice())
+    }
 }
 
 /// The lines of a history, without its configuration.
@@ -61,6 +66,9 @@ pub fn history(alloc: Global, rows: &str) -> Result<Vec<u8>, AllocError> {
         let row = told_row(alloc, &config, &mut account, row)?;
         told.extend_from_slice(row.as_bytes())?;
         told.push(b'\n')?;
+    }
+    if !account.is_legal(alloc, &config)? {
+        told.extend_from_slice(b"not legal\n")?;
     }
     Ok(told)
 }
@@ -285,9 +293,6 @@ fn answer(
         return String::from_str(alloc, "refused");
     }
     account.entries.insert(0, entry)?;
-    if !is_legal(alloc, config, &account.base, account.entries.as_slice())? {
-        return String::from_str(alloc, "not legal");
-    }
     standing(alloc, config, &account.state(alloc, config)?)
 }
 
@@ -296,6 +301,9 @@ fn rotate(alloc: Global, config: &Config, account: &mut Account) -> Result<Strin
     let state = account.state(alloc, config)?;
     if !state.jobs.is_empty() || state.accepted > u128::from(u64::MAX) {
         return String::from_str(alloc, "refused");
+    }
+    if !account.is_legal(alloc, config)? {
+        return String::from_str(alloc, "not legal");
     }
     account.base = rotated(alloc, &state)?;
     account.entries.clear();
