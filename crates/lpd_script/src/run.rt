@@ -25,8 +25,8 @@ const ENOUGH: usize = 16_384;
 ///
 /// Where no such line comes, the script is empty. What is answered is the exit status: 0 when the script was run, 2
 /// where the configuration can't be used, 3 where a line of the script can't be run, 4 where memory, the input or the
-/// output failed, or where the input doesn't end in 4,294,967,295 reads. Any but 0 comes with one line for the fault,
-/// after all that was printed before it.
+/// output failed, or where the input doesn't end in 4,294,967,295 reads. Any but 0 comes with one line that names the
+/// fault, written to `faults`.
 pub fn run_input<R: OctetRead, W: OctetWrite, E: OctetWrite>(
     alloc: Global,
     input: &mut R,
