@@ -5,3 +5,5 @@ cd "$(dirname "${BASH_SOURCE[0]}")/../crates/bench_receiver"
 rt run -- run
 cd ../bench_banker
 rt run -- run
+cd ../bench_chains
+rt run -- run

@@ -1,2 +1,10 @@
-pub mod Lying
-pub mod Spent
+mod Turning
+mod Seen
+mod Rows
+mod Places
+mod Calls
+mod Draining
+mod Forgetting
+mod Dropping
+mod Returning
+mod Named

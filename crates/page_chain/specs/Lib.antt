@@ -1,4 +1,5 @@
 pub mod Files
-pub mod Runs
 pub mod Changes
+pub mod Held
+pub mod Drained
 pub mod Laws

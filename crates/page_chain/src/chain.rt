@@ -1,18 +1,23 @@
 //! The chain of the pages of one job.
 
-ghost use Rattle.std.specs.Prelude.{◌≡◌, ◌+◌, ◌<◌, ◌≤◌, ◌↔◌, true, false, [], Some, IsSome, IsTrue, IfOk, OnOk, OnErr, MatchResult, length};
-ghost use Rattle.page_chain.specs.Files.{pages_of, every_page, AreOfSize};
-ghost use Rattle.page_chain.specs.Changes.{CanBegin, RefusedFor, begun, with_page, unnamed, placed, place_at, taken, emptied};
+ghost use Rattle.std.specs.Prelude.{◌≡◌, ◌+◌, ◌<◌, ◌≤◌, ◌↔◌, ◌^◌, true, false, [], Some, IsSome, IsTrue, IfOk, OnOk, OnErr, MatchOption, MatchResult, slice_get, length};
+ghost use Rattle.page_nodes.specs.Chains.{Chains, AreOfSize, total};
+ghost use Rattle.page_chain.specs.Files.{Files, every_page, page_at};
+ghost use Rattle.page_chain.specs.Changes.{CanBegin, RefusedFor, begun, with_page, unnamed_pages, placed, next_place, taken, comes_again, last_place, IsOnlyGap, given_again, emptied};
+ghost use Rattle.page_chain.specs.Held.{Turns, Leads, HasRow, IsFreeRow, IsHeld, OnlyRow, names_in, places_left, shown};
 
+use crate::drain::{drain_files, forget};
 use crate::error::ChainError;
+use crate::place::Place;
+use crate::prints::{is_to_come, list_prints};
 use crate::run::{Run, find};
-use crate::slots::{place_named, pour};
-use lpd_values::FileName;
+use lpd_values::{FileName, MAX_FILES, MAX_PRINTS};
+use page_nodes::Nodes;
 use page_pool::{FilledPage, Pool};
 use std::alloc::{AllocError, Global};
 use std::marker::Model;
 
-/// The pages of one job.
+/// The files of one job, whose pages are in a row of the nodes: the file `i` has the chain `52 * row + i`.
 ///
 /// ```text
 ///            begin_file          end_file
@@ -21,129 +26,120 @@ use std::marker::Model;
 ///     |
 ///     | drop_unnamed: the pages of named files get places, the others go back to the pool
 ///     v
-///   places 0, 1, 2 ..  -- take(place) --> a gap at that place
+///   take ---> a page is out ---> take the next one; its page comes again? give_again before that
 /// ```
 ///
-/// A chain that is dropped spends its pages.
+/// Each file is a queue: the next place takes the page at its front, and a page that comes again goes
+/// to its end. So after a whole pass the pages are in their order again.
+#[derive(Drop)]
 pub struct Chain {
-    /// The pages by place, then those of the files in the order of their arrival.
-    slots: Vec<Option<FilledPage>>,
-    /// How many of the slots are places.
-    placed: usize,
-    /// The files whose pages have no places yet.
-    runs: Vec<Run>,
+    row: usize,
+    files: Vec<Run>,
     is_open: bool,
-    page_room: usize,
+    /// The files in print order, with repeats.
+    prints: Vec<usize>,
+    /// How many of these were printed.
+    printed: usize,
+    /// How many pages of the one that is being printed were handed out.
+    turned: usize,
+    last: Option<Place>,
     file_room: usize,
 }
 
 impl Model for Chain {
-    ghost use Rattle.std.specs.Prelude.{◌≡◌, ◌+◌, ◌≤◌, drop, take, vec_len, vec_capacity};
-    ghost use Rattle.page_chain.specs.Files.{Files};
+    ghost use Rattle.std.specs.Prelude.{◌≡◌, ◌<◌, ◌≤◌, ◌^◌, true, [], drop, vec_len, vec_capacity};
+    ghost use Rattle.page_chain.specs.Held.{Kept, CanPrint, IsOfFile};
 
-    ghost Value = { Files };
-
-    ghost use Rattle.page_chain.specs.Runs.{files_of, total, AllThere, HasLastRun};
+    ghost Value = { Kept };
 
     ghost view = { λ c. record {
-      files = files_of c.runs.items (drop c.placed c.slots.items);
+      row = c.row;
+      files = c.files.items;
       is_open = c.is_open;
-      places = take c.placed c.slots.items;
-      page_room = c.page_room;
+      prints = drop c.printed c.prints.items;
+      turned = c.turned;
+      last = c.last;
       file_room = c.file_room;
     } };
 
     ghost invariant = { λ c.
-        (c.placed + total c.runs.items ≡ vec_len c.slots)
-        × (vec_len c.slots ≤ c.page_room)
-        × (c.page_room ≤ vec_capacity c.slots)
-        × (vec_len c.runs ≤ c.file_room)
-        × (c.file_room ≤ vec_capacity c.runs)
-        × AllThere (drop c.placed c.slots.items)
-        × HasLastRun c.is_open c.runs.items };
-}
-
-impl Drop for Chain {
-    fn drop(self) {
-        let Chain {
-            slots,
-            placed: _,
-            runs: _,
-            is_open: _,
-            page_room: _,
-            file_room: _,
-        } = self;
-        surrender_all(slots);
-    }
-}
-
-/// Spends pages.
-fn surrender_all(mut slots: Vec<Option<FilledPage>>) {
-    while let Some(slot) = slots.pop() {
-        match slot {
-            Some(page) => page.unseal().surrender(),
-            None => {}
-        }
-    }
-    slots.destroy_empty();
+        (c.row < 2 ^ 32)
+        × (c.file_room ≤ 52)
+        × (vec_len c.files ≤ c.file_room)
+        × (c.file_room ≤ vec_capacity c.files)
+        × (99 ≤ vec_capacity c.prints)
+        × (c.printed ≤ vec_len c.prints)
+        × (c.is_open ≡ true → (0 < vec_len c.files) × (drop c.printed c.prints.items ≡ []))
+        × CanPrint c.files.items (drop c.printed c.prints.items) c.turned
+        × IsOfFile c.files.items c.last };
 }
 
 impl Chain {
-    /// A chain with room for so many pages and so many files.
-    pub fn with_room(alloc: Global, pages: usize, files: usize) -> Result<Chain, AllocError>
-        ensures { IfOk result (λ c. c ≡ record {
+    /// A chain with room for so many files, whose pages will be in this row of the nodes.
+    pub fn with_room(alloc: Global, row: usize, files: usize) -> Result<Chain, AllocError>
+        requires rows { row < 2 ^ 32 }
+        requires files { files ≤ 52 }
+        ensures row { IfOk result (λ c. c.row ≡ row) }
+        ensures empty { IfOk result (λ c. (nodes : Chains) → shown c nodes ≡ record {
           files = [];
           is_open = false;
           places = [];
-          page_room = pages;
+          last = None;
           file_room = files;
         }) }
+        ensures held { IfOk result (λ c. (nodes : Chains) → IsFreeRow nodes row → IsHeld c nodes) }
     {
-        let runs = Vec::with_capacity(alloc, files)?;
+        let prints = Vec::with_capacity(alloc, MAX_PRINTS)?;
         Ok(Chain {
-            slots: Vec::with_capacity(alloc, pages)?,
-            placed: 0,
-            runs,
+            row,
+            files: Vec::with_capacity(alloc, files)?,
             is_open: false,
-            page_room: pages,
+            prints,
+            printed: 0,
+            turned: 0,
+            last: None,
             file_room: files,
         })
     }
 
     /// Whether a file is open.
     pub fn is_open(&self) -> bool
-        ensures value { result ≡ self.now.is_open }
-        ensures some { result ≡ true → 0 < length self.now.files }
+        ensures { result ≡ self.now.is_open }
     {
         self.is_open
     }
 
-    /// Whether there is no room for a page.
-    pub fn is_full(&self) -> bool
-        ensures full { IsTrue result ↔ (self.now.page_room
-            ≤ length self.now.places + length (pages_of self.now.files)) }
-        ensures within { length self.now.places + length (pages_of self.now.files)
-            ≤ self.now.page_room }
+    /// Why a file of this name would be refused: a file has this name, else there is no room for a
+    /// file. None where it may begin.
+    pub fn refusal(&self, name: &FileName) -> Option<ChainError>
+        ensures { MatchOption result
+            (CanBegin (names_in self.now.files) self.now.file_room name.now)
+            (RefusedFor (names_in self.now.files) self.now.file_room name.now) }
     {
-        self.slots.len() >= self.page_room
+        if find(self.files.as_slice(), name).is_some() {
+            return Some(ChainError::NameTaken);
+        }
+        if self.files.len() == self.file_room {
+            return Some(ChainError::FilesFull);
+        }
+        None
     }
 
-    /// Begins a file, which is open then. Refused, and then nothing changes, where a file has this
-    /// name, else where there is no room for a file.
+    /// Begins a file, which is open then and has no page. Refused as `refusal` says, and then
+    /// nothing changes.
     pub fn begin_file(&mut self, name: FileName) -> Result<(), ChainError>
-        requires { self.old.is_open ≡ false }
-        ensures begun { OnOk result (self.new ≡ begun self.old name) }
-        ensures cause { MatchResult result (λ _. CanBegin self.old name)
-            (RefusedFor self.old name) }
+        requires closed { self.old.is_open ≡ false }
+        requires placed { places_left self.old.files self.old.prints self.old.turned ≡ [] }
+        ensures begun { OnOk result (Turns self.old self.new (begun name)) }
+        ensures cause { MatchResult result
+            (λ _. CanBegin (names_in self.old.files) self.old.file_room name)
+            (RefusedFor (names_in self.old.files) self.old.file_room name) }
         ensures unchanged { OnErr result (self.new ≡ self.old) }
     {
-        if find(self.runs.as_slice(), &name).is_some() {
-            return Err(ChainError::NameTaken);
+        if let Some(error) = self.refusal(&name) {
+            return Err(error);
         }
-        if self.runs.len() == self.file_room {
-            return Err(ChainError::FilesFull);
-        }
-        match self.runs.push(Run { name, pages: 0 }) {
+        match self.files.push(Run { name, pages: 0 }) {
             Ok(()) => {}
             Err(_) => unreachable!(),
         }
@@ -152,95 +148,160 @@ impl Chain {
     }
 
     /// Adds a page to the open file.
-    pub fn push(&mut self, page: FilledPage)
+    pub fn push(&mut self, nodes: &mut Nodes, page: FilledPage)
         requires opened { self.old.is_open ≡ true }
-        requires room { length self.old.places + length (pages_of self.old.files)
-            < self.old.page_room }
-        ensures { self.new ≡ record self.old { files = with_page self.old.files page } }
+        requires held { IsHeld self.old nodes.old }
+        requires room { total nodes.old.chains < nodes.old.room }
+        ensures chain { Leads self.old self.new nodes.old nodes.new
+            (record (shown self.old nodes.old) {
+              files = with_page (shown self.old nodes.old).files page;
+            }) }
+        ensures total { total nodes.new.chains ≡ total nodes.old.chains + 1 }
     {
-        match self.slots.push(Some(page)) {
-            Ok(()) => {}
-            Err(_) => unreachable!(),
-        }
-        let last = self.runs.len() - 1;
-        self.runs[last].pages += 1;
+        let last = self.files.len() - 1;
+        let key = MAX_FILES * self.row + last;
+        nodes.push(key, page);
+        self.files[last].pages = nodes.len(key);
     }
 
     /// Ends the open file.
     pub fn end_file(&mut self)
         requires { self.old.is_open ≡ true }
-        ensures { self.new ≡ record self.old { is_open = false } }
+        ensures { Turns self.old self.new (λ v. record v { is_open = false }) }
     {
         self.is_open = false; // its pages stay
     }
 
-    /// Gives the pages of the named files the next places, in the order of the list, and puts the
-    /// pages of all other files back into the pool.
-    pub fn drop_unnamed(&mut self, names: &[FileName], pool: &mut Pool)
+    /// Gives the pages of the named files places, in the order of the list and with its repeats (at
+    /// most 99 names), and puts the pages of all other files back into the pool.
+    pub fn drop_unnamed(&mut self, names: &[FileName], nodes: &mut Nodes, pool: &mut Pool)
         requires closed { self.old.is_open ≡ false }
-        requires sizes { AreOfSize pool.old.page_size (pages_of
-            (unnamed self.old.files names.now)) }
-        requires room { pool.old.free + length (pages_of (unnamed self.old.files names.now))
-            ≤ pool.old.pages }
-        ensures chain { self.new ≡ placed self.old names.now }
-        ensures pool { pool.new
-            ≡ record pool.old {
-              free = pool.old.free + length (pages_of
-                  (unnamed self.old.files names.now));
-            } }
+        requires placed { places_left self.old.files self.old.prints self.old.turned ≡ [] }
+        requires few { length names.now ≤ 99 }
+        requires held { IsHeld self.old nodes.old }
+        requires sizes { AreOfSize pool.old.page_size
+            (unnamed_pages (shown self.old nodes.old).files names.now) }
+        requires room { pool.old.free
+            + length (unnamed_pages (shown self.old nodes.old).files names.now) ≤ pool.old.pages }
+        ensures chain { Leads self.old self.new nodes.old nodes.new
+            (placed names.now (shown self.old nodes.old)) }
+        ensures pool { pool.new ≡ record pool.old {
+          free = pool.old.free + length (unnamed_pages (shown self.old nodes.old).files names.now);
+        } }
+        ensures total { total nodes.new.chains
+            + length (unnamed_pages (shown self.old nodes.old).files names.now)
+            ≡ total nodes.old.chains }
     {
-        self.placed = place_named(
-            self.slots.as_mut_slice(),
-            &mut self.runs,
-            self.placed,
-            names,
-        );
-        self.runs.clear();
-        pour(&mut self.slots, self.placed, pool);
+        list_prints(&mut self.prints, self.files.as_slice(), names);
+        self.printed = 0;
+        self.turned = 0;
+        self.last = None;
+        let kept = self.prints.as_slice();
+        drain_files(self.row, self.files.len(), kept, nodes, pool);
+        forget(self.files.as_mut_slice(), kept);
     }
 
-    /// Whether there is a page at a place.
-    pub fn is_there(&self, place: usize) -> bool
-        ensures { IsTrue result ↔ IsSome (place_at self.now.places place) }
+    /// The next place, if one is still to be handed out.
+    pub fn next_place(&self) -> Option<Place>
+        ensures { result ≡ slice_get
+            (places_left self.now.files self.now.prints self.now.turned) 0 }
     {
-        place < self.placed && self.slots[place].is_some()
+        let &file = self.prints.get(self.printed)?;
+        Some(Place {
+            file,
+            number: self.turned,
+        })
     }
 
-    /// The page at a place.
-    pub fn page(&self, place: usize) -> &FilledPage
-        requires { IsSome (place_at self.now.places place) }
-        ensures { place_at self.now.places place ≡ Some result.now }
+    /// The page of the next place.
+    pub fn page<'a>(&self, nodes: &'a Nodes) -> &'a FilledPage
+        requires some { 0 < length (shown self.now nodes.now).places }
+        requires held { IsHeld self.now nodes.now }
+        requires here { IsSome (page_at (shown self.now nodes.now).files
+            (next_place (shown self.now nodes.now))) }
+        ensures { page_at (shown self.now nodes.now).files (next_place (shown self.now nodes.now))
+            ≡ Some result.now }
     {
-        match &self.slots[place] {
-            Some(page) => page,
-            None => unreachable!(),
+        nodes.first(MAX_FILES * self.row + self.prints[self.printed])
+    }
+
+    /// Takes the page of the next place out.
+    pub fn take(&mut self, nodes: &mut Nodes) -> FilledPage
+        requires some { 0 < length (shown self.old nodes.old).places }
+        requires held { IsHeld self.old nodes.old }
+        requires here { IsSome (page_at (shown self.old nodes.old).files
+            (next_place (shown self.old nodes.old))) }
+        ensures page { page_at (shown self.old nodes.old).files
+            (next_place (shown self.old nodes.old)) ≡ Some result }
+        ensures chain { Leads self.old self.new nodes.old nodes.new
+            (taken (shown self.old nodes.old)) }
+        ensures total { total nodes.new.chains + 1 ≡ total nodes.old.chains }
+    {
+        let file = self.prints[self.printed];
+        let pages = self.files.as_slice()[file].pages;
+        let number = self.turned;
+        let page = nodes.take(MAX_FILES * self.row + file);
+        self.last = Some(Place { file, number });
+        self.turned = number + 1;
+        if self.turned == pages {
+            self.printed += 1;
+            self.turned = 0;
         }
+        page
     }
 
-    /// Takes the page at a place out. The other pages keep their places.
-    pub fn take(&mut self, place: usize) -> FilledPage
-        requires { IsSome (place_at self.old.places place) }
-        ensures page { place_at self.old.places place ≡ Some result }
-        ensures chain { self.new ≡ taken self.old place }
+    /// Whether the page of the place that was handed out last comes again: a place of the same page
+    /// is still to be handed out.
+    pub fn comes_again(&self) -> bool
+        ensures { result ≡ comes_again
+            (places_left self.now.files self.now.prints self.now.turned) self.now.last }
     {
-        let slot = &mut self.slots[place];
-        match slot.take() {
-            Some(page) => page,
+        let Some(place) = self.last else {
+            return false;
+        };
+        let prints = &self.prints.as_slice()[self.printed..];
+        is_to_come(prints, self.turned, place)
+    }
+
+    /// Gives the page of the place that was handed out last back to its file, for the places of the
+    /// same page that are still to be handed out.
+    pub fn give_again(&self, nodes: &mut Nodes, page: FilledPage)
+        requires last { IsSome self.now.last }
+        requires held { IsHeld self.now nodes.old }
+        requires gap { IsOnlyGap (shown self.now nodes.old) (last_place (shown self.now nodes.old)) }
+        requires room { total nodes.old.chains < nodes.old.room }
+        ensures chain { Leads self.now self.now nodes.old nodes.new
+            (given_again page (shown self.now nodes.old)) }
+        ensures total { total nodes.new.chains ≡ total nodes.old.chains + 1 }
+    {
+        match self.last {
+            Some(place) => nodes.push(MAX_FILES * self.row + place.file, page),
             None => unreachable!(),
         }
     }
 
     /// Puts all pages back into the pool, and ends all files.
-    pub fn drain_into(&mut self, pool: &mut Pool)
-        requires sizes { AreOfSize pool.old.page_size (every_page self.old) }
-        requires room { pool.old.free + length (every_page self.old) ≤ pool.old.pages }
-        ensures chain { self.new ≡ emptied self.old }
-        ensures pool { pool.new
-            ≡ record pool.old { free = pool.old.free + length (every_page self.old) } }
+    pub fn drain_into(&mut self, nodes: &mut Nodes, pool: &mut Pool)
+        requires held { IsHeld self.old nodes.old }
+        requires sizes { AreOfSize pool.old.page_size
+            (every_page (shown self.old nodes.old).files) }
+        requires room { pool.old.free + length (every_page (shown self.old nodes.old).files)
+            ≤ pool.old.pages }
+        ensures chain { Leads self.old self.new nodes.old nodes.new
+            (emptied (shown self.old nodes.old)) }
+        ensures free { IsFreeRow nodes.new self.old.row }
+        ensures pool { pool.new ≡ record pool.old {
+          free = pool.old.free + length (every_page (shown self.old nodes.old).files);
+        } }
+        ensures total { total nodes.new.chains
+            + length (every_page (shown self.old nodes.old).files) ≡ total nodes.old.chains }
     {
+        drain_files(self.row, self.files.len(), &[], nodes, pool);
+        self.files.clear();
         self.is_open = false;
-        self.placed = 0;
-        self.runs.clear();
-        pour(&mut self.slots, 0, pool);
+        self.prints.clear();
+        self.printed = 0;
+        self.turned = 0;
+        self.last = None;
     }
 }

@@ -1,8 +1,20 @@
 //! What holds of all chains.
 
-ghost use Rattle.page_chain.specs.Laws.{PlacesOrReturns};
+ghost use Rattle.page_chain.specs.Laws.{StaysOrReturns, EachHasPlace, OthersStay, ShowsNames};
 
-/// The pages of all files get places or go back to the pool: none is lost, and none comes twice.
+/// The pages of all files keep their places or go back to the pool: none is lost, none comes twice,
+/// and each page of a file that is printed has a place.
 pub fn places_or_returns()
-    ensures { PlacesOrReturns }
+    ensures stays_or_returns { StaysOrReturns }
+    ensures each_has_place { EachHasPlace }
+{}
+
+/// A call on one chain leaves every other as it was.
+pub fn others_stay()
+    ensures { OthersStay }
+{}
+
+/// The names of a chain's files are its own, whatever nodes hold their pages.
+pub fn shows_names()
+    ensures { ShowsNames }
 {}

@@ -1,13 +1,16 @@
-//! The pages of one job: in files while the job is being received, then by place in the order of
-//! printing.
+//! The files of one job over the nodes that all jobs share: their pages while the job is being
+//! received, then the places in the order of printing, in which a page may come again.
 #![tactic(auto)]
 
 mod chain;
+mod drain;
 mod error;
 mod laws;
+mod place;
+mod prints;
 mod run;
-mod slots;
 
 pub use chain::Chain;
 pub use error::ChainError;
-pub use laws::places_or_returns;
+pub use laws::{others_stay, places_or_returns, shows_names};
+pub use place::Place;

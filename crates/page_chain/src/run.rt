@@ -1,35 +1,26 @@
-//! A run of pages: those of one file.
+//! What a chain itself knows of a file.
 
-ghost use Rattle.std.specs.Prelude.{◌≡◌, ◌<◌, ◌^◌, IfSome, IfNone, sum_by};
-ghost use Rattle.page_chain.specs.Runs.{IsFirstNamed, HasNoneNamed, total};
+ghost use Rattle.std.specs.Prelude.{◌≡◌};
+ghost use Rattle.page_chain.specs.Changes.{number_of};
+ghost use Rattle.page_chain.specs.Held.{names_in};
 
 use lpd_values::FileName;
 
-/// A file: its name, and how many of the pages that aren't placed yet, after those of the files
-/// before it, are its own.
+/// A file: its name, and how many pages it was given.
 #[derive(Clone, Copy)]
 pub struct Run {
     pub name: FileName,
     pub pages: usize,
 }
 
-/// The place of the first file of this name.
-pub fn find(runs: &[Run], name: &FileName) -> Option<usize>
-    ensures found { IfSome result (IsFirstNamed runs.now name.now) }
-    ensures none { IfNone result (HasNoneNamed runs.now name.now) }
+/// The number of the first file of this name.
+pub fn find(files: &[Run], name: &FileName) -> Option<usize>
+    ensures { result ≡ number_of (names_in files.now) name.now }
 {
-    for i in 0..runs.len() {
-        if runs[i].name.octets() == name.octets() {
+    for i in 0..files.len() {
+        if files[i].name.octets() == name.octets() {
             return Some(i);
         }
     }
     None
-}
-
-/// How many pages these files have together.
-pub fn pages_of(runs: &[Run]) -> usize
-    requires { total runs.now < 2 ^ 64 }
-    ensures { result ≡ total runs.now }
-{
-    runs.iter().map(|run| run.pages).sum()
 }

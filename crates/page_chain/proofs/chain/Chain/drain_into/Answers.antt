@@ -1,55 +1,57 @@
-use Rattle.std.proofs.Common.{◌≡◌, ◌+◌, List, ◌++◌, length, take, drop, sym, ◌∙◌, ap, subst, arith, take-append-drop}
+use Rattle.std.proofs.Common.{◌≡◌, ℕ, ◌+◌, ◌≤◌, [], drop, length, sym, ◌∙◌, ap, subst, arith}
 use Rattle.std.proofs.lemmas.Grind.{common_steps}
-use Rattle.std.proofs.lemmas.List.{length-drop}
-use Rattle.page_pool.specs.Page.{Page}
-use Rattle.page_chain.specs.Files.{Files, kept, every_page, AreOfSize}
-use Rattle.page_chain.specs.Runs.{total, files_of}
-use Rattle.page_chain.proofs.Lying.{pages_of-files_of, kept-append}
+use Rattle.page_nodes.specs.Chains.{AreOfSize}
+use Rattle.page_chain.specs.Files.{every_page}
+use Rattle.page_chain.specs.Held.{Kept, IsHeld, shown}
+use Rattle.page_chain.specs.Drained.{dropped_in}
+use Rattle.page_chain.proofs.Dropping.{all_count, all_sized}
 use Rattle.page_chain.proofs.chain.Chain.drain_into.Goals as goal
 
-pub pour-requires-clause-sizes : goal.pour-requires-clause-sizes
-pour-requires-clause-sizes c =
+pub drain_files-requires-clause-sizes : goal.drain_files-requires-clause-sizes
+drain_files-requires-clause-sizes c = λ i lt none.
     let f = c.self.inside in
-    let slots = f.slots.items in
-    let runs = f.runs.items in
-    let rest = drop f.placed slots in
-    let t : Files = record { files = files_of runs rest; is_open = f.is_open; places = take f.placed slots; page_room = f.page_room; file_room = f.file_room } in
+    let n = c.args.nodes.now in
+    let t : Kept = record { row = f.row; files = f.files.items; is_open = f.is_open; prints = drop f.printed f.prints.items; turned = f.turned; last = f.last; file_room = f.file_room } in
     let v : t ≡ c.args.self.now = c.self.view_is in
-    let counted : f.placed + total runs ≡ length slots = grind (arith, common_steps, c.self.invariant.0) in
-    let all : kept slots ≡ every_page t =
-    ap kept (sym (take-append-drop f.placed slots)) ∙ (kept-append (take f.placed slots) rest
-    ∙ ap (λ (ps : List Page). kept (take f.placed slots) ++ ps) (sym (pages_of-files_of runs rest (let d = length-drop f.placed slots in omega arith)))) in
-    let pages : kept slots ≡ every_page c.args.self.now = all ∙ ap every_page v in
-    subst (AreOfSize c.args.pool.now.page_size) (sym pages) c.requires.sizes
+    let held = subst (λ (u : Kept). IsHeld u n) (sym v) c.requires.held in
+    let sizes = subst (λ (u : Kept). AreOfSize c.args.pool.now.page_size (every_page (shown u n).files)) (sym v) c.requires.sizes in
+    let count : c.len.result ≡ length f.files.items = grind (arith, common_steps) in
+    all_sized c.args.pool.now.page_size t n i held sizes (omega (arith, lt, count))
 
-pub pour-requires-clause-room : goal.pour-requires-clause-room
-pour-requires-clause-room c =
+pub drain_files-requires-clause-room : goal.drain_files-requires-clause-room
+drain_files-requires-clause-room c =
     let f = c.self.inside in
-    let slots = f.slots.items in
-    let runs = f.runs.items in
-    let rest = drop f.placed slots in
-    let t : Files = record { files = files_of runs rest; is_open = f.is_open; places = take f.placed slots; page_room = f.page_room; file_room = f.file_room } in
+    let n = c.args.nodes.now in
+    let t : Kept = record { row = f.row; files = f.files.items; is_open = f.is_open; prints = drop f.printed f.prints.items; turned = f.turned; last = f.last; file_room = f.file_room } in
     let v : t ≡ c.args.self.now = c.self.view_is in
-    let counted : f.placed + total runs ≡ length slots = grind (arith, common_steps, c.self.invariant.0) in
-    let all : kept slots ≡ every_page t =
-    ap kept (sym (take-append-drop f.placed slots)) ∙ (kept-append (take f.placed slots) rest
-    ∙ ap (λ (ps : List Page). kept (take f.placed slots) ++ ps) (sym (pages_of-files_of runs rest (let d = length-drop f.placed slots in omega arith)))) in
-    let pages : kept slots ≡ every_page c.args.self.now = all ∙ ap every_page v in
-    let n = ap length pages in
-    let r = c.requires.room in
-    omega (arith, n, r)
+    let held = subst (λ (u : Kept). IsHeld u n) (sym v) c.requires.held in
+    let room = subst (λ (u : Kept). c.args.pool.now.free + length (every_page (shown u n).files) ≤ c.args.pool.now.pages) (sym v) c.requires.room in
+    let count : c.len.result ≡ length f.files.items = grind (arith, common_steps) in
+    let all = all_count t n held in
+    let e = ap (dropped_in n f.row []) count in
+    omega (arith, room, all, e)
 
 pub returns-clause-pool : goal.returns-clause-pool
 returns-clause-pool c =
     let f = c.self.inside in
-    let slots = f.slots.items in
-    let runs = f.runs.items in
-    let rest = drop f.placed slots in
-    let t : Files = record { files = files_of runs rest; is_open = f.is_open; places = take f.placed slots; page_room = f.page_room; file_room = f.file_room } in
+    let n = c.args.nodes.now in
+    let t : Kept = record { row = f.row; files = f.files.items; is_open = f.is_open; prints = drop f.printed f.prints.items; turned = f.turned; last = f.last; file_room = f.file_room } in
     let v : t ≡ c.args.self.now = c.self.view_is in
-    let counted : f.placed + total runs ≡ length slots = grind (arith, common_steps, c.self.invariant.0) in
-    let all : kept slots ≡ every_page t =
-    ap kept (sym (take-append-drop f.placed slots)) ∙ (kept-append (take f.placed slots) rest
-    ∙ ap (λ (ps : List Page). kept (take f.placed slots) ++ ps) (sym (pages_of-files_of runs rest (let d = length-drop f.placed slots in omega arith)))) in
-    let pages : kept slots ≡ every_page c.args.self.now = all ∙ ap every_page v in
-    c.pour.ensures.pool ∙ ap (λ (ps : List Page). record c.args.pool.now { free = c.args.pool.now.free + length ps }) pages
+    let held = subst (λ (u : Kept). IsHeld u n) (sym v) c.requires.held in
+    let count : c.len.result ≡ length f.files.items = grind (arith, common_steps) in
+    let all = ap (dropped_in n f.row []) count ∙ all_count t n held in
+    let shown_pages = ap (λ (u : Kept). length (every_page (shown u n).files)) v in
+    c.drain_files.ensures.pool ∙ ap (λ (m : ℕ). record c.args.pool.now { free = c.args.pool.now.free + m }) (all ∙ shown_pages)
+
+pub returns-clause-total : goal.returns-clause-total
+returns-clause-total c =
+    let f = c.self.inside in
+    let n = c.args.nodes.now in
+    let t : Kept = record { row = f.row; files = f.files.items; is_open = f.is_open; prints = drop f.printed f.prints.items; turned = f.turned; last = f.last; file_room = f.file_room } in
+    let v : t ≡ c.args.self.now = c.self.view_is in
+    let held = subst (λ (u : Kept). IsHeld u n) (sym v) c.requires.held in
+    let count : c.len.result ≡ length f.files.items = grind (arith, common_steps) in
+    let all = ap (dropped_in n f.row []) count ∙ all_count t n held in
+    let shown_pages = ap (λ (u : Kept). length (every_page (shown u n).files)) v in
+    let e = c.drain_files.ensures.total in
+    omega (arith, e, all, shown_pages)

@@ -1,82 +1,152 @@
-use Rattle.std.proofs.Common.{◌≡◌, ℕ, ◌+◌, Option, List, ◌++◌, length, take, drop, sym, ◌∙◌, ap, subst, arith}
+use Rattle.std.proofs.Common.{◌≡◌, ℕ, ◌+◌, ◌<◌, ◌≤◌, false, None, List, [], filter, drop, length, sym, ◌∙◌, ap, subst, arith}
+use Rattle.std.proofs.lemmas.Bool.{both_ways}
+use Rattle.std.specs.Vec.{with_items}
 use Rattle.std.proofs.lemmas.Grind.{common_steps}
-use Rattle.std.proofs.lemmas.List.{append-nil, length-drop, take_all}
-use Rattle.page_pool.specs.Page.{Page}
-use Rattle.page_chain.specs.Files.{Files, kept, pages_of, AreOfSize}
-use Rattle.page_chain.specs.Runs.{total, files_of}
-use Rattle.page_chain.specs.Changes.{unnamed}
-use Rattle.page_chain.proofs.Lying.{pages_of-files_of, drop_past}
+use Rattle.std.proofs.lemmas.List.{with_items_is}
+use Rattle.page_nodes.specs.Chains.{AreOfSize}
+use Rattle.page_chain.specs.declared.run.Run.{Run}
+use Rattle.page_chain.specs.Changes.{is_among, numbers_of, placed, unnamed_pages}
+use Rattle.page_chain.specs.Drained.{dropped_in, left_in, runs_kept}
+use Rattle.page_chain.specs.Held.{Kept, Leads, IsHeld, CanPrint, names_in, pages_in, places_left, shown}
+use Rattle.page_chain.proofs.Forgetting.{length-runs_kept}
+use Rattle.page_chain.proofs.Places.{none_left}
+use Rattle.page_chain.proofs.Dropping.{has_page, dropped_all, dropped_are, can_print, leads}
 use Rattle.page_chain.proofs.chain.Chain.drop_unnamed.Goals as goal
 
--- a slice that was lent, back in its list
-slice_back : (slots new : List (Option Page)) (n : ℕ) → length new ≡ length slots → n ≡ length slots → take n (new ++ drop (length new) slots) ≡ new
-slice_back slots new n e f =
-    ap (λ (s : List (Option Page)). take n (new ++ s)) (drop_past slots (length new) (omega arith)) ∙ (ap (take n) (append-nil new) ∙ take_all n new (omega arith))
-
-pub pour-requires-clause-sizes : goal.pour-requires-clause-sizes
-pour-requires-clause-sizes c =
+pub drain_files-requires-clause-sizes : goal.drain_files-requires-clause-sizes
+drain_files-requires-clause-sizes c = λ i lt none.
     let f = c.self.inside in
-    let slots = f.slots.items in
-    let runs = f.runs.items in
-    let rest = drop f.placed slots in
-    let t : Files = record { files = files_of runs rest; is_open = f.is_open; places = take f.placed slots; page_room = f.page_room; file_room = f.file_room } in
-    let v : t ≡ c.args.self.now = c.self.view_is in
-    let counted : f.placed + total runs ≡ length slots = grind (arith, common_steps, c.self.invariant.0) in
+    let n = c.args.nodes.now in
     let names = c.args.names.now in
-    let new = c.place_named-self-inside.new.slots in
-    let end = c.place_named-self-inside.result in
-    let left = c.place_named-self-inside.new.runs.items in
-    let lent : c.as_mut_slice.result.now ≡ slots = c.as_mut_slice.ensures.value in
-    let same : length new ≡ length slots = c.place_named-self-inside.auto.slots ∙ ap length lent in
-    let whole : take f.slots.len (new ++ drop (length new) slots) ≡ new = slice_back slots new f.slots.len same (grind (arith, common_steps)) in
-    let others : pages_of (files_of left (drop end new)) ≡ pages_of (unnamed (files_of runs rest) names) = ap pages_of (c.place_named-self-inside.ensures.others ∙ ap (λ (s : List (Option Page)). unnamed (files_of runs (drop f.placed s)) names) lent) in
-    let lie : pages_of (files_of left (drop end new)) ≡ kept (drop end new) = pages_of-files_of left (drop end new) (let d = length-drop end new in let n = c.place_named-self-inside.ensures.counted in omega arith) in
-    let pages : kept (drop end (take f.slots.len (new ++ drop (length new) slots))) ≡ pages_of (unnamed c.args.self.now.files names) =
-    ap (λ (s : List (Option Page)). kept (drop end s)) whole ∙ (sym lie ∙ (others ∙ ap (λ (u : Files). pages_of (unnamed u.files names)) v)) in
-    subst (AreOfSize c.args.pool.now.page_size) (sym pages) c.requires.sizes
+    let prints = c.list_prints.new.prints.items in
+    let t : Kept = record { row = f.row; files = f.files.items; is_open = f.is_open; prints = drop f.printed f.prints.items; turned = f.turned; last = f.last; file_room = f.file_room } in
+    let v : t ≡ c.args.self.now = c.self.view_is in
+    let held = subst (λ (u : Kept). IsHeld u n) (sym v) c.requires.held in
+    let placed_now = subst (λ (u : Kept). places_left u.files u.prints u.turned ≡ []) (sym v) c.requires.placed in
+    let empty = none_left f.files.items (drop f.printed f.prints.items) f.turned c.self.invariant.7 placed_now in
+    let listed : prints ≡ filter (has_page f.files.items) (numbers_of (names_in f.files.items) names) =
+    subst (λ (fs : List Run). prints ≡ filter (has_page fs) (numbers_of (names_in fs) names)) c.as_slice.ensures.value c.list_prints.ensures.listed in
+    let count : c.len.result ≡ length f.files.items = grind (arith, common_steps) in
+    let kept : c.as_slice-kept.result.now ≡ prints = c.as_slice-kept.ensures.value in
+    let sizes = subst (λ (u : Kept). AreOfSize c.args.pool.now.page_size (unnamed_pages (shown u n).files names)) (sym v) c.requires.sizes in
+    dropped_are t n names prints empty held listed c.args.pool.now.page_size i sizes (omega (arith, lt, count)) (ap (λ (ps : List ℕ). is_among ps i) (sym kept) ∙ none)
 
-pub pour-requires-clause-room : goal.pour-requires-clause-room
-pour-requires-clause-room c =
+pub drain_files-requires-clause-room : goal.drain_files-requires-clause-room
+drain_files-requires-clause-room c =
     let f = c.self.inside in
-    let slots = f.slots.items in
-    let runs = f.runs.items in
-    let rest = drop f.placed slots in
-    let t : Files = record { files = files_of runs rest; is_open = f.is_open; places = take f.placed slots; page_room = f.page_room; file_room = f.file_room } in
-    let v : t ≡ c.args.self.now = c.self.view_is in
-    let counted : f.placed + total runs ≡ length slots = grind (arith, common_steps, c.self.invariant.0) in
+    let n = c.args.nodes.now in
     let names = c.args.names.now in
-    let new = c.place_named-self-inside.new.slots in
-    let end = c.place_named-self-inside.result in
-    let left = c.place_named-self-inside.new.runs.items in
-    let lent : c.as_mut_slice.result.now ≡ slots = c.as_mut_slice.ensures.value in
-    let same : length new ≡ length slots = c.place_named-self-inside.auto.slots ∙ ap length lent in
-    let whole : take f.slots.len (new ++ drop (length new) slots) ≡ new = slice_back slots new f.slots.len same (grind (arith, common_steps)) in
-    let others : pages_of (files_of left (drop end new)) ≡ pages_of (unnamed (files_of runs rest) names) = ap pages_of (c.place_named-self-inside.ensures.others ∙ ap (λ (s : List (Option Page)). unnamed (files_of runs (drop f.placed s)) names) lent) in
-    let lie : pages_of (files_of left (drop end new)) ≡ kept (drop end new) = pages_of-files_of left (drop end new) (let d = length-drop end new in let n = c.place_named-self-inside.ensures.counted in omega arith) in
-    let pages : kept (drop end (take f.slots.len (new ++ drop (length new) slots))) ≡ pages_of (unnamed c.args.self.now.files names) =
-    ap (λ (s : List (Option Page)). kept (drop end s)) whole ∙ (sym lie ∙ (others ∙ ap (λ (u : Files). pages_of (unnamed u.files names)) v)) in
-    let n = ap length pages in
-    let r = c.requires.room in
-    omega (arith, n, r)
+    let prints = c.list_prints.new.prints.items in
+    let t : Kept = record { row = f.row; files = f.files.items; is_open = f.is_open; prints = drop f.printed f.prints.items; turned = f.turned; last = f.last; file_room = f.file_room } in
+    let v : t ≡ c.args.self.now = c.self.view_is in
+    let held = subst (λ (u : Kept). IsHeld u n) (sym v) c.requires.held in
+    let placed_now = subst (λ (u : Kept). places_left u.files u.prints u.turned ≡ []) (sym v) c.requires.placed in
+    let empty = none_left f.files.items (drop f.printed f.prints.items) f.turned c.self.invariant.7 placed_now in
+    let listed : prints ≡ filter (has_page f.files.items) (numbers_of (names_in f.files.items) names) =
+    subst (λ (fs : List Run). prints ≡ filter (has_page fs) (numbers_of (names_in fs) names)) c.as_slice.ensures.value c.list_prints.ensures.listed in
+    let count : c.len.result ≡ length f.files.items = grind (arith, common_steps) in
+    let kept : c.as_slice-kept.result.now ≡ prints = c.as_slice-kept.ensures.value in
+    let room = subst (λ (u : Kept). c.args.pool.now.free + length (unnamed_pages (shown u n).files names) ≤ c.args.pool.now.pages) (sym v) c.requires.room in
+    let all = dropped_all t n names prints empty held listed in
+    let e = ap (λ (ps : List ℕ). dropped_in n f.row ps c.len.result) kept ∙ ap (dropped_in n f.row prints) count in
+    omega (arith, room, all, e)
+
+pub invariant_of-self : goal.invariant_of-self
+invariant_of-self c =
+    let f = c.self.inside in
+    let n = c.args.nodes.now in
+    let names = c.args.names.now in
+    let prints = c.list_prints.new.prints.items in
+    let t : Kept = record { row = f.row; files = f.files.items; is_open = f.is_open; prints = drop f.printed f.prints.items; turned = f.turned; last = f.last; file_room = f.file_room } in
+    let v : t ≡ c.args.self.now = c.self.view_is in
+    let held = subst (λ (u : Kept). IsHeld u n) (sym v) c.requires.held in
+    let placed_now = subst (λ (u : Kept). places_left u.files u.prints u.turned ≡ []) (sym v) c.requires.placed in
+    let empty = none_left f.files.items (drop f.printed f.prints.items) f.turned c.self.invariant.7 placed_now in
+    let listed : prints ≡ filter (has_page f.files.items) (numbers_of (names_in f.files.items) names) =
+    subst (λ (fs : List Run). prints ≡ filter (has_page fs) (numbers_of (names_in fs) names)) c.as_slice.ensures.value c.list_prints.ensures.listed in
+    let kept : c.as_slice-kept.result.now ≡ prints = c.as_slice-kept.ensures.value in
+    let forgot : c.forget.new.files ≡ runs_kept 0 prints f.files.items =
+    c.forget.ensures ∙ (ap (λ (ps : List ℕ). runs_kept 0 ps c.as_mut_slice.result.now) kept ∙ ap (runs_kept 0 prints) c.as_mut_slice.ensures.value) in
+    let size : length f.files.items ≡ f.files.len = grind (arith, common_steps) in
+    let after : (with_items f.files c.forget.new.files).items ≡ runs_kept 0 prints f.files.items =
+    with_items_is f.files c.forget.new.files (ap length forgot ∙ (length-runs_kept 0 prints f.files.items ∙ size)) ∙ forgot in
+    let i = c.self.invariant in
+    let closed = subst (λ (u : Kept). u.is_open ≡ false) (sym v) c.requires.closed in (
+      i.0,
+      i.1,
+      i.2,
+      i.3,
+      (let old = i.4 in let more = c.list_prints.ensures.capacity in omega (arith, old, more)),
+      omega arith,
+      λ is_open. absurd (both_ways f.is_open closed is_open),
+      subst (λ (fs : List Run). CanPrint fs prints 0) (sym after) (can_print t n names prints empty held listed),
+      tt,
+    )
+
+pub returns-clause-chain : goal.returns-clause-chain
+returns-clause-chain c =
+    let f = c.self.inside in
+    let n = c.args.nodes.now in
+    let names = c.args.names.now in
+    let prints = c.list_prints.new.prints.items in
+    let t : Kept = record { row = f.row; files = f.files.items; is_open = f.is_open; prints = drop f.printed f.prints.items; turned = f.turned; last = f.last; file_room = f.file_room } in
+    let v : t ≡ c.args.self.now = c.self.view_is in
+    let held = subst (λ (u : Kept). IsHeld u n) (sym v) c.requires.held in
+    let placed_now = subst (λ (u : Kept). places_left u.files u.prints u.turned ≡ []) (sym v) c.requires.placed in
+    let empty = none_left f.files.items (drop f.printed f.prints.items) f.turned c.self.invariant.7 placed_now in
+    let listed : prints ≡ filter (has_page f.files.items) (numbers_of (names_in f.files.items) names) =
+    subst (λ (fs : List Run). prints ≡ filter (has_page fs) (numbers_of (names_in fs) names)) c.as_slice.ensures.value c.list_prints.ensures.listed in
+    let kept : c.as_slice-kept.result.now ≡ prints = c.as_slice-kept.ensures.value in
+    let forgot : c.forget.new.files ≡ runs_kept 0 prints f.files.items =
+    c.forget.ensures ∙ (ap (λ (ps : List ℕ). runs_kept 0 ps c.as_mut_slice.result.now) kept ∙ ap (runs_kept 0 prints) c.as_mut_slice.ensures.value) in
+    let size : length f.files.items ≡ f.files.len = grind (arith, common_steps) in
+    let after : (with_items f.files c.forget.new.files).items ≡ runs_kept 0 prints f.files.items =
+    with_items_is f.files c.forget.new.files (ap length forgot ∙ (length-runs_kept 0 prints f.files.items ∙ size)) ∙ forgot in
+    let count : c.len.result ≡ length f.files.items = grind (arith, common_steps) in
+    let closed = subst (λ (u : Kept). u.is_open ≡ false) (sym v) c.requires.closed in
+    let left : (i : ℕ) → i < 52 → pages_in c.drain_files.new.nodes f.row i ≡ left_in n f.row prints (length f.files.items) i =
+    λ i lt. c.drain_files.ensures.kept i lt ∙ (ap (λ (ps : List ℕ). left_in n f.row ps c.len.result i) kept ∙ ap (λ (m : ℕ). left_in n f.row prints m i) count) in
+    let made = leads t n names prints empty held listed c.drain_files.new.nodes left c.drain_files.ensures.only closed in
+    subst (λ (u : Kept). Leads u (record t { files = (with_items f.files c.forget.new.files).items; prints = prints; turned = 0; last = None }) n c.drain_files.new.nodes (placed names (shown u n))) v
+    (subst (λ (fs : List Run). Leads t (record t { files = fs; prints = prints; turned = 0; last = None }) n c.drain_files.new.nodes (placed names (shown t n))) (sym after) made)
 
 pub returns-clause-pool : goal.returns-clause-pool
 returns-clause-pool c =
     let f = c.self.inside in
-    let slots = f.slots.items in
-    let runs = f.runs.items in
-    let rest = drop f.placed slots in
-    let t : Files = record { files = files_of runs rest; is_open = f.is_open; places = take f.placed slots; page_room = f.page_room; file_room = f.file_room } in
-    let v : t ≡ c.args.self.now = c.self.view_is in
-    let counted : f.placed + total runs ≡ length slots = grind (arith, common_steps, c.self.invariant.0) in
+    let n = c.args.nodes.now in
     let names = c.args.names.now in
-    let new = c.place_named-self-inside.new.slots in
-    let end = c.place_named-self-inside.result in
-    let left = c.place_named-self-inside.new.runs.items in
-    let lent : c.as_mut_slice.result.now ≡ slots = c.as_mut_slice.ensures.value in
-    let same : length new ≡ length slots = c.place_named-self-inside.auto.slots ∙ ap length lent in
-    let whole : take f.slots.len (new ++ drop (length new) slots) ≡ new = slice_back slots new f.slots.len same (grind (arith, common_steps)) in
-    let others : pages_of (files_of left (drop end new)) ≡ pages_of (unnamed (files_of runs rest) names) = ap pages_of (c.place_named-self-inside.ensures.others ∙ ap (λ (s : List (Option Page)). unnamed (files_of runs (drop f.placed s)) names) lent) in
-    let lie : pages_of (files_of left (drop end new)) ≡ kept (drop end new) = pages_of-files_of left (drop end new) (let d = length-drop end new in let n = c.place_named-self-inside.ensures.counted in omega arith) in
-    let pages : kept (drop end (take f.slots.len (new ++ drop (length new) slots))) ≡ pages_of (unnamed c.args.self.now.files names) =
-    ap (λ (s : List (Option Page)). kept (drop end s)) whole ∙ (sym lie ∙ (others ∙ ap (λ (u : Files). pages_of (unnamed u.files names)) v)) in
-    c.pour.ensures.pool ∙ ap (λ (ps : List Page). record c.args.pool.now { free = c.args.pool.now.free + length ps }) pages
+    let prints = c.list_prints.new.prints.items in
+    let t : Kept = record { row = f.row; files = f.files.items; is_open = f.is_open; prints = drop f.printed f.prints.items; turned = f.turned; last = f.last; file_room = f.file_room } in
+    let v : t ≡ c.args.self.now = c.self.view_is in
+    let held = subst (λ (u : Kept). IsHeld u n) (sym v) c.requires.held in
+    let placed_now = subst (λ (u : Kept). places_left u.files u.prints u.turned ≡ []) (sym v) c.requires.placed in
+    let empty = none_left f.files.items (drop f.printed f.prints.items) f.turned c.self.invariant.7 placed_now in
+    let listed : prints ≡ filter (has_page f.files.items) (numbers_of (names_in f.files.items) names) =
+    subst (λ (fs : List Run). prints ≡ filter (has_page fs) (numbers_of (names_in fs) names)) c.as_slice.ensures.value c.list_prints.ensures.listed in
+    let count : c.len.result ≡ length f.files.items = grind (arith, common_steps) in
+    let kept : c.as_slice-kept.result.now ≡ prints = c.as_slice-kept.ensures.value in
+    let all = dropped_all t n names prints empty held listed in
+    let e = ap (λ (ps : List ℕ). dropped_in n f.row ps c.len.result) kept ∙ ap (dropped_in n f.row prints) count in
+    let pages = ap (λ (u : Kept). length (unnamed_pages (shown u n).files names)) v in
+    c.drain_files.ensures.pool ∙ ap (λ (m : ℕ). record c.args.pool.now { free = c.args.pool.now.free + m }) (e ∙ (all ∙ pages))
+
+pub returns-clause-total : goal.returns-clause-total
+returns-clause-total c =
+    let f = c.self.inside in
+    let n = c.args.nodes.now in
+    let names = c.args.names.now in
+    let prints = c.list_prints.new.prints.items in
+    let t : Kept = record { row = f.row; files = f.files.items; is_open = f.is_open; prints = drop f.printed f.prints.items; turned = f.turned; last = f.last; file_room = f.file_room } in
+    let v : t ≡ c.args.self.now = c.self.view_is in
+    let held = subst (λ (u : Kept). IsHeld u n) (sym v) c.requires.held in
+    let placed_now = subst (λ (u : Kept). places_left u.files u.prints u.turned ≡ []) (sym v) c.requires.placed in
+    let empty = none_left f.files.items (drop f.printed f.prints.items) f.turned c.self.invariant.7 placed_now in
+    let listed : prints ≡ filter (has_page f.files.items) (numbers_of (names_in f.files.items) names) =
+    subst (λ (fs : List Run). prints ≡ filter (has_page fs) (numbers_of (names_in fs) names)) c.as_slice.ensures.value c.list_prints.ensures.listed in
+    let count : c.len.result ≡ length f.files.items = grind (arith, common_steps) in
+    let kept : c.as_slice-kept.result.now ≡ prints = c.as_slice-kept.ensures.value in
+    let all = dropped_all t n names prints empty held listed in
+    let e = ap (λ (ps : List ℕ). dropped_in n f.row ps c.len.result) kept ∙ ap (dropped_in n f.row prints) count in
+    let pages = ap (λ (u : Kept). length (unnamed_pages (shown u n).files names)) v in
+    let t2 = c.drain_files.ensures.total in
+    omega (arith, all, e, pages, t2)

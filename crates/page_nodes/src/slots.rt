@@ -1,0 +1,65 @@
+ghost use Rattle.std.specs.Prelude.{◌≡◌, ◌<◌, Some, None, IsSome, IfOk, length, slice_set, slice_index_or};
+
+use page_pool::FilledPage;
+use std::alloc::{AllocError, Global};
+
+/// So many slots with no page.
+pub fn no_pages(alloc: Global, count: usize) -> Result<Vec<Option<FilledPage>>, AllocError>
+    ensures { IfOk result (λ slots. length slots.items ≡ count) }
+{
+    let mut slots = Vec::with_capacity(alloc, count)?;
+    'slots: for _ in 0..count {
+        match slots.push(None) {
+            Ok(()) => {}
+            Err(_) => unreachable!(),
+        }
+    }
+    Ok(slots)
+}
+
+/// Puts a page into a slot; a page that was there is spent.
+pub fn fill(slots: &mut Vec<Option<FilledPage>>, slot: usize, page: FilledPage)
+    requires { slot < length slots.old.items }
+    ensures { slots.new.items ≡ slice_set slots.old.items slot (Some page) }
+{
+    let place = &mut slots[slot];
+    match place.replace(page) {
+        Some(old) => old.unseal().surrender(),
+        None => {}
+    }
+}
+
+/// The page in a slot.
+pub fn page_in(slots: &[Option<FilledPage>], slot: usize) -> &FilledPage
+    requires { IsSome (slice_index_or slots.now slot None) }
+    ensures { slice_index_or slots.now slot None ≡ Some result.now }
+{
+    match &slots[slot] {
+        Some(page) => page,
+        None => unreachable!(),
+    }
+}
+
+/// Takes the page out of a slot.
+pub fn empty(slots: &mut Vec<Option<FilledPage>>, slot: usize) -> FilledPage
+    requires { IsSome (slice_index_or slots.old.items slot None) }
+    ensures page { slice_index_or slots.old.items slot None ≡ Some result }
+    ensures slots { slots.new.items ≡ slice_set slots.old.items slot None }
+{
+    let place = &mut slots[slot];
+    match place.take() {
+        Some(page) => page,
+        None => unreachable!(),
+    }
+}
+
+/// Spends pages.
+pub fn surrender_all(mut slots: Vec<Option<FilledPage>>) {
+    'slots: while let Some(slot) = slots.pop() {
+        match slot {
+            Some(page) => page.unseal().surrender(),
+            None => {}
+        }
+    }
+    slots.destroy_empty();
+}
