@@ -15,6 +15,8 @@ use std::{fmt, io};
 pub enum Ladder {
     /// Nothing: each row can go when it is looked at.
     Flat,
+    /// Nothing, but for the first row, which needs one page and can go second.
+    Step,
     /// One page more than the row after it: only the last row that is left can go.
     Steep,
 }
@@ -22,8 +24,9 @@ pub enum Ladder {
 impl fmt::Display for Ladder {
     fn fmt<W: fmt::Write>(&self, f: &mut fmt::Formatter<W>) -> fmt::Result {
         f.write_str(match self {
-            Ladder::Flat => "best case",
-            Ladder::Steep => "worst case",
+            Ladder::Flat => "each may go",
+            Ladder::Step => "each but the first may go",
+            Ladder::Steep => "only the last may go",
         })
     }
 }
@@ -64,6 +67,7 @@ fn table_of(alloc: Global, ladder: Ladder, rows: u32) -> Result<Option<Table>, A
         let later = rows - 1 - row;
         let need = match ladder {
             Ladder::Flat => 0,
+            Ladder::Step => u32::from(row == 0),
             Ladder::Steep => later,
         };
         let claim = pages(alloc, need.saturating_add(1))?;
@@ -74,46 +78,83 @@ fn table_of(alloc: Global, ladder: Ladder, rows: u32) -> Result<Option<Table>, A
     Ok(Some(table))
 }
 
-/// How many comparisons one decision on a page takes, and how long. None where the rows can't be
-/// made.
+/// One decision: how many comparisons it takes, and how long.
+#[derive(Clone, Copy)]
+pub struct Decided {
+    pub tests: u64,
+    pub took: Duration,
+}
+
+/// The first decision on a page, and the fastest of those that follow it with the order that it
+/// kept. None where the rows can't be made.
 pub fn decide<R: AllocGlobal + Clock>(
     rt: &R,
     ladder: Ladder,
     rows: u32,
-) -> io::Result<Option<(u64, Duration)>> {
+) -> io::Result<Option<(Decided, Decided)>> {
     match table_of(rt.alloc(), ladder, rows)? {
         Some(table) => measure(rt, &table),
         None => Ok(None),
     }
 }
 
-/// How many comparisons the decision on this table takes, and how long.
-fn measure<R: AllocGlobal + Clock>(rt: &R, table: &Table) -> io::Result<Option<(u64, Duration)>> {
+/// How often the decision is made again.
+const HITS: u32 = 20;
+
+/// The first decision on this table, and the fastest of the next.
+fn measure<R: AllocGlobal + Clock>(
+    rt: &R,
+    table: &Table,
+) -> io::Result<Option<(Decided, Decided)>> {
     let mut scratch = Scratch::with_room(rt.alloc(), table.len(), table.capacity().kinds())?;
-    timed(rt, &mut scratch, table)
+    let Some(first) = timed(rt, &mut scratch, table)? else {
+        return Ok(None);
+    };
+    Ok(fastest(rt, &mut scratch, table)?.map(|next| (first, next)))
+}
+
+/// The fastest of some decisions.
+fn fastest<R: Clock>(rt: &R, scratch: &mut Scratch, table: &Table) -> io::Result<Option<Decided>>
+    requires rows { length table.now.rows ≤ scratch.old.rows }
+    requires kinds { length table.now.capacity ≡ scratch.old.kinds }
+{
+    let mut best: Option<Decided> = None;
+    for _ in 0..HITS {
+        let Some(next) = timed(rt, scratch, table)? else {
+            return Ok(None);
+        };
+        best = match best {
+            Some(best) if best.took <= next.took => Some(best),
+            _ => Some(next),
+        };
+    }
+    Ok(best)
 }
 
 /// The decision, with the clock read before and after it.
-fn timed<R: Clock>(
-    rt: &R,
-    scratch: &mut Scratch,
-    table: &Table,
-) -> io::Result<Option<(u64, Duration)>>
+fn timed<R: Clock>(rt: &R, scratch: &mut Scratch, table: &Table) -> io::Result<Option<Decided>>
     requires rows { length table.now.rows ≤ scratch.old.rows }
     requires kinds { length table.now.capacity ≡ scratch.old.kinds }
+    ensures rows { scratch.new.rows ≡ scratch.old.rows }
+    ensures kinds { scratch.new.kinds ≡ scratch.old.kinds }
 {
     let start = Instant::now(rt)?;
     let Some(verdict) = decide_last(scratch, table) else {
         return Ok(None);
     };
     let took = start.elapsed(rt)?;
-    Ok(Some((verdict.tests, took)))
+    Ok(Some(Decided {
+        tests: verdict.tests,
+        took,
+    }))
 }
 
 /// Decides whether the last row may have a page. None where it can't ask for one.
 fn decide_last(scratch: &mut Scratch, table: &Table) -> Option<Verdict>
     requires rows { length table.now.rows ≤ scratch.old.rows }
     requires kinds { length table.now.capacity ≡ scratch.old.kinds }
+    ensures rows { scratch.new.rows ≡ scratch.old.rows }
+    ensures kinds { scratch.new.kinds ≡ scratch.old.kinds }
 {
     let last = table.len().checked_sub(1)?;
     if table.capacity().kinds() == 0 || table.free().get(PAGES) == 0 {

@@ -2,3 +2,7 @@ pub mod Picks
 pub mod Turns
 pub mod Comparisons
 pub mod OneNumber
+pub mod Walks
+pub mod Keeps
+pub mod Waiting
+pub mod Carries

@@ -1,14 +1,16 @@
 -- A scan of rows has one list of turns, and the check of an order one number of comparisons.
-use Rattle.std.proofs.Common.{◌≡◌, ◌⊎◌, inl, inr, ℕ, zero, suc, ◌+◌, ◌<◌, Bool, true, false, List, [], ◌∷◌, ◌++◌, length, take, drop, drop-cons, refl, subst, ap, ap₂, sym, ◌∙◌, arith}
+use Rattle.std.proofs.Common.{◌≡◌, ◌⊎◌, inl, inr, ℕ, zero, suc, ◌+◌, ◌<◌, ◌≤◌, Bool, true, false, List, [], ◌∷◌, ◌++◌, length, take, drop, drop-cons, refl, subst, ap, ap₂, sym, ◌∙◌, arith}
 use Rattle.std.specs.Prelude.{nat_lt, remove}
+use Rattle.std.proofs.lemmas.Bool.{cases_lt}
 use Rattle.std.proofs.lemmas.Bool.Decides.{nat_tests}
 use Rattle.std.proofs.lemmas.List.{take-append-drop}
-use Rattle.counts.specs.Amounts.{Fits}
+use Rattle.counts.specs.Amounts.{amount, Fits}
 use Rattle.claims.specs.declared.row.Row.{Row}
-use Rattle.claims.specs.Claims.{Pairwise, IsLower, row_at, no_row}
+use Rattle.claims.specs.Claims.{Claims, IsTable, Pairwise, IsLower, row_at, no_row}
 use Rattle.claims.proofs.Tables.{pairwise_without}
 use Rattle.claims.specs.Safety.{freed}
 use Rattle.ordered_safety.specs.Compared.{GoesNext, AreTurns, scan_tests, ScanTakes, IsNext, CheckTakes}
+use Rattle.ordered_safety.specs.Carried.{AfterPageTakes, carried}
 use Rattle.ordered_safety.proofs.Picks.{all_get}
 
 goes_once : (free : ℕ → ℕ) (rows : List Row) (a b : ℕ) → GoesNext free rows a → GoesNext free rows b → a ≡ b
@@ -32,12 +34,19 @@ pub one_number : (free : ℕ → ℕ) (rows : List Row) (n m : ℕ) → ScanTake
 one_number free rows n m x y = x.2 ∙ (ap (scan_tests rows) (turns_once free rows x.0 y.0 x.1 y.1) ∙ sym y.2)
 
 -- numbers rise with the places
-lower_at : (rows : List Row) (i j : ℕ) → i < j → j < length rows → Pairwise IsLower rows → (row_at rows i).number < (row_at rows j).number
+pub lower_at : (rows : List Row) (i j : ℕ) → i < j → j < length rows → Pairwise IsLower rows → (row_at rows i).number < (row_at rows j).number
 lower_at [] i j lt le low = absurd (omega arith)
 lower_at (x ∷ xs) zero zero lt le low = absurd (omega arith)
 lower_at (x ∷ xs) zero (suc j) lt le low = all_get (IsLower x) xs j no_row (omega arith) low.0
 lower_at (x ∷ xs) (suc i) zero lt le low = absurd (omega arith)
 lower_at (x ∷ xs) (suc i) (suc j) lt le low = lower_at xs i j (omega arith) (omega arith) low.1
+
+-- and stay where the places are equal
+pub low_upto : (rows : List Row) (i j : ℕ) → i ≤ j → j < length rows → Pairwise IsLower rows → (row_at rows i).number ≤ (row_at rows j).number
+low_upto rows i j le lt low = elim (cases_lt i j) [
+  | inl below ↦ let l = lower_at rows i j below lt low in omega arith
+  | inr above ↦ let e : i ≡ j = omega arith in let n = ap (λ (k : ℕ). (row_at rows k).number) e in omega arith
+]
 
 next_once : (rows : List Row) (number a b : ℕ) → Pairwise IsLower rows → IsNext rows number a → IsNext rows number b → a ≡ b
 next_once rows number a b low x y = by (nat_lt a b) (nat_lt b a) refl refl
@@ -87,5 +96,20 @@ one_of_order free rows (number ∷ numbers) n m low x y = elim x [
                 omega arith
           ]
         ]
+  ]
+]
+
+-- and so has a decision on a page after a kept order
+pub one_after_page : (t : Claims) (order : List ℕ) (n m : ℕ) → IsTable t → AfterPageTakes t order n → AfterPageTakes t order m → n ≡ m
+one_after_page t order n m is x y = elim x [
+  | inl s ↦ elim y [ inl u ↦ s.1 ∙ sym u.1 | inr u ↦ absurd (u.0 s.0) ]
+  | inr s ↦ elim y [
+    | inl u ↦ absurd (s.0 u.0)
+    | inr u ↦
+        let tried = one_of_order (amount t.free) t.rows (carried t.rows order) s.1 u.1 is.rising s.4 u.4 in
+        let scanned = one_number (amount t.free) t.rows s.2 u.2 s.5 u.5 in
+        let a = s.3 in
+        let b = u.3 in
+        omega arith
   ]
 ]

@@ -9,9 +9,9 @@ use Rattle.counts.specs.Amounts.{amount, Fits}
 use Rattle.claims.specs.declared.row.Row.{Row}
 use Rattle.claims.specs.Claims.{Pairwise, IsLower, row_at, no_row, held_of}
 use Rattle.claims.proofs.Tables.{pairwise_without}
-use Rattle.claims.specs.Safety.{freed, KeepsLine, same_line, HasFinishingOrder, AreFinishing}
+use Rattle.claims.specs.Safety.{freed, KeepsLine, IsOrderOf, IsFinishingOrder, same_line, HasFinishingOrder, AreFinishing}
 use Rattle.ordered_safety.specs.Scan.{rows_at, row_of, MayGoAt, HasTurn}
-use Rattle.claims.proofs.Orders.{MayGo, GoesFirst, safe_first, safe_without, safe_more, some_first, numbers_first, numbers_more, numbers_after, number_there}
+use Rattle.claims.proofs.Orders.{all_in_order, finish_more, MayGo, GoesFirst, safe_first, safe_without, safe_more, some_first, numbers_first, numbers_more, numbers_after, number_there}
 
 abbrev pub front : List Row → List ℕ → ℕ → List Row
 front rows left at = rows_at rows (take at left)
@@ -53,7 +53,7 @@ apart x y low keeps false e = e
 apart x y low keeps true e = absurd (let k : x.number < y.number = keeps e in omega arith)
 
 -- none before x is of its line
-none_before : (a : List Row) (x : Row) (b : List Row) → Pairwise IsLower (a ++ x ∷ b) → AllByRecursion (KeepsLine x) (a ++ b) → AllByRecursion (λ y. same_line x y ≡ false) a
+pub none_before : (a : List Row) (x : Row) (b : List Row) → Pairwise IsLower (a ++ x ∷ b) → AllByRecursion (KeepsLine x) (a ++ b) → AllByRecursion (λ y. same_line x y ≡ false) a
 none_before [] x b low keeps = tt
 none_before (y ∷ a) x b low keeps = (apart x y (all_middle (IsLower y) a x b low.0) keeps.0 (same_line x y) refl, none_before a x b low.1 keeps.1)
 
@@ -139,6 +139,21 @@ none_safe rows [] free lt low none h = omega arith
 none_safe rows (i ∷ left) free lt low none h =
     let f = some_first (amount free) (row_at rows i) (rows_at rows left) h in
     none (length f.0) (may_go_at rows (i ∷ left) free f.0 f.1 f.2 f.3 low f.4)
+
+-- a row that may go, before an order of the others
+pub order_before : (rows : List Row) (left free more : List ℕ) (at : ℕ) (order : List Row) → Pairwise IsLower (rows_at rows left) → MayGoAt rows left free at → Gives free (row_of rows left at) more
+    → IsFinishingOrder (amount more) (rows_at rows (remove left at)) order → IsFinishingOrder (amount free) (rows_at rows left) (row_of rows left at ∷ order)
+order_before rows left free more at order low m gives h =
+    let a = front rows left at in
+    let b = back rows left at in
+    let x = row_of rows left at in
+    let go = may_go rows left free at low m in
+    let once : IsOrderOf (a ++ b) order = subst (λ (r : List Row). IsOrderOf r order) (rows_removed rows left at) h.each_once in
+    record {
+      each_once = (a, b, rows_split rows left at m.there, once);
+      in_line = (all_in_order (KeepsLine x) (a ++ b) order once go.in_line, h.in_line);
+      fits = (m.fits, finish_more (amount more) (freed (amount free) x) order (λ k. omega (arith, gives k)) h.fits);
+    }
 
 pub numbers_before : (rows : List Row) (left free more : List ℕ) (at : ℕ) (numbers : List ℕ) → Pairwise IsLower (rows_at rows left) → MayGoAt rows left free at → Gives free (row_of rows left at) more
     → AreFinishing (amount more) (rows_at rows (remove left at)) numbers → AreFinishing (amount free) (rows_at rows left) ((row_of rows left at).number ∷ numbers)

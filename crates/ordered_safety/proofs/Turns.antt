@@ -1,5 +1,5 @@
 -- One turn of the scan.
-use Rattle.std.proofs.Common.{◌≡◌, ℕ, suc, ◌+◌, ◌*◌, ◌<◌, ◌≤◌, Option, Some, List, [], ◌∷◌, ◌++◌, length, get_or, take, drop, subst, ap, sym, ◌∙◌, arith, append_assoc}
+use Rattle.std.proofs.Common.{◌≡◌, ℕ, suc, ◌+◌, ◌*◌, ◌<◌, ◌≤◌, Option, Some, List, [], ◌∷◌, length, get_or, take, drop, refl, subst, ap, ◌∙◌, arith}
 use Rattle.std.specs.Prelude.{IfSome, slice_index, All, remove}
 use Rattle.std.proofs.lemmas.List.{get_or_default, same_lists, length-map}
 use Rattle.std.proofs.lemmas.List.Elements.{All-get_or, All-append, All-take, All-drop}
@@ -7,9 +7,8 @@ use Rattle.counts.specs.Amounts.{amount, sum_of}
 use Rattle.counts.proofs.Sums.{amount-sum_of}
 use Rattle.claims.specs.declared.row.Row.{Row}
 use Rattle.claims.specs.Claims.{HaveKinds, row_at, no_row}
-use Rattle.claims.specs.Safety.{AreFinishing}
+use Rattle.claims.specs.Safety.{IsFinishingOrder}
 use Rattle.ordered_safety.specs.Scan.{rows_at, row_of, MayGoAt}
-use Rattle.claims.proofs.Orders.{no_rows}
 use Rattle.ordered_safety.proofs.Picks.{get_or_map, Gives}
 
 -- all places give all rows
@@ -52,12 +51,6 @@ found_at rows now left free o at e is h = subst (λ (l : List ℕ). MayGoAt rows
 pub all_removed : (P : ℕ → Type 0) (xs : List ℕ) (at : ℕ) → All P xs → All P (remove xs at)
 all_removed P xs at h = All-append P (take at xs) (drop (suc at) xs) (All-take P at xs h) (All-drop P (suc at) xs h)
 
--- a number moves from the front of the rest to the end of what is there
-pub numbers_moved : (free : ℕ → ℕ) (rows : List Row) (order pushed numbers : List ℕ) (n : ℕ) → pushed ≡ order ++ n ∷ [] → AreFinishing free rows (order ++ n ∷ numbers) → AreFinishing free rows (pushed ++ numbers)
-numbers_moved free rows order pushed numbers n e h =
-    let s : order ++ n ∷ numbers ≡ pushed ++ numbers = sym (append_assoc order (n ∷ []) numbers) ∙ ap (λ (l : List ℕ). l ++ numbers) (sym e) in
-    subst (AreFinishing free rows) s h
-
-pub none_left : (free : ℕ → ℕ) (rows : List Row) (left : List ℕ) → length left ≡ 0 → AreFinishing free (rows_at rows left) []
-none_left free rows [] e = no_rows free
+pub none_left : (free : ℕ → ℕ) (rows : List Row) (left : List ℕ) → length left ≡ 0 → IsFinishingOrder free (rows_at rows left) []
+none_left free rows [] e = record { each_once = refl; in_line = tt; fits = tt }
 none_left free rows (i ∷ left) e = absurd (omega arith)

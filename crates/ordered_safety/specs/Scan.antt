@@ -1,5 +1,5 @@
 -- What the scan keeps: places of rows that are left.
-use Rattle.std.specs.Prelude.{◌≡◌, ℕ, ◌+◌, ◌<◌, ◌^◌, false, List, slice_index, map, length}
+use Rattle.std.specs.Prelude.{◌≡◌, ℕ, ◌+◌, ◌<◌, ◌^◌, false, List, slice_index, map, length, take, count_by}
 use Rattle.counts.specs.Amounts.{amount, Fits}
 use Rattle.claims.specs.declared.row.Row.{Row}
 use Rattle.claims.specs.Claims.{row_at, held_of}
@@ -22,6 +22,15 @@ pub record MayGoAt (rows : List Row) (left : List ℕ) (free : List ℕ) (at : �
   pub there : at < length left
   pub fits : Fits (row_of rows left at).need (amount free)
   pub in_line : (j : ℕ) → j < at → same_line (row_of rows left at) (row_of rows left j) ≡ false
+
+-- how many earlier ones of these rows are of the line of the one at `at`
+abbrev pub ahead_of : List Row → ℕ → ℕ
+ahead_of rows at = count_by (same_line (row_at rows at)) (take at rows)
+
+-- these are the counts of all rows
+pub record CountsAhead (rows : List Row) (counts : List ℕ) : Type 0 where
+  pub all : length counts ≡ length rows
+  pub each : (at : ℕ) → at < length rows → slice_index counts at ≡ ahead_of rows at
 
 -- what is free and what all rows hold are amounts together
 abbrev pub StaysSmall : List ℕ → List Row → Type 0

@@ -1,16 +1,32 @@
 //! The check of an order that was given.
 
-ghost use Rattle.std.specs.Prelude.{◌≡◌, ℕ, ◌<◌, ◌≤◌, ◌^◌, ◌↔◌, IsTrue, IfSome, IfNone, length, vec_capacity, All};
+ghost use Rattle.std.specs.Prelude.{◌≡◌, ℕ, ◌<◌, ◌≤◌, ◌^◌, ◌↔◌, IsTrue, IfSome, IfNone, length, slice_index, vec_capacity, All};
 ghost use Rattle.counts.specs.Amounts.{amount};
 ghost use Rattle.claims.specs.Claims.{IsLower, Pairwise, HaveKinds};
 ghost use Rattle.claims.specs.Safety.{AreFinishing};
-ghost use Rattle.ordered_safety.specs.Scan.{HasTurn, StaysSmall};
+ghost use Rattle.ordered_safety.specs.Scan.{HasTurn, IsHead, StaysSmall};
 ghost use Rattle.ordered_safety.specs.Compared.{CheckTakes};
 
 use crate::rows::Rows;
-use crate::scan::{fill, is_head};
+use crate::scan::fill;
 use crate::scratch::Verdict;
 use counts::Counts;
+
+/// Whether none of the rows at these places is of the row's sender and queue.
+pub fn is_head(rows: &Rows, earlier: &[usize], place: usize) -> bool
+    requires here { place < length rows.now }
+    requires there { All (λ j. j < length rows.now) earlier.now }
+    ensures { IsTrue result ↔ IsHead rows.now earlier.now place }
+{
+    let row = rows.get(place);
+    for &j in earlier {
+        let other = rows.get(j);
+        if row.sender == other.sender && row.queue == other.queue {
+            return false;
+        }
+    }
+    true
+}
 
 /// Where among these places the row with this number stands, if no earlier row that is left is of
 /// its sender and queue.

@@ -3,13 +3,19 @@
 //! is this project's own).
 #![tactic(auto)]
 
+mod ahead;
+mod carry;
+mod find;
 mod follow;
+mod kept;
 mod laws;
 mod order;
 mod rows;
 mod safety;
 mod scan;
 mod scratch;
+mod trial;
+mod walk;
 
 pub use laws::tests_are_determined;
 pub use order::Order;

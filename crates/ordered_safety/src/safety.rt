@@ -1,18 +1,22 @@
 //! The decisions about a table: whether it is safe, and in which order its rows can finish.
 
-ghost use Rattle.std.specs.Prelude.{◌≡◌, ◌+◌, ◌*◌, ◌<◌, ◌≤◌, ◌^◌, ◌↔◌, false, IsTrue, IfOk, MatchOption, IfSome, IfNone, length};
+ghost use Rattle.std.specs.Prelude.{◌≡◌, ◌+◌, ◌-◌, ◌*◌, ◌<◌, ◌≤◌, ◌^◌, ◌↔◌, false, IsTrue, IfOk, MatchOption, IfSome, IfNone, length, slice_set};
 ghost use Rattle.counts.specs.Amounts.{amount};
 ghost use Rattle.claims.specs.Claims.{row_at};
 ghost use Rattle.claims.specs.Changes.{granted, granted_row};
 ghost use Rattle.claims.specs.Safety.{IsSafe, FinishesBy};
 ghost use Rattle.ordered_safety.specs.Compared.{DecisionTakes, OrderTakes};
+ghost use Rattle.ordered_safety.specs.Carried.{AfterPageTakes, StillServes, carried};
 
 use crate::follow::follow;
+use crate::kept::keep;
 use crate::order::Order;
 use crate::rows::Rows;
 use crate::scan::scan;
 use crate::scratch::{Scratch, Verdict};
+use crate::trial::{put_numbers, try_kept};
 use claims::{Row, Table};
+use counts::Counts;
 use std::alloc::{AllocError, Global};
 
 /// The kind of resource that is pages.
@@ -36,13 +40,19 @@ pub fn is_safe(scratch: &mut Scratch, table: &Table) -> Verdict
     scan(
         &rows,
         &mut scratch.left,
+        &mut scratch.ahead,
         &mut scratch.free,
-        &mut scratch.order,
+        &mut scratch.places,
     )
 }
 
 /// Whether a finishing order exists once this row holds one page more and needs one less, and one
-/// less is free. With n rows it takes at most n * (n + 1) / 2 comparisons.
+/// less is free.
+///
+/// It first tries the kept order, without the numbers that no row has now, and with the rows that
+/// it lacks last. Where n rows finish so, that takes n comparisons. Otherwise a scan follows, and
+/// both take at most n * (n + 1) / 2 + n. The order that is found is kept; where there is none, the
+/// kept one stays.
 pub fn safe_after_page(scratch: &mut Scratch, table: &Table, row: usize) -> Verdict
     requires rows { length table.now.rows ≤ scratch.old.rows }
     requires kinds { length table.now.capacity ≡ scratch.old.kinds }
@@ -50,24 +60,53 @@ pub fn safe_after_page(scratch: &mut Scratch, table: &Table, row: usize) -> Verd
     requires free { 0 < amount table.now.free PAGES }
     requires needed { 0 < amount (row_at table.now.rows row).need PAGES }
     ensures exact { IsTrue result.safe ↔ IsSafe (granted table.now row PAGES) }
-    ensures tests { DecisionTakes (granted table.now row PAGES) result.tests }
-    ensures most { 2 * result.tests ≤ length table.now.rows * (length table.now.rows + 1) }
+    ensures order { IsTrue result.safe
+        → FinishesBy (granted table.now row PAGES) scratch.new.order }
+    ensures carried { let after = granted table.now row PAGES in
+        StillServes after scratch.old.order
+        → scratch.new.order ≡ carried after.rows scratch.old.order }
+    ensures same { result.safe ≡ false → scratch.new ≡ scratch.old }
+    ensures room { scratch.new ≡ record scratch.old { order = scratch.new.order } }
+
+    ensures tests { AfterPageTakes (granted table.now row PAGES) scratch.old.order result.tests }
+    ensures few { StillServes (granted table.now row PAGES) scratch.old.order
+        → result.tests ≡ length table.now.rows }
+    ensures most { let n = length table.now.rows in 2 * result.tests ≤ n * (n + 1) + 2 * n }
     ensures each { IsTrue result.safe → length table.now.rows ≤ result.tests }
     ensures some { result.safe ≡ false → 0 < result.tests }
-    ensures kept { scratch.new ≡ scratch.old }
 {
-    let free = table.free();
-    scratch.free.copy_from(free);
-    scratch.free.set(PAGES, free.get(PAGES) - 1);
     let rows = table.rows();
     copy_with_page(&rows[row], &mut scratch.asking);
     let rows = Rows::with(rows, row, &scratch.asking);
-    scan(
+    take_page(table.free(), &mut scratch.free);
+    let tried = try_kept(
         &rows,
+        scratch.kept.as_slice(),
+        &mut scratch.met,
+        &mut scratch.places,
+        &mut scratch.numbers,
         &mut scratch.left,
         &mut scratch.free,
-        &mut scratch.order,
-    )
+    );
+    if tried.safe {
+        keep(&rows, scratch.places.as_slice(), &mut scratch.kept);
+        return tried;
+    }
+    take_page(table.free(), &mut scratch.free);
+    let scanned = scan(
+        &rows,
+        &mut scratch.left,
+        &mut scratch.ahead,
+        &mut scratch.free,
+        &mut scratch.places,
+    );
+    if scanned.safe {
+        keep(&rows, scratch.places.as_slice(), &mut scratch.kept);
+    }
+    Verdict {
+        safe: scanned.safe,
+        tests: tried.tests + scanned.tests,
+    }
 }
 
 /// Whether these are the numbers of all rows in a finishing order. It stops at the first number
@@ -115,13 +154,15 @@ pub fn find_order(
     let verdict = scan(
         &rows,
         &mut scratch.left,
+        &mut scratch.ahead,
         &mut scratch.free,
-        &mut scratch.order,
+        &mut scratch.places,
     );
     if !verdict.safe {
         return Ok((None, verdict.tests));
     }
-    let order = Order::copy_of(alloc, scratch.order.as_slice())?;
+    put_numbers(&rows, scratch.places.as_slice(), &mut scratch.numbers);
+    let order = Order::copy_of(alloc, scratch.numbers.as_slice())?;
     Ok((Some(order), verdict.tests))
 }
 
@@ -141,4 +182,14 @@ fn copy_with_page(row: &Row, asking: &mut Row)
     asking.held.set(PAGES, row.held.get(PAGES) + 1);
     asking.need.copy_from(&row.need);
     asking.need.set(PAGES, row.need.get(PAGES) - 1);
+}
+
+/// Makes `left` what is free once one page is not.
+fn take_page(free: &Counts, left: &mut Counts)
+    requires same { length free.now ≡ length left.old }
+    requires some { 0 < amount free.now PAGES }
+    ensures { left.new ≡ slice_set free.now PAGES (amount free.now PAGES - 1) }
+{
+    left.copy_from(free);
+    left.set(PAGES, free.get(PAGES) - 1);
 }

@@ -3,10 +3,11 @@
 ghost use Rattle.std.specs.Prelude.{◌≡◌, ℕ, ◌+◌, ◌*◌, ◌<◌, ◌≤◌, ◌^◌, ◌↔◌, false, IsTrue, IfSome, IfNone, length, slice_index, vec_capacity, All};
 ghost use Rattle.counts.specs.Amounts.{amount};
 ghost use Rattle.claims.specs.Claims.{IsLower, Pairwise, HaveKinds};
-ghost use Rattle.claims.specs.Safety.{HasFinishingOrder, AreFinishing};
-ghost use Rattle.ordered_safety.specs.Scan.{IsHead, MayGoAt, StaysSmall, rows_at};
+ghost use Rattle.claims.specs.Safety.{HasFinishingOrder, IsFinishingOrder};
+ghost use Rattle.ordered_safety.specs.Scan.{MayGoAt, StaysSmall, CountsAhead, rows_at};
 ghost use Rattle.ordered_safety.specs.Compared.{ScanTakes, compared};
 
+use crate::ahead::{count_ahead, count_less};
 use crate::rows::Rows;
 use crate::scratch::Verdict;
 use counts::Counts;
@@ -18,28 +19,13 @@ struct Choice {
     tests: u64,
 }
 
-/// Whether none of the rows at these places is of the row's sender and queue.
-pub fn is_head(rows: &Rows, earlier: &[usize], place: usize) -> bool
-    requires here { place < length rows.now }
-    requires there { All (λ j. j < length rows.now) earlier.now }
-    ensures { IsTrue result ↔ IsHead rows.now earlier.now place }
-{
-    let row = rows.get(place);
-    for &j in earlier {
-        let other = rows.get(j);
-        if row.sender == other.sender && row.queue == other.queue {
-            return false;
-        }
-    }
-    true
-}
-
 /// The first of these places whose row may go now: its need fits, and no earlier row that is left
 /// is of its sender and queue. It compares the needs of the rows that no earlier one of these
 /// precedes, up to the one that goes.
-fn pick(rows: &Rows, left: &[usize], free: &Counts) -> Choice
+fn pick(rows: &Rows, left: &[usize], ahead: &[u32], free: &Counts) -> Choice
     requires kinds { HaveKinds (length free.now) rows.now }
     requires there { All (λ j. j < length rows.now) left.now }
+    requires ahead { CountsAhead (rows_at rows.now left.now) ahead.now }
     requires few { length left.now < 2 ^ 32 }
     ensures found { IfSome result.at (MayGoAt rows.now left.now free.now) }
     ensures none { IfNone result.at ((at : ℕ) → MayGoAt rows.now left.now free.now at → ⊥) }
@@ -54,10 +40,9 @@ fn pick(rows: &Rows, left: &[usize], free: &Counts) -> Choice
 {
     let mut tests = 0;
     for at in 0..left.len() {
-        let place = left[at];
-        if is_head(rows, &left[..at], place) {
+        if ahead[at] == 0 {
             tests += 1;
-            if rows.get(place).need.le(free) {
+            if rows.get(left[at]).need.le(free) {
                 return Choice {
                     at: Some(at),
                     tests,
@@ -69,36 +54,48 @@ fn pick(rows: &Rows, left: &[usize], free: &Counts) -> Choice
 }
 
 /// Takes rows that may go, the first one each time, until none is left or none may go. Where all
-/// went, `order` has their numbers.
-pub fn scan(rows: &Rows, left: &mut Vec<usize>, free: &mut Counts, order: &mut Vec<u64>) -> Verdict
+/// went, `places` has their places in this order.
+pub fn scan(
+    rows: &Rows,
+    left: &mut Vec<usize>,
+    ahead: &mut Vec<u32>,
+    free: &mut Counts,
+    places: &mut Vec<usize>,
+) -> Verdict
     requires kinds { HaveKinds (length free.old) rows.now }
     requires few { length rows.now < 2 ^ 32 }
     requires small { StaysSmall free.old rows.now }
     requires rising { Pairwise IsLower rows.now }
     requires left { length rows.now ≤ vec_capacity left.old }
-    requires order { length rows.now ≤ vec_capacity order.old }
+    requires ahead { length rows.now ≤ vec_capacity ahead.old }
+    requires places { length rows.now ≤ vec_capacity places.old }
     ensures exact { IsTrue result.safe ↔ HasFinishingOrder (amount free.old) rows.now }
-    ensures order { IsTrue result.safe → AreFinishing (amount free.old) rows.now order.new.items }
+    ensures there { All (λ j. j < length rows.now) places.new.items }
+    ensures order { IsTrue result.safe → IsFinishingOrder (amount free.old) rows.now
+        (rows_at rows.now places.new.items) }
     ensures tests { ScanTakes (amount free.old) rows.now result.tests }
     ensures most { 2 * result.tests ≤ length rows.now * (length rows.now + 1) }
     ensures each { IsTrue result.safe → length rows.now ≤ result.tests }
     ensures some { result.safe ≡ false → 0 < result.tests }
     ensures left { vec_capacity left.old ≤ vec_capacity left.new }
-    ensures room { vec_capacity order.old ≤ vec_capacity order.new }
+    ensures ahead { vec_capacity ahead.old ≤ vec_capacity ahead.new }
+    ensures places { vec_capacity places.old ≤ vec_capacity places.new }
     ensures same { length free.new ≡ length free.old }
 {
     fill(left, rows.len());
-    order.clear();
+    count_ahead(rows, left.as_slice(), ahead);
+    places.clear();
     let mut tests = 0;
     'turns: while !left.is_empty() {
-        let choice = pick(rows, left.as_slice(), free);
+        let choice = pick(rows, left.as_slice(), ahead.as_slice(), free);
         tests += choice.tests;
         let Some(at) = choice.at else {
             return Verdict { safe: false, tests };
         };
-        let row = rows.get(left.remove(at));
-        free.add(&row.held);
-        order.push(row.number).unwrap();
+        count_less(rows, left.as_slice(), ahead, at);
+        let place = left.remove(at);
+        free.add(&rows.get(place).held);
+        places.push(place).unwrap();
     }
     Verdict { safe: true, tests }
 }

@@ -1,7 +1,8 @@
 //! Room for a decision, and what it answers.
 
-ghost use Rattle.std.specs.Prelude.{◌≡◌, IfOk};
+ghost use Rattle.std.specs.Prelude.{◌≡◌, [], IfOk};
 
+use crate::kept::Kept;
 use claims::Row;
 use counts::Counts;
 use std::alloc::{AllocError, Global};
@@ -17,11 +18,22 @@ pub struct Verdict {
     pub tests: u64,
 }
 
-/// Room for a decision. Contracts see for how many rows, and of how many kinds.
+/// Room for a decision, and the finishing order that `safe_after_page` found last. Contracts see
+/// for how many rows and of how many kinds there is room, and the numbers of that order.
 #[derive(Drop)]
 pub struct Scratch {
+    /// The rows of the kept order, in that order.
+    pub(crate) kept: Vec<Kept>,
+    /// Places of rows in the order that is tried, or that a scan finds.
+    pub(crate) places: Vec<usize>,
+    /// Which places the kept order has.
+    pub(crate) met: Vec<bool>,
+    /// Numbers of rows in the order of `places`.
+    pub(crate) numbers: Vec<u64>,
+    /// Places of the rows that haven't gone.
     pub(crate) left: Vec<usize>,
-    pub(crate) order: Vec<u64>,
+    /// For each of `left`, how many before it are of its sender and queue.
+    pub(crate) ahead: Vec<u32>,
     pub(crate) free: Counts,
     /// The row that a page is asked for, as it is once it has the page.
     pub(crate) asking: Row,
@@ -30,27 +42,41 @@ pub struct Scratch {
 
 impl Model for Scratch {
     ghost use Rattle.std.specs.Prelude.{◌≡◌, ◌≤◌, length, vec_capacity};
+    ghost use Rattle.ordered_safety.specs.Kept.{kept_numbers, KeepsLines};
     ghost use Rattle.ordered_safety.specs.Room.{Room};
 
     ghost Value = { Room };
 
-    ghost view = { λ s. record { rows = s.rows; kinds = length s.free } };
+    ghost view = { λ s. record {
+      rows = s.rows;
+      kinds = length s.free;
+      order = kept_numbers s.kept.items;
+    } };
 
     ghost invariant = { λ s.
-        (s.rows ≤ vec_capacity s.left)
-        × (s.rows ≤ vec_capacity s.order)
+        KeepsLines s.kept.items
+        × (s.rows ≤ vec_capacity s.kept)
+        × (s.rows ≤ vec_capacity s.places)
+        × (s.rows ≤ vec_capacity s.met)
+        × (s.rows ≤ vec_capacity s.numbers)
+        × (s.rows ≤ vec_capacity s.left)
+        × (s.rows ≤ vec_capacity s.ahead)
         × (length s.asking.held ≡ length s.free)
         × (length s.asking.need ≡ length s.free) };
 }
 
 impl Scratch {
-    /// Room for so many rows of so many kinds.
+    /// Room for so many rows of so many kinds, with no order kept.
     pub fn with_room(alloc: Global, rows: usize, kinds: usize) -> Result<Scratch, AllocError>
-        ensures { IfOk result (λ s. s ≡ record { rows = rows; kinds = kinds }) }
+        ensures { IfOk result (λ s. s ≡ record { rows = rows; kinds = kinds; order = [] }) }
     {
         Ok(Scratch {
+            kept: Vec::with_capacity(alloc, rows)?,
+            places: Vec::with_capacity(alloc, rows)?,
+            met: Vec::with_capacity(alloc, rows)?,
+            numbers: Vec::with_capacity(alloc, rows)?,
             left: Vec::with_capacity(alloc, rows)?,
-            order: Vec::with_capacity(alloc, rows)?,
+            ahead: Vec::with_capacity(alloc, rows)?,
             free: Counts::zero(alloc, kinds)?,
             asking: Row {
                 number: 0,

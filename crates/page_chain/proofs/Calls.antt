@@ -8,10 +8,10 @@ use Rattle.page_nodes.specs.Chains.{Chains, with_chain}
 use Rattle.page_chain.specs.declared.run.Run.{Run}
 use Rattle.page_chain.specs.declared.place.Place.{Place}
 use Rattle.page_chain.specs.Files.{File, file_at, no_place, page_at, with_page_at}
-use Rattle.page_chain.specs.Changes.{begun, with_page, next_place, taken, or_no_place, last_place, given_again, IsOnlyGap}
-use Rattle.page_chain.specs.Held.{Kept, Turns, Leads, IsHeld, CanPrint, IsOfFile, no_run, run_at, turned_in, padded, by_number, file_shown, pages_in, files_from, places_left, shown}
+use Rattle.page_chain.specs.Changes.{begun, with_page, next_place, taken, or_no_place, last_place, given_again, AwaitsLast, IsOnlyGap, IsReady}
+use Rattle.page_chain.specs.Held.{Kept, Turns, Leads, IsHeld, CanPrint, HasTurned, IsOfFile, no_run, run_at, turned_in, padded, by_number, file_shown, pages_in, files_from, places_left, shown}
 use Rattle.page_chain.specs.Laws.{OthersStay}
-use Rattle.page_chain.proofs.Turning.{front_is, front_some, gap_short, turned_take, turned_whole, turned_back, turned_push}
+use Rattle.page_chain.proofs.Turning.{front_is, front_some, gap_counts, gap_short, last_is_gap, turned_take, turned_whole, turned_back, turned_push}
 use Rattle.page_chain.proofs.Seen.{file_of, files_push, size_of, seen_after, seen_by_place, length-files_from, with_page_last}
 use Rattle.page_chain.proofs.Rows.{in_same, in_other, only_row, row_stays}
 use Rattle.page_chain.proofs.Places.{none_left, some_left, places_step, places_more, places_over, turned_here, turned_none, turned_other, turned_within}
@@ -338,20 +338,76 @@ pub record Front (t now : Kept) (file : ℕ) (rest : List ℕ) : Type 0 where
   pub some : t.prints ≡ [] → ⊥
   pub can : CanPrint t.files (file ∷ rest) t.turned
 
+pub front_at : (t now : Kept) (all : List ℕ) (printed file : ℕ) → t ≡ now → t.prints ≡ drop printed all → CanPrint t.files (drop printed all) t.turned
+    → printed < length all → file ≡ get_or all printed file → Front t now file (drop (printed + 1) all)
+front_at t now all printed file v e p lt read =
+    let l = length-drop printed all in
+    let rest = drop (printed + 1) all in
+    let front : drop printed all ≡ file ∷ rest =
+        drop_more all printed 0 lt ∙ ap (λ (x : ℕ). x ∷ rest) (sym (read ∙ get_or_default all printed file 0 lt)) in
+    record {
+      is = ap (λ (ps : List ℕ). record t { prints = ps }) (sym (e ∙ front)) ∙ v;
+      front = e ∙ front;
+      some = λ none. let m = ap length (sym e ∙ none) in omega (arith, m, l, lt);
+      can = subst (λ (ps : List ℕ). CanPrint t.files ps t.turned) front p;
+    }
+
 pub front_file : (t now : Kept) (all : List ℕ) (printed file : ℕ) → t ≡ now → t.prints ≡ drop printed all → CanPrint t.files (drop printed all) t.turned
     → 0 < length (places_left now.files now.prints now.turned) → file ≡ get_or all printed file → Front t now file (drop (printed + 1) all)
 front_file t now all printed file v e p some read =
     let here : 0 < length (places_left t.files (drop printed all) t.turned) =
-    subst (λ (ps : List ℕ). 0 < length (places_left t.files ps t.turned)) e (subst (λ (u : Kept). 0 < length (places_left u.files u.prints u.turned)) (sym v) some) in
+        subst (λ (ps : List ℕ). 0 < length (places_left t.files ps t.turned)) e (subst (λ (u : Kept). 0 < length (places_left u.files u.prints u.turned)) (sym v) some) in
     let more = some_left t.files (drop printed all) t.turned here in
     let l = length-drop printed all in
-    let lt : printed < length all = omega (arith, more, l) in
-    let rest = drop (printed + 1) all in
-    let front : drop printed all ≡ file ∷ rest =
-    drop_more all printed 0 lt ∙ ap (λ (x : ℕ). x ∷ rest) (sym (read ∙ get_or_default all printed file 0 lt)) in
+    front_at t now all printed file v e p (omega (arith, more, l)) read
+
+-- its page is there where a page stands at the front
+pub ready : (c : Kept) (nodes : Chains) (file : ℕ) (prints : List ℕ) → CanPrint c.files (file ∷ prints) c.turned
+    → (pages : List Page) → pages_in nodes c.row file ≡ pages → 0 < length pages → IsReady (shown (record c { prints = file ∷ prints }) nodes)
+ready c nodes file prints p [] e lt = absurd (omega arith)
+ready c nodes file prints p (page ∷ rest) e lt = record {
+  some = (let l = ap length (places_step c.files file prints c.turned p.1) in omega (arith, l));
+  here = subst (λ (o : Option Page). IsSome o) (sym (next_page_is c nodes file prints page rest p e)) refl;
+}
+
+-- the page that was handed out last is awaited where its file has one page less than it was given
+pub awaits : (c : Kept) (nodes : Chains) (place : Place) → IsHeld c nodes → CanPrint c.files c.prints c.turned → place.number < (run_at c.files place.file).pages
+    → HasTurned c.files c.prints c.turned (Some place) → c.last ≡ Some place → suc (length (pages_in nodes c.row place.file)) ≡ (run_at c.files place.file).pages
+    → AwaitsLast (shown c nodes)
+awaits c nodes place h p number turned last short =
+    let file = place.file in
+    let there = file_there c.files place number in
+    let fs = files_from nodes c.row c.prints c.turned 0 c.files in
+    let old = pages_in nodes c.row file in
+    let run = run_at c.files file in
+    let r = turned_in c.prints c.turned file in
+    let shows : file_at fs file ≡ file_shown old r run = file_of nodes c.row c.prints c.turned c.files file there in
+    let size : length (file_at fs file).pages ≡ run.pages = size_of nodes c.row c.prints c.turned c.files file in
+    let within = turned_within c.files c.prints c.turned file p in
+    let gap = last_is_gap run.pages r place.number old turned within number short in
+    let is : last_place (shown c nodes) ≡ place = ap or_no_place last in
     record {
-      is = ap (λ (ps : List ℕ). record t { prints = ps }) (sym (e ∙ front)) ∙ v;
-      front = e ∙ front;
-      some = λ none. let m = ap length (sym e ∙ none) in omega (arith, m, more);
-      can = subst (λ (ps : List ℕ). CanPrint t.files ps t.turned) front p;
+      last = subst (λ (o : Option Place). IsSome o) (sym last) refl;
+      gap = subst (IsOnlyGap (shown c nodes)) (sym is) (record {
+        out = ap (λ (x : File). get_or x.pages place.number None) shows ∙ gap.0;
+        others = λ m lt ne. subst (λ (o : Option Page). IsSome o) (sym (ap (λ (x : File). get_or x.pages m None) shows)) (gap.1 m (omega (arith, size, lt)) ne);
+      });
     }
+
+pub awaits_counts : (c : Kept) (nodes : Chains) (place : Place) (page : Page) → CanPrint c.files c.prints c.turned → place.number < (run_at c.files place.file).pages
+    → c.last ≡ Some place → AwaitsLast (shown c nodes) → suc (length (pages_in nodes c.row place.file)) ≡ (run_at c.files place.file).pages
+awaits_counts c nodes place page p number last a =
+    let file = place.file in
+    let there = file_there c.files place number in
+    let fs = files_from nodes c.row c.prints c.turned 0 c.files in
+    let old = pages_in nodes c.row file in
+    let run = run_at c.files file in
+    let r = turned_in c.prints c.turned file in
+    let shows : file_at fs file ≡ file_shown old r run = file_of nodes c.row c.prints c.turned c.files file there in
+    let size : length (file_at fs file).pages ≡ run.pages = size_of nodes c.row c.prints c.turned c.files file in
+    let within = turned_within c.files c.prints c.turned file p in
+    let is : last_place (shown c nodes) ≡ place = ap or_no_place last in
+    let g = subst (IsOnlyGap (shown c nodes)) is a.gap in
+    gap_counts run.pages r place.number old page within number
+    (ap (λ (x : File). get_or x.pages place.number None) (sym shows) ∙ g.out)
+    (λ m lt ne. subst (λ (o : Option Page). IsSome o) (ap (λ (x : File). get_or x.pages m None) shows) (g.others m (omega (arith, size, lt)) ne))

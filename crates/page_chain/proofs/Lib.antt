@@ -7,4 +7,5 @@ mod Draining
 mod Forgetting
 mod Dropping
 mod Returning
+pub mod Counting
 mod Named

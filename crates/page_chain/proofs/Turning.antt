@@ -1,5 +1,5 @@
 -- The pages of a file by number, when some of them have turned.
-use Rattle.std.proofs.Common.{◌≡◌, ℕ, zero, suc, ◌+◌, ◌-◌, ◌<◌, ◌≤◌, inl, inr, Option, Some, None, List, [], ◌∷◌, ◌++◌, length, take, drop, set, get_or, refl, sym, ◌∙◌, ap, subst, arith}
+use Rattle.std.proofs.Common.{◌≡◌, ℕ, zero, suc, ◌+◌, ◌-◌, ◌<◌, ◌≤◌, ◌⊎◌, inl, inr, Option, Some, None, List, [], ◌∷◌, ◌++◌, length, take, drop, set, get_or, refl, sym, ◌∙◌, ap, subst, arith}
 use Rattle.std.specs.Prelude.{IsSome, slice_get}
 use Rattle.std.proofs.lemmas.Bool.{cases_eq, cases_lt}
 use Rattle.std.proofs.lemmas.Option.{slice_get_past}
@@ -191,6 +191,49 @@ gap_short n r j pages page le lt out others =
     let last = gap_is_last n r j pages page a le out others in
     let w = a.within in omega (arith, last, w)
 
+-- then it has one page less than it was given
+pub gap_counts : (n r j : ℕ) (pages : List Page) (page : Page) → r ≤ n → j < n → get_or (by_number r (padded n pages)) j None ≡ None
+    → ((m : ℕ) → m < n → (m ≡ j → ⊥) → IsSome (get_or (by_number r (padded n pages)) m None)) → suc (length pages) ≡ n
+gap_counts n r j pages page le lt out others =
+    let a = at n r j le lt in
+    let last = gap_is_last n r j pages page a le out others in
+    let short = gap_short n r j pages page le lt out others in
+    elim (cases_lt (suc (length pages)) n) [
+      | inl more ↦
+          let next = numbered_at n r (suc (length pages)) le more in
+          let longer = pages ++ page ∷ [] in
+          let other : next.0 ≡ j → ⊥ = λ e.
+              let some = sym (slice_push pages page) ∙ (sym (ap (slice_get longer) last) ∙ (sym (a.reads longer) ∙ (sym (ap (λ (k : ℕ). get_or (by_number r (padded n longer)) k None) e) ∙ next.2 longer))) in
+              not_some page (sym (slice_get_past longer (suc (length pages)) (let l = length_push pages page in omega (arith, l))) ∙ sym some) in
+          absurd (not_both (get_or (by_number r (padded n pages)) next.0 None) (next.2 pages ∙ slice_get_past pages (suc (length pages)) (omega arith)) (others next.0 next.1 other))
+      | inr all ↦ omega (arith, short, all)
+    ]
+  where
+    not_some : (p : Page) → ◌≡◌ {A = Option Page} None (Some p) → ⊥
+    not_some p e = absurd cc
+
+slice_some : (xs : List Page) (k : ℕ) → k < length xs → IsSome (slice_get xs k)
+slice_some [] k lt = absurd (omega arith)
+slice_some (x ∷ xs) zero lt = refl
+slice_some (x ∷ xs) (suc k) lt = slice_some xs k (omega arith)
+
+-- a file with one page less than it was given misses the page that turned last
+pub last_is_gap : (n r number : ℕ) (pages : List Page) → (r ≡ suc number) ⊎ ((r ≡ 0) × (suc number ≡ n)) → r ≤ n → number < n → suc (length pages) ≡ n
+    → (get_or (by_number r (padded n pages)) number None ≡ None)
+    × ((m : ℕ) → m < n → (m ≡ number → ⊥) → IsSome (get_or (by_number r (padded n pages)) m None))
+unfolding at_front at_back
+last_is_gap n r number pages (inl e) le lt l =
+    ((at_front n r number le (omega (arith, e))).reads pages ∙ slice_get_past pages (n - r + number) (omega (arith, e, l, le)),
+     λ m ml ne. elim (cases_lt m r) [
+       | inl front ↦ subst (λ (o : Option Page). IsSome o) (sym ((at_front n r m le front).reads pages)) (slice_some pages (n - r + m) (omega (arith, e, l, le, front, ne)))
+       | inr back ↦ subst (λ (o : Option Page). IsSome o) (sym ((at_back n r m back ml).reads pages)) (slice_some pages (m - r) (omega (arith, e, l, le, back, ml)))
+     ])
+last_is_gap n r number pages (inr e) le lt l =
+    let z = e.0 in
+    let all = e.1 in
+    ((at_back n r number (omega (arith, z)) lt).reads pages ∙ slice_get_past pages (number - r) (omega (arith, z, all, l)),
+     λ m ml ne. subst (λ (o : Option Page). IsSome o) (sym ((at_back n r m (omega (arith, z)) ml).reads pages)) (slice_some pages (m - r) (omega (arith, z, all, l, ml, ne))))
+
 -- a page that comes back goes to the end
 pub turned_back : (n r j : ℕ) (pages : List Page) (page : Page) → r ≤ n → j < n → get_or (by_number r (padded n pages)) j None ≡ None
     → ((m : ℕ) → m < n → (m ≡ j → ⊥) → IsSome (get_or (by_number r (padded n pages)) m None))
@@ -231,7 +274,7 @@ turned_push n m pages page e f =
     ∙ (by_zero (padded (suc n) (pages ++ page ∷ [])) ∙ (padded_push n pages page e ∙ ap (λ (ps : List (Option Page)). ps ++ Some page ∷ []) (sym (by_zero (padded n pages)))))
 
 -- the pages that are there
-there-append : (a b : List (Option Page)) → there (a ++ b) ≡ there a ++ there b
+pub there-append : (a b : List (Option Page)) → there (a ++ b) ≡ there a ++ there b
 there-append [] b = refl
 there-append (None ∷ a) b = there-append a b
 there-append (Some page ∷ a) b = ap (λ (ps : List Page). page ∷ ps) (there-append a b)

@@ -75,6 +75,11 @@ placed names v = record v {
 abbrev pub next_place : Files → Place
 next_place v = slice_index_or v.places 0 no_place
 
+-- a place is still to be handed out, and its page is there
+pub record IsReady (v : Files) : Type 0 where
+  pub some : 0 < length v.places
+  pub here : IsSome (page_at v.files (next_place v))
+
 -- the chain once that place was handed out
 abbrev pub taken : Files → Files
 taken v = record v {
@@ -109,6 +114,11 @@ last_place v = or_no_place v.last
 pub record IsOnlyGap (v : Files) (place : Place) : Type 0 where
   pub out : page_at v.files place ≡ None
   pub others : (n : ℕ) → n < length (file_at v.files place.file).pages → (n ≡ place.number → ⊥) → IsSome (page_at v.files (record place { number = n }))
+
+-- the page of the place that was handed out last is the only one of its file that isn't there
+pub record AwaitsLast (v : Files) : Type 0 where
+  pub last : IsSome v.last
+  pub gap : IsOnlyGap v (last_place v)
 
 -- the chain once the page of the last place came back
 abbrev pub given_again : Page → Files → Files

@@ -1,5 +1,5 @@
 -- How a chain and the nodes together hold a job's files.
-use Rattle.std.specs.Prelude.{◌≡◌, ◌==◌, ◌-◌, ◌*◌, ℕ, zero, suc, ◌+◌, ◌<◌, ◌≤◌, Bool, true, Option, Some, None, List, [], ◌∷◌, ◌++◌, length, take, drop, map, slice_index_or, if◌then◌else◌}
+use Rattle.std.specs.Prelude.{◌≡◌, ◌==◌, ◌-◌, ◌*◌, ℕ, zero, suc, ◌+◌, ◌<◌, ◌≤◌, ◌⊎◌, Bool, true, false, Option, Some, None, List, [], ◌∷◌, ◌++◌, length, take, drop, map, slice_index_or, if◌then◌else◌}
 use Rattle.std.specs.List.{flat_map}
 use Rattle.page_pool.specs.Page.{Page}
 use Rattle.page_nodes.specs.Chains.{Chains, chain_of}
@@ -72,6 +72,13 @@ abbrev pub IsOfFile : List Run → Option Place → Type 0
 IsOfFile files None = Unit {0}
 IsOfFile files (Some place) = place.number < (run_at files place.file).pages
 
+-- where a place was handed out, its page was the last of its file that turned: in this pass, or at the end of the one before
+abbrev pub HasTurned : List Run → List ℕ → ℕ → Option Place → Type 0
+HasTurned files prints turned None = Unit {0}
+HasTurned files prints turned (Some place) =
+    (turned_in prints turned place.file ≡ suc place.number)
+    ⊎ ((turned_in prints turned place.file ≡ 0) × (suc place.number ≡ (run_at files place.file).pages))
+
 -- what is seen of a chain among the nodes
 abbrev pub shown : Kept → Chains → Files
 shown c nodes = record {
@@ -99,6 +106,12 @@ pub record IsHeld (c : Kept) (nodes : Chains) : Type 0 where
   pub fits : (i : ℕ) → i < length c.files → length (pages_in nodes c.row i) ≤ (run_at c.files i).pages
   pub whole : c.is_open ≡ true → (i : ℕ) → suc i ≡ length c.files → length (pages_in nodes c.row i) ≡ (run_at c.files i).pages
   pub beyond : (i : ℕ) → length c.files ≤ i → i < 52 → pages_in nodes c.row i ≡ []
+
+-- no file is open, no place is still to be handed out, and none was
+pub record IsIdle (c : Kept) : Type 0 where
+  pub closed : c.is_open ≡ false
+  pub placed : places_left c.files c.prints c.turned ≡ []
+  pub fresh : c.last ≡ None
 
 -- a call that changes the chains of one row, and no other
 pub record OnlyRow (old new : Chains) (row : ℕ) : Type 0 where

@@ -1,8 +1,8 @@
 -- What follows from the definitions for every chain.
-use Rattle.std.specs.Prelude.{◌≡◌, ℕ, ◌<◌, true, List, ◌++◌, length}
+use Rattle.std.specs.Prelude.{◌≡◌, ℕ, ◌<◌, ◌≤◌, true, List, ◌++◌, length}
 use Rattle.std.specs.List.{list_any}
 use Rattle.std.specs.List.Sorted.{IsPermutation}
-use Rattle.page_nodes.specs.Chains.{Chains}
+use Rattle.page_nodes.specs.Chains.{Chains, AreOfSize, total}
 use Rattle.page_chain.specs.Files.{File, every_page, file_at, names_of}
 use Rattle.page_chain.specs.Changes.{is_among, is_same_place, kept_from, numbers_of, places_of, unnamed_pages}
 use Rattle.page_chain.specs.Held.{Kept, names_in, shown, IsHeld, OnlyRow}
@@ -28,3 +28,14 @@ OthersStay =
 -- what is seen of a chain's names doesn't depend on the nodes
 abbrev pub ShowsNames : Type 0
 ShowsNames = (c : Kept) (nodes : Chains) → names_of (shown c nodes).files ≡ names_in c.files
+
+-- a chain has no more pages than all chains together
+abbrev pub AreCounted : Type 0
+AreCounted = (c : Kept) (nodes : Chains) → IsHeld c nodes → length (every_page (shown c nodes).files) ≤ total nodes.chains
+
+-- the pages that go back for a list of names are of the chain's pages: no more than these, and of their size
+abbrev pub ReturnsOfThese : Type 0
+ReturnsOfThese =
+    (files : List File) (names : List (List ℕ)) →
+    (length (unnamed_pages files names) ≤ length (every_page files))
+    × ((size : ℕ) → AreOfSize size (every_page files) → AreOfSize size (unnamed_pages files names))

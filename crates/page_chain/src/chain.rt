@@ -1,10 +1,10 @@
 //! The chain of the pages of one job.
 
-ghost use Rattle.std.specs.Prelude.{◌≡◌, ◌+◌, ◌<◌, ◌≤◌, ◌↔◌, ◌^◌, true, false, [], Some, IsSome, IsTrue, IfOk, OnOk, OnErr, MatchOption, MatchResult, slice_get, length};
+ghost use Rattle.std.specs.Prelude.{◌≡◌, ◌+◌, ◌<◌, ◌≤◌, ◌↔◌, ◌^◌, true, false, [], None, Some, IsTrue, IfOk, OnOk, OnErr, MatchOption, MatchResult, slice_get, length};
 ghost use Rattle.page_nodes.specs.Chains.{Chains, AreOfSize, total};
 ghost use Rattle.page_chain.specs.Files.{Files, every_page, page_at};
-ghost use Rattle.page_chain.specs.Changes.{CanBegin, RefusedFor, begun, with_page, unnamed_pages, placed, next_place, taken, comes_again, last_place, IsOnlyGap, given_again, emptied};
-ghost use Rattle.page_chain.specs.Held.{Turns, Leads, HasRow, IsFreeRow, IsHeld, OnlyRow, names_in, places_left, shown};
+ghost use Rattle.page_chain.specs.Changes.{CanBegin, RefusedFor, begun, with_page, unnamed_pages, placed, next_place, taken, comes_again, given_again, emptied, AwaitsLast, IsReady};
+ghost use Rattle.page_chain.specs.Held.{Turns, Leads, HasRow, IsFreeRow, IsHeld, IsIdle, OnlyRow, names_in, places_left, shown};
 
 use crate::drain::{drain_files, forget};
 use crate::error::ChainError;
@@ -47,8 +47,8 @@ pub struct Chain {
 }
 
 impl Model for Chain {
-    ghost use Rattle.std.specs.Prelude.{◌≡◌, ◌<◌, ◌≤◌, ◌^◌, true, [], drop, vec_len, vec_capacity};
-    ghost use Rattle.page_chain.specs.Held.{Kept, CanPrint, IsOfFile};
+    ghost use Rattle.std.specs.Prelude.{◌≡◌, ◌<◌, ◌≤◌, ◌^◌, true, None, [], drop, vec_len, vec_capacity};
+    ghost use Rattle.page_chain.specs.Held.{Kept, CanPrint, HasTurned, IsOfFile};
 
     ghost Value = { Kept };
 
@@ -69,9 +69,11 @@ impl Model for Chain {
         × (c.file_room ≤ vec_capacity c.files)
         × (99 ≤ vec_capacity c.prints)
         × (c.printed ≤ vec_len c.prints)
-        × (c.is_open ≡ true → (0 < vec_len c.files) × (drop c.printed c.prints.items ≡ []))
+        × (c.is_open ≡ true → (0 < vec_len c.files)
+            × (drop c.printed c.prints.items ≡ []) × (c.last ≡ None))
         × CanPrint c.files.items (drop c.printed c.prints.items) c.turned
-        × IsOfFile c.files.items c.last };
+        × IsOfFile c.files.items c.last
+        × HasTurned c.files.items (drop c.printed c.prints.items) c.turned c.last };
 }
 
 impl Chain {
@@ -109,6 +111,16 @@ impl Chain {
         self.is_open
     }
 
+    /// Whether no file is open, no place is still to be handed out, and none was.
+    pub fn is_idle(&self) -> bool
+        ensures { IsTrue result ↔ IsIdle self.now }
+    {
+        if self.is_open || self.last.is_some() {
+            return false;
+        }
+        self.printed == self.prints.len()
+    }
+
     /// Why a file of this name would be refused: a file has this name, else there is no room for a
     /// file. None where it may begin.
     pub fn refusal(&self, name: &FileName) -> Option<ChainError>
@@ -128,8 +140,7 @@ impl Chain {
     /// Begins a file, which is open then and has no page. Refused as `refusal` says, and then
     /// nothing changes.
     pub fn begin_file(&mut self, name: FileName) -> Result<(), ChainError>
-        requires closed { self.old.is_open ≡ false }
-        requires placed { places_left self.old.files self.old.prints self.old.turned ≡ [] }
+        requires { IsIdle self.old }
         ensures begun { OnOk result (Turns self.old self.new (begun name)) }
         ensures cause { MatchResult result
             (λ _. CanBegin (names_in self.old.files) self.old.file_room name)
@@ -175,8 +186,7 @@ impl Chain {
     /// Gives the pages of the named files places, in the order of the list and with its repeats (at
     /// most 99 names), and puts the pages of all other files back into the pool.
     pub fn drop_unnamed(&mut self, names: &[FileName], nodes: &mut Nodes, pool: &mut Pool)
-        requires closed { self.old.is_open ≡ false }
-        requires placed { places_left self.old.files self.old.prints self.old.turned ≡ [] }
+        requires idle { IsIdle self.old }
         requires few { length names.now ≤ 99 }
         requires held { IsHeld self.old nodes.old }
         requires sizes { AreOfSize pool.old.page_size
@@ -213,12 +223,21 @@ impl Chain {
         })
     }
 
+    /// Whether a place is still to be handed out and its page is there.
+    pub fn is_ready(&self, nodes: &Nodes) -> bool
+        requires { IsHeld self.now nodes.now }
+        ensures { IsTrue result ↔ IsReady (shown self.now nodes.now) }
+    {
+        match self.prints.get(self.printed) {
+            Some(&file) => nodes.len(MAX_FILES * self.row + file) > 0,
+            None => false,
+        }
+    }
+
     /// The page of the next place.
     pub fn page<'a>(&self, nodes: &'a Nodes) -> &'a FilledPage
-        requires some { 0 < length (shown self.now nodes.now).places }
         requires held { IsHeld self.now nodes.now }
-        requires here { IsSome (page_at (shown self.now nodes.now).files
-            (next_place (shown self.now nodes.now))) }
+        requires ready { IsReady (shown self.now nodes.now) }
         ensures { page_at (shown self.now nodes.now).files (next_place (shown self.now nodes.now))
             ≡ Some result.now }
     {
@@ -227,10 +246,8 @@ impl Chain {
 
     /// Takes the page of the next place out.
     pub fn take(&mut self, nodes: &mut Nodes) -> FilledPage
-        requires some { 0 < length (shown self.old nodes.old).places }
         requires held { IsHeld self.old nodes.old }
-        requires here { IsSome (page_at (shown self.old nodes.old).files
-            (next_place (shown self.old nodes.old))) }
+        requires ready { IsReady (shown self.old nodes.old) }
         ensures page { page_at (shown self.old nodes.old).files
             (next_place (shown self.old nodes.old)) ≡ Some result }
         ensures chain { Leads self.old self.new nodes.old nodes.new
@@ -263,12 +280,26 @@ impl Chain {
         is_to_come(prints, self.turned, place)
     }
 
+    /// Whether the page of the place that was handed out last is the only one of its file that isn't
+    /// there, so that it can be given again.
+    pub fn awaits_last(&self, nodes: &Nodes) -> bool
+        requires { IsHeld self.now nodes.now }
+        ensures { IsTrue result ↔ AwaitsLast (shown self.now nodes.now) }
+    {
+        match self.last {
+            Some(place) => {
+                let pages = self.files.as_slice()[place.file].pages;
+                nodes.len(MAX_FILES * self.row + place.file) == pages - 1
+            }
+            None => false,
+        }
+    }
+
     /// Gives the page of the place that was handed out last back to its file, for the places of the
     /// same page that are still to be handed out.
     pub fn give_again(&self, nodes: &mut Nodes, page: FilledPage)
-        requires last { IsSome self.now.last }
         requires held { IsHeld self.now nodes.old }
-        requires gap { IsOnlyGap (shown self.now nodes.old) (last_place (shown self.now nodes.old)) }
+        requires awaited { AwaitsLast (shown self.now nodes.old) }
         requires room { total nodes.old.chains < nodes.old.room }
         ensures chain { Leads self.now self.now nodes.old nodes.new
             (given_again page (shown self.now nodes.old)) }

@@ -12,5 +12,5 @@ mod run;
 
 pub use chain::Chain;
 pub use error::ChainError;
-pub use laws::{others_stay, places_or_returns, shows_names};
+pub use laws::{others_stay, pages_are_counted, places_or_returns, shows_names};
 pub use place::Place;

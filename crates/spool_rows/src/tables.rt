@@ -157,28 +157,58 @@ fn read_order(alloc: Global, text: &str) -> Result<Order, AllocError> {
     Order::copy_of(alloc, numbers.as_slice())
 }
 
-/// Whether one page more for the second row is safe.
-pub fn page(alloc: Global, asked: &str) -> Result<Vec<u8>, AllocError> {
-    let table = read_table(alloc, asked)?;
-    let mut scratch = Scratch::with_room(alloc, table.len(), table.capacity().kinds())?;
-    match second_page(&mut scratch, &table) {
-        Some(verdict) => show_verdict(alloc, verdict),
-        None => Vec::from_slice(alloc, b"no page"),
+/// The most rows of a table on whose pages is decided.
+const ROWS: usize = 8;
+
+/// Decisions on a page for the second row of one table after another.
+#[derive(Drop)]
+struct Pages {
+    scratch: Scratch,
+    ghost rows: { scratch.rows ≡ 8 },
+    ghost kinds: { scratch.kinds ≡ 2 },
+}
+
+impl Pages {
+    fn new(alloc: Global) -> Result<Pages, AllocError> {
+        Ok(Pages {
+            scratch: Scratch::with_room(alloc, ROWS, 2)?,
+        })
+    }
+
+    /// What is decided on a page for the second row. None where it may not be asked.
+    fn decide(&mut self, table: &Table) -> Option<Verdict> {
+        let rows = table.len();
+        if rows < 2 || rows > ROWS || table.capacity().kinds() != 2 {
+            return None;
+        }
+        if table.free().get(PAGES) == 0 || table.rows()[1].need.get(PAGES) == 0 {
+            return None;
+        }
+        Some(safe_after_page(&mut self.scratch, table, 1))
     }
 }
 
-/// What is decided on a page for the second row. None where it may not be asked.
-fn second_page(scratch: &mut Scratch, table: &Table) -> Option<Verdict>
-    requires rows { length table.now.rows ≤ scratch.old.rows }
-    requires kinds { length table.now.capacity ≡ scratch.old.kinds }
-{
-    if table.len() < 2 || table.capacity().kinds() == 0 || table.free().get(PAGES) == 0 {
-        return None;
+/// Whether one page more for the second row is safe, in each of the tables that stand between `;`,
+/// with one scratch for all.
+pub fn page(alloc: Global, asked: &str) -> Result<Vec<u8>, AllocError> {
+    let mut pages = Pages::new(alloc)?;
+    let mut shown = Vec::new(alloc);
+    for text in asked.split("; ") {
+        if !shown.is_empty() {
+            shown.extend_from_slice(b"; ")?;
+        }
+        let table = read_table(alloc, text)?;
+        let answer = show_page(alloc, pages.decide(&table))?;
+        shown.extend_from_slice(answer.as_slice())?;
     }
-    if table.rows()[1].need.get(PAGES) == 0 {
-        return None;
+    Ok(shown)
+}
+
+fn show_page(alloc: Global, decided: Option<Verdict>) -> Result<Vec<u8>, AllocError> {
+    match decided {
+        Some(verdict) => show_verdict(alloc, verdict),
+        None => Vec::from_slice(alloc, b"no page"),
     }
-    Some(safe_after_page(scratch, table, 1))
 }
 
 /// Asks for a sum of two amounts, and shows what comes of it.

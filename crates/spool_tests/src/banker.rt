@@ -1,6 +1,6 @@
 //! The claims of jobs as they change, and the decision whether all can finish beside a trial of all orders.
 
-ghost use Rattle.std.specs.Prelude.{◌<◌};
+ghost use Rattle.std.specs.Prelude.{◌≡◌, ◌<◌};
 
 use crate::rows::{expect, sides};
 use claims::{OpenError, Row, Table};
@@ -52,7 +52,10 @@ fn read_counts(alloc: Global, text: &str) -> Result<Counts, AllocError> {
 
 /// Asks for a row with the greatest number.
 fn open(table: &mut Table, sender: u32, need: &Counts) -> Result<(), OpenError> {
-    let number = (table.len() as u64).saturating_add(1);
+    let number = match table.rows().last() {
+        Some(row) => row.number.saturating_add(1),
+        None => 1,
+    };
     let fresh = table.rows().iter().all(|row| row.number < number);
     if !fresh || need.kinds() != table.capacity().kinds() {
         return Err(OpenError::Full);
@@ -179,21 +182,71 @@ fn decided(alloc: Global, table: &Table) -> Result<Verdict, AllocError> {
     Ok(is_safe(&mut scratch, table))
 }
 
-/// What is decided on a page for the row. None where it may not be asked.
-fn decided_after_page(
-    alloc: Global,
-    table: &Table,
-    row: usize,
-) -> Result<Option<Verdict>, AllocError> {
-    if row >= table.len()
-        || table.capacity().kinds() == 0
-        || table.free().get(PAGES) == 0
-        || table.rows()[row].need.get(PAGES) == 0
-    {
-        return Ok(None);
+/// The most rows of a table whose page is decided on.
+const ROWS: usize = 4;
+
+/// A scratch, and the order that it has to keep.
+#[derive(Drop)]
+struct Memory {
+    scratch: Scratch,
+    order: Vec<u64>,
+    ghost rows: { scratch.rows ≡ 4 },
+    ghost kinds: { scratch.kinds ≡ 2 },
+}
+
+impl Memory {
+    fn new(alloc: Global) -> Result<Memory, AllocError> {
+        Ok(Memory {
+            scratch: Scratch::with_room(alloc, ROWS, 2)?,
+            order: Vec::new(alloc),
+        })
     }
-    let mut scratch = Scratch::with_room(alloc, table.len(), table.capacity().kinds())?;
-    Ok(Some(safe_after_page(&mut scratch, table, row)))
+
+    /// What is decided on a page for the row. None where it may not be asked.
+    fn decide(&mut self, table: &Table, row: usize) -> Option<Verdict> {
+        if row >= table.len() || table.len() > ROWS || table.capacity().kinds() != 2 {
+            return None;
+        }
+        if table.free().get(PAGES) == 0 || table.rows()[row].need.get(PAGES) == 0 {
+            return None;
+        }
+        Some(safe_after_page(&mut self.scratch, table, row))
+    }
+
+    /// What has to be decided about this table, which has the page: once for each row where the
+    /// carried order is a finishing order, otherwise as the check of it and a scan after it.
+    fn expect(&mut self, alloc: Global, table: &Table) -> Result<Verdict, AllocError> {
+        let order = carried(alloc, table, self.order.as_slice())?;
+        let tried = checked(alloc, table, order.as_slice())?;
+        if tried.safe {
+            self.order = order;
+            let tests = table.len() as u64;
+            return Ok(Verdict { safe: true, tests });
+        }
+        let (found, tests) = found(alloc, table)?;
+        let safe = found.is_some();
+        if let Some(order) = found {
+            self.order = order.as_slice().to_vec(alloc)?;
+        }
+        let tests = tests.saturating_add(tried.tests);
+        Ok(Verdict { safe, tests })
+    }
+}
+
+/// The numbers of an order that a row has, and after them those of the other rows.
+fn carried(alloc: Global, table: &Table, order: &[u64]) -> Result<Vec<u64>, AllocError> {
+    let mut numbers = Vec::new(alloc);
+    for &number in order {
+        if table.position(number).is_some() {
+            numbers.push(number)?;
+        }
+    }
+    for row in table.rows() {
+        if !order.contains(&row.number) {
+            numbers.push(row.number)?;
+        }
+    }
+    Ok(numbers)
 }
 
 fn checked(alloc: Global, table: &Table, numbers: &[u64]) -> Result<Verdict, AllocError> {
@@ -379,28 +432,37 @@ fn scan_agrees(alloc: Global, free: [u32; 2], claims: &[Claim]) -> Result<bool, 
     )
 }
 
-/// Whether a decision on a page for a row is the one on the table that has it.
+/// Whether the decisions on a page for a row, twice, are those on the table that has it.
 fn page_agrees(
     alloc: Global,
+    memory: &mut Memory,
     free: [u32; 2],
     claims: &[Claim],
     row: usize,
 ) -> Result<bool, AllocError> {
-    let mut table = table_of(alloc, free, claims)?;
-    let asked = decided_after_page(alloc, &table, row)?;
-    let granted = grant(&mut table, row, PAGES);
-    let after = decided(alloc, &table)?;
-    Ok(match asked {
-        Some(asked) => granted && asked == after,
-        None => !granted,
-    })
+    let table = table_of(alloc, free, claims)?;
+    let mut after = table_of(alloc, free, claims)?;
+    let granted = grant(&mut after, row, PAGES);
+    let mut agrees = true;
+    for _ in 0..2 {
+        agrees &= match memory.decide(&table, row) {
+            Some(verdict) => granted && verdict == memory.expect(alloc, &after)?,
+            None => !granted,
+        };
+    }
+    Ok(agrees)
 }
 
 /// Whether both comparisons agree on a table.
-fn agrees(alloc: Global, free: [u32; 2], claims: &[Claim]) -> Result<bool, AllocError> {
+fn agrees(
+    alloc: Global,
+    memory: &mut Memory,
+    free: [u32; 2],
+    claims: &[Claim],
+) -> Result<bool, AllocError> {
     let mut agrees = scan_agrees(alloc, free, claims)?;
     for row in 0..claims.len() {
-        agrees &= page_agrees(alloc, free, claims, row)?;
+        agrees &= page_agrees(alloc, memory, free, claims, row)?;
     }
     Ok(agrees)
 }
@@ -421,10 +483,11 @@ fn is_possible(free: [u32; 2], claims: &[Claim]) -> bool {
     true
 }
 
-/// Every table of so many rows, or one in `step` of them.
+/// Every table of so many rows, or one in `step` of them, with one scratch for all.
 fn all_agree(
     rt: &impl Abort,
     alloc: Global,
+    memory: &mut Memory,
     rows: usize,
     tables: usize,
     step: usize,
@@ -439,7 +502,7 @@ fn all_agree(
         ];
         let free = [(index % 3) as u32, 1];
         if rows <= 4 && is_possible(free, &claims[..rows]) {
-            let agrees = agrees(alloc, free, &claims[..rows])?;
+            let agrees = agrees(alloc, memory, free, &claims[..rows])?;
             assert!(rt; agrees, "table {index} of {rows} rows");
         }
     }
@@ -449,10 +512,51 @@ fn all_agree(
 #[test]
 fn the_scan_agrees_with_all_orders(rt: HostRuntime) -> Result<(), Fail> {
     let alloc = rt.alloc();
-    all_agree(&rt, alloc, 0, 3, 1)?;
-    all_agree(&rt, alloc, 1, 36, 1)?;
-    all_agree(&rt, alloc, 2, 432, 1)?;
-    all_agree(&rt, alloc, 3, 1728, 1)?;
-    all_agree(&rt, alloc, 4, 2962, 7)?;
+    let mut memory = Memory::new(alloc)?;
+    all_agree(&rt, alloc, &mut memory, 0, 3, 1)?;
+    all_agree(&rt, alloc, &mut memory, 1, 36, 1)?;
+    all_agree(&rt, alloc, &mut memory, 2, 432, 1)?;
+    all_agree(&rt, alloc, &mut memory, 3, 1728, 1)?;
+    all_agree(&rt, alloc, &mut memory, 4, 2962, 7)?;
+    Ok(())
+}
+
+/// Three jobs of which the first has to wait for the second, if that has its page.
+const WAITING: &str = "5 0 | 1 1 0 2 0 | 2 1 0 1 0 | 3 1 0 0 0";
+
+fn show_page(
+    text: &mut String,
+    memory: &mut Memory,
+    table: &Table,
+    row: usize,
+) -> Result<(), AllocError> {
+    match memory.decide(table, row) {
+        Some(Verdict { safe, tests }) => write!(text, "{safe} after {tests}\n"),
+        None => text.push_str("no page\n"),
+    }
+}
+
+/// Decides on a page for job 2 as long as job 1 is there, once it is closed, and once another came.
+fn show_carried(
+    alloc: Global,
+    text: &mut String,
+    memory: &mut Memory,
+    table: &mut Table,
+) -> Result<(), AllocError> {
+    show_page(text, memory, table, 1)?;
+    close(table, 0);
+    show_page(text, memory, table, 0)?;
+    add(alloc, table, read_claim("4 0 0 2 0"))?;
+    show_page(text, memory, table, 0)
+}
+
+#[test]
+fn the_kept_order_is_carried(rt: HostRuntime) -> Result<(), Fail> {
+    let alloc = rt.alloc();
+    let mut memory = Memory::new(alloc)?;
+    let mut table = read_table(alloc, WAITING)?;
+    let mut text = String::new(alloc);
+    show_carried(alloc, &mut text, &mut memory, &mut table)?;
+    assert_eq!(rt; text.as_str(), "true after 5\ntrue after 2\ntrue after 3\n");
     Ok(())
 }

@@ -1,62 +1,235 @@
 //! The chain of a job's pages, by its calls.
 
-ghost use Rattle.std.specs.Prelude.{◌≡◌, ◌-◌, ◌<◌, IfOk};
+ghost use Rattle.std.specs.Prelude.{◌≡◌, ◌+◌, ◌-◌, ◌<◌, ◌≤◌, IfOk, length};
+ghost use Rattle.page_nodes.specs.Chains.{AreOfSize, total};
+ghost use Rattle.page_chain.specs.Files.{every_page};
+ghost use Rattle.page_chain.specs.Changes.{IsReady};
+ghost use Rattle.page_chain.specs.Held.{IsHeld, places_left, shown};
 
 use crate::rows::{expect, sides};
-use lpd_commands::{FileName, Refusal};
-use page_chain::{Chain, ChainError};
+use lpd_values::{FileName, MAX_FILES, MAX_PRINTS};
+use page_chain::{Chain, ChainError, Place};
+use page_nodes::Nodes;
 use page_pool::{FilledPage, Pool};
 use std::alloc::{AllocError, Global};
+use std::fmt::Write;
+use std::marker::Model;
 use std::process::Abort;
 use std::test::Fail;
 
-/// A page of the pool with these octets.
-fn filled(pool: &mut Pool, octets: &[u8]) -> Result<FilledPage, Fail>
-    ensures size { IfOk result (λ page. page.page_size ≡ pool.old.page_size) }
-    ensures some { IfOk result (λ _. 0 < pool.old.free) }
-    ensures lent { IfOk result (λ _. pool.new ≡ record pool.old { free = pool.old.free - 1 }) }
-{
-    match pool.take() {
-        Some(mut ticket) => {
-            ticket.push(octets);
-            if ticket.is_empty() {
-                ticket.surrender();
-                return Err("no octets")?;
-            }
-            Ok(ticket.seal())
+/// A chain over nodes, and the pool that their pages come from.
+#[derive(Drop)]
+struct Desk {
+    chain: Chain,
+    nodes: Nodes,
+    pool: Pool,
+}
+
+/// All that is known of a desk is that its pages fit together.
+impl Model for Desk {
+    ghost use Rattle.std.specs.Prelude.{ℕ, ◌+◌, ◌≤◌};
+    ghost use Rattle.page_nodes.specs.Chains.{AreOfSize, total};
+    ghost use Rattle.page_chain.specs.Files.{every_page};
+    ghost use Rattle.page_chain.specs.Changes.{IsReady};
+    ghost use Rattle.page_chain.specs.Held.{IsHeld, places_left, shown};
+
+    ghost Value = { ℕ };
+
+    ghost view = { λ d. 0 };
+
+    ghost invariant = { λ d.
+        IsHeld d.chain d.nodes
+        × AreOfSize d.pool.page_size (every_page (shown d.chain d.nodes).files)
+        × (d.pool.free + total d.nodes.chains ≤ d.pool.pages) };
+}
+
+impl Desk {
+    /// A chain with room for two files, and eight pages of eight octets.
+    fn new(alloc: Global) -> Result<Desk, Fail> {
+        let pool = Pool::new(alloc, 8, 8)?;
+        let nodes = Nodes::new(alloc, pool.pages(), MAX_FILES)?;
+        let chain = Chain::with_room(alloc, 0, 2)?;
+        Ok(Desk { chain, nodes, pool })
+    }
+
+    /// Ends the open file, if one is.
+    fn end(&mut self) {
+        if self.chain.is_open() {
+            self.chain.end_file();
         }
-        None => Err("no page is free")?,
+    }
+
+    /// Begins a file, where one may begin.
+    fn begin(&mut self, name: FileName) -> Result<bool, ChainError> {
+        if !self.chain.is_idle() {
+            return Ok(false);
+        }
+        self.chain.begin_file(name)?;
+        Ok(true)
+    }
+
+    /// Adds a page with these octets to the open file.
+    fn put(&mut self, octets: &[u8]) -> bool {
+        if !self.chain.is_open() || self.nodes.free() == 0 {
+            return false;
+        }
+        let Some(mut ticket) = self.pool.take() else {
+            return false;
+        };
+        ticket.push(octets);
+        if ticket.is_empty() {
+            ticket.surrender();
+            return false;
+        }
+        self.chain.push(&mut self.nodes, ticket.seal());
+        true
+    }
+
+    /// Gives the named files places. False where a file is open or a place was given already.
+    fn place(&mut self, names: &[FileName]) -> bool {
+        if !self.chain.is_idle() || names.len() > MAX_PRINTS {
+            return false;
+        }
+        self.chain
+            .drop_unnamed(names, &mut self.nodes, &mut self.pool);
+        true
+    }
+
+    /// Puts all pages back.
+    fn drain(&mut self) {
+        self.chain.drain_into(&mut self.nodes, &mut self.pool);
+    }
+
+    /// Hands out all places, and tells each with its octets and whether its page comes again.
+    fn print(self, alloc: Global) -> Result<String, AllocError> {
+        let Desk {
+            mut chain,
+            mut nodes,
+            pool: _,
+        } = self;
+        print_places(alloc, &mut chain, &mut nodes)
     }
 }
 
-/// Files of one chain with room for two, the one ended before the next begins.
-const FILES: &str = "
-dfA001h1 => Ok(()), open true
-dfA001h1 => Err(NameTaken), open false
-dfB001h1 => Ok(()), open true
-dfA001h1 => Err(NameTaken), open false
-dfC001h1 => Err(FilesFull), open false
+/// Hands out the next place, and gives its page back if it comes again: whether it does.
+fn hand_out(chain: &mut Chain, nodes: &mut Nodes) -> bool
+    requires held { IsHeld chain.old nodes.old }
+    requires ready { IsReady (shown chain.old nodes.old) }
+    ensures held { IsHeld chain.new nodes.new }
+    ensures next { length (places_left chain.new.files chain.new.prints chain.new.turned)
+        < length (places_left chain.old.files chain.old.prints chain.old.turned) }
+{
+    let page = chain.take(nodes);
+    let again = chain.comes_again();
+    if again && chain.awaits_last(nodes) && nodes.free() > 0 {
+        chain.give_again(nodes, page);
+    } else {
+        page.unseal().surrender();
+    }
+    again
+}
+
+/// Tells each place in turn, as long as its page is there.
+fn print_places(alloc: Global, chain: &mut Chain, nodes: &mut Nodes) -> Result<String, AllocError>
+    requires { IsHeld chain.old nodes.old }
+{
+    let mut text = String::new(alloc);
+    'places: while chain.is_ready(nodes) {
+        let Some(Place { file, number }) = chain.next_place() else {
+            break;
+        };
+        let octets = chain.page(nodes).bytes().escape_ascii();
+        write!(text, "{file}.{number} {octets}")?;
+        let end = if hand_out(chain, nodes) {
+            " again, "
+        } else {
+            ", "
+        };
+        text.push_str(end)?;
+    }
+    Ok(text)
+}
+
+/// What is asked of a desk in turn, and what it tells: its answer, and how many pages are free in the pool and among the
+/// nodes.
+const STEPS: &str = "
+put none => false, free 8 and 8
+begin dfA001h1 => Ok(true), free 8 and 8
+put one => true, free 7 and 7
+put two => true, free 6 and 6
+begin dfB001h1 => Ok(false), free 6 and 6
+place dfA001h1 => false, free 6 and 6
+end => ended, free 6 and 6
+put late => false, free 6 and 6
+begin dfA001h1 => Err(NameTaken), free 6 and 6
+begin dfB001h1 => Ok(true), free 6 and 6
+put three => true, free 5 and 5
+end => ended, free 5 and 5
+begin dfA001h1 => Err(NameTaken), free 5 and 5
+begin dfC001h1 => Err(FilesFull), free 5 and 5
+place dfA001h1 dfC001h1 dfA001h1 => true, free 6 and 6
+place dfA001h1 => false, free 6 and 6
 ";
 
-fn file_row(rt: &impl Abort, alloc: Global, chain: &mut Chain, row: &str) -> Result<(), Refusal> {
-    let (asked, wanted) = sides(row);
-    let name = FileName::read(asked.as_bytes())?;
-    if chain.is_open() {
-        chain.end_file();
+/// The names that a row lists; a word that is no name is left out.
+fn read_names(alloc: Global, words: &str) -> Result<Vec<FileName>, AllocError> {
+    let mut names = Vec::new(alloc);
+    for word in words.split_whitespace() {
+        if let Ok(name) = FileName::read(word.as_bytes()) {
+            names.push(name)?;
+        }
     }
-    let begun = chain.begin_file(name);
-    let text = format!(in alloc; "{begun:?}, open {}", chain.is_open())?;
-    expect(rt, asked.as_bytes(), text.as_bytes(), wanted.as_bytes());
+    Ok(names)
+}
+
+/// Does what a row asks for, and tells the answer.
+fn answer(alloc: Global, desk: &mut Desk, asked: &str) -> Result<String, AllocError> {
+    let (word, rest) = asked.split_once(' ').unwrap_or((asked, ""));
+    let names = read_names(alloc, rest)?;
+    if word == "put" {
+        return format!(in alloc; "{}", desk.put(rest.as_bytes()));
+    }
+    if word == "place" {
+        return format!(in alloc; "{}", desk.place(names.as_slice()));
+    }
+    if let Some(&name) = names.as_slice().first() {
+        return format!(in alloc; "{:?}", desk.begin(name));
+    }
+    desk.end();
+    format!(in alloc; "ended")
+}
+
+/// Does what the rows ask for.
+fn run_steps(rt: &impl Abort, alloc: Global, desk: &mut Desk) -> Result<(), AllocError> {
+    for row in STEPS.trim().lines() {
+        let (asked, wanted) = sides(row);
+        let told = answer(alloc, desk, asked)?;
+        let (pool, nodes) = (desk.pool.free(), desk.nodes.free());
+        let text = format!(in alloc; "{told}, free {pool} and {nodes}")?;
+        expect(rt, asked.as_bytes(), text.as_bytes(), wanted.as_bytes());
+    }
+    Ok(())
+}
+
+/// Two files, of which the first is printed twice: its pages come again once, in their order.
+#[test]
+fn a_file_is_printed_twice(rt: HostRuntime) -> Result<(), Fail> {
+    let alloc = rt.alloc();
+    let mut desk = Desk::new(alloc)?;
+    run_steps(&rt, alloc, &mut desk)?;
+    let text = desk.print(alloc)?;
+    let wanted = "0.0 one again, 0.1 two again, 0.0 one, 0.1 two, ";
+    assert_eq!(rt; text.as_str(), wanted);
     Ok(())
 }
 
 #[test]
-fn files_are_told_apart_by_name(rt: HostRuntime) -> Result<(), Fail> {
+fn drained_pages_go_to_the_pool(rt: HostRuntime) -> Result<(), Fail> {
     let alloc = rt.alloc();
-    let mut chain = Chain::with_room(alloc, 4, 2)?;
-    for row in FILES.trim().lines() {
-        file_row(&rt, alloc, &mut chain, row)?;
-    }
+    let mut desk = Desk::new(alloc)?;
+    run_steps(&rt, alloc, &mut desk)?;
+    desk.drain();
+    assert_eq!(rt; (desk.pool.free(), desk.nodes.free()), (8, 8));
     Ok(())
 }
 
@@ -65,59 +238,5 @@ fn refusals_have_their_numbers(rt: HostRuntime) -> Result<(), Fail> {
     let (taken, full) = (ChainError::NameTaken, ChainError::FilesFull);
     let text = format!(in rt.alloc(); "{taken} {full}")?;
     assert_eq!(rt; text.as_str(), "7 NameTaken 8 FilesFull");
-    Ok(())
-}
-
-fn first_octets(alloc: Global, chain: &Chain) -> Result<Vec<u8>, AllocError> {
-    if chain.is_there(0) {
-        Vec::from_slice(alloc, chain.page(0).bytes())
-    } else {
-        Ok(Vec::new(alloc))
-    }
-}
-
-/// Takes the page at the first place. How long it is, or 0 where there is none.
-fn take_first(chain: &mut Chain) -> usize {
-    if !chain.is_there(0) {
-        return 0;
-    }
-    let page = chain.take(0);
-    let len = page.len();
-    page.unseal().surrender();
-    len
-}
-
-/// The page at the first place, which is taken, and whether the second place and then the first have one.
-fn taken(alloc: Global, chain: &mut Chain) -> Result<String, AllocError> {
-    let second = chain.is_there(1);
-    let octets = first_octets(alloc, chain)?;
-    let (len, first) = (take_first(chain), chain.is_there(0));
-    let octets = octets.as_slice().escape_ascii();
-    format!(in alloc; "{octets} of {len}, second {second}, first {first}")
-}
-
-/// A chain of the file `dfA001h1` with the pages `one` and `two`, and `dfB001h1` with `three`.
-#[test]
-#[tactic(auto, using(page_chain::proofs::Spent::unnamed_sized, page_chain::proofs::Spent::unnamed_fits))]
-fn named_pages_get_places(rt: HostRuntime) -> Result<(), Fail> {
-    let alloc = rt.alloc();
-    let first = FileName::read(b"dfA001h1")?;
-    let second = FileName::read(b"dfB001h1")?;
-    let mut pool = Pool::new(alloc, 4, 8)?;
-    let mut chain = Chain::with_room(alloc, 4, 2)?;
-    chain.begin_file(first)?;
-    chain.push(filled(&mut pool, b"one")?);
-    chain.push(filled(&mut pool, b"two")?);
-    chain.end_file();
-    chain.begin_file(second)?;
-    chain.push(filled(&mut pool, b"three")?);
-    chain.end_file();
-    let (before, placed) = (pool.free(), chain.is_there(0));
-    chain.drop_unnamed(&[second], &mut pool);
-    let after = pool.free();
-    let taken = taken(alloc, &mut chain)?;
-    let text = format!(in alloc; "free {before} {placed}, then {after}: {taken}")?;
-    let wanted = "free 1 false, then 3: three of 5, second false, first false";
-    assert_eq!(rt; text.as_str(), wanted);
     Ok(())
 }

@@ -174,12 +174,15 @@ returns-clause-tests c =
     subst (CheckTakes (amount c.args.free.now) rows numbers) sum
     (c.numbers.invariant.taken 0 (subst (λ (ns : List ℕ). CheckTakes (amount c.numbers.free) (rows_at rows left) ns 0) (sym end) refl))
 
+no_numbers_left : (free : ℕ → ℕ) (rows : List Row) (left : List ℕ) → length left ≡ 0 → AreFinishing free (rows_at rows left) []
+no_numbers_left free rows left e = ([], none_left free rows left e, refl)
+
 pub returns-clause-exact : goal.returns-clause-exact
 returns-clause-exact c =
     let rows = c.args.rows.now in
     let left = c.numbers.left.items in
     let free = amount c.numbers.free in
     let end : drop c.numbers.number-index c.args.numbers.now ≡ [] = past c.args.numbers.now c.numbers.number-index (omega arith) in (
-      λ h. c.numbers.invariant.only (subst (AreFinishing free (rows_at rows left)) (sym end) (none_left free rows left (grind (arith, common_steps, nat_tests)))),
+      λ h. c.numbers.invariant.only (subst (AreFinishing free (rows_at rows left)) (sym end) (no_numbers_left free rows left (grind (arith, common_steps, nat_tests)))),
       λ h. let n = gone free rows left (subst (AreFinishing free (rows_at rows left)) end (c.numbers.invariant.still h)) in grind (arith, common_steps, nat_tests),
     )

@@ -22,7 +22,7 @@ drain_files-requires-clause-sizes c = λ i lt none.
     let t : Kept = record { row = f.row; files = f.files.items; is_open = f.is_open; prints = drop f.printed f.prints.items; turned = f.turned; last = f.last; file_room = f.file_room } in
     let v : t ≡ c.args.self.now = c.self.view_is in
     let held = subst (λ (u : Kept). IsHeld u n) (sym v) c.requires.held in
-    let placed_now = subst (λ (u : Kept). places_left u.files u.prints u.turned ≡ []) (sym v) c.requires.placed in
+    let placed_now = subst (λ (u : Kept). places_left u.files u.prints u.turned ≡ []) (sym v) c.requires.idle.placed in
     let empty = none_left f.files.items (drop f.printed f.prints.items) f.turned c.self.invariant.7 placed_now in
     let listed : prints ≡ filter (has_page f.files.items) (numbers_of (names_in f.files.items) names) =
     subst (λ (fs : List Run). prints ≡ filter (has_page fs) (numbers_of (names_in fs) names)) c.as_slice.ensures.value c.list_prints.ensures.listed in
@@ -40,7 +40,7 @@ drain_files-requires-clause-room c =
     let t : Kept = record { row = f.row; files = f.files.items; is_open = f.is_open; prints = drop f.printed f.prints.items; turned = f.turned; last = f.last; file_room = f.file_room } in
     let v : t ≡ c.args.self.now = c.self.view_is in
     let held = subst (λ (u : Kept). IsHeld u n) (sym v) c.requires.held in
-    let placed_now = subst (λ (u : Kept). places_left u.files u.prints u.turned ≡ []) (sym v) c.requires.placed in
+    let placed_now = subst (λ (u : Kept). places_left u.files u.prints u.turned ≡ []) (sym v) c.requires.idle.placed in
     let empty = none_left f.files.items (drop f.printed f.prints.items) f.turned c.self.invariant.7 placed_now in
     let listed : prints ≡ filter (has_page f.files.items) (numbers_of (names_in f.files.items) names) =
     subst (λ (fs : List Run). prints ≡ filter (has_page fs) (numbers_of (names_in fs) names)) c.as_slice.ensures.value c.list_prints.ensures.listed in
@@ -60,7 +60,7 @@ invariant_of-self c =
     let t : Kept = record { row = f.row; files = f.files.items; is_open = f.is_open; prints = drop f.printed f.prints.items; turned = f.turned; last = f.last; file_room = f.file_room } in
     let v : t ≡ c.args.self.now = c.self.view_is in
     let held = subst (λ (u : Kept). IsHeld u n) (sym v) c.requires.held in
-    let placed_now = subst (λ (u : Kept). places_left u.files u.prints u.turned ≡ []) (sym v) c.requires.placed in
+    let placed_now = subst (λ (u : Kept). places_left u.files u.prints u.turned ≡ []) (sym v) c.requires.idle.placed in
     let empty = none_left f.files.items (drop f.printed f.prints.items) f.turned c.self.invariant.7 placed_now in
     let listed : prints ≡ filter (has_page f.files.items) (numbers_of (names_in f.files.items) names) =
     subst (λ (fs : List Run). prints ≡ filter (has_page fs) (numbers_of (names_in fs) names)) c.as_slice.ensures.value c.list_prints.ensures.listed in
@@ -71,7 +71,7 @@ invariant_of-self c =
     let after : (with_items f.files c.forget.new.files).items ≡ runs_kept 0 prints f.files.items =
     with_items_is f.files c.forget.new.files (ap length forgot ∙ (length-runs_kept 0 prints f.files.items ∙ size)) ∙ forgot in
     let i = c.self.invariant in
-    let closed = subst (λ (u : Kept). u.is_open ≡ false) (sym v) c.requires.closed in (
+    let closed = subst (λ (u : Kept). u.is_open ≡ false) (sym v) c.requires.idle.closed in (
       i.0,
       i.1,
       i.2,
@@ -80,7 +80,7 @@ invariant_of-self c =
       omega arith,
       λ is_open. absurd (both_ways f.is_open closed is_open),
       subst (λ (fs : List Run). CanPrint fs prints 0) (sym after) (can_print t n names prints empty held listed),
-      tt,
+      tt, tt,
     )
 
 pub returns-clause-chain : goal.returns-clause-chain
@@ -92,7 +92,7 @@ returns-clause-chain c =
     let t : Kept = record { row = f.row; files = f.files.items; is_open = f.is_open; prints = drop f.printed f.prints.items; turned = f.turned; last = f.last; file_room = f.file_room } in
     let v : t ≡ c.args.self.now = c.self.view_is in
     let held = subst (λ (u : Kept). IsHeld u n) (sym v) c.requires.held in
-    let placed_now = subst (λ (u : Kept). places_left u.files u.prints u.turned ≡ []) (sym v) c.requires.placed in
+    let placed_now = subst (λ (u : Kept). places_left u.files u.prints u.turned ≡ []) (sym v) c.requires.idle.placed in
     let empty = none_left f.files.items (drop f.printed f.prints.items) f.turned c.self.invariant.7 placed_now in
     let listed : prints ≡ filter (has_page f.files.items) (numbers_of (names_in f.files.items) names) =
     subst (λ (fs : List Run). prints ≡ filter (has_page fs) (numbers_of (names_in fs) names)) c.as_slice.ensures.value c.list_prints.ensures.listed in
@@ -103,7 +103,7 @@ returns-clause-chain c =
     let after : (with_items f.files c.forget.new.files).items ≡ runs_kept 0 prints f.files.items =
     with_items_is f.files c.forget.new.files (ap length forgot ∙ (length-runs_kept 0 prints f.files.items ∙ size)) ∙ forgot in
     let count : c.len.result ≡ length f.files.items = grind (arith, common_steps) in
-    let closed = subst (λ (u : Kept). u.is_open ≡ false) (sym v) c.requires.closed in
+    let closed = subst (λ (u : Kept). u.is_open ≡ false) (sym v) c.requires.idle.closed in
     let left : (i : ℕ) → i < 52 → pages_in c.drain_files.new.nodes f.row i ≡ left_in n f.row prints (length f.files.items) i =
     λ i lt. c.drain_files.ensures.kept i lt ∙ (ap (λ (ps : List ℕ). left_in n f.row ps c.len.result i) kept ∙ ap (λ (m : ℕ). left_in n f.row prints m i) count) in
     let made = leads t n names prints empty held listed c.drain_files.new.nodes left c.drain_files.ensures.only closed in
@@ -119,7 +119,7 @@ returns-clause-pool c =
     let t : Kept = record { row = f.row; files = f.files.items; is_open = f.is_open; prints = drop f.printed f.prints.items; turned = f.turned; last = f.last; file_room = f.file_room } in
     let v : t ≡ c.args.self.now = c.self.view_is in
     let held = subst (λ (u : Kept). IsHeld u n) (sym v) c.requires.held in
-    let placed_now = subst (λ (u : Kept). places_left u.files u.prints u.turned ≡ []) (sym v) c.requires.placed in
+    let placed_now = subst (λ (u : Kept). places_left u.files u.prints u.turned ≡ []) (sym v) c.requires.idle.placed in
     let empty = none_left f.files.items (drop f.printed f.prints.items) f.turned c.self.invariant.7 placed_now in
     let listed : prints ≡ filter (has_page f.files.items) (numbers_of (names_in f.files.items) names) =
     subst (λ (fs : List Run). prints ≡ filter (has_page fs) (numbers_of (names_in fs) names)) c.as_slice.ensures.value c.list_prints.ensures.listed in
@@ -139,7 +139,7 @@ returns-clause-total c =
     let t : Kept = record { row = f.row; files = f.files.items; is_open = f.is_open; prints = drop f.printed f.prints.items; turned = f.turned; last = f.last; file_room = f.file_room } in
     let v : t ≡ c.args.self.now = c.self.view_is in
     let held = subst (λ (u : Kept). IsHeld u n) (sym v) c.requires.held in
-    let placed_now = subst (λ (u : Kept). places_left u.files u.prints u.turned ≡ []) (sym v) c.requires.placed in
+    let placed_now = subst (λ (u : Kept). places_left u.files u.prints u.turned ≡ []) (sym v) c.requires.idle.placed in
     let empty = none_left f.files.items (drop f.printed f.prints.items) f.turned c.self.invariant.7 placed_now in
     let listed : prints ≡ filter (has_page f.files.items) (numbers_of (names_in f.files.items) names) =
     subst (λ (fs : List Run). prints ≡ filter (has_page fs) (numbers_of (names_in fs) names)) c.as_slice.ensures.value c.list_prints.ensures.listed in

@@ -16,7 +16,7 @@ returns-clause-chain c =
     let v : t ≡ c.args.self.now = c.self.view_is in
     let number = subst (IsOfFile files) c.in-Some.is c.self.invariant.8 in
     let held = subst (λ (u : Kept). IsHeld u n) (sym v) c.requires.held in
-    let gap = subst (λ (u : Kept). IsOnlyGap (shown u n) (last_place (shown u n))) (sym v) c.requires.gap in
+    let gap = subst (λ (u : Kept). IsOnlyGap (shown u n) (last_place (shown u n))) (sym v) c.requires.awaited.gap in
     subst (λ (u : Kept). Leads u u n c.push.new.self (given_again c.args.page (shown u n))) v
     (gives t n c.push.new.self place c.args.page held c.self.invariant.7 number (file_there files place number) c.in-Some.is gap c.push.ensures)
 

@@ -14,8 +14,8 @@ first-requires-clause-some c =
     let rest = drop (f.printed + 1) f.prints.items in
     let t : Kept = record { row = f.row; files = f.files.items; is_open = f.is_open; prints = drop f.printed f.prints.items; turned = f.turned; last = f.last; file_room = f.file_room } in
     let v : t ≡ c.args.self.now = c.self.view_is in
-    let g = front_file t c.args.self.now f.prints.items f.printed file v refl c.self.invariant.7 c.requires.some c.index.ensures in
-    next_front t n file rest g.can (subst (λ (u : Kept). IsSome (page_at (shown u n).files (next_place (shown u n)))) (sym g.is) c.requires.here)
+    let g = front_file t c.args.self.now f.prints.items f.printed file v refl c.self.invariant.7 c.requires.ready.some c.index.ensures in
+    next_front t n file rest g.can (subst (λ (u : Kept). IsSome (page_at (shown u n).files (next_place (shown u n)))) (sym g.is) c.requires.ready.here)
 
 pub returns : goal.returns
 returns c =
@@ -25,6 +25,6 @@ returns c =
     let rest = drop (f.printed + 1) f.prints.items in
     let t : Kept = record { row = f.row; files = f.files.items; is_open = f.is_open; prints = drop f.printed f.prints.items; turned = f.turned; last = f.last; file_room = f.file_room } in
     let v : t ≡ c.args.self.now = c.self.view_is in
-    let g = front_file t c.args.self.now f.prints.items f.printed file v refl c.self.invariant.7 c.requires.some c.index.ensures in
+    let g = front_file t c.args.self.now f.prints.items f.printed file v refl c.self.invariant.7 c.requires.ready.some c.index.ensures in
     subst (λ (u : Kept). page_at (shown u n).files (next_place (shown u n)) ≡ Some c.first.result.now) g.is
     (next_page_is t n file rest c.first.result.now (drop 1 (pages_in n f.row file)) g.can c.first.ensures)

@@ -18,8 +18,8 @@ take-page-requires-clause-some c =
     let rest = drop (f.printed + 1) f.prints.items in
     let t : Kept = record { row = f.row; files = f.files.items; is_open = f.is_open; prints = drop f.printed f.prints.items; turned = f.turned; last = f.last; file_room = f.file_room } in
     let v : t ≡ c.args.self.now = c.self.view_is in
-    let g = front_file t c.args.self.now f.prints.items f.printed file v refl c.self.invariant.7 c.requires.some c.index-file.ensures in
-    next_front t n file rest g.can (subst (λ (u : Kept). IsSome (page_at (shown u n).files (next_place (shown u n)))) (sym g.is) c.requires.here)
+    let g = front_file t c.args.self.now f.prints.items f.printed file v refl c.self.invariant.7 c.requires.ready.some c.index-file.ensures in
+    next_front t n file rest g.can (subst (λ (u : Kept). IsSome (page_at (shown u n).files (next_place (shown u n)))) (sym g.is) c.requires.ready.here)
 
 pub overflow_add-self : goal.overflow_add-self
 overflow_add-self c =
@@ -29,7 +29,7 @@ overflow_add-self c =
     let rest = drop (f.printed + 1) f.prints.items in
     let t : Kept = record { row = f.row; files = f.files.items; is_open = f.is_open; prints = drop f.printed f.prints.items; turned = f.turned; last = f.last; file_room = f.file_room } in
     let v : t ≡ c.args.self.now = c.self.view_is in
-    let g = front_file t c.args.self.now f.prints.items f.printed file v refl c.self.invariant.7 c.requires.some c.index-file.ensures in
+    let g = front_file t c.args.self.now f.prints.items f.printed file v refl c.self.invariant.7 c.requires.ready.some c.index-file.ensures in
     let size = g.can.1 in
     let same = ap (λ (fs : List Run). (get_or fs file c.index-as_slice-file.result).pages) c.as_slice.ensures.value ∙ ap (λ (r : Run). r.pages) (get_or_default f.files.items file c.index-as_slice-file.result no_run g.can.0) in
     let fits = c.index-as_slice-file.element_fits in
@@ -43,7 +43,7 @@ returns-then-self-pages-clause-page c =
     let rest = drop (f.printed + 1) f.prints.items in
     let t : Kept = record { row = f.row; files = f.files.items; is_open = f.is_open; prints = drop f.printed f.prints.items; turned = f.turned; last = f.last; file_room = f.file_room } in
     let v : t ≡ c.args.self.now = c.self.view_is in
-    let g = front_file t c.args.self.now f.prints.items f.printed file v refl c.self.invariant.7 c.requires.some c.index-file.ensures in
+    let g = front_file t c.args.self.now f.prints.items f.printed file v refl c.self.invariant.7 c.requires.ready.some c.index-file.ensures in
     subst (λ (u : Kept). page_at (shown u n).files (next_place (shown u n)) ≡ Some c.take-page.result) g.is
     (next_page_is t n file rest c.take-page.result (drop 1 (pages_in n f.row file)) g.can c.take-page.ensures.page)
 
@@ -55,7 +55,7 @@ returns-then-self-pages-clause-chain c =
     let rest = drop (f.printed + 1) f.prints.items in
     let t : Kept = record { row = f.row; files = f.files.items; is_open = f.is_open; prints = drop f.printed f.prints.items; turned = f.turned; last = f.last; file_room = f.file_room } in
     let v : t ≡ c.args.self.now = c.self.view_is in
-    let g = front_file t c.args.self.now f.prints.items f.printed file v refl c.self.invariant.7 c.requires.some c.index-file.ensures in
+    let g = front_file t c.args.self.now f.prints.items f.printed file v refl c.self.invariant.7 c.requires.ready.some c.index-file.ensures in
     let pages = ap (λ (fs : List Run). (get_or fs file c.index-as_slice-file.result).pages) c.as_slice.ensures.value ∙ ap (λ (r : Run). r.pages) (get_or_default f.files.items file c.index-as_slice-file.result no_run g.can.0) in
     let told = ap (λ (r : Run). r.pages) c.index-as_slice-file.is in
     let over : suc f.turned ≡ (run_at f.files.items file).pages = (let e = c.if-self-pages.true in omega (arith, e, pages, told)) in
@@ -72,7 +72,7 @@ returns-then-self-pages-clause-total c =
     let rest = drop (f.printed + 1) f.prints.items in
     let t : Kept = record { row = f.row; files = f.files.items; is_open = f.is_open; prints = drop f.printed f.prints.items; turned = f.turned; last = f.last; file_room = f.file_room } in
     let v : t ≡ c.args.self.now = c.self.view_is in
-    let g = front_file t c.args.self.now f.prints.items f.printed file v refl c.self.invariant.7 c.requires.some c.index-file.ensures in
+    let g = front_file t c.args.self.now f.prints.items f.printed file v refl c.self.invariant.7 c.requires.ready.some c.index-file.ensures in
     let few = c.requires.held.few in
     let there = g.can.0 in
     let files = ap (λ (u : Kept). length u.files) v in
@@ -90,7 +90,7 @@ returns-else-self-pages-clause-page c =
     let rest = drop (f.printed + 1) f.prints.items in
     let t : Kept = record { row = f.row; files = f.files.items; is_open = f.is_open; prints = drop f.printed f.prints.items; turned = f.turned; last = f.last; file_room = f.file_room } in
     let v : t ≡ c.args.self.now = c.self.view_is in
-    let g = front_file t c.args.self.now f.prints.items f.printed file v refl c.self.invariant.7 c.requires.some c.index-file.ensures in
+    let g = front_file t c.args.self.now f.prints.items f.printed file v refl c.self.invariant.7 c.requires.ready.some c.index-file.ensures in
     subst (λ (u : Kept). page_at (shown u n).files (next_place (shown u n)) ≡ Some c.take-page.result) g.is
     (next_page_is t n file rest c.take-page.result (drop 1 (pages_in n f.row file)) g.can c.take-page.ensures.page)
 
@@ -102,7 +102,7 @@ returns-else-self-pages-clause-chain c =
     let rest = drop (f.printed + 1) f.prints.items in
     let t : Kept = record { row = f.row; files = f.files.items; is_open = f.is_open; prints = drop f.printed f.prints.items; turned = f.turned; last = f.last; file_room = f.file_room } in
     let v : t ≡ c.args.self.now = c.self.view_is in
-    let g = front_file t c.args.self.now f.prints.items f.printed file v refl c.self.invariant.7 c.requires.some c.index-file.ensures in
+    let g = front_file t c.args.self.now f.prints.items f.printed file v refl c.self.invariant.7 c.requires.ready.some c.index-file.ensures in
     let pages = ap (λ (fs : List Run). (get_or fs file c.index-as_slice-file.result).pages) c.as_slice.ensures.value ∙ ap (λ (r : Run). r.pages) (get_or_default f.files.items file c.index-as_slice-file.result no_run g.can.0) in
     let told = ap (λ (r : Run). r.pages) c.index-as_slice-file.is in
     let on : suc f.turned < (run_at f.files.items file).pages = (let size = g.can.1 in omega (arith, c.if-self-pages.false, pages, told, size)) in
@@ -124,7 +124,7 @@ returns-else-self-pages-clause-total c =
     let rest = drop (f.printed + 1) f.prints.items in
     let t : Kept = record { row = f.row; files = f.files.items; is_open = f.is_open; prints = drop f.printed f.prints.items; turned = f.turned; last = f.last; file_room = f.file_room } in
     let v : t ≡ c.args.self.now = c.self.view_is in
-    let g = front_file t c.args.self.now f.prints.items f.printed file v refl c.self.invariant.7 c.requires.some c.index-file.ensures in
+    let g = front_file t c.args.self.now f.prints.items f.printed file v refl c.self.invariant.7 c.requires.ready.some c.index-file.ensures in
     let few = c.requires.held.few in
     let there = g.can.0 in
     let files = ap (λ (u : Kept). length u.files) v in

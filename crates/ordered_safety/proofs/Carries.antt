@@ -1,0 +1,448 @@
+-- Carrying a kept order to the rows: what each kept row adds.
+use Rattle.std.proofs.Common.{◌≡◌, ◌≢◌, inl, inr, ℕ, suc, ◌+◌, ◌<◌, ◌≤◌, Bool, true, false, not, ◌||◌, cond, List, [], ◌∷◌, ◌++◌, length, get_or, set, take, drop, refl, subst, ap, ap₂, sym, ◌∙◌, arith, append_assoc, append-nil, drop-cons}
+use Rattle.std.specs.Prelude.{All, ◌==◌, slice_index_or, filter}
+use Rattle.std.specs.List.{AllByRecursion, count_by, list_any}
+use Rattle.std.proofs.lemmas.List.{take-append-drop, get_or_default, get_or-set_same, get_or-set_other, get_or-take, get_or-map, length-map, length-set, length-take-le, length_push, map-append, map_more, drop_more}
+use Rattle.std.proofs.lemmas.List.Elements.{All-push, All-weaker, All-from_recursion, recursion_from_All, filter-append, filter_more}
+use Rattle.std.proofs.lemmas.List.Folds.{list_any-append, list_any_none, list_any_at}
+use Rattle.std.proofs.lemmas.List.Sums.{sum_by-set, sum_by-cons}
+use Rattle.std.proofs.lemmas.Bool.{eq-eqb, cases_lt}
+use Rattle.std.proofs.lemmas.Bool.Decides.{eqb_tells, nat_tests}
+use Rattle.claims.specs.declared.row.Row.{Row}
+use Rattle.claims.specs.Claims.{Pairwise, IsLower, row_at, no_row}
+use Rattle.claims.specs.Safety.{IsOrderOf, KeepsLine}
+use Rattle.ordered_safety.specs.declared.kept.Kept.{Kept}
+use Rattle.ordered_safety.specs.Scan.{rows_at}
+use Rattle.ordered_safety.specs.Carried.{StandsAt, has_row, is_among, is_lacked, AreMet, numbers_of}
+use Rattle.ordered_safety.specs.Kept.{kept_numbers, KeepsLines}
+use Rattle.ordered_safety.proofs.Keeps.{Differ, others_differ}
+use Rattle.ordered_safety.proofs.OneNumber.{lower_at}
+
+abbrev pub no_kept : Kept
+no_kept = record { number = 0; sender = 0; queue = 0; place = 0 }
+
+-- the row is the kept one, and of its line
+pub record IsKept (kept : Kept) (row : Row) : Type 0 where
+  pub number : row.number ≡ kept.number
+  pub sender : row.sender ≡ kept.sender
+  pub queue : row.queue ≡ kept.queue
+
+-- it is one of the first i kept ones
+abbrev pub HasKept : List Kept → ℕ → Row → Type 0
+HasKept kept i row = (j : ℕ) × (j < i) × IsKept (slice_index_or kept j no_kept) row
+
+-- the first i kept rows are carried
+pub record Carrying (rows : List Row) (kept : List Kept) (i : ℕ) (places : List ℕ) (met : List Bool) (same : Bool) (greatest : ℕ) : Type 0 where
+  pub there : All (λ j. j < length rows) places
+  pub found : numbers_of (rows_at rows places) ≡ filter (has_row rows) (kept_numbers (take i kept))
+  pub once : (others : List Row) → IsOrderOf (filter (is_lacked (kept_numbers (take i kept))) rows) others → IsOrderOf rows (rows_at rows places ++ others)
+  pub among : All (λ place. is_among (kept_numbers (take i kept)) (row_at rows place) ≡ true) places
+  pub below : All (λ place. (row_at rows place).number ≤ greatest) places
+  pub as_kept : same ≡ true → All (λ place. HasKept kept i (row_at rows place)) places
+  pub line : same ≡ true → Pairwise KeepsLine (rows_at rows places)
+  pub marks : AreMet rows (kept_numbers (take i kept)) met
+  pub len : length met ≡ length rows
+  pub count : length places + count_by not met ≡ length rows
+
+count_none : (met : List Bool) → AllByRecursion (λ mark. mark ≡ false) met → count_by not met ≡ length met
+count_none [] h = refl
+count_none (m ∷ met) h =
+    let first : cond (not m) 1 0 ≡ 1 = ap (λ (b : Bool). cond (not b) 1 0) h.0 in
+    let rest = count_none met h.1 in
+    let s = sum_by-cons (λ (b : Bool). cond (not b) 1 0) m met in
+    let t : cond (not m) 1 0 + count_by not met ≡ 1 + length met = ap₂ (λ (a b : ℕ). a + b) first rest in
+    s ∙ (t ∙ omega arith)
+
+filter_all : (rows : List Row) → filter (is_lacked []) rows ≡ rows
+filter_all [] = refl
+filter_all (x ∷ rows) = ap (λ (l : List Row). x ∷ l) (filter_all rows)
+
+pub carried_none : (rows : List Row) (kept : List Kept) (met : List Bool) (places : List ℕ) → places ≡ [] → length met ≡ length rows → All (λ mark. mark ≡ false) met → Carrying rows kept 0 places met true 0
+carried_none rows kept met places empty len none =
+    subst (λ (l : List ℕ). Carrying rows kept 0 l met true 0) (sym empty) (record {
+      there = λ k d lt. absurd (omega arith);
+      found = refl;
+      once = λ others h. subst (λ (r : List Row). IsOrderOf r others) (filter_all rows) h;
+      among = λ k d lt. absurd (omega arith);
+      below = λ k d lt. absurd (omega arith);
+      as_kept = λ s k d lt. absurd (omega arith);
+      line = λ s. tt;
+      marks = λ place lt. none place false (omega arith);
+      len = len;
+      count = let n = count_none met (recursion_from_All (λ mark. mark ≡ false) met none) in omega arith;
+    })
+
+-- the numbers of one more kept row
+numbers_more : (kept : List Kept) (i : ℕ) → i < length kept → kept_numbers (take (i + 1) kept) ≡ kept_numbers (take i kept) ++ (slice_index_or kept i no_kept).number ∷ []
+numbers_more kept i lt = map_more (λ (k : Kept). k.number) kept i no_kept lt
+
+-- a number of another row
+other_number : (n m : ℕ) → n ≢ m → (n == m) ≡ false
+other_number n m ne = elim (eqb_tells n m) [ inl equal ↦ absurd (ne equal.1) | inr apart ↦ apart.0 ]
+
+or_false : (a : Bool) → (a || false) ≡ a
+or_false true = refl
+or_false false = refl
+
+or_true : (a : Bool) → (a || true) ≡ true
+or_true true = refl
+or_true false = refl
+
+among_more : (ns : List ℕ) (n : ℕ) (x : Row) → is_among (ns ++ n ∷ []) x ≡ (is_among ns x || ((n == x.number) || false))
+among_more ns n x = list_any-append (λ (k : ℕ). k == x.number) ns (n ∷ [])
+
+among_other : (ns : List ℕ) (n : ℕ) (x : Row) → n ≢ x.number → is_among (ns ++ n ∷ []) x ≡ is_among ns x
+among_other ns n x ne =
+    among_more ns n x ∙ (ap (λ (b : Bool). is_among ns x || (b || false)) (other_number n x.number ne) ∙ or_false (is_among ns x))
+
+among_same : (ns : List ℕ) (n : ℕ) (x : Row) → n ≡ x.number → is_among (ns ++ n ∷ []) x ≡ true
+among_same ns n x e =
+    among_more ns n x ∙ (ap (λ (b : Bool). is_among ns x || (b || false)) (eq-eqb n x.number e) ∙ or_true (is_among ns x))
+
+among_still : (ns : List ℕ) (n : ℕ) (x : Row) → is_among ns x ≡ true → is_among (ns ++ n ∷ []) x ≡ true
+among_still ns n x e = among_more ns n x ∙ ap (λ (b : Bool). b || ((n == x.number) || false)) e
+
+filter_same : (p q : Row → Bool) (xs : List Row) → AllByRecursion (λ x. p x ≡ q x) xs → filter p xs ≡ filter q xs
+filter_same p q [] h = refl
+filter_same p q (x ∷ xs) h =
+    ap₂ (λ (b : Bool) (l : List Row). cond b (x ∷ l) l) h.0 (filter_same p q xs h.1)
+
+-- a number that none of these rows has leaves what is lacked
+lacked_other : (ns : List ℕ) (n : ℕ) (xs : List Row) → AllByRecursion (λ x. n ≢ x.number) xs → filter (is_lacked (ns ++ n ∷ [])) xs ≡ filter (is_lacked ns) xs
+lacked_other ns n xs h = filter_same (is_lacked (ns ++ n ∷ [])) (is_lacked ns) xs (by xs h)
+  where
+    by : (xs : List Row) → AllByRecursion (λ x. n ≢ x.number) xs → AllByRecursion (λ x. is_lacked (ns ++ n ∷ []) x ≡ is_lacked ns x) xs
+    by [] h = tt
+    by (x ∷ xs) h = (ap not (among_other ns n x h.0), by xs h.1)
+
+-- a number that no row has
+none_has : (rows : List Row) (n : ℕ) → ((place : ℕ) → StandsAt rows n place → ⊥) → AllByRecursion (λ x. n ≢ x.number) rows
+none_has rows n none =
+    recursion_from_All (λ x. n ≢ x.number) rows (λ k d lt e. none k (record { there = lt; numbered = ap (λ (r : Row). r.number) (get_or_default rows k no_row d lt) ∙ sym e }))
+
+has_none : (rows : List Row) (n : ℕ) → AllByRecursion (λ x. n ≢ x.number) rows → has_row rows n ≡ false
+has_none [] n h = refl
+has_none (x ∷ rows) n h = ap₂ (λ (a b : Bool). a || b) (other_number x.number n (λ e. h.0 (sym e))) (has_none rows n h.1)
+
+has_some : (rows : List Row) (n place : ℕ) → StandsAt rows n place → has_row rows n ≡ true
+has_some rows n place h = list_any_at (λ (row : Row). row.number == n) rows place no_row h.there (eq-eqb (row_at rows place).number n h.numbered)
+
+filter_last : (p : ℕ → Bool) (ns : List ℕ) (n : ℕ) (b : Bool) → p n ≡ b → filter p (ns ++ n ∷ []) ≡ filter p ns ++ cond b (n ∷ []) []
+filter_last p ns n b e = filter-append p ns (n ∷ []) ∙ ap (λ (c : Bool). filter p ns ++ cond c (n ∷ []) []) e
+
+-- no row has the number of the next kept row
+pub carried_missed : (rows : List Row) (kept : List Kept) (i : ℕ) (places : List ℕ) (met : List Bool) (same : Bool) (greatest more : ℕ) → i < length kept → greatest ≤ more
+    → ((place : ℕ) → StandsAt rows (slice_index_or kept i no_kept).number place → ⊥)
+    → Carrying rows kept i places met same greatest → Carrying rows kept (i + 1) places met same more
+carried_missed rows kept i places met same greatest more lt le none h =
+    let n = (slice_index_or kept i no_kept).number in
+    let ns = kept_numbers (take i kept) in
+    let e : kept_numbers (take (i + 1) kept) ≡ ns ++ n ∷ [] = numbers_more kept i lt in
+    let differ = none_has rows n none in
+    let each = All-from_recursion (λ (x : Row). n ≢ x.number) rows differ in
+    record {
+      there = h.there;
+      found = h.found ∙ (sym (append-nil (filter (has_row rows) ns)) ∙ (sym (filter_last (has_row rows) ns n false (has_none rows n differ)) ∙ ap (filter (has_row rows)) (sym e)));
+      once = λ others o. h.once others (subst (λ (r : List Row). IsOrderOf r others) (ap (λ (l : List ℕ). filter (is_lacked l) rows) e ∙ lacked_other ns n rows differ) o);
+      among = rw e (All-weaker (λ place. is_among ns (row_at rows place) ≡ true) (λ place. is_among (ns ++ n ∷ []) (row_at rows place) ≡ true) (λ place a. among_still ns n (row_at rows place) a) places h.among);
+      below = All-weaker (λ place. (row_at rows place).number ≤ greatest) (λ place. (row_at rows place).number ≤ more) (λ place a. omega arith) places h.below;
+      as_kept = λ s. All-weaker (λ place. HasKept kept i (row_at rows place)) (λ place. HasKept kept (i + 1) (row_at rows place)) (λ place a. (a.0, let l = a.1 in omega arith, a.2)) places (h.as_kept s);
+      line = h.line;
+      marks = λ place there. h.marks place there ∙ (sym (among_other ns n (row_at rows place) (each place no_row there)) ∙ ap (λ (l : List ℕ). is_among l (row_at rows place)) (sym e));
+      len = h.len;
+      count = h.count;
+    }
+
+-- numbers that were kept before are others
+among_none : (kept : List Kept) (i : ℕ) (x : Row) → i < length kept → KeepsLines kept → x.number ≡ (slice_index_or kept i no_kept).number → is_among (kept_numbers (take i kept)) x ≡ false
+among_none kept i x lt lines e =
+    let ns = kept_numbers (take i kept) in
+    list_any_none (λ (k : ℕ). k == x.number) ns (λ k d below.
+    let n = length-map (take i kept) (λ (row : Kept). row.number) in
+    let m : length (take i kept) ≡ i = length-take-le i kept (omega arith) in
+    let here : get_or ns k d ≡ (get_or kept k no_kept).number = get_or-map (λ (row : Kept). row.number) (take i kept) k no_kept d (omega arith) ∙ ap (λ (row : Kept). row.number) (get_or-take i kept k no_kept (omega arith)) in
+    let apart = (lines k i no_kept (omega arith) lt).apart in
+    other_number (get_or ns k d) x.number (λ f. apart (sym here ∙ (f ∙ e))))
+
+pairwise_last : (order : List Row) (x : Row) → AllByRecursion (λ z. KeepsLine z x) order → Pairwise KeepsLine order → Pairwise KeepsLine (order ++ x ∷ [])
+pairwise_last [] x a p = (tt, tt)
+pairwise_last (z ∷ order) x a p = (push z order a.0 p.0, pairwise_last order x a.1 p.1)
+  where
+    push : (z : Row) (order : List Row) → KeepsLine z x → AllByRecursion (KeepsLine z) order → AllByRecursion (KeepsLine z) (order ++ x ∷ [])
+    push z [] k h = (k, tt)
+    push z (w ∷ order) k h = (h.0, push z order k h.1)
+
+-- kept rows keep their line
+kept_line : (kept : List Kept) (i j : ℕ) (x y : Row) → i < j → j < length kept → KeepsLines kept → IsKept (slice_index_or kept i no_kept) x → IsKept (slice_index_or kept j no_kept) y → KeepsLine x y
+kept_line kept i j x y lt le lines a b same =
+    let sender : x.sender ≡ y.sender = grind (arith, nat_tests) in
+    let queue : x.queue ≡ y.queue = grind (arith, nat_tests) in
+    let l = (lines i j no_kept lt le).in_line (sym a.sender ∙ (sender ∙ b.sender)) (sym a.queue ∙ (queue ∙ b.queue)) in
+    let n = a.number in
+    let m = b.number in
+    omega arith
+
+rows_all : (P : Row → Type 0) (rows : List Row) (places : List ℕ) → All (λ place. P (row_at rows place)) places → AllByRecursion P (rows_at rows places)
+rows_all P rows places h = by places (recursion_from_All (λ place. P (row_at rows place)) places h)
+  where
+    by : (places : List ℕ) → AllByRecursion (λ place. P (row_at rows place)) places → AllByRecursion P (rows_at rows places)
+    by [] h = tt
+    by (p ∷ places) h = (h.0, by places h.1)
+
+-- the row of a number, and the others
+split_at : (rows : List Row) (place : ℕ) → place < length rows → rows ≡ take place rows ++ row_at rows place ∷ drop (suc place) rows
+split_at rows place lt = sym (take-append-drop place rows) ∙ ap (λ (r : List Row). take place rows ++ r) (drop-cons rows place no_row lt)
+
+differ_split : (a b : List Row) (x : Row) (n : ℕ) → n ≡ x.number → AllByRecursion (Differ x) (a ++ b) → AllByRecursion (λ y. n ≢ y.number) a × AllByRecursion (λ y. n ≢ y.number) b
+differ_split [] b x n e h = (tt, by b h)
+  where
+    by : (b : List Row) → AllByRecursion (Differ x) b → AllByRecursion (λ y. n ≢ y.number) b
+    by [] h = tt
+    by (y ∷ b) h = ((λ f. h.0 (sym e ∙ f)), by b h.1)
+differ_split (y ∷ a) b x n e h = let rest = differ_split a b x n e h.1 in (((λ f. h.0 (sym e ∙ f)), rest.0), rest.1)
+
+-- what is lacked, without the row that is found
+abbrev Found : List Row → List ℕ → ℕ → Row → Type 0
+Found rows ns n x = (a : List Row) × (b : List Row) × (filter (is_lacked ns) rows ≡ a ++ x ∷ b) × (filter (is_lacked (ns ++ n ∷ [])) rows ≡ a ++ b)
+
+lacked_found : (a : List Row) (x : Row) (b : List Row) (ns : List ℕ) (n : ℕ) → n ≡ x.number → is_among ns x ≡ false → Pairwise IsLower (a ++ x ∷ b) → Found (a ++ x ∷ b) ns n x
+lacked_found a x b ns n e none low =
+    let d = differ_split a b x n e (others_differ a x b low) in
+    let p = is_lacked ns in
+    let q = is_lacked (ns ++ n ∷ []) in
+    let kept : filter p (a ++ x ∷ b) ≡ filter p a ++ x ∷ filter p b =
+    filter-append p a (x ∷ b) ∙ ap (λ (c : Bool). filter p a ++ cond (not c) (x ∷ filter p b) (filter p b)) none in
+    let gone : filter q (a ++ x ∷ b) ≡ filter q a ++ filter q b =
+    filter-append q a (x ∷ b) ∙ ap (λ (c : Bool). filter q a ++ cond (not c) (x ∷ filter q b) (filter q b)) (among_same ns n x e) in (
+      filter p a,
+      filter p b,
+      kept,
+      gone ∙ ap₂ (λ (l m : List Row). l ++ m) (lacked_other ns n a d.0) (lacked_other ns n b d.1),
+    )
+
+found_at : (rows : List Row) (place : ℕ) (ns : List ℕ) (n : ℕ) → place < length rows → n ≡ (row_at rows place).number → is_among ns (row_at rows place) ≡ false → Pairwise IsLower rows → Found rows ns n (row_at rows place)
+found_at rows place ns n lt e none low =
+    let x = row_at rows place in
+    subst (λ (r : List Row). Found r ns n x) (sym (split_at rows place lt))
+    (lacked_found (take place rows) x (drop (suc place) rows) ns n e none (subst (Pairwise IsLower) (split_at rows place lt) low))
+
+rows_push : (rows : List Row) (places : List ℕ) (place : ℕ) → rows_at rows (places ++ place ∷ []) ≡ rows_at rows places ++ row_at rows place ∷ []
+rows_push rows places place = map-append (row_at rows) places (place ∷ [])
+
+-- rows of different places have different numbers
+place_differs : (rows : List Row) (i j : ℕ) → i < length rows → j < length rows → i ≢ j → Pairwise IsLower rows → (row_at rows i).number ≢ (row_at rows j).number
+place_differs rows i j li lj ne low e = elim (cases_lt i j) [
+  | inl below ↦ let l = lower_at rows i j below lj low in omega arith
+  | inr above ↦ let l = lower_at rows j i (omega arith) li low in omega arith
+]
+
+marks_more : (rows : List Row) (ns : List ℕ) (n place : ℕ) (met : List Bool) → Pairwise IsLower rows → place < length rows → length met ≡ length rows → n ≡ (row_at rows place).number → AreMet rows ns met → AreMet rows (ns ++ n ∷ []) (set met place true)
+marks_more rows ns n place met low lt len e h q there = elim (eqb_tells q place) [
+  | inl same ↦
+      let here : get_or (set met place true) q false ≡ true = ap (λ (k : ℕ). get_or (set met place true) k false) same.1 ∙ get_or-set_same met place true false (omega arith) in
+      here ∙ sym (among_same ns n (row_at rows q) (e ∙ ap (λ (k : ℕ). (row_at rows k).number) (sym same.1)))
+  | inr other ↦
+      get_or-set_other met place q true false other.1 ∙ (h q there ∙ sym (among_other ns n (row_at rows q) (λ f. place_differs rows place q lt there (λ g. other.1 (sym g)) low (sym e ∙ f))))
+]
+
+count_more : (met : List Bool) (place k n : ℕ) → place < length met → get_or met place false ≡ false → k + count_by not met ≡ n → (k + 1) + count_by not (set met place true) ≡ n
+count_more met place k n lt unmarked h =
+    let f : Bool → ℕ = λ b. cond (not b) 1 0 in
+    let s = sum_by-set f met place true false lt in
+    let e : f (get_or met place false) ≡ 1 = ap f unmarked in
+    omega arith
+
+-- where the next kept row stands, there is a place more
+pub carried_room : (rows : List Row) (kept : List Kept) (i : ℕ) (places : List ℕ) (met : List Bool) (same : Bool) (greatest place : ℕ) → Pairwise IsLower rows → KeepsLines kept → i < length kept
+    → StandsAt rows (slice_index_or kept i no_kept).number place → Carrying rows kept i places met same greatest → length places < length rows
+carried_room rows kept i places met same greatest place low lines lt stands h =
+    let x = row_at rows place in
+    let none = among_none kept i x lt lines stands.numbered in
+    let unmarked : get_or met place false ≡ false = h.marks place stands.there ∙ none in
+    let len = h.len in
+    let there = stands.there in
+    let f = count_more met place (length places) (length rows) (omega arith) unmarked h.count in
+    omega arith
+
+-- the next kept row stands at this place
+pub carried_found : (rows : List Row) (kept : List Kept) (i : ℕ) (places : List ℕ) (met : List Bool) (same still : Bool) (greatest more place : ℕ) → Pairwise IsLower rows → KeepsLines kept → i < length kept → greatest ≤ more → (slice_index_or kept i no_kept).number ≤ more
+    → StandsAt rows (slice_index_or kept i no_kept).number place → (still ≡ true → (same ≡ true) × IsKept (slice_index_or kept i no_kept) (row_at rows place))
+    → Carrying rows kept i places met same greatest → Carrying rows kept (i + 1) (places ++ place ∷ []) (set met place true) still more
+carried_found rows kept i places met same still greatest more place low lines lt le high stands still_is h =
+    let n = (slice_index_or kept i no_kept).number in
+    let ns = kept_numbers (take i kept) in
+    let x = row_at rows place in
+    let e : kept_numbers (take (i + 1) kept) ≡ ns ++ n ∷ [] = numbers_more kept i lt in
+    let number : n ≡ x.number = sym stands.numbered in
+    let none : is_among ns x ≡ false = among_none kept i x lt lines stands.numbered in
+    let f = found_at rows place ns n stands.there number none low in
+    let pushed = rows_push rows places place in
+    let unmarked : get_or met place false ≡ false = h.marks place stands.there ∙ none in
+    let len = h.len in
+    let there = stands.there in
+    record {
+      there = All-push (λ j. j < length rows) places place h.there stands.there;
+      found = ap numbers_of pushed ∙ (map-append (λ (r : Row). r.number) (rows_at rows places) (x ∷ []) ∙ (ap₂ (λ (l : List ℕ) (k : ℕ). l ++ k ∷ []) h.found (sym number) ∙ (sym (filter_last (has_row rows) ns n true (has_some rows n place stands)) ∙ ap (filter (has_row rows)) (sym e))));
+      once = λ others o.
+          let without : IsOrderOf (f.0 ++ f.1) others = subst (λ (r : List Row). IsOrderOf r others) (ap (λ (l : List ℕ). filter (is_lacked l) rows) e ∙ f.3) o in
+          let all : IsOrderOf rows (rows_at rows places ++ x ∷ others) = h.once (x ∷ others) (f.0, f.1, f.2, without) in
+          subst (IsOrderOf rows) (sym (append_assoc (rows_at rows places) (x ∷ []) others) ∙ ap (λ (l : List Row). l ++ others) (sym pushed)) all;
+      among = rw e (All-push (λ p. is_among (ns ++ n ∷ []) (row_at rows p) ≡ true) places place
+          (All-weaker (λ p. is_among ns (row_at rows p) ≡ true) (λ p. is_among (ns ++ n ∷ []) (row_at rows p) ≡ true) (λ p a. among_still ns n (row_at rows p) a) places h.among)
+          (among_same ns n x number));
+      below = All-push (λ p. (row_at rows p).number ≤ more) places place
+          (All-weaker (λ p. (row_at rows p).number ≤ greatest) (λ p. (row_at rows p).number ≤ more) (λ p a. omega arith) places h.below)
+          (omega arith);
+      as_kept = λ s. All-push (λ p. HasKept kept (i + 1) (row_at rows p)) places place
+          (All-weaker (λ p. HasKept kept i (row_at rows p)) (λ p. HasKept kept (i + 1) (row_at rows p)) (λ p a. (a.0, let l = a.1 in omega arith, a.2)) places (h.as_kept (still_is s).0))
+          (i, omega arith, (still_is s).1);
+      line = λ s. subst (Pairwise KeepsLine) (sym pushed)
+          (pairwise_last (rows_at rows places) x
+          (rows_all (λ r. KeepsLine r x) rows places (All-weaker (λ p. HasKept kept i (row_at rows p)) (λ p. KeepsLine (row_at rows p) x) (λ p a. kept_line kept a.0 i (row_at rows p) x a.1 lt lines a.2 (still_is s).1) places (h.as_kept (still_is s).0)))
+          (h.line (still_is s).0));
+      marks = rw e (marks_more rows ns n place met low stands.there h.len number h.marks);
+      len = length-set met place true ∙ h.len;
+      count = ap (λ (k : ℕ). k + count_by not (set met place true)) (length_push places place) ∙ count_more met place (length places) (length rows) (omega arith) unmarked h.count;
+    }
+
+-- the places that aren't marked, of the first i, are put after those that were there
+pub record Adding (rows : List Row) (met : List Bool) (before : List ℕ) (greatest i : ℕ) (places : List ℕ) (above : Bool) : Type 0 where
+  pub there : All (λ j. j < length rows) places
+  pub others : (numbers : List ℕ) → AreMet rows numbers met → rows_at rows places ≡ rows_at rows before ++ filter (is_lacked numbers) (take i rows)
+  pub higher : above ≡ true → (place : ℕ) → place < i → get_or met place false ≡ false → greatest ≤ (row_at rows place).number
+  pub count : length places + count_by not (drop i met) ≡ length before + count_by not met
+
+pub adding_none : (rows : List Row) (met : List Bool) (before : List ℕ) (greatest : ℕ) → All (λ j. j < length rows) before → Adding rows met before greatest 0 before true
+adding_none rows met before greatest there = record {
+  there = there;
+  others = λ numbers m. sym (append-nil (rows_at rows before));
+  higher = λ a place lt. absurd (omega arith);
+  count = refl;
+}
+
+-- what is lacked among one more row
+lacked_more : (rows : List Row) (numbers : List ℕ) (met : List Bool) (i : ℕ) (b : Bool) → i < length rows → get_or met i false ≡ b → AreMet rows numbers met
+    → filter (is_lacked numbers) (take (i + 1) rows) ≡ filter (is_lacked numbers) (take i rows) ++ cond (not b) (row_at rows i ∷ []) []
+lacked_more rows numbers met i b lt e m =
+    filter_more (is_lacked numbers) rows i no_row lt
+    ∙ ap (λ (c : Bool). filter (is_lacked numbers) (take i rows) ++ cond (not c) (row_at rows i ∷ []) []) (sym (m i lt) ∙ e)
+
+count_from : (met : List Bool) (i : ℕ) (b : Bool) → i < length met → get_or met i false ≡ b → count_by not (drop i met) ≡ cond (not b) 1 0 + count_by not (drop (i + 1) met)
+count_from met i b lt e =
+    ap (count_by not) (drop_more met i false lt)
+    ∙ (sum_by-cons (λ (c : Bool). cond (not c) 1 0) (get_or met i false) (drop (i + 1) met)
+    ∙ ap (λ (c : Bool). cond (not c) 1 0 + count_by not (drop (i + 1) met)) e)
+
+pub adding_marked : (rows : List Row) (met : List Bool) (before : List ℕ) (greatest i : ℕ) (places : List ℕ) (above : Bool) → i < length rows → length met ≡ length rows → get_or met i false ≡ true
+    → Adding rows met before greatest i places above → Adding rows met before greatest (i + 1) places above
+adding_marked rows met before greatest i places above lt len e h = record {
+  there = h.there;
+  others = λ numbers m. h.others numbers m ∙ ap (λ (l : List Row). rows_at rows before ++ l) (sym (lacked_more rows numbers met i true lt e m ∙ append-nil (filter (is_lacked numbers) (take i rows))));
+  higher = λ a place below unmarked. elim (cases_lt place i) [
+    | inl before ↦ h.higher a place before unmarked
+    | inr now ↦ absurd (let s : place ≡ i = omega arith in let f : get_or met place false ≡ true = ap (λ (k : ℕ). get_or met k false) s ∙ e in cc)
+  ];
+  count = let n = count_from met i true (omega arith) e in let c = h.count in omega arith;
+}
+
+pub adding_found : (rows : List Row) (met : List Bool) (before : List ℕ) (greatest i : ℕ) (places : List ℕ) (above still : Bool) → i < length rows → length met ≡ length rows → get_or met i false ≡ false
+    → (still ≡ true → (above ≡ true) × (greatest ≤ (row_at rows i).number))
+    → Adding rows met before greatest i places above → Adding rows met before greatest (i + 1) (places ++ i ∷ []) still
+adding_found rows met before greatest i places above still lt len e still_is h = record {
+  there = All-push (λ j. j < length rows) places i h.there lt;
+  others = λ numbers m.
+      rows_push rows places i
+      ∙ (ap (λ (l : List Row). l ++ row_at rows i ∷ []) (h.others numbers m)
+      ∙ (append_assoc (rows_at rows before) (filter (is_lacked numbers) (take i rows)) (row_at rows i ∷ [])
+      ∙ ap (λ (l : List Row). rows_at rows before ++ l) (sym (lacked_more rows numbers met i false lt e m))));
+  higher = λ a place below unmarked. elim (cases_lt place i) [
+    | inl before ↦ h.higher (still_is a).0 place before unmarked
+    | inr now ↦ let s : place ≡ i = omega arith in subst (λ (k : ℕ). greatest ≤ (row_at rows k).number) (sym s) (still_is a).1
+  ];
+  count = let n = count_from met i false (omega arith) e in let c = h.count in let p = length_push places i in omega arith;
+}
+
+order_itself : (rows : List Row) → IsOrderOf rows rows
+order_itself [] = refl
+order_itself (x ∷ rows) = ([], rows, refl, order_itself rows)
+
+-- the rows that are found, and then those that are lacked
+pub carried_once : (rows found all : List Row) (ns : List ℕ) → ((others : List Row) → IsOrderOf (filter (is_lacked ns) rows) others → IsOrderOf rows (found ++ others)) → all ≡ found ++ filter (is_lacked ns) rows → IsOrderOf rows all
+carried_once rows found all ns once e = subst (IsOrderOf rows) (sym e) (once (filter (is_lacked ns) rows) (order_itself (filter (is_lacked ns) rows)))
+
+pairwise_join : (a b : List Row) → Pairwise KeepsLine a → Pairwise KeepsLine b → AllByRecursion (λ x. AllByRecursion (KeepsLine x) b) a → Pairwise KeepsLine (a ++ b)
+pairwise_join [] b p q h = q
+pairwise_join (x ∷ a) b p q h = (join a p.0, pairwise_join a b p.1 q h.1)
+  where
+    join : (a : List Row) → AllByRecursion (KeepsLine x) a → AllByRecursion (KeepsLine x) (a ++ b)
+    join [] i = h.0
+    join (y ∷ a) i = (i.0, join a i.1)
+
+-- what is passed of rising rows keeps all lines
+filter_lines : (p : Row → Bool) (rows : List Row) → Pairwise IsLower rows → Pairwise KeepsLine (filter p rows)
+filter_lines p [] low = tt
+filter_lines p (x ∷ rows) low = by (p x) (filter_lines p rows low.1)
+  where
+    lower : (rows : List Row) → AllByRecursion (IsLower x) rows → AllByRecursion (KeepsLine x) (filter p rows)
+    lower [] h = tt
+    lower (y ∷ rows) h = pass (p y) (lower rows h.1)
+      where
+        pass : (b : Bool) → AllByRecursion (KeepsLine x) (filter p rows) → AllByRecursion (KeepsLine x) (cond b (y ∷ filter p rows) (filter p rows))
+        pass true i = ((λ same. h.0), i)
+        pass false i = i
+
+    by : (b : Bool) → Pairwise KeepsLine (filter p rows) → Pairwise KeepsLine (cond b (x ∷ filter p rows) (filter p rows))
+    by true i = (lower rows low.0, i)
+    by false i = i
+
+filter_facts : (p : Row → Bool) (P : Row → Type 0) (rows : List Row) → AllByRecursion (λ x. p x ≡ true → P x) rows → AllByRecursion (λ x. (p x ≡ true) × P x) (filter p rows)
+filter_facts p P [] h = tt
+filter_facts p P (x ∷ rows) h = by (p x) refl (filter_facts p P rows h.1)
+  where
+    by : (b : Bool) → p x ≡ b → AllByRecursion (λ x. (p x ≡ true) × P x) (filter p rows) → AllByRecursion (λ x. (p x ≡ true) × P x) (cond b (x ∷ filter p rows) (filter p rows))
+    by true e rest = ((e, h.0 e), rest)
+    by false e rest = rest
+
+same_among : (ns : List ℕ) (x y : Row) → x.number ≡ y.number → is_among ns x ≡ is_among ns y
+same_among ns x y e = ap (λ (n : ℕ). list_any (λ (k : ℕ). k == n) ns) e
+
+-- a row that was kept has a lower number than one that the kept order lacks
+across : (ns : List ℕ) (greatest : ℕ) (x y : Row) → is_among ns x ≡ true → x.number ≤ greatest → is_lacked ns y ≡ true → greatest ≤ y.number → KeepsLine x y
+across ns greatest x y among below lacked above same = elim (cases_lt x.number y.number) [
+  | inl lower ↦ lower
+  | inr other ↦ absurd (
+      let e : x.number ≡ y.number = omega arith in
+      let s : is_among ns y ≡ true = sym (same_among ns x y e) ∙ among in
+      let t : is_lacked ns y ≡ false = ap not s in
+      let u : true ≡ false = sym lacked ∙ t in
+      cc)
+]
+
+cross : (ns : List ℕ) (greatest : ℕ) (a b : List Row) → AllByRecursion (λ x. (is_among ns x ≡ true) × (x.number ≤ greatest)) a → AllByRecursion (λ y. (is_lacked ns y ≡ true) × (greatest ≤ y.number)) b → AllByRecursion (λ x. AllByRecursion (KeepsLine x) b) a
+cross ns greatest [] b h i = tt
+cross ns greatest (x ∷ a) b h i = (over b i, cross ns greatest a b h.1 i)
+  where
+    over : (b : List Row) → AllByRecursion (λ y. (is_lacked ns y ≡ true) × (greatest ≤ y.number)) b → AllByRecursion (KeepsLine x) b
+    over [] i = tt
+    over (y ∷ b) i = (across ns greatest x y h.0.0 h.0.1 i.0.0 i.0.1, over b i.1)
+
+lacked_not : (ns : List ℕ) (x : Row) → is_lacked ns x ≡ true → is_among ns x ≡ false
+lacked_not ns x e = by (is_among ns x) refl
+  where
+    by : (b : Bool) → is_among ns x ≡ b → b ≡ false
+    by false f = refl
+    by true f = absurd (let g : true ≡ not true = sym e ∙ ap not f in cc)
+
+pub carried_line : (rows all : List Row) (places : List ℕ) (met : List Bool) (ns : List ℕ) (greatest : ℕ) → Pairwise IsLower rows → AreMet rows ns met → Pairwise KeepsLine (rows_at rows places)
+    → All (λ place. is_among ns (row_at rows place) ≡ true) places → All (λ place. (row_at rows place).number ≤ greatest) places
+    → ((place : ℕ) → place < length rows → get_or met place false ≡ false → greatest ≤ (row_at rows place).number)
+    → all ≡ rows_at rows places ++ filter (is_lacked ns) rows → Pairwise KeepsLine all
+carried_line rows all places met ns greatest low marks line among below above e =
+    let others = filter (is_lacked ns) rows in
+    let a = rows_all (λ x. (is_among ns x ≡ true) × (x.number ≤ greatest)) rows places (λ k d lt. (among k d lt, below k d lt)) in
+    let each = recursion_from_All (λ x. is_lacked ns x ≡ true → greatest ≤ x.number) rows (λ k d lt l.
+    let same : get_or rows k d ≡ row_at rows k = get_or_default rows k d no_row lt in
+    let here : is_among ns (row_at rows k) ≡ false = ap (is_among ns) (sym same) ∙ lacked_not ns (get_or rows k d) l in
+    subst (λ (x : Row). greatest ≤ x.number) (sym same) (above k lt (marks k lt ∙ here))) in
+    let b = filter_facts (is_lacked ns) (λ x. greatest ≤ x.number) rows each in
+    subst (Pairwise KeepsLine) (sym e) (pairwise_join (rows_at rows places) others line (filter_lines (is_lacked ns) rows low) (cross ns greatest (rows_at rows places) others a b))

@@ -1,0 +1,157 @@
+-- How many earlier rows of its line each row waits for, and how that changes when a row goes.
+use Rattle.std.proofs.Common.{◌≡◌, inl, inr, ℕ, zero, suc, ◌+◌, ◌<◌, ◌≤◌, ◌↔◌, Bool, true, false, cond, List, [], ◌∷◌, ◌++◌, length, get_or, set, take, drop, refl, subst, ap, ap₂, sym, ◌∙◌, arith, below_more}
+use Rattle.std.specs.Prelude.{slice_index, remove}
+use Rattle.std.specs.List.{count_by, sum_by}
+use Rattle.std.proofs.lemmas.List.{get_or_append_left, get_or_push, get_or-take, get_or-set_same, get_or-set_other, length-map, length-set, length-take-le, take-map, take-take, take-append-le}
+use Rattle.std.proofs.lemmas.List.Edits.{length-remove, get_or-remove_below, get_or-remove_above}
+use Rattle.std.proofs.lemmas.List.Sums.{sum_by-cons, sum_by-remove}
+use Rattle.std.proofs.lemmas.Bool.{cases_lt}
+use Rattle.claims.specs.declared.row.Row.{Row}
+use Rattle.claims.specs.Claims.{row_at, no_row}
+use Rattle.claims.specs.Safety.{same_line}
+use Rattle.ordered_safety.specs.Scan.{rows_at, row_of, ahead_of, CountsAhead, IsHead}
+use Rattle.ordered_safety.proofs.Comparisons.{row_there}
+
+-- one more count
+pub counts_more : (f : ℕ → ℕ) (counts pushed : List ℕ) (n at : ℕ) → pushed ≡ counts ++ n ∷ [] → length counts ≡ at → ((j : ℕ) → j < at → get_or counts j 0 ≡ f j) → n ≡ f at → (j : ℕ) → j < at + 1 → get_or pushed j 0 ≡ f j
+counts_more f counts pushed n at e len each last = below_more _ _
+    (λ j lt. ap (λ (l : List ℕ). get_or l j 0) e ∙ (get_or_append_left counts (n ∷ []) 0 j (omega arith) ∙ each j lt))
+    (ap (λ (l : List ℕ). get_or l at 0) e ∙ (get_or_push counts n 0 at len ∙ last))
+
+-- the count at the places is that of the rows there
+pub ahead_there : (rows : List Row) (left : List ℕ) (at : ℕ) → at < length left → count_by (same_line (row_of rows left at)) (rows_at rows (take at left)) ≡ ahead_of (rows_at rows left) at
+ahead_there rows left at lt =
+    ap₂ (λ (x : Row) (xs : List Row). count_by (same_line x) xs) (sym (row_there rows left at lt)) (sym (take-map (row_at rows) at left))
+
+plus_none : (a b n : ℕ) → n ≡ 0 → a ≡ b → a + n ≡ b
+plus_none a b n e f = omega arith
+
+plus_one : (a b c n : ℕ) → n ≡ 1 → a + 1 ≡ b → b ≡ c → a + n ≡ c
+plus_one a b c n e f g = omega arith
+
+-- where an earlier row is of its line, a row waits
+pub waits : (xs : List Row) (gone at : ℕ) → gone < at → at < length xs → same_line (row_at xs at) (row_at xs gone) ≡ true → 0 < ahead_of xs at
+waits xs gone at lt le e =
+    let f : Row → ℕ = λ x. cond (same_line (row_at xs at) x) 1 0 in
+    let len : length (take at xs) ≡ at = length-take-le at xs (omega arith) in
+    let sum = sum_by-remove f (take at xs) gone no_row (omega arith) in
+    let here : f (get_or (take at xs) gone no_row) ≡ 1 = ap f (get_or-take at xs gone no_row lt) ∙ ap (λ (b : Bool). cond b 1 0) e in
+    omega arith
+
+-- each later row up to `at` of the line of the row that goes counts one less
+pub record Less (xs : List Row) (counts : List ℕ) (gone at : ℕ) : Type 0 where
+  pub len : length counts ≡ length xs
+  pub front : (j : ℕ) → j < gone + 1 → slice_index counts j ≡ ahead_of xs j
+  pub done : (j : ℕ) → gone < j → j < at → slice_index counts j + cond (same_line (row_at xs j) (row_at xs gone)) 1 0 ≡ ahead_of xs j
+  pub rest : (j : ℕ) → at ≤ j → j < length xs → slice_index counts j ≡ ahead_of xs j
+
+pub less_first : (xs : List Row) (counts : List ℕ) (gone : ℕ) → gone < length xs → CountsAhead xs counts → Less xs counts gone (gone + 1)
+less_first xs counts gone lt h = record {
+  len = h.all;
+  front = λ j below. h.each j (omega arith);
+  done = λ j above below. absurd (omega arith);
+  rest = λ j le there. h.each j there;
+}
+
+pub less_kept : (xs : List Row) (counts : List ℕ) (gone at : ℕ) → at < length xs → same_line (row_at xs at) (row_at xs gone) ≡ false → Less xs counts gone at → Less xs counts gone (at + 1)
+less_kept xs counts gone at lt other h = record {
+  len = h.len;
+  front = h.front;
+  done = λ j above below. elim (cases_lt j at) [
+    | inl before ↦ h.done j above before
+    | inr now ↦
+        let e : j ≡ at = omega arith in
+        let s : slice_index counts at + cond (same_line (row_at xs at) (row_at xs gone)) 1 0 ≡ ahead_of xs at =
+        plus_none (slice_index counts at) (ahead_of xs at) (cond (same_line (row_at xs at) (row_at xs gone)) 1 0) (ap (λ (b : Bool). cond b 1 0) other) (h.rest at (omega arith) lt) in
+        subst (λ (k : ℕ). slice_index counts k + cond (same_line (row_at xs k) (row_at xs gone)) 1 0 ≡ ahead_of xs k) (sym e) s
+  ];
+  rest = λ j le there. h.rest j (omega arith) there;
+}
+
+pub less_taken : (xs : List Row) (counts : List ℕ) (gone at n : ℕ) → gone < at → at < length xs → n + 1 ≡ slice_index counts at → same_line (row_at xs at) (row_at xs gone) ≡ true → Less xs counts gone at → Less xs (set counts at n) gone (at + 1)
+less_taken xs counts gone at n above_gone lt less same h =
+    let len = h.len in record {
+      len = length-set counts at n ∙ h.len;
+      front = λ j below. get_or-set_other counts at j n 0 (omega arith) ∙ h.front j below;
+      done = λ j above below. elim (cases_lt j at) [
+        | inl before ↦ rw (get_or-set_other counts at j n 0 (omega arith)) (h.done j above before)
+        | inr now ↦
+            let e : j ≡ at = omega arith in
+            let here : slice_index (set counts at n) at ≡ n = get_or-set_same counts at n 0 (omega arith) in
+            let s : slice_index (set counts at n) at + cond (same_line (row_at xs at) (row_at xs gone)) 1 0 ≡ ahead_of xs at =
+            plus_one (slice_index (set counts at n) at) (slice_index counts at) (ahead_of xs at) (cond (same_line (row_at xs at) (row_at xs gone)) 1 0) (ap (λ (b : Bool). cond b 1 0) same) (ap (λ (k : ℕ). k + 1) here ∙ less) (h.rest at (omega arith) lt) in
+            subst (λ (k : ℕ). slice_index (set counts at n) k + cond (same_line (row_at xs k) (row_at xs gone)) 1 0 ≡ ahead_of xs k) (sym e) s
+      ];
+      rest = λ j le there. get_or-set_other counts at j n 0 (omega arith) ∙ h.rest j (omega arith) there;
+    }
+
+take_nil : (k : ℕ) → take {A = Row} k [] ≡ []
+take_nil zero = refl
+take_nil (suc k) = refl
+
+take_removed : (xs : List Row) (k gone : ℕ) → gone ≤ k → take k (remove xs gone) ≡ remove (take (suc k) xs) gone
+take_removed [] k zero le = take_nil k
+take_removed [] k (suc gone) le = take_nil k
+take_removed (x ∷ xs) k zero le = refl
+take_removed (x ∷ xs) zero (suc gone) le = absurd (omega arith)
+take_removed (x ∷ xs) (suc k) (suc gone) le = ap (λ (r : List Row). x ∷ r) (take_removed xs k gone (omega arith))
+
+ahead_below : (xs : List Row) (gone k : ℕ) → k < gone → gone < length xs → ahead_of (remove xs gone) k ≡ ahead_of xs k
+ahead_below xs gone k lt le =
+    let front : take k (remove xs gone) ≡ take k xs =
+    take-append-le k (take gone xs) (drop (suc gone) xs) (let len = length-take-le gone xs (omega arith) in omega arith) ∙ take-take k gone xs (omega arith) in
+    ap₂ (λ (x : Row) (r : List Row). count_by (same_line x) r) (get_or-remove_below xs gone no_row k lt le) front
+
+ahead_above : (xs : List Row) (gone k : ℕ) → gone ≤ k → k + 1 < length xs → ahead_of (remove xs gone) k + cond (same_line (row_at xs (k + 1)) (row_at xs gone)) 1 0 ≡ ahead_of xs (k + 1)
+ahead_above xs gone k le lt =
+    let x = row_at xs (k + 1) in
+    let f : Row → ℕ = λ y. cond (same_line x y) 1 0 in
+    let s : suc k ≡ k + 1 = omega arith in
+    let len : length (take (k + 1) xs) ≡ k + 1 = length-take-le (k + 1) xs (omega arith) in
+    let sum = sum_by-remove f (take (k + 1) xs) gone no_row (omega arith) in
+    let here : f (get_or (take (k + 1) xs) gone no_row) ≡ f (row_at xs gone) = ap f (get_or-take (k + 1) xs gone no_row (omega arith)) in
+    let front : take k (remove xs gone) ≡ remove (take (k + 1) xs) gone = take_removed xs k gone le ∙ ap (λ (i : ℕ). remove (take i xs) gone) s in
+    let count : ahead_of (remove xs gone) k ≡ sum_by f (remove (take (k + 1) xs) gone) =
+    ap₂ (λ (y : Row) (r : List Row). count_by (same_line y) r) (get_or-remove_above xs gone no_row k le (omega arith)) front in
+    omega arith
+
+pub less_removed : (xs : List Row) (counts : List ℕ) (gone at : ℕ) → gone < length xs → length xs ≤ at → Less xs counts gone at → CountsAhead (remove xs gone) (remove counts gone)
+less_removed xs counts gone at lt end h =
+    let len = h.len in
+    let a = length-remove xs gone lt in
+    let b = length-remove counts gone (omega arith) in
+    record {
+      all = omega arith;
+      each = λ k there. elim (cases_lt k gone) [
+        | inl below ↦ get_or-remove_below counts gone 0 k below (omega arith) ∙ (h.front k (omega arith) ∙ sym (ahead_below xs gone k below lt))
+        | inr above ↦
+            let s : slice_index (remove counts gone) k ≡ slice_index counts (k + 1) = get_or-remove_above counts gone 0 k above (omega arith) in
+            let d = h.done (k + 1) (omega arith) (omega arith) in
+            let e = ahead_above xs gone k above (omega arith) in
+            omega arith
+      ];
+    }
+
+none_counted : (p : Row → Bool) (rows : List Row) (places : List ℕ) → ((j : ℕ) → j < length places → p (row_at rows (slice_index places j)) ≡ false) → count_by p (rows_at rows places) ≡ 0
+none_counted p rows [] none = refl
+none_counted p rows (i ∷ places) none =
+    let first : cond (p (row_at rows i)) 1 0 ≡ 0 = ap (λ (b : Bool). cond b 1 0) (none 0 (omega arith)) in
+    let rest = none_counted p rows places (λ j lt. none (suc j) (omega arith)) in
+    let s = sum_by-cons (λ (x : Row). cond (p x) 1 0) (row_at rows i) (rows_at rows places) in
+    s ∙ (ap₂ (λ (a b : ℕ). a + b) first rest)
+
+-- a row that waits for none is a head
+pub head_where : (rows : List Row) (left : List ℕ) (at : ℕ) → at < length left → (ahead_of (rows_at rows left) at ≡ 0) ↔ IsHead rows (take at left) (slice_index left at)
+head_where rows left at lt = (
+  λ none j below.
+      let small : length (take at left) ≡ at = length-take-le at left (omega arith) in
+      let here : slice_index (take at left) j ≡ slice_index left j = get_or-take at left j 0 (omega arith) in
+      let same : same_line (row_of rows left at) (row_at rows (slice_index (take at left) j)) ≡ same_line (row_at (rows_at rows left) at) (row_at (rows_at rows left) j) =
+      ap₂ same_line (sym (row_there rows left at lt)) (ap (row_at rows) here ∙ sym (row_there rows left j (omega arith))) in
+      same ∙ by j (omega arith) none (same_line (row_at (rows_at rows left) at) (row_at (rows_at rows left) j)) refl,
+  λ head. sym (ahead_there rows left at lt) ∙ none_counted (same_line (row_of rows left at)) rows (take at left) head,
+)
+  where
+    by : (j : ℕ) → j < at → ahead_of (rows_at rows left) at ≡ 0 → (b : Bool) → same_line (row_at (rows_at rows left) at) (row_at (rows_at rows left) j) ≡ b → b ≡ false
+    by j lt' none false e = refl
+    by j lt' none true e = absurd (let n = length-map left (row_at rows) in let w = waits (rows_at rows left) j at lt' (omega arith) e in omega arith)

@@ -1,0 +1,37 @@
+use Rattle.std.proofs.Common.{◌≡◌, ◌≤◌, ◌∷◌, [], true, false, refl, ap, sym, ◌∙◌, arith}
+use Rattle.std.proofs.lemmas.Slice.{pushed}
+use Rattle.claims.specs.declared.row.Row.{Row}
+use Rattle.claims.specs.Claims.{row_at}
+use Rattle.ordered_safety.proofs.Carries.{adding_none, adding_marked, adding_found}
+use Rattle.ordered_safety.proofs.carry.place_others.Goals as goal
+use Rattle.ordered_safety.proofs.carry.place_others.Goals.{then-get-greatest, else-get-greatest}
+
+pub loop-place-init : goal.loop-place-init
+loop-place-init c = record {
+  adding = adding_none c.args.rows.now c.args.met.now c.args.places.now.items c.args.greatest c.requires.there;
+  room = omega arith;
+}
+
+pub loop-place-preserved-then-met-place : goal.loop-place-preserved-then-met-place
+loop-place-preserved-then-met-place c =
+    let old = c.loop-place.invariant in
+    let lt = c.loop-place-test.true in
+    record {
+      adding = adding_marked c.args.rows.now c.args.met.now c.args.places.now.items c.args.greatest c.loop-place.place c.loop-place.places.items c.loop-place.above (let l = c.len-place-end.ensures in omega arith) c.requires.met c.if-met-place.true old.adding;
+      room = old.room;
+    }
+
+pub loop-place-preserved : goal.loop-place-preserved
+loop-place-preserved c =
+    let old = c.loop-place.invariant in
+    let items = pushed (c.loop-place.place ∷ []) refl c.unwrap.ensures c.push.ensures.items in
+    let lt = c.loop-place-test.true in
+    let still : c.if-get-greatest.above ≡ true → (c.loop-place.above ≡ true) × (c.args.greatest ≤ (row_at c.args.rows.now c.loop-place.place).number) = λ e.
+    elim c.if-get-greatest.branch [
+      | then-get-greatest w ↦ absurd (let s = w.above-is in let f : true ≡ false = sym e ∙ s in cc)
+      | else-get-greatest w ↦ let n = ap (λ (r : Row). r.number) c.get.ensures in let le = w.if-get-greatest.false in (sym w.above-is ∙ e, omega arith)
+    ] in
+    record {
+      adding = rw items (adding_found c.args.rows.now c.args.met.now c.args.places.now.items c.args.greatest c.loop-place.place c.loop-place.places.items c.loop-place.above c.if-get-greatest.above (let l = c.len-place-end.ensures in omega arith) c.requires.met c.if-met-place.false still old.adding);
+      room = let e = c.push.ensures.capacity in let r = old.room in omega arith;
+    }

@@ -1,0 +1,29 @@
+use Rattle.std.proofs.Common.{length, map, subst, ap, sym, ◌∙◌, arith}
+use Rattle.std.proofs.lemmas.Grind.{common_steps}
+use Rattle.std.proofs.lemmas.List.{take_all, length-map}
+use Rattle.ordered_safety.specs.Scan.{rows_at}
+use Rattle.ordered_safety.specs.Kept.{kept_numbers, KeepsLines}
+use Rattle.ordered_safety.proofs.Keeps.{kept_at, kept_numbers_are, lines_kept}
+use Rattle.ordered_safety.proofs.Walks.{order_long}
+use Rattle.claims.specs.Claims.{row_at}
+use Rattle.ordered_safety.proofs.kept.keep.Goals as goal
+
+pub unwrap-requires : goal.unwrap-requires
+unwrap-requires c =
+    let rows = c.args.rows.now in
+    let places = c.args.places.now in
+    let long = order_long rows (rows_at rows places) c.requires.once in
+    let as_many = length-map places (row_at rows) in
+    let room = c.loop-place.invariant.room in
+    let len = ap length c.loop-place.invariant.kept in
+    grind (arith, common_steps)
+
+pub returns-clause-numbers : goal.returns-clause-numbers
+returns-clause-numbers c =
+    let all = take_all c.loop-place.place-index c.args.places.now c.loop-place-test.false in
+    ap kept_numbers (c.loop-place.invariant.kept ∙ ap (map (kept_at c.args.rows.now)) all) ∙ kept_numbers_are c.args.rows.now c.args.places.now
+
+pub returns-clause-lines : goal.returns-clause-lines
+returns-clause-lines c =
+    let all = take_all c.loop-place.place-index c.args.places.now c.loop-place-test.false in
+    subst KeepsLines (sym (c.loop-place.invariant.kept ∙ ap (map (kept_at c.args.rows.now)) all)) (lines_kept c.args.rows.now c.args.places.now c.requires.rising c.requires.once c.requires.line)

@@ -1,0 +1,33 @@
+use Rattle.std.proofs.Common.{◌≡◌, List, length, subst, ap, ◌∙◌, ℕ, arith}
+use Rattle.std.proofs.lemmas.List.{length-map}
+use Rattle.counts.specs.Amounts.{amount}
+use Rattle.claims.specs.Claims.{row_at}
+use Rattle.claims.specs.Safety.{AreFinishing}
+use Rattle.ordered_safety.specs.Scan.{rows_at}
+use Rattle.ordered_safety.specs.Carried.{numbers_of}
+use Rattle.ordered_safety.proofs.Walks.{finishing_is, order_long}
+use Rattle.ordered_safety.proofs.trial.try_kept.Goals as goal
+
+pub returns-then-carry-clause-order : goal.returns-then-carry-clause-order
+returns-then-carry-clause-order c = λ yes.
+    let rows = c.args.rows.now in
+    finishing_is (amount c.args.free.now) rows (rows_at rows c.carry.new.places.items) c.requires.rising c.carry.ensures.once
+    (subst (λ (l : List ℕ). AreFinishing (amount c.args.free.now) rows (numbers_of (rows_at rows l))) c.as_slice.ensures.value (c.walk.ensures.exact.0 yes))
+
+pub put_numbers-requires-clause-room : goal.put_numbers-requires-clause-room
+put_numbers-requires-clause-room c =
+    let rows = c.args.rows.now in
+    let places = c.carry.new.places.items in
+    let long = order_long rows (rows_at rows places) c.carry.ensures.once in
+    let as_many = length-map places (row_at rows) in
+    let same = ap length c.as_slice-2.ensures.value in
+    let room = c.requires.numbers in
+    omega arith
+
+pub returns-clause-order : goal.returns-clause-order
+returns-clause-order c = λ yes.
+    let rows = c.args.rows.now in
+    let numbers : c.as_slice-3.result.now ≡ numbers_of (rows_at rows c.carry.new.places.items) =
+    c.as_slice-3.ensures.value ∙ (c.put_numbers.ensures.numbers ∙ ap (λ (l : List ℕ). numbers_of (rows_at rows l)) c.as_slice-2.ensures.value) in
+    finishing_is (amount c.args.free.now) rows (rows_at rows c.carry.new.places.items) c.requires.rising c.carry.ensures.once
+    (subst (AreFinishing (amount c.args.free.now) rows) numbers (c.follow.ensures.exact.0 yes))
