@@ -344,7 +344,7 @@ front_at t now all printed file v e p lt read =
     let l = length-drop printed all in
     let rest = drop (printed + 1) all in
     let front : drop printed all ≡ file ∷ rest =
-        drop_more all printed 0 lt ∙ ap (λ (x : ℕ). x ∷ rest) (sym (read ∙ get_or_default all printed file 0 lt)) in
+    drop_more all printed 0 lt ∙ ap (λ (x : ℕ). x ∷ rest) (sym (read ∙ get_or_default all printed file 0 lt)) in
     record {
       is = ap (λ (ps : List ℕ). record t { prints = ps }) (sym (e ∙ front)) ∙ v;
       front = e ∙ front;
@@ -356,7 +356,7 @@ pub front_file : (t now : Kept) (all : List ℕ) (printed file : ℕ) → t ≡ 
     → 0 < length (places_left now.files now.prints now.turned) → file ≡ get_or all printed file → Front t now file (drop (printed + 1) all)
 front_file t now all printed file v e p some read =
     let here : 0 < length (places_left t.files (drop printed all) t.turned) =
-        subst (λ (ps : List ℕ). 0 < length (places_left t.files ps t.turned)) e (subst (λ (u : Kept). 0 < length (places_left u.files u.prints u.turned)) (sym v) some) in
+    subst (λ (ps : List ℕ). 0 < length (places_left t.files ps t.turned)) e (subst (λ (u : Kept). 0 < length (places_left u.files u.prints u.turned)) (sym v) some) in
     let more = some_left t.files (drop printed all) t.turned here in
     let l = length-drop printed all in
     front_at t now all printed file v e p (omega (arith, more, l)) read

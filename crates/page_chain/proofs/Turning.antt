@@ -203,8 +203,8 @@ gap_counts n r j pages page le lt out others =
           let next = numbered_at n r (suc (length pages)) le more in
           let longer = pages ++ page ∷ [] in
           let other : next.0 ≡ j → ⊥ = λ e.
-              let some = sym (slice_push pages page) ∙ (sym (ap (slice_get longer) last) ∙ (sym (a.reads longer) ∙ (sym (ap (λ (k : ℕ). get_or (by_number r (padded n longer)) k None) e) ∙ next.2 longer))) in
-              not_some page (sym (slice_get_past longer (suc (length pages)) (let l = length_push pages page in omega (arith, l))) ∙ sym some) in
+          let some = sym (slice_push pages page) ∙ (sym (ap (slice_get longer) last) ∙ (sym (a.reads longer) ∙ (sym (ap (λ (k : ℕ). get_or (by_number r (padded n longer)) k None) e) ∙ next.2 longer))) in
+          not_some page (sym (slice_get_past longer (suc (length pages)) (let l = length_push pages page in omega (arith, l))) ∙ sym some) in
           absurd (not_both (get_or (by_number r (padded n pages)) next.0 None) (next.2 pages ∙ slice_get_past pages (suc (length pages)) (omega arith)) (others next.0 next.1 other))
       | inr all ↦ omega (arith, short, all)
     ]
@@ -222,17 +222,19 @@ pub last_is_gap : (n r number : ℕ) (pages : List Page) → (r ≡ suc number) 
     → (get_or (by_number r (padded n pages)) number None ≡ None)
     × ((m : ℕ) → m < n → (m ≡ number → ⊥) → IsSome (get_or (by_number r (padded n pages)) m None))
 unfolding at_front at_back
-last_is_gap n r number pages (inl e) le lt l =
-    ((at_front n r number le (omega (arith, e))).reads pages ∙ slice_get_past pages (n - r + number) (omega (arith, e, l, le)),
-     λ m ml ne. elim (cases_lt m r) [
-       | inl front ↦ subst (λ (o : Option Page). IsSome o) (sym ((at_front n r m le front).reads pages)) (slice_some pages (n - r + m) (omega (arith, e, l, le, front, ne)))
-       | inr back ↦ subst (λ (o : Option Page). IsSome o) (sym ((at_back n r m back ml).reads pages)) (slice_some pages (m - r) (omega (arith, e, l, le, back, ml)))
-     ])
+last_is_gap n r number pages (inl e) le lt l = (
+  (at_front n r number le (omega (arith, e))).reads pages ∙ slice_get_past pages (n - r + number) (omega (arith, e, l, le)),
+  λ m ml ne. elim (cases_lt m r) [
+    | inl front ↦ subst (λ (o : Option Page). IsSome o) (sym ((at_front n r m le front).reads pages)) (slice_some pages (n - r + m) (omega (arith, e, l, le, front, ne)))
+    | inr back ↦ subst (λ (o : Option Page). IsSome o) (sym ((at_back n r m back ml).reads pages)) (slice_some pages (m - r) (omega (arith, e, l, le, back, ml)))
+  ],
+)
 last_is_gap n r number pages (inr e) le lt l =
     let z = e.0 in
-    let all = e.1 in
-    ((at_back n r number (omega (arith, z)) lt).reads pages ∙ slice_get_past pages (number - r) (omega (arith, z, all, l)),
-     λ m ml ne. subst (λ (o : Option Page). IsSome o) (sym ((at_back n r m (omega (arith, z)) ml).reads pages)) (slice_some pages (m - r) (omega (arith, z, all, l, ml, ne))))
+    let all = e.1 in (
+      (at_back n r number (omega (arith, z)) lt).reads pages ∙ slice_get_past pages (number - r) (omega (arith, z, all, l)),
+      λ m ml ne. subst (λ (o : Option Page). IsSome o) (sym ((at_back n r m (omega (arith, z)) ml).reads pages)) (slice_some pages (m - r) (omega (arith, z, all, l, ml, ne))),
+    )
 
 -- a page that comes back goes to the end
 pub turned_back : (n r j : ℕ) (pages : List Page) (page : Page) → r ≤ n → j < n → get_or (by_number r (padded n pages)) j None ≡ None

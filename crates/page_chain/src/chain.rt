@@ -70,7 +70,7 @@ impl Model for Chain {
         × (99 ≤ vec_capacity c.prints)
         × (c.printed ≤ vec_len c.prints)
         × (c.is_open ≡ true → (0 < vec_len c.files)
-            × (drop c.printed c.prints.items ≡ []) × (c.last ≡ None))
+        × (drop c.printed c.prints.items ≡ []) × (c.last ≡ None))
         × CanPrint c.files.items (drop c.printed c.prints.items) c.turned
         × IsOfFile c.files.items c.last
         × HasTurned c.files.items (drop c.printed c.prints.items) c.turned c.last };
@@ -108,7 +108,7 @@ impl Chain {
     pub fn is_open(&self) -> bool
         ensures { result ≡ self.now.is_open }
     {
-        self.is_open
+        self.is_open // the last of the files
     }
 
     /// Whether no file is open, no place is still to be handed out, and none was.

@@ -80,7 +80,8 @@ invariant_of-self c =
       omega arith,
       λ is_open. absurd (both_ways f.is_open closed is_open),
       subst (λ (fs : List Run). CanPrint fs prints 0) (sym after) (can_print t n names prints empty held listed),
-      tt, tt,
+      tt,
+      tt,
     )
 
 pub returns-clause-chain : goal.returns-clause-chain

@@ -19,18 +19,19 @@ returns c =
     let prints = f.prints.items in
     let t : Kept = record { row = f.row; files = files; is_open = f.is_open; prints = drop f.printed prints; turned = f.turned; last = f.last; file_room = f.file_room } in
     let v : t ≡ c.args.self.now = c.self.view_is in
-    let n : c.len.result ≡ length prints = grind (arith, common_steps) in
-    (λ same.
-      let e = eqb-true f.printed c.len.result same in
-      let over = drop_all f.printed prints (omega (arith, e, n)) in
-      subst IsIdle v (record {
-        closed = c.if-self.false;
-        placed = ap (λ (ps : List ℕ). places_left files ps f.turned) over ∙ none_printed files f.turned;
-        fresh = none_is f.last (sym c.is_some.ensures ∙ c.if-is_some.false);
-      }),
-     λ h.
-      let i = subst IsIdle (sym v) h in
-      let over = ap length (none_left files (drop f.printed prints) f.turned c.self.invariant.7 i.placed) in
-      let l = length-drop f.printed prints in
-      let within : f.printed ≤ length prints = grind (arith, common_steps, c.self.invariant.5) in
-      eq-eqb f.printed c.len.result (omega (arith, over, l, within, n)))
+    let n : c.len.result ≡ length prints = grind (arith, common_steps) in (
+      λ same.
+          let e = eqb-true f.printed c.len.result same in
+          let over = drop_all f.printed prints (omega (arith, e, n)) in
+          subst IsIdle v (record {
+            closed = c.if-self.false;
+            placed = ap (λ (ps : List ℕ). places_left files ps f.turned) over ∙ none_printed files f.turned;
+            fresh = none_is f.last (sym c.is_some.ensures ∙ c.if-is_some.false);
+          }),
+      λ h.
+          let i = subst IsIdle (sym v) h in
+          let over = ap length (none_left files (drop f.printed prints) f.turned c.self.invariant.7 i.placed) in
+          let l = length-drop f.printed prints in
+          let within : f.printed ≤ length prints = grind (arith, common_steps, c.self.invariant.5) in
+          eq-eqb f.printed c.len.result (omega (arith, over, l, within, n)),
+    )

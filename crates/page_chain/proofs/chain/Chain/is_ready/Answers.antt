@@ -17,13 +17,14 @@ returns-in-Some c =
     let all = c.deref.ensures.value in
     let lt : f.printed < length prints = (let l = ap length all in let m = ltb-true f.printed (length c.deref.result.now) (sym c.in-Some.ensures.lookup.0) in omega (arith, l, m)) in
     let is : file ≡ get_or prints f.printed file = c.in-Some.ensures.lookup.1 ∙ ap (λ (xs : List ℕ). get_or xs f.printed file) all in
-    let g = front_at t c.args.self.now prints f.printed file v refl c.self.invariant.7 lt is in
-    (λ some.
-      let m = ltb-true 0 c.len.result some in
-      let e = c.len.ensures in
-      subst (λ (u : Kept). IsReady (shown u n)) g.is (ready t n file rest g.can (pages_in n f.row file) refl (omega (arith, m, e))),
-     λ h.
-      let r = subst (λ (u : Kept). IsReady (shown u n)) (sym g.is) h in
-      let m = next_front t n file rest g.can r.here in
-      let e = c.len.ensures in
-      lt-ltb 0 c.len.result (omega (arith, m, e)))
+    let g = front_at t c.args.self.now prints f.printed file v refl c.self.invariant.7 lt is in (
+      λ some.
+          let m = ltb-true 0 c.len.result some in
+          let e = c.len.ensures in
+          subst (λ (u : Kept). IsReady (shown u n)) g.is (ready t n file rest g.can (pages_in n f.row file) refl (omega (arith, m, e))),
+      λ h.
+          let r = subst (λ (u : Kept). IsReady (shown u n)) (sym g.is) h in
+          let m = next_front t n file rest g.can r.here in
+          let e = c.len.ensures in
+          lt-ltb 0 c.len.result (omega (arith, m, e)),
+    )
