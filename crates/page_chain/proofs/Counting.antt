@@ -1,15 +1,13 @@
 -- The pages of a chain among those of all chains: how many they are, and of which size.
-use Rattle.std.proofs.Common.{◌≡◌, ℕ, zero, suc, ◌+◌, ◌*◌, ◌<◌, ◌≤◌, Bool, true, false, cond, Option, Some, None, List, [], ◌∷◌, ◌++◌, length, take, drop, get_or, replicate, refl, sym, ◌∙◌, ap, subst, arith}
-use Rattle.std.specs.List.Sorted.{IsPermutation}
-use Rattle.std.proofs.lemmas.Bool.{cases_Bool, cond-true, cond-false}
+use Rattle.std.proofs.Common.{◌≡◌, ℕ, zero, suc, ◌+◌, ◌*◌, ◌<◌, ◌≤◌, Bool, true, false, cond, Some, List, [], ◌∷◌, ◌++◌, length, take, drop, get_or, replicate, refl, sym, ap, subst, arith}
 use Rattle.std.proofs.lemmas.List.{length-append, length-replicate, get_or-replicate, take_more, take-append-drop}
 use Rattle.std.proofs.lemmas.List.Sorted.{length_permutation}
 use Rattle.page_pool.specs.Page.{Page}
 use Rattle.page_nodes.specs.Chains.{Chains, AreOfSize, total}
-use Rattle.page_chain.specs.Files.{File, Files, every_page, names_of, there}
+use Rattle.page_chain.specs.Files.{File, every_page, names_of, there}
 use Rattle.page_chain.specs.Changes.{dropped_from, is_among, kept_from, numbers_of, unnamed_pages, with_page}
 use Rattle.page_chain.specs.Drained.{dropped_in}
-use Rattle.page_chain.specs.Held.{Kept, IsFreeRow, IsHeld, pages_in, shown}
+use Rattle.page_chain.specs.Held.{IsFreeRow}
 use Rattle.page_chain.specs.Laws.{AreCounted, ReturnsOfThese}
 use Rattle.page_chain.proofs.Turning.{sized_both, sized_front, sized_back, there-append}
 use Rattle.page_chain.proofs.Dropping.{all_count}

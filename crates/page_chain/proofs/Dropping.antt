@@ -9,12 +9,12 @@ use Rattle.page_chain.specs.declared.run.Run.{Run}
 use Rattle.page_chain.specs.declared.place.Place.{Place}
 use Rattle.page_chain.specs.Files.{File, no_file, file_at, names_of, there, every_page, numbered}
 use Rattle.page_chain.specs.Changes.{is_among, numbers_of, kept_from, dropped_from, unnamed_pages, places_of, placed}
-use Rattle.page_chain.specs.Held.{Kept, Leads, IsHeld, OnlyRow, CanPrint, no_run, run_at, names_in, turned_in, padded, by_number, file_shown, pages_in, files_from, places_left, shown}
+use Rattle.page_chain.specs.Held.{Kept, Leads, IsHeld, IsIdle, OnlyRow, CanPrint, no_run, run_at, names_in, turned_in, padded, by_number, file_shown, pages_in, files_from, places_left, shown}
 use Rattle.page_chain.specs.Drained.{dropped_in, left_in, runs_kept}
 use Rattle.page_chain.proofs.Turning.{there_count, there_sized, sized_front, sized_back}
 use Rattle.page_chain.proofs.Seen.{file_of, size_of, seen_by_place, length-files_from, names_shown}
 use Rattle.page_chain.proofs.Rows.{row_stays}
-use Rattle.page_chain.proofs.Places.{turned_none}
+use Rattle.page_chain.proofs.Places.{none_left, turned_none}
 use Rattle.page_chain.proofs.Draining.{left_kept, left_gone, left_beyond}
 use Rattle.page_chain.proofs.Forgetting.{kept_run, length-runs_kept}
 
@@ -321,3 +321,27 @@ module _ (c : Kept) (nodes : Chains) (names : List (List ℕ)) (prints : List �
           only = only;
           row = refl;
         }
+
+-- the same of a chain that is seen from outside
+module _ (t now : Kept) (nodes : Chains) (names : List (List ℕ)) (prints : List ℕ) (v : t ≡ now) (p : CanPrint t.files t.prints t.turned) (idle : IsIdle now) (h : IsHeld now nodes)
+    (listed : prints ≡ filter (has_page t.files) (numbers_of (names_in t.files) names)) where
+  none : t.prints ≡ []
+  none = none_left t.files t.prints t.turned p (subst (λ (u : Kept). places_left u.files u.prints u.turned ≡ []) (sym v) idle.placed)
+
+  held : IsHeld t nodes
+  held = subst (λ (u : Kept). IsHeld u nodes) (sym v) h
+
+  pub seen_sized : (size i : ℕ) → AreOfSize size (unnamed_pages (shown now nodes).files names) → i < length t.files → is_among prints i ≡ false → AreOfSize size (pages_in nodes t.row i)
+  seen_sized size i s = dropped_are t nodes names prints none held listed size i (subst (λ (u : Kept). AreOfSize size (unnamed_pages (shown u nodes).files names)) (sym v) s)
+
+  pub seen_count : dropped_in nodes t.row prints (length t.files) ≡ length (unnamed_pages (shown now nodes).files names)
+  seen_count = dropped_all t nodes names prints none held listed ∙ ap (λ (u : Kept). length (unnamed_pages (shown u nodes).files names)) v
+
+  pub seen_prints : CanPrint (runs_kept 0 prints t.files) prints 0
+  seen_prints = can_print t nodes names prints none held listed
+
+  pub seen_leads : (new : Chains) → ((i : ℕ) → i < 52 → pages_in new t.row i ≡ left_in nodes t.row prints (length t.files) i) → OnlyRow nodes new t.row
+      → Leads now (record t { files = runs_kept 0 prints t.files; prints = prints; turned = 0; last = None }) nodes new (placed names (shown now nodes))
+  seen_leads new left only =
+      subst (λ (u : Kept). Leads u (record t { files = runs_kept 0 prints t.files; prints = prints; turned = 0; last = None }) nodes new (placed names (shown u nodes))) v
+      (leads t nodes names prints none held listed new left only (subst (λ (u : Kept). u.is_open ≡ false) (sym v) idle.closed))

@@ -1,8 +1,10 @@
+mod Inside
 mod Turning
 mod Seen
 mod Rows
 mod Places
 mod Calls
+mod Taking
 mod Draining
 mod Forgetting
 mod Dropping

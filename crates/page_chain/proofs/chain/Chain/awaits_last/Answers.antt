@@ -1,10 +1,11 @@
-use Rattle.std.proofs.Common.{◌≡◌, ◌-◌, ◌<◌, ◌≤◌, suc, Some, List, [], drop, length, get_or, sym, ◌∙◌, ap, subst, arith}
+use Rattle.std.proofs.Common.{◌≡◌, ◌-◌, List, [], drop, get_or, sym, ◌∙◌, ap, subst, arith}
 use Rattle.std.proofs.lemmas.Bool.{eqb-true, eq-eqb}
 use Rattle.std.proofs.lemmas.List.{get_or_default}
 use Rattle.page_pool.specs.Page.{Page}
 use Rattle.page_chain.specs.declared.run.Run.{Run}
 use Rattle.page_chain.specs.Changes.{AwaitsLast}
-use Rattle.page_chain.specs.Held.{Kept, IsHeld, IsOfFile, HasTurned, no_run, run_at, shown}
+use Rattle.page_chain.specs.Held.{Kept, IsHeld, IsOfFile, HasTurned, no_run, shown}
+use Rattle.page_chain.proofs.Inside.{kept_of}
 use Rattle.page_chain.proofs.Calls.{awaits, awaits_counts, file_there}
 use Rattle.page_chain.proofs.chain.Chain.awaits_last.Goals as goal
 
@@ -14,7 +15,7 @@ returns-in-Some c =
     let n = c.args.nodes.now in
     let files = f.files.items in
     let place = c.in-Some.place in
-    let t : Kept = record { row = f.row; files = files; is_open = f.is_open; prints = drop f.printed f.prints.items; turned = f.turned; last = f.last; file_room = f.file_room } in
+    let t = kept_of f in
     let v : t ≡ c.args.self.now = c.self.view_is in
     let number = subst (IsOfFile files) c.in-Some.is c.self.invariant.8 in
     let turned = subst (HasTurned files (drop f.printed f.prints.items) f.turned) c.in-Some.is c.self.invariant.9 in

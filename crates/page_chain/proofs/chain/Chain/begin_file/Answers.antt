@@ -5,6 +5,7 @@ use Rattle.page_chain.specs.declared.run.Run.{Run}
 use Rattle.page_chain.specs.declared.place.Place.{Place}
 use Rattle.page_chain.specs.Changes.{begun}
 use Rattle.page_chain.specs.Held.{Kept, Turns, names_in, places_left, HasTurned, IsOfFile}
+use Rattle.page_chain.proofs.Inside.{kept_of}
 use Rattle.page_chain.proofs.Places.{none_left}
 use Rattle.page_chain.proofs.Calls.{begins, print_none, of_file_push}
 use Rattle.page_chain.proofs.chain.Chain.begin_file.Goals as goal
@@ -13,7 +14,7 @@ pub invariant_of-self : goal.invariant_of-self
 invariant_of-self c =
     let f = c.self.inside in
     let i = c.self.invariant in
-    let t : Kept = record { row = f.row; files = f.files.items; is_open = f.is_open; prints = drop f.printed f.prints.items; turned = f.turned; last = f.last; file_room = f.file_room } in
+    let t = kept_of f in
     let v : t ≡ c.args.self.now = c.self.view_is in
     let placed = subst (λ (u : Kept). places_left u.files u.prints u.turned ≡ []) (sym v) c.requires.placed in
     let empty = none_left f.files.items (drop f.printed f.prints.items) f.turned i.7 placed in
@@ -38,7 +39,7 @@ pub returns-clause-begun : goal.returns-clause-begun
 returns-clause-begun c =
     let f = c.self.inside in
     let i = c.self.invariant in
-    let t : Kept = record { row = f.row; files = f.files.items; is_open = f.is_open; prints = drop f.printed f.prints.items; turned = f.turned; last = f.last; file_room = f.file_room } in
+    let t = kept_of f in
     let v : t ≡ c.args.self.now = c.self.view_is in
     let placed = subst (λ (u : Kept). places_left u.files u.prints u.turned ≡ []) (sym v) c.requires.placed in
     let closed = subst (λ (u : Kept). u.is_open ≡ false) (sym v) c.requires.closed in

@@ -2,6 +2,7 @@ use Rattle.std.proofs.Common.{◌≡◌, ◌-◌, ℕ, List, drop, take, length,
 use Rattle.std.proofs.lemmas.List.{take_rest}
 use Rattle.page_chain.specs.Changes.{comes_again, is_to_come}
 use Rattle.page_chain.specs.Held.{Kept, places_left, IsOfFile}
+use Rattle.page_chain.proofs.Inside.{kept_of}
 use Rattle.page_chain.proofs.Places.{to_come_is}
 use Rattle.page_chain.proofs.chain.Chain.comes_again.Goals as goal
 
@@ -11,7 +12,7 @@ returns c =
     let files = f.files.items in
     let prints = f.prints.items in
     let place = c.in-Some.place in
-    let t : Kept = record { row = f.row; files = files; is_open = f.is_open; prints = drop f.printed prints; turned = f.turned; last = f.last; file_room = f.file_room } in
+    let t = kept_of f in
     let v : t ≡ c.args.self.now = c.self.view_is in
     let number = subst (IsOfFile files) c.in-Some.is c.self.invariant.8 in
     let rest = ap (λ (xs : List ℕ). take (length xs - f.printed) (drop f.printed xs)) c.as_slice.ensures.value ∙ take_rest prints f.printed in

@@ -1,9 +1,10 @@
-use Rattle.std.proofs.Common.{◌≡◌, ℕ, ◌+◌, ◌≤◌, [], drop, length, sym, ◌∙◌, ap, subst, arith}
+use Rattle.std.proofs.Common.{◌≡◌, ℕ, ◌+◌, ◌≤◌, [], length, sym, ◌∙◌, ap, subst, arith}
 use Rattle.std.proofs.lemmas.Grind.{common_steps}
 use Rattle.page_nodes.specs.Chains.{AreOfSize}
 use Rattle.page_chain.specs.Files.{every_page}
 use Rattle.page_chain.specs.Held.{Kept, IsHeld, shown}
 use Rattle.page_chain.specs.Drained.{dropped_in}
+use Rattle.page_chain.proofs.Inside.{kept_of}
 use Rattle.page_chain.proofs.Dropping.{all_count, all_sized}
 use Rattle.page_chain.proofs.chain.Chain.drain_into.Goals as goal
 
@@ -11,7 +12,7 @@ pub drain_files-requires-clause-sizes : goal.drain_files-requires-clause-sizes
 drain_files-requires-clause-sizes c = λ i lt none.
     let f = c.self.inside in
     let n = c.args.nodes.now in
-    let t : Kept = record { row = f.row; files = f.files.items; is_open = f.is_open; prints = drop f.printed f.prints.items; turned = f.turned; last = f.last; file_room = f.file_room } in
+    let t = kept_of f in
     let v : t ≡ c.args.self.now = c.self.view_is in
     let held = subst (λ (u : Kept). IsHeld u n) (sym v) c.requires.held in
     let sizes = subst (λ (u : Kept). AreOfSize c.args.pool.now.page_size (every_page (shown u n).files)) (sym v) c.requires.sizes in
@@ -22,7 +23,7 @@ pub drain_files-requires-clause-room : goal.drain_files-requires-clause-room
 drain_files-requires-clause-room c =
     let f = c.self.inside in
     let n = c.args.nodes.now in
-    let t : Kept = record { row = f.row; files = f.files.items; is_open = f.is_open; prints = drop f.printed f.prints.items; turned = f.turned; last = f.last; file_room = f.file_room } in
+    let t = kept_of f in
     let v : t ≡ c.args.self.now = c.self.view_is in
     let held = subst (λ (u : Kept). IsHeld u n) (sym v) c.requires.held in
     let room = subst (λ (u : Kept). c.args.pool.now.free + length (every_page (shown u n).files) ≤ c.args.pool.now.pages) (sym v) c.requires.room in
@@ -35,7 +36,7 @@ pub returns-clause-pool : goal.returns-clause-pool
 returns-clause-pool c =
     let f = c.self.inside in
     let n = c.args.nodes.now in
-    let t : Kept = record { row = f.row; files = f.files.items; is_open = f.is_open; prints = drop f.printed f.prints.items; turned = f.turned; last = f.last; file_room = f.file_room } in
+    let t = kept_of f in
     let v : t ≡ c.args.self.now = c.self.view_is in
     let held = subst (λ (u : Kept). IsHeld u n) (sym v) c.requires.held in
     let count : c.len.result ≡ length f.files.items = grind (arith, common_steps) in
@@ -47,7 +48,7 @@ pub returns-clause-total : goal.returns-clause-total
 returns-clause-total c =
     let f = c.self.inside in
     let n = c.args.nodes.now in
-    let t : Kept = record { row = f.row; files = f.files.items; is_open = f.is_open; prints = drop f.printed f.prints.items; turned = f.turned; last = f.last; file_room = f.file_room } in
+    let t = kept_of f in
     let v : t ≡ c.args.self.now = c.self.view_is in
     let held = subst (λ (u : Kept). IsHeld u n) (sym v) c.requires.held in
     let count : c.len.result ≡ length f.files.items = grind (arith, common_steps) in

@@ -1,7 +1,8 @@
-use Rattle.std.proofs.Common.{◌≡◌, [], ◌∷◌, ◌++◌, drop, sym, subst, arith}
+use Rattle.std.proofs.Common.{◌≡◌, [], ◌∷◌, ◌++◌, sym, subst, arith}
 use Rattle.std.proofs.lemmas.List.{length_push}
 use Rattle.page_chain.specs.Changes.{IsOnlyGap, last_place, given_again}
 use Rattle.page_chain.specs.Held.{Kept, Leads, IsHeld, IsOfFile, pages_in, shown}
+use Rattle.page_chain.proofs.Inside.{kept_of}
 use Rattle.page_chain.proofs.Rows.{total_with}
 use Rattle.page_chain.proofs.Calls.{gives, file_there}
 use Rattle.page_chain.proofs.chain.Chain.give_again.Goals as goal
@@ -12,7 +13,7 @@ returns-clause-chain c =
     let n = c.args.nodes.now in
     let files = f.files.items in
     let place = c.in-Some.place in
-    let t : Kept = record { row = f.row; files = files; is_open = f.is_open; prints = drop f.printed f.prints.items; turned = f.turned; last = f.last; file_room = f.file_room } in
+    let t = kept_of f in
     let v : t ≡ c.args.self.now = c.self.view_is in
     let number = subst (IsOfFile files) c.in-Some.is c.self.invariant.8 in
     let held = subst (λ (u : Kept). IsHeld u n) (sym v) c.requires.held in
@@ -26,7 +27,7 @@ returns-clause-total c =
     let n = c.args.nodes.now in
     let files = f.files.items in
     let place = c.in-Some.place in
-    let t : Kept = record { row = f.row; files = files; is_open = f.is_open; prints = drop f.printed f.prints.items; turned = f.turned; last = f.last; file_room = f.file_room } in
+    let t = kept_of f in
     let v : t ≡ c.args.self.now = c.self.view_is in
     let number = subst (IsOfFile files) c.in-Some.is c.self.invariant.8 in
     let there = file_there files place number in

@@ -1,10 +1,11 @@
-use Rattle.std.proofs.Common.{◌≡◌, ◌-◌, ◌<◌, ◌≤◌, ℕ, Option, Some, None, false, List, [], drop, length, refl, sym, ◌∙◌, ap, subst, arith}
+use Rattle.std.proofs.Common.{◌≡◌, ◌≤◌, ℕ, Option, Some, None, false, List, drop, length, refl, sym, ◌∙◌, ap, subst, arith}
 use Rattle.std.specs.Prelude.{is_some}
 use Rattle.std.proofs.lemmas.Bool.{eqb-true, eq-eqb}
 use Rattle.std.proofs.lemmas.Grind.{common_steps}
 use Rattle.std.proofs.lemmas.List.{drop_all, length-drop}
 use Rattle.page_chain.specs.declared.place.Place.{Place}
-use Rattle.page_chain.specs.Held.{Kept, IsIdle, places_left}
+use Rattle.page_chain.specs.Held.{IsIdle, places_left}
+use Rattle.page_chain.proofs.Inside.{kept_of}
 use Rattle.page_chain.proofs.Places.{none_left, none_printed}
 use Rattle.page_chain.proofs.chain.Chain.is_idle.Goals as goal
 
@@ -17,7 +18,7 @@ returns c =
     let f = c.self.inside in
     let files = f.files.items in
     let prints = f.prints.items in
-    let t : Kept = record { row = f.row; files = files; is_open = f.is_open; prints = drop f.printed prints; turned = f.turned; last = f.last; file_room = f.file_room } in
+    let t = kept_of f in
     let v : t ≡ c.args.self.now = c.self.view_is in
     let n : c.len.result ≡ length prints = grind (arith, common_steps) in (
       λ same.

@@ -1,7 +1,8 @@
-use Rattle.std.proofs.Common.{◌≡◌, ◌+◌, ◌<◌, ℕ, List, ◌∷◌, drop, length, get_or, refl, sym, ◌∙◌, ap, subst, arith}
+use Rattle.std.proofs.Common.{◌≡◌, ◌+◌, ◌<◌, ℕ, List, drop, length, get_or, refl, sym, ◌∙◌, ap, subst, arith}
 use Rattle.std.proofs.lemmas.Bool.{ltb-true, lt-ltb}
 use Rattle.page_chain.specs.Changes.{IsReady}
 use Rattle.page_chain.specs.Held.{Kept, pages_in, shown}
+use Rattle.page_chain.proofs.Inside.{kept_of}
 use Rattle.page_chain.proofs.Calls.{front_at, next_front, ready}
 use Rattle.page_chain.proofs.chain.Chain.is_ready.Goals as goal
 
@@ -12,7 +13,7 @@ returns-in-Some c =
     let prints = f.prints.items in
     let file = c.in-Some.field-0.now in
     let rest = drop (f.printed + 1) prints in
-    let t : Kept = record { row = f.row; files = f.files.items; is_open = f.is_open; prints = drop f.printed prints; turned = f.turned; last = f.last; file_room = f.file_room } in
+    let t = kept_of f in
     let v : t ≡ c.args.self.now = c.self.view_is in
     let all = c.deref.ensures.value in
     let lt : f.printed < length prints = (let l = ap length all in let m = ltb-true f.printed (length c.deref.result.now) (sym c.in-Some.ensures.lookup.0) in omega (arith, l, m)) in

@@ -4,6 +4,7 @@ use Rattle.std.proofs.lemmas.Bool.{ltb-true}
 use Rattle.std.proofs.lemmas.List.{drop_more, get_or_default}
 use Rattle.page_chain.specs.declared.place.Place.{Place}
 use Rattle.page_chain.specs.Held.{Kept, places_left, CanPrint}
+use Rattle.page_chain.proofs.Inside.{kept_of}
 use Rattle.page_chain.proofs.Places.{places_step}
 use Rattle.page_chain.proofs.chain.Chain.next_place.Goals as goal
 
@@ -13,7 +14,7 @@ returns c =
     let i = c.self.invariant in
     let files = f.files.items in
     let prints = f.prints.items in
-    let t : Kept = record { row = f.row; files = files; is_open = f.is_open; prints = drop f.printed prints; turned = f.turned; last = f.last; file_room = f.file_room } in
+    let t = kept_of f in
     let v : t ≡ c.args.self.now = c.self.view_is in
     let file = c.in_ok-file.field-0.now in
     let shown = c.deref.ensures.value in

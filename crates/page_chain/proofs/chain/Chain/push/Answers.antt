@@ -1,9 +1,10 @@
-use Rattle.std.proofs.Common.{◌≡◌, ◌-◌, suc, true, [], ◌∷◌, ◌++◌, drop, length, set, sym, ◌∙◌, subst, arith}
+use Rattle.std.proofs.Common.{◌≡◌, ◌-◌, suc, true, [], ◌∷◌, ◌++◌, length, set, sym, ◌∙◌, subst, arith}
 use Rattle.std.proofs.lemmas.Grind.{common_steps}
 use Rattle.std.proofs.lemmas.List.{length_push, get_or_default}
 use Rattle.page_chain.specs.declared.run.Run.{Run}
 use Rattle.page_chain.specs.Changes.{with_page}
 use Rattle.page_chain.specs.Held.{Kept, Leads, IsHeld, no_run, run_at, pages_in, shown}
+use Rattle.page_chain.proofs.Inside.{kept_of}
 use Rattle.page_chain.proofs.Rows.{total_with}
 use Rattle.page_chain.proofs.Calls.{pushes}
 use Rattle.page_chain.proofs.chain.Chain.push.Goals as goal
@@ -15,7 +16,7 @@ returns-clause-chain c =
     let files = f.files.items in
     let n = c.args.nodes.now in
     let new = c.push.new.self in
-    let t : Kept = record { row = f.row; files = files; is_open = f.is_open; prints = drop f.printed f.prints.items; turned = f.turned; last = f.last; file_room = f.file_room } in
+    let t = kept_of f in
     let v : t ≡ c.args.self.now = c.self.view_is in
     let held = subst (λ (u : Kept). IsHeld u n) (sym v) c.requires.held in
     let opened = subst (λ (u : Kept). u.is_open ≡ true) (sym v) c.requires.opened in
@@ -34,7 +35,7 @@ returns-clause-total c =
     let i = c.self.invariant in
     let files = f.files.items in
     let n = c.args.nodes.now in
-    let t : Kept = record { row = f.row; files = files; is_open = f.is_open; prints = drop f.printed f.prints.items; turned = f.turned; last = f.last; file_room = f.file_room } in
+    let t = kept_of f in
     let v : t ≡ c.args.self.now = c.self.view_is in
     let held = subst (λ (u : Kept). IsHeld u n) (sym v) c.requires.held in
     let opened = subst (λ (u : Kept). u.is_open ≡ true) (sym v) c.requires.opened in

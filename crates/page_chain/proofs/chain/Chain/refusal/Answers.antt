@@ -1,9 +1,10 @@
-use Rattle.std.proofs.Common.{◌≡◌, ◌<◌, true, false, List, drop, length, sym, ◌∙◌, ap, subst, arith}
+use Rattle.std.proofs.Common.{◌≡◌, ◌<◌, true, false, List, length, sym, ◌∙◌, ap, subst, arith}
 use Rattle.std.specs.Prelude.{is_some}
 use Rattle.std.proofs.lemmas.List.{length-map}
 use Rattle.page_chain.specs.declared.run.Run.{Run}
 use Rattle.page_chain.specs.Changes.{has_name, number_of}
 use Rattle.page_chain.specs.Held.{Kept, names_in}
+use Rattle.page_chain.proofs.Inside.{kept_of}
 use Rattle.page_chain.proofs.Named.{has_number}
 use Rattle.page_chain.proofs.chain.Chain.refusal.Goals as goal
 
@@ -11,7 +12,7 @@ pub returns-then-is_some : goal.returns-then-is_some
 returns-then-is_some c =
     let f = c.self.inside in
     let name = c.args.name.now in
-    let t : Kept = record { row = f.row; files = f.files.items; is_open = f.is_open; prints = drop f.printed f.prints.items; turned = f.turned; last = f.last; file_room = f.file_room } in
+    let t = kept_of f in
     let v : t ≡ c.args.self.now = c.self.view_is in
     let is = c.find.ensures ∙ ap (λ (fs : List Run). number_of (names_in fs) name) c.as_slice.ensures.value in
     let has : has_name (names_in f.files.items) name ≡ true = has_number (names_in f.files.items) name ∙ (ap is_some (sym is) ∙ (sym c.is_some.ensures ∙ c.if-is_some.true)) in
@@ -21,7 +22,7 @@ pub returns-then-len-self : goal.returns-then-len-self
 returns-then-len-self c =
     let f = c.self.inside in
     let name = c.args.name.now in
-    let t : Kept = record { row = f.row; files = f.files.items; is_open = f.is_open; prints = drop f.printed f.prints.items; turned = f.turned; last = f.last; file_room = f.file_room } in
+    let t = kept_of f in
     let v : t ≡ c.args.self.now = c.self.view_is in
     let is = c.find.ensures ∙ ap (λ (fs : List Run). number_of (names_in fs) name) c.as_slice.ensures.value in
     let has : has_name (names_in f.files.items) name ≡ false = has_number (names_in f.files.items) name ∙ (ap is_some (sym is) ∙ (sym c.is_some.ensures ∙ c.if-is_some.false)) in
@@ -37,7 +38,7 @@ pub returns : goal.returns
 returns c =
     let f = c.self.inside in
     let name = c.args.name.now in
-    let t : Kept = record { row = f.row; files = f.files.items; is_open = f.is_open; prints = drop f.printed f.prints.items; turned = f.turned; last = f.last; file_room = f.file_room } in
+    let t = kept_of f in
     let v : t ≡ c.args.self.now = c.self.view_is in
     let is = c.find.ensures ∙ ap (λ (fs : List Run). number_of (names_in fs) name) c.as_slice.ensures.value in
     let has : has_name (names_in f.files.items) name ≡ false = has_number (names_in f.files.items) name ∙ (ap is_some (sym is) ∙ (sym c.is_some.ensures ∙ c.if-is_some.false)) in
