@@ -91,8 +91,8 @@ taken v = record v {
 abbrev pub is_same_place : Place → Place → Bool
 is_same_place a b = (a.file == b.file) && (a.number == b.number)
 
--- a page of the file of this place is still to be handed out at it, where these files are still to be printed, and the
--- first of them has handed out this many pages already
+-- the page of this place is still to be handed out, where these files are still to be printed and the first of them has
+-- handed out its first `turned` pages already
 abbrev pub is_to_come : List ℕ → ℕ → Place → Bool
 is_to_come [] turned place = false
 is_to_come (file ∷ prints) turned place = ((file == place.file) && nat_le turned place.number) || is_among prints place.file
