@@ -121,7 +121,7 @@ pub has_left : {X : Type 0} (x : X) (xs ys : List X) → Has x xs → Has x (xs 
 has_left x [] ys has = absurd has
 has_left x (z ∷ zs) ys has = elim has [ inl e ↦ inl e | inr t ↦ inr (has_left x zs ys t) ]
 
-has_end : {X : Type 0} (x : X) (xs : List X) → Has x (xs ++ x ∷ [])
+pub has_end : {X : Type 0} (x : X) (xs : List X) → Has x (xs ++ x ∷ [])
 has_end x [] = inl refl
 has_end x (z ∷ zs) = inr (has_end x zs)
 

@@ -25,7 +25,7 @@ use Rattle.spool_laws.proofs.Reserve.{no_events}
 use Rattle.spool_laws.proofs.Sound.{Sound, sound, out_kept}
 use Rattle.spool_laws.proofs.Sums.{numbers, pages_add_up}
 
-abbrev one_for : Bool → ℕ
+abbrev pub one_for : Bool → ℕ
 one_for b = cond b 1 0
 
 -- until a job ends, what was lent to it is in its files, or still lent
@@ -87,11 +87,11 @@ filled size c base (e ∷ h) l j = filled_step size c base h e l.0 (filled size 
 
 -- what a held job holds
 
-record Apart {C : Type 0} (v : Job C) : Type 0 where
+pub record Apart {C : Type 0} (v : Job C) : Type 0 where
   pub sound : Sound v
   pub filled : v.ended ≡ false → pages_in v.files + one_for v.lent ≡ v.granted
 
-pages_sum : {C : Type 0} (fs : List (File C)) → sum_by (λ (f : File C). length f.pages) fs ≡ pages_in fs
+pub pages_sum : {C : Type 0} (fs : List (File C)) → sum_by (λ (f : File C). length f.pages) fs ≡ pages_in fs
 pages_sum [] = refl
 pages_sum {C} (f ∷ fs) = let ih = pages_sum fs in let k = sum_by-cons (λ (g : File C). length g.pages) f fs in omega arith
 
@@ -107,10 +107,10 @@ apart_by v false false l ended received is_lent a =
     let sum = pages_sum v.files in
     rw (ended, received) (omega arith)
 
-apart : {C : Type 0} (size : C → ℕ) (c : Config) (base : Base) (h : List (Event C)) → IsLegal size c base h → (o : Opening) → Apart (job_of h o)
+pub apart : {C : Type 0} (size : C → ℕ) (c : Config) (base : Base) (h : List (Event C)) → IsLegal size c base h → (o : Opening) → Apart (job_of h o)
 apart size c base h l o = record { sound = sound size c base h l o; filled = filled size c base h l o.job }
 
-held_apart : {C : Type 0} (size : C → ℕ) (c : Config) (base : Base) (h : List (Event C)) → IsLegal size c base h → (v : Job C) → Has v (now c base h).jobs → pages_held v ≡ chained_of v + (one_for v.lent + (v.handed - v.back))
+pub held_apart : {C : Type 0} (size : C → ℕ) (c : Config) (base : Base) (h : List (Event C)) → IsLegal size c base h → (v : Job C) → Has v (now c base h).jobs → pages_held v ≡ chained_of v + (one_for v.lent + (v.handed - v.back))
 held_apart {C} size c base h l v has =
     let k = known c base h v has in
     apart_by v v.ended (is_received v) v.lent refl refl refl (subst (λ (u : Job C). Apart u) (sym k.is) (apart size c base h l k.opening))

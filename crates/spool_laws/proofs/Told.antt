@@ -203,7 +203,7 @@ told size c base (e ∷ h) l j = told_step size c base h e l.1 l.0 (told size c 
 
 -- pages within the limit
 
-abbrev Within : {C : Type 0} → Config → Base → List (Event C) → Type 0
+abbrev pub Within : {C : Type 0} → Config → Base → List (Event C) → Type 0
 Within c base h = (o : Opening) → Has o (openings h) → granted_by (acts_of h o.job) ≤ limit_of c o.queue
 
 within_act : {C : Type 0} (c : Config) (base : Base) (h : List (Event C)) (k : ℕ) (act : Act C) → ((o : Opening) → Has o (openings h) → k ≡ o.job → granted_by (act ∷ acts_of h o.job) ≤ limit_of c o.queue) → Within c base h → Within c base (OfJob k act ∷ h)
@@ -238,7 +238,7 @@ within_step size c base h (Removed q jobs) l m w = w
 within_step size c base h (Started q) l m w = w
 within_step size c base h Closed l m w = w
 
-within : {C : Type 0} (size : C → ℕ) (c : Config) (base : Base) (h : List (Event C)) → IsLegal size c base h → Within c base h
+pub within : {C : Type 0} (size : C → ℕ) (c : Config) (base : Base) (h : List (Event C)) → IsLegal size c base h → Within c base h
 within size c base [] l = λ o has. absurd has
 within size c base (e ∷ h) l = within_step size c base h e l.1 l.0 (within size c base h l.1)
 

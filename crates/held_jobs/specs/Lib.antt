@@ -1,0 +1,4 @@
+pub mod Jobs
+pub mod Moves
+pub mod Books
+pub mod Shown

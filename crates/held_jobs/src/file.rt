@@ -1,0 +1,16 @@
+//! A data file of a job.
+
+use lpd_values::FileName;
+
+/// A data file of a job.
+#[derive(Clone, Copy)]
+pub struct DataFile {
+    /// Its name.
+    pub name: FileName,
+    /// Its length in octets.
+    pub count: u64,
+    /// How many of its octets are still to come.
+    pub left: u64,
+    /// How many pages of it have come.
+    pub pages: u64,
+}
