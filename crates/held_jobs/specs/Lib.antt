@@ -2,3 +2,4 @@ pub mod Jobs
 pub mod Moves
 pub mod Books
 pub mod Shown
+pub mod Turns

@@ -1,0 +1,144 @@
+-- An amount for pages and one for each queue's printers, and the row of a job made of them.
+use Rattle.std.proofs.Common.{inl, inr, ◌≡◌, ◌==◌, ◌≢◌, ℕ, zero, suc, ◌-◌, ◌<◌, Bool, true, false, List, [], ◌∷◌, length, get_or, set, map, replicate, refl, sym, ◌∙◌, ap, arith}
+use Rattle.std.specs.Prelude.{cond}
+use Rattle.std.proofs.lemmas.List.{ext_get_or, length-set, length-map, get_or-set_same, get_or-set_other, map-append, get_or-append_right, get_or_append_left}
+use Rattle.std.proofs.lemmas.Bool.Decides.{nat_tests}
+use Rattle.counts.specs.Amounts.{amount}
+use Rattle.claims.specs.declared.row.Row.{Row}
+use Rattle.claims.specs.Changes.{row_with}
+use Rattle.config_values.specs.Config.{Config, Queue, IsQueue}
+use Rattle.spool_history.specs.Now.{Job, amounts, capacity, up_to, row_of, pages_held, pages_needed, printers_held, printers_needed}
+use Rattle.spool_laws.proofs.Known.{test}
+use Rattle.spool_laws.proofs.Adding.{length_up_to}
+use Rattle.core_rows.proofs.Tables.{given_row, ended_row}
+
+-- the number k + 1 stands at the place k of the numbers from 1 to n
+get_up_to : (f : ℕ → ℕ) (n k : ℕ) → k < n → get_or (map f (up_to n)) k 0 ≡ f (suc k)
+get_up_to f zero k lt = absurd (omega arith)
+get_up_to f (suc n) k lt =
+    let l : length (map f (up_to n)) ≡ n = length_up_to f n in
+    ap (λ (m : List ℕ). get_or m k 0) (map-append f (up_to n) (suc n ∷ []))
+    ∙ elim (test k n) [
+      | inl s ↦
+          let same : k ≡ n = s.0 in
+          let z : k - n ≡ 0 = omega arith in
+          get_or-append_right (map f (up_to n)) (f (suc n) ∷ []) n k 0 l (omega arith) ∙ (ap (λ (m : ℕ). get_or (f (suc n) ∷ []) m 0) z ∙ ap (λ (m : ℕ). f (suc m)) (sym same))
+      | inr s ↦
+          let ne : k ≢ n = s.0 in
+          let less : k < length (map f (up_to n)) = omega arith in
+          get_or_append_left (map f (up_to n)) (f (suc n) ∷ []) 0 k less ∙ get_up_to f n k (omega arith)
+    ]
+
+-- m for the queue q and 0 for all others, of n queues
+abbrev one_queue : (q m n : ℕ) → List ℕ
+one_queue q m n = map {A = ℕ} {B = ℕ} (λ (r : ℕ). cond (r == q) m 0) (up_to n)
+
+-- the same list with another amount for the queue
+other_up_to : (q m o n d : ℕ) → suc d ≡ q → d < n → set (one_queue q m n) d o ≡ one_queue q o n
+other_up_to q m o n d e lt =
+    let lm : length (one_queue q m n) ≡ n = length_up_to (λ (r : ℕ). cond (r == q) m 0) n in
+    let lo : length (one_queue q o n) ≡ n = length_up_to (λ (r : ℕ). cond (r == q) o 0) n in
+    let ls : length (set (one_queue q m n) d o) ≡ n = length-set (one_queue q m n) d o ∙ lm in
+    ext_get_or 0 (set (one_queue q m n) d o) (one_queue q o n) (ls ∙ sym lo) (λ i less. (
+    let lt' : i < n = omega arith in
+    elim (test i d) [
+      | inl s ↦
+          let b : (suc i == q) ≡ true = (let w = s.0 in grind (arith, nat_tests)) in
+          let there : d < length (one_queue q m n) = omega arith in
+          ap (λ (j : ℕ). get_or (set (one_queue q m n) d o) j 0) s.0 ∙ (get_or-set_same (one_queue q m n) d o 0 there ∙ sym (get_up_to (λ (r : ℕ). cond (r == q) o 0) n i lt' ∙ ap (λ (t : Bool). cond t o 0) b))
+      | inr s ↦
+          let b : (suc i == q) ≡ false = (let w = s.0 in grind (arith, nat_tests)) in
+          get_or-set_other (one_queue q m n) d i o 0 s.0 ∙ (get_up_to (λ (r : ℕ). cond (r == q) m 0) n i lt' ∙ (ap (λ (t : Bool). cond t m 0) b ∙ sym (get_up_to (λ (r : ℕ). cond (r == q) o 0) n i lt' ∙ ap (λ (t : Bool). cond t o 0) b)))
+    ]))
+
+-- another amount for the printers of the queue
+pub set_kind : (c : Config) (p q m o : ℕ) → IsQueue c q → set (amounts c p q m) q o ≡ amounts c p q o
+set_kind c p q m o is =
+    let a = is.0 in
+    let b = is.1 in
+    let e : suc (q - 1) ≡ q = omega arith in
+    ap (λ (j : ℕ). set (amounts c p q m) j o) (sym e) ∙ ap (λ (l : List ℕ). p ∷ l) (other_up_to q m o (length c.queues) (q - 1) e (omega arith))
+
+-- the amount for the printers of the queue
+pub kind_of : (c : Config) (p q m : ℕ) → IsQueue c q → amount (amounts c p q m) q ≡ m
+kind_of c p q m is =
+    let a = is.0 in
+    let b = is.1 in
+    let e : suc (q - 1) ≡ q = omega arith in
+    let t : (suc (q - 1) == q) ≡ true = grind (arith, nat_tests) in
+    ap (amount (amounts c p q m)) (sym e) ∙ (get_up_to (λ (r : ℕ). cond (r == q) m 0) (length c.queues) (q - 1) (omega arith) ∙ ap (λ (b : Bool). cond b m 0) t)
+
+-- there are as many amounts as kinds
+pub amounts_len : (c : Config) (p q m : ℕ) → length (amounts c p q m) ≡ length (capacity c)
+amounts_len c p q m =
+    let a : length (one_queue q m (length c.queues)) ≡ length c.queues = length_up_to (λ (r : ℕ). cond (r == q) m 0) (length c.queues) in
+    let b = length-map c.queues (λ (r : Queue). r.printers) in
+    omega arith
+
+-- pages are a kind
+pub pages_kind : (c : Config) → 0 < length (capacity c)
+pages_kind c = omega arith
+
+-- the printers of each queue are a kind
+pub queue_kind : (c : Config) (q : ℕ) → IsQueue c q → q < length (capacity c)
+queue_kind c q is =
+    let a = is.1 in
+    let b = length-map c.queues (λ (r : Queue). r.printers) in
+    omega arith
+
+-- and not the first, which are the pages
+pub queue_later : (c : Config) (q : ℕ) → IsQueue c q → 0 < q
+queue_later c q is = (let a = is.0 in omega arith)
+
+-- so many zeros as there are amounts hold nothing of any kind
+pub zeros : (c : Config) (p q m : ℕ) → replicate (length (amounts c p q m)) 0 ≡ amounts c 0 q 0
+zeros c p q m =
+    let l : length (one_queue q m (length c.queues)) ≡ length (up_to (length c.queues)) = length-map (up_to (length c.queues)) (λ (r : ℕ). cond (r == q) m 0) in
+    let e : length (amounts c p q m) ≡ suc (length (up_to (length c.queues))) = ap suc l in
+    ap (λ (i : ℕ). replicate i 0) e ∙ ap (λ (r : List ℕ). 0 ∷ r) (sym (zeros_up_to (up_to (length c.queues))))
+  where
+    zeros_up_to : (rs : List ℕ) → map {A = ℕ} {B = ℕ} (λ (r : ℕ). cond (r == q) 0 0) rs ≡ replicate (length rs) 0
+    zeros_up_to [] = refl
+    zeros_up_to (r ∷ rs) = elim (test r q) [ inl s ↦ rw s.1 (ap (λ (l : List ℕ). 0 ∷ l) (zeros_up_to rs)) | inr s ↦ rw s.1 (ap (λ (l : List ℕ). 0 ∷ l) (zeros_up_to rs)) ]
+
+-- a row of a job that holds and needs so many pages and printers of its queue
+abbrev pub row_with_amounts : {C : Type 0} → Config → Job C → (pages printers pages' printers' : ℕ) → Row
+row_with_amounts c x pages printers pages' printers' =
+    record { number = x.number; sender = x.sender; queue = x.queue; held = amounts c pages x.queue printers; need = amounts c pages' x.queue printers' }
+
+-- a job's row is the one of what it holds and needs
+pub row_is : {C : Type 0} (c : Config) (x : Job C) (pages printers pages' printers' : ℕ) → pages_held x ≡ pages → printers_held x ≡ printers → pages_needed c x ≡ pages' → printers_needed x ≡ printers'
+    → row_of c x ≡ row_with_amounts c x pages printers pages' printers'
+row_is c x pages printers pages' printers' a b d e =
+    ap (λ (n : ℕ). row_with_amounts c x n (printers_held x) (pages_needed c x) (printers_needed x)) a
+    ∙ (ap (λ (n : ℕ). row_with_amounts c x pages n (pages_needed c x) (printers_needed x)) b
+    ∙ (ap (λ (n : ℕ). row_with_amounts c x pages printers n (printers_needed x)) d
+    ∙ ap (λ (n : ℕ). row_with_amounts c x pages printers pages' n) e))
+
+-- jobs of one number, sender and queue that hold and need the same have the same row
+pub row_same : {C : Type 0} (c : Config) (x y : Job C) → y.number ≡ x.number → y.sender ≡ x.sender → y.queue ≡ x.queue
+    → pages_held y ≡ pages_held x → printers_held y ≡ printers_held x → pages_needed c y ≡ pages_needed c x → printers_needed y ≡ printers_needed x
+    → row_of c y ≡ row_of c x
+row_same {C} c x y n s q a b d e =
+    row_is c y (pages_held x) (printers_held x) (pages_needed c x) (printers_needed x) a b d e
+    ∙ (ap (λ (m : ℕ). record (row_with_amounts c y (pages_held x) (printers_held x) (pages_needed c x) (printers_needed x)) { number = m }) n
+    ∙ (ap (λ (m : ℕ). record (row_with_amounts c y (pages_held x) (printers_held x) (pages_needed c x) (printers_needed x)) { number = x.number; sender = m }) s
+    ∙ ap (λ (m : ℕ). record {
+      number = x.number;
+      sender = x.sender;
+      queue = m;
+      held = amounts c (pages_held x) m (printers_held x);
+      need = amounts c (pages_needed c x) m (printers_needed x);
+    }) q))
+
+-- a row that gives back pages holds so many less
+pub given_pages : {C : Type 0} (c : Config) (x : Job C) (n p m p' m' : ℕ) → given_row 0 n (row_with_amounts c x p m p' m') ≡ row_with_amounts c x (p - n) m p' m'
+given_pages c x n p m p' m' = refl
+
+-- a row that needs no more pages
+pub ended_pages : {C : Type 0} (c : Config) (x : Job C) (p m p' m' : ℕ) → ended_row 0 (row_with_amounts c x p m p' m') ≡ row_with_amounts c x p m 0 m'
+ended_pages c x p m p' m' = refl
+
+-- a row that needs no more printers
+pub ended_printers : {C : Type 0} (c : Config) (x : Job C) (p m p' m' : ℕ) → IsQueue c x.queue → ended_row x.queue (row_with_amounts c x p m p' m') ≡ row_with_amounts c x p m p' 0
+ended_printers c x p m p' m' is = ap (λ (l : List ℕ). row_with (amounts c p x.queue m) l (row_with_amounts c x p m p' m')) (set_kind c p' x.queue m' 0 is)

@@ -1,0 +1,200 @@
+-- Each page of a job stands once among the pages of its files, so one place less takes it out of those that are kept exactly
+-- where no later place is of the same page.
+use Rattle.std.proofs.Common.{◌⊎◌, inl, inr, ◌≡◌, ◌==◌, ◌≢◌, ℕ, ◌+◌, ◌<◌, ◌≤◌, Bool, true, false, List, [], ◌∷◌, ◌++◌, length, refl, sym, ◌∙◌, ap, subst, arith, length-append}
+use Rattle.std.specs.Prelude.{cond, filter, ◌&&◌, ◌||◌}
+use Rattle.std.specs.List.{list_any, flat_map}
+use Rattle.std.specs.Str.{bytes_eq}
+use Rattle.std.proofs.lemmas.List.Elements.{filter-append}
+use Rattle.std.proofs.lemmas.Bool.Decides.{nat_tests}
+use Rattle.std.proofs.lemmas.Bool.{and_parts}
+use Rattle.spool_history.specs.Acts.{File, Page, numbered, pages_named, all_pages, is_same_page, pages_among}
+use Rattle.spool_laws.proofs.Known.{Has, test, and_false, or_true}
+use Rattle.spool_laws.proofs.Adding.{has_left}
+use Rattle.spool_laws.proofs.Apart.{one_for}
+
+-- how many of a list a test says yes to
+abbrev pub how_many : {X : Type 0} → (X → Bool) → List X → ℕ
+how_many t xs = length (filter t xs)
+
+-- one more in front is one more where the test says yes to it
+how_many_cons : {X : Type 0} (t : X → Bool) (x : X) (xs : List X) → how_many t (x ∷ xs) ≡ one_for (t x) + how_many t xs
+how_many_cons t x xs = by (t x) refl
+  where
+    by : (b : Bool) → t x ≡ b → how_many t (x ∷ xs) ≡ one_for (t x) + how_many t xs
+    by true e = rw e (omega arith)
+    by false e = rw e (omega arith)
+
+-- tests that agree say yes to as many
+how_many_same : {X : Type 0} (t u : X → Bool) (xs : List X) → ((x : X) → t x ≡ u x) → how_many t xs ≡ how_many u xs
+how_many_same t u [] e = refl
+how_many_same t u (x ∷ xs) e =
+    let a = how_many_cons t x xs in
+    let b = how_many_cons u x xs in
+    let ih = how_many_same t u xs e in
+    let here : one_for (t x) ≡ one_for (u x) = ap one_for (e x) in
+    omega arith
+
+-- tests that never both say yes
+how_many_either : {X : Type 0} (t u : X → Bool) (xs : List X) → ((x : X) → t x ≡ true → u x ≡ false) → how_many (λ (x : X). t x || u x) xs ≡ how_many t xs + how_many u xs
+how_many_either t u [] e = omega arith
+how_many_either {X} t u (x ∷ xs) e =
+    let a = how_many_cons (λ (y : X). t y || u y) x xs in
+    let b = how_many_cons t x xs in
+    let d = how_many_cons u x xs in
+    let ih = how_many_either t u xs e in
+    let here = by (t x) refl in
+    omega arith
+  where
+    by : (b : Bool) → t x ≡ b → one_for (t x || u x) ≡ one_for (t x) + one_for (u x)
+    by true is = (let no = e x is in rw (is, no) (omega arith))
+    by false is = rw is (omega arith)
+
+-- where one stands to which the test says yes
+some_there : {X : Type 0} (t : X → Bool) (x : X) (xs : List X) → t x ≡ true → Has x xs → 1 ≤ how_many t xs
+some_there t x [] is has = absurd has
+some_there {X} t x (y ∷ ys) is has =
+    let a = how_many_cons t y ys in
+    elim has [
+      | inl s ↦ let here : t y ≡ true = subst (λ (z : X). t z ≡ true) (sym s) is in let one : one_for (t y) ≡ 1 = rw here refl in omega arith
+      | inr h ↦ let ih = some_there t x ys is h in omega arith
+    ]
+
+-- whether a page has these numbers: of its file, and its own
+abbrev pub is_page : {C : Type 0} → (file number : ℕ) → Page C → Bool
+is_page file number page = (page.file == file) && (page.number == number)
+
+-- of pages that are numbered from n on none has a lower number
+none_before : {C : Type 0} (f k file n : ℕ) (pages : List C) → k < n → how_many (is_page f k) (numbered file n pages) ≡ 0
+none_before f k file n [] lt = refl
+none_before {C} f k file n (page ∷ pages) lt =
+    let a = how_many_cons (is_page {C = C} f k) (record { file = file; number = n; page = page }) (numbered file (n + 1) pages) in
+    let ih = none_before f k file (n + 1) pages (omega arith) in
+    let no : (n == k) ≡ false = grind (arith, nat_tests) in
+    let here : ((file == f) && (n == k)) ≡ false = ap (λ (b : Bool). (file == f) && b) no ∙ and_false (file == f) in
+    let zero' : one_for ((file == f) && (n == k)) ≡ 0 = ap one_for here in
+    omega arith
+
+-- and one at most has a number
+one_numbered : {C : Type 0} (f k file n : ℕ) (pages : List C) → how_many (is_page f k) (numbered file n pages) ≤ 1
+one_numbered f k file n [] = omega arith
+one_numbered {C} f k file n (page ∷ pages) =
+    let a = how_many_cons (is_page {C = C} f k) (record { file = file; number = n; page = page }) (numbered file (n + 1) pages) in
+    let few = most ((file == f) && (n == k)) in
+    elim (test n k) [
+      | inl s ↦ let same : n ≡ k = s.0 in let rest = none_before f k file (n + 1) pages (omega arith) in omega arith
+      | inr s ↦
+          let no : (n == k) ≡ false = s.1 in
+          let here : ((file == f) && (n == k)) ≡ false = ap (λ (b : Bool). (file == f) && b) no ∙ and_false (file == f) in
+          let zero' : one_for ((file == f) && (n == k)) ≡ 0 = ap one_for here in
+          let ih = one_numbered f k file (n + 1) pages in
+          omega arith
+    ]
+  where
+    most : (b : Bool) → one_for b ≤ 1
+    most true = omega arith
+    most false = omega arith
+
+-- none of the pages of another file
+other_file : {C : Type 0} (f k file n : ℕ) (pages : List C) → file ≢ f → how_many (is_page f k) (numbered file n pages) ≡ 0
+other_file f k file n [] ne = refl
+other_file {C} f k file n (page ∷ pages) ne =
+    let a = how_many_cons (is_page {C = C} f k) (record { file = file; number = n; page = page }) (numbered file (n + 1) pages) in
+    let ih = other_file f k file (n + 1) pages ne in
+    let no : (file == f) ≡ false = grind (arith, nat_tests) in
+    let zero' : one_for ((file == f) && (n == k)) ≡ 0 = ap (λ (b : Bool). one_for (b && (n == k))) no in
+    omega arith
+
+-- nor of those of later files
+none_later : {C : Type 0} (f k n : ℕ) (fs : List (File C)) → f < n → how_many (is_page f k) (all_pages n fs) ≡ 0
+none_later f k n [] lt = refl
+none_later {C} f k n (g ∷ gs) lt =
+    let a = ap length (filter-append (is_page {C = C} f k) (numbered n 0 g.pages) (all_pages (n + 1) gs)) in
+    let b = length-append (filter (is_page {C = C} f k) (numbered n 0 g.pages)) (filter (is_page {C = C} f k) (all_pages (n + 1) gs)) in
+    let first = other_file f k n 0 g.pages (omega arith) in
+    let ih = none_later f k (n + 1) gs (omega arith) in
+    omega arith
+
+-- so of all pages one at most has these numbers
+one_at_most : {C : Type 0} (f k n : ℕ) (fs : List (File C)) → how_many (is_page f k) (all_pages n fs) ≤ 1
+one_at_most f k n [] = omega arith
+one_at_most {C} f k n (g ∷ gs) =
+    let a = ap length (filter-append (is_page {C = C} f k) (numbered n 0 g.pages) (all_pages (n + 1) gs)) in
+    let b = length-append (filter (is_page {C = C} f k) (numbered n 0 g.pages)) (filter (is_page {C = C} f k) (all_pages (n + 1) gs)) in
+    elim (test n f) [
+      | inl s ↦ let same : n ≡ f = s.0 in let first = one_numbered f k n 0 g.pages in let rest = none_later f k (n + 1) gs (omega arith) in omega arith
+      | inr s ↦ let first = other_file f k n 0 g.pages s.0 in let ih = one_at_most f k (n + 1) gs in omega arith
+    ]
+
+-- each place is a page of a file
+
+-- what stands in the second of two lists stands in both together
+has_right : {X : Type 0} (x : X) (xs ys : List X) → Has x ys → Has x (xs ++ ys)
+has_right x [] ys has = has
+has_right x (z ∷ zs) ys has = inr (has_right x zs ys has)
+
+-- what stands in two lists together stands in one of them
+has_either : {X : Type 0} (x : X) (xs ys : List X) → Has x (xs ++ ys) → Has x xs ⊎ Has x ys
+has_either x [] ys has = inr has
+has_either x (z ∷ zs) ys has = elim has [
+  | inl e ↦ inl (inl e)
+  | inr t ↦ elim (has_either x zs ys t) [ inl a ↦ inl (inr a) | inr b ↦ inr b ]
+]
+
+-- what stands in a list that is there under a condition stands in the list
+if_has : {X : Type 0} (x : X) (b : Bool) (xs : List X) → Has x (cond b xs []) → Has x xs
+if_has x true xs has = has
+if_has x false xs has = absurd has
+
+-- a page of the files of a name is a page of the files
+named_there : {C : Type 0} (name : List ℕ) (x : Page C) (n : ℕ) (fs : List (File C)) → Has x (pages_named name n fs) → Has x (all_pages n fs)
+named_there name x n [] has = absurd has
+named_there name x n (f ∷ fs) has = elim (has_either x (cond (bytes_eq f.name name) (numbered n 0 f.pages) []) (pages_named name (n + 1) fs) has) [
+  | inl a ↦ has_left x (numbered n 0 f.pages) (all_pages (n + 1) fs) (if_has x (bytes_eq f.name name) (numbered n 0 f.pages) a)
+  | inr b ↦ has_right x (numbered n 0 f.pages) (all_pages (n + 1) fs) (named_there name x (n + 1) fs b)
+]
+
+-- a page that a place of these names is stands among the pages of the files
+pub places_there : {C : Type 0} (x : Page C) (fs : List (File C)) (names : List (List ℕ)) → Has x (flat_map (λ name. pages_named name 0 fs) names) → Has x (all_pages 0 fs)
+places_there x fs [] has = absurd has
+places_there x fs (name ∷ names) has = elim (has_either x (pages_named name 0 fs) (flat_map (λ name. pages_named name 0 fs) names) has) [
+  | inl a ↦ named_there name x 0 fs a
+  | inr b ↦ places_there x fs names b
+]
+
+-- each page is the same page as itself
+same_page : {C : Type 0} (x : Page C) → is_same_page x x ≡ true
+same_page x = elim (test x.file x.file) [
+  | inl s ↦ elim (test x.number x.number) [ inl t ↦ rw (s.1, t.1) refl | inr t ↦ absurd (t.0 refl) ]
+  | inr s ↦ absurd (s.0 refl)
+]
+
+-- a page of the files stands among them once
+pub page_once : {C : Type 0} (x : Page C) (fs : List (File C)) → Has x (all_pages 0 fs) → how_many (λ (page : Page C). is_same_page page x) (all_pages 0 fs) ≡ 1
+page_once {C} x fs has =
+    let most = one_at_most x.file x.number 0 fs in
+    let some = some_there (λ (page : Page C). is_same_page page x) x (all_pages 0 fs) (same_page x) has in
+    omega arith
+
+-- where two are the same page, the same places are theirs
+same_any : {C : Type 0} (page x : Page C) (ps : List (Page C)) → is_same_page page x ≡ true → list_any (is_same_page page) ps ≡ list_any (is_same_page x) ps
+same_any {C} page x ps e =
+    let a = and_parts (page.file == x.file) (page.number == x.number) e in
+    let f : page.file ≡ x.file = (let z = a.0 in grind (arith, nat_tests)) in
+    let n : page.number ≡ x.number = (let z = a.1 in grind (arith, nat_tests)) in
+    ap (λ (i : ℕ). list_any (λ (q : Page C). (i == q.file) && (page.number == q.number)) ps) f
+    ∙ ap (λ (i : ℕ). list_any (λ (q : Page C). (x.file == q.file) && (i == q.number)) ps) n
+
+-- a place whose page comes again takes no page out
+pub among_again : {C : Type 0} (x : Page C) (ps all : List (Page C)) → list_any (is_same_page x) ps ≡ true → length (pages_among (x ∷ ps) all) ≡ length (pages_among ps all)
+among_again {C} x ps all e = how_many_same (λ (page : Page C). list_any (is_same_page page) (x ∷ ps)) (λ (page : Page C). list_any (is_same_page page) ps) all (λ page. by page (is_same_page page x) refl)
+  where
+    by : (page : Page C) (b : Bool) → is_same_page page x ≡ b → (is_same_page page x || list_any (is_same_page page) ps) ≡ list_any (is_same_page page) ps
+    by page true is = (let any : list_any (is_same_page page) ps ≡ true = same_any page x ps is ∙ e in rw any (or_true (is_same_page page x)))
+    by page false is = ap (λ (b : Bool). b || list_any (is_same_page page) ps) is
+
+-- and one whose page doesn't takes that out
+pub among_last : {C : Type 0} (x : Page C) (ps : List (Page C)) (fs : List (File C)) → Has x (all_pages 0 fs) → list_any (is_same_page x) ps ≡ false → length (pages_among (x ∷ ps) (all_pages 0 fs)) ≡ length (pages_among ps (all_pages 0 fs)) + 1
+among_last {C} x ps fs has e =
+    let either = how_many_either (λ (page : Page C). is_same_page page x) (λ (page : Page C). list_any (is_same_page page) ps) (all_pages 0 fs) (λ page is. same_any page x ps is ∙ e) in
+    let once = page_once x fs has in
+    omega arith

@@ -1,0 +1,134 @@
+-- A job ends while a page of it is out, or is held no more.
+use Rattle.std.proofs.Common.{◌≡◌, ◌==◌, ℕ, ◌+◌, ◌-◌, ◌<◌, ◌≤◌, Bool, true, false, not, inl, inr, List, length, refl, sym, ◌∙◌, ap, arith}
+use Rattle.std.proofs.lemmas.Bool.Decides.{nat_tests}
+use Rattle.counts.specs.Amounts.{amount}
+use Rattle.claims.specs.declared.row.Row.{Row}
+use Rattle.claims.specs.Claims.{Claims}
+use Rattle.claims.specs.Changes.{given_back, need_ended, closed}
+use Rattle.config_values.specs.Config.{Config, IsQueue}
+use Rattle.spool_history.specs.Now.{Job, now, is_held, pages_held, pages_out, printers_held, printers_needed, row_of, capacity}
+use Rattle.spool_history.specs.Base.{Base}
+use Rattle.spool_history.specs.Events.{Event}
+use Rattle.spool_history.specs.Legal.{IsLegal}
+use Rattle.spool_history.specs.Events.Act.{Aborted}
+use Rattle.spool_history.specs.Steps.{acted}
+use Rattle.spool_laws.specs.Sums.{chained_of}
+use Rattle.spool_laws.proofs.Known.{Has, test}
+use Rattle.spool_moves.proofs.Holding.{held_counts}
+use Rattle.core_rows.proofs.Tables.{Here, WithRow, WithoutRow, given_row, ended_row, given_leaves, ended_here, after_ended, closed_drops}
+use Rattle.core_rows.proofs.Amounts.{row_with_amounts, row_is, queue_kind, ended_printers}
+
+-- the pages that a job holds are those in its chain and those that are out
+abbrev pub HeldAddsUp : {C : Type 0} → Job C → Type 0
+HeldAddsUp x = pages_held x ≡ chained_of x + pages_out x
+
+-- which holds of each held job
+pub job_adds_up : {C : Type 0} (size : C → ℕ) (c : Config) (b : Base) (h : List (Event C)) (x : Job C) → IsLegal size c b h → Has x (now c b h).jobs → HeldAddsUp x
+job_adds_up size c b h x l has = held_counts size c b h x l has
+
+-- so those that it gives back where it ends are those in its chain
+pub held_but_out : {C : Type 0} (x : Job C) → HeldAddsUp x → pages_held x - pages_out x ≡ chained_of x
+held_but_out x a = omega arith
+
+-- the row of an ended job
+pub row_ended : {C : Type 0} (c : Config) (x : Job C) → row_of c (record x { ended = true }) ≡ row_with_amounts c x (pages_out x) (printers_held x) 0 0
+row_ended {C} c x = row_is c (record x { ended = true }) (pages_out x) (printers_held x) 0 0 refl refl refl refl
+
+-- a job that has ended already stays as it is
+pub ended_same : {C : Type 0} (x : Job C) → x.ended ≡ true → record x { ended = true } ≡ x
+ended_same {C} x e = sym (ap (λ (b : Bool). record x { ended = b }) e)
+
+-- where nothing is needed any more, and what is in the chain is given back
+given_ended : {C : Type 0} (c : Config) (x : Job C) → HeldAddsUp x → given_row 0 (chained_of x) (row_with_amounts c x (pages_held x) (printers_held x) 0 0) ≡ row_of c (record x { ended = true })
+given_ended c x a =
+    let left : pages_held x - chained_of x ≡ pages_out x = omega arith in
+    ap (λ (n : ℕ). row_with_amounts c x n (printers_held x) 0 0) left ∙ sym (row_ended c x)
+
+-- the row that needs no more pages and no printer, and gave back what is in the chain, is that of the ended job
+pub ended_row_is : {C : Type 0} (c : Config) (x : Job C) → IsQueue c x.queue → HeldAddsUp x → given_row 0 (chained_of x) (ended_row x.queue (ended_row 0 (row_of c x))) ≡ row_of c (record x { ended = true })
+ended_row_is c x is a =
+    ap (given_row 0 (chained_of x)) (ended_printers c x (pages_held x) (printers_held x) 0 (printers_needed x) is) ∙ given_ended c x a
+
+-- what is in the chain is among what the row holds
+pub chained_held : {C : Type 0} (c : Config) (x : Job C) → HeldAddsUp x → chained_of x ≤ amount (ended_row x.queue (ended_row 0 (row_of c x))).held 0
+chained_held c x a = omega arith
+
+-- the row once both needs ended
+pub needs_ended_here : {C : Type 0} (c : Config) (t : Claims) (i : ℕ) (x : Job C) → Here t i (row_of c x) → t.capacity ≡ capacity c → IsQueue c x.queue → Here (need_ended (need_ended t i 0) i x.queue) i (ended_row x.queue (ended_row 0 (row_of c x)))
+needs_ended_here c t i x h cap is =
+    let k = queue_kind c x.queue is in
+    let e = ap length cap in
+    ended_here (need_ended t i 0) i x.queue (ended_row 0 (row_of c x)) (ended_here t i 0 (row_of c x) h h.pages) (omega arith)
+
+-- the table after a job ended of which a page is out
+pub ended_leaves : {C : Type 0} (c : Config) (t : Claims) (i : ℕ) (x : Job C) → Here t i (row_of c x) → t.capacity ≡ capacity c → IsQueue c x.queue → HeldAddsUp x
+    → WithRow t (given_back (need_ended (need_ended t i 0) i x.queue) i 0 (chained_of x)) i (row_of c (record x { ended = true })) (amount t.free 0 + chained_of x)
+ended_leaves c t i x h cap is a =
+    let n = chained_of x in
+    let u : Claims = need_ended (need_ended t i 0) i x.queue in
+    let row : Row = ended_row x.queue (ended_row 0 (row_of c x)) in
+    let y : Row = row_of c (record x { ended = true }) in
+    let all : WithRow u (given_back u i 0 n) i y (amount t.free 0 + n) = given_leaves u i n row y (needs_ended_here c t i x h cap is) (chained_held c x a) (ended_row_is c x is a) in
+    after_ended t (given_back u i 0 n) i 0 (amount t.free 0 + n) y (after_ended (need_ended t i 0) (given_back u i 0 n) i x.queue (amount t.free 0 + n) y all)
+
+-- a job of which a page was handed out needs no printer
+pub begun_unneeded : {C : Type 0} (x : Job C) → 0 < x.handed → printers_needed x ≡ 0
+begun_unneeded x pos = by x.ended refl
+  where
+    handed : (x.handed == 0) ≡ false
+    handed = grind (arith, nat_tests)
+
+    by : (b : Bool) → x.ended ≡ b → printers_needed x ≡ 0
+    by true e = rw e refl
+    by false e = (let h = handed in rw (e, h) refl)
+
+-- where it needs no printer already, its row is that of the ended job with only the need of pages ended
+pub ended_row_begun : {C : Type 0} (c : Config) (x : Job C) → printers_needed x ≡ 0 → HeldAddsUp x → given_row 0 (chained_of x) (ended_row 0 (row_of c x)) ≡ row_of c (record x { ended = true })
+ended_row_begun c x none a = ap (λ (n : ℕ). given_row 0 (chained_of x) (row_with_amounts c x (pages_held x) (printers_held x) 0 n)) none ∙ given_ended c x a
+
+-- and so is the table
+pub ended_leaves_begun : {C : Type 0} (c : Config) (t : Claims) (i : ℕ) (x : Job C) → Here t i (row_of c x) → printers_needed x ≡ 0 → HeldAddsUp x
+    → WithRow t (given_back (need_ended t i 0) i 0 (chained_of x)) i (row_of c (record x { ended = true })) (amount t.free 0 + chained_of x)
+ended_leaves_begun c t i x h none a =
+    let n = chained_of x in
+    let y : Row = row_of c (record x { ended = true }) in
+    after_ended t (given_back (need_ended t i 0) i 0 n) i 0 (amount t.free 0 + n) y
+    (given_leaves (need_ended t i 0) i n (ended_row 0 (row_of c x)) y (ended_here t i 0 (row_of c x) h h.pages) (omega arith) (ended_row_begun c x none a))
+
+-- an ended job has nothing in its chain
+pub ended_chain : {C : Type 0} (x : Job C) → chained_of (record x { ended = true }) ≡ 0
+ended_chain x = refl
+
+-- and so where it has ended before
+pub chained_ended : {C : Type 0} (x : Job C) → x.ended ≡ true → chained_of x ≡ 0
+chained_ended x e = rw e refl
+
+-- what it holds then is out
+pub held_ended : {C : Type 0} (x : Job C) → x.ended ≡ true → pages_held x ≡ pages_out x
+held_ended x e = rw e refl
+
+-- a job that is held no more: the table without its row, where all that it held is free
+pub gone_leaves : {C : Type 0} (c : Config) (t : Claims) (i : ℕ) (x : Job C) → Here t i (row_of c x) → WithoutRow t (closed t i) i (amount t.free 0 + pages_held x)
+gone_leaves c t i x h = closed_drops t i (row_of c x) h
+
+-- which jobs are held no more
+
+-- equal numbers are not told apart
+even_by : (n m : ℕ) → n ≡ m → not (n == m) ≡ false
+even_by n m e = elim (test n m) [ inl s ↦ rw s.1 refl | inr s ↦ absurd (s.0 e) ]
+
+-- an ended one to which no page is lent and of which none is at a printer
+pub ended_gone : {C : Type 0} (x : Job C) → x.lent ≡ false → x.handed ≡ x.back → is_held (record x { ended = true }) ≡ false
+ended_gone x u e = (let n = even_by x.handed x.back e in rw (u, n) refl)
+
+-- one of which the last page that was out came back and ended it
+pub back_gone : {C : Type 0} (x : Job C) → x.lent ≡ false → x.handed ≡ x.back + 1 → is_held (record x { back = x.back + 1; ended = true }) ≡ false
+back_gone x u e = (let n = even_by x.handed (x.back + 1) e in rw (u, n) refl)
+
+-- one that had ended before that
+pub back_ended_gone : {C : Type 0} (x : Job C) → x.ended ≡ true → x.lent ≡ false → x.handed ≡ x.back + 1 → is_held (record x { back = x.back + 1 }) ≡ false
+back_ended_gone x d u e = (let n = even_by x.handed (x.back + 1) e in rw (d, u, n) refl)
+
+-- one that is aborted, of which no page is at a printer
+pub aborted_gone : {C : Type 0} (x : Job C) → x.handed ≡ x.back → is_held (acted Aborted x) ≡ false
+aborted_gone x e = (let n = even_by x.handed x.back e in rw n refl)

@@ -1,0 +1,9 @@
+pub mod Tables
+pub mod Amounts
+pub mod Receiving
+pub mod Received
+pub mod Handing
+pub mod EachPage
+pub mod Printing
+pub mod Ending
+pub mod Opening

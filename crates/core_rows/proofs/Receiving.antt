@@ -1,0 +1,158 @@
+-- While a job is received: what its row and its pages become by each act of its session.
+use Rattle.std.proofs.Common.{◌≡◌, ◌==◌, ℕ, ◌+◌, ◌-◌, ◌<◌, Bool, true, false, List, [], ◌∷◌, ◌++◌, length, refl, sym, ◌∙◌, ap, arith}
+use Rattle.std.specs.Prelude.{cond, not, ◌&&◌, is_some}
+use Rattle.std.specs.List.{list_all}
+use Rattle.std.proofs.lemmas.List.{length_push}
+use Rattle.lpd_values.specs.Contents.{Contents}
+use Rattle.lpd_values.specs.Kept.{is_among}
+use Rattle.counts.specs.Amounts.{amount}
+use Rattle.claims.specs.Claims.{Claims}
+use Rattle.claims.specs.Changes.{granted}
+use Rattle.config_values.specs.Config.{Config, limit_of}
+use Rattle.spool_history.specs.Events.Act.{Granted, Began, Put, FileEnded, Controlled}
+use Rattle.spool_history.specs.Acts.{File, at_last, is_open_in, names_in, prints_in}
+use Rattle.spool_history.specs.Now.{Job, is_held, is_received, pages_held, pages_needed, printers_held, printers_needed, row_of}
+use Rattle.spool_history.specs.Steps.{acted}
+use Rattle.spool_history.specs.Legal.{IsReceiving, IsBelowLimit, HasOpen}
+use Rattle.spool_laws.specs.Sums.{chained_of}
+use Rattle.spool_laws.proofs.Known.{and_false, or_true}
+use Rattle.spool_laws.proofs.Counts.{with_page, last_push}
+use Rattle.spool_laws.proofs.Copies.{pages_in}
+use Rattle.spool_laws.proofs.Held.{pages_push, pages_ended, open_push}
+use Rattle.spool_laws.proofs.Apart.{pages_sum}
+use Rattle.spool_moves.proofs.Claimed.{row_granted}
+use Rattle.spool_moves.proofs.Holding.{file_pages}
+use Rattle.core_rows.proofs.Tables.{Here, WithRow, granted_leaves}
+use Rattle.core_rows.proofs.Amounts.{row_same}
+
+-- what a job that is being received holds: what was lent to it
+pub held_receiving : {C : Type 0} (x : Job C) → IsReceiving x → pages_held x ≡ x.granted
+held_receiving x r = (let e = r.0 in let i = r.1 in rw (e, i) refl)
+
+-- what it may still need
+pub needed_receiving : {C : Type 0} (c : Config) (x : Job C) → IsReceiving x → pages_needed c x ≡ limit_of c x.queue - x.granted
+needed_receiving c x r = (let e = r.0 in let i = r.1 in rw (e, i) refl)
+
+-- what it has in its chain: the pages of its files
+pub chained_receiving : {C : Type 0} (x : Job C) → IsReceiving x → chained_of x ≡ file_pages x
+chained_receiving x r = (let e = r.0 in let i = r.1 in rw (e, i) refl)
+
+-- below its limit it may need another page
+pub page_needed : {C : Type 0} (c : Config) (x : Job C) → IsReceiving x → IsBelowLimit c x → 0 < amount (row_of c x).need 0
+page_needed c x r lt = (let n = needed_receiving c x r in omega arith)
+
+-- a job that hasn't ended is held, whatever an act or a turn that doesn't end it made of it
+pub unended_held : {C : Type 0} (x : Job C) → x.ended ≡ false → is_held x ≡ true
+unended_held x e = rw e refl
+
+-- what any job holds of pages stands in its row
+pub held_in_row : {C : Type 0} (c : Config) (x : Job C) → amount (row_of c x).held 0 ≡ pages_held x
+held_in_row c x = refl
+
+-- a job of which a file is open isn't received
+pub open_unreceived : {C : Type 0} (x : Job C) → is_open_in x.files ≡ true → is_received x ≡ false
+open_unreceived x e =
+    ap (λ (b : Bool). is_some x.control && (not b && list_all (λ name. is_among name (names_in x.files)) (prints_in x.control))) e
+    ∙ and_false (is_some x.control)
+
+-- of files of which the last hasn't ended one is open
+pub last_open : {C : Type 0} (before : List (File C)) (last : File C) → last.ended ≡ false → is_open_in (before ++ last ∷ []) ≡ true
+last_open [] last e = rw e refl
+last_open (f ∷ fs) last e = rw (last_open fs last e) (or_true (not f.ended))
+
+-- as long as a job isn't received, its row is that of what was lent to it and how much was handed out
+pub row_receiving : {C : Type 0} (c : Config) (x y : Job C) → IsReceiving x → IsReceiving y → y.number ≡ x.number → y.sender ≡ x.sender → y.queue ≡ x.queue → y.granted ≡ x.granted → y.handed ≡ x.handed
+    → row_of c y ≡ row_of c x
+row_receiving {C} c x y r r' n s q g h =
+    let nx = needed_receiving c x r in
+    let ny = needed_receiving c y r' in
+    let lim : limit_of c y.queue ≡ limit_of c x.queue = ap (limit_of c) q in
+    let ph : printers_held y ≡ printers_held x = ap (λ (i : ℕ). cond (i == 0) 0 1) h in
+    let px : printers_needed x ≡ cond (x.handed == 0) 1 0 = (let e = r.0 in rw e refl) in
+    let py : printers_needed y ≡ cond (y.handed == 0) 1 0 = (let e = r'.0 in rw e refl) in
+    let pn : printers_needed y ≡ printers_needed x = py ∙ (ap (λ (i : ℕ). cond (i == 0) 1 0) h ∙ sym px) in
+    row_same c x y n s q (held_receiving y r' ∙ (g ∙ sym (held_receiving x r))) ph (omega arith) pn
+
+-- a page is granted
+
+-- the row is that of the job to which it was granted, and one page less is free
+pub granted_row_leaves : {C : Type 0} (c : Config) (t : Claims) (i : ℕ) (x : Job C) → Here t i (row_of c x) → IsReceiving x → 0 < amount t.free 0 → WithRow t (granted t i 0) i (row_of c (acted Granted x)) (amount t.free 0 - 1)
+granted_row_leaves c t i x h r some = granted_leaves t i (row_of c x) (row_of c (acted Granted x)) h some (row_granted c x r)
+
+-- and its chain is as it was
+pub granted_chain : {C : Type 0} (x : Job C) → IsReceiving x → chained_of (acted Granted x) ≡ chained_of x
+granted_chain x r = chained_receiving (acted Granted x) r ∙ sym (chained_receiving x r)
+
+-- a page is put
+
+-- once it is put the job is still being received
+pub put_receiving : {C : Type 0} (file number : ℕ) (page : C) (P : File C → Type 0) (x : Job C) → IsReceiving x → HasOpen x.files file P → IsReceiving (acted (Put file number page) x)
+put_receiving {C} file number page P x r o =
+    let files : at_last (with_page page) x.files ≡ o.0 ++ with_page page o.1 ∷ [] = ap (at_last (with_page page)) o.2 ∙ last_push (with_page page) o.0 o.1 in
+    let open' : is_open_in (at_last (with_page page) x.files) ≡ true = ap is_open_in files ∙ last_open o.0 (with_page page o.1) o.4 in
+    (r.0, open_unreceived (acted (Put file number page) x) open')
+
+-- its row is as it was
+pub put_row : {C : Type 0} (c : Config) (file number : ℕ) (page : C) (P : File C → Type 0) (x : Job C) → IsReceiving x → HasOpen x.files file P → row_of c (acted (Put file number page) x) ≡ row_of c x
+put_row c file number page P x r o = row_receiving c x (acted (Put file number page) x) r (put_receiving file number page P x r o) refl refl refl refl refl
+
+-- the pages of the last file count too
+pages_last : {C : Type 0} (before : List (File C)) (last : File C) → pages_in (before ++ last ∷ []) ≡ pages_in before + length last.pages
+pages_last [] last = omega arith
+pages_last (f ∷ fs) last = let ih = pages_last fs last in omega arith
+
+-- and one page more is in its chain
+pub put_chain : {C : Type 0} (file number : ℕ) (page : C) (P : File C → Type 0) (x : Job C) → IsReceiving x → HasOpen x.files file P → chained_of (acted (Put file number page) x) ≡ chained_of x + 1
+put_chain {C} file number page P x r o =
+    let y : Job C = acted (Put file number page) x in
+    let files : y.files ≡ o.0 ++ with_page page o.1 ∷ [] = ap (at_last (with_page page)) o.2 ∙ last_push (with_page page) o.0 o.1 in
+    let a = chained_receiving y (put_receiving file number page P x r o) in
+    let b = chained_receiving x r in
+    let sa = pages_sum y.files in
+    let sb = pages_sum x.files in
+    let na = ap pages_in files ∙ pages_last o.0 (with_page page o.1) in
+    let nb = ap pages_in o.2 ∙ pages_last o.0 o.1 in
+    let p = length_push o.1.pages page in
+    omega arith
+
+-- a file begins
+
+-- once it began the job is still being received
+pub began_receiving : {C : Type 0} (name : List ℕ) (count : ℕ) (x : Job C) → IsReceiving x → IsReceiving (acted (Began name count) x)
+began_receiving {C} name count x r = (r.0, open_unreceived (acted (Began name count) x) (open_push x.files name count))
+
+-- its row is as it was
+pub began_row : {C : Type 0} (c : Config) (name : List ℕ) (count : ℕ) (x : Job C) → IsReceiving x → row_of c (acted (Began name count) x) ≡ row_of c x
+began_row c name count x r = row_receiving c x (acted (Began name count) x) r (began_receiving name count x r) refl refl refl refl refl
+
+-- and so is its chain
+pub began_chain : {C : Type 0} (name : List ℕ) (count : ℕ) (x : Job C) → IsReceiving x → chained_of (acted (Began name count) x) ≡ chained_of x
+began_chain {C} name count x r =
+    let y : Job C = acted (Began name count) x in
+    chained_receiving y (began_receiving name count x r) ∙ (pages_sum y.files ∙ (pages_push x.files name count ∙ (sym (pages_sum x.files) ∙ sym (chained_receiving x r))))
+
+-- a file ends, and the job isn't received by that
+
+-- its row is as it was
+pub file_ended_row : {C : Type 0} (c : Config) (file : ℕ) (whole : Bool) (x : Job C) → IsReceiving x → is_received (acted (FileEnded file whole) x) ≡ false → row_of c (acted (FileEnded file whole) x) ≡ row_of c x
+file_ended_row c file whole x r e = row_receiving c x (acted (FileEnded file whole) x) r (r.0, e) refl refl refl refl refl
+
+-- whose pages an end of a file leaves as they are
+ended_pages_same : {C : Type 0} (file : ℕ) (whole : Bool) (x : Job C) → pages_in (acted (FileEnded file whole) x).files ≡ pages_in x.files
+ended_pages_same file whole x = pages_ended x.files
+
+-- and so is its chain
+pub file_ended_chain : {C : Type 0} (file : ℕ) (whole : Bool) (x : Job C) → IsReceiving x → is_received (acted (FileEnded file whole) x) ≡ false → chained_of (acted (FileEnded file whole) x) ≡ chained_of x
+file_ended_chain {C} file whole x r e =
+    let y : Job C = acted (FileEnded file whole) x in
+    chained_receiving y (r.0, e) ∙ (pages_sum y.files ∙ (ended_pages_same file whole x ∙ (sym (pages_sum x.files) ∙ sym (chained_receiving x r))))
+
+-- the control file comes, and the job isn't received by that
+
+-- its row is as it was
+pub controlled_row : {C : Type 0} (c : Config) (control : Contents) (whole : Bool) (x : Job C) → IsReceiving x → is_received (acted (Controlled control whole) x) ≡ false → row_of c (acted (Controlled control whole) x) ≡ row_of c x
+controlled_row c control whole x r e = row_receiving c x (acted (Controlled control whole) x) r (r.0, e) refl refl refl refl refl
+
+-- and so is its chain
+pub controlled_chain : {C : Type 0} (control : Contents) (whole : Bool) (x : Job C) → IsReceiving x → is_received (acted (Controlled control whole) x) ≡ false → chained_of (acted (Controlled control whole) x) ≡ chained_of x
+controlled_chain {C} control whole x r e = chained_receiving (acted (Controlled control whole) x) (r.0, e) ∙ sym (chained_receiving x r)

@@ -1,0 +1,144 @@
+-- A job is aborted, or gives back the page that was lent to it.
+use Rattle.std.proofs.Common.{inl, inr, ◌≡◌, ◌≢◌, ◌==◌, ℕ, ◌+◌, ◌-◌, ◌<◌, ◌≤◌, Bool, true, false, List, [], ◌∷◌, length, get_or, set, map, refl, sym, ◌∙◌, ap, subst, arith}
+use Rattle.std.specs.Prelude.{All, Result, Ok, Err, Option, Some, None, IfSome, ◌⊎◌, cond, remove}
+use Rattle.std.proofs.lemmas.Bool.Decides.{nat_tests}
+use Rattle.claims.specs.Changes.{closed}
+use Rattle.page_pool.specs.Page.{Page, Pages}
+use Rattle.held_jobs.specs.declared.phase.Phase.TheVariants.{Receiving, Ended}
+use Rattle.held_jobs.specs.Jobs.{HeldJob, Facts}
+use Rattle.held_jobs.specs.Books.{job_at}
+use Rattle.held_jobs.specs.Shown.{see_job}
+use Rattle.spool_history.specs.Base.{Base}
+use Rattle.spool_history.specs.Events.{Event}
+use Rattle.spool_history.specs.Events.Act.{Aborted}
+use Rattle.spool_history.specs.Events.Event.{OfJob}
+use Rattle.spool_history.specs.Now.{Job, State, is_held, is_received, pages_held}
+use Rattle.spool_history.specs.Steps.{acted, after}
+use Rattle.spool_history.specs.Legal.{HasJob, IsReceiving, JobMay}
+use Rattle.spool_laws.specs.Sums.{chained_of}
+use Rattle.spool_laws.proofs.Known.{Has, clash}
+use Rattle.spool_moves.specs.Standing.{no_job}
+use Rattle.spool_moves.proofs.Standing.{Stands, has_get, has_here, has_job}
+use Rattle.spool_moves.proofs.Moving.{act_gone}
+use Rattle.spool_moves.proofs.Holding.{held_counts, lent_unreceived, unreceived_unhanded}
+use Rattle.spool_calls.specs.declared.answers.ReturnedTicket.{ReturnedTicket}
+use Rattle.spool_calls.specs.Looks.{Detail, What, size}
+use Rattle.spool_calls.specs.Kept.{Kept, Leaves, left_by, look, shown_job, facts_of}
+use Rattle.spool_calls.specs.Calls.{Aborts, CanAbort, IsLent}
+use Rattle.spool_calls.specs.Tickets.{HasLent, MayAbort, count_of}
+use Rattle.core_steps.proofs.Leaving.{Found, closed_free, held_room, jobs_left, leaves_out, none_has, one_stored, standing, tie}
+use Rattle.core_steps.proofs.Phases.{ended, facts_tie, phase_ended, phase_receiving, phase_tie, receiving}
+
+gone_by : {C : Type 0} (x : Job C) (b : Bool) → x.handed ≡ x.back → (x.handed == x.back) ≡ b → is_held (acted Aborted x) ≡ false
+gone_by x true e t = rw t refl
+gone_by x false e t = absurd (grind (arith, nat_tests))
+
+lent_count : (lent : Bool) (page_size : ℕ) (ticket : Option Page) → HasLent lent page_size ticket → cond lent 1 0 ≡ count_of ticket
+lent_count lent page_size None e = rw e refl
+lent_count lent page_size (Some page) e = rw e.0 refl
+
+pub abort_none : (d : Detail) (b : Base) (h : List (Event (What d))) (k : Kept) (job : ℕ) (ticket : Option Page) (back : ReturnedTicket) → Leaves d b h k → All (λ (j : HeldJob). j.facts.number ≢ job) k.book.jobs → back.ticket ≡ ticket → Aborts d b h k job ticket k (Err back)
+abort_none d b h k job ticket back l none e = ((λ m. none_has d b h k job (CanAbort d b h k ticket) l none m), refl, e)
+
+-- what is kept once the job at a place is aborted, where so many pages were in its chain
+abbrev pub aborted_core : Kept → ℕ → ℕ → Option Page → Kept
+aborted_core k i n ticket = record k {
+  pool = record k.pool { free = k.pool.free + n + count_of ticket };
+  book = record k.book { jobs = remove k.book.jobs i; stored = k.book.stored - n };
+  table = closed k.table i;
+}
+
+module _ (d : Detail) (b : Base) (h : List (Event (What d))) (k : Kept) (l : Leaves d b h k) (job i : ℕ) (f : Found k job i) (ticket : Option Page) where
+  abbrev v : State (What d)
+  v = left_by d b h k
+
+  abbrev x : Job (What d)
+  x = get_or v.jobs i no_job
+
+  abbrev j : HeldJob
+  j = job_at k.book i
+
+  abbrev z : ℕ
+  z = k.config.page_size
+
+  s : Stands v.jobs i job
+  s = standing d b h k job i l f
+
+  t : see_job (look d) j ≡ shown_job k.config x
+  t = tie d b h k i l f.there
+
+  has : Has x v.jobs
+  has = has_get v.jobs i no_job s.there
+
+  ft : j.facts ≡ facts_of k.config x
+  ft = facts_tie (look d) k.config j x t
+
+  lent_to : (o : Option Page) (a c : Bool) → a ≡ c → HasLent a z o → IsLent d b h k c z o
+  lent_to None a c e m = sym e ∙ m
+  lent_to (Some page) a c e m = (sym e ∙ m.0, m.1)
+
+  lent_from : (o : Option Page) (a c : Bool) → a ≡ c → IsLent d b h k c z o → HasLent a z o
+  lent_from None a c e m = e ∙ m
+  lent_from (Some page) a c e m = (e ∙ m.0, m.1)
+
+  to : MayAbort j.facts z ticket → CanAbort d b h k ticket x
+  to m = (
+    elim m.0 [
+      | inl p ↦ inl (receiving x (sym (phase_tie (look d) k.config j x t) ∙ p))
+      | inr q ↦ inr (ended x (sym (phase_tie (look d) k.config j x t) ∙ q.0), sym (ap (λ (g : Facts). g.lent) ft) ∙ q.1)
+    ],
+    lent_to ticket j.facts.lent x.lent (ap (λ (g : Facts). g.lent) ft) m.1,
+  )
+
+  from : CanAbort d b h k ticket x → MayAbort j.facts z ticket
+  from m = (
+    elim m.0 [
+      | inl r ↦ inl (phase_tie (look d) k.config j x t ∙ phase_receiving x r)
+      | inr q ↦ inr (phase_tie (look d) k.config j x t ∙ phase_ended x q.0, ap (λ (g : Facts). g.lent) ft ∙ q.1)
+    ],
+    lent_from ticket j.facts.lent x.lent (ap (λ (g : Facts). g.lent) ft) m.1,
+  )
+
+  pub abort_refused : (back : ReturnedTicket) → (MayAbort j.facts z ticket → ⊥) → back.ticket ≡ ticket → Aborts d b h k job ticket k (Err back)
+  abort_refused back never e = ((λ m. never (from (has_here (size d) k.config b h i job (CanAbort d b h k ticket) l.legal s m))), refl, e)
+
+  unreceived : CanAbort d b h k ticket x → is_received x ≡ false
+  unreceived m = elim m.0 [ inl r ↦ r.1 | inr q ↦ lent_unreceived (size d) k.config b h x l.legal has q.1 ]
+
+  -- so many pages of it are held: those of its chain, and the one that is lent
+  pub aborted_pages : MayAbort j.facts z ticket → pages_held x ≡ chained_of x + count_of ticket
+  aborted_pages m =
+      let u = unreceived_unhanded (size d) k.config b h x l.legal has (unreceived (to m)) in
+      let u0 = u.0 in
+      let u1 = u.1 in
+      let held = held_counts (size d) k.config b h x l.legal has in
+      let c = lent_count j.facts.lent z ticket m.1 in
+      let one : Bool → ℕ = (λ o. cond o 1 0) in
+      let same : one x.lent ≡ one j.facts.lent = ap one (sym (ap (λ (g : Facts). g.lent) ft)) in
+      omega (arith, u0, u1, held, c, same)
+
+  pub abort_done : (n : ℕ) → MayAbort j.facts z ticket → n ≡ chained_of x → Aborts d b h k job ticket (aborted_core k i n ticket) (Ok tt)
+  abort_done n m en =
+      let can = to m in
+      let may = has_job v i job (CanAbort d b h k ticket) s can in
+      let u = unreceived_unhanded (size d) k.config b h x l.legal has (unreceived can) in
+      let jobs = jobs_left v (OfJob job Aborted) (remove v.jobs i) (act_gone (size d) k.config b h i job Aborted l.legal s (gone_by x (x.handed == x.back) (u.0 ∙ sym u.1) refl)) refl in
+      let within = one_stored d b h k i l s.there in
+      let pages = aborted_pages m in
+      let free : k.pool.free + pages_held x ≡ k.pool.free + n + count_of ticket = omega (arith, pages, en) in
+      (
+        may,
+        leaves_out d b h k (OfJob job Aborted) i (k.book.stored - n) (k.pool.free + n + count_of ticket) (closed k.table i) k.printers l (has_job v i job (JobMay (size d) k.config Aborted) s can.0, tt) jobs s.there refl refl
+        (omega (arith, within, en)) (subst (λ (q : ℕ). Rattle.core_rows.proofs.Tables.WithoutRow k.table (closed k.table i) i q) free (closed_free d b h k i l s.there)) l.kept.printers,
+      )
+
+  -- what comes back has room in the pool
+  pub aborted_room : MayAbort j.facts z ticket → k.pool.free + chained_of x + count_of ticket ≤ k.pool.pages
+  aborted_room m = (let r = held_room d b h k i l s.there in let p = aborted_pages m in omega (arith, r, p))
+
+  pub aborted_size : MayAbort j.facts z ticket → IfSome ticket (λ page. page.page_size ≡ k.pool.page_size)
+  aborted_size m = sized ticket j.facts.lent m.1
+    where
+      sized : (o : Option Page) (lent : Bool) → HasLent lent z o → IfSome o (λ page. page.page_size ≡ k.pool.page_size)
+      sized None lent e = tt
+      sized (Some page) lent e = e.1 ∙ sym (ap (λ (p : Pages). p.page_size) l.kept.pool)

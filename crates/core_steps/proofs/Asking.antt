@@ -1,0 +1,159 @@
+-- A page is lent to a job.
+use Rattle.std.proofs.Common.{◌≡◌, ◌≢◌, ℕ, suc, ◌+◌, ◌-◌, ◌<◌, ◌≤◌, Bool, true, false, List, [], ◌∷◌, length, get_or, set, map, refl, sym, ◌∙◌, ap, subst, arith}
+use Rattle.std.specs.Prelude.{All, Result, Ok, Err}
+use Rattle.std.proofs.lemmas.List.{length-map}
+use Rattle.counts.specs.Amounts.{amount}
+use Rattle.claims.specs.declared.row.Row.{Row}
+use Rattle.claims.specs.Claims.{Claims, IsTable, row_at}
+use Rattle.claims.specs.Changes.{granted, granted_row}
+use Rattle.claims.specs.Safety.{IsSafe}
+use Rattle.claims.proofs.Tables.{granted_table}
+use Rattle.page_pool.specs.Page.{Page, Pages}
+use Rattle.held_jobs.specs.Jobs.{HeldJob, Facts}
+use Rattle.held_jobs.specs.Moves.{MayAsk, lent_facts, told}
+use Rattle.held_jobs.specs.Books.{job_at, with_job}
+use Rattle.held_jobs.specs.Shown.{ShownJob, see_job}
+use Rattle.config_values.specs.Config.{Config, Queue, limit_of}
+use Rattle.spool_history.specs.Base.{Base}
+use Rattle.spool_history.specs.Events.{Event}
+use Rattle.spool_history.specs.Events.Act.{Granted}
+use Rattle.spool_history.specs.Events.Event.{OfJob}
+use Rattle.spool_history.specs.Now.{Job, State, is_held, row_of, IsSafeNow}
+use Rattle.spool_history.specs.Steps.{acted, after}
+use Rattle.spool_history.specs.Legal.{HasJob, IsReceiving, IsBelowLimit, CanAsk, JobMay, MayGrant}
+use Rattle.spool_laws.specs.Sums.{chained_of}
+use Rattle.spool_moves.specs.Standing.{no_job}
+use Rattle.spool_moves.specs.Claimed.{IsTableOf}
+use Rattle.spool_moves.proofs.Standing.{Stands, has_here, has_job}
+use Rattle.spool_moves.proofs.Moving.{act_set}
+use Rattle.spool_moves.proofs.Claimed.{table_free, table_safe, safe_table, row_here, row_granted, need_here, rows_len}
+use Rattle.spool_calls.specs.declared.answers.Asked.TheVariants.{Page as Page', Later}
+use Rattle.lpd_values.specs.declared.refusal.Refusal.TheVariants.{NotOpen, OverClaim}
+use Rattle.spool_calls.specs.Looks.{Detail, What, size}
+use Rattle.spool_calls.specs.Kept.{Kept, Leaves, left_by, look, shown_job}
+use Rattle.spool_calls.specs.Calls.{Asks}
+use Rattle.core_steps.proofs.Leaving.{Found, standing, tie, none_has, jobs_left, leaves_set, pool_even, table_set}
+use Rattle.core_steps.proofs.Phases.{facts_tie, can_ask, ask_can}
+
+held_granted : {C : Type 0} (x : Job C) → IsReceiving x → is_held (acted Granted x) ≡ true
+held_granted x r = (let e = r.0 in rw e refl)
+
+chained_granted : {C : Type 0} (x : Job C) → chained_of (acted Granted x) ≡ chained_of x
+chained_granted x = refl
+
+free_after : (free : List ℕ) → 0 < length free → amount (set free 0 (amount free 0 - 1)) 0 ≡ amount free 0 - 1
+free_after [] lt = absurd (omega arith)
+free_after (n ∷ free) lt = refl
+
+-- what is kept once a page is lent to the job at a place
+abbrev pub lent_core : Kept → ℕ → Kept
+lent_core k i = record k {
+  pool = record k.pool { free = k.pool.free - 1 };
+  book = with_job k.book i (told lent_facts (job_at k.book i));
+  table = granted k.table i 0;
+}
+
+-- no job of this number may ask
+pub ask_none : (d : Detail) (b : Base) (h : List (Event (What d))) (k : Kept) (job : ℕ) → Leaves d b h k → All (λ (j : HeldJob). j.facts.number ≢ job) k.book.jobs → Asks d b h k job k (Err NotOpen)
+ask_none d b h k job l none = ((λ m. none_has d b h k job CanAsk l none m), refl)
+
+module _ (d : Detail) (b : Base) (h : List (Event (What d))) (k : Kept) (l : Leaves d b h k) (job i : ℕ) (f : Found k job i) where
+  abbrev v : State (What d)
+  v = left_by d b h k
+
+  abbrev x : Job (What d)
+  x = get_or v.jobs i no_job
+
+  abbrev j : HeldJob
+  j = job_at k.book i
+
+  s : Stands v.jobs i job
+  s = standing d b h k job i l f
+
+  t : see_job (look d) j ≡ shown_job k.config x
+  t = tie d b h k i l f.there
+
+  here : (P : Job (What d) → Type 0) → HasJob v.jobs job P → P x
+  here P m = has_here (size d) k.config b h i job P l.legal s m
+
+  limited : (j.facts.granted < limit_of k.config j.facts.queue) → IsBelowLimit k.config x
+  limited lt = subst (λ (y : Facts). y.granted < limit_of k.config y.queue) (facts_tie (look d) k.config j x t) lt
+
+  unlimited : IsBelowLimit k.config x → j.facts.granted < limit_of k.config j.facts.queue
+  unlimited lt = subst (λ (y : Facts). y.granted < limit_of k.config y.queue) (sym (facts_tie (look d) k.config j x t)) lt
+
+  pub ask_not_open : (MayAsk j → ⊥) → Asks d b h k job k (Err NotOpen)
+  ask_not_open never = ((λ m. never (ask_can (look d) k.config j x t (here CanAsk m))), refl)
+
+  pub ask_over : MayAsk j → limit_of k.config j.facts.queue ≤ j.facts.granted → Asks d b h k job k (Err OverClaim)
+  ask_over m le = (
+    has_job v i job (λ y. CanAsk y × (IsBelowLimit k.config y → ⊥)) s (can_ask (look d) k.config j x t m, λ lt. let lt' = unlimited lt in omega (arith, le, lt')),
+    refl,
+  )
+
+  may : MayAsk j → j.facts.granted < limit_of k.config j.facts.queue → HasJob v.jobs job (JobMay (size d) k.config Granted)
+  may m lt = has_job v i job (JobMay (size d) k.config Granted) s (can_ask (look d) k.config j x t m, limited lt)
+
+  -- the row of the job needs a page
+  pub row_needs : MayAsk j → j.facts.granted < limit_of k.config j.facts.queue → 0 < amount (row_at k.table.rows i).need 0
+  row_needs m lt =
+      let r = (can_ask (look d) k.config j x t m).0 in
+      let n = need_here k.config x r in
+      let e = ap (λ (row : Row). amount row.need 0) (row_here k.table v i l.kept.table s.there) in
+      let u = limited lt in
+      omega (arith, n, e, u)
+
+  jobs_after : IsReceiving x → (after (OfJob job Granted) v).jobs ≡ set v.jobs i (acted Granted x)
+  jobs_after r = jobs_left v (OfJob job Granted) (set v.jobs i (acted Granted x)) (act_set (size d) k.config b h i job Granted l.legal s (held_granted x r)) refl
+
+  kind : 0 < length k.table.capacity
+  kind = (let e = ap length l.kept.table.capacity in omega (arith, e))
+
+  table : 0 < amount k.table.free 0 → IsTable (granted k.table i 0)
+  table free = (let n = rows_len k.table v l.kept.table in let there = s.there in granted_table k.table i 0 l.kept.table.table (omega (arith, n, there)) kind free)
+
+  rows : IsReceiving x → set k.table.rows i (granted_row 0 (row_at k.table.rows i)) ≡ set k.table.rows i (row_of k.config (acted Granted x))
+  rows r = ap (λ (row : Row). set k.table.rows i (granted_row 0 row)) (row_here k.table v i l.kept.table s.there) ∙ ap (set k.table.rows i) (row_granted k.config x r)
+
+  -- the table with the page is that of the state with it
+  of : IsReceiving x → 0 < amount k.table.free 0 → IsTableOf (granted k.table i 0) (after (OfJob job Granted) v)
+  of r free = table_set v (OfJob job Granted) k.table (granted k.table i 0) i (acted Granted x) l.kept.table (jobs_after r) (table free) (rows r) refl refl
+
+  grants : IsReceiving x → 0 < amount k.table.free 0 → IsSafe (granted k.table i 0) → MayGrant v job
+  grants r free safe =
+      let e = table_free k.table v l.kept.table 0 in
+      (omega (arith, e, free), table_safe (granted k.table i 0) (after (OfJob job Granted) v) (of r free) safe)
+
+  leaves : MayAsk j → j.facts.granted < limit_of k.config j.facts.queue → 0 < amount k.table.free 0 → IsSafe (granted k.table i 0) → Leaves d b (OfJob job Granted ∷ h) (lent_core k i)
+  leaves m lt free safe =
+      let r = (can_ask (look d) k.config j x t m).0 in
+      let same = pool_even d b h k l in
+      let some : 0 < length k.table.free = (let e = l.kept.table.table.same_kinds in let n = kind in omega (arith, e, n)) in
+      let left : k.pool.free - 1 ≡ amount (granted k.table i 0).free 0 = ap (λ (n : ℕ). n - 1) same ∙ sym (free_after k.table.free some) in
+      let many : k.book.stored + chained_of x ≡ k.book.stored + chained_of (acted Granted x) = refl in
+      leaves_set d b h k (OfJob job Granted) i k.book.stored (acted Granted x) (told lent_facts j) (record k.pool { free = k.pool.free - 1 }) (granted k.table i 0) k.printers l (may m lt, grants r free safe)
+      (jobs_after r) s.there refl refl
+      (ap (λ (y : ShownJob (What d)). record y { facts = lent_facts y.facts }) t)
+      many (table free) (rows r) refl refl
+      (ap (λ (n : ℕ). record k.pool { free = n }) left)
+      l.kept.printers
+
+  pub ask_none_free : MayAsk j → j.facts.granted < limit_of k.config j.facts.queue → amount k.table.free 0 ≡ 0 → Asks d b h k job k (Ok Later)
+  ask_none_free m lt none = (may m lt, (λ g. let e = table_free k.table v l.kept.table 0 in let n = g.0 in omega (arith, e, n, none)), refl)
+
+  pub ask_not_safe : MayAsk j → j.facts.granted < limit_of k.config j.facts.queue → 0 < amount k.table.free 0 → (IsSafe (granted k.table i 0) → ⊥) → Asks d b h k job k (Ok Later)
+  ask_not_safe m lt free never = (
+    may m lt,
+    (λ g. never (safe_table (granted k.table i 0) (after (OfJob job Granted) v) (of (can_ask (look d) k.config j x t m).0 free) g.1)),
+    refl,
+  )
+
+  pub ask_page : (ticket : Page) → MayAsk j → j.facts.granted < limit_of k.config j.facts.queue → 0 < amount k.table.free 0 → IsSafe (granted k.table i 0) → ticket ≡ record { octets = []; page_size = k.pool.page_size }
+      → Asks d b h k job (lent_core k i) (Ok (Page' ticket))
+  ask_page ticket m lt free safe is = (
+    may m lt,
+    grants (can_ask (look d) k.config j x t m).0 free safe,
+    leaves m lt free safe,
+    ap (λ (p : Page). p.octets) is,
+    ap (λ (p : Page). p.page_size) is ∙ ap (λ (p : Pages). p.page_size) l.kept.pool,
+  )

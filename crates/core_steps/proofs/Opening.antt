@@ -1,0 +1,250 @@
+-- A job is accepted.
+use Rattle.std.proofs.Common.{inl, inr, ◌≡◌, ◌==◌, ◌≢◌, ℕ, zero, suc, ◌+◌, ◌-◌, ◌<◌, ◌≤◌, Bool, true, false, List, [], ◌∷◌, ◌++◌, length, get_or, set, map, replicate, refl, sym, ◌∙◌, ap, subst, arith}
+use Rattle.std.specs.Prelude.{All, Result, Ok, Err, ◌⊎◌, cond, nat_lt, sum_by, slice_index_or}
+use Rattle.std.proofs.lemmas.Bool.Decides.{nat_tests}
+use Rattle.std.proofs.lemmas.List.{length-map, length-replicate, map-append, get_or-map, get_or_default, get_or_past}
+use Rattle.std.proofs.lemmas.List.Sums.{sum_by-cons, sum_by-append}
+use Rattle.counts.specs.Amounts.{amount, Fits}
+use Rattle.claims.specs.declared.row.Row.{Row}
+use Rattle.claims.specs.Claims.{Claims, IsTable, row_at, no_row}
+use Rattle.claims.specs.Changes.{opened, new_row_of, HasPlace}
+use Rattle.claims.proofs.Tables.{open_table}
+use Rattle.held_jobs.specs.Jobs.{HeldJob, new_job as new_held}
+use Rattle.held_jobs.specs.Jobs as J
+use Rattle.held_jobs.specs.Books.{Books, job_at}
+use Rattle.held_jobs.specs.Shown.{ShownJob, see_job}
+use Rattle.config_values.specs.Config.{Config, Queue, IsQueue, limit_of, no_queue, reserve_of}
+use Rattle.config_values.specs.Ranges.{IsConfig}
+use Rattle.spool_history.specs.Base.{Base}
+use Rattle.spool_history.specs.Events.{Event}
+use Rattle.spool_history.specs.Events.Event.{Opened}
+use Rattle.spool_history.specs.Said.{openings}
+use Rattle.spool_history.specs.Now.{Job, State, now, row_of, amounts, capacity, up_to}
+use Rattle.spool_history.specs.Steps.{after, change, new_job}
+use Rattle.spool_history.specs.Legal.{IsLegal, HasRoom, MayOpen}
+use Rattle.spool_laws.specs.Sums.{chained, chained_of}
+use Rattle.spool_laws.proofs.Known.{Has, known, test}
+use Rattle.spool_laws.proofs.Facts.{facts}
+use Rattle.spool_laws.proofs.Adding.{length_up_to}
+use Rattle.spool_laws.proofs.Printers.{get_up_to}
+use Rattle.spool_moves.specs.Standing.{no_job}
+use Rattle.spool_moves.specs.Claimed.{IsTableOf}
+use Rattle.spool_moves.proofs.Standing.{all_held, has_get, none_changed}
+use Rattle.spool_moves.proofs.Claimed.{rows_len}
+use Rattle.lpd_values.specs.declared.refusal.Refusal.TheVariants.{UnknownQueue, TableFull, AccountFull, Closed, Memory}
+use Rattle.spool_calls.specs.Looks.{Detail, What, size}
+use Rattle.spool_calls.specs.Kept.{Kept, IsBookOf, Leaves, left_by, look, shown_job}
+use Rattle.spool_calls.specs.Calls.{InQueue, IsNamed, IsUnknown, Opens}
+use Rattle.core_steps.proofs.Leaving.{jobs_len, leaves_with, pool_even, tie}
+use Rattle.core_steps.proofs.Ranges.{limit_pages}
+
+-- the new job's number is above all others
+pub numbers : {C : Type 0} (size : C → ℕ) (c : Config) (b : Base) (h : List (Event C)) (x : Job C) → IsLegal size c b h → Has x (now c b h).jobs → x.number ≤ (now c b h).accepted
+numbers {C} size c b h x l has =
+    let k = known c b h x has in
+    let n = (facts size c b h l).numbers k.opening k.there in
+    let m = n.1 in
+    subst (λ (v : Job C). v.number ≤ (now c b h).accepted) (sym k.is) m
+
+amounts_len : (c : Config) (p q n : ℕ) → length (amounts c p q n) ≡ suc (length c.queues)
+amounts_len c p q n =
+    let a = length_up_to (λ (r : ℕ). cond (r == q) n 0) (length c.queues) in
+    omega (arith, a)
+
+-- a row that holds nothing
+
+zeros_up : (q : ℕ) (rs : List ℕ) → map {A = ℕ} {B = ℕ} (λ (r : ℕ). cond (r == q) 0 0) rs ≡ replicate (length rs) 0
+zeros_up q [] = refl
+zeros_up q (r ∷ rs) = elim (test r q) [ inl s ↦ rw s.1 (ap (λ (l : List ℕ). 0 ∷ l) (zeros_up q rs)) | inr s ↦ rw s.1 (ap (λ (l : List ℕ). 0 ∷ l) (zeros_up q rs)) ]
+
+zeros : (c : Config) (q p n : ℕ) → replicate (length (amounts c p q n)) 0 ≡ amounts c 0 q 0
+zeros c q p n =
+    let u = length-map (up_to (length c.queues)) (λ (r : ℕ). cond (r == q) n 0) in
+    let e : length (amounts c p q n) ≡ suc (length (up_to (length c.queues))) = omega (arith, u) in
+    ap (λ (i : ℕ). replicate i 0) e ∙ ap (λ (l : List ℕ). 0 ∷ l) (sym (zeros_up q (up_to (length c.queues))))
+
+new_row : (C : Type 0) (c : Config) (number sender queue : ℕ) (need : List ℕ) → need ≡ amounts c (limit_of c queue) queue 1 → new_row_of number sender queue need ≡ row_of c (new_job {C = C} number sender queue)
+new_row C c number sender queue need e =
+    let less : limit_of c queue ≡ limit_of c queue - 0 = omega arith in
+    ap (new_row_of number sender queue) e
+    ∙ (ap (λ (l : List ℕ). record { number = number; sender = sender; queue = queue; held = l; need = amounts c (limit_of c queue) queue 1 }) (zeros c queue (limit_of c queue) 1)
+    ∙ ap (λ (n : ℕ). record { number = number; sender = sender; queue = queue; held = amounts c 0 queue 0; need = amounts c n queue 1 }) less)
+
+none_held : (n k : ℕ) → amount (replicate n 0) k ≡ 0
+none_held zero k = refl
+none_held (suc n) zero = refl
+none_held (suc n) (suc k) = none_held n k
+
+opens_none : {C : Type 0} (number sender queue : ℕ) (z : Job C) → change (Opened number sender queue) z ≡ z
+opens_none number sender queue z = refl
+
+-- what is kept once the job is accepted
+abbrev pub opened_core : Kept → (number sender queue : ℕ) → List ℕ → Kept
+opened_core k number sender queue need = record k {
+  book = record k.book { jobs = k.book.jobs ++ new_held number sender queue ∷ [] };
+  table = opened k.table number sender queue need;
+  accepted = number;
+  reserved = k.reserved + reserve_of k.config queue;
+}
+
+module _ (d : Detail) (b : Base) (h : List (Event (What d))) (k : Kept) (l : Leaves d b h k) where
+  -- all rows have lower numbers
+  pub greater : All (λ (r : Row). r.number < k.accepted + 1) k.table.rows
+  greater i d' lt =
+      let v = left_by d b h k in
+      let n = rows_len k.table v l.kept.table in
+      let there : i < length v.jobs = omega (arith, n, lt) in
+      let is : get_or k.table.rows i d' ≡ row_of k.config (get_or v.jobs i no_job) = ap (λ (r : List Row). get_or r i d') l.kept.table.rows ∙ get_or-map (row_of k.config) v.jobs i no_job d' there in
+      let m = numbers (size d) k.config b h (get_or v.jobs i no_job) l.legal (has_get v.jobs i no_job there) in
+      let a = l.kept.accepted in
+      let e : (get_or k.table.rows i d').number ≡ (get_or v.jobs i no_job).number = ap (λ (r : Row). r.number) is in
+      omega (arith, m, a, e)
+
+  -- a claim has as many kinds as the table
+  pub kinds : (queue : ℕ) (need : List ℕ) → need ≡ amounts k.config (limit_of k.config queue) queue 1 → length need ≡ length k.table.capacity
+  kinds queue need e =
+      let a = ap length e ∙ amounts_len k.config (limit_of k.config queue) queue 1 in
+      let c = ap length l.kept.table.capacity in
+      let m = length-map k.config.queues (λ (q : Queue). q.printers) in
+      omega (arith, a, c, m)
+
+  opened_leaves : (number sender queue : ℕ) (need : List ℕ) → MayOpen (left_by d b h k) number queue → HasPlace k.table need → need ≡ amounts k.config (limit_of k.config queue) queue 1
+      → Leaves d b (Opened number sender queue ∷ h) (opened_core k number sender queue need)
+  opened_leaves number sender queue need may place e =
+      let c = k.config in
+      let v = left_by d b h k in
+      let ev : Event (What d) = Opened number sender queue in
+      let new : Job (What d) = new_job number sender queue in
+      let t0 = l.kept.table in
+      let jobs : (after ev v).jobs ≡ v.jobs ++ new ∷ [] = ap (λ (js : List (Job (What d))). js ++ new ∷ []) (none_changed (change ev) v.jobs (λ z has. refl) (all_held c b h)) in
+      let row = new_row (What d) c number sender queue need e in
+      let t = opened k.table number sender queue need in
+      let len = kinds queue need e in
+      let lr : length (replicate (length need) 0) ≡ length k.table.capacity = length-replicate (length need) 0 ∙ len in
+      let a : number ≡ v.accepted + 1 = may.4 in
+      let ka = l.kept.accepted in
+      let up : All (λ (r : Row). r.number < number) k.table.rows = (λ i d' lt. (let g = greater i d' lt in omega (arith, g, a, ka))) in
+      let table : IsTableOf t (after ev v) = record {
+        table = open_table k.table (new_row_of number sender queue need) t0.table place.1 up (none_held (length need)) lr len;
+        rows = ap (λ (rs : List Row). rs ++ new_row_of number sender queue need ∷ []) t0.rows ∙ (ap (λ (r : Row). map (row_of c) v.jobs ++ r ∷ []) row ∙ (sym (map-append (row_of c) v.jobs (new ∷ [])) ∙ sym (ap (map (row_of c)) jobs)));
+        capacity = t0.capacity;
+        room = t0.room;
+      } in
+      let is = l.kept.book in
+      let book : IsBookOf d (after ev v) (record k.book { jobs = k.book.jobs ++ new_held number sender queue ∷ [] }) = record {
+        jobs = map-append (see_job (look d)) k.book.jobs (new_held number sender queue ∷ [])
+            ∙ (ap (λ (js : List (ShownJob (What d))). js ++ shown_job c new ∷ []) is.jobs ∙ (sym (map-append (shown_job c) v.jobs (new ∷ [])) ∙ sym (ap (map (shown_job c)) jobs)));
+        stored = (
+            let s = sum_by-append (λ (y : Job (What d)). chained_of y) v.jobs (new ∷ []) in
+            let one = sum_by-cons (λ (y : Job (What d)). chained_of y) new [] in
+            let none : chained_of new ≡ 0 = refl in
+            let w = is.stored in
+            let z : chained (after ev v) ≡ sum_by (λ (y : Job (What d)). chained_of y) (v.jobs ++ new ∷ []) = ap (sum_by (λ (y : Job (What d)). chained_of y)) jobs in
+            omega (arith, s, one, none, w, z));
+        max_jobs = is.max_jobs;
+        pages = is.pages;
+        page_size = is.page_size;
+      } in
+      let s = sum_by-cons (λ (j : Job (What d)). reserve_of c j.queue) new [] in
+      let q = l.kept.reserved in
+      let r : k.reserved + reserve_of c queue ≡ v.reserved + sum_by (λ (j : Job (What d)). reserve_of c j.queue) (new ∷ []) = omega (arith, s, q) in
+      leaves_with d b h k ev k.pool (record k.book { jobs = k.book.jobs ++ new_held number sender queue ∷ [] }) t number (k.reserved + reserve_of c queue) k.printers k.closed l may book table
+      (ap (λ (n : ℕ). record k.pool { free = n }) (pool_even d b h k l)) a r l.kept.printers l.kept.closed
+
+  named : (name : List ℕ) (q : ℕ) (P : ℕ → Type 0) → k.closed ≡ false → IsNamed k.config name q → P q → InQueue d b h k name P
+  named name q P c n p = (sym l.kept.closed ∙ c, q, n, p)
+
+  -- the account has room, as it is kept
+  abbrev pub Room : ℕ → Type 0
+  Room q = (k.reserved + reserve_of k.config q + 1 ≤ k.config.account) × (k.accepted + 1 < 18446744073709551616)
+
+  may_open : (q : ℕ) → k.closed ≡ false → IsQueue k.config q → length k.book.jobs < k.config.max_jobs → Room q → MayOpen (left_by d b h k) (k.accepted + 1) q
+  may_open q c is few room =
+      let n = jobs_len d b h k l in
+      let a = l.kept.accepted in
+      let r = l.kept.reserved in
+      let r0 = room.0 in
+      let r1 = room.1 in
+      (sym l.kept.closed ∙ c, is, omega (arith, n, few), omega (arith, r, r0), omega (arith, a), r1)
+
+  pub open_done : (sender q : ℕ) (name need : List ℕ) → k.closed ≡ false → IsNamed k.config name q → length k.book.jobs < k.config.max_jobs → Room q → HasPlace k.table need → need ≡ amounts k.config (limit_of k.config q) q 1
+      → Opens d b h k sender name (opened_core k (k.accepted + 1) sender q need) (Ok (k.accepted + 1))
+  open_done sender q name need c n few room place e =
+      let may = may_open q c n.0 few room in
+      named name q _ c n (may, opened_leaves (k.accepted + 1) sender q need may place e)
+
+  pub open_closed : (sender : ℕ) (name : List ℕ) → k.closed ≡ true → Opens d b h k sender name k (Err Closed)
+  open_closed sender name c = (sym l.kept.closed ∙ c, refl)
+
+  pub open_unknown : (sender : ℕ) (name : List ℕ) → k.closed ≡ false → IsUnknown k.config name → Opens d b h k sender name k (Err UnknownQueue)
+  open_unknown sender name c u = ((sym l.kept.closed ∙ c, u), refl)
+
+  pub open_full : (sender q : ℕ) (name : List ℕ) → k.closed ≡ false → IsNamed k.config name q → k.config.max_jobs ≤ length k.book.jobs → Opens d b h k sender name k (Err TableFull)
+  open_full sender q name c n many = (let m = jobs_len d b h k l in (named name q _ c n (omega (arith, m, many)), refl))
+
+  pub open_no_room : (sender q : ℕ) (name : List ℕ) → k.closed ≡ false → IsNamed k.config name q → length k.book.jobs < k.config.max_jobs → (Room q → ⊥) → Opens d b h k sender name k (Err AccountFull)
+  open_no_room sender q name c n few never =
+      let m = jobs_len d b h k l in
+      let a = l.kept.accepted in
+      let r = l.kept.reserved in
+      (named name q _ c n (omega (arith, m, few), λ room. never (let r0 = room.0 in let r1 = room.1 in (omega (arith, r, r0), omega (arith, a, r1)))), refl)
+
+  pub open_no_memory : (sender q : ℕ) (name : List ℕ) → k.closed ≡ false → IsNamed k.config name q → length k.book.jobs < k.config.max_jobs → Room q → Opens d b h k sender name k (Err Memory)
+  open_no_memory sender q name c n few room =
+      let a = l.kept.accepted in
+      (named name q _ c n (subst (λ (m : ℕ). MayOpen (left_by d b h k) (m + 1) q) a (may_open q c n.0 few room)), refl)
+
+-- a job's claim is within what there is
+
+claim_at : (c : Config) (q : ℕ) → IsConfig c → (n : ℕ) → (b : Bool) → (n < length c.queues) → (suc n == q) ≡ b → cond b 1 0 ≤ (get_or c.queues n no_queue).printers
+claim_at c q ranges n true lt e = (ranges.queues n no_queue lt).printers_low
+claim_at c q ranges n false lt e = omega arith
+
+printers_at : (qs : List Queue) (n : ℕ) → n < length qs → get_or (map (λ (q : Queue). q.printers) qs) n 0 ≡ (get_or qs n no_queue).printers
+printers_at qs n lt = get_or-map (λ (q : Queue). q.printers) qs n no_queue 0 lt
+
+claim_by : (c : Config) (q : ℕ) → IsConfig c → (n : ℕ) → (n < length c.queues) ⊎ (length c.queues ≤ n) → get_or (map (λ (r : ℕ). cond (r == q) 1 0) (up_to (length c.queues))) n 0 ≤ get_or (map (λ (p : Queue). p.printers) c.queues) n 0
+claim_by c q ranges n (inl lt) =
+    let a = get_up_to {P = ℕ} (λ (r : ℕ). cond (r == q) 1 0) (length c.queues) n 0 lt in
+    let e = claim_at c q ranges n (suc n == q) lt refl in
+    let p = printers_at c.queues n lt in
+    omega (arith, a, e, p)
+claim_by c q ranges n (inr ge) =
+    let m = length_up_to {P = ℕ} (λ (r : ℕ). cond (r == q) 1 0) (length c.queues) in
+    let z = get_or_past (map {A = ℕ} {B = ℕ} (λ (r : ℕ). cond (r == q) 1 0) (up_to (length c.queues))) n 0 (omega (arith, m, ge)) in
+    omega (arith, z)
+
+split : (n m : ℕ) → (n < m) ⊎ (m ≤ n)
+split n m = split_by (nat_lt n m) refl
+  where
+    split_by : (b : Bool) → nat_lt n m ≡ b → (n < m) ⊎ (m ≤ n)
+    split_by true e = inl (grind (arith, nat_tests))
+    split_by false e = inr (grind (arith, nat_tests))
+
+pub claim_fits : (c : Config) (q : ℕ) → IsConfig c → Fits (amounts c (limit_of c q) q 1) (amount (capacity c))
+claim_fits c q ranges zero = limit_pages c q ranges
+claim_fits c q ranges (suc n) = claim_by c q ranges n (split n (length c.queues))
+
+module _ (d : Detail) (b : Base) (h : List (Event (What d))) (k : Kept) (l : Leaves d b h k) where
+  -- no job of the book has the next number
+  pub unused : All (λ (j : HeldJob). j.facts.number ≢ k.accepted + 1) k.book.jobs
+  unused i d' lt e =
+      let v = left_by d b h k in
+      let n = jobs_len d b h k l in
+      let same : get_or k.book.jobs i d' ≡ job_at k.book i = get_or_default k.book.jobs i d' J.no_job lt in
+      let t = ap (λ (s : ShownJob (What d)). s.facts.number) (tie d b h k i l lt) in
+      let m = numbers (size d) k.config b h (get_or v.jobs i no_job) l.legal (has_get v.jobs i no_job (omega (arith, n, lt))) in
+      let a = l.kept.accepted in
+      let f = ap (λ (j : HeldJob). j.facts.number) same in
+      omega (arith, t, m, a, f, e)
+
+  -- there is a row for one more job, where there is room for a job
+  pub row_room : length k.book.jobs < k.config.max_jobs → length k.table.rows < k.table.room
+  row_room few =
+      let n = jobs_len d b h k l in
+      let r = rows_len k.table (left_by d b h k) l.kept.table in
+      let m = l.kept.table.room in
+      omega (arith, few, n, r, m)
+
+  pub book_room : length k.book.jobs < k.config.max_jobs → length k.book.jobs < k.book.max_jobs
+  book_room few = (let m = l.kept.book.max_jobs in omega (arith, few, m))

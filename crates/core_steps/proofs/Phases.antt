@@ -1,0 +1,68 @@
+-- How far a job is, in the words of its history and of the book.
+use Rattle.std.proofs.Common.{◌≡◌, ℕ, Bool, true, false, List, length, get_or, map, refl, sym, ◌∙◌, ap, subst}
+use Rattle.held_jobs.specs.declared.phase.Phase.{Phase}
+use Rattle.held_jobs.specs.declared.phase.Phase.TheVariants.{Receiving, Received, Ended}
+use Rattle.held_jobs.specs.Jobs.{HeldJob, Facts}
+use Rattle.held_jobs.specs.Moves.{MayAsk}
+use Rattle.held_jobs.specs.Shown.{Shelf, ShownJob, see_job}
+use Rattle.page_pool.specs.Page.{Page}
+use Rattle.config_values.specs.Config.{Config}
+use Rattle.spool_history.specs.Acts.{is_open_in}
+use Rattle.spool_history.specs.Now.{Job, is_received}
+use Rattle.spool_history.specs.Legal.{IsReceiving, CanAsk}
+use Rattle.spool_calls.specs.Kept.{shown_job, facts_of, phase_of, shelf_of, spots}
+
+receiving_by : {C : Type 0} (x : Job C) (e r : Bool) → x.ended ≡ e → is_received x ≡ r → phase_of x ≡ Receiving → IsReceiving x
+receiving_by x true r ee er s = (let t : Ended ≡ Receiving = rw ee at s in absurd cc)
+receiving_by x false true ee er s = (let t : Received ≡ Receiving = rw (ee, er) at s in absurd cc)
+receiving_by x false false ee er s = (ee, er)
+
+pub receiving : {C : Type 0} (x : Job C) → phase_of x ≡ Receiving → IsReceiving x
+receiving x s = receiving_by x x.ended (is_received x) refl refl s
+
+pub phase_receiving : {C : Type 0} (x : Job C) → IsReceiving x → phase_of x ≡ Receiving
+phase_receiving x r = (let e = r.0 in let i = r.1 in rw (e, i) refl)
+
+received_by : {C : Type 0} (x : Job C) (e r : Bool) → x.ended ≡ e → is_received x ≡ r → phase_of x ≡ Received → (x.ended ≡ false) × (is_received x ≡ true)
+received_by x true r ee er s = (let t : Ended ≡ Received = rw ee at s in absurd cc)
+received_by x false false ee er s = (let t : Receiving ≡ Received = rw (ee, er) at s in absurd cc)
+received_by x false true ee er s = (ee, er)
+
+pub received : {C : Type 0} (x : Job C) → phase_of x ≡ Received → (x.ended ≡ false) × (is_received x ≡ true)
+received x s = received_by x x.ended (is_received x) refl refl s
+
+pub phase_received : {C : Type 0} (x : Job C) → x.ended ≡ false → is_received x ≡ true → phase_of x ≡ Received
+phase_received x e r = rw (e, r) refl
+
+ended_by : {C : Type 0} (x : Job C) (e r : Bool) → x.ended ≡ e → is_received x ≡ r → phase_of x ≡ Ended → x.ended ≡ true
+ended_by x true r ee er s = ee
+ended_by x false true ee er s = (let t : Received ≡ Ended = rw (ee, er) at s in absurd cc)
+ended_by x false false ee er s = (let t : Receiving ≡ Ended = rw (ee, er) at s in absurd cc)
+
+pub ended : {C : Type 0} (x : Job C) → phase_of x ≡ Ended → x.ended ≡ true
+ended x s = ended_by x x.ended (is_received x) refl refl s
+
+pub phase_ended : {C : Type 0} (x : Job C) → x.ended ≡ true → phase_of x ≡ Ended
+phase_ended x e = rw e refl
+
+module _ {C : Type 0} (f : Page → C) (c : Config) (j : HeldJob) (x : Job C) (t : see_job f j ≡ shown_job c x) where
+  pub facts_tie : j.facts ≡ facts_of c x
+  facts_tie = ap (λ (s : ShownJob C). s.facts) t
+
+  pub phase_tie : j.facts.phase ≡ phase_of x
+  phase_tie = ap (λ (s : Facts). s.phase) facts_tie
+
+  pub shelf_tie : (see_job f j).shelf ≡ shelf_of (phase_of x) x.files x.handed x.back (spots x)
+  shelf_tie = ap (λ (s : ShownJob C). s.shelf) t
+
+  -- while it is being received, a file of it is open in the book where one is in the history
+  pub open_tie : IsReceiving x → j.chain.is_open ≡ is_open_in x.files
+  open_tie r = ap (λ (s : Shelf C). s.is_open) shelf_tie ∙ ap (λ (p : Phase). (shelf_of p x.files x.handed x.back (spots x)).is_open) (phase_receiving x r)
+
+  pub can_ask : MayAsk j → CanAsk x
+  can_ask m =
+      let r = receiving x (sym phase_tie ∙ m.0) in
+      (r, sym (open_tie r) ∙ m.1, sym (ap (λ (s : Facts). s.lent) facts_tie) ∙ m.2)
+
+  pub ask_can : CanAsk x → MayAsk j
+  ask_can m = (phase_tie ∙ phase_receiving x m.0, open_tie m.0 ∙ m.1, ap (λ (s : Facts). s.lent) facts_tie ∙ m.2)

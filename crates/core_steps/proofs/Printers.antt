@@ -1,0 +1,72 @@
+-- What a core keeps of its printers.
+use Rattle.std.proofs.Common.{◌≡◌, ℕ, zero, suc, ◌+◌, ◌-◌, ◌<◌, ◌≤◌, Bool, true, false, List, [], ◌∷◌, length, get_or, set, map, refl, sym, ◌∙◌, ap, subst, arith}
+use Rattle.std.specs.Prelude.{Option, Some, None, is_some}
+use Rattle.std.proofs.lemmas.List.{length-map, get_or-map, map-set}
+use Rattle.account.specs.declared.entry.Sheet.{Sheet as SheetOut}
+use Rattle.config_values.specs.Config.{Config, IsPrinter, printer_count}
+use Rattle.spool_history.specs.Base.{Base}
+use Rattle.spool_history.specs.Events.{Event, Sheet}
+use Rattle.spool_history.specs.Now as N
+use Rattle.spool_history.specs.Now.{Job, State}
+use Rattle.spool_history.specs.Next.{Next, next_page, printer_at, turn_of, hand_of, with_out, no_printer}
+use Rattle.spool_history.specs.Next.Next.{Stops, Busy, Over}
+use Rattle.spool_laws.proofs.Known.{clash}
+use Rattle.spool_laws.proofs.Adding.{length_up_to}
+use Rattle.spool_calls.specs.declared.printer.Printer.{Printer}
+use Rattle.spool_calls.specs.Looks.{Detail, What}
+use Rattle.spool_calls.specs.Kept.{Kept, Leaves, left_by, kept_printer, kept_out, kept_sheet}
+
+module _ (d : Detail) (b : Base) (h : List (Event (What d))) (k : Kept) (l : Leaves d b h k) where
+  pub printers_len : length k.printers ≡ printer_count k.config
+  printers_len = ap length l.kept.printers ∙ (length-map (left_by d b h k).printers (kept_printer d) ∙ length_up_to (N.printer_of k.config b h) (printer_count k.config))
+
+  pub printer_there : (p : ℕ) → IsPrinter k.config p → p - 1 < length k.printers
+  printer_there p is = (let n = printers_len in let a = is.0 in let e = is.1 in omega (arith, n, a, e))
+
+  -- what is kept of the printer of a number
+  pub printer_seen : (p : ℕ) (at : Printer) → IsPrinter k.config p → at ≡ get_or k.printers (p - 1) at → at ≡ kept_printer d (printer_at (left_by d b h k) p)
+  printer_seen p at is e =
+      let v = left_by d b h k in
+      let n = printer_there p is in
+      let one = is.0 in
+      let m : length k.printers ≡ length v.printers = ap length l.kept.printers ∙ length-map v.printers (kept_printer d) in
+      e ∙ (ap (λ (ps : List Printer). get_or ps (p - 1) at) l.kept.printers
+      ∙ (get_or-map (kept_printer d) v.printers (p - 1) no_printer at (omega (arith, n, m)) ∙ ap (kept_printer d) (shifted v.printers p one)))
+    where
+      shifted : (ps : List (N.Printer (What d))) (q : ℕ) → 1 ≤ q → get_or ps (q - 1) no_printer ≡ get_or (no_printer ∷ ps) q no_printer
+      shifted ps zero le = absurd (omega arith)
+      shifted ps (suc q) le = (let e : suc q - 1 ≡ q = omega arith in ap (λ (n : ℕ). get_or ps n no_printer) e)
+
+  -- one printer changed in the history is one changed in what is kept
+  pub printers_set : (p : ℕ) (x : N.Printer (What d)) → set k.printers (p - 1) (kept_printer d x) ≡ map (kept_printer d) (set (left_by d b h k).printers (p - 1) x)
+  printers_set p x =
+      ap (λ (ps : List Printer). set ps (p - 1) (kept_printer d x)) l.kept.printers ∙ sym (map-set (kept_printer d) (left_by d b h k).printers (p - 1) x)
+
+-- what is next, case by case
+
+module _ (d : Detail) (v : State (What d)) (p : ℕ) where
+  pub next_over : v.closed ≡ true → next_page v p ≡ Over
+  next_over e = rw e refl
+
+  pub next_stopped : (at : Printer) → v.closed ≡ false → at ≡ kept_printer d (printer_at v p) → at.stopped ≡ true → next_page v p ≡ Stops
+  next_stopped at c e s = (let st : (printer_at v p).stopped ≡ true = ap (λ (x : Printer). x.stopped) (sym e) ∙ s in rw (c, st) refl)
+
+  busy_by : (q : N.Printer (What d)) (o : Option (Sheet (What d))) → is_some (kept_out d o) ≡ true → with_out v.jobs q o ≡ Busy
+  busy_by q None e = absurd (clash false e refl)
+  busy_by q (Some s) e = refl
+
+  idle_by : (o : Option (Sheet (What d))) → is_some (kept_out d o) ≡ false → o ≡ None
+  idle_by None e = refl
+  idle_by (Some s) e = absurd (clash true refl e)
+
+  pub next_busy : (at : Printer) → v.closed ≡ false → at ≡ kept_printer d (printer_at v p) → at.stopped ≡ false → is_some at.out ≡ true → next_page v p ≡ Busy
+  next_busy at c e s o =
+      let st : (printer_at v p).stopped ≡ false = ap (λ (x : Printer). x.stopped) (sym e) ∙ s in
+      let out : is_some (kept_out d (printer_at v p).out) ≡ true = ap (λ (x : Printer). is_some x.out) (sym e) ∙ o in
+      rw (c, st) (busy_by (printer_at v p) (printer_at v p).out out)
+
+  pub next_turn : (at : Printer) → v.closed ≡ false → at ≡ kept_printer d (printer_at v p) → at.stopped ≡ false → is_some at.out ≡ false → next_page v p ≡ hand_of (turn_of v.jobs at.queue at.began)
+  next_turn at c e s o =
+      let st : (printer_at v p).stopped ≡ false = ap (λ (x : Printer). x.stopped) (sym e) ∙ s in
+      let out : (printer_at v p).out ≡ None = idle_by (printer_at v p).out (ap (λ (x : Printer). is_some x.out) (sym e) ∙ o) in
+      rw (c, st, out) (ap (λ (x : Printer). hand_of (turn_of v.jobs x.queue x.began)) (sym e))

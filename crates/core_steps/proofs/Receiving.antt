@@ -1,0 +1,361 @@
+-- A data file of a job ends, and its control file comes: with the last of these it is received.
+use Rattle.std.proofs.Common.{inl, inr, ◌≡◌, ◌≢◌, ℕ, suc, ◌+◌, ◌-◌, ◌*◌, ◌<◌, ◌≤◌, Bool, true, false, List, [], ◌∷◌, ◌++◌, length, get_or, set, map, refl, sym, ◌∙◌, ap, subst, arith}
+use Rattle.std.specs.Prelude.{All, Result, Ok, Err, Option, Some, None, IsSome, ◌&&◌, not, sum_by, is_some}
+use Rattle.std.specs.List.{list_all}
+use Rattle.counts.specs.Amounts.{amount}
+use Rattle.claims.specs.declared.row.Row.{Row}
+use Rattle.claims.specs.Claims.{Claims, row_at}
+use Rattle.claims.specs.Changes.{given_back, need_ended}
+use Rattle.page_pool.specs.Page.{Page, Pages}
+use Rattle.page_chain.specs.Files.{Files}
+use Rattle.page_chain.specs.Changes.{unnamed_pages}
+use Rattle.lpd_values.specs.Contents.{Contents}
+use Rattle.lpd_values.specs.Kept.{is_among}
+use Rattle.lpd_values.specs.declared.refusal.Refusal.TheVariants.{NotOpen, ControlTwice}
+use Rattle.held_jobs.specs.declared.file.DataFile.{DataFile}
+use Rattle.held_jobs.specs.declared.phase.Phase.TheVariants.{Receiving}
+use Rattle.held_jobs.specs.Jobs.{HeldJob, Facts, file_names, has_all, has_prints, last_size}
+use Rattle.held_jobs.specs.Moves.{CanEnd, closed_file, controlled_facts, received_job, told}
+use Rattle.held_jobs.specs.Books.{IsIdle, job_at, prints_of, with_job}
+use Rattle.held_jobs.specs.Shown.{see_job}
+use Rattle.config_values.specs.Config.{Config}
+use Rattle.config_values.specs.Ranges.{IsConfig}
+use Rattle.spool_history.specs.Base.{Base}
+use Rattle.spool_history.specs.Events.{Act, Event}
+use Rattle.spool_history.specs.Events.Act.{FileEnded, Controlled}
+use Rattle.spool_history.specs.Events.Event.{OfJob}
+use Rattle.spool_history.specs.Acts.{File, at_last, is_open_in, is_whole, names_in, prints_in}
+use Rattle.spool_history.specs.Now.{Job, State, is_held, is_received, pages_kept, row_of}
+use Rattle.spool_history.specs.Steps.{acted, after}
+use Rattle.spool_history.specs.Legal.{HasJob, HasOpen, HasPages, IsControl, IsReceiving, JobMay, pages_for}
+use Rattle.spool_laws.specs.Sums.{chained_of}
+use Rattle.spool_laws.proofs.Known.{Has, clash}
+use Rattle.spool_laws.proofs.Apart.{each_has_a_place}
+use Rattle.spool_moves.specs.Standing.{no_job}
+use Rattle.spool_moves.proofs.Standing.{Stands, has_get, has_here, has_job}
+use Rattle.spool_moves.proofs.Moving.{act_set}
+use Rattle.spool_moves.proofs.Opens.{LastOpen, job_opens, last_of}
+use Rattle.spool_moves.proofs.Files.{Differ, Needed, job_names_differ, job_pages_needed, needed_of_last, none_left_is_all, all_is_none_left}
+use Rattle.spool_moves.proofs.Holding.{closed_unlent, file_pages, granted_filed, granted_within, unreceived_unhanded}
+use Rattle.job_moves.proofs.Ties.{Fills, fills}
+use Rattle.job_moves.proofs.Received.{names_ended, received_by_control, received_by_file}
+use Rattle.job_moves.proofs.Receiving.{closed_ended, ties_closed, ties_controlled}
+use Rattle.job_moves.proofs.Counting.{counts_by_control, counts_by_file}
+use Rattle.core_rows.proofs.Tables.{WithRow}
+use Rattle.core_rows.proofs.Receiving.{chained_receiving, controlled_chain, controlled_row, file_ended_chain, file_ended_row, held_in_row, held_receiving, open_unreceived}
+use Rattle.core_rows.proofs.Received.{Becomes, by_control, by_file, received_chain, unprinted}
+use Rattle.spool_calls.specs.declared.answers.Receipt.TheVariants.{Stored, Received}
+use Rattle.spool_calls.specs.Looks.{Detail, What, size}
+use Rattle.spool_calls.specs.Kept.{Kept, Leaves, left_by, look, shown_job, facts_of, size_of}
+use Rattle.spool_calls.specs.Calls.{Ends, Controls}
+use Rattle.core_steps.proofs.Leaving.{Found, standing, tie, none_has, jobs_left, leaves_job, leaves_row, one_stored, pool_even, row_stands}
+use Rattle.core_steps.proofs.Ranges.{limit_within}
+use Rattle.core_steps.proofs.Phases.{facts_tie, phase_tie, phase_receiving, open_tie, receiving}
+use Rattle.core_steps.proofs.Filing.{is_receiving, left_of, not_receiving}
+
+-- whether all that is awaited is there
+
+has_all_is : (names : List (List ℕ)) (control : Option Contents) → has_all names control ≡ (is_some control && list_all (λ name. is_among name names) (prints_in control))
+has_all_is names None = refl
+has_all_is names (Some control) = refl
+
+whole_closed : {C : Type 0} (control : Option Contents) (fs : List (File C)) → is_open_in fs ≡ false → is_whole control fs ≡ has_all (names_in fs) control
+whole_closed control fs e =
+    ap (λ (o : Bool). is_some control && (not o && list_all (λ name. is_among name (names_in fs)) (prints_in control))) e ∙ sym (has_all_is (names_in fs) control)
+
+names_sized : {C : Type 0} (z : ℕ) (fs : List (File C)) → map {A = DataFile} {B = List ℕ} (λ (g : DataFile). g.name) (map {A = File C} {B = DataFile} (size_of z) fs) ≡ names_in fs
+names_sized z [] = refl
+names_sized z (g ∷ fs) = ap (λ (ns : List (List ℕ)). g.name ∷ ns) (names_sized z fs)
+
+some_control : (names : List (List ℕ)) (control : Option Contents) → has_all names control ≡ true → IsSome control
+some_control names None e = absurd (clash false e refl)
+some_control names (Some control) e = refl
+
+held_unended : {C : Type 0} (x : Job C) → x.ended ≡ false → is_held x ≡ true
+held_unended x e = rw e refl
+
+pub end_none : (d : Detail) (b : Base) (h : List (Event (What d))) (k : Kept) (job : ℕ) → Leaves d b h k → All (λ (j : HeldJob). j.facts.number ≢ job) k.book.jobs → Ends d b h k job k (Err NotOpen)
+end_none d b h k job l none = ((λ file whole m. none_has d b h k job (JobMay (size d) k.config (FileEnded file whole)) l none m), refl)
+
+pub control_none : (d : Detail) (b : Base) (h : List (Event (What d))) (k : Kept) (job : ℕ) (control : Contents) → Leaves d b h k → All (λ (j : HeldJob). j.facts.number ≢ job) k.book.jobs → Controls d b h k job control k (Err NotOpen)
+control_none d b h k job control l none = ((λ m. none_has d b h k job IsReceiving l none m), refl)
+
+-- so many pages fit into the pool beside those that are free, if they are stored
+pub pool_room : (d : Detail) (b : Base) (h : List (Event (What d))) (k : Kept) → Leaves d b h k → (n : ℕ) → n ≤ k.book.stored → k.pool.free + n ≤ k.pool.pages
+pool_room d b h k l n le =
+    let all = each_has_a_place (size d) k.config b h l.legal in
+    let s = l.kept.book.stored in
+    let f = ap (λ (p : Pages). p.free) l.kept.pool in
+    let p = ap (λ (p : Pages). p.pages) l.kept.pool in
+    omega (arith, all, s, f, p, le)
+
+-- what is kept once the job at a place is received, where so many pages went back to the pool
+abbrev pub received_core : Kept → ℕ → HeldJob → ℕ → Kept
+received_core k i j n = record k {
+  pool = record k.pool { free = k.pool.free + n };
+  book = record (with_job k.book i j) { stored = k.book.stored - n };
+  table = given_back (need_ended k.table i 0) i 0 n;
+}
+
+module _ (d : Detail) (b : Base) (h : List (Event (What d))) (k : Kept) (l : Leaves d b h k) (job i : ℕ) (f : Found k job i) where
+  abbrev v : State (What d)
+  v = left_by d b h k
+
+  abbrev x : Job (What d)
+  x = get_or v.jobs i no_job
+
+  abbrev j : HeldJob
+  j = job_at k.book i
+
+  abbrev z : ℕ
+  z = k.config.page_size
+
+  s : Stands v.jobs i job
+  s = standing d b h k job i l f
+
+  t : see_job (look d) j ≡ shown_job k.config x
+  t = tie d b h k i l f.there
+
+  has : Has x v.jobs
+  has = has_get v.jobs i no_job s.there
+
+  ft : j.facts ≡ facts_of k.config x
+  ft = facts_tie (look d) k.config j x t
+
+  here : (P : Job (What d) → Type 0) → HasJob v.jobs job P → P x
+  here P m = has_here (size d) k.config b h i job P l.legal s m
+
+  opens : LastOpen x.files
+  opens = job_opens (size d) k.config b h x l.legal has
+
+  differ : Differ (names_in x.files)
+  differ = job_names_differ (size d) k.config b h x l.legal has
+
+  unhanded : IsReceiving x → (x.handed ≡ 0) × (x.back ≡ 0)
+  unhanded r = unreceived_unhanded (size d) k.config b h x l.legal has r.1
+
+  facts_all : has_prints j.facts ≡ has_all (names_in x.files) x.control
+  facts_all =
+      ap has_prints ft ∙ ap (λ (ns : List (List ℕ)). has_all ns x.control) (names_sized z x.files)
+
+  -- what becomes received
+  received_leaves : (act : Act (What d)) (j' : HeldJob) (n : ℕ) → IsReceiving x → HasJob v.jobs job (JobMay (size d) k.config act) → Becomes x (acted act x) → (acted act x).ended ≡ false
+      → see_job (look d) j' ≡ shown_job k.config (acted act x) → n + length (pages_kept (acted act x)) ≡ file_pages x
+      → Rattle.spool_history.specs.Legal.ActMay v job act → Leaves d b (OfJob job act ∷ h) (received_core k i j' n)
+  received_leaves act j' n r may becomes goes tie' count also =
+      let y = acted act x in
+      let filed = becomes.filed in
+      let un : unprinted x y ≡ n = omega (arith, filed, count) in
+      let chain = received_chain x y becomes in
+      let same = pool_even d b h k l in
+      let w = received_leaves' n y un becomes same in
+      let jobs = jobs_left v (OfJob job act) (set v.jobs i y) (act_set (size d) k.config b h i job act l.legal s (held_unended y goes)) refl in
+      let within = one_stored in
+      leaves_row d b h k (OfJob job act) i (k.book.stored - n) (k.pool.free + n) y j' (given_back (need_ended k.table i 0) i 0 n) k.printers l (may, also) jobs s.there refl refl tie'
+      (omega (arith, chain, un, within)) w l.kept.printers
+    where
+      received_leaves' : (n : ℕ) (y : Job (What d)) → unprinted x y ≡ n → Becomes x y → k.pool.free ≡ amount k.table.free 0 → WithRow k.table (given_back (need_ended k.table i 0) i 0 n) i (row_of k.config y) (k.pool.free + n)
+      received_leaves' n y un becomes same =
+          subst (λ (m : ℕ). WithRow k.table (given_back (need_ended k.table i 0) i 0 n) i (row_of k.config y) (m + n)) (sym same)
+          (subst (λ (m : ℕ). WithRow k.table (given_back (need_ended k.table i 0) i 0 m) i (row_of k.config y) (amount k.table.free 0 + m)) un
+          (Rattle.core_rows.proofs.Received.received_leaves k.config k.table i x y (row_stands d b h k i l s.there) becomes))
+      one_stored : chained_of x ≤ k.book.stored
+      one_stored =
+          let e = l.kept.book.stored in
+          let g = Rattle.std.proofs.lemmas.List.Sums.get_or-le-sum_by (λ (q : Job (What d)). chained_of q) v.jobs i no_job s.there in
+          omega (arith, e, g)
+
+  -- a file ends
+
+  abbrev MayEnd : (file : ℕ) (whole : Bool) → Job (What d) → Type 0
+  MayEnd file whole = JobMay (size d) k.config (FileEnded file whole)
+
+  page_some : IsConfig k.config → 1 ≤ z
+  page_some ranges = ranges.page_size_low
+
+  pub end_refused : IsConfig k.config → (CanEnd j → ⊥) → Ends d b h k job k (Err NotOpen)
+  end_refused ranges never = (
+    (λ file whole m. never (can (here (MayEnd file whole) m))),
+    refl,
+  )
+    where
+      can : {file : ℕ} {whole : Bool} → MayEnd file whole x → CanEnd j
+      can m =
+          let before = m.2.0 in
+          let last = m.2.1 in
+          let all = all_is_none_left z (length last.pages) last.count (page_some ranges) m.2.5 in
+          let left = ap (λ (g : DataFile). g.left) (left_of d b h k l job i f (record { octets = []; page_size = 0 }) before last m.2.2) in
+          (
+            phase_tie (look d) k.config j x t ∙ phase_receiving x m.0,
+            ap (λ (g : Facts). g.lent) ft ∙ m.1,
+            open_tie (look d) k.config j x t m.0 ∙ (ap is_open_in m.2.2 ∙ Rattle.core_rows.proofs.Receiving.last_open before last m.2.4),
+            omega (arith, left, all),
+          )
+
+  -- the open file, which has all its pages
+  record Whole : Type 0 where
+    receiving' : IsReceiving x
+    file : ℕ
+    may : (whole : Bool) → whole ≡ is_received (acted (FileEnded file whole) x) → HasJob v.jobs job (MayEnd file whole)
+
+  whole_of : IsConfig k.config → CanEnd j → Whole
+  whole_of ranges c =
+      let r = is_receiving d b h k l job i f c.0 in
+      let o = last_of x.files opens (sym (open_tie (look d) k.config j x t r) ∙ c.2) in
+      let left = ap (λ (g : DataFile). g.left) (left_of d b h k l job i f (record { octets = []; page_size = 0 }) o.before o.last o.is) in
+      let none = c.3 in
+      let needed = needed_of_last z o.before o.last x.files o.is (job_pages_needed (size d) k.config b h x (page_some ranges) l.legal has) in
+      let all = none_left_is_all z (length o.last.pages) o.last.count (page_some ranges) needed (omega (arith, left, none)) in
+      record {
+        receiving' = r;
+        file = length o.before;
+        may = λ whole e. has_job v i job (MayEnd (length o.before) whole) s (r, sym (ap (λ (g : Facts). g.lent) ft) ∙ c.1, (o.before, o.last, o.is, refl, o.open', all), e);
+      }
+
+  ended_whole : (file : ℕ) (whole : Bool) → is_received (acted (FileEnded file whole) x) ≡ has_prints j.facts
+  ended_whole file whole =
+      whole_closed x.control (at_last (λ g. record g { ended = true }) x.files) (closed_ended x.files opens)
+      ∙ (ap (λ (ns : List (List ℕ)). has_all ns x.control) (names_ended x.files) ∙ sym facts_all)
+
+  pub end_stored : IsConfig k.config → CanEnd j → has_prints j.facts ≡ false → Ends d b h k job (record k { book = with_job k.book i (closed_file j) }) (Ok Stored)
+  end_stored ranges c e =
+      let w = whole_of ranges c in
+      let act = FileEnded w.file false in
+      let not' : is_received (acted act x) ≡ false = ended_whole w.file false ∙ e in
+      let may = w.may false (sym not') in
+      let r = w.receiving' in
+      let jobs = jobs_left v (OfJob job act) (set v.jobs i (acted act x)) (act_set (size d) k.config b h i job act l.legal s (held_unended (acted act x) r.0)) refl in
+      let stored = ap (λ (n : ℕ). k.book.stored + n) (sym (file_ended_chain w.file false x r not')) in
+      (
+        w.file,
+        may,
+        leaves_job d b h k (OfJob job act) i k.book.stored (acted act x) (closed_file j) l (may, tt) jobs s.there refl refl refl
+        (ties_closed (look d) k.config j x w.file r opens not' t) stored (file_ended_row k.config w.file false x r not'),
+      )
+
+  pub end_received : IsConfig k.config → (n : ℕ) → CanEnd j → has_prints j.facts ≡ true → n ≡ length (unnamed_pages (closed_file j).chain.files (prints_of j))
+      → Ends d b h k job (received_core k i (received_job (prints_of j) (closed_file j)) n) (Ok Received)
+  end_received ranges n c e en =
+      let w = whole_of ranges c in
+      let act = FileEnded w.file true in
+      let is : is_received (acted act x) ≡ true = ended_whole w.file true ∙ e in
+      let may = w.may true (sym is) in
+      let r = w.receiving' in
+      let u = unhanded r in
+      let lent : x.lent ≡ false = sym (ap (λ (g : Facts). g.lent) ft) ∙ c.1 in
+      let filed = granted_filed (size d) k.config b h x l.legal has r.0 lent in
+      let count = counts_by_file (look d) k.config j x w.file r u.1 differ t in
+      (
+        w.file,
+        may,
+        received_leaves act (received_job (prints_of j) (closed_file j)) n r may (by_file w.file true x r (sym filed) u.0 is) r.0
+        (received_by_file (look d) k.config j x w.file r u.0 u.1 is differ t) (omega (arith, en, count)) tt,
+      )
+
+  -- before that it is idle
+  pub end_idle : CanEnd j → IsIdle (closed_file j).chain
+  end_idle c = (let g = fills (look d) k.config j x (is_receiving d b h k l job i f c.0) t in record { closed = refl; placed = g.places; fresh = g.last })
+
+  pub end_control : has_prints j.facts ≡ true → IsSome j.facts.control
+  end_control e = some_control (file_names j.facts) j.facts.control e
+
+  -- the control file comes
+
+  pub control_refused : (control : Contents) → (j.facts.phase ≡ Receiving → ⊥) → Controls d b h k job control k (Err NotOpen)
+  control_refused control never = ((λ m. not_receiving d b h k l job i f never (here IsReceiving m)), refl)
+
+  pub control_twice : (control : Contents) → j.facts.phase ≡ Receiving → (j.facts.control ≡ None → ⊥) → Controls d b h k job control k (Err ControlTwice)
+  control_twice control p never = (
+    has_job v i job (λ y. IsReceiving y × (y.control ≡ None → ⊥)) s
+    (is_receiving d b h k l job i f p, λ none. never (ap (λ (g : Facts). g.control) ft ∙ none)),
+    refl,
+  )
+
+  may_control : (control : Contents) (whole : Bool) → j.facts.phase ≡ Receiving → j.facts.control ≡ None → whole ≡ is_received (acted (Controlled control whole) x) → HasJob v.jobs job (JobMay (size d) k.config (Controlled control whole))
+  may_control control whole p none e = has_job v i job (JobMay (size d) k.config (Controlled control whole)) s (is_receiving d b h k l job i f p, sym (ap (λ (g : Facts). g.control) ft) ∙ none, e)
+
+  control_whole : (control : Contents) (whole : Bool) → j.facts.phase ≡ Receiving → j.chain.is_open ≡ false → is_received (acted (Controlled control whole) x) ≡ has_prints (controlled_facts control j.facts)
+  control_whole control whole p o =
+      let r = is_receiving d b h k l job i f p in
+      whole_closed (Some control) x.files (sym (open_tie (look d) k.config j x t r) ∙ o)
+      ∙ ap (λ (ns : List (List ℕ)). has_all ns (Some control)) (sym (ap (λ (g : Facts). file_names g) ft ∙ names_sized z x.files))
+
+  control_kept : (control : Contents) → IsControl control → j.facts.phase ≡ Receiving → j.facts.control ≡ None → is_received (acted (Controlled control false) x) ≡ false
+      → Controls d b h k job control (record k { book = with_job k.book i (told (controlled_facts control) j) }) (Ok Stored)
+  control_kept control fits p none not' =
+      let act = Controlled control false in
+      let may = may_control control false p none (sym not') in
+      let r = is_receiving d b h k l job i f p in
+      let jobs = jobs_left v (OfJob job act) (set v.jobs i (acted act x)) (act_set (size d) k.config b h i job act l.legal s (held_unended (acted act x) r.0)) refl in
+      let stored = ap (λ (n : ℕ). k.book.stored + n) (sym (controlled_chain control false x r not')) in
+      (
+        may,
+        leaves_job d b h k (OfJob job act) i k.book.stored (acted act x) (told (controlled_facts control) j) l (may, fits) jobs s.there refl refl refl
+        (ties_controlled (look d) k.config j x control r not' t) stored (controlled_row k.config control false x r not'),
+      )
+
+  pub control_open : (control : Contents) → IsControl control → j.facts.phase ≡ Receiving → j.facts.control ≡ None → j.chain.is_open ≡ true
+      → Controls d b h k job control (record k { book = with_job k.book i (told (controlled_facts control) j) }) (Ok Stored)
+  control_open control fits p none o =
+      let r = is_receiving d b h k l job i f p in
+      control_kept control fits p none (open_unreceived (acted (Controlled control false) x) (sym (open_tie (look d) k.config j x t r) ∙ o))
+
+  pub control_stored : (control : Contents) → IsControl control → j.facts.phase ≡ Receiving → j.facts.control ≡ None → j.chain.is_open ≡ false → has_prints (controlled_facts control j.facts) ≡ false
+      → Controls d b h k job control (record k { book = with_job k.book i (told (controlled_facts control) j) }) (Ok Stored)
+  control_stored control fits p none o e = control_kept control fits p none (control_whole control false p o ∙ e)
+
+  pub control_received : (control : Contents) (n : ℕ) → IsControl control → j.facts.phase ≡ Receiving → j.facts.control ≡ None → j.chain.is_open ≡ false → has_prints (controlled_facts control j.facts) ≡ true
+      → n ≡ length (unnamed_pages j.chain.files control.prints)
+      → Controls d b h k job control (received_core k i (received_job control.prints (told (controlled_facts control) j)) n) (Ok Received)
+  control_received control n fits p none o e en =
+      let act = Controlled control true in
+      let is : is_received (acted act x) ≡ true = control_whole control true p o ∙ e in
+      let may = may_control control true p none (sym is) in
+      let r = is_receiving d b h k l job i f p in
+      let u = unhanded r in
+      let lent = closed_unlent (size d) k.config b h x l.legal has (sym (open_tie (look d) k.config j x t r) ∙ o) in
+      let filed = granted_filed (size d) k.config b h x l.legal has r.0 lent in
+      let count = counts_by_control (look d) k.config j x control r u.1 differ t in
+      (
+        may,
+        received_leaves act (received_job control.prints (told (controlled_facts control) j)) n r may (by_control control true x r (sym filed) u.0 is) r.0
+        (received_by_control (look d) k.config j x control r u.0 u.1 is differ t) (omega (arith, en, count)) fits,
+      )
+
+  -- what goes back to the pool is stored, held by the job's row, and not much
+  pub record Counted (n : ℕ) : Type 0 where
+    pub stored : n ≤ k.book.stored
+    pub held : n ≤ amount (row_at k.table.rows i).held 0
+    pub few : n ≤ 65536
+
+  counted : IsConfig k.config → (n : ℕ) → IsReceiving x → x.lent ≡ false → n ≤ file_pages x → Counted n
+  counted ranges n r lent le =
+      let filed = granted_filed (size d) k.config b h x l.legal has r.0 lent in
+      let within = granted_within (size d) k.config b h x l.legal has in
+      let limit = limit_within k.config x.queue ranges in
+      let one = one_stored d b h k i l s.there in
+      let chain = chained_receiving x r in
+      let row = ap (λ (q : Row). amount q.held 0) (row_stands d b h k i l s.there).is in
+      let held = held_in_row k.config x in
+      let all = held_receiving x r in
+      record {
+        stored = omega (arith, le, one, chain);
+        held = omega (arith, le, row, held, all, filed);
+        few = omega (arith, le, filed, within, limit);
+      }
+
+  pub end_counted : IsConfig k.config → (n : ℕ) → CanEnd j → n ≡ length (unnamed_pages (closed_file j).chain.files (prints_of j)) → Counted n
+  end_counted ranges n c en =
+      let r = is_receiving d b h k l job i f c.0 in
+      let count = counts_by_file (look d) k.config j x 0 r (unhanded r).1 differ t in
+      counted ranges n r (sym (ap (λ (g : Facts). g.lent) ft) ∙ c.1) (omega (arith, en, count))
+
+  pub control_counted : IsConfig k.config → (control : Contents) (n : ℕ) → j.facts.phase ≡ Receiving → j.chain.is_open ≡ false → n ≡ length (unnamed_pages j.chain.files control.prints) → Counted n
+  control_counted ranges control n p o en =
+      let r = is_receiving d b h k l job i f p in
+      let count = counts_by_control (look d) k.config j x control r (unhanded r).1 differ t in
+      counted ranges n r (closed_unlent (size d) k.config b h x l.legal has (sym (open_tie (look d) k.config j x t r) ∙ o)) (omega (arith, en, count))
+
+  -- a job that is being received with no file open is idle
+  pub control_idle : j.facts.phase ≡ Receiving → j.chain.is_open ≡ false → IsIdle j.chain
+  control_idle p o = (let g = fills (look d) k.config j x (is_receiving d b h k l job i f p) t in record { closed = o; placed = g.places; fresh = g.last })

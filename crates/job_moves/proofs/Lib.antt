@@ -1,0 +1,17 @@
+pub mod Ties
+pub mod Passes
+pub mod Placing
+pub mod Shelving
+pub mod Received
+pub mod Counting
+pub mod Receiving
+pub mod Ending
+pub mod Seeing
+pub mod Shelves
+pub mod Spots
+pub mod Printing
+pub mod Awaiting
+pub mod Stored
+pub mod Facts
+pub mod Asking
+pub mod Outs

@@ -1,0 +1,229 @@
+-- How many pages a job has in its chain.
+use Rattle.std.proofs.Common.{inl, inr, ◌≡◌, ◌==◌, ◌<◌, ◌≤◌, ℕ, zero, suc, ◌+◌, ◌-◌, Bool, true, false, cond, List, [], ◌∷◌, length, drop, map, refl, sym, ◌∙◌, ap, arith, length-append}
+use Rattle.std.specs.Prelude.{◌&&◌, ◌||◌, not, filter, sum_by, Option, Some, None, slice_get}
+use Rattle.std.specs.List.{list_any}
+use Rattle.std.proofs.lemmas.Bool.{and_from, and_left, and_right, cases_eq, eq-eqb, ne_eqb}
+use Rattle.std.proofs.lemmas.List.Elements.{filter-append, filter_agree}
+use Rattle.page_pool.specs.Page.{Page}
+use Rattle.page_chain.specs.declared.place.Place.{Place}
+use Rattle.page_chain.specs.Files as F
+use Rattle.page_chain.specs.Files.{every_page, there}
+use Rattle.page_chain.specs.Changes.{is_same_place}
+use Rattle.held_jobs.specs.declared.phase.Phase.TheVariants.{Ended}
+use Rattle.held_jobs.specs.Jobs.{HeldJob}
+use Rattle.held_jobs.specs.Shown as S
+use Rattle.held_jobs.specs.Shown.{see_file, see_page}
+use Rattle.config_values.specs.Config.{Config}
+use Rattle.spool_history.specs.Acts as A
+use Rattle.spool_history.specs.Acts.{all_pages, is_same_page}
+use Rattle.spool_history.specs.Now.{Job, is_received, pages_kept, places}
+use Rattle.spool_calls.specs.Kept.{is_printed, is_there, place_of, shelved, shelved_files, spots, is_at}
+use Rattle.spool_laws.specs.Sums.{chained_of}
+use Rattle.spool_laws.proofs.Apart.{pages_sum}
+use Rattle.spool_laws.proofs.Copies.{pages_in}
+use Rattle.job_moves.proofs.Ties.{Prints, Ties, at_phase, fills, phase_ended, prints}
+use Rattle.job_moves.proofs.Passes.{none_there}
+use Rattle.job_moves.proofs.Shelving.{Whole, whole_first}
+use Rattle.job_moves.proofs.Counting.{all_there, any_placed, count_none}
+use Rattle.job_moves.proofs.Shelves.{content_at}
+use Rattle.job_moves.proofs.Spots.{any_later, content_of, place_at, there_even, there_odd}
+use Rattle.std.proofs.lemmas.List.{drop-map}
+
+-- while it is being received: those of all its files
+
+-- as many as the files have
+stored_whole : {C : Type 0} (f : Page → C) (xs : List F.File) (ys : List (A.File C)) → Whole f xs ys → length (every_page xs) ≡ pages_in ys
+stored_whole f [] [] w = refl
+stored_whole f [] (y ∷ ys) w = absurd cc
+stored_whole f (x ∷ xs) [] w = absurd cc
+stored_whole f (x ∷ xs) (y ∷ ys) w =
+    let a = whole_first f x xs y ys w in
+    let one = all_there f x.pages y.pages a.pages in
+    let ih = stored_whole f xs ys a.rest in
+    let l = length-append (there x.pages) (every_page xs) in
+    omega (arith, one, ih, l)
+
+-- once it is received: those that are there
+
+-- the pages of a row that are there
+count_shelved : {C : Type 0} (f : Page → C) (is_in : Place → Bool) (file n m : ℕ) (xs : List (Option Page)) (pages : List C) → n ≡ m → map {A = Option Page} {B = Option C} (see_page f) xs ≡ shelved is_in file m pages
+    → length (there xs) ≡ length (filter (λ (page : A.Page C). is_in (place_of page)) (A.numbered file n pages))
+count_shelved f is_in file n m [] [] nm e = refl
+count_shelved f is_in file n m [] (y ∷ pages) nm e = absurd cc
+count_shelved f is_in file n m (x ∷ xs) [] nm e = absurd cc
+count_shelved {C} f is_in file n m (x ∷ xs) (y ∷ pages) nm e =
+    let first : see_page f x ≡ cond (is_in (record { file = file; number = m })) (Some y) None = cc in
+    let rest : map {A = Option Page} {B = Option C} (see_page f) xs ≡ shelved is_in file (suc m) pages = cc in
+    let next : n + 1 ≡ suc m = omega arith in
+    let ih = count_shelved f is_in file (n + 1) (suc m) xs pages next rest in
+    by x (is_in (record { file = file; number = m })) (ap (λ (k : ℕ). is_in (record { file = file; number = k })) nm) first ih
+  where
+    by : (x : Option Page) (b : Bool) → is_in (record { file = file; number = n }) ≡ b → see_page f x ≡ cond b (Some y) None
+        → length (there xs) ≡ length (filter (λ (page : A.Page C). is_in (place_of page)) (A.numbered file (n + 1) pages))
+        → length (there (x ∷ xs)) ≡ length (filter (λ (page : A.Page C). is_in (place_of page)) (A.numbered file n (y ∷ pages)))
+    by None true is first ih = absurd cc
+    by (Some page) true is first ih = rw is (ap suc ih)
+    by None false is first ih = rw is ih
+    by (Some page) false is first ih = absurd cc
+
+-- the pages of a file that are there
+count_file : {C : Type 0} (f : Page → C) (is_in : Place → Bool) (file : ℕ) (xs : List (Option Page)) (pages : List C) (b : Bool) → ((k : ℕ) → b ≡ false → is_in (record { file = file; number = k }) ≡ false)
+    → map {A = Option Page} {B = Option C} (see_page f) xs ≡ cond b (shelved is_in file 0 pages) [] → length (there xs) ≡ length (filter (λ (page : A.Page C). is_in (place_of page)) (A.numbered file 0 pages))
+count_file f is_in file xs pages true none e = count_shelved f is_in file 0 0 xs pages refl e
+count_file {C} f is_in file [] pages false none e = sym (count_none (λ (page : A.Page C). is_in (place_of page)) file 0 pages (λ k page. none k refl))
+count_file f is_in file (x ∷ xs) pages false none e = absurd cc
+
+-- those of the files from the m-th on
+count_files : {C : Type 0} (f : Page → C) (printed : ℕ → Bool) (is_in : Place → Bool) (n m : ℕ) (xs : List F.File) (ys : List (A.File C)) → n ≡ m
+    → ((place : Place) → printed place.file ≡ false → is_in place ≡ false)
+    → map {A = F.File} {B = S.File C} (see_file f) xs ≡ shelved_files printed is_in m ys → length (every_page xs) ≡ length (filter (λ (page : A.Page C). is_in (place_of page)) (all_pages n ys))
+count_files f printed is_in n m [] [] nm none e = refl
+count_files f printed is_in n m [] (y ∷ ys) nm none e = absurd cc
+count_files f printed is_in n m (x ∷ xs) [] nm none e = absurd cc
+count_files {C} f printed is_in n m (x ∷ xs) (y ∷ ys) nm none e =
+    let t : A.Page C → Bool = λ page. is_in (place_of page) in
+    let first : see_file f x ≡ record { name = y.name; pages = cond (printed m) (shelved is_in m 0 y.pages) [] } = cc in
+    let rest : map {A = F.File} {B = S.File C} (see_file f) xs ≡ shelved_files printed is_in (suc m) ys = cc in
+    let next : n + 1 ≡ suc m = omega arith in
+    let ih = count_files f printed is_in (n + 1) (suc m) xs ys next none rest in
+    let one = count_file f is_in m x.pages y.pages (printed m) (λ k b. none (record { file = m; number = k }) b) (ap (λ (z : S.File C). z.pages) first) in
+    let same = ap (λ (k : ℕ). length (filter t (A.numbered k 0 y.pages))) nm in
+    let l = length-append (there x.pages) (every_page xs) in
+    let q = ap (λ (l : List (A.Page C)). length l) (filter-append t (A.numbered n 0 y.pages) (all_pages (n + 1) ys)) in
+    let s = length-append (filter t (A.numbered n 0 y.pages)) (filter t (all_pages (n + 1) ys)) in
+    omega (arith, ih, one, same, l, q, s)
+
+-- a page that isn't printed isn't there
+not_printed : {C : Type 0} (v : Job C) (place : Place) → is_printed (spots v) place.file ≡ false → is_there (spots v) v.handed v.back place ≡ false
+not_printed v place e =
+    and_left (list_any (is_same_place place) (drop v.back (spots v))) (not (not (v.handed == v.back) && is_at (slice_get (spots v) v.back) place))
+    (by (list_any (is_same_place place) (drop v.back (spots v))) refl)
+  where
+    by : (b : Bool) → list_any (is_same_place place) (drop v.back (spots v)) ≡ b → b ≡ false
+    by true h = sym (any_later (is_same_place place) v.back (spots v) h) ∙ none_there (spots v) place e
+    by false h = refl
+
+-- those of the job's files
+stored_there : {C : Type 0} (f : Page → C) (c : Config) (j : HeldJob) (v : Job C) → Prints f c j v
+    → length (every_page j.chain.files) ≡ length (filter (λ (page : A.Page C). is_there (spots v) v.handed v.back (place_of page)) (all_pages 0 v.files))
+stored_there f c j v a = count_files f (is_printed (spots v)) (is_there (spots v) v.handed v.back) 0 0 j.chain.files v.files refl (not_printed v) a.files
+
+-- a page that some place hasn't come back of, by its place
+kept_test : {C : Type 0} (v : Job C) (page : A.Page C) → list_any (is_same_page page) (drop v.back (places v)) ≡ list_any (is_same_place (place_of page)) (drop v.back (spots v))
+kept_test {C} v page =
+    any_placed page (drop v.back (places v))
+    ∙ ap (list_any (is_same_place (place_of page))) (sym (drop-map (place_of {C = C}) v.back (places v)))
+
+-- with no page at a printer, those that are kept
+stored_even : {C : Type 0} (v : Job C) → v.handed ≡ v.back → length (filter (λ (page : A.Page C). is_there (spots v) v.handed v.back (place_of page)) (all_pages 0 v.files)) ≡ length (pages_kept v)
+stored_even {C} v e =
+    ap (λ (l : List (A.Page C)). length l)
+    (filter_agree (λ (page : A.Page C). is_there (spots v) v.handed v.back (place_of page)) (λ (page : A.Page C). list_any (is_same_page page) (drop v.back (places v)))
+    (λ page. there_even (spots v) v.handed v.back (place_of page) e ∙ sym (kept_test v page)) (all_pages 0 v.files))
+
+-- of all pages one is at a place
+
+-- in its file
+in_numbered : {C : Type 0} (p : Place) (file n k : ℕ) (pages : List C) (x : C) → p.file ≡ file → p.number ≡ n + k → slice_get pages k ≡ Some x → length (filter (λ (page : A.Page C). is_same_place (place_of page) p) (A.numbered file n pages)) ≡ 1
+in_numbered p file n k [] x ef en is = absurd cc
+in_numbered {C} p file n zero (y ∷ pages) x ef en is =
+    let t : A.Page C → Bool = λ page. is_same_place (place_of page) p in
+    let here : t (record { file = file; number = n; page = y }) ≡ true = and_from (file == p.file) (n == p.number) (eq-eqb file p.file (sym ef)) (eq-eqb n p.number (omega (arith, en))) in
+    rw here (ap suc (past (n + 1) pages (omega (arith, en))))
+  where
+    past : (m : ℕ) (pages : List C) → p.number < m → length (filter (λ (page : A.Page C). is_same_place (place_of page) p) (A.numbered file m pages)) ≡ 0
+    past m [] lt = refl
+    past m (z ∷ pages) lt =
+        let gone : is_same_place (record { file = file; number = m }) p ≡ false = and_right (file == p.file) (m == p.number) (ne_eqb m p.number (λ s. omega (arith, s, lt))) in
+        rw gone (past (m + 1) pages (omega (arith, lt)))
+in_numbered {C} p file n (suc k) (y ∷ pages) x ef en is =
+    let gone : is_same_place (record { file = file; number = n }) p ≡ false = and_right (file == p.file) (n == p.number) (ne_eqb n p.number (λ s. omega (arith, s, en))) in
+    rw gone (in_numbered p file (n + 1) k pages x ef (omega (arith, en)) is)
+
+-- in no other file
+in_other : {C : Type 0} (p : Place) (file : ℕ) (pages : List C) → (file ≡ p.file → ⊥) → length (filter (λ (page : A.Page C). is_same_place (place_of page) p) (A.numbered file 0 pages)) ≡ 0
+in_other {C} p file pages ne = count_none (λ (page : A.Page C). is_same_place (place_of page) p) file 0 pages (λ k page. and_left (file == p.file) (k == p.number) (ne_eqb file p.file ne))
+
+-- in no later file
+in_later : {C : Type 0} (p : Place) (n : ℕ) (fs : List (A.File C)) → p.file < n → length (filter (λ (page : A.Page C). is_same_place (place_of page) p) (all_pages n fs)) ≡ 0
+in_later p n [] lt = refl
+in_later {C} p n (f ∷ fs) lt =
+    let t : A.Page C → Bool = λ page. is_same_place (place_of page) p in
+    let a = in_other p n f.pages (λ s. omega (arith, s, lt)) in
+    let b = in_later p (n + 1) fs (omega (arith, lt)) in
+    let q = ap (λ (l : List (A.Page C)). length l) (filter-append t (A.numbered n 0 f.pages) (all_pages (n + 1) fs)) in
+    let s = length-append (filter t (A.numbered n 0 f.pages)) (filter t (all_pages (n + 1) fs)) in
+    omega (arith, a, b, q, s)
+
+-- so in all files once
+in_all : {C : Type 0} (p : Place) (n i : ℕ) (fs : List (A.File C)) (x : C) → p.file ≡ n + i → content_at fs i p.number ≡ Some x → length (filter (λ (page : A.Page C). is_same_place (place_of page) p) (all_pages n fs)) ≡ 1
+in_all p n i [] x e is = absurd cc
+in_all {C} p n zero (f ∷ fs) x e is =
+    let t : A.Page C → Bool = λ page. is_same_place (place_of page) p in
+    let a = in_numbered p n 0 p.number f.pages x (omega (arith, e)) (omega arith) is in
+    let b = in_later p (n + 1) fs (omega (arith, e)) in
+    let q = ap (λ (l : List (A.Page C)). length l) (filter-append t (A.numbered n 0 f.pages) (all_pages (n + 1) fs)) in
+    let s = length-append (filter t (A.numbered n 0 f.pages)) (filter t (all_pages (n + 1) fs)) in
+    omega (arith, a, b, q, s)
+in_all {C} p n (suc i) (f ∷ fs) x e is =
+    let t : A.Page C → Bool = λ page. is_same_place (place_of page) p in
+    let a = in_other p n f.pages (λ s. omega (arith, s, e)) in
+    let b = in_all p (n + 1) i fs x (omega (arith, e)) is in
+    let q = ap (λ (l : List (A.Page C)). length l) (filter-append t (A.numbered n 0 f.pages) (all_pages (n + 1) fs)) in
+    let s = length-append (filter t (A.numbered n 0 f.pages)) (filter t (all_pages (n + 1) fs)) in
+    omega (arith, a, b, q, s)
+
+-- a test keeps so many more than one that leaves out what another test, which is no wider, takes
+less_by : {X : Type 0} (t m u : X → Bool) (xs : List X) → ((x : X) → m x ≡ true → t x ≡ true) → ((x : X) → u x ≡ (t x && not (m x))) → length (filter t xs) ≡ length (filter u xs) + length (filter m xs)
+less_by t m u [] up is = refl
+less_by {X} t m u (x ∷ xs) up is = by (t x) (m x) refl refl (less_by t m u xs up is)
+  where
+    by : (a b : Bool) → t x ≡ a → m x ≡ b → length (filter t xs) ≡ length (filter u xs) + length (filter m xs) → length (filter t (x ∷ xs)) ≡ length (filter u (x ∷ xs)) + length (filter m (x ∷ xs))
+    by true true ta mb ih = (let z : u x ≡ false = is x ∙ (ap (λ (b : Bool). t x && not b) mb ∙ and_right (t x) false refl) in rw (ta, mb, z) (omega (arith, ih)))
+    by true false ta mb ih = (let z : u x ≡ true = is x ∙ (ap (λ (b : Bool). t x && not b) mb ∙ ap (λ (b : Bool). b && true) ta) in rw (ta, mb, z) (omega (arith, ih)))
+    by false true ta mb ih = (let z = sym ta ∙ up x mb in absurd cc)
+    by false false ta mb ih = (let z : u x ≡ false = is x ∙ ap (λ (b : Bool). b && not (m x)) ta in rw (ta, mb, z) ih)
+
+-- with a page at a printer, one less than are kept
+stored_odd : {C : Type 0} (v : Job C) → v.handed ≡ v.back + 1 → v.back < length (places v)
+    → length (pages_kept v) ≡ length (filter (λ (page : A.Page C). is_there (spots v) v.handed v.back (place_of page)) (all_pages 0 v.files)) + 1
+stored_odd {C} v e lt =
+    let at = place_at v v.back lt in
+    let p = place_of at.page in
+    let t : A.Page C → Bool = λ page. list_any (is_same_page page) (drop v.back (places v)) in
+    let m : A.Page C → Bool = λ page. is_same_place (place_of page) p in
+    let u : A.Page C → Bool = λ page. is_there (spots v) v.handed v.back (place_of page) in
+    let up : (page : A.Page C) → m page ≡ true → t page ≡ true =
+    λ page h.
+    kept_test v page
+    ∙ (ap (list_any (is_same_place (place_of page))) at.spots_left
+    ∙ ap (λ (b : Bool). b || list_any (is_same_place (place_of page)) (drop (v.back + 1) (spots v))) h) in
+    let is : (page : A.Page C) → u page ≡ (t page && not (m page)) =
+    λ page. there_odd (spots v) v.handed v.back p (place_of page) e at.spot ∙ ap (λ (b : Bool). b && not (m page)) (sym (kept_test v page)) in
+    let one = in_all p 0 p.file v.files at.page.page (omega arith) (content_of v at.page at.has) in
+    let all = less_by t m u (all_pages 0 v.files) up is in
+    omega (arith, all, one)
+
+-- phase by phase
+stored_by : {C : Type 0} (f : Page → C) (c : Config) (j : HeldJob) (v : Job C) (e r : Bool) → v.ended ≡ e → is_received v ≡ r → v.back ≤ v.handed → v.handed ≤ v.back + 1 → v.handed ≤ length (places v) → Ties f c j v
+    → length (every_page j.chain.files) ≡ cond e 0 (cond r (length (pages_kept v) - (v.handed - v.back)) (sum_by (λ (g : A.File C). length g.pages) v.files))
+stored_by {C} f c j v true r ee er le one within t =
+    none j.chain.files (ap (λ (s : S.Shelf C). s.files) (at_phase f c Ended j v (phase_ended v ee) t).shelf)
+  where
+    none : (xs : List F.File) → map {A = F.File} {B = S.File C} (see_file f) xs ≡ [] → length (every_page xs) ≡ 0
+    none [] e = refl
+    none (x ∷ xs) e = absurd cc
+stored_by {C} f c j v false false ee er le one within t = stored_whole f j.chain.files v.files (fills f c j v (ee, er) t).files ∙ sym (pages_sum v.files)
+stored_by {C} f c j v false true ee er le one within t =
+    let here = stored_there f c j v (prints f c j v ee er t) in
+    elim (cases_eq v.handed v.back) [
+      | inl even ↦ let n = stored_even v even in omega (arith, here, n, even)
+      | inr odd ↦
+          let out : v.handed ≡ v.back + 1 = omega (arith, odd, le, one) in
+          let n = stored_odd v out (omega (arith, out, within)) in
+          omega (arith, here, n, out)
+    ]
+
+-- of each job the chain has as many pages as the history says
+pub stored : {C : Type 0} (f : Page → C) (c : Config) (j : HeldJob) (v : Job C) → v.back ≤ v.handed → v.handed ≤ v.back + 1 → v.handed ≤ length (places v) → Ties f c j v → length (every_page j.chain.files) ≡ chained_of v
+stored f c j v le one within t = stored_by f c j v v.ended (is_received v) refl refl le one within t

@@ -1,0 +1,235 @@
+-- What each call of a core answers after a history, and which history it leaves.
+use Rattle.std.specs.Prelude.{◌≡◌, ◌≢◌, ℕ, ◌+◌, ◌<◌, ◌≤◌, ◌^◌, ◌⊎◌, Bool, true, false, All, List, [], ◌∷◌, Option, Some, None, Result, Ok, Err, length, map}
+use Rattle.page_pool.specs.Page.{Page}
+use Rattle.lpd_values.specs.Contents.{Contents}
+use Rattle.lpd_values.specs.Kept.{is_among}
+use Rattle.lpd_values.specs.declared.refusal.Refusal.{Refusal}
+use Rattle.lpd_values.specs.declared.refusal.Refusal.TheVariants.{UnknownQueue, TableFull, AccountFull, Closed, OverClaim, ControlTwice, NameTaken, FilesFull, FileOpen, NotOpen, Memory}
+use Rattle.account.specs.Seen.{progress_seen}
+use Rattle.account.specs.declared.entry.Progress.{Progress}
+use Rattle.config_values.specs.Config.{Config, Queue, IsQueue, limit_of, queue_at, reserve_of}
+use Rattle.spool_history.specs.Base.{Base}
+use Rattle.spool_history.specs.Events as E
+use Rattle.spool_history.specs.Events.{Event, Sheet}
+use Rattle.spool_history.specs.Events.Act.{Granted, Began, Put, FileEnded, Controlled, Aborted}
+use Rattle.spool_history.specs.Events.Turn.{Handed, Printed, Failed}
+use Rattle.spool_history.specs.Events.Event.{Opened, OfJob, AtPrinter, Removed, Started}
+use Rattle.spool_history.specs.Acts.{is_open_in, names_in}
+use Rattle.spool_history.specs.Now.{Job, State, now}
+use Rattle.spool_history.specs.Next.{next_page, printer_at}
+use Rattle.spool_history.specs.Next as N
+use Rattle.spool_history.specs.Choice.{chosen}
+use Rattle.spool_history.specs.Texts.{removal_text, state_text}
+use Rattle.spool_history.specs.Rotated.{rotated}
+use Rattle.spool_history.specs.Legal.{HasJob, HasNoFile, HasFileRoom, HasNoOpen, HasRoom, IsBelowLimit, IsReceiving, IsWithinLimit, CanAsk, JobMay, MayGrant, MayOpen, May, progress_of}
+use Rattle.spool_calls.specs.declared.answers.Asked.{Asked}
+use Rattle.spool_calls.specs.declared.answers.Asked.TheVariants as asked
+use Rattle.spool_calls.specs.declared.answers.Receipt.{Receipt}
+use Rattle.spool_calls.specs.declared.answers.Receipt.TheVariants as receipt
+use Rattle.spool_calls.specs.declared.answers.Next.{Next}
+use Rattle.spool_calls.specs.declared.answers.Next.TheVariants as next
+use Rattle.spool_calls.specs.declared.answers.ReturnedPage.{ReturnedPage}
+use Rattle.spool_calls.specs.declared.answers.ReturnedTicket.{ReturnedTicket}
+use Rattle.spool_calls.specs.declared.answers.Foreign.{Foreign}
+use Rattle.spool_calls.specs.declared.handed.HandedPage.{HandedPage}
+use Rattle.spool_calls.specs.Looks.{Detail, What, see, size, outline_in, outline_of}
+use Rattle.spool_calls.specs.Kept.{Kept, Leaves, left_by}
+
+-- an answer is right where P holds of it after each history that leads to where the core was: with the octets of each page,
+-- or with their length and digest alone
+abbrev pub IsRight : Kept → ((d : Detail) → Base → List (Event (What d)) → Type 0) → Type 0
+IsRight old P = (d : Detail) (b : Base) (h : List (Event (What d))) → Leaves d b h old → P d b h
+
+-- a queue has this name and this number
+abbrev pub IsNamed : Config → List ℕ → ℕ → Type 0
+IsNamed c name q = IsQueue c q × ((queue_at c q).name ≡ name)
+
+-- no queue has this name
+abbrev pub IsUnknown : Config → List ℕ → Type 0
+IsUnknown c name = All (λ (q : Queue). q.name ≢ name) c.queues
+
+module _ (d : Detail) (b : Base) (h : List (Event (What d))) (old : Kept) where
+  -- where the history left the spool
+  abbrev pub before : State (What d)
+  before = left_by d b h old
+
+  -- a queue of this name is there and P holds of it, in an open spool
+  abbrev pub InQueue : List ℕ → (ℕ → Type 0) → Type 0
+  InQueue name P = (before.closed ≡ false) × (q : ℕ) × IsNamed old.config name q × P q
+
+  -- the spool is open, and no queue has this name
+  abbrev pub InNoQueue : List ℕ → Type 0
+  InNoQueue name = (before.closed ≡ false) × IsUnknown old.config name
+
+  -- whether a session may send jobs to a queue
+  abbrev pub Admits : List ℕ → Result (Unit {0}) Refusal → Type 0
+  Admits name (Ok done) = InQueue name (λ q. Unit {0})
+  Admits name (Err Closed) = before.closed ≡ true
+  Admits name (Err UnknownQueue) = InNoQueue name
+  Admits name (Err _) = ⊥
+
+  -- there is room for one more job of a queue in the account, and a number for it
+  abbrev pub HasEntries : ℕ → Type 0
+  HasEntries q = HasRoom before q × (before.accepted + 1 < 2 ^ 64)
+
+  -- a job was accepted
+  abbrev pub Opens : (sender : ℕ) → List ℕ → Kept → Result ℕ Refusal → Type 0
+  Opens sender name new (Ok job) =
+      InQueue name (λ q. MayOpen before job q × Leaves d b (Opened job sender q ∷ h) new)
+  Opens sender name new (Err Closed) = (before.closed ≡ true) × (new ≡ old)
+  Opens sender name new (Err UnknownQueue) = InNoQueue name × (new ≡ old)
+  Opens sender name new (Err TableFull) = InQueue name (λ q. old.config.max_jobs ≤ length before.jobs) × (new ≡ old)
+  Opens sender name new (Err AccountFull) =
+      InQueue name (λ q. (length before.jobs < old.config.max_jobs) × (HasEntries q → ⊥)) × (new ≡ old)
+  Opens sender name new (Err Memory) = InQueue name (λ q. MayOpen before (before.accepted + 1) q) × (new ≡ old)
+  Opens sender name new (Err _) = ⊥
+
+  -- a page was lent, or can't be now
+  abbrev pub Asks : ℕ → Kept → Result Asked Refusal → Type 0
+  Asks job new (Ok (asked.Page ticket)) =
+      HasJob before.jobs job (JobMay (size d) old.config Granted) × MayGrant before job × Leaves d b (OfJob job Granted ∷ h) new
+      × (ticket.octets ≡ []) × (ticket.page_size ≡ old.config.page_size)
+  Asks job new (Ok asked.Later) =
+      HasJob before.jobs job (JobMay (size d) old.config Granted) × (MayGrant before job → ⊥) × (new ≡ old)
+  Asks job new (Err NotOpen) = (HasJob before.jobs job CanAsk → ⊥) × (new ≡ old)
+  Asks job new (Err OverClaim) = HasJob before.jobs job (λ v. CanAsk v × (IsBelowLimit old.config v → ⊥)) × (new ≡ old)
+  Asks job new (Err _) = ⊥
+
+  -- a data file began
+  abbrev pub Begins : ℕ → List ℕ → ℕ → Kept → Result (Unit {0}) Refusal → Type 0
+  Begins job name count new (Ok done) =
+      HasJob before.jobs job (JobMay (size d) old.config (Began name count)) × Leaves d b (OfJob job (Began name count) ∷ h) new
+  Begins job name count new (Err NotOpen) = (HasJob before.jobs job IsReceiving → ⊥) × (new ≡ old)
+  Begins job name count new (Err FileOpen) = HasJob before.jobs job (λ v. IsReceiving v × (is_open_in v.files ≡ true)) × (new ≡ old)
+  Begins job name count new (Err NameTaken) =
+      HasJob before.jobs job (λ v. IsReceiving v × HasNoOpen v × (is_among name (names_in v.files) ≡ true)) × (new ≡ old)
+  Begins job name count new (Err FilesFull) =
+      HasJob before.jobs job (λ v. IsReceiving v × HasNoOpen v × HasNoFile name v × (HasFileRoom v → ⊥)) × (new ≡ old)
+  Begins job name count new (Err OverClaim) =
+      HasJob before.jobs job (λ v. IsReceiving v × HasNoOpen v × HasNoFile name v × HasFileRoom v × (IsWithinLimit old.config count v → ⊥))
+      × (new ≡ old)
+  Begins job name count new (Err _) = ⊥
+
+  -- the page may be put into this file of the job, as its page of this number
+  abbrev pub MayTake : ℕ → Page → (file number : ℕ) → Type 0
+  MayTake job page file number =
+      HasJob before.jobs job (JobMay (size d) old.config (Put file number (see d page.octets))) × (page.page_size ≡ old.config.page_size)
+
+  -- a page was put
+  abbrev pub Puts : ℕ → Page → Kept → Result (Unit {0}) ReturnedPage → Type 0
+  Puts job page new (Ok done) =
+      (file : ℕ) × (number : ℕ) × MayTake job page file number × Leaves d b (OfJob job (Put file number (see d page.octets)) ∷ h) new
+  Puts job page new (Err back) = ((file number : ℕ) → MayTake job page file number → ⊥) × (new ≡ old) × (back.page ≡ page)
+
+  abbrev pub is_whole : Receipt → Bool
+  is_whole receipt.Stored = false
+  is_whole receipt.Received = true
+
+  -- the open file ended
+  abbrev pub Ends : ℕ → Kept → Result Receipt Refusal → Type 0
+  Ends job new (Ok got) =
+      (file : ℕ) × HasJob before.jobs job (JobMay (size d) old.config (FileEnded file (is_whole got)))
+      × Leaves d b (OfJob job (FileEnded file (is_whole got)) ∷ h) new
+  Ends job new (Err NotOpen) =
+      ((file : ℕ) (whole : Bool) → HasJob before.jobs job (JobMay (size d) old.config (FileEnded file whole)) → ⊥) × (new ≡ old)
+  Ends job new (Err _) = ⊥
+
+  -- the control file came
+  abbrev pub Controls : ℕ → Contents → Kept → Result Receipt Refusal → Type 0
+  Controls job control new (Ok got) =
+      HasJob before.jobs job (JobMay (size d) old.config (Controlled control (is_whole got)))
+      × Leaves d b (OfJob job (Controlled control (is_whole got)) ∷ h) new
+  Controls job control new (Err NotOpen) = (HasJob before.jobs job IsReceiving → ⊥) × (new ≡ old)
+  Controls job control new (Err ControlTwice) = HasJob before.jobs job (λ v. IsReceiving v × (v.control ≡ None → ⊥)) × (new ≡ old)
+  Controls job control new (Err _) = ⊥
+
+  -- a page of this size is given exactly where one is lent
+  abbrev pub IsLent : Bool → ℕ → Option Page → Type 0
+  IsLent lent page_size None = lent ≡ false
+  IsLent lent page_size (Some page) = (lent ≡ true) × (page.page_size ≡ page_size)
+
+  -- a job may be aborted with this page: it is being received, or has ended while a page is lent to it
+  abbrev pub CanAbort : Option Page → Job (What d) → Type 0
+  CanAbort ticket v = JobMay (size d) old.config Aborted v × IsLent v.lent old.config.page_size ticket
+
+  -- a job was aborted, or gave back the page that was lent to it
+  abbrev pub Aborts : ℕ → Option Page → Kept → Result (Unit {0}) ReturnedTicket → Type 0
+  Aborts job ticket new (Ok done) = HasJob before.jobs job (CanAbort ticket) × Leaves d b (OfJob job Aborted ∷ h) new
+  Aborts job ticket new (Err back) = (HasJob before.jobs job (CanAbort ticket) → ⊥) × (new ≡ old) × (back.ticket ≡ ticket)
+
+  -- the page as a printer was given it
+  abbrev pub sheet_of : HandedPage → Sheet (What d)
+  sheet_of p = record { job = p.job; place = p.place; file = p.file; number = p.number; page = see d p.page.octets }
+
+  -- a printer gets exactly what is next for it
+  abbrev pub Hands : ℕ → Kept → Next → Type 0
+  Hands printer new (next.Handed page) =
+      (next_page before printer ≡ N.Next.Hands (sheet_of page)) × Leaves d b (AtPrinter printer (sheet_of page) Handed ∷ h) new
+      × (page.page.page_size ≡ old.config.page_size)
+  Hands printer new next.Nothing = (next_page before printer ≡ N.Next.Nothing) × (new ≡ old)
+  Hands printer new next.Stopped = (next_page before printer ≡ N.Next.Stops) × (new ≡ old)
+  Hands printer new next.Busy = (next_page before printer ≡ N.Next.Busy) × (new ≡ old)
+  Hands printer new next.Closed = (next_page before printer ≡ N.Next.Over) × (new ≡ old)
+
+  -- the page is the one that is out at the printer, by its job, place, length, digest and page size
+  abbrev pub IsOut : ℕ → HandedPage → Sheet (What d) → Type 0
+  IsOut printer page sheet =
+      ((printer_at before printer).out ≡ Some sheet) × (page.job ≡ sheet.job) × (page.place ≡ sheet.place)
+      × (outline_of page.page.octets ≡ outline_in d sheet.page) × (page.page.page_size ≡ old.config.page_size)
+
+  -- what came back is what was handed, as far as the history tells it: with the length and the digest alone that is always so
+  abbrev pub CameBack : HandedPage → Sheet (What d) → Type 0
+  CameBack page sheet = see d page.page.octets ≡ sheet.page
+
+  -- a page was printed
+  abbrev pub Prints : ℕ → HandedPage → Kept → Result Progress Foreign → Type 0
+  Prints printer page new (Ok said) =
+      (sheet : Sheet (What d)) × IsOut printer page sheet
+      × HasJob before.jobs sheet.job (λ v. progress_seen said ≡ progress_of v)
+      × (CameBack page sheet → Leaves d b (AtPrinter printer sheet (Printed (progress_seen said)) ∷ h) new)
+  Prints printer page new (Err back) = ((sheet : Sheet (What d)) → IsOut printer page sheet → ⊥) × (new ≡ old) × (back.page ≡ page)
+
+  -- a page failed
+  abbrev pub Fails : ℕ → HandedPage → Kept → Result (Unit {0}) Foreign → Type 0
+  Fails printer page new (Ok done) =
+      (sheet : Sheet (What d)) × IsOut printer page sheet × Leaves d b (AtPrinter printer sheet Failed ∷ h) new
+  Fails printer page new (Err back) = ((sheet : Sheet (What d)) → IsOut printer page sheet → ⊥) × (new ≡ old) × (back.page ≡ page)
+
+  -- the stopped printers of a queue were started, if one was stopped
+  abbrev pub Starts : List ℕ → Kept → Result (Unit {0}) Refusal → Type 0
+  Starts name new (Ok done) =
+      InQueue name (λ q. (May (size d) before (Started q) × Leaves d b (Started q ∷ h) new)
+      ⊎ ((May (size d) before (Started q) → ⊥) × (new ≡ old)))
+  Starts name new (Err Closed) = (before.closed ≡ true) × (new ≡ old)
+  Starts name new (Err UnknownQueue) = InNoQueue name × (new ≡ old)
+  Starts name new (Err _) = ⊥
+
+  -- the numbers of the jobs that a removal chooses
+  abbrev pub removed_by : ℕ → List ℕ → List (List ℕ) → List ℕ
+  removed_by q agent list = map (λ (v : Job (What d)). v.number) (chosen before q agent list)
+
+  -- jobs were removed, if any was chosen
+  abbrev pub Removes : List ℕ → List ℕ → List (List ℕ) → Kept → Result (List ℕ) Refusal → Type 0
+  Removes name agent list new (Ok text) =
+      InQueue name (λ q. (text ≡ removal_text before q agent list)
+      × (((removed_by q agent list ≡ []) × (new ≡ old)) ⊎ ((removed_by q agent list ≢ []) × Leaves d b (Removed q (removed_by q agent list) ∷ h) new)))
+  Removes name agent list new (Err Closed) = (before.closed ≡ true) × (new ≡ old)
+  Removes name agent list new (Err UnknownQueue) = InNoQueue name × (new ≡ old)
+  Removes name agent list new (Err Memory) = InQueue name (λ q. Unit {0}) × (new ≡ old)
+  Removes name agent list new (Err _) = ⊥
+
+  -- the state of a queue, also of a closed spool
+  abbrev pub Tells : List ℕ → List (List ℕ) → Bool → Result (List ℕ) Refusal → Type 0
+  Tells name list long (Ok text) = (q : ℕ) × IsNamed old.config name q × (text ≡ state_text before q list long)
+  Tells name list long (Err UnknownQueue) = IsUnknown old.config name
+  Tells name list long (Err Memory) = (q : ℕ) × IsNamed old.config name q
+  Tells name list long (Err _) = ⊥
+
+  -- the spool is closed; a second close changes nothing
+  abbrev pub Closes : Kept → Type 0
+  Closes new =
+      ((before.closed ≡ false) × Leaves d b (E.Event.Closed ∷ h) new) ⊎ ((before.closed ≡ true) × (new ≡ old))
+
+  -- the history is put away, and the next begins from the base after it
+  abbrev pub Rotates : Kept → Type 0
+  Rotates new = Leaves d (rotated before) [] new

@@ -1,0 +1,4 @@
+pub mod Looks
+pub mod Kept
+pub mod Calls
+pub mod Tickets

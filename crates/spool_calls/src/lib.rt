@@ -1,0 +1,11 @@
+//! What each call of a spool's core answers, and what the core keeps of the history of its calls.
+#![tactic(auto)]
+
+mod answers;
+mod handed;
+mod printer;
+
+pub use account::{Progress, Sheet};
+pub use answers::{Asked, Foreign, Next, Receipt, ReturnedPage, ReturnedTicket};
+pub use handed::HandedPage;
+pub use printer::Printer;

@@ -1,0 +1,4 @@
+pub mod Amounts
+pub mod Cores
+pub mod Packs
+pub mod Beginning

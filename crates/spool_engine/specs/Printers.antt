@@ -1,0 +1,26 @@
+-- The printers of a core.
+use Rattle.std.specs.Prelude.{◌≡◌, ℕ, List, [], Option, Some, None, map}
+use Rattle.account.specs.declared.entry.Sheet.{Sheet}
+use Rattle.account.specs.declared.entry.Outline.{Outline}
+use Rattle.config_values.specs.Config.{Config}
+use Rattle.spool_history.specs.Base.{first_base}
+use Rattle.spool_history.specs.Now.{printer_of, up_to}
+use Rattle.spool_calls.specs.declared.printer.Printer.{Printer}
+use Rattle.spool_calls.specs.declared.handed.HandedPage.{HandedPage}
+use Rattle.spool_calls.specs.Looks.{outline_of}
+use Rattle.spool_calls.specs.Looks.Detail.{Outlines}
+use Rattle.spool_calls.specs.Kept.{kept_printer}
+
+-- so many printers, before anything happens
+abbrev pub idle : Config → ℕ → List Printer
+idle c n = map (kept_printer Outlines) (map (printer_of c first_base []) (up_to n))
+
+-- what is kept of a page that goes to a printer
+abbrev pub sheet_out : HandedPage → Sheet
+sheet_out p = record { job = p.job; place = p.place; file = p.file; number = p.number; page = outline_of p.page.octets }
+
+-- the page is the one that is out
+abbrev pub IsOutAt : Option Sheet → HandedPage → ℕ → Type 0
+IsOutAt None page page_size = ⊥
+IsOutAt (Some s) page page_size =
+    (page.job ≡ s.job) × (page.place ≡ s.place) × (outline_of page.page.octets ≡ s.page) × (page.page.page_size ≡ page_size)

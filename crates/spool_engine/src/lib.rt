@@ -1,0 +1,12 @@
+//! The core of a spool: its held jobs, its printers, its pages and its claims, and each call that is one event.
+#![tactic(auto)]
+
+mod core_state;
+mod kinds;
+mod opening;
+mod printers;
+mod receiving;
+
+pub use config_values::{Config, Queue};
+pub use core_state::Core;
+pub use spool_calls::{Asked, Foreign, HandedPage, Next, Progress, Receipt, ReturnedPage, ReturnedTicket};
