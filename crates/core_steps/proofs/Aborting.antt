@@ -125,11 +125,10 @@ module _ (d : Detail) (b : Base) (h : List (Event (What d))) (k : Kept) (l : Lea
       let jobs = jobs_left v (OfJob job Aborted) (remove v.jobs i) (act_gone (size d) k.config b h i job Aborted l.legal s (gone_by x (x.handed == x.back) (u.0 ∙ sym u.1) refl)) refl in
       let within = one_stored d b h k i l s.there in
       let pages = aborted_pages m in
-      let free : k.pool.free + pages_held x ≡ k.pool.free + n + count_of ticket = omega (arith, pages, en) in
-      (
+      let free : k.pool.free + pages_held x ≡ k.pool.free + n + count_of ticket = omega (arith, pages, en) in (
         may,
         leaves_out d b h k (OfJob job Aborted) i (k.book.stored - n) (k.pool.free + n + count_of ticket) (closed k.table i) k.printers l (has_job v i job (JobMay (size d) k.config Aborted) s can.0, tt) jobs s.there refl refl
-        (omega (arith, within, en)) (subst (λ (q : ℕ). Rattle.core_rows.proofs.Tables.WithoutRow k.table (closed k.table i) i q) free (closed_free d b h k i l s.there)) l.kept.printers,
+            (omega (arith, within, en)) (subst (λ (q : ℕ). Rattle.core_rows.proofs.Tables.WithoutRow k.table (closed k.table i) i q) free (closed_free d b h k i l s.there)) l.kept.printers,
       )
 
   -- what comes back has room in the pool

@@ -98,7 +98,7 @@ module _ (d : Detail) (b : Base) (h : List (Event (What d))) (k : Kept) (l : Lea
   pub begin_taken : (name : List ℕ) (count : ℕ) → j.facts.phase ≡ Receiving → j.chain.is_open ≡ false → RefusedFor (names_of j.chain.files) 52 name chain.NameTaken → Begins d b h k job name count k (Err NameTaken)
   begin_taken name count p o taken = (
     has_job v i job (λ y. IsReceiving y × HasNoOpen y × (is_among name (names_in y.files) ≡ true)) s
-    (is_receiving p, no_open p o, subst (λ (ns : List (List ℕ)). is_among name ns ≡ true) (names p) taken),
+        (is_receiving p, no_open p o, subst (λ (ns : List (List ℕ)). is_among name ns ≡ true) (names p) taken),
     refl,
   )
 
@@ -108,10 +108,9 @@ module _ (d : Detail) (b : Base) (h : List (Event (What d))) (k : Kept) (l : Lea
   pub begin_full : (name : List ℕ) (count : ℕ) → j.facts.phase ≡ Receiving → j.chain.is_open ≡ false → RefusedFor (names_of j.chain.files) 52 name chain.FilesFull → Begins d b h k job name count k (Err FilesFull)
   begin_full name count p o full =
       let n = many p in
-      let e = full.1 in
-      (
+      let e = full.1 in (
         has_job v i job (λ y. IsReceiving y × HasNoOpen y × HasNoFile name y × (HasFileRoom y → ⊥)) s
-        (is_receiving p, no_open p o, subst (λ (ns : List (List ℕ)). is_among name ns ≡ false) (names p) full.0, λ lt. omega (arith, n, e, lt)),
+            (is_receiving p, no_open p o, subst (λ (ns : List (List ℕ)). is_among name ns ≡ false) (names p) full.0, λ lt. omega (arith, n, e, lt)),
         refl,
       )
 
@@ -130,10 +129,9 @@ module _ (d : Detail) (b : Base) (h : List (Event (What d))) (k : Kept) (l : Lea
       → Begins d b h k job name count k (Err OverClaim)
   begin_over name count p o can over =
       let r = room name p can in
-      let over' : limit_of k.config x.queue < x.granted + pages_for k.config.page_size count = subst (λ (y : Facts). limit_of k.config y.queue < y.granted + pages_for k.config.page_size count) (facts_tie (look d) k.config j x t) over in
-      (
+      let over' : limit_of k.config x.queue < x.granted + pages_for k.config.page_size count = subst (λ (y : Facts). limit_of k.config y.queue < y.granted + pages_for k.config.page_size count) (facts_tie (look d) k.config j x t) over in (
         has_job v i job (λ y. IsReceiving y × HasNoOpen y × HasNoFile name y × HasFileRoom y × (IsWithinLimit k.config count y → ⊥)) s
-        (is_receiving p, no_open p o, r.0, r.1, λ le. omega (arith, over', le)),
+            (is_receiving p, no_open p o, r.0, r.1, λ le. omega (arith, over', le)),
         refl,
       )
 
@@ -146,11 +144,10 @@ module _ (d : Detail) (b : Base) (h : List (Event (What d))) (k : Kept) (l : Lea
       let may = has_job v i job (JobMay (size d) k.config (Began name count)) s (r, no_open p o, q.0, q.1, within') in
       let held = held_receiving (acted (Began name count) x) (began_receiving name count x r) in
       let jobs = jobs_left v (OfJob job (Began name count)) (set v.jobs i (acted (Began name count) x)) (act_set (size d) k.config b h i job (Began name count) l.legal s held) refl in
-      let stored = ap (λ (n : ℕ). k.book.stored + n) (sym (began_chain name count x r)) in
-      (
+      let stored = ap (λ (n : ℕ). k.book.stored + n) (sym (began_chain name count x r)) in (
         may,
         leaves_job d b h k (OfJob job (Began name count)) i k.book.stored (acted (Began name count) x) (begun_job name count j) l (may, some) jobs s.there refl refl refl
-        (ties_begun (look d) k.config j x name count r t) stored (began_row k.config name count x r),
+            (ties_begun (look d) k.config j x name count r t) stored (began_row k.config name count x r),
       )
 
 -- the open file
@@ -246,8 +243,7 @@ module _ (d : Detail) (b : Base) (h : List (Event (What d))) (k : Kept) (l : Lea
       let last = m.2.1 in
       let n = m.2.5 in
       let some = n.1 in
-      let left : (last_size held.facts.files).left ≡ last.count - number * z = ap (λ (g : DataFile). g.left) (left_of before last m.2.2) ∙ ap (λ (q : ℕ). last.count - q * z) n.0 in
-      (
+      let left : (last_size held.facts.files).left ≡ last.count - number * z = ap (λ (g : DataFile). g.left) (left_of before last m.2.2) ∙ ap (λ (q : ℕ). last.count - q * z) n.0 in (
         phase_tie (look d) k.config held y ty ∙ phase_receiving y m.0,
         ap (λ (g : Facts). g.lent) ft ∙ m.1,
         open_tie (look d) k.config held y ty m.0 ∙ (ap is_open_in m.2.2 ∙ open_pushed before last m.2.4),
@@ -279,14 +275,13 @@ module _ (d : Detail) (b : Base) (h : List (Event (What d))) (k : Kept) (l : Lea
       let may = has_job w i job (JobMay (size d) k.config act) sy (may_take file number t) in
       let r = put_receiving file number (see d page.octets) (IsNextPage z number (length page.octets)) y o.receiving t.2 in
       let jobs = jobs_left w (OfJob job act) (set w.jobs i (acted act y)) (act_set (size d) k.config b h i job act l.legal sy (held_receiving (acted act y) r)) refl in
-      let more = put_chain file number (see d page.octets) (IsNextPage z number (length page.octets)) y o.receiving t.2 in
-      (
+      let more = put_chain file number (see d page.octets) (IsNextPage z number (length page.octets)) y o.receiving t.2 in (
         file,
         number,
         (may, same),
         leaves_job d b h k (OfJob job act) i (k.book.stored + 1) (acted act y) (put_job page held) l (may, tt) jobs sy.there refl refl refl
-        (ties_put (look d) k.config held y file number (length page.octets) page (see d page.octets) o.receiving t.2 refl refl ty) (omega (arith, more))
-        (put_row k.config file number (see d page.octets) (IsNextPage z number (length page.octets)) y o.receiving t.2),
+            (ties_put (look d) k.config held y file number (length page.octets) page (see d page.octets) o.receiving t.2 refl refl ty) (omega (arith, more))
+            (put_row k.config file number (see d page.octets) (IsNextPage z number (length page.octets)) y o.receiving t.2),
       )
 
   -- what the book asks of a page that a job awaits

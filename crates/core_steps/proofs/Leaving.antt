@@ -218,6 +218,7 @@ absent_in d c number (j ∷ js) (y ∷ ys) e a x has = elim has [
     first : List (ShownJob (What d)) → ℕ
     first [] = 0
     first (z ∷ zs) = z.facts.number
+
     rest : List (ShownJob (What d)) → List (ShownJob (What d))
     rest [] = []
     rest (z ∷ zs) = zs

@@ -5,7 +5,6 @@ pub mod Asking
 pub mod Turning
 pub mod Printers
 pub mod Opening
-
 pub mod Filing
 pub mod Receiving
 pub mod Aborting

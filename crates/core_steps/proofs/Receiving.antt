@@ -159,6 +159,7 @@ module _ (d : Detail) (b : Base) (h : List (Event (What d))) (k : Kept) (l : Lea
           subst (λ (m : ℕ). WithRow k.table (given_back (need_ended k.table i 0) i 0 n) i (row_of k.config y) (m + n)) (sym same)
           (subst (λ (m : ℕ). WithRow k.table (given_back (need_ended k.table i 0) i 0 m) i (row_of k.config y) (amount k.table.free 0 + m)) un
           (Rattle.core_rows.proofs.Received.received_leaves k.config k.table i x y (row_stands d b h k i l s.there) becomes))
+
       one_stored : chained_of x ≤ k.book.stored
       one_stored =
           let e = l.kept.book.stored in
@@ -184,8 +185,7 @@ module _ (d : Detail) (b : Base) (h : List (Event (What d))) (k : Kept) (l : Lea
           let before = m.2.0 in
           let last = m.2.1 in
           let all = all_is_none_left z (length last.pages) last.count (page_some ranges) m.2.5 in
-          let left = ap (λ (g : DataFile). g.left) (left_of d b h k l job i f (record { octets = []; page_size = 0 }) before last m.2.2) in
-          (
+          let left = ap (λ (g : DataFile). g.left) (left_of d b h k l job i f (record { octets = []; page_size = 0 }) before last m.2.2) in (
             phase_tie (look d) k.config j x t ∙ phase_receiving x m.0,
             ap (λ (g : Facts). g.lent) ft ∙ m.1,
             open_tie (look d) k.config j x t m.0 ∙ (ap is_open_in m.2.2 ∙ Rattle.core_rows.proofs.Receiving.last_open before last m.2.4),
@@ -225,12 +225,11 @@ module _ (d : Detail) (b : Base) (h : List (Event (What d))) (k : Kept) (l : Lea
       let may = w.may false (sym not') in
       let r = w.receiving' in
       let jobs = jobs_left v (OfJob job act) (set v.jobs i (acted act x)) (act_set (size d) k.config b h i job act l.legal s (held_unended (acted act x) r.0)) refl in
-      let stored = ap (λ (n : ℕ). k.book.stored + n) (sym (file_ended_chain w.file false x r not')) in
-      (
+      let stored = ap (λ (n : ℕ). k.book.stored + n) (sym (file_ended_chain w.file false x r not')) in (
         w.file,
         may,
         leaves_job d b h k (OfJob job act) i k.book.stored (acted act x) (closed_file j) l (may, tt) jobs s.there refl refl refl
-        (ties_closed (look d) k.config j x w.file r opens not' t) stored (file_ended_row k.config w.file false x r not'),
+            (ties_closed (look d) k.config j x w.file r opens not' t) stored (file_ended_row k.config w.file false x r not'),
       )
 
   pub end_received : IsConfig k.config → (n : ℕ) → CanEnd j → has_prints j.facts ≡ true → n ≡ length (unnamed_pages (closed_file j).chain.files (prints_of j))
@@ -244,12 +243,11 @@ module _ (d : Detail) (b : Base) (h : List (Event (What d))) (k : Kept) (l : Lea
       let u = unhanded r in
       let lent : x.lent ≡ false = sym (ap (λ (g : Facts). g.lent) ft) ∙ c.1 in
       let filed = granted_filed (size d) k.config b h x l.legal has r.0 lent in
-      let count = counts_by_file (look d) k.config j x w.file r u.1 differ t in
-      (
+      let count = counts_by_file (look d) k.config j x w.file r u.1 differ t in (
         w.file,
         may,
         received_leaves act (received_job (prints_of j) (closed_file j)) n r may (by_file w.file true x r (sym filed) u.0 is) r.0
-        (received_by_file (look d) k.config j x w.file r u.0 u.1 is differ t) (omega (arith, en, count)) tt,
+            (received_by_file (look d) k.config j x w.file r u.0 u.1 is differ t) (omega (arith, en, count)) tt,
       )
 
   -- before that it is idle
@@ -267,7 +265,7 @@ module _ (d : Detail) (b : Base) (h : List (Event (What d))) (k : Kept) (l : Lea
   pub control_twice : (control : Contents) → j.facts.phase ≡ Receiving → (j.facts.control ≡ None → ⊥) → Controls d b h k job control k (Err ControlTwice)
   control_twice control p never = (
     has_job v i job (λ y. IsReceiving y × (y.control ≡ None → ⊥)) s
-    (is_receiving d b h k l job i f p, λ none. never (ap (λ (g : Facts). g.control) ft ∙ none)),
+        (is_receiving d b h k l job i f p, λ none. never (ap (λ (g : Facts). g.control) ft ∙ none)),
     refl,
   )
 
@@ -287,11 +285,10 @@ module _ (d : Detail) (b : Base) (h : List (Event (What d))) (k : Kept) (l : Lea
       let may = may_control control false p none (sym not') in
       let r = is_receiving d b h k l job i f p in
       let jobs = jobs_left v (OfJob job act) (set v.jobs i (acted act x)) (act_set (size d) k.config b h i job act l.legal s (held_unended (acted act x) r.0)) refl in
-      let stored = ap (λ (n : ℕ). k.book.stored + n) (sym (controlled_chain control false x r not')) in
-      (
+      let stored = ap (λ (n : ℕ). k.book.stored + n) (sym (controlled_chain control false x r not')) in (
         may,
         leaves_job d b h k (OfJob job act) i k.book.stored (acted act x) (told (controlled_facts control) j) l (may, fits) jobs s.there refl refl refl
-        (ties_controlled (look d) k.config j x control r not' t) stored (controlled_row k.config control false x r not'),
+            (ties_controlled (look d) k.config j x control r not' t) stored (controlled_row k.config control false x r not'),
       )
 
   pub control_open : (control : Contents) → IsControl control → j.facts.phase ≡ Receiving → j.facts.control ≡ None → j.chain.is_open ≡ true
@@ -315,11 +312,10 @@ module _ (d : Detail) (b : Base) (h : List (Event (What d))) (k : Kept) (l : Lea
       let u = unhanded r in
       let lent = closed_unlent (size d) k.config b h x l.legal has (sym (open_tie (look d) k.config j x t r) ∙ o) in
       let filed = granted_filed (size d) k.config b h x l.legal has r.0 lent in
-      let count = counts_by_control (look d) k.config j x control r u.1 differ t in
-      (
+      let count = counts_by_control (look d) k.config j x control r u.1 differ t in (
         may,
         received_leaves act (received_job control.prints (told (controlled_facts control) j)) n r may (by_control control true x r (sym filed) u.0 is) r.0
-        (received_by_control (look d) k.config j x control r u.0 u.1 is differ t) (omega (arith, en, count)) fits,
+            (received_by_control (look d) k.config j x control r u.0 u.1 is differ t) (omega (arith, en, count)) fits,
       )
 
   -- what goes back to the pool is stored, held by the job's row, and not much

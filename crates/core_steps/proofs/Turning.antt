@@ -151,6 +151,7 @@ facts_same {C} f c (x ∷ xs) (y ∷ ys) e =
     first : List (ShownJob C) → Facts
     first [] = no_facts
     first (z ∷ zs) = z.facts
+
     rest : List (ShownJob C) → List (ShownJob C)
     rest [] = []
     rest (z ∷ zs) = zs

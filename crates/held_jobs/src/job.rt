@@ -57,12 +57,7 @@ impl Job {
     /// A job that was just accepted, with room for `MAX_FILES` files.
     ///
     /// AllocError where memory for them is refused.
-    pub fn new(
-        alloc: Global,
-        number: u64,
-        sender: u32,
-        queue: u32,
-    ) -> Result<Job, AllocError>
+    pub fn new(alloc: Global, number: u64, sender: u32, queue: u32) -> Result<Job, AllocError>
         ensures { IfOk result (λ j. j ≡ new_facts number sender queue) }
     {
         Ok(Job {

@@ -77,13 +77,13 @@ claim c q limit zeros all more ez lo hi ea em =
     let lm : length (set all q 1) ≡ suc n = length-set all q 1 ∙ la in
     let lr : length (one_queue q n) ≡ n = length-map (up_to n) (λ (r : ℕ). cond (r == q) 1 0) ∙ length_up n in
     let none : (k : ℕ) → k < n → get_or all (suc k) 0 ≡ 0 = (λ k lt. (
-      let ne : suc k ≢ 0 = omega arith in
-      let m : suc k < n + 1 = omega arith in
-      ap (λ (l : List ℕ). get_or l (suc k) 0) ea ∙ (get_or-set_other zeros 0 (suc k) limit 0 ne ∙ (ap (λ (l : List ℕ). get_or l (suc k) 0) ez ∙ get_or-replicate (n + 1) (suc k) 0 0 m)))) in
+    let ne : suc k ≢ 0 = omega arith in
+    let m : suc k < n + 1 = omega arith in
+    ap (λ (l : List ℕ). get_or l (suc k) 0) ea ∙ (get_or-set_other zeros 0 (suc k) limit 0 ne ∙ (ap (λ (l : List ℕ). get_or l (suc k) 0) ez ∙ get_or-replicate (n + 1) (suc k) 0 0 m)))) in
     let first : get_or (set all q 1) 0 0 ≡ limit = (
-      let ne : 0 ≢ q = omega arith in
-      let some : 0 < length zeros = omega arith in
-      get_or-set_other all q 0 1 0 ne ∙ (ap (λ (l : List ℕ). get_or l 0 0) ea ∙ get_or-set_same zeros 0 limit 0 some)) in
+    let ne : 0 ≢ q = omega arith in
+    let some : 0 < length zeros = omega arith in
+    get_or-set_other all q 0 1 0 ne ∙ (ap (λ (l : List ℕ). get_or l 0 0) ea ∙ get_or-set_same zeros 0 limit 0 some)) in
     let u : UpTo (set all q 1) limit (one_queue q n) (length (one_queue q n)) = record {
       len = omega arith;
       first = first;

@@ -13,7 +13,6 @@ use Rattle.spool_engine.specs.declared.core_state.Core.TheInside.{Inside}
 use Rattle.spool_engine.specs.Inside.{core_view, IsCore}
 use Rattle.core_steps.proofs.Leaving.{Found}
 
-
 -- an answer of a core that stays as it is
 pub stays : (k now : Kept) (P : Kept → (d : Detail) → Base → List (Event (What d)) → Type 0) → k ≡ now → IsRight k (P k) → IsRight now (P now)
 stays k now P e r = subst (λ (z : Kept). IsRight z (P z)) e r

@@ -9,4 +9,6 @@ mod receiving;
 
 pub use config_values::{Config, Queue};
 pub use core_state::Core;
-pub use spool_calls::{Asked, Foreign, HandedPage, Next, Progress, Receipt, ReturnedPage, ReturnedTicket};
+pub use spool_calls::{
+    Asked, Foreign, HandedPage, Next, Progress, Receipt, ReturnedPage, ReturnedTicket,
+};
