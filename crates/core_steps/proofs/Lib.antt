@@ -8,3 +8,12 @@ pub mod Opening
 pub mod Filing
 pub mod Receiving
 pub mod Aborting
+pub mod Backing
+pub mod Handing
+pub mod Stocks
+pub mod EndingMany
+pub mod Closing
+pub mod Starting
+pub mod Reading
+pub mod Telling
+pub mod Removing

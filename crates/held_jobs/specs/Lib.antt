@@ -3,3 +3,5 @@ pub mod Moves
 pub mod Books
 pub mod Shown
 pub mod Turns
+pub mod Choice
+pub mod Texts

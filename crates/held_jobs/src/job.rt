@@ -6,10 +6,13 @@ ghost use Rattle.lpd_values.specs.Kept.{is_among};
 ghost use Rattle.held_jobs.specs.declared.file.DataFile.{DataFile};
 ghost use Rattle.std.specs.List.{list_all};
 ghost use Rattle.held_jobs.specs.Jobs.{new_facts, contents_of, has_prints, last_size};
+ghost use Rattle.held_jobs.specs.Choice.{number_of, user_of, host_of};
+ghost use Rattle.held_jobs.specs.Texts.{places_left};
 ghost use Rattle.held_jobs.specs.Moves.{lent_facts, unlent_facts, begun_facts, put_facts, controlled_facts, received_facts, handed_facts, back_facts, ended_facts};
 
 use crate::file::DataFile;
 use crate::phase::Phase;
+use crate::places::places_of;
 use control_file::Control;
 use lpd_values::{FileName, MAX_FILES};
 use std::alloc::{AllocError, Global};
@@ -32,7 +35,7 @@ pub struct Job {
 }
 
 impl Model for Job {
-    ghost use Rattle.std.specs.Prelude.{◌≤◌, vec_capacity};
+    ghost use Rattle.std.specs.Prelude.{◌≤◌, vec_capacity, vec_len};
     ghost use Rattle.held_jobs.specs.Jobs.{Facts, contents_of};
 
     ghost Value = { Facts };
@@ -50,7 +53,7 @@ impl Model for Job {
       back = j.back;
     } };
 
-    ghost invariant = { λ j. 52 ≤ vec_capacity j.files };
+    ghost invariant = { λ j. (52 ≤ vec_capacity j.files) × (vec_len j.files ≤ 52) };
 }
 
 impl Job {
@@ -135,6 +138,50 @@ impl Job {
         ensures { result ≡ self.now.handed }
     {
         self.handed
+    }
+
+    /// How many of its places were not handed out.
+    pub fn places_left(&self) -> u128
+        ensures { result ≡ places_left self.now }
+    {
+        match &self.control {
+            Some(control) => {
+                let places = places_of(control.prints.as_slice(), self.files.as_slice());
+                places.saturating_sub(u128::from(self.handed))
+            }
+            None => 0,
+        }
+    }
+
+    /// Its job number, as its control file has it, or 0 where there is none.
+    pub fn told_number(&self) -> u16
+        ensures value { result ≡ number_of self.now }
+        ensures within { result ≤ 999 }
+    {
+        match &self.control {
+            Some(control) => control.number,
+            None => 0,
+        }
+    }
+
+    /// Its user, as its control file has it, or nothing where there is none.
+    pub fn told_user(&self) -> &[u8]
+        ensures { result.now ≡ user_of self.now }
+    {
+        match &self.control {
+            Some(control) => control.user.as_slice(),
+            None => &[],
+        }
+    }
+
+    /// Its host, as its control file has it, or nothing where there is none.
+    pub fn told_host(&self) -> &[u8]
+        ensures { result.now ≡ host_of self.now }
+    {
+        match &self.control {
+            Some(control) => control.host.as_slice(),
+            None => &[],
+        }
     }
 
     /// How many of its places came back from a printer.

@@ -5,6 +5,7 @@
 mod file;
 mod job;
 mod phase;
+mod places;
 
 pub use file::DataFile;
 pub use job::Job;

@@ -8,7 +8,7 @@ ghost use Rattle.lpd_script.specs.declared.script.ScriptLine.TheVariants.{Nothin
 use crate::fault::Fault;
 use crate::script::{LineFault, ScriptLine, parse_line};
 use crate::world::{Stop, Told, World};
-use spool_core::{HandedPage, Printed};
+use spool_core::{HandedPage, Progress};
 use std::alloc::{AllocError, Global};
 
 /// Runs the line of this number, and answers what it prints.
@@ -116,7 +116,9 @@ fn next(alloc: Global, world: &mut World, printer: u32) -> Result<String, AllocE
     let told = world.next(printer);
     match (told, world.page_at(printer)) {
         (Told::Handed, Some(page)) => show_page(alloc, printer, page),
+        (Told::Stopped, _) => format!(in alloc; "printer {printer}: stopped\n"),
         (Told::Busy, _) => format!(in alloc; "printer {printer}: busy\n"),
+        (Told::Closed, _) => format!(in alloc; "printer {printer}: closed\n"),
         _ => format!(in alloc; "printer {printer}: nothing\n"),
     }
 }
@@ -124,15 +126,16 @@ fn next(alloc: Global, world: &mut World, printer: u32) -> Result<String, AllocE
 /// The page that a printer gets.
 fn show_page(alloc: Global, printer: u32, page: &HandedPage) -> Result<String, AllocError> {
     let octets = hex::encode(alloc, page.bytes())?;
-    let (job, place) = (page.job(), page.place());
+    let (job, place) = (page.job, page.place);
     format!(in alloc; "printer {printer}: job {job} place {place} {octets}\n")
 }
 
 /// A printer has printed its page.
 fn printed(alloc: Global, world: &mut World, printer: u32) -> Result<String, AllocError> {
     let told = match world.printed(printer) {
-        Some(Printed::Going) => "going",
-        Some(Printed::Done) => "done",
+        Some(Progress::Going) => "going",
+        Some(Progress::Done) => "done",
+        Some(Progress::Ended) => "ended",
         None => "no page",
     };
     format!(in alloc; "printer {printer}: {told}\n")

@@ -10,7 +10,7 @@ use bytes::{Buf, BytesMut};
 use lpd_commands::{FileName, Refusal};
 use page_pool::{FilledPage, PageTicket};
 use receiver::{Answer, Need, Receiver};
-use spool_core::{AbortRefused, Asked, Core, JobNumber, PutRefused, Receipt};
+use spool_core::{Asked, Core, Receipt, ReturnedPage, ReturnedTicket};
 use std::alloc::{AllocError, Global};
 
 /// What a turn of a session came to.
@@ -29,14 +29,17 @@ pub enum Turn {
 }
 
 /// The number of no job, for a session that has none in hand.
-const NO_JOB: JobNumber = JobNumber(0);
+const NO_JOB: u64 = 0;
+
+/// The number that stands for the host of the one session.
+const SENDER: u32 = 1;
 
 /// A connection. Its receiver has to be spent.
 pub struct Session {
     /// None once the session is over.
     receiver: Option<Receiver>,
     /// The job in hand.
-    job: Option<JobNumber>,
+    job: Option<u64>,
     /// The octets that arrived and weren't read.
     unread: BytesMut,
     // Between turns no request waits for its answer.
@@ -66,7 +69,7 @@ fn reply(receiver: &mut Receiver, outcome: Result<(), Refusal>)
 /// Answers the end of a file: whether the job is whole now, and then it is no more in hand.
 fn reply_receipt(
     receiver: &mut Receiver,
-    held: &mut Option<JobNumber>,
+    held: &mut Option<u64>,
     outcome: Result<Receipt, Refusal>,
 )
     requires { receiver.old.owed ≡ Some Ending }
@@ -83,11 +86,11 @@ fn reply_receipt(
 }
 
 /// Opens a job, which is then in hand.
-fn open(receiver: &mut Receiver, held: &mut Option<JobNumber>, core: &mut Core, queue: &[u8])
+fn open(receiver: &mut Receiver, held: &mut Option<u64>, core: &mut Core, queue: &[u8])
     requires { receiver.old.owed ≡ Some Opening }
     ensures { receiver.new.owed ≡ None }
 {
-    match core.open(queue) {
+    match core.open(SENDER, queue) {
         Ok(job) => {
             *held = Some(job);
             receiver.reply(Answer::Yes);
@@ -97,7 +100,7 @@ fn open(receiver: &mut Receiver, held: &mut Option<JobNumber>, core: &mut Core, 
 }
 
 /// Begins a data file. The receiver has refused a count of 0 before.
-fn begin_file(core: &mut Core, job: JobNumber, name: FileName, count: u64) -> Result<(), Refusal> {
+fn begin_file(core: &mut Core, job: u64, name: FileName, count: u64) -> Result<(), Refusal> {
     if count == 0 {
         return Err(Refusal::BadCount);
     }
@@ -105,7 +108,7 @@ fn begin_file(core: &mut Core, job: JobNumber, name: FileName, count: u64) -> Re
 }
 
 /// The page that the core lends, an empty ticket, or None where none is free.
-fn lent(core: &mut Core, job: JobNumber) -> Result<Option<PageTicket>, Refusal>
+fn lent(core: &mut Core, job: u64) -> Result<Option<PageTicket>, Refusal>
     ensures { IfOk result (λ lent. IfSome lent (λ ticket. ticket.octets ≡ [])) }
 {
     match core.ask(job)? {
@@ -115,7 +118,7 @@ fn lent(core: &mut Core, job: JobNumber) -> Result<Option<PageTicket>, Refusal>
 }
 
 /// Asks the core for a page.
-fn ask(receiver: &mut Receiver, core: &mut Core, job: JobNumber) -> Turn
+fn ask(receiver: &mut Receiver, core: &mut Core, job: u64) -> Turn
     requires { receiver.old.owed ≡ Some Lending }
     ensures { receiver.new.owed ≡ None }
 {
@@ -131,28 +134,28 @@ fn ask(receiver: &mut Receiver, core: &mut Core, job: JobNumber) -> Turn
 }
 
 /// Gives the core a filled page.
-fn put(receiver: &mut Receiver, core: &mut Core, job: JobNumber, page: FilledPage)
+fn put(receiver: &mut Receiver, core: &mut Core, job: u64, page: FilledPage)
     requires { receiver.old.owed ≡ Some Plain }
     ensures { receiver.new.owed ≡ None }
 {
     match core.put(job, page) {
         Ok(()) => receiver.reply(Answer::Yes),
         Err(refused) => {
-            let PutRefused { refusal, page } = refused;
+            let ReturnedPage { page } = refused;
             page.unseal().surrender();
-            receiver.reply(Answer::Refused(refusal));
+            receiver.reply(Answer::Refused(Refusal::NotOpen));
         }
     }
 }
 
 /// Ends a job, with the page that is lent to it.
-fn abort(core: &mut Core, job: JobNumber, ticket: Option<PageTicket>) -> Result<(), Refusal> {
+fn abort(core: &mut Core, job: u64, ticket: Option<PageTicket>) -> Result<(), Refusal> {
     match core.abort(job, ticket) {
         Ok(()) => Ok(()),
         Err(refused) => {
-            let AbortRefused { refusal, ticket } = refused;
+            let ReturnedTicket { ticket } = refused;
             surrender(ticket);
-            Err(refusal)
+            Err(Refusal::NotOpen)
         }
     }
 }
@@ -160,7 +163,7 @@ fn abort(core: &mut Core, job: JobNumber, ticket: Option<PageTicket>) -> Result<
 /// Carries out a request, and answers it.
 fn answer(
     receiver: &mut Receiver,
-    held: &mut Option<JobNumber>,
+    held: &mut Option<u64>,
     core: &mut Core,
     need: Need,
 ) -> Turn
@@ -181,8 +184,8 @@ fn answer(
             *held = None;
             reply(receiver, abort(core, job, None));
         }
-        // This core has one job alone: it neither starts printers nor lists or removes jobs.
-        Need::Start(_queue) => receiver.reply(Answer::Refused(Refusal::BadCode)),
+        Need::Start(queue) => reply(receiver, core.start(queue.as_slice())),
+        // The texts come with the other commands of a script.
         Need::State {
             queue: _queue,
             list: _list,

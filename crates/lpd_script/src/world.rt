@@ -3,7 +3,7 @@
 ghost use Rattle.std.specs.Prelude.{◌≤◌, ◌↔◌, IsTrue, vec_len};
 
 use crate::session::{Session, Turn};
-use spool_core::{Config, Core, Foreign, HandedPage, Next, Printed};
+use spool_core::{Config, Core, Foreign, HandedPage, Next, Progress};
 use std::alloc::{AllocError, AllocFailed, Global};
 
 /// Why a session stopped.
@@ -24,8 +24,12 @@ pub enum Told {
     Handed,
     /// There is nothing to print.
     Nothing,
+    /// A page failed at it, and its queue wasn't started since.
+    Stopped,
     /// It has a page already.
     Busy,
+    /// The spool is closed.
+    Closed,
 }
 
 /// One session, one core and the pages at the printers. A world that is dropped spends its pages.
@@ -87,7 +91,7 @@ impl World {
             session: None,
             printing: Vec::new(alloc),
         };
-        for _ in 0..world.core.printers() {
+        for _ in 0..world.core.config().printer_count() {
             add_printer(&mut world.printing)?;
         }
         Ok(world)
@@ -169,7 +173,7 @@ impl World {
 
     /// A printer asks for its next page.
     pub fn next(&mut self, printer: u32) -> Told {
-        if !self.has_printer(printer) {
+        if !self.has_printer(printer) || !self.core.config().is_printer(printer) {
             return Told::Nothing;
         }
         match self.core.next(printer) {
@@ -182,7 +186,9 @@ impl World {
                 Told::Handed
             }
             Next::Nothing => Told::Nothing,
+            Next::Stopped => Told::Stopped,
             Next::Busy => Told::Busy,
+            Next::Closed => Told::Closed,
         }
     }
 
@@ -195,8 +201,8 @@ impl World {
     }
 
     /// A printer has printed its page: what that leaves of the job, or None where it has no page.
-    pub fn printed(&mut self, printer: u32) -> Option<Printed> {
-        if !self.has_printer(printer) {
+    pub fn printed(&mut self, printer: u32) -> Option<Progress> {
+        if !self.has_printer(printer) || !self.core.config().is_printer(printer) {
             return None;
         }
         let slot = &mut self.printing[printer as usize - 1];

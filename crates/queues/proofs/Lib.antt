@@ -2,3 +2,6 @@ pub mod Entries
 pub mod Sizes
 pub mod Numbers
 pub mod Rows
+pub mod Firsts
+pub mod Lists
+pub mod Pieces

@@ -89,6 +89,11 @@ impl Book {
         })
     }
 
+    /// The allocator of the book.
+    pub(crate) fn alloc(&self) -> Global {
+        self.alloc
+    }
+
     /// How many jobs are held.
     pub fn len(&self) -> usize
         ensures { result ≡ length self.now.jobs }

@@ -2,7 +2,9 @@
 #![tactic(auto)]
 
 mod book;
+mod choice;
 mod entry;
+mod texts;
 mod turn;
 
 pub use book::Book;

@@ -2,3 +2,5 @@ pub mod Looks
 pub mod Kept
 pub mod Calls
 pub mod Tickets
+pub mod Readers
+pub mod Telling

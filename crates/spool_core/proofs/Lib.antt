@@ -1,1 +1,5 @@
-mod Turns
+pub mod Amounts
+pub mod Cores
+pub mod Packs
+pub mod Beginning
+pub mod Outs

@@ -1,3 +1,3 @@
-pub mod Handed
-pub mod Job
-pub mod Spool
+pub mod Printers
+pub mod Inside
+pub mod Tickets

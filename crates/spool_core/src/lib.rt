@@ -1,14 +1,19 @@
-//! The spool's core: it accepts a job, keeps its pages and hands them to a printer.
-//!
-//! This core holds one job at a time, over a plain list of pages.
+//! The core of a spool: its held jobs, its printers, its pages and its claims, and each call that is one event.
 #![tactic(auto)]
 
-mod answers;
-mod handed;
-mod job;
-mod spool;
+mod closing;
+mod core_state;
+mod kinds;
+mod opening;
+mod printers;
+mod printing;
+mod reading;
+mod receiving;
+mod telling;
 
-pub use answers::{AbortRefused, Asked, Foreign, JobNumber, Next, Printed, PutRefused, Receipt};
 pub use config_values::{Config, Queue};
-pub use handed::HandedPage;
-pub use spool::Core;
+pub use core_state::Core;
+pub use reading::Pages;
+pub use spool_calls::{
+    Asked, Foreign, HandedPage, Next, Progress, Receipt, ReturnedPage, ReturnedTicket,
+};

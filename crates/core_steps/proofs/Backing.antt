@@ -1,0 +1,369 @@
+-- A page comes back from a printer.
+use Rattle.std.proofs.Common.{◌≡◌, ◌==◌, ◌≢◌, ℕ, zero, suc, ◌+◌, ◌-◌, ◌<◌, ◌≤◌, Bool, true, false, List, [], ◌∷◌, length, drop, get_or, set, map, refl, sym, ◌∙◌, ap, subst, arith}
+use Rattle.std.specs.Prelude.{All, Option, Some, None, Ok, cond, is_some, remove, slice_get}
+use Rattle.std.proofs.lemmas.List.{length-map}
+use Rattle.counts.specs.Amounts.{amount}
+use Rattle.claims.specs.declared.row.Row.{Row}
+use Rattle.claims.specs.Claims.{row_at}
+use Rattle.claims.specs.Changes.{closed, given_back}
+use Rattle.page_pool.specs.Page.{Pages}
+use Rattle.page_chain.specs.declared.place.Place.{Place}
+use Rattle.page_chain.specs.Files.{every_page}
+use Rattle.page_chain.specs.Changes.{AwaitsLast, comes_again}
+use Rattle.held_jobs.specs.Jobs.{Facts, HeldJob}
+use Rattle.held_jobs.specs.Moves.{again_job, back_facts, told}
+use Rattle.held_jobs.specs.Books.{job_at, with_job}
+use Rattle.held_jobs.specs.Turns.{is_ended}
+use Rattle.held_jobs.specs.Shown.{see_job}
+use Rattle.account.specs.declared.entry.Progress.{Progress}
+use Rattle.account.specs.declared.entry.Progress.TheVariants.{Going, Done, Ended}
+use Rattle.account.specs.declared.entry.Sheet.{Sheet as SheetOut}
+use Rattle.account.specs.Seen.{progress_seen}
+use Rattle.config_values.specs.Config.{IsPrinter, queue_of}
+use Rattle.config_values.specs.Ranges.{IsConfig}
+use Rattle.spool_history.specs.Base.{Base}
+use Rattle.spool_history.specs.Events as E
+use Rattle.spool_history.specs.Events.{Event, Sheet, Turn}
+use Rattle.spool_history.specs.Events.Turn.{Failed, Printed}
+use Rattle.spool_history.specs.Events.Event.{AtPrinter}
+use Rattle.spool_history.specs.Now as N
+use Rattle.spool_history.specs.Now.{Job, State, is_held, is_received, pages_held, places, row_of}
+use Rattle.spool_history.specs.Next.{no_printer, printer_at}
+use Rattle.spool_history.specs.Steps.{printer_turned, printers_after, turned}
+use Rattle.spool_history.specs.Legal.{HasJob, May, progress_of}
+use Rattle.spool_laws.specs.Sums.{chained_of}
+use Rattle.spool_laws.proofs.Known.{Has}
+use Rattle.spool_laws.proofs.Apart.{each_has_a_place}
+use Rattle.spool_moves.specs.Standing.{no_job}
+use Rattle.spool_moves.proofs.Standing.{Stands, has_get, has_job}
+use Rattle.spool_moves.proofs.Moving.{turn_gone, turn_set}
+use Rattle.spool_moves.proofs.Holding.{back_within, handed_within, held_counts, one_is_out, received_unlent}
+use Rattle.spool_moves.proofs.Files.{job_names_differ}
+use Rattle.spool_moves.proofs.Claimed.{row_here}
+use Rattle.spool_moves.proofs.Out.{OutOf, out_here, out_job}
+use Rattle.job_moves.proofs.Ties.{prints}
+use Rattle.job_moves.proofs.Stored.{stored}
+use Rattle.job_moves.proofs.Facts.{is_done}
+use Rattle.job_moves.proofs.Awaiting.{awaits_last}
+use Rattle.job_moves.proofs.Printing.{ties_again, ties_back}
+use Rattle.core_rows.proofs.Tables.{WithoutRow}
+use Rattle.core_rows.proofs.Printing.{again, again_chain, again_leaves, going_held, is_out_of, last_chain, last_leaves, out_holds}
+use Rattle.core_rows.proofs.Printing as R
+use Rattle.core_rows.proofs.Ending.{back_ended_gone, back_gone}
+use Rattle.spool_calls.specs.declared.printer.Printer.{Printer}
+use Rattle.spool_calls.specs.declared.handed.HandedPage.{HandedPage}
+use Rattle.spool_calls.specs.Looks.{Detail, What, outline_of, size}
+use Rattle.spool_calls.specs.Kept.{Kept, Leaves, kept_out, kept_printer, kept_sheet, last_of, left_by, look, phase_of, shown_job, spots}
+use Rattle.spool_calls.specs.Calls.{Fails, IsOut, Prints}
+use Rattle.core_steps.proofs.Leaving.{Found, closed_free, jobs_left, leaves_out, leaves_set, none_has, one_stored, pool_even, row_stands, standing, tie}
+use Rattle.core_steps.proofs.Phases.{facts_tie, phase_tie}
+use Rattle.core_steps.proofs.Printers.{printer_seen, printer_there, printers_set}
+use Rattle.core_steps.proofs.Ranges.{some_counted}
+use Rattle.core_steps.proofs.Handing.{handed_few}
+
+-- what is said of a job when a page of it was printed
+abbrev pub said_of : HeldJob → Progress
+said_of j = cond (is_ended j.facts.phase) Ended (cond (length j.chain.places == 0) Done Going)
+
+-- the page is the one that is out
+abbrev pub IsOutOf : Option SheetOut → HandedPage → ℕ → Type 0
+IsOutOf None page page_size = ⊥
+IsOutOf (Some s) page page_size =
+    (page.job ≡ s.job) × (page.place ≡ s.place) × (outline_of page.page.octets ≡ s.page) × (page.page.page_size ≡ page_size)
+
+-- the printer once its page came back
+abbrev pub idle_printer : Printer → Printer
+idle_printer at = record { queue = at.queue; out = None; began = at.began; stopped = at.stopped }
+
+-- what is kept once a page came back that comes no more
+abbrev pub back_core : Kept → (p i : ℕ) → Printer → Kept
+back_core k p i at = record k {
+  pool = record k.pool { free = k.pool.free + 1 };
+  book = with_job k.book i (told back_facts (job_at k.book i));
+  table = given_back k.table i 0 1;
+  printers = set k.printers (p - 1) (idle_printer at);
+}
+
+-- and where it comes again
+abbrev pub again_core : Kept → (p i : ℕ) → Printer → HandedPage → Kept
+again_core k p i at page = record k {
+  book = record (with_job k.book i (again_job page.page (job_at k.book i))) { stored = k.book.stored + 1 };
+  printers = set k.printers (p - 1) (idle_printer at);
+}
+
+-- and where its job is held no more
+abbrev pub gone_core : Kept → ℕ → List Printer → Kept
+gone_core k i printers = record k {
+  pool = record k.pool { free = k.pool.free + length (every_page (job_at k.book i).chain.files) + 1 };
+  book = record k.book { jobs = remove k.book.jobs i; stored = k.book.stored - length (every_page (job_at k.book i).chain.files) };
+  table = closed k.table i;
+  printers = printers;
+}
+
+ended_by : {C : Type 0} (x : Job C) (e r : Bool) → x.ended ≡ e → is_received x ≡ r → is_ended (phase_of x) ≡ x.ended
+ended_by x true r ee er = rw ee refl
+ended_by x false true ee er = rw (ee, er) refl
+ended_by x false false ee er = rw (ee, er) refl
+
+said_by : (e d d' : Bool) → (e ≡ false → d' ≡ d) → progress_seen (cond e Ended (cond d Done Going)) ≡ cond e E.Progress.Ended (cond d' E.Progress.Done E.Progress.Going)
+said_by true d d' same = refl
+said_by false true d' same = (let s : d' ≡ true = same refl in sym (ap (λ (b : Bool). cond b E.Progress.Done E.Progress.Going) s))
+said_by false false d' same = (let s : d' ≡ false = same refl in sym (ap (λ (b : Bool). cond b E.Progress.Done E.Progress.Going) s))
+
+going_by : (e d : Bool) → cond e Ended (cond d Done Going) ≡ Going → e ≡ false
+going_by true d s = absurd cc
+going_by false d s = refl
+
+first_of : {X : Type 0} (n : ℕ) (xs later : List X) (x : X) → drop n xs ≡ x ∷ later → slice_get xs n ≡ Some x
+first_of zero [] later x e = absurd cc
+first_of zero (y ∷ xs) later x e = cc
+first_of (suc n) [] later x e = absurd cc
+first_of (suc n) (y ∷ xs) later x e = first_of n xs later x e
+
+behind : {X : Type 0} (xs : List X) (d : X) (n : ℕ) → 1 ≤ n → get_or (d ∷ xs) n d ≡ get_or xs (n - 1) d
+behind xs d zero le = absurd (omega arith)
+behind xs d (suc n) le = (let e : suc n - 1 ≡ n = omega arith in ap (λ (m : ℕ). get_or xs m d) (sym e))
+
+module _ (d : Detail) (b : Base) (h : List (Event (What d))) (k : Kept) (l : Leaves d b h k) (p : ℕ) (ip : IsPrinter k.config p) (at : Printer) (ia : at ≡ get_or k.printers (p - 1) at) (page : HandedPage) where
+  abbrev v : State (What d)
+  v = left_by d b h k
+
+  seen : at ≡ kept_printer d (printer_at v p)
+  seen = printer_seen d b h k l p at ip ia
+
+  -- the sheet that is out
+  pub record OutSheet : Type 0 where
+    pub sheet : Sheet (What d)
+    pub is : IsOut d b h k p page sheet
+
+  out_by : (o : Option (Sheet (What d))) → (printer_at v p).out ≡ o → IsOutOf (kept_out d o) page k.config.page_size → OutSheet
+  out_by None e i = absurd i
+  out_by (Some s) e i = record { sheet = s; is = (e, i.0, i.1, i.2, i.3) }
+
+  pub out_sheet : IsOutOf at.out page k.config.page_size → OutSheet
+  out_sheet i = out_by (printer_at v p).out refl (subst (λ (a : Printer). IsOutOf a.out page k.config.page_size) seen i)
+
+  not_out_by : (o : Option (Sheet (What d))) (sheet : Sheet (What d)) → (printer_at v p).out ≡ o → IsOut d b h k p page sheet → IsOutOf (kept_out d o) page k.config.page_size
+  not_out_by None sheet e i = (let t : None ≡ Some sheet = sym e ∙ i.0 in absurd cc)
+  not_out_by (Some s) sheet e i =
+      let t : Some sheet ≡ Some s = sym i.0 ∙ e in
+      let same : sheet ≡ s = cc in
+      subst (λ (z : Sheet (What d)). IsOutOf (Some (kept_sheet d z)) page k.config.page_size) same (i.1, i.2, i.3, i.4)
+
+  -- where it isn't the one that is out, no sheet is
+  pub foreign : (IsOutOf at.out page k.config.page_size → ⊥) → (sheet : Sheet (What d)) → IsOut d b h k p page sheet → ⊥
+  foreign never sheet i = never (subst (λ (a : Printer). IsOutOf a.out page k.config.page_size) (sym seen) (not_out_by (printer_at v p).out sheet refl i))
+
+  -- the job of the page that is out is held
+  pub job_there : IsOutOf at.out page k.config.page_size → All (λ (j : HeldJob). j.facts.number ≢ page.job) k.book.jobs → ⊥
+  job_there i none =
+      let o = out_sheet i in
+      let P : Job (What d) → Type 0 = OutOf (queue_of k.config p) o.sheet in
+      let m = out_job (size d) k.config b h p o.sheet l.legal ip o.is.0 in
+      none_has d b h k page.job P l none (subst (λ (n : ℕ). HasJob v.jobs n P) (sym o.is.1) m)
+
+  -- the printer that its page left
+  pub printer_back : (sheet : Sheet (What d)) (progress : E.Progress) → set k.printers (p - 1) (idle_printer at) ≡ map (kept_printer d) (printers_after (AtPrinter p sheet (Printed progress)) v)
+  printer_back sheet progress =
+      ap (λ (a : Printer). set k.printers (p - 1) (idle_printer a)) seen ∙ printers_set d b h k l p (printer_turned sheet (Printed progress) (printer_at v p))
+
+  module _ (out : IsOutOf at.out page k.config.page_size) (i : ℕ) (f : Found k page.job i) where
+    o : OutSheet
+    o = out_sheet out
+
+    abbrev x : Job (What d)
+    x = get_or v.jobs i no_job
+
+    abbrev j : HeldJob
+    j = job_at k.book i
+
+    s : Stands v.jobs i o.sheet.job
+    s = (let t = standing d b h k page.job i l f in record { there = t.there; number' = t.number' ∙ o.is.1 })
+
+    has : Has x v.jobs
+    has = has_get v.jobs i no_job s.there
+
+    ties : see_job (look d) j ≡ shown_job k.config x
+    ties = tie d b h k i l f.there
+
+    of : OutOf (queue_of k.config p) o.sheet x
+    of = out_here (size d) k.config b h i p o.sheet l.legal ip o.is.0 s
+
+    unlent : x.lent ≡ false
+    unlent = received_unlent (size d) k.config b h x l.legal has of.received
+
+    -- so many pages are in its chain
+    pub out_chain : length (every_page j.chain.files) ≡ chained_of x
+    out_chain =
+        stored (look d) k.config j x (back_within (size d) k.config b h x l.legal has) (one_is_out (size d) k.config b h x l.legal has) (handed_within (size d) k.config b h x l.legal has) ties
+
+    -- and it holds one more
+    pub out_held : pages_held x ≡ chained_of x + 1
+    out_held =
+        let c = held_counts (size d) k.config b h x l.legal has in
+        let count : Bool → ℕ = (λ q. cond q 1 0) in
+        let u : count x.lent ≡ 0 = ap count unlent in
+        let e = of.handed in
+        omega (arith, c, u, e)
+
+    -- a printer has a page
+    one_out : 0 < Rattle.spool_laws.specs.Sums.at_printers v
+    one_out =
+        let n = printer_there d b h k l p ip in
+        let m : length k.printers ≡ length v.printers = ap length l.kept.printers ∙ length-map v.printers (kept_printer d) in
+        let e : is_some (get_or v.printers (p - 1) no_printer).out ≡ true =
+        ap (λ (q : N.Printer (What d)). is_some q.out) (sym (behind v.printers no_printer p ip.0)) ∙ ap (λ (q : Option (Sheet (What d))). is_some q) o.is.0 in
+        some_counted (λ (q : N.Printer (What d)). is_some q.out) v.printers (p - 1) no_printer (omega (arith, n, m)) e
+
+    -- there is room in the book for it
+    pub room_stored : k.book.stored < k.book.pages
+    room_stored =
+        let all = each_has_a_place (size d) k.config b h l.legal in
+        let one = one_out in
+        let n = l.kept.book.stored in
+        let m = l.kept.book.pages in
+        omega (arith, all, one, n, m)
+
+    -- and in the pool, with those of its chain
+    pub room_free : k.pool.free + length (every_page j.chain.files) + 1 ≤ k.pool.pages
+    room_free =
+        let all = each_has_a_place (size d) k.config b h l.legal in
+        let one = one_out in
+        let within = one_stored d b h k i l s.there in
+        let c = out_chain in
+        let e = l.kept.book.stored in
+        let n : k.pool.free ≡ N.free_pages v = ap (λ (q : Pages). q.free) l.kept.pool in
+        let m : k.pool.pages ≡ k.config.pages = ap (λ (q : Pages). q.pages) l.kept.pool in
+        omega (arith, all, one, within, c, e, n, m)
+
+    pub back_few : IsConfig k.config → j.facts.back + 1 < 18446744073709551616
+    back_few ranges =
+        let n = handed_few d b h k x ranges l has in
+        let e : j.facts.back ≡ x.back = ap (λ (g : Facts). g.back) (facts_tie (look d) k.config j x ties) in
+        let m = of.handed in
+        omega (arith, n, e, m)
+
+    -- what is said of it
+
+    within : x.handed ≤ length (places x)
+    within = handed_within (size d) k.config b h x l.legal has
+
+    ended_same : is_ended j.facts.phase ≡ x.ended
+    ended_same = ap is_ended (phase_tie (look d) k.config j x ties) ∙ ended_by x x.ended (is_received x) refl refl
+
+    pub said_is : progress_seen (said_of j) ≡ progress_of x
+    said_is =
+        ap (λ (e : Bool). progress_seen (cond e Ended (cond (length j.chain.places == 0) Done Going))) ended_same
+        ∙ said_by x.ended (length j.chain.places == 0) (x.back + 1 == length (places x)) (λ e. is_done (look d) k.config j x (e, of.received) of.handed within ties)
+
+    goes_on : said_of j ≡ Going → x.ended ≡ false
+    goes_on e = sym ended_same ∙ going_by (is_ended j.facts.phase) (length j.chain.places == 0) e
+
+    has_said : (said : Progress) → said_of j ≡ said → HasJob v.jobs o.sheet.job (λ (job : Job (What d)). progress_seen said ≡ progress_of job)
+    has_said said e = has_job v i o.sheet.job (λ (job : Job (What d)). progress_seen said ≡ progress_of job) s (ap progress_seen (sym e) ∙ said_is)
+
+    -- whether the page comes again
+    again_same : (g : x.ended ≡ false) → comes_again j.chain.places j.chain.last ≡ again x
+    again_same g =
+        let a = prints (look d) k.config j x g of.received ties in
+        let one : x.handed ≡ suc x.back = (let e = of.handed in omega (arith, e)) in
+        let last : j.chain.last ≡ slice_get (spots x) x.back = a.last ∙ ap (last_of (spots x)) one in
+        ap (λ (ps : List Place). comes_again ps j.chain.last) a.places ∙ ap (comes_again (drop x.handed (spots x))) last
+
+    pub back_awaited : said_of j ≡ Going → comes_again j.chain.places j.chain.last ≡ true → AwaitsLast j.chain
+    back_awaited e g = awaits_last (look d) k.config j x (goes_on e, of.received) of.handed (job_names_differ (size d) k.config b h x l.legal has) g ties
+
+    pub back_held : said_of j ≡ Going → 1 ≤ amount (row_at k.table.rows i).held 0
+    back_held e =
+        let n = out_holds k.config x (is_out_of (queue_of k.config p) o.sheet x of (goes_on e)) in
+        let m : amount (row_at k.table.rows i).held 0 ≡ amount (row_of k.config x).held 0 = ap (λ (row : Row). amount row.held 0) (row_here k.table v i l.kept.table s.there) in
+        omega (arith, n, m)
+
+    -- where it leaves the core
+
+    may : (said : Progress) → said_of j ≡ said → May (size d) v (AtPrinter p o.sheet (Printed (progress_seen said)))
+    may said e = (ip, (o.is.0, has_said said e))
+
+    -- its page is taken back, and comes no more
+    pub prints_last : said_of j ≡ Going → comes_again j.chain.places j.chain.last ≡ false → Prints d b h k p page (back_core k p i at) (Ok Going)
+    prints_last said none =
+        let g = goes_on said in
+        let e : Event (What d) = AtPrinter p o.sheet (Printed E.Progress.Going) in
+        let y : Job (What d) = turned (Printed E.Progress.Going) x in
+        let out' : R.IsOut x = is_out_of (queue_of k.config p) o.sheet x of g in
+        let a : again x ≡ false = sym (again_same g) ∙ none in
+        let w = last_leaves k.config k.table i x (row_stands d b h k i l s.there) out' a in
+        let c = last_chain x out' a in
+        let many : k.book.stored + chained_of x ≡ k.book.stored + chained_of y = omega (arith, c) in
+        let even = pool_even d b h k l in
+        let left : k.pool.free + 1 ≡ amount (given_back k.table i 0 1).free 0 = (let f = w.free in omega (arith, f, even)) in (
+          o.sheet,
+          o.is,
+          has_said Going said,
+          λ came.
+              leaves_set d b h k e i k.book.stored y (told back_facts j) (record k.pool { free = k.pool.free + 1 }) (given_back k.table i 0 1) (set k.printers (p - 1) (idle_printer at)) l (may Going said)
+              (jobs_left v e (set v.jobs i y) (turn_set (size d) k.config b h i p o.sheet (Printed E.Progress.Going) l.legal s (going_held x (of.received, g))) refl) s.there refl refl
+              (ties_back (look d) k.config j x (g, of.received) of.handed none ties) many w.table w.rows w.capacity w.room
+              (ap (λ (m : ℕ). record k.pool { free = m }) left) (printer_back o.sheet E.Progress.Going),
+        )
+
+    -- it comes again: its chain has it back
+    pub prints_again : said_of j ≡ Going → comes_again j.chain.places j.chain.last ≡ true → Prints d b h k p page (again_core k p i at page) (Ok Going)
+    prints_again said comes =
+        let g = goes_on said in
+        let e : Event (What d) = AtPrinter p o.sheet (Printed E.Progress.Going) in
+        let y : Job (What d) = turned (Printed E.Progress.Going) x in
+        let out' : R.IsOut x = is_out_of (queue_of k.config p) o.sheet x of g in
+        let a : again x ≡ true = sym (again_same g) ∙ comes in
+        let w = again_leaves k.config k.table i x (row_stands d b h k i l s.there) out' a in
+        let c = again_chain x out' a in
+        let many : (k.book.stored + 1) + chained_of x ≡ k.book.stored + chained_of y = omega (arith, c) in
+        let sheet_page : o.sheet.page ≡ of.page.page = ap (λ (z : Sheet (What d)). z.page) of.is in (
+          o.sheet,
+          o.is,
+          has_said Going said,
+          λ came.
+              leaves_set d b h k e i (k.book.stored + 1) y (again_job page.page j) k.pool k.table (set k.printers (p - 1) (idle_printer at)) l (may Going said)
+              (jobs_left v e (set v.jobs i y) (turn_set (size d) k.config b h i p o.sheet (Printed E.Progress.Going) l.legal s (going_held x (of.received, g))) refl) s.there refl refl
+              (ties_again (look d) k.config j x page.page of.page (g, of.received) of.handed comes (first_of x.back (places x) of.later of.page of.left) (came ∙ sheet_page) ties)
+              many w.table w.rows w.capacity w.room
+              (ap (λ (m : ℕ). record k.pool { free = m }) (pool_even d b h k l)) (printer_back o.sheet E.Progress.Going),
+        )
+
+    -- its job is held no more
+    gone_leaves : (turn : Turn) (printers : List Printer) → is_held (turned turn x) ≡ false → May (size d) v (AtPrinter p o.sheet turn) → printers ≡ map (kept_printer d) (printers_after (AtPrinter p o.sheet turn) v)
+        → Leaves d b (AtPrinter p o.sheet turn ∷ h) (gone_core k i printers)
+    gone_leaves turn printers gone m ps =
+        let e : Event (What d) = AtPrinter p o.sheet turn in
+        let n : ℕ = length (every_page j.chain.files) in
+        let c = out_chain in
+        let held = out_held in
+        let within = one_stored d b h k i l s.there in
+        let free : k.pool.free + pages_held x ≡ k.pool.free + n + 1 = omega (arith, c, held) in
+        leaves_out d b h k e i (k.book.stored - n) (k.pool.free + n + 1) (closed k.table i) printers l m
+        (jobs_left v e (remove v.jobs i) (turn_gone (size d) k.config b h i p o.sheet turn l.legal s gone) refl) s.there refl refl
+        (omega (arith, within, c)) (subst (λ (q : ℕ). WithoutRow k.table (closed k.table i) i q) free (closed_free d b h k i l s.there)) ps
+
+    done_ended : (e t : Bool) → cond e Ended (cond t Done Going) ≡ Ended → e ≡ true
+    done_ended true t q = refl
+    done_ended false true q = absurd cc
+    done_ended false false q = absurd cc
+
+    gone_by : (said : Progress) → said_of j ≡ said → (said ≡ Going → ⊥) → is_held (turned (Printed (progress_seen said)) x) ≡ false
+    gone_by Going e never = absurd (never refl)
+    gone_by Done e never = back_gone x unlent of.handed
+    gone_by Ended e never =
+        back_ended_gone x (sym ended_same ∙ done_ended (is_ended j.facts.phase) (length j.chain.places == 0) e) unlent of.handed
+
+    pub prints_gone : (said : Progress) → said_of j ≡ said → (said ≡ Going → ⊥) → Prints d b h k p page (gone_core k i (set k.printers (p - 1) (idle_printer at))) (Ok said)
+    prints_gone said e never =
+        (o.sheet, o.is, has_said said e, λ came. gone_leaves (Printed (progress_seen said)) (set k.printers (p - 1) (idle_printer at)) (gone_by said e never) (may said e) (printer_back o.sheet (progress_seen said)))
+
+    -- it failed: its job ends, and the printer stops
+    pub fails_gone : Fails d b h k p page (gone_core k i (set k.printers (p - 1) (record { queue = at.queue; out = None; began = at.began; stopped = true }))) (Ok tt)
+    fails_gone = (
+      o.sheet,
+      o.is,
+      gone_leaves Failed (set k.printers (p - 1) (record { queue = at.queue; out = None; began = at.began; stopped = true })) (back_gone x unlent of.handed) (ip, o.is.0)
+          (ap (λ (a : Printer). set k.printers (p - 1) (record { queue = a.queue; out = None; began = a.began; stopped = true })) seen ∙ printers_set d b h k l p (printer_turned o.sheet Failed (printer_at v p))),
+    )

@@ -1,0 +1,89 @@
+-- The spool is closed, jobs are removed, and a history is put away.
+use Rattle.std.proofs.Common.{inl, inr, ◌≡◌, ◌==◌, ℕ, Bool, true, false, cond, List, [], ◌∷◌, length, map, refl, sym, ◌∙◌, ap, subst, arith}
+use Rattle.std.specs.Prelude.{None, count_by}
+use Rattle.std.specs.List.{list_any}
+use Rattle.std.proofs.lemmas.List.{nil_from_length}
+use Rattle.spool_history.specs.Base.{Base}
+use Rattle.spool_history.specs.Events.{Event}
+use Rattle.spool_history.specs.Events.Event.{Removed, Closed}
+use Rattle.spool_history.specs.Legal.{May}
+use Rattle.spool_history.specs.Now as N
+use Rattle.spool_history.specs.Now.{State, now}
+use Rattle.spool_history.specs.Rotated.{rotated}
+use Rattle.spool_laws.specs.Rotating.{recounted}
+use Rattle.spool_laws.proofs.Adding.{sum_map}
+use Rattle.spool_laws.proofs.Rotated.{keeps}
+use Rattle.spool_calls.specs.declared.printer.Printer.{Printer}
+use Rattle.spool_calls.specs.Looks.{Detail, What, size}
+use Rattle.spool_calls.specs.Kept.{Kept, IsKeptOf, Leaves, left_by, kept_printer}
+use Rattle.spool_calls.specs.Calls.{Closes, Rotates}
+use Rattle.core_steps.proofs.Leaving.{jobs_len}
+use Rattle.core_steps.proofs.Stocks.{Stock}
+use Rattle.core_steps.proofs.EndingMany.{EndsTo, leaves_ended, stock_of}
+
+-- every job ends
+abbrev pub all_end : ℕ → Bool
+all_end n = true
+
+-- the jobs of these numbers end
+abbrev pub listed : List ℕ → ℕ → Bool
+listed numbers n = list_any (λ k. k == n) numbers
+
+-- what is kept with another stock
+abbrev pub with_stock : Kept → Stock → Kept
+with_stock k t = record k { pool = t.pool; book = t.book; table = t.table }
+
+module _ (d : Detail) (b : Base) (h : List (Event (What d))) (k : Kept) (l : Leaves d b h k) where
+  pub close_twice : k.closed ≡ true → Closes d b h k k
+  close_twice e = inr (sym l.kept.closed ∙ e, refl)
+
+  pub close_leaves : (t : Stock) → k.closed ≡ false → EndsTo all_end (stock_of k) t → Leaves d b (Closed ∷ h) (record (with_stock k t) { closed = true })
+  close_leaves t e to = leaves_ended d b h k Closed all_end t k.printers true l (sym l.kept.closed ∙ e) refl (λ x. refl) l.kept.printers refl to
+
+  pub close_done : (t : Stock) → k.closed ≡ false → EndsTo all_end (stock_of k) t → Closes d b h k (record (with_stock k t) { closed = true })
+  close_done t e to = inl (sym l.kept.closed ∙ e, close_leaves t e to)
+
+  -- where jobs of a queue may be removed, that leaves the core with these ended
+  pub removed_leaves : (q : ℕ) (numbers : List ℕ) (t : Stock) → May (size d) (left_by d b h k) (Removed q numbers) → EndsTo (listed numbers) (stock_of k) t → Leaves d b (Removed q numbers ∷ h) (with_stock k t)
+  removed_leaves q numbers t may to = leaves_ended d b h k (Removed q numbers) (listed numbers) t k.printers k.closed l may refl (λ x. refl) l.kept.printers l.kept.closed to
+
+-- a printer that began no job
+abbrev pub with_none : Printer → Printer
+with_none p = record p { began = None }
+
+-- how many of these printers are stopped
+abbrev pub stopped_among : List Printer → ℕ
+stopped_among printers = count_by (λ (p : Printer). p.stopped) printers
+
+-- what is kept once the history is put away
+abbrev pub rotated_core : Kept → Kept
+rotated_core k = record k { reserved = stopped_among k.printers; printers = map with_none k.printers }
+
+map_both : {X Y Z : Type 0} (f : X → Y) (g : Y → Z) (xs : List X) → map g (map f xs) ≡ map (λ x. g (f x)) xs
+map_both f g [] = refl
+map_both {X} {Y} {Z} f g (x ∷ xs) = ap (λ (l : List Z). g (f x) ∷ l) (map_both f g xs)
+
+pub rotate_done : (d : Detail) (b : Base) (h : List (Event (What d))) (k : Kept) → Leaves d b h k → k.book.jobs ≡ [] → Rotates d b h k (rotated_core k)
+rotate_done d b h k l none =
+    let c = k.config in
+    let v = left_by d b h k in
+    let n = jobs_len d b h k l in
+    let z = ap length none in
+    let jobs : v.jobs ≡ [] = nil_from_length v.jobs (omega (arith, n, z)) in
+    let same : now c (rotated v) [] ≡ recounted v = keeps (size d) c b h l.legal jobs in
+    let is = l.kept in
+    let forget : N.Printer (What d) → N.Printer (What d) = λ p. record p { began = None } in
+    let count : stopped_among k.printers ≡ (recounted v).reserved =
+    ap stopped_among is.printers ∙ sum_map (λ (p : Printer). cond p.stopped 1 0) (kept_printer d) v.printers in
+    let printers : map with_none k.printers ≡ map (kept_printer d) (map forget v.printers) =
+    ap (map with_none) is.printers ∙ (map_both (kept_printer d) with_none v.printers ∙ sym (map_both forget (kept_printer d) v.printers)) in
+    let kept : IsKeptOf d (recounted v) (rotated_core k) = record {
+      book = record { jobs = is.book.jobs; stored = is.book.stored; max_jobs = is.book.max_jobs; pages = is.book.pages; page_size = is.book.page_size };
+      table = record { table = is.table.table; rows = is.table.rows; capacity = is.table.capacity; room = is.table.room };
+      pool = is.pool;
+      accepted = is.accepted;
+      reserved = count;
+      printers = printers;
+      closed = is.closed;
+    } in
+    record { legal = tt; kept = subst (λ (u : State (What d)). IsKeptOf d u (rotated_core k)) (sym same) kept }

@@ -1,0 +1,273 @@
+-- Many jobs end, from the last place down to the first.
+use Rattle.std.proofs.Common.{◌≡◌, ℕ, ◌+◌, ◌-◌, ◌<◌, ◌≤◌, Bool, true, false, List, [], ◌∷◌, ◌++◌, length, get_or, set, take, drop, map, refl, sym, ◌∙◌, ap, subst, arith}
+use Rattle.std.specs.Prelude.{cond, filter, remove, sum_by}
+use Rattle.std.proofs.lemmas.List.{append-nil, append_assoc, drop_all, drop_more, get_or_at, length-take-le, length-map, set_at, take_all, take_more}
+use Rattle.page_pool.specs.Page.{Pages}
+use Rattle.counts.specs.Amounts.{amount}
+use Rattle.held_jobs.specs.Books.{job_at}
+use Rattle.held_jobs.specs.Shown.{ShownJob, see_job}
+use Rattle.spool_history.specs.Base.{Base}
+use Rattle.spool_history.specs.Events.{Event}
+use Rattle.spool_history.specs.Now.{Job, State, is_held, row_of}
+use Rattle.spool_history.specs.Steps.{after, change, accepted_by, printers_after, closed_after}
+use Rattle.spool_history.specs.Legal.{May}
+use Rattle.spool_laws.specs.Sums.{chained_of}
+use Rattle.spool_laws.proofs.Known.{Has, filter_cons}
+use Rattle.spool_moves.specs.Standing.{no_job}
+use Rattle.spool_moves.specs.Claimed.{IsTableOf}
+use Rattle.spool_moves.proofs.Standing.{has_get, none_changed}
+use Rattle.spool_moves.proofs.Claimed.{table_free}
+use Rattle.spool_calls.specs.declared.printer.Printer.{Printer}
+use Rattle.spool_calls.specs.Looks.{Detail, What, size}
+use Rattle.spool_calls.specs.Kept.{Kept, IsBookOf, Leaves, left_by, look, shown_job, kept_printer}
+use Rattle.core_steps.proofs.Leaving.{accepted_same, jobs_left, leaves_with, reserved_same}
+use Rattle.core_steps.proofs.Stocks.{CanEnd, IsStockOf, MayEnd, Stock, can_end, end_place, ended_job, may_end, one_ends, stock_after, tie_at, with_jobs}
+
+-- a job ends where the test says yes to its number
+abbrev pub marked : {C : Type 0} → (ℕ → Bool) → Job C → Job C
+marked ends x = cond (ends x.number) (record x { ended = true }) x
+
+-- these jobs, once those end; the ones of which no page is out go
+abbrev pub left_when : {C : Type 0} → (ℕ → Bool) → List (Job C) → List (Job C)
+left_when ends jobs = filter is_held (map (marked ends) jobs)
+
+-- the same, where only those from a place on have ended yet
+abbrev pub partly : {C : Type 0} → (ℕ → Bool) → List (Job C) → ℕ → List (Job C)
+partly ends jobs i = take i jobs ++ left_when ends (drop i jobs)
+
+-- each of these jobs may end
+abbrev pub AllMayEnd : {C : Type 0} → State C → Type 0
+AllMayEnd {C} v = (x : Job C) → Has x v.jobs → MayEnd v.config x
+
+-- the stock is what is kept of some state
+abbrev pub IsStocked : Stock → Type 0
+IsStocked s = (d : Detail) × (v : State (What d)) × AllMayEnd v × IsStockOf d v s
+
+-- of whatever state a stock is kept, the other is kept of that state with the chosen jobs ended from a place on
+abbrev pub EndsFrom : (ℕ → Bool) → ℕ → Stock → Stock → Type 0
+EndsFrom ends i s t =
+    (d : Detail) (v : State (What d)) → AllMayEnd v → IsStockOf d v s → IsStockOf d (with_jobs v (partly ends v.jobs i)) t
+
+-- and with all chosen jobs ended
+abbrev pub EndsTo : (ℕ → Bool) → Stock → Stock → Type 0
+EndsTo ends s t = (d : Detail) (v : State (What d)) → AllMayEnd v → IsStockOf d v s → IsStockOf d (with_jobs v (left_when ends v.jobs)) t
+
+remove_at : {X : Type 0} (p : List X) (y : X) (ys : List X) → remove (p ++ y ∷ ys) (length p) ≡ p ++ ys
+remove_at [] y ys = refl
+remove_at {X} (x ∷ p) y ys = ap (λ (l : List X). x ∷ l) (remove_at p y ys)
+
+module _ {C : Type 0} (ends : ℕ → Bool) (jobs : List (Job C)) (i : ℕ) (lt : i < length jobs) where
+  abbrev x : Job C
+  x = get_or jobs i no_job
+
+  abbrev first : List (Job C)
+  first = take i jobs
+
+  abbrev rest : List (Job C)
+  rest = left_when ends (drop (i + 1) jobs)
+
+  len : length first ≡ i
+  len = length-take-le i jobs (omega (arith, lt))
+
+  -- the job of the place stands there still
+  split : partly ends jobs (i + 1) ≡ first ++ x ∷ rest
+  split = ap (λ (l : List (Job C)). l ++ rest) (take_more jobs i no_job lt) ∙ append_assoc first (x ∷ []) rest
+
+  pub stands : get_or (partly ends jobs (i + 1)) i no_job ≡ x
+  stands = ap (λ (l : List (Job C)). get_or l i no_job) split ∙ get_or_at first x rest no_job i len
+
+  pub many : i < length (partly ends jobs (i + 1))
+  many =
+      let a = ap length split in
+      let b = Rattle.std.proofs.lemmas.List.length-append first (x ∷ rest) in
+      let c = len in
+      omega (arith, a, b, c)
+
+  next : partly ends jobs i ≡ first ++ filter is_held (marked ends x ∷ map (marked ends) (drop (i + 1) jobs))
+  next = ap (λ (l : List (Job C)). first ++ left_when ends l) (drop_more jobs i no_job lt)
+
+  -- where it isn't chosen nothing changes
+  pub unchosen : is_held x ≡ true → ends x.number ≡ false → partly ends jobs (i + 1) ≡ partly ends jobs i
+  unchosen h e =
+      let same : marked ends x ≡ x = ap (λ (b : Bool). cond b (record x { ended = true }) x) e in
+      split ∙ (ap (λ (l : List (Job C)). first ++ l) (sym (ap (λ (y : Job C). filter is_held (y ∷ map (marked ends) (drop (i + 1) jobs))) same ∙ filter_cons true x (map (marked ends) (drop (i + 1) jobs)) h)) ∙ sym next)
+
+  -- where it is chosen it ends
+  pub chosen : ends x.number ≡ true → end_place (partly ends jobs (i + 1)) i ≡ partly ends jobs i
+  chosen e =
+      ap (λ (l : List (Job C)). end_place l i) split
+      ∙ (ap (λ (y : Job C). cond (is_held (ended_job y)) (set (first ++ x ∷ rest) i (ended_job y)) (remove (first ++ x ∷ rest) i)) (get_or_at first x rest no_job i len)
+      ∙ (by (is_held (ended_job x)) refl ∙ sym (next ∙ ap (λ (y : Job C). first ++ filter is_held (y ∷ map (marked ends) (drop (i + 1) jobs))) same)))
+    where
+      same : marked ends x ≡ ended_job x
+      same = ap (λ (b : Bool). cond b (record x { ended = true }) x) e
+
+      out : remove (first ++ x ∷ rest) i ≡ first ++ rest
+      out = ap (remove (first ++ x ∷ rest)) (sym len) ∙ remove_at first x rest
+
+      by : (b : Bool) → is_held (ended_job x) ≡ b
+          → cond (is_held (ended_job x)) (set (first ++ x ∷ rest) i (ended_job x)) (remove (first ++ x ∷ rest) i) ≡ first ++ filter is_held (ended_job x ∷ map (marked ends) (drop (i + 1) jobs))
+      by true h =
+          ap (λ (b : Bool). cond b (set (first ++ x ∷ rest) i (ended_job x)) (remove (first ++ x ∷ rest) i)) h
+          ∙ (set_at first x rest (ended_job x) i len ∙ ap (λ (l : List (Job C)). first ++ l) (sym (filter_cons true (ended_job x) (map (marked ends) (drop (i + 1) jobs)) h)))
+      by false h =
+          ap (λ (b : Bool). cond b (set (first ++ x ∷ rest) i (ended_job x)) (remove (first ++ x ∷ rest) i)) h
+          ∙ (out ∙ ap (λ (l : List (Job C)). first ++ l) (sym (filter_cons false (ended_job x) (map (marked ends) (drop (i + 1) jobs)) h)))
+
+-- before the first step nothing has ended
+pub ends_none : (ends : ℕ → Bool) (s : Stock) (n : ℕ) → n ≡ length s.book.jobs → EndsFrom ends n s s
+ends_none ends s n e d v all is =
+    let a = length-map s.book.jobs (see_job (look d)) in
+    let b = ap length is.book.jobs in
+    let c = length-map v.jobs (shown_job v.config) in
+    let le : length v.jobs ≤ n = omega (arith, a, b, c, e) in
+    let jobs : partly ends v.jobs n ≡ v.jobs =
+    ap (λ (l : List (Job (What d))). l ++ left_when ends (drop n v.jobs)) (take_all n v.jobs le)
+    ∙ (ap (λ (l : List (Job (What d))). v.jobs ++ left_when ends l) (drop_all n v.jobs le) ∙ append-nil v.jobs) in
+    subst (λ (l : List (Job (What d))). IsStockOf d (with_jobs v l) s) (sym jobs) is
+
+-- as many jobs as there were at the start
+len_of : (d : Detail) (v : State (What d)) (s : Stock) → IsStockOf d v s → length s.book.jobs ≡ length v.jobs
+len_of d v s is =
+    let a = length-map s.book.jobs (see_job (look d)) in
+    let b = ap length is.book.jobs in
+    let c = length-map v.jobs (shown_job v.config) in
+    omega (arith, a, b, c)
+
+-- the job at a place of the book has the number of the one at that place of the state
+number_at : (d : Detail) (v : State (What d)) (s : Stock) → IsStockOf d v s → (i : ℕ) → i < length v.jobs → (job_at s.book i).facts.number ≡ (get_or v.jobs i no_job).number
+number_at d v s is i lt = ap (λ (j : ShownJob (What d)). j.facts.number) (tie_at d v s is i lt)
+
+module _ (ends : ℕ → Bool) (s t : Stock) (i : ℕ) (e : EndsFrom ends (i + 1) s t) where
+  -- the job of the place, among those that are still there
+  module _ (d : Detail) (v : State (What d)) (all : AllMayEnd v) (is : IsStockOf d v s) (lt : i < length s.book.jobs) where
+    abbrev w : State (What d)
+    w = with_jobs v (partly ends v.jobs (i + 1))
+
+    lt' : i < length v.jobs
+    lt' = (let n = len_of d v s is in omega (arith, n, lt))
+
+    here : i < length w.jobs
+    here = many ends v.jobs i lt'
+
+    may : MayEnd v.config (get_or w.jobs i no_job)
+    may = subst (λ (y : Job (What d)). MayEnd v.config y) (sym (stands ends v.jobs i lt')) (all (get_or v.jobs i no_job) (has_get v.jobs i no_job lt'))
+
+    pub step_can : CanEnd t i
+    step_can = can_end d w t (e d v all is) i here may
+
+    pub step_ends : ends (get_or v.jobs i no_job).number ≡ true → IsStockOf d (with_jobs v (partly ends v.jobs i)) (stock_after t i)
+    step_ends hit = subst (λ (l : List (Job (What d))). IsStockOf d (with_jobs v l) (stock_after t i)) (chosen ends v.jobs i lt' hit) (one_ends d w t (e d v all is) i here may)
+
+    pub step_keeps : ends (get_or v.jobs i no_job).number ≡ false → IsStockOf d (with_jobs v (partly ends v.jobs i)) t
+    step_keeps miss = subst (λ (l : List (Job (What d))). IsStockOf d (with_jobs v l) t) (unchosen ends v.jobs i lt' (all (get_or v.jobs i no_job) (has_get v.jobs i no_job lt')).held miss) (e d v all is)
+
+    -- the job of the place in the stock has the number of the one in the state
+    pub step_number : (job_at t.book i).facts.number ≡ (get_or v.jobs i no_job).number
+    step_number = number_at d w t (e d v all is) i here ∙ ap (λ (y : Job (What d)). y.number) (stands ends v.jobs i lt')
+
+  -- what the next step asks of the stock
+  pub loop_can : IsStocked s → i < length s.book.jobs → CanEnd t i
+  loop_can some lt = step_can some.0 some.1 some.2 some.3 lt
+
+  -- the step where the job of the place is chosen
+  pub loop_ends : i < length s.book.jobs → ends (job_at t.book i).facts.number ≡ true → EndsFrom ends i s (stock_after t i)
+  loop_ends lt hit d v all is = step_ends d v all is lt (ap ends (sym (step_number d v all is lt)) ∙ hit)
+
+  -- and where it isn't
+  pub loop_keeps : i < length s.book.jobs → ends (job_at t.book i).facts.number ≡ false → EndsFrom ends i s t
+  loop_keeps lt miss d v all is = step_keeps d v all is lt (ap ends (sym (step_number d v all is lt)) ∙ miss)
+
+-- how far it is: so many of the first places are still to be looked at
+pub record Ending (ends : ℕ → Bool) (s t : Stock) (i : ℕ) : Type 0 where
+  pub some : IsStocked s
+  pub within : i ≤ length s.book.jobs
+  pub ends_from : EndsFrom ends i s t
+
+pub ending_start : (ends : ℕ → Bool) (s : Stock) (n : ℕ) → IsStocked s → n ≡ length s.book.jobs → Ending ends s s n
+ending_start ends s n some e = record { some = some; within = omega (arith, e); ends_from = ends_none ends s n e }
+
+module _ (ends : ℕ → Bool) (s t : Stock) (m : ℕ) (g : Ending ends s t m) where
+  pub ending_done : m ≤ 0 → EndsTo ends s t
+  ending_done le = (let z : m ≡ 0 = omega arith in subst (λ (i : ℕ). EndsFrom ends i s t) z g.ends_from)
+
+  module _ (lt : 0 < m) where
+    from : EndsFrom ends (m - 1 + 1) s t
+    from = (let e : m ≡ m - 1 + 1 = omega arith in subst (λ (i : ℕ). EndsFrom ends i s t) e g.ends_from)
+
+    less : m - 1 < length s.book.jobs
+    less = (let w = g.within in omega (arith, w, lt))
+
+    pub ending_can : CanEnd t (m - 1)
+    ending_can = loop_can ends s t (m - 1) from g.some less
+
+    pub ending_hit : (u : Stock) → ends (job_at t.book (m - 1)).facts.number ≡ true → u ≡ stock_after t (m - 1) → Ending ends s u (m - 1)
+    ending_hit u hit e = record {
+      some = g.some;
+      within = (let w = less in omega (arith, w));
+      ends_from = subst (λ (z : Stock). EndsFrom ends (m - 1) s z) (sym e) (loop_ends ends s t (m - 1) from less hit);
+    }
+
+    pub ending_miss : ends (job_at t.book (m - 1)).facts.number ≡ false → Ending ends s t (m - 1)
+    ending_miss miss = record {
+      some = g.some;
+      within = (let w = less in omega (arith, w));
+      ends_from = loop_keeps ends s t (m - 1) from less miss;
+    }
+
+-- what is kept of a core has such a stock
+abbrev pub stock_of : Kept → Stock
+stock_of k = record { book = k.book; pool = k.pool; table = k.table }
+
+pub stock_left : (d : Detail) (b : Base) (h : List (Event (What d))) (k : Kept) → Leaves d b h k → IsStockOf d (left_by d b h k) (stock_of k)
+stock_left d b h k l = record { book = l.kept.book; table = l.kept.table; pool = l.kept.pool }
+
+pub all_may_end : (d : Detail) (b : Base) (h : List (Event (What d))) (k : Kept) → Leaves d b h k → AllMayEnd (left_by d b h k)
+all_may_end d b h k l x has = may_end (size d) k.config b h x l.legal has
+
+pub stocked : (d : Detail) (b : Base) (h : List (Event (What d))) (k : Kept) → Leaves d b h k → IsStocked (stock_of k)
+stocked d b h k l = (d, left_by d b h k, all_may_end d b h k l, stock_left d b h k l)
+
+map_same : {X Y : Type 0} (f g : X → Y) (xs : List X) → ((x : X) → f x ≡ g x) → map f xs ≡ map g xs
+map_same f g [] e = refl
+map_same {X} {Y} f g (x ∷ xs) e = ap (λ (y : Y). y ∷ map f xs) (e x) ∙ ap (λ (ys : List Y). g x ∷ ys) (map_same f g xs e)
+
+-- an event that ends the jobs of chosen numbers
+pub leaves_ended : (d : Detail) (b : Base) (h : List (Event (What d))) (k : Kept) (e : Event (What d)) (ends : ℕ → Bool) (t : Stock) (printers : List Printer) (closed : Bool)
+    → Leaves d b h k → May (size d) (left_by d b h k) e → accepted_by e ≡ [] → ((x : Job (What d)) → change e x ≡ marked ends x)
+    → printers ≡ map (kept_printer d) (printers_after e (left_by d b h k)) → closed ≡ closed_after e (left_by d b h k).closed
+    → EndsTo ends (stock_of k) t
+    → Leaves d b (e ∷ h) (record k { pool = t.pool; book = t.book; table = t.table; printers = printers; closed = closed })
+leaves_ended d b h k e ends t printers closed l may none same prs cl to =
+    let c = k.config in
+    let v = left_by d b h k in
+    let left = left_when ends v.jobs in
+    let w = with_jobs v left in
+    let is = to d v (all_may_end d b h k l) (stock_left d b h k l) in
+    let jobs : (after e v).jobs ≡ left = jobs_left v e left (ap (filter is_held) (map_same (change e) (marked ends) v.jobs same)) none in
+    let book : IsBookOf d (after e v) t.book = record {
+      jobs = is.book.jobs ∙ sym (ap (map (shown_job c)) jobs);
+      stored = is.book.stored ∙ sym (ap (λ (js : List (Job (What d))). sum_by (λ (y : Job (What d)). chained_of y) js) jobs);
+      max_jobs = is.book.max_jobs;
+      pages = is.book.pages;
+      page_size = is.book.page_size;
+    } in
+    let table : IsTableOf t.table (after e v) = record {
+      table = is.table.table;
+      rows = is.table.rows ∙ sym (ap (map (row_of c)) jobs);
+      capacity = is.table.capacity;
+      room = is.table.room;
+    } in
+    let pool : t.pool ≡ record k.pool { free = amount t.table.free 0 } =
+    is.pool ∙ (ap (λ (n : ℕ). record { page_size = c.page_size; pages = c.pages; free = n }) (sym (table_free t.table w is.table 0)) ∙ sym (ap (λ (p : Pages). record p { free = amount t.table.free 0 }) l.kept.pool)) in
+    leaves_with d b h k e t.pool t.book t.table k.accepted k.reserved printers closed l may book table pool
+    (l.kept.accepted ∙ accepted_same v e none) (l.kept.reserved ∙ reserved_same v e none) prs cl
+
+-- an event that ends no job, and leaves each job as it is
+pub leaves_same : (d : Detail) (b : Base) (h : List (Event (What d))) (k : Kept) (e : Event (What d)) (printers : List Printer) (closed : Bool)
+    → Leaves d b h k → May (size d) (left_by d b h k) e → accepted_by e ≡ [] → ((x : Job (What d)) → change e x ≡ x)
+    → printers ≡ map (kept_printer d) (printers_after e (left_by d b h k)) → closed ≡ closed_after e (left_by d b h k).closed
+    → Leaves d b (e ∷ h) (record k { printers = printers; closed = closed })
+leaves_same d b h k e printers closed l may none same prs cl =
+    leaves_ended d b h k e (λ n. false) (stock_of k) printers closed l may none same prs cl
+    (λ d' v all is. subst (λ (js : List (Job (What d'))). IsStockOf d' (with_jobs v js) (stock_of k)) (sym (none_changed (marked (λ n. false)) v.jobs (λ z has. refl) (λ z has. (all z has).held))) is)

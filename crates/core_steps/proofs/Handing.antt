@@ -1,0 +1,280 @@
+-- A printer gets a page.
+use Rattle.std.proofs.Common.{inl, inr, ◌≡◌, ◌==◌, ℕ, suc, ◌+◌, ◌-◌, ◌*◌, ◌<◌, ◌≤◌, Bool, true, false, List, [], ◌∷◌, length, drop, get_or, set, map, refl, sym, ◌∙◌, ap, subst, arith}
+use Rattle.std.specs.Prelude.{cond, Option, Some, None, is_some, slice_get}
+use Rattle.std.proofs.lemmas.Bool.{cases_lt}
+use Rattle.std.proofs.lemmas.List.{drop_all}
+use Rattle.std.proofs.lemmas.Bool.Decides.{nat_tests}
+use Rattle.counts.specs.Amounts.{amount}
+use Rattle.claims.specs.declared.row.Row.{Row}
+use Rattle.claims.specs.Claims.{row_at}
+use Rattle.claims.specs.Changes.{granted}
+use Rattle.page_chain.specs.declared.place.Place.{Place}
+use Rattle.page_chain.specs.Files.{no_place, page_at}
+use Rattle.page_chain.specs.Changes.{IsReady, next_place}
+use Rattle.held_jobs.specs.Jobs.{Facts, HeldJob}
+use Rattle.held_jobs.specs.Moves.{handed_job}
+use Rattle.held_jobs.specs.Books.{job_at, with_job}
+use Rattle.held_jobs.specs.Turns.{TurnAt, facts_in}
+use Rattle.held_jobs.specs.Shown.{see_job}
+use Rattle.account.specs.declared.entry.Sheet.{Sheet as SheetOut}
+use Rattle.config_values.specs.Config.{IsPrinter}
+use Rattle.config_values.specs.Ranges.{IsConfig}
+use Rattle.spool_history.specs.Base.{Base}
+use Rattle.spool_history.specs.Events.{Event, Sheet}
+use Rattle.spool_history.specs.Events.Turn.{Handed}
+use Rattle.spool_history.specs.Events.Event.{AtPrinter}
+use Rattle.spool_history.specs.Now.{Job, State, is_received, places, row_of}
+use Rattle.spool_history.specs.Next.{hand_first, hand_of, next_page, printer_at}
+use Rattle.spool_history.specs.Next.Next.{Hands as HandsOut}
+use Rattle.spool_history.specs.Steps.{printer_turned, turned}
+use Rattle.spool_laws.proofs.Known.{Has}
+use Rattle.spool_moves.specs.Standing.{no_job}
+use Rattle.spool_moves.proofs.Standing.{Stands, has_get}
+use Rattle.spool_moves.proofs.Moving.{turn_set}
+use Rattle.spool_moves.proofs.Holding.{granted_within, job_sound}
+use Rattle.spool_moves.proofs.Claimed.{row_here}
+use Rattle.job_moves.proofs.Ties.{prints}
+use Rattle.job_moves.proofs.Spots.{PlaceAt, length-spots, place_at}
+use Rattle.job_moves.proofs.Printing.{CanHand, can_hand, ties_handed}
+use Rattle.job_moves.proofs.Printing as J
+use Rattle.core_rows.proofs.Tables.{WithRow}
+use Rattle.core_rows.proofs.Amounts.{queue_kind}
+use Rattle.core_rows.proofs.Handing.{Takes, first_leaves, handed_chain, handed_held, hands_job, later_leaves, printer_free, printer_needed}
+use Rattle.spool_calls.specs.declared.printer.Printer.{Printer}
+use Rattle.spool_calls.specs.declared.handed.HandedPage.{HandedPage}
+use Rattle.spool_calls.specs.declared.answers.Next.TheVariants as next
+use Rattle.spool_calls.specs.Looks.{Detail, What, outline_in, outline_of, see, size}
+use Rattle.spool_calls.specs.Looks.Detail.{Octets, Outlines}
+use Rattle.spool_calls.specs.Kept.{Kept, Leaves, facts_of, kept_printer, left_by, look, place_of, shown_job, spots}
+use Rattle.spool_calls.specs.Calls.{Hands, sheet_of}
+use Rattle.core_steps.proofs.Leaving.{jobs_left, jobs_len, leaves_set, one_stored, pool_even, row_stands, tie}
+use Rattle.core_steps.proofs.Phases.{facts_tie}
+use Rattle.core_steps.proofs.Printers.{next_busy, next_over, next_stopped, next_turn, printer_seen, printers_set}
+use Rattle.core_steps.proofs.Ranges.{limit_within}
+use Rattle.core_steps.proofs.Turning.{Turns, at_place, turn_here, turns}
+
+-- what is kept of a page that goes to a printer
+abbrev pub out_sheet : HandedPage → SheetOut
+out_sheet page = record { job = page.job; place = page.place; file = page.file; number = page.number; page = outline_of page.page.octets }
+
+outline_see : (d : Detail) (octets : List ℕ) → outline_in d (see d octets) ≡ outline_of octets
+outline_see Octets octets = refl
+outline_see Outlines octets = refl
+
+-- the first of the places that are left
+
+none_left : {X : Type 0} (xs : List X) → slice_get xs 0 ≡ None → xs ≡ []
+none_left [] e = refl
+none_left (x ∷ xs) e = absurd cc
+
+first_left : {X : Type 0} (xs : List X) (x d : X) → slice_get xs 0 ≡ Some x → (0 < length xs) × (get_or xs 0 d ≡ x)
+first_left [] x d e = absurd cc
+first_left (y ∷ xs) x d e = (omega arith, cc)
+
+same_sheet : {C : Type 0} (a b : Sheet C) → a.job ≡ b.job → a.place ≡ b.place → a.file ≡ b.file → a.number ≡ b.number → a.page ≡ b.page → a ≡ b
+same_sheet {C} a b e1 e2 e3 e4 e5 =
+    ap (λ (n : ℕ). record { job = n; place = a.place; file = a.file; number = a.number; page = a.page }) e1
+    ∙ (ap (λ (n : ℕ). record { job = b.job; place = n; file = a.file; number = a.number; page = a.page }) e2
+    ∙ (ap (λ (n : ℕ). record { job = b.job; place = b.place; file = n; number = a.number; page = a.page }) e3
+    ∙ (ap (λ (n : ℕ). record { job = b.job; place = b.place; file = b.file; number = n; page = a.page }) e4
+    ∙ ap (λ (x : C). record { job = b.job; place = b.place; file = b.file; number = b.number; page = x }) e5)))
+
+-- what is kept once the next page of the job at a place went to a printer
+abbrev pub handed_core : Kept → (p i : ℕ) → Printer → HandedPage → Kept
+handed_core k p i at page = record k {
+  book = record (with_job k.book i (handed_job (job_at k.book i))) { stored = k.book.stored - 1 };
+  table = cond ((job_at k.book i).facts.handed == 0) (granted k.table i (job_at k.book i).facts.queue) k.table;
+  printers = set k.printers (p - 1) (record { queue = at.queue; out = Some (out_sheet page); began = Some page.job; stopped = false });
+}
+
+-- a closed spool hands out nothing
+pub hands_over : (d : Detail) (b : Base) (h : List (Event (What d))) (k : Kept) (p : ℕ) → Leaves d b h k → k.closed ≡ true → Hands d b h k p k next.Closed
+hands_over d b h k p l e = (next_over d (left_by d b h k) p (sym l.kept.closed ∙ e), refl)
+
+-- the printer may get a page
+pub record Waits (k : Kept) (at : Printer) : Type 0 where
+  pub open' : k.closed ≡ false
+  pub runs : at.stopped ≡ false
+  pub idle : is_some at.out ≡ false
+
+-- how many places are handed out of a job is a number that fits
+pub handed_few : (d : Detail) (b : Base) (h : List (Event (What d))) (k : Kept) (x : Job (What d)) → IsConfig k.config → Leaves d b h k → Has x (left_by d b h k).jobs → x.handed + 1 < 18446744073709551616
+handed_few d b h k x ranges l has =
+    let s = job_sound (size d) k.config b h x l.legal has in
+    let a = s.handed in
+    let m = s.many in
+    let g = granted_within (size d) k.config b h x l.legal has in
+    let w = limit_within k.config x.queue ranges in
+    omega (arith, a, m, g, w)
+
+module _ (d : Detail) (b : Base) (h : List (Event (What d))) (k : Kept) (l : Leaves d b h k) (p : ℕ) (ip : IsPrinter k.config p) (at : Printer) (ia : at ≡ get_or k.printers (p - 1) at) where
+  abbrev v : State (What d)
+  v = left_by d b h k
+
+  seen : at ≡ kept_printer d (printer_at v p)
+  seen = printer_seen d b h k l p at ip ia
+
+  is_open : k.closed ≡ false → v.closed ≡ false
+  is_open e = sym l.kept.closed ∙ e
+
+  pub hands_stopped : k.closed ≡ false → at.stopped ≡ true → Hands d b h k p k next.Stopped
+  hands_stopped e s = (next_stopped d v p at (is_open e) seen s, refl)
+
+  pub hands_busy : k.closed ≡ false → at.stopped ≡ false → is_some at.out ≡ true → Hands d b h k p k next.Busy
+  hands_busy e s o = (next_busy d v p at (is_open e) seen s o, refl)
+
+  turn : Waits k at → (r : Option ℕ) → TurnAt (facts_in k.book.jobs) at.queue at.began r → next_page v p ≡ hand_of (at_place k.config v.jobs r)
+  turn w r t = next_turn d v p at (is_open w.open') seen w.runs w.idle ∙ ap hand_of (turn_here d b h k l at.queue at.began r t)
+
+  pub hands_none : Waits k at → TurnAt (facts_in k.book.jobs) at.queue at.began None → Hands d b h k p k next.Nothing
+  hands_none w t = (turn w None t, refl)
+
+  module _ (w : Waits k at) (i : ℕ) (t : TurnAt (facts_in k.book.jobs) at.queue at.began (Some i)) where
+    abbrev x : Job (What d)
+    x = get_or v.jobs i no_job
+
+    abbrev j : HeldJob
+    j = job_at k.book i
+
+    ts : Turns d b h k l i
+    ts = turns d b h k l p i at.queue at.began ip (sym (ap (λ (a : Printer). a.began) seen)) t
+
+    held : i < length k.book.jobs
+    held = (let n = jobs_len d b h k l in let lt = ts.there in omega (arith, n, lt))
+
+    ties : see_job (look d) j ≡ shown_job k.config x
+    ties = tie d b h k i l held
+
+    facts' : j.facts ≡ facts_of k.config x
+    facts' = facts_tie (look d) k.config j x ties
+
+    spots_left : j.chain.places ≡ drop x.handed (spots x)
+    spots_left = (prints (look d) k.config j x ts.goes.0 ts.goes.1 ties).places
+
+    pub hands_empty : slice_get j.chain.places 0 ≡ None → Hands d b h k p k next.Nothing
+    hands_empty e =
+        let none : drop x.handed (spots x) ≡ [] = none_left (drop x.handed (spots x)) (ap (λ (l : List Place). slice_get l 0) (sym spots_left) ∙ e) in
+        let gone : drop x.handed (places x) ≡ [] = elim (cases_lt x.handed (length (places x))) [
+          | inl lt ↦
+              let s = (place_at x x.handed lt).spots_left in
+              let n = ap length (sym s ∙ none) in
+              absurd (omega (arith, n))
+          | inr le ↦ drop_all x.handed (places x) le
+        ] in
+        (turn w (Some i) t ∙ ap (hand_first x.number x.handed) gone, refl)
+
+    module _ (place : Place) (first : slice_get j.chain.places 0 ≡ Some place) where
+      some : x.handed < length (places x)
+      some =
+          let n = (first_left j.chain.places place no_place first).0 in
+          let m = ap length spots_left in
+          let o = length-spots x in
+          let r = Rattle.std.proofs.Common.length-drop x.handed (spots x) in
+          omega (arith, n, m, o, r)
+
+      stands' : Stands v.jobs i x.number
+      stands' = record { there = ts.there; number' = refl }
+
+      takes : (at' : PlaceAt x x.handed) → Takes k.config (record { job = x.number; place = x.handed; file = at'.page.file; number = at'.page.number; page = at'.page.page }) x
+      takes at' =
+          hands_job (size d) k.config b h p i (record { job = x.number; place = x.handed; file = at'.page.file; number = at'.page.number; page = at'.page.page }) l.legal ip
+          (turn w (Some i) t ∙ ap (hand_first x.number x.handed) at'.left) stands'
+
+      can : CanHand x
+      can = record { goes = ts.goes; even = (takes (place_at x x.handed some)).even; some = some }
+
+      pub hand_ready : IsReady j.chain
+      hand_ready = can_hand (look d) k.config j x can ties
+
+      pub hand_few : IsConfig k.config → j.facts.handed + 1 < 18446744073709551616
+      hand_few ranges =
+          let n = handed_few d b h k x ranges l (has_get v.jobs i no_job ts.there) in
+          let e : j.facts.handed ≡ x.handed = ap (λ (g : Facts). g.handed) facts' in
+          omega (arith, n, e)
+
+      handed_same : j.facts.handed ≡ x.handed
+      handed_same = ap (λ (g : Facts). g.handed) facts'
+
+      queue_same : j.facts.queue ≡ x.queue
+      queue_same = ap (λ (g : Facts). g.queue) facts'
+
+      pub kind_there : j.facts.queue < length k.table.capacity
+      kind_there =
+          let n = queue_kind k.config x.queue ts.queue in
+          let e = ap length l.kept.table.capacity in
+          let s = queue_same in
+          omega (arith, n, e, s)
+
+      pub need_here : j.facts.handed ≡ 0 → 0 < amount (row_at k.table.rows i).need j.facts.queue
+      need_here z =
+          let n = printer_needed k.config x ts.queue ts.goes.0 (sym handed_same ∙ z) in
+          let e : amount (row_at k.table.rows i).need x.queue ≡ amount (row_of k.config x).need x.queue = ap (λ (row : Row). amount row.need x.queue) (row_here k.table v i l.kept.table ts.there) in
+          subst (λ (q : ℕ). 0 < amount (row_at k.table.rows i).need q) (sym queue_same) (omega (arith, n, e))
+
+      free_by : (at' : PlaceAt x x.handed) → x.handed ≡ 0 → 0 < amount k.table.free x.queue
+      free_by at' z =
+          printer_free (size d) k.config b h k.table p i (record { job = x.number; place = x.handed; file = at'.page.file; number = at'.page.number; page = at'.page.page }) l.legal l.kept.table ip
+          (turn w (Some i) t ∙ ap (hand_first x.number x.handed) at'.left) stands' z
+
+      pub free_here : j.facts.handed ≡ 0 → 0 < amount k.table.free j.facts.queue
+      free_here z = subst (λ (q : ℕ). 0 < amount k.table.free q) (sym queue_same) (free_by (place_at x x.handed some) (sym handed_same ∙ z))
+
+      -- the row of the job, with its printer
+      with_row_by : (first' : Bool) → (x.handed == 0) ≡ first' → WithRow k.table (cond first' (granted k.table i x.queue) k.table) i (row_of k.config (turned Handed x)) (amount k.table.free 0)
+      with_row_by true e =
+          let z : x.handed ≡ 0 = grind (arith, nat_tests) in
+          first_leaves k.config k.table i x (row_stands d b h k i l ts.there) l.kept.table.capacity ts.queue (ts.goes.1, ts.goes.0) z (free_by (place_at x x.handed some) z)
+      with_row_by false e =
+          let z : 0 < x.handed = grind (arith, nat_tests) in
+          later_leaves k.config k.table i x (row_stands d b h k i l ts.there) (ts.goes.1, ts.goes.0) z
+
+      with_row : WithRow k.table (cond (j.facts.handed == 0) (granted k.table i j.facts.queue) k.table) i (row_of k.config (turned Handed x)) (amount k.table.free 0)
+      with_row =
+          subst (λ (g : Facts). WithRow k.table (cond (g.handed == 0) (granted k.table i g.queue) k.table) i (row_of k.config (turned Handed x)) (amount k.table.free 0)) (sym facts')
+          (with_row_by (x.handed == 0) refl)
+
+      -- the page is that of the next place
+      pub record Taken (page : HandedPage) : Type 0 where
+        pub job : page.job ≡ j.facts.number
+        pub place' : page.place ≡ j.facts.handed
+        pub file : page.file ≡ place.file
+        pub number : page.number ≡ place.number
+        pub whole : page_at j.chain.files (next_place j.chain) ≡ Some page.page
+        pub size' : page.page.page_size ≡ k.book.page_size
+
+      number_same : (page : HandedPage) → Taken page → x.number ≡ page.job
+      number_same page tk = sym (tk.job ∙ ap (λ (g : Facts). g.number) facts')
+
+      hands : (page : HandedPage) → Taken page → next_page v p ≡ HandsOut (sheet_of d b h k page)
+      hands page tk =
+          let n = J.next_page (look d) k.config j x page.page can tk.whole ties in
+          let here : place ≡ place_of n.next = sym (first_left j.chain.places place no_place first).1 ∙ n.place in
+          turn w (Some i) t
+          ∙ (ap (hand_first x.number x.handed) n.left
+          ∙ ap (λ (s : Sheet (What d)). HandsOut s) (same_sheet (record { job = x.number; place = x.handed; file = n.next.file; number = n.next.number; page = n.next.page }) (sheet_of d b h k page)
+          (number_same page tk) (sym (tk.place' ∙ handed_same)) (sym (tk.file ∙ ap (λ (q : Place). q.file) here)) (sym (tk.number ∙ ap (λ (q : Place). q.number) here)) (sym n.page')))
+
+      printer_is : (page : HandedPage) → record { queue = at.queue; out = Some (out_sheet page); began = Some page.job; stopped = false } ≡ kept_printer d (printer_turned (sheet_of d b h k page) Handed (printer_at v p))
+      printer_is page =
+          ap (λ (a : Printer). record { queue = a.queue; out = Some (out_sheet page); began = Some page.job; stopped = false }) seen
+          ∙ (ap (λ (o : Rattle.account.specs.declared.entry.Outline.Outline). record { queue = (printer_at v p).queue; out = Some (record (out_sheet page) { page = o }); began = Some page.job; stopped = false }) (sym (outline_see d page.page.octets))
+          ∙ ap (λ (s : Bool). record (kept_printer d (printer_turned (sheet_of d b h k page) Handed (printer_at v p))) { stopped = s }) (sym w.runs ∙ ap (λ (a : Printer). a.stopped) seen))
+
+      leaves : (page : HandedPage) → Taken page → Leaves d b (AtPrinter p (sheet_of d b h k page) Handed ∷ h) (handed_core k p i at page)
+      leaves page tk =
+          let sheet : Sheet (What d) = sheet_of d b h k page in
+          let e : Event (What d) = AtPrinter p sheet Handed in
+          let s : Stands v.jobs i sheet.job = record { there = ts.there; number' = number_same page tk } in
+          let g : (is_received x ≡ true) × (x.ended ≡ false) = (ts.goes.1, ts.goes.0) in
+          let chain = handed_chain x g can.even some in
+          let within = one_stored d b h k i l ts.there in
+          let row = with_row in
+          leaves_set d b h k e i (k.book.stored - 1) (turned Handed x) (handed_job j) k.pool (cond (j.facts.handed == 0) (granted k.table i j.facts.queue) k.table)
+          (set k.printers (p - 1) (record { queue = at.queue; out = Some (out_sheet page); began = Some page.job; stopped = false })) l (ip, hands page tk)
+          (jobs_left v e (set v.jobs i (turned Handed x)) (turn_set (size d) k.config b h i p sheet Handed l.legal s (handed_held x g)) refl) ts.there refl refl
+          (ties_handed (look d) k.config j x can ties) (omega (arith, chain, within)) row.table row.rows row.capacity row.room
+          (ap (λ (m : ℕ). record k.pool { free = m }) (pool_even d b h k l ∙ sym row.free))
+          (ap (set k.printers (p - 1)) (printer_is page) ∙ printers_set d b h k l p (printer_turned sheet Handed (printer_at v p)))
+
+      pub hands_page : (page : HandedPage) → Taken page → Hands d b h k p (handed_core k p i at page) (next.Handed page)
+      hands_page page tk = (hands page tk, leaves page tk, tk.size' ∙ l.kept.book.page_size)

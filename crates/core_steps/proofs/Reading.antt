@@ -1,0 +1,183 @@
+-- What the readers of a core say.
+use Rattle.std.proofs.Common.{◌≡◌, ◌≢◌, ℕ, ◌+◌, ◌-◌, ◌<◌, ◌≤◌, Bool, true, false, cond, List, [], ◌∷◌, ◌++◌, length, get_or, map, refl, sym, ◌∙◌, ap, arith}
+use Rattle.std.specs.Prelude.{All, Option, None, Some, count_by, is_some}
+use Rattle.std.proofs.lemmas.List.{length-append, length-map}
+use Rattle.std.proofs.lemmas.List.Sums.{count_by-le-length, sum_by-cons}
+use Rattle.lpd_values.specs.declared.refusal.Refusal.TheVariants.{ControlTwice, NotOpen}
+use Rattle.page_pool.specs.Page.{Pages}
+use Rattle.held_jobs.specs.declared.file.DataFile.{DataFile}
+use Rattle.held_jobs.specs.declared.phase.Phase.TheVariants.{Receiving}
+use Rattle.held_jobs.specs.Jobs.{HeldJob, Facts, last_size}
+use Rattle.held_jobs.specs.Books.{job_at}
+use Rattle.held_jobs.specs.Shown.{ShownJob, see_job}
+use Rattle.config_values.specs.Config.{Config, printer_count}
+use Rattle.config_values.specs.Ranges.{IsConfig}
+use Rattle.config_values.proofs.Printers.{few_printers}
+use Rattle.spool_history.specs.Base.{Base}
+use Rattle.spool_history.specs.Events.{Event, Sheet}
+use Rattle.spool_history.specs.Acts.{File, is_open_in}
+use Rattle.spool_history.specs.Now as N
+use Rattle.spool_history.specs.Now.{Job, State, free_pages}
+use Rattle.spool_history.specs.Legal.{HasOpen, IsReceiving}
+use Rattle.spool_laws.specs.Sums.{at_printers}
+use Rattle.spool_laws.proofs.Known.{clash}
+use Rattle.spool_laws.proofs.Adding.{sum_map}
+use Rattle.spool_laws.proofs.Apart.{each_has_a_place}
+use Rattle.spool_moves.specs.Standing.{no_job}
+use Rattle.spool_moves.proofs.Standing.{Stands, has_get, has_here, has_job}
+use Rattle.spool_moves.proofs.Opens.{job_opens, last_of}
+use Rattle.spool_calls.specs.declared.printer.Printer.{Printer}
+use Rattle.spool_calls.specs.Looks.{Detail, What, size}
+use Rattle.spool_calls.specs.Kept.{Kept, Leaves, left_by, look, shown_job, kept_out, kept_printer, size_of}
+use Rattle.spool_calls.specs.Readers.{ArePlaced, HasOpenFile, IsOpenFile, MayControl, RefusesControl, stopped_for}
+use Rattle.core_steps.proofs.Leaving.{Found, none_has, standing, tie}
+use Rattle.core_steps.proofs.Phases.{facts_tie, open_tie}
+use Rattle.core_steps.proofs.Filing.{is_receiving, not_receiving}
+use Rattle.core_steps.proofs.Printers.{printers_len}
+use Rattle.core_steps.proofs.Starting.{is_stopped_for}
+
+-- how many of these printers have a page out
+abbrev pub out_among : List Printer → ℕ
+out_among printers = count_by (λ (p : Printer). is_some p.out) printers
+
+-- how many printers of a queue are stopped, as it is kept
+abbrev pub stopped_in_queue : ℕ → List Printer → ℕ
+stopped_in_queue q printers = count_by (is_stopped_for q) printers
+
+-- to how many of these jobs a page is lent
+abbrev pub lent_among : List HeldJob → ℕ
+lent_among jobs = count_by (λ (j : HeldJob). j.facts.lent) jobs
+
+count_map : {X Y : Type 0} (p : Y → Bool) (f : X → Y) (xs : List X) → count_by p (map f xs) ≡ count_by (λ x. p (f x)) xs
+count_map p f xs = sum_map (λ y. cond (p y) 1 0) f xs
+
+out_kept : (d : Detail) (p : N.Printer (What d)) → is_some (kept_printer d p).out ≡ is_some p.out
+out_kept d p = by p.out
+  where
+    by : (o : Option (Sheet (What d))) → is_some (kept_out d o) ≡ is_some o
+    by None = refl
+    by (Some s) = refl
+
+count_agree : {X : Type 0} (p q : X → Bool) (xs : List X) → ((x : X) → p x ≡ q x) → count_by p xs ≡ count_by q xs
+count_agree p q [] e = refl
+count_agree p q (x ∷ xs) e =
+    let a = sum_by-cons (λ y. cond (p y) 1 0) x xs in
+    let b = sum_by-cons (λ y. cond (q y) 1 0) x xs in
+    let ih = count_agree p q xs e in
+    let one : Bool → ℕ = λ t. cond t 1 0 in
+    let here : one (p x) ≡ one (q x) = ap one (e x) in
+    omega (arith, a, b, ih, here)
+
+lents : (d : Detail) (c : Config) (js : List HeldJob) (xs : List (Job (What d))) → map (see_job (look d)) js ≡ map (shown_job c) xs → lent_among js ≡ count_by (λ (x : Job (What d)). x.lent) xs
+lents d c js xs e =
+    sym (count_map (λ (s : ShownJob (What d)). s.facts.lent) (see_job (look d)) js)
+    ∙ (ap (count_by (λ (s : ShownJob (What d)). s.facts.lent)) e ∙ count_map (λ (s : ShownJob (What d)). s.facts.lent) (shown_job c) xs)
+
+last_mapped : {C : Type 0} (z : ℕ) (fs : List (File C)) (y : File C) → length (map {A = File C} {B = DataFile} (size_of z) (fs ++ y ∷ [])) ≡ length fs + 1
+last_mapped {C} z fs y =
+    let a = length-map {A = File C} {B = DataFile} (fs ++ y ∷ []) (size_of z) in
+    let b = length-append fs (y ∷ []) in
+    omega (arith, a, b)
+
+module _ (d : Detail) (b : Base) (h : List (Event (What d))) (k : Kept) (l : Leaves d b h k) where
+  abbrev v : State (What d)
+  v = left_by d b h k
+
+  pub reads_free : k.pool.free ≡ free_pages v
+  reads_free = ap (λ (p : Pages). p.free) l.kept.pool
+
+  pub reads_stopped : (q : ℕ) → stopped_in_queue q k.printers ≡ stopped_for d b h k q
+  reads_stopped q = ap (stopped_in_queue q) l.kept.printers ∙ count_map (is_stopped_for q) (kept_printer d) v.printers
+
+  reads_out : out_among k.printers ≡ at_printers v
+  reads_out =
+      ap out_among l.kept.printers
+      ∙ (count_map (λ (p : Printer). is_some p.out) (kept_printer d) v.printers ∙ count_agree (λ (p : N.Printer (What d)). is_some (kept_printer d p).out) (λ (p : N.Printer (What d)). is_some p.out) v.printers (out_kept d))
+
+  pub places_read : (free chain session printer : ℕ) → free ≡ k.pool.free → chain ≡ k.book.stored → session ≡ lent_among k.book.jobs → printer ≡ out_among k.printers → ArePlaced d b h k free chain session printer
+  places_read free chain session printer ef ec es ep =
+      let f = ef ∙ reads_free in
+      let c = ec ∙ l.kept.book.stored in
+      let s = es ∙ lents d k.config k.book.jobs v.jobs l.kept.book.jobs in
+      let p = ep ∙ reads_out in
+      let all = each_has_a_place (size d) k.config b h l.legal in
+      record { free_is = f; chain_is = c; session_is = s; printer_is = p; all = omega (arith, f, c, s, p, all) }
+
+  pub refuses_none : (job : ℕ) → All (λ (j : HeldJob). j.facts.number ≢ job) k.book.jobs → RefusesControl d b h k job NotOpen
+  refuses_none job none m = none_has d b h k job IsReceiving l none m
+
+  pub no_file_of : (job : ℕ) → All (λ (j : HeldJob). j.facts.number ≢ job) k.book.jobs → HasOpenFile d b h k job → ⊥
+  no_file_of job none m = none_has d b h k job (λ x. IsReceiving x × (is_open_in x.files ≡ true)) l none m
+
+module _ (d : Detail) (b : Base) (h : List (Event (What d))) (k : Kept) (l : Leaves d b h k) (job i : ℕ) (f : Found k job i) where
+  abbrev w : State (What d)
+  w = left_by d b h k
+
+  abbrev x : Job (What d)
+  x = get_or w.jobs i no_job
+
+  abbrev j : HeldJob
+  j = job_at k.book i
+
+  s : Stands w.jobs i job
+  s = standing d b h k job i l f
+
+  t : see_job (look d) j ≡ shown_job k.config x
+  t = tie d b h k i l f.there
+
+  pub may_control : j.facts.phase ≡ Receiving → j.facts.control ≡ None → MayControl d b h k job
+  may_control p n =
+      has_job w i job (λ y. IsReceiving y × (y.control ≡ None)) s (is_receiving d b h k l job i f p, sym (ap (λ (g : Facts). g.control) (facts_tie (look d) k.config j x t)) ∙ n)
+
+  pub refuses_unreceived : (j.facts.phase ≡ Receiving → ⊥) → RefusesControl d b h k job NotOpen
+  refuses_unreceived never m = not_receiving d b h k l job i f never (has_here (size d) k.config b h i job IsReceiving l.legal s m)
+
+  pub refuses_twice : j.facts.phase ≡ Receiving → (j.facts.control ≡ None → ⊥) → RefusesControl d b h k job ControlTwice
+  refuses_twice p some =
+      has_job w i job (λ y. IsReceiving y × (y.control ≡ None → ⊥)) s (is_receiving d b h k l job i f p, λ n. some (ap (λ (g : Facts). g.control) (facts_tie (look d) k.config j x t) ∙ n))
+
+  here : HasOpenFile d b h k job → IsReceiving x × (is_open_in x.files ≡ true)
+  here m = has_here (size d) k.config b h i job (λ y. IsReceiving y × (is_open_in y.files ≡ true)) l.legal s m
+
+  pub no_file_unreceived : (j.facts.phase ≡ Receiving → ⊥) → HasOpenFile d b h k job → ⊥
+  no_file_unreceived never m = not_receiving d b h k l job i f never (here m).0
+
+  pub no_file_open : j.chain.is_open ≡ false → HasOpenFile d b h k job → ⊥
+  no_file_open e m =
+      let r = here m in
+      clash j.chain.is_open (open_tie (look d) k.config j x t r.0 ∙ r.1) e
+
+  -- the open file of a job, with which its data files end
+  pub record LastFile : Type 0 where
+    pub some : 0 < length j.facts.files
+    pub is : IsOpenFile d b h k job (length j.facts.files - 1) (last_size j.facts.files).pages
+
+  pub last_file : j.facts.phase ≡ Receiving → j.chain.is_open ≡ true → LastFile
+  last_file p o =
+      let r = is_receiving d b h k l job i f p in
+      let g = last_of x.files (job_opens (size d) k.config b h x l.legal (has_get w.jobs i no_job s.there)) (sym (open_tie (look d) k.config j x t r) ∙ o) in
+      let ft = facts_tie (look d) k.config j x t in
+      let many : length j.facts.files ≡ length g.before + 1 =
+      ap (λ (y : Facts). length y.files) ft ∙ (ap (λ (fs : List (File (What d))). length (map {A = File (What d)} {B = DataFile} (size_of k.config.page_size) fs)) g.is ∙ last_mapped k.config.page_size g.before g.last) in
+      let number : length g.before ≡ length j.facts.files - 1 = omega (arith, many) in
+      let last : last_size j.facts.files ≡ size_of k.config.page_size g.last =
+      ap (λ (y : Facts). last_size y.files) ft ∙ (ap (λ (fs : List (File (What d))). last_size (map {A = File (What d)} {B = DataFile} (size_of k.config.page_size) fs)) g.is ∙ sized g.before g.last) in
+      let pages : length g.last.pages ≡ (last_size j.facts.files).pages = sym (ap (λ (y : DataFile). y.pages) last) in
+      record {
+        some = omega (arith, many);
+        is = has_job w i job (λ y. IsReceiving y × HasOpen y.files (length j.facts.files - 1) (λ e. length e.pages ≡ (last_size j.facts.files).pages)) s
+            (r, (g.before, g.last, g.is, number, g.open', pages));
+      }
+    where
+      sized : (fs : List (File (What d))) (y : File (What d)) → last_size (map {A = File (What d)} {B = DataFile} (size_of k.config.page_size) (fs ++ y ∷ [])) ≡ size_of k.config.page_size y
+      sized [] y = refl
+      sized (a ∷ []) y = refl
+      sized (a ∷ e ∷ fs) y = sized (e ∷ fs) y
+
+-- there aren't many printers
+pub few_stopped : (d : Detail) (b : Base) (h : List (Event (What d))) (k : Kept) → Leaves d b h k → IsConfig k.config → (q : ℕ) → stopped_in_queue q k.printers ≤ 1024
+few_stopped d b h k l ranges q =
+    let n = printers_len d b h k l in
+    let m = few_printers k.config.pages k.config.queues k.config.queues (printer_count k.config) ranges.queues ranges.few_queues refl refl in
+    let le = count_by-le-length (is_stopped_for q) k.printers in
+    omega (arith, n, m, le)

@@ -1,0 +1,323 @@
+-- A job ends in the book, the pool and the table of a core.
+use Rattle.std.proofs.Common.{◌≡◌, ◌==◌, ℕ, ◌+◌, ◌-◌, ◌<◌, ◌≤◌, Bool, true, false, List, length, get_or, set, map, refl, sym, ◌∙◌, ap, subst, arith}
+use Rattle.std.specs.Prelude.{◌||◌, not, cond, remove}
+use Rattle.std.proofs.lemmas.List.{map-set, get_or-map, length-map, set-get_or}
+use Rattle.std.proofs.lemmas.List.Sums.{sum_by-set, sum_by-remove, get_or-le-sum_by}
+use Rattle.std.proofs.lemmas.Bool.Decides.{nat_tests}
+use Rattle.counts.specs.Amounts.{amount}
+use Rattle.claims.specs.declared.row.Row.{Row}
+use Rattle.claims.specs.Claims.{Claims, row_at}
+use Rattle.claims.specs.Changes.{closed, given_back, need_ended}
+use Rattle.page_pool.specs.Page.{Pages}
+use Rattle.page_chain.specs.Files.{every_page}
+use Rattle.held_jobs.specs.Jobs.{HeldJob, Facts}
+use Rattle.held_jobs.specs.Jobs as J
+use Rattle.held_jobs.specs.Books.{Books, job_at, with_job}
+use Rattle.held_jobs.specs.Moves.{drained_job}
+use Rattle.held_jobs.specs.Shown.{ShownJob, see_job}
+use Rattle.held_jobs.specs.Turns.{is_ended}
+use Rattle.config_values.specs.Config.{Config, IsQueue}
+use Rattle.spool_history.specs.Base.{Base}
+use Rattle.spool_history.specs.Events.{Event}
+use Rattle.spool_history.specs.Now.{Job, State, now, is_held, is_received, has_page_out, pages_held, pages_out, places, row_of, free_pages}
+use Rattle.spool_history.specs.Legal.{IsLegal}
+use Rattle.spool_laws.specs.Sums.{chained_of}
+use Rattle.spool_laws.proofs.Known.{Has}
+use Rattle.spool_moves.specs.Standing.{no_job}
+use Rattle.spool_moves.specs.Claimed.{IsTableOf}
+use Rattle.spool_moves.proofs.Standing.{all_held}
+use Rattle.spool_moves.proofs.Holding.{back_within, handed_within, one_is_out}
+use Rattle.spool_moves.proofs.Claimed.{table_free, rows_len}
+use Rattle.spool_moves.proofs.Queued.{job_queued}
+use Rattle.job_moves.proofs.Ending.{ties_ended}
+use Rattle.job_moves.proofs.Stored.{stored}
+use Rattle.core_rows.proofs.Tables.{Here, WithRow, WithoutRow, here_held, room_for}
+use Rattle.core_rows.proofs.Amounts.{queue_kind}
+use Rattle.core_rows.proofs.Handing.{row_stands}
+use Rattle.core_rows.proofs.Receiving.{held_in_row}
+use Rattle.core_rows.proofs.Ending.{HeldAddsUp, ended_leaves, ended_same, gone_leaves, job_adds_up}
+use Rattle.spool_calls.specs.Looks.{Detail, What}
+use Rattle.spool_calls.specs.Kept.{IsBookOf, look, shown_job, phase_of}
+use Rattle.core_steps.proofs.Leaving.{map_remove}
+use Rattle.core_steps.proofs.Phases.{facts_tie, phase_tie}
+
+-- the parts of a core in which jobs end
+pub record Stock : Type 0 where
+  pub book : Books
+  pub pool : Pages
+  pub table : Claims
+
+abbrev pub stock : Books → Pages → Claims → Stock
+stock book pool table = record { book = book; pool = pool; table = table }
+
+-- they are what is kept of this state
+pub record IsStockOf (d : Detail) (v : State (What d)) (s : Stock) : Type 0 where
+  pub book : IsBookOf d v s.book
+  pub table : IsTableOf s.table v
+  pub pool : s.pool ≡ record { page_size = v.config.page_size; pages = v.config.pages; free = free_pages v }
+
+-- the state with other jobs
+abbrev pub with_jobs : {C : Type 0} → State C → List (Job C) → State C
+with_jobs v jobs = record v { jobs = jobs }
+
+-- a job that has ended
+abbrev pub ended_job : {C : Type 0} → Job C → Job C
+ended_job x = record x { ended = true }
+
+-- what is known of each held job
+pub record MayEnd {C : Type 0} (c : Config) (x : Job C) : Type 0 where
+  pub held : is_held x ≡ true
+  pub adds_up : HeldAddsUp x
+  pub queued : IsQueue c x.queue
+  pub back : x.back ≤ x.handed
+  pub out : x.handed ≤ x.back + 1
+  pub within : x.handed ≤ length (places x)
+
+pub may_end : {C : Type 0} (size : C → ℕ) (c : Config) (b : Base) (h : List (Event C)) (x : Job C) → IsLegal size c b h → Has x (now c b h).jobs → MayEnd c x
+may_end size c b h x l has = record {
+  held = all_held c b h x has;
+  adds_up = job_adds_up size c b h x l has;
+  queued = job_queued size c b h x l has;
+  back = back_within size c b h x l has;
+  out = one_is_out size c b h x l has;
+  within = handed_within size c b h x l has;
+}
+
+-- how many pages the job at a place has in its chain
+abbrev pub pages_at : Books → ℕ → ℕ
+pages_at book i = length (every_page (job_at book i).chain.files)
+
+-- a page of a job is lent, or at a printer
+abbrev pub is_out : Facts → Bool
+is_out g = g.lent || not (g.handed == g.back)
+
+-- the job at a place ends while a page of it is out
+abbrev pub stock_ended : Stock → ℕ → Stock
+stock_ended s i = record {
+  book = record (with_job s.book i (drained_job (job_at s.book i))) { stored = s.book.stored - pages_at s.book i };
+  pool = record s.pool { free = s.pool.free + pages_at s.book i };
+  table = given_back (need_ended (need_ended s.table i 0) i (job_at s.book i).facts.queue) i 0 (pages_at s.book i);
+}
+
+-- the job at a place ends and goes
+abbrev pub stock_gone : Stock → ℕ → Stock
+stock_gone s i = record {
+  book = record s.book { jobs = remove s.book.jobs i; stored = s.book.stored - pages_at s.book i };
+  pool = record s.pool { free = s.pool.free + pages_at s.book i };
+  table = closed s.table i;
+}
+
+-- the job at a place ends, unless it has
+abbrev pub stock_after : Stock → ℕ → Stock
+stock_after s i =
+    cond (is_ended (job_at s.book i).facts.phase) s (cond (is_out (job_at s.book i).facts) (stock_ended s i) (stock_gone s i))
+
+-- what that asks of the stock
+pub record CanEnd (s : Stock) (i : ℕ) : Type 0 where
+  pub here : i < length s.book.jobs
+  pub size : s.pool.page_size ≡ s.book.page_size
+  pub room : s.pool.free + pages_at s.book i ≤ s.pool.pages
+  pub row : i < length s.table.rows
+  pub kind : 0 < length s.table.capacity
+  pub queue : (job_at s.book i).facts.queue < length s.table.capacity
+  pub held : pages_at s.book i ≤ amount (row_at s.table.rows i).held 0
+  pub small : pages_at s.book i < 4294967296
+
+-- what the job becomes among these
+abbrev pub end_place : {C : Type 0} → List (Job C) → ℕ → List (Job C)
+end_place jobs i =
+    cond (is_held (ended_job (get_or jobs i no_job))) (set jobs i (ended_job (get_or jobs i no_job))) (remove jobs i)
+
+ended_phase : {C : Type 0} (x : Job C) (e r : Bool) → x.ended ≡ e → is_received x ≡ r → is_ended (phase_of x) ≡ e
+ended_phase x true r a b = rw a refl
+ended_phase x false true a b = rw (a, b) refl
+ended_phase x false false a b = rw (a, b) refl
+
+none_out : {C : Type 0} (x : Job C) → has_page_out x ≡ false → pages_out x ≡ 0
+none_out x e = by x.lent (x.handed == x.back) refl refl e
+  where
+    by : (l s : Bool) → x.lent ≡ l → (x.handed == x.back) ≡ s → (l || not s) ≡ false → pages_out x ≡ 0
+    by true s a b f = absurd cc
+    by false false a b f = absurd cc
+    by false true a b f = (let same : x.handed ≡ x.back = grind (arith, nat_tests) in rw a (omega arith))
+
+module _ (d : Detail) (v : State (What d)) (s : Stock) (is : IsStockOf d v s) (i : ℕ) (lt : i < length v.jobs) where
+  abbrev x : Job (What d)
+  x = get_or v.jobs i no_job
+
+  abbrev j : HeldJob
+  j = job_at s.book i
+
+  abbrev n : ℕ
+  n = pages_at s.book i
+
+  there : i < length s.book.jobs
+  there =
+      let a = length-map s.book.jobs (see_job (look d)) in
+      let b = ap length is.book.jobs in
+      let e = length-map v.jobs (shown_job v.config) in
+      omega (arith, a, b, e, lt)
+
+  pub tie_at : see_job (look d) j ≡ shown_job v.config x
+  tie_at =
+      let dummy = see_job (look d) J.no_job in
+      sym (get_or-map (see_job (look d)) s.book.jobs i J.no_job dummy there)
+      ∙ (ap (λ (m : List (ShownJob (What d))). get_or m i dummy) is.book.jobs
+      ∙ get_or-map (shown_job v.config) v.jobs i no_job dummy lt)
+
+  row : Here s.table i (row_of v.config x)
+  row = row_stands s.table v i is.table lt
+
+  even : s.pool.free ≡ amount s.table.free 0
+  even = ap (λ (p : Pages). p.free) is.pool ∙ sym (table_free s.table v is.table 0)
+
+  chain : MayEnd v.config x → n ≡ chained_of x
+  chain m = stored (look d) v.config j x m.back m.out m.within tie_at
+
+  within : chained_of x ≤ s.book.stored
+  within =
+      let e = is.book.stored in
+      let g = get_or-le-sum_by (λ (q : Job (What d)). chained_of q) v.jobs i no_job lt in
+      omega (arith, e, g)
+
+  pub can_end : MayEnd v.config x → CanEnd s i
+  can_end m =
+      let c = v.config in
+      let e = chain m in
+      let adds = m.adds_up in
+      let held = here_held s.table i (row_of c x) 0 row in
+      let mine = held_in_row c x in
+      let fits : n ≤ amount (row_of c x).held 0 = omega (arith, e, adds, mine) in
+      let room = room_for s.table i (row_of c x) 0 n row fits in
+      let same = even in
+      let all : amount s.table.capacity 0 ≡ c.pages = ap (λ (l : List ℕ). amount l 0) is.table.capacity in
+      let pages = ap (λ (p : Pages). p.pages) is.pool in
+      let small = is.table.table.small 0 in
+      let many = rows_len s.table v is.table in
+      let kinds = ap length is.table.capacity in
+      let k = queue_kind c x.queue m.queued in
+      let q = ap (λ (g : Facts). g.queue) (facts_tie (look d) c j x tie_at) in
+      record {
+        here = there;
+        size = ap (λ (p : Pages). p.page_size) is.pool ∙ sym is.book.page_size;
+        room = omega (arith, room, same, all, pages);
+        row = omega (arith, many, lt);
+        kind = row.pages;
+        queue = omega (arith, kinds, k, q);
+        held = omega (arith, fits, held);
+        small = omega (arith, room, small);
+      }
+
+  -- one job changes with its row
+  one_set : (y : Job (What d)) (k : HeldJob) (m pages : ℕ) (u : Claims) → see_job (look d) k ≡ shown_job v.config y → m + chained_of x ≡ s.book.stored + chained_of y → WithRow s.table u i (row_of v.config y) pages
+      → IsStockOf d (with_jobs v (set v.jobs i y)) (record { book = record (with_job s.book i k) { stored = m }; pool = record s.pool { free = pages }; table = u })
+  one_set y k m pages u tie many w =
+      let c = v.config in
+      let v' = with_jobs v (set v.jobs i y) in
+      let sums = sum_by-set (λ (z : Job (What d)). chained_of z) v.jobs i y no_job lt in
+      let e = is.book.stored in
+      let table : IsTableOf u v' = record {
+        table = w.table;
+        rows = w.rows ∙ (ap (λ (l : List Row). set l i (row_of c y)) is.table.rows ∙ sym (map-set (row_of c) v.jobs i y));
+        capacity = w.capacity ∙ is.table.capacity;
+        room = w.room ∙ is.table.room;
+      } in
+      record {
+        book = record {
+          jobs = map-set (see_job (look d)) s.book.jobs i k
+              ∙ (ap (λ (l : List (ShownJob (What d))). set l i (see_job (look d) k)) is.book.jobs
+              ∙ (ap (set (map (shown_job c) v.jobs) i) tie ∙ sym (map-set (shown_job c) v.jobs i y)));
+          stored = omega (arith, sums, e, many);
+          max_jobs = is.book.max_jobs;
+          pages = is.book.pages;
+          page_size = is.book.page_size;
+        };
+        table = table;
+        pool = ap (λ (p : Pages). record p { free = pages }) is.pool ∙ ap (λ (f : ℕ). record { page_size = c.page_size; pages = c.pages; free = f }) (sym w.free ∙ table_free u v' table 0);
+      }
+
+  -- one job goes with its row
+  one_gone : (m pages : ℕ) (u : Claims) → m + chained_of x ≡ s.book.stored → WithoutRow s.table u i pages
+      → IsStockOf d (with_jobs v (remove v.jobs i)) (record { book = record s.book { jobs = remove s.book.jobs i; stored = m }; pool = record s.pool { free = pages }; table = u })
+  one_gone m pages u many w =
+      let c = v.config in
+      let v' = with_jobs v (remove v.jobs i) in
+      let sums = sum_by-remove (λ (z : Job (What d)). chained_of z) v.jobs i no_job lt in
+      let e = is.book.stored in
+      let table : IsTableOf u v' = record {
+        table = w.table;
+        rows = w.rows ∙ (ap (λ (l : List Row). remove l i) is.table.rows ∙ sym (map_remove (row_of c) v.jobs i));
+        capacity = w.capacity ∙ is.table.capacity;
+        room = w.room ∙ is.table.room;
+      } in
+      record {
+        book = record {
+          jobs = map_remove (see_job (look d)) s.book.jobs i
+              ∙ (ap (λ (l : List (ShownJob (What d))). remove l i) is.book.jobs ∙ sym (map_remove (shown_job c) v.jobs i));
+          stored = omega (arith, sums, e, many);
+          max_jobs = is.book.max_jobs;
+          pages = is.book.pages;
+          page_size = is.book.page_size;
+        };
+        table = table;
+        pool = ap (λ (p : Pages). record p { free = pages }) is.pool ∙ ap (λ (f : ℕ). record { page_size = c.page_size; pages = c.pages; free = f }) (sym w.free ∙ table_free u v' table 0);
+      }
+
+  ends_out : MayEnd v.config x → IsStockOf d (with_jobs v (set v.jobs i (ended_job x))) (stock_ended s i)
+  ends_out m =
+      let c = v.config in
+      let e = chain m in
+      let q = ap (λ (g : Facts). g.queue) (facts_tie (look d) c j x tie_at) in
+      let w = ended_leaves c s.table i x row is.table.capacity m.queued m.adds_up in
+      let w1 = subst (λ (a : ℕ). WithRow s.table (given_back (need_ended (need_ended s.table i 0) i a) i 0 (chained_of x)) i (row_of c (ended_job x)) (amount s.table.free 0 + chained_of x)) (sym q) w in
+      let w2 = subst (λ (a : ℕ). WithRow s.table (given_back (need_ended (need_ended s.table i 0) i j.facts.queue) i 0 a) i (row_of c (ended_job x)) (amount s.table.free 0 + a)) (sym e) w1 in
+      let w3 = subst (λ (a : ℕ). WithRow s.table (given_back (need_ended (need_ended s.table i 0) i j.facts.queue) i 0 n) i (row_of c (ended_job x)) (a + n)) (sym even) w2 in
+      let le = within in
+      let z : chained_of (ended_job x) ≡ 0 = refl in
+      let many : (s.book.stored - n) + chained_of x ≡ s.book.stored + chained_of (ended_job x) = omega (arith, e, le, z) in
+      one_set (ended_job x) (drained_job j) (s.book.stored - n) (s.pool.free + n) (given_back (need_ended (need_ended s.table i 0) i j.facts.queue) i 0 n) (ties_ended (look d) c j x tie_at) many w3
+
+  goes : MayEnd v.config x → has_page_out x ≡ false → IsStockOf d (with_jobs v (remove v.jobs i)) (stock_gone s i)
+  goes m o =
+      let c = v.config in
+      let e = chain m in
+      let none = none_out x o in
+      let adds = m.adds_up in
+      let same = even in
+      let free : amount s.table.free 0 + pages_held x ≡ s.pool.free + n = omega (arith, e, none, adds, same) in
+      let w = subst (λ (a : ℕ). WithoutRow s.table (closed s.table i) i a) free (gone_leaves c s.table i x row) in
+      let le = within in
+      one_gone (s.book.stored - n) (s.pool.free + n) (closed s.table i) (omega (arith, e, le)) w
+
+  -- a job that has ended stays
+  stays : MayEnd v.config x → x.ended ≡ true → IsStockOf d (with_jobs v (end_place v.jobs i)) s
+  stays m e =
+      let same : ended_job x ≡ x = ended_same x e in
+      let jobs : end_place v.jobs i ≡ v.jobs =
+      ap (λ (y : Job (What d)). cond (is_held y) (set v.jobs i y) (remove v.jobs i)) same
+      ∙ (ap (λ (h : Bool). cond h (set v.jobs i x) (remove v.jobs i)) m.held ∙ set-get_or v.jobs i no_job) in
+      subst (λ (l : List (Job (What d))). IsStockOf d (with_jobs v l) s) (sym jobs) is
+
+  pub one_ends : MayEnd v.config x → IsStockOf d (with_jobs v (end_place v.jobs i)) (stock_after s i)
+  one_ends m = by x.ended (has_page_out x) refl refl
+    where
+      phase : is_ended j.facts.phase ≡ x.ended
+      phase = ap is_ended (phase_tie (look d) v.config j x tie_at) ∙ ended_phase x x.ended (is_received x) refl refl
+
+      outs : is_out j.facts ≡ has_page_out x
+      outs = ap is_out (facts_tie (look d) v.config j x tie_at)
+
+      by : (e o : Bool) → x.ended ≡ e → has_page_out x ≡ o → IsStockOf d (with_jobs v (end_place v.jobs i)) (stock_after s i)
+      by true o ee oo =
+          let same : stock_after s i ≡ s = ap (λ (a : Bool). cond a s (cond (is_out j.facts) (stock_ended s i) (stock_gone s i))) (phase ∙ ee) in
+          subst (λ (u : Stock). IsStockOf d (with_jobs v (end_place v.jobs i)) u) (sym same) (stays m ee)
+      by false true ee oo =
+          let same : stock_after s i ≡ stock_ended s i =
+          ap (λ (a : Bool). cond a s (cond (is_out j.facts) (stock_ended s i) (stock_gone s i))) (phase ∙ ee) ∙ ap (λ (a : Bool). cond a (stock_ended s i) (stock_gone s i)) (outs ∙ oo) in
+          let jobs : end_place v.jobs i ≡ set v.jobs i (ended_job x) = ap (λ (h : Bool). cond h (set v.jobs i (ended_job x)) (remove v.jobs i)) oo in
+          subst (λ (u : Stock). IsStockOf d (with_jobs v (end_place v.jobs i)) u) (sym same) (subst (λ (l : List (Job (What d))). IsStockOf d (with_jobs v l) (stock_ended s i)) (sym jobs) (ends_out m))
+      by false false ee oo =
+          let same : stock_after s i ≡ stock_gone s i =
+          ap (λ (a : Bool). cond a s (cond (is_out j.facts) (stock_ended s i) (stock_gone s i))) (phase ∙ ee) ∙ ap (λ (a : Bool). cond a (stock_ended s i) (stock_gone s i)) (outs ∙ oo) in
+          let jobs : end_place v.jobs i ≡ remove v.jobs i = ap (λ (h : Bool). cond h (set v.jobs i (ended_job x)) (remove v.jobs i)) oo in
+          subst (λ (u : Stock). IsStockOf d (with_jobs v (end_place v.jobs i)) u) (sym same) (subst (λ (l : List (Job (What d))). IsStockOf d (with_jobs v l) (stock_gone s i)) (sym jobs) (goes m oo))

@@ -1,0 +1,25 @@
+use Rattle.std.proofs.Common.{◌∙◌, ◌++◌, [], ap, sym, arith, List, ℕ, cond, filter}
+use Rattle.std.specs.List.{flat_map}
+use Rattle.held_jobs.specs.Jobs.{Facts}
+use Rattle.held_jobs.specs.Texts.{removed_line}
+use Rattle.held_jobs.specs.Turns.{facts_in}
+use Rattle.queues.specs.Tests.{is_picked}
+use Rattle.queues.proofs.Lists.{all_taken, passed_more, picked_taken}
+use Rattle.queues.proofs.book.Book.removed_by.Goals as goal
+
+pub loop-i-preserved : goal.loop-i-preserved
+loop-i-preserved c =
+    let n = c.len-i-end.ensures in
+    let lt = c.loop-i-test.true in
+    let p = is_picked c.args.queue c.args.agent.now c.args.words.now in
+    c.in_ok-put_where_picked.ensures
+    ∙ (ap (λ (l : List ℕ). l ++ cond (p c.job.result.now) (removed_line c.job.result.now) []) c.loop-i.invariant
+    ∙ sym (passed_more removed_line p c.args.self.now c.loop-i.i c.job.result.now (omega arith) c.job.ensures))
+
+pub returns : goal.returns
+returns c =
+    let b = c.args.self.now in
+    let p = is_picked c.args.queue c.args.agent.now c.args.words.now in
+    c.loop-i.invariant
+    ∙ (ap (λ (l : List Facts). flat_map removed_line (filter p l)) (all_taken b c.loop-i.i c.len-i-end.result c.len-i-end.ensures c.loop-i-test.false)
+    ∙ ap (flat_map removed_line) (sym (picked_taken c.args.queue c.args.agent.now c.args.words.now (facts_in b.jobs))))

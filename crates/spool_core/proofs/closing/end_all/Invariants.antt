@@ -1,0 +1,10 @@
+use Rattle.core_steps.proofs.Stocks.{stock}
+use Rattle.core_steps.proofs.EndingMany.{Ending}
+use Rattle.core_steps.proofs.Closing.{all_end}
+use Rattle.spool_core.proofs.closing.end_all.Given as goal
+
+abbrev pub invariant-loop-i : goal.invariant-loop-i
+invariant-loop-i l = Ending all_end (stock l.fn.book l.fn.pool l.fn.table) (stock l.book l.pool l.table) l.i
+
+abbrev pub decreases-loop-i : goal.decreases-loop-i
+decreases-loop-i l = l.i

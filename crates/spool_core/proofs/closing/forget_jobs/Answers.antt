@@ -1,0 +1,8 @@
+use Rattle.std.proofs.Common.{refl}
+use Rattle.core_steps.proofs.Closing.{with_none}
+use Rattle.core_steps.proofs.Starting.{mapped_more, no_kept}
+use Rattle.spool_core.proofs.closing.forget_jobs.Goals as goal
+
+pub loop-printer-preserved : goal.loop-printer-preserved
+loop-printer-preserved c =
+    mapped_more with_none c.args.printers.now c.loop-printer.printers _ c.loop-printer.printer-index no_kept c.loop-printer.invariant c.loop-printer-test.true refl

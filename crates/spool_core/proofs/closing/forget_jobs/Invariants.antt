@@ -1,0 +1,6 @@
+use Rattle.core_steps.proofs.Closing.{with_none}
+use Rattle.core_steps.proofs.Starting.{IsMapped}
+use Rattle.spool_core.proofs.closing.forget_jobs.Given as goal
+
+abbrev pub invariant-loop-printer : goal.invariant-loop-printer
+invariant-loop-printer l = IsMapped with_none l.fn.printers l.printers l.printer-index

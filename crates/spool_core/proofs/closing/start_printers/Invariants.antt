@@ -1,0 +1,5 @@
+use Rattle.core_steps.proofs.Starting.{IsMapped, started}
+use Rattle.spool_core.proofs.closing.start_printers.Given as goal
+
+abbrev pub invariant-loop-printer : goal.invariant-loop-printer
+invariant-loop-printer l = IsMapped (started l.queue) l.fn.printers l.printers l.printer-index

@@ -1,0 +1,176 @@
+//! The calls on a queue or on the whole spool: sessions are admitted, printers are started, the spool is closed, and its history
+//! is put away.
+
+ghost use Rattle.std.specs.Prelude.{◌≡◌, [], map};
+ghost use Rattle.held_jobs.specs.Turns.{is_ended};
+ghost use Rattle.spool_calls.specs.Calls.{IsRight, Admits, Starts, Closes, Rotates};
+ghost use Rattle.core_steps.proofs.Stocks.{CanEnd, is_out, stock, stock_after};
+ghost use Rattle.core_steps.proofs.EndingMany.{EndsTo, IsStocked};
+ghost use Rattle.core_steps.proofs.Closing.{all_end, listed, stopped_among, with_none};
+ghost use Rattle.core_steps.proofs.Starting.{started};
+
+use crate::core_state::Core;
+use claims::Table;
+use held_jobs::{Job, Phase};
+use lpd_values::Refusal;
+use ordered_safety::PAGES;
+use page_pool::Pool;
+use queues::Book;
+use spool_calls::Printer;
+
+/// Whether a job has ended.
+fn has_ended(job: &Job) -> bool
+    ensures { result ≡ is_ended job.now.phase }
+{
+    matches!(job.phase(), Phase::Ended)
+}
+
+/// Whether a page of a job is lent, or at a printer.
+fn has_page_out(job: &Job) -> bool
+    ensures { result ≡ is_out job.now }
+{
+    job.is_lent() || job.handed() != job.back()
+}
+
+/// Whether a number is one of these.
+fn is_listed(numbers: &[u64], number: u64) -> bool
+    ensures { result ≡ listed numbers.now number }
+{
+    numbers.iter().any(|k| *k == number)
+}
+
+/// Ends the job at a place, unless it has ended: its pages go back to the pool, and where no page of it is out it goes.
+fn end_job(book: &mut Book, pool: &mut Pool, table: &mut Table, i: usize)
+    requires { CanEnd (stock book.old pool.old table.old) i }
+    ensures { stock book.new pool.new table.new ≡ stock_after (stock book.old pool.old table.old) i }
+{
+    let job = book.job(i);
+    if has_ended(job) {
+        return;
+    }
+    let queue = job.queue() as usize;
+    let stays = has_page_out(job);
+    let pages = book.drain(i, pool);
+    if !stays {
+        table.close_row(i);
+        book.remove(i);
+        return;
+    }
+    table.need_ends(i, PAGES);
+    table.need_ends(i, queue);
+    table.give_back(i, PAGES, pages as u32);
+}
+
+/// Ends all jobs.
+fn end_all(book: &mut Book, pool: &mut Pool, table: &mut Table)
+    requires { IsStocked (stock book.old pool.old table.old) }
+    ensures { EndsTo all_end (stock book.old pool.old table.old) (stock book.new pool.new table.new) }
+{
+    let mut i = book.len();
+    while i > 0 {
+        i -= 1;
+        end_job(book, pool, table, i);
+    }
+}
+
+/// Ends the jobs of these numbers.
+pub(crate) fn end_listed(book: &mut Book, pool: &mut Pool, table: &mut Table, numbers: &[u64])
+    requires { IsStocked (stock book.old pool.old table.old) }
+    ensures { EndsTo (listed numbers.now) (stock book.old pool.old table.old) (stock book.new pool.new table.new) }
+{
+    let mut i = book.len();
+    while i > 0 {
+        i -= 1;
+        if is_listed(numbers, book.job(i).number()) {
+            end_job(book, pool, table, i);
+        }
+    }
+}
+
+/// How many printers are stopped.
+fn count_stopped(printers: &[Printer]) -> usize
+    ensures { result ≡ stopped_among printers.now }
+{
+    printers.iter().filter(|printer| printer.stopped).count()
+}
+
+/// Forgets which job each printer began last.
+fn forget_jobs(printers: &mut [Printer])
+    ensures { printers.new ≡ map with_none printers.old }
+{
+    for printer in printers.iter_mut() {
+        printer.began = None;
+    }
+}
+
+/// Starts the printers of a queue.
+fn start_printers(printers: &mut [Printer], queue: u32)
+    ensures { printers.new ≡ map (started queue) printers.old }
+{
+    for printer in printers.iter_mut() {
+        if printer.queue == queue {
+            printer.stopped = false;
+        }
+    }
+}
+
+impl Core {
+    /// Whether a session may send jobs to the queue of a name.
+    ///
+    /// Closed once the spool is closed; UnknownQueue where no queue has this name.
+    pub fn admits(&self, queue: &[u8]) -> Result<(), Refusal>
+        ensures { IsRight self.now (λ d b h. Admits d b h self.now queue.now result) }
+    {
+        if self.closed {
+            return Err(Refusal::Closed);
+        }
+        match self.config.queue_named(queue) {
+            Some(_) => Ok(()),
+            None => Err(Refusal::UnknownQueue),
+        }
+    }
+
+    /// Starts the stopped printers of a queue. Where none is stopped nothing changes.
+    ///
+    /// Closed once the spool is closed; UnknownQueue where no queue has this name.
+    pub fn start(&mut self, queue: &[u8]) -> Result<(), Refusal>
+        ensures config { self.new.config ≡ self.old.config }
+        ensures answer { IsRight self.old (λ d b h. Starts d b h self.old queue.now self.new result) }
+    {
+        if self.closed {
+            return Err(Refusal::Closed);
+        }
+        let Some(number) = self.config.queue_named(queue) else {
+            return Err(Refusal::UnknownQueue);
+        };
+        start_printers(self.printers.as_mut_slice(), number);
+        Ok(())
+    }
+
+    /// Closes the spool: each job ends, and nothing is accepted or handed out from then on. A page that is out may still come
+    /// back.
+    ///
+    /// A second close changes nothing.
+    pub fn close(&mut self)
+        ensures config { self.new.config ≡ self.old.config }
+        ensures answer { IsRight self.old (λ d b h. Closes d b h self.old self.new) }
+    {
+        if self.closed {
+            return;
+        }
+        end_all(&mut self.book, &mut self.pool, &mut self.table);
+        self.closed = true;
+    }
+
+    /// Puts the history away, where no job is held: the next one begins from the base after it.
+    ///
+    /// What is counted of the account is then an entry for each stopped printer, because a start may still come for it.
+    pub fn rotated(&mut self)
+        requires { self.old.book.jobs ≡ [] }
+        ensures config { self.new.config ≡ self.old.config }
+        ensures answer { IsRight self.old (λ d b h. Rotates d b h self.old self.new) }
+    {
+        self.reserved = count_stopped(self.printers.as_slice()) as u64;
+        forget_jobs(self.printers.as_mut_slice());
+    }
+}

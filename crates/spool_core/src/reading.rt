@@ -1,0 +1,213 @@
+//! What a core tells of itself. No reader takes memory, and none changes anything.
+
+ghost use Rattle.std.specs.Prelude.{◌≡◌, ◌↔◌, ◌+◌, ◌-◌, ◌<◌, ◌≤◌, ◌^◌, List, IsTrue, MatchOption, length};
+ghost use Rattle.account.specs.declared.entry.Outline.{Outline};
+ghost use Rattle.config_values.specs.Config.{reserve_of};
+ghost use Rattle.held_jobs.specs.Jobs.{last_size};
+ghost use Rattle.spool_history.specs.Base.{Base};
+ghost use Rattle.spool_history.specs.Events.{Event};
+ghost use Rattle.spool_history.specs.Now.{free_pages};
+ghost use Rattle.spool_calls.specs.Looks.Detail.{Outlines};
+ghost use Rattle.spool_calls.specs.Kept.{Leaves};
+ghost use Rattle.spool_calls.specs.Calls.{IsNamed, IsRight, IsUnknown, before};
+ghost use Rattle.spool_calls.specs.Readers.{ArePlaced, HasOpenFile, IsOpenFile, MayControl, MayOpenIn, RefusesControl, RefusesOpen, stopped_for};
+ghost use Rattle.core_steps.proofs.Reading.{lent_among, out_among, stopped_in_queue};
+
+use crate::core_state::Core;
+use crate::receiving::is_receiving;
+use config_values::Config;
+use held_jobs::Job;
+use lpd_values::Refusal;
+use queues::Book;
+use spool_calls::Printer;
+
+/// The pages of a spool by where they are.
+#[derive(Clone, Copy, Debug)]
+pub struct Pages {
+    /// The pages that are free.
+    pub free: usize,
+    /// The pages in the chains of the held jobs.
+    pub chained: usize,
+    /// The pages that are lent to sessions.
+    pub lent: usize,
+    /// The pages that are out at printers.
+    pub out: usize,
+}
+
+/// How many of these printers have a page out.
+fn count_out(printers: &[Printer]) -> usize
+    ensures { result ≡ out_among printers.now }
+{
+    printers
+        .iter()
+        .filter(|printer| printer.out.is_some())
+        .count()
+}
+
+/// How many printers of a queue are stopped.
+fn count_stopped_in(printers: &[Printer], queue: u32) -> usize
+    ensures { result ≡ stopped_in_queue queue printers.now }
+{
+    printers
+        .iter()
+        .filter(|printer| printer.queue == queue && printer.stopped)
+        .count()
+}
+
+/// To how many of the held jobs a page is lent.
+fn count_lent(book: &Book) -> usize
+    ensures { result ≡ lent_among book.now.jobs }
+{
+    let mut lent = 0;
+    for i in 0..book.len() {
+        if book.job(i).is_lent() {
+            lent += 1;
+        }
+    }
+    lent
+}
+
+/// Whether the account has room for the entries of one more job of a queue, and there is a number for it.
+fn has_entries(config: &Config, reserved: u64, accepted: u64, queue: u32) -> bool
+    ensures { IsTrue result ↔ (reserved + reserve_of config.now queue + 1 ≤ config.now.account) × (accepted + 1 < 2 ^ 64) }
+{
+    let entries = u128::from(reserved) + u128::from(config.reserve_of(queue)) + 1;
+    entries <= u128::from(config.account()) && accepted < u64::MAX
+}
+
+/// The number of a job's last file, and how many pages of that have come.
+fn last_file(job: &Job) -> (u64, u64)
+    requires { 0 < length job.now.files }
+    ensures { (result.0 ≡ length job.now.files - 1) × (result.1 ≡ (last_size job.now.files).pages) }
+{
+    let files = job.files();
+    let last = files.len() - 1;
+    (last as u64, files[last].pages)
+}
+
+impl Core {
+    /// How many jobs are held.
+    pub fn held(&self) -> usize
+        ensures value { result ≡ length self.now.book.jobs }
+        ensures held { IsRight self.now (λ d b h. result ≡ length (before d b h self.now).jobs) }
+        ensures reached { (b : Base) × (h : List (Event Outline)) × Leaves Outlines b h self.now }
+    {
+        self.book.len()
+    }
+
+    /// Whether the spool is closed.
+    pub fn is_closed(&self) -> bool
+        ensures value { result ≡ self.now.closed }
+        ensures closed { IsRight self.now (λ d b h. result ≡ (before d b h self.now).closed) }
+    {
+        self.closed
+    }
+
+    /// What the spool is made for.
+    pub fn config(&self) -> &Config
+        ensures { result.now ≡ self.now.config }
+    {
+        &self.config
+    }
+
+    /// How many entries of the account are counted for the jobs that were accepted and for the starts that may come.
+    pub fn counted_reserve(&self) -> u64
+        ensures value { result ≡ self.now.reserved }
+        ensures reserved { IsRight self.now (λ d b h. result ≡ (before d b h self.now).reserved) }
+    {
+        self.reserved
+    }
+
+    /// How many pages are free.
+    pub fn free(&self) -> usize
+        ensures value { result ≡ self.now.pool.free }
+        ensures free { IsRight self.now (λ d b h. result ≡ free_pages (before d b h self.now)) }
+    {
+        self.pool.free()
+    }
+
+    /// How many printers of a queue are stopped.
+    pub fn stopped_in(&self, queue: u32) -> u32
+        ensures { IsRight self.now (λ d b h. result ≡ stopped_for d b h self.now queue) }
+    {
+        count_stopped_in(self.printers.as_slice(), queue) as u32
+    }
+
+    /// The number of the queue of a name.
+    pub fn queue_number(&self, name: &[u8]) -> Option<u32>
+        ensures { MatchOption result (IsUnknown self.now.config name.now) (λ q. IsNamed self.now.config name.now q) }
+    {
+        self.config.queue_named(name)
+    }
+
+    /// Why a job for the queue of this name would be refused, but for want of memory.
+    ///
+    /// The refusals are those of `open`, in the same order.
+    pub fn open_refusal(&self, queue: &[u8]) -> Option<Refusal>
+        ensures { IsRight self.now (λ d b h.
+            MatchOption result (MayOpenIn d b h self.now queue.now) (RefusesOpen d b h self.now queue.now)) }
+    {
+        if self.closed {
+            return Some(Refusal::Closed);
+        }
+        let Some(number) = self.config.queue_named(queue) else {
+            return Some(Refusal::UnknownQueue);
+        };
+        if self.config.max_jobs() as usize <= self.book.len() {
+            return Some(Refusal::TableFull);
+        }
+        if !has_entries(&self.config, self.reserved, self.accepted, number) {
+            return Some(Refusal::AccountFull);
+        }
+        None
+    }
+
+    /// Why the control file of a job would be refused: NotOpen where the job isn't being received, ControlTwice where it has one.
+    pub fn control_refusal(&self, job: u64) -> Option<Refusal>
+        ensures { IsRight self.now (λ d b h.
+            MatchOption result (MayControl d b h self.now job) (RefusesControl d b h self.now job)) }
+    {
+        let Some(i) = self.book.find(job) else {
+            return Some(Refusal::NotOpen);
+        };
+        let found = self.book.job(i);
+        if !is_receiving(found) {
+            return Some(Refusal::NotOpen);
+        }
+        if found.control().is_some() {
+            return Some(Refusal::ControlTwice);
+        }
+        None
+    }
+
+    /// The number of a job's open file, and how many pages of it were put; None where the job isn't being received or no file
+    /// of it is open.
+    pub fn open_file(&self, job: u64) -> Option<(u64, u64)>
+        ensures { IsRight self.now (λ d b h.
+            MatchOption result (HasOpenFile d b h self.now job → ⊥) (λ r. IsOpenFile d b h self.now job r.0 r.1)) }
+    {
+        let Some(i) = self.book.find(job) else {
+            return None;
+        };
+        let found = self.book.job(i);
+        if !is_receiving(found) {
+            return None;
+        }
+        if !self.book.is_open(i) {
+            return None;
+        }
+        Some(last_file(found))
+    }
+
+    /// The pages by where they are. All together are the pages of the spool.
+    pub fn pages_by_place(&self) -> Pages
+        ensures { IsRight self.now (λ d b h. ArePlaced d b h self.now result.free result.chained result.lent result.out) }
+    {
+        Pages {
+            free: self.pool.free(),
+            chained: self.book.stored(),
+            lent: count_lent(&self.book),
+            out: count_out(self.printers.as_slice()),
+        }
+    }
+}

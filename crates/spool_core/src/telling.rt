@@ -1,0 +1,123 @@
+//! The state of a queue, and the removal of its jobs.
+
+ghost use Rattle.std.specs.Prelude.{◌≡◌, ◌≤◌, IfOk, length};
+ghost use Rattle.config_values.specs.Config.{queue_at};
+ghost use Rattle.held_jobs.specs.Texts.{state_text};
+ghost use Rattle.held_jobs.specs.Turns.{facts_in};
+ghost use Rattle.spool_calls.specs.Calls.{IsRight, Removes, Tells};
+ghost use Rattle.spool_calls.specs.Telling.{Chooses, serving, stopped_in};
+
+use crate::closing::end_listed;
+use crate::core_state::Core;
+use config_values::Config;
+use lpd_values::{Octets, Refusal};
+use queues::Book;
+use spool_calls::Printer;
+use std::alloc::AllocError;
+
+/// How many of these printers serve a queue.
+fn count_serving(queue: u32, printers: &[Printer]) -> usize
+    ensures value { result ≡ length (serving queue printers.now) }
+    ensures within { result ≤ length printers.now }
+{
+    let Some((first, rest)) = printers.split_first() else {
+        return 0;
+    };
+    usize::from(first.queue == queue) + count_serving(queue, rest)
+}
+
+/// How many of these printers serve a queue and are stopped.
+fn count_stopped(queue: u32, printers: &[Printer]) -> usize
+    ensures value { result ≡ length (stopped_in queue printers.now) }
+    ensures within { result ≤ length printers.now }
+{
+    let Some((first, rest)) = printers.split_first() else {
+        return 0;
+    };
+    usize::from(first.queue == queue && first.stopped) + count_stopped(queue, rest)
+}
+
+/// The text for the state of a queue.
+fn state_of(
+    config: &Config,
+    book: &Book,
+    printers: &[Printer],
+    queue: u32,
+    list: &[Octets],
+    long: bool,
+) -> Result<Octets, AllocError>
+    ensures { IfOk result (λ text. text ≡ state_text queue (queue_at config.now queue).name
+        (length (serving queue printers.now)) (length (stopped_in queue printers.now)) list.now long
+        (facts_in book.now.jobs)) }
+{
+    let name = config.name_of(queue);
+    let serving = count_serving(queue, printers);
+    let stopped = count_stopped(queue, printers);
+    let text = book.state(queue, name, serving, stopped, list, long)?;
+    Ok(Octets::from_vec(text))
+}
+
+impl Core {
+    /// The text that answers a question for the state of a queue: a line for the queue, and then the lines of the jobs that
+    /// the list chooses, or of all listed ones where it is empty. A closed spool answers too.
+    ///
+    /// UnknownQueue; Memory where memory for the text is refused.
+    pub fn state(&self, queue: &[u8], list: &[Octets], long: bool) -> Result<Octets, Refusal>
+        ensures { IsRight self.now (λ d b h. Tells d b h self.now queue.now list.now long result) }
+    {
+        let Some(q) = self.config.queue_named(queue) else {
+            return Err(Refusal::UnknownQueue);
+        };
+        let printers = self.printers.as_slice();
+        match state_of(&self.config, &self.book, printers, q, list, long) {
+            Ok(text) => Ok(text),
+            Err(_) => Err(Refusal::Memory),
+        }
+    }
+
+    /// The numbers of the jobs that a removal by this agent and list would take, in order of acceptance.
+    ///
+    /// Closed; UnknownQueue; Memory where memory for the numbers is refused.
+    pub fn chosen(&self, queue: &[u8], agent: &[u8], list: &[Octets]) -> Result<Vec<u64>, Refusal>
+        ensures { IsRight self.now (λ d b h. Chooses d b h self.now queue.now agent.now list.now result) }
+    {
+        if self.closed {
+            return Err(Refusal::Closed);
+        }
+        let Some(q) = self.config.queue_named(queue) else {
+            return Err(Refusal::UnknownQueue);
+        };
+        match self.book.chosen(q, agent, list) {
+            Ok(numbers) => Ok(numbers),
+            Err(_) => Err(Refusal::Memory),
+        }
+    }
+
+    /// Removes the jobs of a queue that an agent removes by a list, or its active job alone where the list is empty, and
+    /// answers the text that tells of them.
+    ///
+    /// Closed; UnknownQueue; Memory where memory for the text is refused. Nothing changes then.
+    pub fn remove(&mut self, queue: &[u8], agent: &[u8], list: &[Octets]) -> Result<Octets, Refusal>
+        ensures config { self.new.config ≡ self.old.config }
+        ensures answer { IsRight self.old (λ d b h. Removes d b h self.old queue.now agent.now list.now self.new result) }
+    {
+        if self.closed {
+            return Err(Refusal::Closed);
+        }
+        let Some(q) = self.config.queue_named(queue) else {
+            return Err(Refusal::UnknownQueue);
+        };
+        let Ok(text) = self.book.removal(q, agent, list) else {
+            return Err(Refusal::Memory);
+        };
+        let Ok(numbers) = self.book.chosen(q, agent, list) else {
+            return Err(Refusal::Memory);
+        };
+        if numbers.is_empty() {
+            return Ok(Octets::from_vec(text));
+        }
+        let numbers = numbers.as_slice();
+        end_listed(&mut self.book, &mut self.pool, &mut self.table, numbers);
+        Ok(Octets::from_vec(text))
+    }
+}

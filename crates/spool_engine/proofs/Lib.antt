@@ -1,4 +1,0 @@
-pub mod Amounts
-pub mod Cores
-pub mod Packs
-pub mod Beginning

@@ -1,7 +1,0 @@
-use Rattle.std.proofs.Common.{map}
-use Rattle.config_values.specs.Config.{Queue}
-use Rattle.spool_engine.proofs.Amounts.{UpTo}
-use Rattle.spool_engine.proofs.kinds.capacity.Given as goal
-
-abbrev pub invariant-loop-i : goal.invariant-loop-i
-invariant-loop-i l = UpTo l.all l.config.pages (map (λ (q : Queue). q.printers) l.config.queues) l.i
