@@ -1,3 +1,4 @@
 pub mod Printers
 pub mod Inside
 pub mod Tickets
+pub mod Headline

@@ -4,6 +4,7 @@
 mod closing;
 mod core_state;
 mod kinds;
+mod laws;
 mod opening;
 mod printers;
 mod printing;
@@ -13,6 +14,7 @@ mod telling;
 
 pub use config_values::{Config, Queue};
 pub use core_state::Core;
+pub use laws::headline_stands;
 pub use reading::Pages;
 pub use spool_calls::{
     Asked, Foreign, HandedPage, Next, Progress, Receipt, ReturnedPage, ReturnedTicket,

@@ -1,6 +1,6 @@
 //! The groups of rows.
 
-use crate::{control, histories, lines, rows, scripts, tables};
+use crate::{calls, control, histories, lines, rows, scripts, tables};
 use std::alloc::{AllocError, Global};
 
 /// A group of rows that are asked of the same function.
@@ -30,10 +30,12 @@ pub enum Group {
     Scripts,
     /// Worked histories and what the plain reader says after each entry.
     Histories,
+    /// Calls of a core and what they answer.
+    Calls,
 }
 
 /// All groups.
-pub const GROUPS: [Group; 12] = [
+pub const GROUPS: [Group; 13] = [
     Group::Commands,
     Group::Subcommands,
     Group::Names,
@@ -46,6 +48,7 @@ pub const GROUPS: [Group; 12] = [
     Group::Lines,
     Group::Scripts,
     Group::Histories,
+    Group::Calls,
 ];
 
 impl Group {
@@ -64,13 +67,14 @@ impl Group {
             Group::Lines => "lines",
             Group::Scripts => "scripts",
             Group::Histories => "histories",
+            Group::Calls => "calls",
         }
     }
 
     /// What stands between two rows.
     pub fn between(self) -> &'static str {
         match self {
-            Group::Scripts | Group::Histories => "====\n",
+            Group::Scripts | Group::Histories | Group::Calls => "====\n",
             _ => "\n",
         }
     }
@@ -78,7 +82,7 @@ impl Group {
     /// Whether what stands between two of these is a row, and no comment.
     pub fn is_row(self, row: &str) -> bool {
         match self {
-            Group::Scripts | Group::Histories => !row.is_empty(),
+            Group::Scripts | Group::Histories | Group::Calls => !row.is_empty(),
             _ => !row.is_empty() && !row.starts_with("# "),
         }
     }
@@ -88,14 +92,15 @@ impl Group {
         match self {
             Group::Scripts => row.split_once("----\n").unwrap_or((row, "")),
             Group::Histories => (row, histories::rows_of(row)),
+            Group::Calls => (row, row),
             _ => row.split_once(" => ").unwrap_or((row, "")),
         }
     }
 
-    /// The octets that are wanted: those of a text with escapes, but for a history, which is wanted as it stands.
+    /// The octets that are wanted: those of a text with escapes, but for histories and calls, which are wanted as they stand.
     pub fn wanted(self, alloc: Global, wanted: &str) -> Result<Vec<u8>, AllocError> {
         match self {
-            Group::Histories => Vec::from_slice(alloc, wanted.as_bytes()),
+            Group::Histories | Group::Calls => Vec::from_slice(alloc, wanted.as_bytes()),
             _ => rows::octets(alloc, wanted),
         }
     }
@@ -115,6 +120,7 @@ impl Group {
             Group::Lines => scripts::line(alloc, asked),
             Group::Scripts => scripts::script(alloc, asked),
             Group::Histories => histories::history(alloc, asked),
+            Group::Calls => calls::calls(alloc, asked),
         }
     }
 }

@@ -10,6 +10,7 @@
 //! A line `base ACCEPTED RESERVED CLOSED STOPPED ..`, of numbers and then 0 or 1 each, has the history begin from that
 //! base. A line `rotated` has it go on from the base after it, and is refused where a job is held.
 
+use crate::rows::{value, word};
 use account::{Act, Base, Entry, Outline, Progress, Sheet, Turn};
 use config_values::Config;
 use control_file::Control;
@@ -96,19 +97,6 @@ fn told_row(
         },
     };
     format!(in alloc; "{asked}| {said}")
-}
-
-/// The first word, and what follows it.
-fn word(text: &str) -> (&str, &str) {
-    match text.split_once(' ') {
-        Some(parts) => parts,
-        None => (text, ""),
-    }
-}
-
-/// The second word, which is the value behind its name, and what follows it.
-fn value(text: &str) -> (&str, &str) {
-    word(word(text).1)
 }
 
 /// The number that a word spells, or 0.

@@ -3,7 +3,9 @@
 //! Prints how many rows each group has, and a line for each row that is answered otherwise.
 #![tactic(auto)]
 
+mod calls;
 mod control;
+mod desk;
 mod group;
 mod histories;
 mod lines;

@@ -5,6 +5,19 @@
 use lpd_commands::Refusal;
 use std::alloc::{AllocError, Global};
 
+/// The first word, and what follows it.
+pub fn word(text: &str) -> (&str, &str) {
+    match text.split_once(' ') {
+        Some(parts) => parts,
+        None => (text, ""),
+    }
+}
+
+/// The second word, which is the value behind its name, and what follows it.
+pub fn value(text: &str) -> (&str, &str) {
+    word(word(text).1)
+}
+
 /// How much of an escape was read.
 #[derive(Clone, Copy)]
 enum Escape {

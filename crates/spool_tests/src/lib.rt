@@ -8,8 +8,6 @@ mod chain;
 #[cfg(test)]
 mod control;
 #[cfg(test)]
-mod core_calls;
-#[cfg(test)]
 mod faults;
 #[cfg(test)]
 mod lines;
