@@ -19,14 +19,17 @@
 //! | `free`, `held`, `reserve`, `pages`, `stopped QUEUE` | the numbers |
 //! | `opens QUEUE`, `controls J`: whether a job, a control file would be refused | `yes` |
 //! | `file J` | `file F page N`, `no file` |
+//! | `state QUEUE WORD..`, `long QUEUE WORD..`, `remove QUEUE AGENT WORD..` | the text, with escapes |
+//! | `chosen QUEUE AGENT WORD..` | `jobs J..` |
 //! | `rotate`, where no job is held | `yes` |
 //!
 //! Each may be `refused N`. `other CALL` is a call of a second core, for which a line `other spool ..` has a configuration, and
 //! `trade` exchanges all pages that are kept at the two. A call that a core may not be asked is a `bad row`.
 
 use crate::desk::{BAD_ROW, Desk};
-use crate::rows::{octets, value, word};
+use crate::rows::{escaped, octets, value, word, words};
 use lpd_commands::Refusal;
+use lpd_values::Octets;
 use spool_core::HandedPage;
 use std::alloc::{AllocError, Global};
 
@@ -132,6 +135,53 @@ fn file(alloc: Global, desk: &Desk, job: u64) -> Result<String, AllocError> {
     }
 }
 
+/// A text, with escapes, or a refusal.
+fn text(alloc: Global, said: Result<Octets, Refusal>) -> Result<String, AllocError> {
+    match said {
+        Ok(text) => escaped(alloc, text.as_slice()),
+        Err(refusal) => told(alloc, Err(refusal)),
+    }
+}
+
+/// The state of a queue, in the short or the long form.
+fn state(alloc: Global, desk: &Desk, rest: &str, long: bool) -> Result<String, AllocError> {
+    let (queue, list) = word(rest);
+    let list = words(alloc, list)?;
+    let said = desk.core.state(queue.as_bytes(), list.as_slice(), long);
+    text(alloc, said)
+}
+
+/// Removes jobs, and tells of them.
+fn remove(alloc: Global, desk: &mut Desk, rest: &str) -> Result<String, AllocError> {
+    let (queue, rest) = word(rest);
+    let (agent, list) = word(rest);
+    let list = words(alloc, list)?;
+    let said = desk
+        .core
+        .remove(queue.as_bytes(), agent.as_bytes(), list.as_slice());
+    text(alloc, said)
+}
+
+/// The jobs that a removal would take.
+fn chosen(alloc: Global, desk: &Desk, rest: &str) -> Result<String, AllocError> {
+    let (queue, rest) = word(rest);
+    let (agent, list) = word(rest);
+    let list = words(alloc, list)?;
+    match desk
+        .core
+        .chosen(queue.as_bytes(), agent.as_bytes(), list.as_slice())
+    {
+        Ok(numbers) => {
+            let mut jobs = String::from_str(alloc, "jobs")?;
+            for number in numbers.iter() {
+                write!(jobs, " {number}")?;
+            }
+            Ok(jobs)
+        }
+        Err(refusal) => told(alloc, Err(refusal)),
+    }
+}
+
 /// Yes, where nothing is refused.
 fn yes(refusal: Option<Refusal>) -> Result<&'static str, Refusal> {
     match refusal {
@@ -190,7 +240,7 @@ fn said(alloc: Global, desk: &mut Desk, call: &str, rest: &str) -> Result<&'stat
     }
 }
 
-/// What a core answers to a call. Those whose answers are texts, as `state` and `remove`, belong here.
+/// What a core answers to a call.
 fn answer(alloc: Global, desk: &mut Desk, call: &str) -> Result<String, AllocError> {
     let (call, rest) = word(call);
     match call {
@@ -200,6 +250,10 @@ fn answer(alloc: Global, desk: &mut Desk, call: &str) -> Result<String, AllocErr
         "file" => file(alloc, desk, number(rest)),
         "pages" => pages(alloc, desk),
         "stopped" => stopped(alloc, desk, rest),
+        "state" => state(alloc, desk, rest, false),
+        "long" => state(alloc, desk, rest, true),
+        "remove" => remove(alloc, desk, rest),
+        "chosen" => chosen(alloc, desk, rest),
         "free" => format!(in alloc; "free {}", desk.core.free()),
         "held" => format!(in alloc; "held {}", desk.core.held()),
         "reserve" => format!(in alloc; "reserve {}", desk.core.counted_reserve()),

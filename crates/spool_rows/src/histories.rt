@@ -10,14 +10,14 @@
 //! A line `base ACCEPTED RESERVED CLOSED STOPPED ..`, of numbers and then 0 or 1 each, has the history begin from that
 //! base. A line `rotated` has it go on from the base after it, and is refused where a job is held.
 
-use crate::rows::{value, word};
+use crate::rows::{escaped, value, word, words};
 use account::{Act, Base, Entry, Outline, Progress, Sheet, Turn};
 use config_values::Config;
 use control_file::Control;
 use history_legality::{free_pages, is_legal, is_safe_now, may};
 use history_reader::{Next, State, next_page, now, rotated};
 use history_texts::{removal_text, state_text};
-use lpd_values::{FileName, Octets};
+use lpd_values::FileName;
 use std::alloc::{AllocError, Global};
 
 /// The configuration of a history that has none of its own.
@@ -298,20 +298,6 @@ fn rotate(alloc: Global, config: &Config, account: &mut Account) -> Result<Strin
     standing(alloc, config, &account.state(alloc, config)?)
 }
 
-/// The words of a list.
-fn words(alloc: Global, text: &str) -> Result<Vec<Octets>, AllocError> {
-    let mut list = Vec::new(alloc);
-    for word in text.split_whitespace() {
-        list.push(Octets::copy_of(alloc, word.as_bytes())?)?;
-    }
-    Ok(list)
-}
-
-/// A text, with its line feeds as escapes.
-fn shown(alloc: Global, text: &[u8]) -> Result<String, AllocError> {
-    format!(in alloc; "{}", text.escape_ascii())
-}
-
 /// What the reader answers for the state of a queue.
 fn state_of(
     alloc: Global,
@@ -325,7 +311,7 @@ fn state_of(
     let state = account.state(alloc, config)?;
     let long = form == "long";
     let text = state_text(alloc, config, &state, number(queue), list.as_slice(), long)?;
-    shown(alloc, text.as_slice())
+    escaped(alloc, text.as_slice())
 }
 
 /// What the reader answers for a removal.
@@ -341,5 +327,5 @@ fn removal_of(
     let state = account.state(alloc, config)?;
     let agent = agent.as_bytes();
     let text = removal_text(alloc, config, &state, number(queue), agent, list.as_slice())?;
-    shown(alloc, text.as_slice())
+    escaped(alloc, text.as_slice())
 }

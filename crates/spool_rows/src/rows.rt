@@ -3,6 +3,7 @@
 //! In the octets of a row `\n`, `\r`, `\t` and `\x7f` are escapes, and `ab and 3 times c` is `abccc`.
 
 use lpd_commands::Refusal;
+use lpd_values::Octets;
 use std::alloc::{AllocError, Global};
 
 /// The first word, and what follows it.
@@ -94,4 +95,18 @@ pub fn refused(alloc: Global, refusal: Refusal) -> Result<Vec<u8>, AllocError> {
     text[8] = b'0' + number / 10;
     text[9] = b'0' + number % 10;
     Vec::from_slice(alloc, &text)
+}
+
+/// The words of a list.
+pub fn words(alloc: Global, text: &str) -> Result<Vec<Octets>, AllocError> {
+    let mut list = Vec::new(alloc);
+    for word in text.split_whitespace() {
+        list.push(Octets::copy_of(alloc, word.as_bytes())?)?;
+    }
+    Ok(list)
+}
+
+/// A text, with its line feeds as escapes.
+pub fn escaped(alloc: Global, text: &[u8]) -> Result<String, AllocError> {
+    format!(in alloc; "{}", text.escape_ascii())
 }
