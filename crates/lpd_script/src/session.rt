@@ -67,11 +67,7 @@ fn reply(receiver: &mut Receiver, outcome: Result<(), Refusal>)
 }
 
 /// Answers the end of a file: whether the job is whole now, and then it is no more in hand.
-fn reply_receipt(
-    receiver: &mut Receiver,
-    held: &mut Option<u64>,
-    outcome: Result<Receipt, Refusal>,
-)
+fn reply_receipt(receiver: &mut Receiver, held: &mut Option<u64>, outcome: Result<Receipt, Refusal>)
     requires { receiver.old.owed ≡ Some Ending }
     ensures { receiver.new.owed ≡ None }
 {
@@ -161,12 +157,7 @@ fn abort(core: &mut Core, job: u64, ticket: Option<PageTicket>) -> Result<(), Re
 }
 
 /// Carries out a request, and answers it.
-fn answer(
-    receiver: &mut Receiver,
-    held: &mut Option<u64>,
-    core: &mut Core,
-    need: Need,
-) -> Turn
+fn answer(receiver: &mut Receiver, held: &mut Option<u64>, core: &mut Core, need: Need) -> Turn
     requires { receiver.old.owed ≡ asked need }
     ensures { receiver.new.owed ≡ None }
 {
