@@ -7,3 +7,5 @@ cd ../bench_banker
 rt run -- run
 cd ../bench_chains
 rt run -- run
+cd ../bench_core
+rt run -- run

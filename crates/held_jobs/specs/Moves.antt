@@ -2,10 +2,12 @@
 use Rattle.std.specs.Prelude.{◌≡◌, ℕ, ◌+◌, ◌-◌, ◌<◌, min, true, false, Bool, List, [], ◌∷◌, ◌++◌, Option, Some, None, length}
 use Rattle.lpd_values.specs.Contents.{Contents}
 use Rattle.page_pool.specs.Page.{Page}
-use Rattle.page_chain.specs.Changes.{begun, with_page, placed, taken, given_again, emptied}
+use Rattle.page_chain.specs.Files.{every_page}
+use Rattle.page_chain.specs.Changes.{begun, with_page, placed, taken, given_again, emptied, unnamed_pages}
 use Rattle.held_jobs.specs.declared.file.DataFile.{DataFile}
 use Rattle.held_jobs.specs.declared.phase.Phase.TheVariants.{Receiving, Received, Ended}
-use Rattle.held_jobs.specs.Jobs.{Facts, HeldJob, last_size}
+use Rattle.held_jobs.specs.Jobs.{Facts, HeldJob, last_size, new_job}
+use Rattle.held_jobs.specs.Books.{Books, job_at, prints_of, with_job}
 
 -- a page was lent to it
 abbrev pub lent_facts : Facts → Facts
@@ -93,3 +95,40 @@ Awaits j len page_size =
 abbrev pub CanEnd : HeldJob → Type 0
 CanEnd j =
     (j.facts.phase ≡ Receiving) × (j.facts.lent ≡ false) × (j.chain.is_open ≡ true) × ((last_size j.facts.files).left ≡ 0)
+
+-- how many pages lie in its files, and how many of them in files that it doesn't print
+abbrev pub pages_of : HeldJob → ℕ
+pages_of j = length (every_page j.chain.files)
+
+abbrev pub unnamed_of : HeldJob → ℕ
+unnamed_of j = length (unnamed_pages j.chain.files (prints_of j))
+
+-- the book, where the job at a place was changed so
+abbrev pub changed : (HeldJob → HeldJob) → Books → ℕ → Books
+changed f b i = with_job b i (f (job_at b i))
+
+-- where a job was accepted
+abbrev pub with_new : Books → (number sender queue : ℕ) → Books
+with_new b number sender queue = record b { jobs = b.jobs ++ new_job number sender queue ∷ [] }
+
+-- where a page was put into its open file
+abbrev pub put_in : Page → Books → ℕ → Books
+put_in page b i = record (changed (put_job page) b i) { stored = b.stored + 1 }
+
+-- where it was received, and the pages that it doesn't print went to the pool
+abbrev pub received_in : Books → ℕ → Books
+received_in b i = record (with_job b i (received_job (prints_of (job_at b i)) (job_at b i))) {
+  stored = b.stored - unnamed_of (job_at b i);
+}
+
+-- where the page of its next place went to a printer
+abbrev pub handed_in : Books → ℕ → Books
+handed_in b i = record (changed handed_job b i) { stored = b.stored - 1 }
+
+-- where a page came back for a later place of the same page
+abbrev pub again_in : Page → Books → ℕ → Books
+again_in page b i = record (changed (again_job page) b i) { stored = b.stored + 1 }
+
+-- where it has ended, and so many pages of it went to the pool
+abbrev pub drained_in : ℕ → Books → ℕ → Books
+drained_in count b i = record (changed drained_job b i) { stored = b.stored - count }

@@ -15,3 +15,7 @@ status_of WriteFile = 4
 -- the exit statuses that there are
 abbrev pub IsStatus : ℕ → Type 0
 IsStatus n = (n ≡ 0) ⊎ (n ≡ 2) ⊎ (n ≡ 3) ⊎ (n ≡ 4)
+
+-- what can stop a script that runs
+abbrev pub IsScriptFault : Fault → Type 0
+IsScriptFault fault = ((line : ℕ) × (fault ≡ BadScript line)) ⊎ (fault ≡ Memory) ⊎ (fault ≡ WriteFile)

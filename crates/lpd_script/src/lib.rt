@@ -10,7 +10,8 @@ mod session;
 mod world;
 mod writer;
 
+pub use fault::Fault;
 pub use reader::StreamReader;
-pub use run::run_input;
+pub use run::{read_all, run_input, run_parts};
 pub use script::{LineFault, ScriptLine, line_has_one_meaning, parse_line};
 pub use writer::StreamWriter;

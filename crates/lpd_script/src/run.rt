@@ -1,9 +1,13 @@
 //! The main job: a configuration and a script in, acknowledgements and pages out.
 
-ghost use Rattle.std.specs.Prelude.{◌≡◌, ◌≢◌, ◌≤◌, ◌<◌, length, IfOk, IfErr, OnOk, OnErr, Err, []};
+ghost use Rattle.std.specs.Prelude.{◌≡◌, ◌≢◌, ◌≤◌, ◌<◌, length, IfOk, IfErr, OnOk, OnErr, Err, Some, []};
 ghost use Rattle.lpd_commands.specs.Ends.{Writes};
-ghost use Rattle.lpd_script.specs.declared.fault.Fault.TheVariants.{Memory, ReadFile, WriteFile};
-ghost use Rattle.lpd_script.specs.Status.{IsStatus};
+ghost use Rattle.lpd_script.specs.declared.fault.Fault.TheVariants.{Config, Memory, ReadFile, WriteFile};
+ghost use Rattle.lpd_script.specs.Config.{TellsConfig};
+ghost use Rattle.lpd_script.specs.Status.{IsScriptFault, IsStatus};
+ghost use Rattle.spool_config.specs.Answers.{fault_of};
+ghost use Rattle.spool_config.specs.declared.settings.ConfigFault.{ConfigFault};
+ghost use Rattle.spool_config.specs.declared.settings.ConfigFault.TheVariants.{Memory as ConfigMemory};
 ghost use Rattle.lpd_script.specs.Streams.{HasGivenAll, IsReadOut, IsReadOutAfter, IsUntouched, IsReadingFault, write_faults};
 
 use crate::fault::Fault;
@@ -78,8 +82,9 @@ fn run_all<R: OctetRead, W: OctetWrite>(
     run_text(alloc, all.as_slice(), output)
 }
 
-/// All octets of the input.
-fn read_all<R: OctetRead>(alloc: Global, input: &mut R) -> Result<Vec<u8>, Fault>
+/// All octets of the input. Answers `ReadFile` where a read fails or the input doesn't end in 4,294,967,295 reads, and
+/// `Memory`.
+pub fn read_all<R: OctetRead>(alloc: Global, input: &mut R) -> Result<Vec<u8>, Fault>
     ensures all { IfOk result (λ all. HasGivenAll (R.left input.old) (R.left input.new) all.items) }
     ensures fault { IfErr result (λ fault. IsReadingFault fault) }
     ensures read_fault { R.faults input.new ≢ R.faults input.old → result ≡ Err ReadFile }
@@ -104,6 +109,27 @@ fn run_text<W: OctetWrite>(alloc: Global, text: &[u8], output: &mut W) -> Result
     ensures read { result ≢ Err ReadFile }
 {
     let (config, script) = parts(text);
+    run_parts(alloc, config, script, output)
+}
+
+/// Runs a script, the whole text, on the spool that a configuration gives, the whole text. Answers the first fault: of
+/// the configuration, before anything is printed; `BadScript` at the first line that can't be run, once what the lines
+/// before it print is written; `WriteFile` where the output can't be written; `Memory` anywhere.
+pub fn run_parts<W: OctetWrite>(
+    alloc: Global,
+    config: &[u8],
+    script: &[u8],
+    output: &mut W,
+) -> Result<(), Fault>
+    ensures write_fault { W.faults output.new ≡ write_faults (W.faults output.old) result }
+    ensures read { result ≢ Err ReadFile }
+    // A configuration with a fault prints nothing, and what is told is its first fault or that memory was refused.
+    ensures faulty { (due : ConfigFault) → fault_of config.now ≡ Some due →
+        TellsConfig due result × (W.written output.new ≡ W.written output.old) }
+    // A fault of the configuration is told only where it has it.
+    ensures found { (due : ConfigFault) → result ≡ Err (Config due) → due ≢ ConfigMemory →
+        fault_of config.now ≡ Some due }
+{
     let config = spool_config::read(alloc, config)?;
     let mut world = World::new(alloc, config)?;
     run_script(alloc, &mut world, script, output)
@@ -117,7 +143,7 @@ fn run_script<W: OctetWrite>(
     output: &mut W,
 ) -> Result<(), Fault>
     ensures write_fault { W.faults output.new ≡ write_faults (W.faults output.old) result }
-    ensures read { result ≢ Err ReadFile }
+    ensures fault { IfErr result IsScriptFault }
 {
     let mut printed = Vec::new(alloc);
     let mut number = 0u64;

@@ -1,4 +1,4 @@
-//! The program. With no words it reads a configuration, a line `%%` and a script from standard input, and runs the script.
+//! The program: what its words ask for is done with the standard streams, files and the network.
 #![tactic(auto)]
 
 use lpd_script::{StreamReader, StreamWriter};
@@ -7,11 +7,15 @@ use std::process::ExitCode;
 
 fn main(rt: HostRuntime) -> ExitCode {
     let alloc = rt.alloc();
-    let status = lpd_script::run_input(
-        alloc,
-        &mut StreamReader::new(rt.stdin().lock()),
-        &mut StreamWriter::new(rt.stdout().lock()),
-        &mut StreamWriter::new(rt.stderr().lock()),
-    );
+    let mut input = StreamReader::new(rt.stdin().lock());
+    let mut output = StreamWriter::new(rt.stdout().lock());
+    let mut faults = StreamWriter::new(rt.stderr().lock());
+    let status = match lpd_words::words_of(&rt) {
+        Ok(words) => {
+            let words = words.as_slice();
+            lpd_words::run(alloc, &rt, words, &mut input, &mut output, &mut faults)
+        }
+        Err(unread) => lpd_words::tell_unread(alloc, unread, &mut output, &mut faults),
+    };
     ExitCode::from(status)
 }

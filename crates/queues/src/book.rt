@@ -1,14 +1,13 @@
 //! The book of held jobs.
 
-ghost use Rattle.std.specs.Prelude.{◌≡◌, ◌≢◌, ◌↔◌, ◌+◌, ◌<◌, ◌≤◌, ◌++◌, ◌∷◌, ◌^◌, [], true, false, None, Some, All, IsTrue, IfOk, IfSome, IfNone, OnOk, OnErr, MatchOption, IsSome, ◌-◌, length, nat_eq, remove, slice_get};
+ghost use Rattle.std.specs.Prelude.{◌≡◌, ◌≢◌, ◌↔◌, ◌+◌, ◌<◌, ◌≤◌, ◌++◌, ◌∷◌, ◌^◌, [], true, None, Some, All, IsTrue, IfOk, IfSome, IfNone, OnOk, OnErr, MatchOption, IsSome, ◌-◌, length, nat_eq, remove, slice_get};
 ghost use Rattle.control_file.specs.View.{contents};
-ghost use Rattle.page_nodes.specs.Chains.{AreOfSize};
-ghost use Rattle.page_chain.specs.Files.{every_page, names_of, page_at};
-ghost use Rattle.page_chain.specs.Changes.{CanBegin, RefusedFor, AwaitsLast, IsReady, comes_again, next_place, unnamed_pages};
+ghost use Rattle.page_chain.specs.Files.{names_of, page_at};
+ghost use Rattle.page_chain.specs.Changes.{CanBegin, RefusedFor, AwaitsLast, IsReady, comes_again, next_place};
 ghost use Rattle.indexmap.specs.IndexMap.{get, spare};
-ghost use Rattle.held_jobs.specs.Jobs.{HeldJob, new_job, last_size};
-ghost use Rattle.held_jobs.specs.Moves.{lent_facts, unlent_facts, back_facts, controlled_facts, told, begun_job, put_job, closed_file, received_job, handed_job, again_job, drained_job};
-ghost use Rattle.held_jobs.specs.Books.{IsIdle, job_at, prints_of, with_job};
+ghost use Rattle.held_jobs.specs.Jobs.{HeldJob, last_size};
+ghost use Rattle.held_jobs.specs.Moves.{lent_facts, unlent_facts, back_facts, controlled_facts, told, begun_job, closed_file, changed, with_new, put_in, received_in, handed_in, again_in, drained_in, pages_of, unnamed_of};
+ghost use Rattle.held_jobs.specs.Books.{IsIdle, job_at};
 
 use crate::entry::Entry;
 use control_file::Control;
@@ -110,7 +109,8 @@ impl Book {
 
     /// The place of the job with this number.
     pub fn find(&self, number: u64) -> Option<usize>
-        ensures found { IfSome result (λ i. (i < length self.now.jobs) × ((job_at self.now i).facts.number ≡ number)) }
+        ensures found { IfSome result (λ i.
+            (i < length self.now.jobs) × ((job_at self.now i).facts.number ≡ number)) }
         ensures absent { IfNone result (All (λ (j : HeldJob). j.facts.number ≢ number) self.now.jobs) }
     {
         self.jobs.get_index_of(&number)
@@ -178,7 +178,7 @@ impl Book {
     pub fn add(&mut self, number: u64, sender: u32, queue: u32) -> Result<(), AllocError>
         requires room { length self.old.jobs < self.old.max_jobs }
         requires other { All (λ (j : HeldJob). j.facts.number ≢ number) self.old.jobs }
-        ensures added { OnOk result (self.new ≡ record self.old { jobs = self.old.jobs ++ new_job number sender queue ∷ [] }) }
+        ensures added { OnOk result (self.new ≡ with_new self.old number sender queue) }
         ensures unchanged { OnErr result (self.new ≡ self.old) }
     {
         self.jobs.reserve(1)?;
@@ -200,7 +200,7 @@ impl Book {
     pub fn lend(&mut self, i: usize)
         requires here { i < length self.old.jobs }
         requires few { (job_at self.old i).facts.granted + 1 < 2 ^ 32 }
-        ensures { self.new ≡ with_job self.old i (told lent_facts (job_at self.old i)) }
+        ensures { self.new ≡ changed (told lent_facts) self.old i }
     {
         let entry = &mut self.jobs[i];
         entry.job.lend();
@@ -209,7 +209,7 @@ impl Book {
     /// The page that was lent to a job came back.
     pub fn unlend(&mut self, i: usize)
         requires here { i < length self.old.jobs }
-        ensures { self.new ≡ with_job self.old i (told unlent_facts (job_at self.old i)) }
+        ensures { self.new ≡ changed (told unlent_facts) self.old i }
     {
         let entry = &mut self.jobs[i];
         entry.job.unlend();
@@ -221,7 +221,7 @@ impl Book {
         requires idle { IsIdle (job_at self.old i).chain }
         requires free { CanBegin (names_of (job_at self.old i).chain.files) 52 name }
         requires files { length (job_at self.old i).facts.files < 52 }
-        ensures { self.new ≡ with_job self.old i (begun_job name count (job_at self.old i)) }
+        ensures { self.new ≡ changed (begun_job name count) self.old i }
     {
         let entry = &mut self.jobs[i];
         match entry.chain.begin_file(name) {
@@ -239,7 +239,7 @@ impl Book {
         requires some { 0 < length (job_at self.old i).facts.files }
         requires fits { length page.octets ≤ (last_size (job_at self.old i).facts.files).left }
         requires few { (last_size (job_at self.old i).facts.files).pages + 1 < 2 ^ 64 }
-        ensures { self.new ≡ record (with_job self.old i (put_job page (job_at self.old i))) { stored = self.old.stored + 1 } }
+        ensures { self.new ≡ put_in page self.old i }
     {
         let len = page.len() as u64;
         let entry = &mut self.jobs[i];
@@ -251,7 +251,7 @@ impl Book {
     pub fn end_file(&mut self, i: usize)
         requires here { i < length self.old.jobs }
         requires opened { (job_at self.old i).chain.is_open ≡ true }
-        ensures { self.new ≡ with_job self.old i (closed_file (job_at self.old i)) }
+        ensures { self.new ≡ changed closed_file self.old i }
     {
         let entry = &mut self.jobs[i];
         entry.chain.end_file();
@@ -260,7 +260,7 @@ impl Book {
     /// A job's control file came.
     pub fn set_control(&mut self, i: usize, control: Control)
         requires here { i < length self.old.jobs }
-        ensures { self.new ≡ with_job self.old i (told (controlled_facts (contents control)) (job_at self.old i)) }
+        ensures { self.new ≡ changed (told (controlled_facts (contents control))) self.old i }
     {
         let entry = &mut self.jobs[i];
         entry.job.set_control(control);
@@ -273,12 +273,10 @@ impl Book {
         requires idle { IsIdle (job_at self.old i).chain }
         requires size { pool.old.page_size ≡ self.old.page_size }
         requires control { IsSome (job_at self.old i).facts.control }
-        requires room { pool.old.free + length (unnamed_pages (job_at self.old i).chain.files (prints_of (job_at self.old i))) ≤ pool.old.pages }
-        ensures book { self.new ≡ record (with_job self.old i (received_job (prints_of (job_at self.old i)) (job_at self.old i))) {
-          stored = self.old.stored - length (unnamed_pages (job_at self.old i).chain.files (prints_of (job_at self.old i)));
-        } }
-        ensures counted { length (unnamed_pages (job_at self.old i).chain.files (prints_of (job_at self.old i))) ≤ self.old.stored }
-        ensures pool { pool.new ≡ record pool.old { free = pool.old.free + length (unnamed_pages (job_at self.old i).chain.files (prints_of (job_at self.old i))) } }
+        requires room { pool.old.free + unnamed_of (job_at self.old i) ≤ pool.old.pages }
+        ensures book { self.new ≡ received_in self.old i }
+        ensures counted { unnamed_of (job_at self.old i) ≤ self.old.stored }
+        ensures pool { pool.new ≡ record pool.old { free = pool.old.free + unnamed_of (job_at self.old i) } }
     {
         let entry = &mut self.jobs[i];
         match entry.job.control() {
@@ -298,7 +296,7 @@ impl Book {
         requires few { (job_at self.old i).facts.handed + 1 < 2 ^ 64 }
         ensures page { page_at (job_at self.old i).chain.files (next_place (job_at self.old i).chain) ≡ Some result }
         ensures size { result.page_size ≡ self.old.page_size }
-        ensures book { self.new ≡ record (with_job self.old i (handed_job (job_at self.old i))) { stored = self.old.stored - 1 } }
+        ensures book { self.new ≡ handed_in self.old i }
         ensures counted { 0 < self.old.stored }
     {
         let entry = &mut self.jobs[i];
@@ -310,7 +308,7 @@ impl Book {
     pub fn come_back(&mut self, i: usize)
         requires here { i < length self.old.jobs }
         requires few { (job_at self.old i).facts.back + 1 < 2 ^ 64 }
-        ensures { self.new ≡ with_job self.old i (told back_facts (job_at self.old i)) }
+        ensures { self.new ≡ changed (told back_facts) self.old i }
     {
         let entry = &mut self.jobs[i];
         entry.job.come_back();
@@ -323,7 +321,7 @@ impl Book {
         requires awaited { AwaitsLast (job_at self.old i).chain }
         requires size { page.page_size ≡ self.old.page_size }
         requires room { self.old.stored < self.old.pages }
-        ensures { self.new ≡ record (with_job self.old i (again_job page (job_at self.old i))) { stored = self.old.stored + 1 } }
+        ensures { self.new ≡ again_in page self.old i }
     {
         let entry = &mut self.jobs[i];
         entry.chain.give_again(&mut self.nodes, page);
@@ -334,10 +332,10 @@ impl Book {
     pub fn drain(&mut self, i: usize, pool: &mut Pool) -> usize
         requires here { i < length self.old.jobs }
         requires size { pool.old.page_size ≡ self.old.page_size }
-        requires room { pool.old.free + length (every_page (job_at self.old i).chain.files) ≤ pool.old.pages }
-        ensures count { result ≡ length (every_page (job_at self.old i).chain.files) }
+        requires room { pool.old.free + pages_of (job_at self.old i) ≤ pool.old.pages }
+        ensures count { result ≡ pages_of (job_at self.old i) }
         ensures counted { result ≤ self.old.stored }
-        ensures book { self.new ≡ record (with_job self.old i (drained_job (job_at self.old i))) { stored = self.old.stored - result } }
+        ensures book { self.new ≡ drained_in result self.old i }
         ensures pool { pool.new ≡ record pool.old { free = pool.old.free + result } }
     {
         let free = self.nodes.free();

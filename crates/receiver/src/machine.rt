@@ -199,6 +199,12 @@ impl Machine {
         self.owed != Owed::Nothing
     }
 
+    pub(crate) fn has_job(&self) -> bool
+        ensures { result ≡ (state_of self.now).job }
+    {
+        self.job
+    }
+
     pub(crate) fn into_ticket(self) -> Option<PageTicket>
         requires { IsSound self }
         ensures { result ≡ held (state_of self).items (state_of self).tail }

@@ -79,6 +79,13 @@ impl Receiver {
         self.machine.owes()
     }
 
+    /// Whether a job is in hand: one was opened, and neither received nor aborted since.
+    pub fn has_job(&self) -> bool
+        ensures { result ≡ self.now.job }
+    {
+        self.machine.has_job()
+    }
+
     /// Ends the reading, and gives the ticket in hand.
     pub fn into_ticket(self) -> Option<PageTicket>
         ensures { result ≡ held self.items self.tail }

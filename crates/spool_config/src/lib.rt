@@ -1,6 +1,10 @@
 //! The configuration of a spool, read from TOML text.
 #![tactic(auto)]
 
+mod laws;
+mod reading;
 mod settings;
 
-pub use settings::{ConfigFault, Key, read};
+pub use laws::each_text_is_decided;
+pub use reading::read;
+pub use settings::{ConfigFault, Key};

@@ -1,188 +1,144 @@
-//! A configuration: its keys, their ranges and its faults.
+//! The keys of a configuration and its faults.
 
-ghost use Rattle.std.specs.Prelude.{◌≡◌, ◌≢◌, ◌≤◌, All, IfOk, length, vec_len, false, true};
-ghost use Rattle.config_values.specs.Ranges.{IsConfig, IsWithin, IsQueueName, HaveOwnNames};
+ghost use Rattle.std.specs.Prelude.{◌≡◌};
+ghost use Rattle.spool_config.specs.Keys.{word_of, most_of};
 
-use config_values::{Config, Queue};
-use std::alloc::{AllocError, Global};
-use thiserror::Error;
-use toml::{Table, Value};
+use std::alloc::{AllocError, AllocFailed};
+use std::error::Error;
+use std::fmt;
 
-/// The key that a fault names.
-#[derive(Clone, Copy, Debug, PartialEq, Eq, Error)]
+/// A key, which a fault names.
+#[derive(Clone, Copy, Debug, PartialEq, Eq)]
 pub enum Key {
-    #[error("pages")]
+    /// How many pages the pool has: a whole number, 1 to 65,536.
     Pages,
-    #[error("page_size")]
+    /// The octets of a page: a whole number, 1 to 65,536.
     PageSize,
-    #[error("max_jobs")]
+    /// How many jobs are held at once: a whole number, 1 to 1,024.
     MaxJobs,
-    #[error("account")]
+    /// How many entries the account may have: a whole number, 1 to 16,000,000.
     Account,
-    #[error("queue")]
+    /// The queues: an array of 1 to 64 tables.
     Queue,
-    #[error("queue.name")]
+    /// The name of a queue: a text of 1 to 64 octets from 21 to 7E (hexadecimal).
     Name,
-    #[error("queue.limit")]
+    /// How many pages a job of a queue may hold: a whole number, 1 to 65,536 and at most `pages`.
     Limit,
-    #[error("queue.printers")]
+    /// How many printers serve a queue: a whole number, 1 to 16.
     Printers,
 }
 
+impl Key {
+    /// The word under which it stands in its table.
+    pub(crate) fn word(self) -> &'static str
+        ensures { result.now ≡ word_of self }
+    {
+        match self {
+            Key::Pages => "pages",
+            Key::PageSize => "page_size",
+            Key::MaxJobs => "max_jobs",
+            Key::Account => "account",
+            Key::Queue => "queue",
+            Key::Name => "name",
+            Key::Limit => "limit",
+            Key::Printers => "printers",
+        }
+    }
+
+    /// The most that its number may be; at `queue` the most queues, at `name` the most octets.
+    pub(crate) fn most(self) -> u32
+        ensures { result ≡ most_of self }
+    {
+        match self {
+            Key::Pages | Key::PageSize | Key::Limit => 65_536,
+            Key::MaxJobs => 1_024,
+            Key::Account => 16_000_000,
+            Key::Queue | Key::Name => 64,
+            Key::Printers => 16,
+        }
+    }
+}
+
+/// Writes the key as a fault tells it: with `queue.` in front where it stands in the table of a queue.
+impl fmt::Display for Key {
+    ghost use Rattle.std.specs.Prelude.{Some};
+    ghost use Rattle.spool_config.specs.Words.{key_words};
+
+    ghost output = { λ key. Some (key_words key) };
+
+    fn fmt<W: fmt::Write>(&self, f: &mut fmt::Formatter<W>) -> fmt::Result {
+        f.write_str(match self {
+            Key::Pages => "pages",
+            Key::PageSize => "page_size",
+            Key::MaxJobs => "max_jobs",
+            Key::Account => "account",
+            Key::Queue => "queue",
+            Key::Name => "queue.name",
+            Key::Limit => "queue.limit",
+            Key::Printers => "queue.printers",
+        })
+    }
+}
+
 /// Why a text is no configuration.
-#[derive(Clone, Copy, Debug, PartialEq, Eq, Error)]
+#[derive(Clone, Copy, Debug, PartialEq, Eq)]
 pub enum ConfigFault {
     /// It isn't TOML.
-    #[error("fault 50 NotToml")]
     NotToml,
     /// The key isn't there.
-    #[error("fault 51 Missing {0}")]
     Missing(Key),
     /// The value has another type.
-    #[error("fault 52 WrongType {0}")]
     WrongType(Key),
     /// The value isn't in its range.
-    #[error("fault 53 OutOfRange {0}")]
     OutOfRange(Key),
     /// Two queues have one name.
-    #[error("fault 54 SameName")]
     SameName,
     /// A queue's limit is over the pages of the pool.
-    #[error("fault 55 LimitOverPool")]
     LimitOverPool,
-    /// Memory was refused.
-    #[error("fault 12 Memory")]
+    /// Memory was refused, which says nothing of the text.
     Memory,
 }
 
+/// Writes one line without its end: `fault`, the number, the name, and the key where there is one.
+impl fmt::Display for ConfigFault {
+    ghost use Rattle.std.specs.Prelude.{Some};
+    ghost use Rattle.spool_config.specs.Words.{fault_words};
+
+    ghost output = { λ fault. Some (fault_words fault) };
+
+    fn fmt<W: fmt::Write>(&self, f: &mut fmt::Formatter<W>) -> fmt::Result {
+        match self {
+            ConfigFault::NotToml => f.write_str("fault 50 NotToml"),
+            ConfigFault::Missing(key) => write!(f, "fault 51 Missing {key}"),
+            ConfigFault::WrongType(key) => write!(f, "fault 52 WrongType {key}"),
+            ConfigFault::OutOfRange(key) => write!(f, "fault 53 OutOfRange {key}"),
+            ConfigFault::SameName => f.write_str("fault 54 SameName"),
+            ConfigFault::LimitOverPool => f.write_str("fault 55 LimitOverPool"),
+            ConfigFault::Memory => f.write_str("fault 12 Memory"),
+        }
+    }
+}
+
+impl Error for ConfigFault {}
+
 impl From<AllocError> for ConfigFault {
+    ghost use Rattle.std.specs.Prelude.{◌≡◌};
+    ghost use Rattle.spool_config.specs.declared.settings.ConfigFault.TheVariants.{Memory};
+
+    ghost from_gives = { λ _ fault. fault ≡ Memory };
+
     fn from(_error: AllocError) -> ConfigFault {
         ConfigFault::Memory
     }
 }
 
-/// The most pages, and the most octets of a page.
-const MOST: u32 = 65_536;
+impl<T: Drop> From<AllocFailed<T>> for ConfigFault {
+    ghost use Rattle.std.specs.Prelude.{◌≡◌};
+    ghost use Rattle.spool_config.specs.declared.settings.ConfigFault.TheVariants.{Memory};
 
-/// Reads a configuration. Keys that it doesn't know are passed over.
-pub fn read(alloc: Global, text: &[u8]) -> Result<Config, ConfigFault>
-    ensures { IfOk result IsConfig }
-{
-    let table = match toml::table_from_slice(alloc, text) {
-        Ok(table) => table,
-        Err(error) => {
-            return Err(if error.is_memory() {
-                ConfigFault::Memory
-            } else {
-                ConfigFault::NotToml
-            });
-        }
-    };
-    let pages = number(&table, "pages", Key::Pages, MOST)?;
-    let page_size = number(&table, "page_size", Key::PageSize, MOST)?;
-    let max_jobs = number(&table, "max_jobs", Key::MaxJobs, 1024)?;
-    let account = number(&table, "account", Key::Account, 16_000_000)?;
-    let queues = queues(alloc, &table)?;
-    if has_same_name(queues.as_slice()) {
-        return Err(ConfigFault::SameName);
-    }
-    if !are_within(pages, queues.as_slice()) {
-        return Err(ConfigFault::LimitOverPool);
-    }
-    Ok(Config::new(pages, page_size, max_jobs, account, queues))
-}
+    ghost from_gives = { λ _ fault. fault ≡ Memory };
 
-/// A whole number from 1 to `most`.
-fn number(table: &Table, name: &str, key: Key, most: u32) -> Result<u32, ConfigFault>
-    ensures { IfOk result (λ n. (1 ≤ n) × (n ≤ most)) }
-{
-    match table.get(name) {
-        None => Err(ConfigFault::Missing(key)),
-        Some(Value::Integer(n)) => match u32::try_from(*n) {
-            Ok(n) if n >= 1 && n <= most => Ok(n),
-            _ => Err(ConfigFault::OutOfRange(key)),
-        },
-        Some(_) => Err(ConfigFault::WrongType(key)),
+    fn from(_error: AllocFailed<T>) -> ConfigFault {
+        ConfigFault::Memory
     }
-}
-
-/// The queues, each in its ranges.
-fn queues(alloc: Global, table: &Table) -> Result<Vec<Queue>, ConfigFault>
-    ensures all { IfOk result (λ queues. All (IsWithin 65536) queues.items) }
-    ensures some { IfOk result (λ queues. 1 ≤ vec_len queues) }
-    ensures few { IfOk result (λ queues. vec_len queues ≤ 64) }
-{
-    let rows = match table.get("queue") {
-        None => return Err(ConfigFault::Missing(Key::Queue)),
-        Some(Value::Array(rows)) => rows,
-        Some(_) => return Err(ConfigFault::WrongType(Key::Queue)),
-    };
-    if !rows.iter().all(|row| matches!(row, Value::Table(_))) {
-        return Err(ConfigFault::WrongType(Key::Queue));
-    }
-    if rows.is_empty() || rows.len() > 64 {
-        return Err(ConfigFault::OutOfRange(Key::Queue));
-    }
-    let mut queues = Vec::new(alloc);
-    for row in rows {
-        let Value::Table(row) = row else {
-            return Err(ConfigFault::WrongType(Key::Queue));
-        };
-        queues.push(queue(alloc, row)?).map_err(AllocError::from)?;
-    }
-    Ok(queues)
-}
-
-/// One queue.
-fn queue(alloc: Global, row: &Table) -> Result<Queue, ConfigFault>
-    ensures { IfOk result (IsWithin 65536) }
-{
-    let name = match row.get("name") {
-        None => return Err(ConfigFault::Missing(Key::Name)),
-        Some(Value::String(name)) => name.as_str(),
-        Some(_) => return Err(ConfigFault::WrongType(Key::Name)),
-    };
-    if !is_queue_name(name) {
-        return Err(ConfigFault::OutOfRange(Key::Name));
-    }
-    let limit = number(row, "limit", Key::Limit, MOST)?;
-    let printers = number(row, "printers", Key::Printers, 16)?;
-    let name = String::from_str(alloc, name)?;
-    Ok(Queue::new(name, limit, printers))
-}
-
-/// Whether a queue may have this name: 1 to 64 octets, each from 21 to 7E in hexadecimal.
-fn is_queue_name(name: &str) -> bool
-    ensures { result ≡ true → IsQueueName name.now }
-{
-    let octets = name.as_bytes();
-    if octets.is_empty() || octets.len() > 64 {
-        return false;
-    }
-    octets.iter().all(|octet| *octet >= 0x21 && *octet <= 0x7e)
-}
-
-/// Whether two queues have one name.
-fn has_same_name(queues: &[Queue]) -> bool
-    ensures { result ≡ false → HaveOwnNames queues.now }
-{
-    match queues {
-        [] => false,
-        [first, rest @ ..] => is_among(rest, first.name()) || has_same_name(rest),
-    }
-}
-
-/// Whether a queue has the name.
-fn is_among(queues: &[Queue], name: &[u8]) -> bool
-    ensures { result ≡ false → All (λ q. q.name ≢ name.now) queues.now }
-{
-    queues.iter().any(|q| q.name() == name)
-}
-
-/// Whether each limit is within the pages.
-fn are_within(pages: u32, queues: &[Queue]) -> bool
-    requires { All (IsWithin 65536) queues.now }
-    ensures { result ≡ true → All (IsWithin pages) queues.now }
-{
-    queues.iter().all(|q| q.limit() <= pages)
 }

@@ -1,8 +1,10 @@
 -- What a core keeps in its fields.
 use Rattle.std.specs.Prelude.{◌≡◌, ℕ, ◌+◌, List, length}
+use Rattle.config_values.specs.Config.{Config, limit_of}
 use Rattle.config_values.specs.Ranges.{IsConfig}
 use Rattle.spool_history.specs.Base.{Base}
 use Rattle.spool_history.specs.Events.{Event}
+use Rattle.spool_history.specs.Now.{amounts}
 use Rattle.account.specs.declared.entry.Outline.{Outline}
 use Rattle.spool_calls.specs.Looks.Detail.{Outlines}
 use Rattle.spool_calls.specs.Kept.{Kept, Leaves}
@@ -28,3 +30,7 @@ pub record IsCore (a : Inside) : Type 0 where
   -- there is room for every decision
   pub rows : a.scratch.rows ≡ a.config.max_jobs
   pub kinds : a.scratch.kinds ≡ length a.config.queues + 1
+
+-- the claim of one job of a queue: as many pages as its limit, and one of its printers
+abbrev pub claim_in : Config → (queue : ℕ) → List ℕ
+claim_in c queue = amounts c (limit_of c queue) queue 1

@@ -135,7 +135,8 @@ impl Core {
     /// Closed once the spool is closed; UnknownQueue where no queue has this name.
     pub fn start(&mut self, queue: &[u8]) -> Result<(), Refusal>
         ensures config { self.new.config ≡ self.old.config }
-        ensures answer { IsRight self.old (λ d b h. Starts d b h self.old queue.now self.new result) }
+        ensures answer { IsRight self.old (λ d b h.
+            Starts d b h self.old queue.now self.new result) }
     {
         if self.closed {
             return Err(Refusal::Closed);

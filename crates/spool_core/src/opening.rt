@@ -1,13 +1,14 @@
 //! The acceptance of jobs.
 
-ghost use Rattle.std.specs.Prelude.{◌≡◌, ◌≢◌, ◌↔◌, ◌+◌, ◌<◌, ◌≤◌, ◌++◌, ◌∷◌, [], All, IsTrue, OnOk, OnErr, length};
+ghost use Rattle.std.specs.Prelude.{◌≡◌, ◌≢◌, ◌↔◌, ◌+◌, ◌<◌, ◌≤◌, All, IsTrue, OnOk, OnErr, length};
 ghost use Rattle.counts.specs.Amounts.{amount, Fits};
 ghost use Rattle.claims.specs.declared.row.Row.{Row};
-ghost use Rattle.claims.specs.Changes.{opened, HasPlace};
+ghost use Rattle.claims.specs.Changes.{opened};
 ghost use Rattle.config_values.specs.Config as C;
-ghost use Rattle.held_jobs.specs.Jobs.{HeldJob, new_job};
-ghost use Rattle.spool_history.specs.Now.{amounts};
+ghost use Rattle.held_jobs.specs.Jobs.{HeldJob};
 ghost use Rattle.spool_calls.specs.Calls.{IsRight, Opens};
+ghost use Rattle.held_jobs.specs.Moves.{with_new};
+ghost use Rattle.spool_core.specs.Inside.{claim_in};
 
 use crate::core_state::Core;
 use crate::kinds::claim_of;
@@ -46,10 +47,11 @@ fn add_job(
     requires other { All (λ (j : HeldJob). j.facts.number ≢ number) book.old.jobs }
     requires rows { length table.old.rows < table.old.room }
     requires greater { All (λ (r : Row). r.number < number) table.old.rows }
-    requires kinds { length (amounts config.now (C.limit_of config.now queue) queue 1) ≡ length table.old.capacity }
-    requires fits { Fits (amounts config.now (C.limit_of config.now queue) queue 1) (amount table.old.capacity) }
-    ensures book { OnOk result (book.new ≡ record book.old { jobs = book.old.jobs ++ new_job number sender queue ∷ [] }) }
-    ensures table { OnOk result (table.new ≡ opened table.old number sender queue (amounts config.now (C.limit_of config.now queue) queue 1)) }
+    requires kinds { length (claim_in config.now queue) ≡ length table.old.capacity }
+    requires fits { Fits (claim_in config.now queue) (amount table.old.capacity) }
+    ensures book { OnOk result (book.new ≡ with_new book.old number sender queue) }
+    ensures table { OnOk result (table.new
+        ≡ opened table.old number sender queue (claim_in config.now queue)) }
     ensures same_book { OnErr result (book.new ≡ book.old) }
     ensures same_table { OnErr result (table.new ≡ table.old) }
 {
@@ -73,7 +75,8 @@ impl Core {
     /// entries of one more job, or no number is left; Memory where memory for the job is refused.
     pub fn open(&mut self, sender: u32, queue: &[u8]) -> Result<u64, Refusal>
         ensures config { self.new.config ≡ self.old.config }
-        ensures answer { IsRight self.old (λ d b h. Opens d b h self.old sender queue.now self.new result) }
+        ensures answer { IsRight self.old (λ d b h.
+            Opens d b h self.old sender queue.now self.new result) }
     {
         if self.closed {
             return Err(Refusal::Closed);

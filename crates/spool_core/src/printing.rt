@@ -5,11 +5,12 @@ ghost use Rattle.counts.specs.Amounts.{amount};
 ghost use Rattle.claims.specs.Claims.{row_at};
 ghost use Rattle.claims.specs.Changes.{closed, granted};
 ghost use Rattle.config_values.specs.Config.{IsPrinter};
-ghost use Rattle.page_chain.specs.Files.{every_page};
 ghost use Rattle.held_jobs.specs.Books.{job_at};
 ghost use Rattle.spool_calls.specs.Calls.{IsRight, Hands, Prints, Fails};
+ghost use Rattle.spool_core.specs.Printers.{HasNext};
 ghost use Rattle.account.specs.declared.entry.Progress.TheVariants as progress;
 ghost use Rattle.core_steps.proofs.Backing.{said_of};
+ghost use Rattle.held_jobs.specs.Moves.{pages_of};
 
 use crate::core_state::Core;
 use crate::printers::{is_out, sheet_out};
@@ -61,12 +62,12 @@ fn let_go(book: &mut Book, pool: &mut Pool, table: &mut Table, i: usize, page: H
     requires row { i < length table.old.rows }
     requires size { pool.old.page_size ≡ book.old.page_size }
     requires page { page.page.page_size ≡ pool.old.page_size }
-    requires room { pool.old.free + length (every_page (job_at book.old i).chain.files) + 1 ≤ pool.old.pages }
+    requires room { pool.old.free + pages_of (job_at book.old i) + 1 ≤ pool.old.pages }
     ensures book { book.new ≡ record book.old {
       jobs = remove book.old.jobs i;
-      stored = book.old.stored - length (every_page (job_at book.old i).chain.files);
+      stored = book.old.stored - pages_of (job_at book.old i);
     } }
-    ensures pool { pool.new ≡ record pool.old { free = pool.old.free + length (every_page (job_at book.old i).chain.files) + 1 } }
+    ensures pool { pool.new ≡ record pool.old { free = pool.old.free + pages_of (job_at book.old i) + 1 } }
     ensures table { table.new ≡ closed table.old i }
 {
     book.drain(i, pool);
@@ -124,13 +125,35 @@ impl Core {
         Next::Handed(page)
     }
 
+    /// Whether a page is next for a printer, so that `next` would hand it one.
+    pub fn has_next(&self, printer: u32) -> bool
+        requires { IsPrinter self.now.config printer }
+        ensures { IsRight self.now (λ d b h. IsTrue result ↔ HasNext d b h self.now printer) }
+    {
+        let at = self.printers[printer as usize - 1];
+        if self.closed {
+            return false;
+        }
+        if at.stopped {
+            return false;
+        }
+        if at.out.is_some() {
+            return false;
+        }
+        let Some(i) = self.book.turn_of(at.queue, at.began) else {
+            return false;
+        };
+        self.book.next_place(i).is_some()
+    }
+
     /// Takes back the page that is out at a printer, printed, and says how far its job is.
     ///
     /// Refused, with the page, where it isn't the one that is out at the printer.
     pub fn printed(&mut self, printer: u32, page: HandedPage) -> Result<Progress, Foreign>
         requires { IsPrinter self.old.config printer }
         ensures config { self.new.config ≡ self.old.config }
-        ensures answer { IsRight self.old (λ d b h. Prints d b h self.old printer page self.new result) }
+        ensures answer { IsRight self.old (λ d b h.
+            Prints d b h self.old printer page self.new result) }
     {
         let p = printer as usize - 1;
         let at = self.printers[p];
@@ -162,7 +185,8 @@ impl Core {
     pub fn failed(&mut self, printer: u32, page: HandedPage) -> Result<(), Foreign>
         requires { IsPrinter self.old.config printer }
         ensures config { self.new.config ≡ self.old.config }
-        ensures answer { IsRight self.old (λ d b h. Fails d b h self.old printer page self.new result) }
+        ensures answer { IsRight self.old (λ d b h.
+            Fails d b h self.old printer page self.new result) }
     {
         let p = printer as usize - 1;
         let at = self.printers[p];

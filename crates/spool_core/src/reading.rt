@@ -69,7 +69,8 @@ fn count_lent(book: &Book) -> usize
 
 /// Whether the account has room for the entries of one more job of a queue, and there is a number for it.
 fn has_entries(config: &Config, reserved: u64, accepted: u64, queue: u32) -> bool
-    ensures { IsTrue result ↔ (reserved + reserve_of config.now queue + 1 ≤ config.now.account) × (accepted + 1 < 2 ^ 64) }
+    ensures { IsTrue result ↔ (reserved + reserve_of config.now queue + 1 ≤ config.now.account)
+        × (accepted + 1 < 2 ^ 64) }
 {
     let entries = u128::from(reserved) + u128::from(config.reserve_of(queue)) + 1;
     entries <= u128::from(config.account()) && accepted < u64::MAX
@@ -135,7 +136,8 @@ impl Core {
 
     /// The number of the queue of a name.
     pub fn queue_number(&self, name: &[u8]) -> Option<u32>
-        ensures { MatchOption result (IsUnknown self.now.config name.now) (λ q. IsNamed self.now.config name.now q) }
+        ensures { MatchOption result (IsUnknown self.now.config name.now)
+            (λ q. IsNamed self.now.config name.now q) }
     {
         self.config.queue_named(name)
     }
@@ -184,7 +186,8 @@ impl Core {
     /// of it is open.
     pub fn open_file(&self, job: u64) -> Option<(u64, u64)>
         ensures { IsRight self.now (λ d b h.
-            MatchOption result (HasOpenFile d b h self.now job → ⊥) (λ r. IsOpenFile d b h self.now job r.0 r.1)) }
+            MatchOption result (HasOpenFile d b h self.now job → ⊥)
+            (λ r. IsOpenFile d b h self.now job r.0 r.1)) }
     {
         let Some(i) = self.book.find(job) else {
             return None;
@@ -201,7 +204,8 @@ impl Core {
 
     /// The pages by where they are. All together are the pages of the spool.
     pub fn pages_by_place(&self) -> Pages
-        ensures { IsRight self.now (λ d b h. ArePlaced d b h self.now result.free result.chained result.lent result.out) }
+        ensures { IsRight self.now (λ d b h.
+            ArePlaced d b h self.now result.free result.chained result.lent result.out) }
     {
         Pages {
             free: self.pool.free(),

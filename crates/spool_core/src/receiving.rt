@@ -1,16 +1,14 @@
 //! The calls on a job that is being received.
 
-ghost use Rattle.std.specs.Prelude.{◌≡◌, ◌↔◌, ◌+◌, ◌<◌, ◌≤◌, ◌^◌, ◌-◌, None, List, IsTrue, IsSome, IfOk, IfSome, length};
+ghost use Rattle.std.specs.Prelude.{◌≡◌, ◌↔◌, ◌+◌, ◌<◌, ◌≤◌, ◌-◌, None, IsTrue, IsSome, IfOk, IfSome, length};
 ghost use Rattle.control_file.specs.View.{contents};
 ghost use Rattle.counts.specs.Amounts.{amount};
 ghost use Rattle.claims.specs.Claims.{row_at};
 ghost use Rattle.claims.specs.Changes.{given_back, need_ended};
 ghost use Rattle.config_values.specs.Config.{limit_of};
-ghost use Rattle.page_chain.specs.Changes.{unnamed_pages};
 ghost use Rattle.held_jobs.specs.declared.phase.Phase.TheVariants as phase;
-ghost use Rattle.held_jobs.specs.Books.{IsIdle, job_at, prints_of, with_job};
-ghost use Rattle.held_jobs.specs.Jobs.{Facts};
-ghost use Rattle.held_jobs.specs.Moves.{MayAsk, Awaits, CanEnd, received_job};
+ghost use Rattle.held_jobs.specs.Books.{IsIdle, job_at};
+ghost use Rattle.held_jobs.specs.Moves.{MayAsk, Awaits, CanEnd, received_in, unnamed_of};
 ghost use Rattle.spool_calls.specs.Calls.{IsRight, Asks, Begins, Puts, Ends, Controls, Aborts};
 ghost use Rattle.spool_history.specs.Legal.{pages_for};
 ghost use Rattle.spool_core.specs.Tickets.{IsBlank};
@@ -54,7 +52,8 @@ fn pages_for(page_size: u32, count: u64) -> u128
 
 /// Whether a job would hold more than its queue allows, with the pages of a file of this length.
 fn is_over(config: &Config, job: &Job, count: u64) -> bool
-    ensures { IsTrue result ↔ (limit_of config.now job.now.queue < job.now.granted + pages_for config.now.page_size count) }
+    ensures { IsTrue result ↔ (limit_of config.now job.now.queue
+        < job.now.granted + pages_for config.now.page_size count) }
 {
     let pages = pages_for(config.page_size(), count);
     u128::from(config.limit_of(job.queue())) < u128::from(job.granted()) + pages
@@ -116,16 +115,15 @@ fn receive(book: &mut Book, pool: &mut Pool, table: &mut Table, i: usize)
     requires idle { IsIdle (job_at book.old i).chain }
     requires size { pool.old.page_size ≡ book.old.page_size }
     requires control { IsSome (job_at book.old i).facts.control }
-    requires room { pool.old.free + length (unnamed_pages (job_at book.old i).chain.files (prints_of (job_at book.old i))) ≤ pool.old.pages }
-    requires few { length (unnamed_pages (job_at book.old i).chain.files (prints_of (job_at book.old i))) ≤ 65536 }
+    requires room { pool.old.free + unnamed_of (job_at book.old i) ≤ pool.old.pages }
+    requires few { unnamed_of (job_at book.old i) ≤ 65536 }
     requires row { i < length table.old.rows }
     requires kind { 0 < length table.old.capacity }
-    requires held { length (unnamed_pages (job_at book.old i).chain.files (prints_of (job_at book.old i))) ≤ amount (row_at table.old.rows i).held PAGES }
-    ensures book { book.new ≡ record (with_job book.old i (received_job (prints_of (job_at book.old i)) (job_at book.old i))) {
-      stored = book.old.stored - length (unnamed_pages (job_at book.old i).chain.files (prints_of (job_at book.old i)));
-    } }
-    ensures pool { pool.new ≡ record pool.old { free = pool.old.free + length (unnamed_pages (job_at book.old i).chain.files (prints_of (job_at book.old i))) } }
-    ensures table { table.new ≡ given_back (need_ended table.old i PAGES) i PAGES (length (unnamed_pages (job_at book.old i).chain.files (prints_of (job_at book.old i)))) }
+    requires held { unnamed_of (job_at book.old i) ≤ amount (row_at table.old.rows i).held PAGES }
+    ensures book { book.new ≡ received_in book.old i }
+    ensures pool { pool.new ≡ record pool.old { free = pool.old.free + unnamed_of (job_at book.old i) } }
+    ensures table { table.new
+        ≡ given_back (need_ended table.old i PAGES) i PAGES (unnamed_of (job_at book.old i)) }
 {
     let before = pool.free();
     book.receive(i, pool);
@@ -175,7 +173,8 @@ impl Core {
     pub fn begin_file(&mut self, job: u64, name: FileName, count: u64) -> Result<(), Refusal>
         requires { 0 < count }
         ensures config { self.new.config ≡ self.old.config }
-        ensures answer { IsRight self.old (λ d b h. Begins d b h self.old job name count self.new result) }
+        ensures answer { IsRight self.old (λ d b h.
+            Begins d b h self.old job name count self.new result) }
     {
         let Some(i) = self.book.find(job) else {
             return Err(Refusal::NotOpen);
@@ -246,7 +245,8 @@ impl Core {
     /// NotOpen where the job isn't being received; ControlTwice where it has one.
     pub fn control(&mut self, job: u64, control: Control) -> Result<Receipt, Refusal>
         ensures config { self.new.config ≡ self.old.config }
-        ensures answer { IsRight self.old (λ d b h. Controls d b h self.old job (contents control) self.new result) }
+        ensures answer { IsRight self.old (λ d b h.
+            Controls d b h self.old job (contents control) self.new result) }
     {
         let Some(i) = self.book.find(job) else {
             return Err(Refusal::NotOpen);
@@ -276,7 +276,8 @@ impl Core {
     /// one of another size.
     pub fn abort(&mut self, job: u64, ticket: Option<PageTicket>) -> Result<(), ReturnedTicket>
         ensures config { self.new.config ≡ self.old.config }
-        ensures answer { IsRight self.old (λ d b h. Aborts d b h self.old job ticket self.new result) }
+        ensures answer { IsRight self.old (λ d b h.
+            Aborts d b h self.old job ticket self.new result) }
     {
         let page_size = self.config.page_size() as usize;
         let Some(i) = self.book.find(job) else {

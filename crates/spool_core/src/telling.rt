@@ -79,7 +79,8 @@ impl Core {
     ///
     /// Closed; UnknownQueue; Memory where memory for the numbers is refused.
     pub fn chosen(&self, queue: &[u8], agent: &[u8], list: &[Octets]) -> Result<Vec<u64>, Refusal>
-        ensures { IsRight self.now (λ d b h. Chooses d b h self.now queue.now agent.now list.now result) }
+        ensures { IsRight self.now (λ d b h.
+            Chooses d b h self.now queue.now agent.now list.now result) }
     {
         if self.closed {
             return Err(Refusal::Closed);
@@ -99,7 +100,8 @@ impl Core {
     /// Closed; UnknownQueue; Memory where memory for the text is refused. Nothing changes then.
     pub fn remove(&mut self, queue: &[u8], agent: &[u8], list: &[Octets]) -> Result<Octets, Refusal>
         ensures config { self.new.config ≡ self.old.config }
-        ensures answer { IsRight self.old (λ d b h. Removes d b h self.old queue.now agent.now list.now self.new result) }
+        ensures answer { IsRight self.old (λ d b h.
+            Removes d b h self.old queue.now agent.now list.now self.new result) }
     {
         if self.closed {
             return Err(Refusal::Closed);

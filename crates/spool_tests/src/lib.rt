@@ -6,6 +6,8 @@ mod banker;
 #[cfg(test)]
 mod chain;
 #[cfg(test)]
+mod client;
+#[cfg(test)]
 mod control;
 #[cfg(test)]
 mod faults;
@@ -19,3 +21,5 @@ mod rows;
 mod scripts;
 #[cfg(test)]
 mod sessions;
+#[cfg(test)]
+mod words;

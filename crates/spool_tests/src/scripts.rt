@@ -90,7 +90,12 @@ fn written(alloc: Global, told: &[u8]) -> Result<String, AllocError> {
 }
 
 /// The session answers these octets so, whole and octet by octet.
-fn answers(rt: &impl Abort, alloc: Global, octets: &[u8], want: &str) -> Result<(), AllocError> {
+pub fn answers(
+    rt: &impl Abort,
+    alloc: Global,
+    octets: &[u8],
+    want: &str,
+) -> Result<(), AllocError> {
     for piece in [octets.len(), 1] {
         let script = sending(alloc, octets, piece)?;
         let told = told_of(alloc, script.as_str())?;

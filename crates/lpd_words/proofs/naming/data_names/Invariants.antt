@@ -1,0 +1,9 @@
+use Rattle.std.proofs.Common.{◌≡◌, length}
+use Rattle.lpd_words.specs.Naming.{data_names}
+use Rattle.lpd_words.proofs.naming.data_names.Given as goal
+
+abbrev pub invariant-loop-place : goal.invariant-loop-place
+invariant-loop-place l = record {
+  names : l.names ≡ data_names l.place l.fn.number l.fn.host;
+  count : length l.names ≡ l.place;
+}

@@ -1,0 +1,9 @@
+-- The words of this crate's contracts.
+pub mod Asked
+pub mod Causes
+pub mod CommandLine
+pub mod Naming
+pub mod Order
+pub mod Status
+pub mod Summary
+pub mod Unread

@@ -1,0 +1,45 @@
+-- How the files of a job are named.
+use Rattle.std.specs.Prelude.{◌≡◌, ℕ, List, [], ◌∷◌, ◌++◌, ◌+◌, ◌-◌, ◌/◌, ◌%◌, if◌then◌else◌, nat_lt, length, map, zero, suc, codes}
+use Rattle.lpd_values.specs.Contents.{Contents}
+use Rattle.control_file.specs.View.{contents}
+use Rattle.lpd_words.specs.declared.words.Sending.{Sending}
+use Rattle.lpd_words.specs.declared.envelope.Envelope.{Envelope}
+
+-- the letters A to Z, then a to z
+abbrev pub letter_of : ℕ → ℕ
+letter_of place = if nat_lt place 26 then 65 + place else 97 + (place - 26)
+
+abbrev pub three_digits : ℕ → List ℕ
+three_digits n = (48 + n / 100) ∷ (48 + n / 10 % 10) ∷ (48 + n % 10) ∷ []
+
+-- the name with this head, of a job of this number and host
+abbrev pub file_name : List ℕ → ℕ → List ℕ → List ℕ
+file_name head number host = head ++ (three_digits number ++ host)
+
+-- 100 is d and 102 is f
+abbrev pub data_name : ℕ → List ℕ → ℕ → List ℕ
+data_name number host place = file_name (100 ∷ 102 ∷ letter_of place ∷ []) number host
+
+-- the names of so many data files, in order
+abbrev pub data_names : ℕ → ℕ → List ℕ → List (List ℕ)
+data_names zero number host = []
+data_names (suc n) number host = data_names n number host ++ data_name number host n ∷ []
+
+-- what the control file of a job says
+abbrev pub said_of : Sending → Contents
+said_of s = record {
+  host = s.host.now;
+  user = s.user.now;
+  number = s.number;
+  prints = data_names (length s.files.items) s.number s.host.now;
+}
+
+-- 99 is c and 65 is A
+pub record IsEnvelope (s : Sending) (e : Envelope) : Type 0 where
+  pub queue : e.queue ≡ s.queue.now
+  pub name : e.name ≡ file_name (99 ∷ 102 ∷ 65 ∷ []) s.number s.host.now
+  pub control : contents e.control ≡ said_of s
+
+-- the line that says that a job was sent
+abbrev pub sent_line : ℕ → List ℕ
+sent_line number = codes "sent " ++ (three_digits number ++ 10 ∷ [])

@@ -1,0 +1,30 @@
+-- What is done with files, and which fault comes first.
+use Rattle.std.specs.Prelude.{◌≡◌, ◌⊎◌, ◌++◌, ◌∷◌, ℕ, List, [], Option, Result, Err}
+use Rattle.config_values.specs.Config as C
+use Rattle.lpd_commands.specs.Ends.{Writes, one_more}
+use Rattle.lpd_script.specs.Streams.{HasGivenAll}
+use Rattle.lpd_script.specs.declared.fault.Fault.TheVariants as script
+use Rattle.lpd_words.specs.declared.fault.Fault.{Fault}
+use Rattle.lpd_words.specs.declared.fault.Fault.TheVariants.{Run}
+use Rattle.lpd_words.specs.Summary.{summary_of, summary_text}
+use Rattle.spool_config.specs.Answers.{GivesConfig}
+use Rattle.spool_config.specs.declared.settings.ConfigFault.{ConfigFault}
+use Rattle.spool_config.specs.declared.settings.ConfigFault.TheVariants as config
+
+-- all of a text was read, it gives a configuration, and the line that says what spool that is for was written
+abbrev pub Checked : (left rest was now : Option (List ℕ)) → Type 0
+Checked left rest was now =
+    (text : List ℕ) × HasGivenAll left rest text
+    × ((due : C.Config) × GivesConfig text due
+    × Writes was now (summary_text (summary_of due) ++ 10 ∷ []))
+
+-- what may be told of a configuration with this first fault: that a file can't be read, the fault, or want of memory
+abbrev pub StopsAt : ConfigFault → Result (Unit {0}) Fault → Type 0
+StopsAt due result =
+    (result ≡ Err (Run script.ReadFile)) ⊎ (result ≡ Err (Run script.Memory))
+    ⊎ (result ≡ Err (Run (script.Config due))) ⊎ (result ≡ Err (Run (script.Config config.Memory)))
+
+-- a writer's faults after a result: one more where writing is what failed
+abbrev pub write_faults : ℕ → Result (Unit {0}) Fault → ℕ
+write_faults n (Err (Run script.WriteFile)) = one_more n
+write_faults n _ = n

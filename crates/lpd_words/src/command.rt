@@ -1,0 +1,199 @@
+//! The command line, as `clap` reads it.
+
+ghost use Rattle.std.specs.Prelude.{◌≡◌, IfOk, codes, false, pos};
+ghost use Rattle.clap.specs.Words.{app_of, new_app, rule_of, with_rule, with_subcommand};
+ghost use Rattle.clap.specs.declared.builder.command.Command.TheViews.{out-Command as fields_of};
+ghost use Rattle.clap.specs.declared.builder.value_parser.ValueParser.TheVariants as parser;
+ghost use Rattle.lpd_words.specs.CommandLine.{check_app, command_line, number, program_app, replay_app, send_app, send_to_app, word, words};
+
+use clap::builder::ValueParser;
+use clap::{Arg, Command, value_parser};
+use std::alloc::{AllocError, Global};
+
+/// What a configuration's file is.
+const CONFIG: &str = "The file of the configuration, in TOML";
+
+/// What `--help` says at its end.
+const MORE: &str = "\
+Without a command the standard input is read to its end: a configuration, a line %%, and a script.
+
+Examples:
+  lpd_server check spool.toml
+  lpd_server replay spool.toml day.script
+  lpd_server send 515 lp 1 myhost ann letter.txt
+  lpd_server < both
+
+Exit status:
+  0  done
+  1  the words can't be read
+  2  the configuration can't be used (faults 50 to 55)
+  3  the script can't be run (fault 70)
+  4  memory, a file or the network failed (faults 12, 71, 72 and 73)
+  5  a job wasn't taken (faults 60 to 63)
+
+A fault is one line on standard error: `fault`, its number, its name and what it is about.
+The keys of a configuration and all faults: docs/OPERATING.md; a configuration with remarks: docs/example.toml.";
+
+const MORE_OF_CHECK: &str = "\
+Prints one line, as: ok pages 1024 page_size 4096 queues 2 printers 3
+
+Example:
+  lpd_server check spool.toml
+
+The keys of a configuration: docs/OPERATING.md, and with remarks docs/example.toml.";
+
+const MORE_OF_REPLAY: &str = "\
+Both files are read before anything is done. The lines of a script: docs/OPERATING.md.
+
+Example:
+  lpd_server replay spool.toml day.script";
+
+const MORE_OF_SEND: &str = "\
+Files are sent in the order given, each as it is. When the server has taken them all, prints `sent` and the
+number in three digits. A word that begins with - stands behind a word --.
+
+Example:
+  lpd_server send 515 lp 1 myhost ann letter.txt";
+
+/// A word that has to be there.
+fn word<'a>(alloc: Global, id: &'a str, name: &'a str, help: &'a str) -> Arg<'a>
+    ensures rule { rule_of result ≡ word id.now }
+    ensures local { result.global ≡ false }
+{
+    Arg::new(alloc, id)
+        .value_name(name)
+        .help(help)
+        .required(true)
+}
+
+/// One word or more, up to 52, that have to be there.
+fn words<'a>(alloc: Global, id: &'a str, name: &'a str, help: &'a str) -> Arg<'a>
+    ensures rule { rule_of result ≡ words id.now }
+    ensures local { result.global ≡ false }
+{
+    word(alloc, id, name, help).num_args(1..=52)
+}
+
+/// The ports that there are.
+fn port_range<'a>() -> ValueParser<'a>
+    ensures { result ≡ parser.Signed (pos 1) (pos 65535) }
+{
+    value_parser!(u16).range(1..)
+}
+
+/// The numbers that a job may have.
+fn job_range<'a>() -> ValueParser<'a>
+    ensures { result ≡ parser.Signed (pos 0) (pos 999) }
+{
+    value_parser!(u16).range(0..=999)
+}
+
+/// A word that has to be there, a port.
+fn port<'a>(alloc: Global) -> Arg<'a>
+    ensures rule { rule_of result ≡ number (codes "port") (parser.Signed (pos 1) (pos 65535)) }
+    ensures local { result.global ≡ false }
+{
+    let help = "The port of a server at 127.0.0.1: 1 to 65535";
+    word(alloc, "port", "PORT", help).value_parser(port_range())
+}
+
+/// A word that has to be there, the number of a job.
+fn number<'a>(alloc: Global) -> Arg<'a>
+    ensures rule { rule_of result ≡ number (codes "number") (parser.Signed (pos 0) (pos 999)) }
+    ensures local { result.global ≡ false }
+{
+    let help = "The number of the job: 0 to 999";
+    word(alloc, "number", "NUMBER", help).value_parser(job_range())
+}
+
+/// A command of this name without words.
+fn plain<'a>(alloc: Global, name: &'a str, about: &'a str, more: &'a str) -> Command<'a>
+    ensures app { app_of result ≡ new_app name.now }
+    ensures local { (fields_of result).has_globals ≡ false }
+{
+    Command::new(alloc, name).about(about).after_help(more)
+}
+
+/// A command with one word more.
+fn with_word<'a>(command: Command<'a>, word: Arg<'a>) -> Result<Command<'a>, AllocError>
+    requires local { word.global ≡ false }
+    requires before { (fields_of command).has_globals ≡ false }
+    ensures app { IfOk result (λ r. app_of r ≡ with_rule (app_of command.entry) (rule_of word.entry)) }
+    ensures local { IfOk result (λ r. (fields_of r).has_globals ≡ false) }
+{
+    command.arg(word)
+}
+
+/// A command with one command more.
+fn with_command<'a>(command: Command<'a>, more: Command<'a>) -> Result<Command<'a>, AllocError>
+    requires { (fields_of more).has_globals ≡ false }
+    ensures { IfOk result (λ r. app_of r ≡ with_subcommand (app_of command.entry) (app_of more.entry).top) }
+{
+    command.subcommand(more)
+}
+
+/// The command that reads a configuration.
+fn check<'a>(alloc: Global) -> Result<Command<'a>, AllocError>
+    ensures app { IfOk result (λ command. app_of command ≡ check_app) }
+    ensures local { IfOk result (λ command. (fields_of command).has_globals ≡ false) }
+{
+    let about = "Reads a configuration, and says what spool it is for";
+    let config = word(alloc, "config", "CONFIG", CONFIG);
+    with_word(plain(alloc, "check", about, MORE_OF_CHECK), config)
+}
+
+/// The command that runs a script.
+fn replay<'a>(alloc: Global) -> Result<Command<'a>, AllocError>
+    ensures app { IfOk result (λ command. app_of command ≡ replay_app) }
+    ensures local { IfOk result (λ command. (fields_of command).has_globals ≡ false) }
+{
+    let about = "Runs the script of a file on the spool of a configuration";
+    let config = word(alloc, "config", "CONFIG", CONFIG);
+    let script = word(alloc, "script", "SCRIPT", "The file of the script");
+    let command = with_word(plain(alloc, "replay", about, MORE_OF_REPLAY), config)?;
+    with_word(command, script)
+}
+
+/// The command that sends a job, up to the job's number.
+fn send_to<'a>(alloc: Global) -> Result<Command<'a>, AllocError>
+    ensures app { IfOk result (λ command. app_of command ≡ send_to_app) }
+    ensures local { IfOk result (λ command. (fields_of command).has_globals ≡ false) }
+{
+    let about = "Sends a job to a server at 127.0.0.1";
+    let queue = "The name of a queue: 1 to 1022 octets, no white space";
+    let command = with_word(plain(alloc, "send", about, MORE_OF_SEND), port(alloc))?;
+    let command = with_word(command, word(alloc, "queue", "QUEUE", queue))?;
+    with_word(command, number(alloc))
+}
+
+/// The command that sends a job.
+fn send<'a>(alloc: Global) -> Result<Command<'a>, AllocError>
+    ensures app { IfOk result (λ command. app_of command ≡ send_app) }
+    ensures local { IfOk result (λ command. (fields_of command).has_globals ≡ false) }
+{
+    let host = "The host that sends the job: 1 to 120 octets, no white space";
+    let user = "The user that sends the job: 1 to 255 octets in one line";
+    let files = "The files to print: 1 to 52, none of them empty";
+    let command = with_word(send_to(alloc)?, word(alloc, "host", "HOST", host))?;
+    let command = with_word(command, word(alloc, "user", "USER", user))?;
+    with_word(command, words(alloc, "file", "FILE", files))
+}
+
+/// The program without its commands.
+fn program<'a>(alloc: Global) -> Command<'a>
+    ensures { app_of result ≡ program_app }
+{
+    let about = "A print spooler for the Line Printer Daemon Protocol (RFC 1179)";
+    plain(alloc, "lpd_server", about, MORE)
+        .version("0.1.0")
+        .disable_help_subcommand(true)
+}
+
+/// The command line.
+pub(crate) fn command<'a>(alloc: Global) -> Result<Command<'a>, AllocError>
+    ensures { IfOk result (λ command. app_of command ≡ command_line) }
+{
+    let command = with_command(program(alloc), check(alloc)?)?;
+    let command = with_command(command, replay(alloc)?)?;
+    with_command(command, send(alloc)?)
+}

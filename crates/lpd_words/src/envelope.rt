@@ -1,0 +1,60 @@
+//! What is known of a job before its files are read.
+
+ghost use Rattle.std.specs.Prelude.{◌≤◌, [], IsTrue, length};
+ghost use Rattle.lpd_values.specs.declared.limits.TheConstants.{MAX_FILES};
+ghost use Rattle.lpr_client.specs.Sendable.{is_sendable};
+
+use lpr_client::{Control, FileName, Octets};
+use std::alloc::{AllocError, AllocFailed};
+use thiserror::Error;
+
+/// What is known of a job before its files are read: it can be sent, with files under the names of its print list.
+#[derive(Debug, Drop)]
+pub struct Envelope {
+    /// The queue.
+    pub queue: Octets,
+    /// The name of the control file.
+    pub name: FileName,
+    /// The control file, of which the print list has the names of the files, in order.
+    pub control: Control,
+    ghost can_be_sent: { IsTrue (is_sendable queue name control []) },
+    ghost files_fit: { length control.prints ≤ MAX_FILES },
+}
+
+/// Why words name no job.
+#[derive(Clone, Copy, Debug, PartialEq, Eq, Error)]
+pub enum EnvelopeFault {
+    /// The queue, or the host and the user together, can't be sent.
+    #[error("QUEUE isn't 1 to 1022 octets without white space")]
+    Queue,
+    /// The host is no part of a file name.
+    #[error("HOST isn't 1 to 120 octets without white space")]
+    Host,
+    /// The user can't stand in a control file.
+    #[error("USER isn't 1 to 255 octets in one line")]
+    User,
+    /// There are no files, or too many.
+    #[error("FILE doesn't stand 1 to 52 times")]
+    Files,
+    /// The number has more than three digits.
+    #[error("NUMBER isn't 0 to 999")]
+    Number,
+    /// A word isn't there.
+    #[error("a word is missing")]
+    Missing,
+    /// Memory was refused.
+    #[error("fault 12 Memory")]
+    Memory,
+}
+
+impl From<AllocError> for EnvelopeFault {
+    fn from(_error: AllocError) -> EnvelopeFault {
+        EnvelopeFault::Memory
+    }
+}
+
+impl<T: Drop> From<AllocFailed<T>> for EnvelopeFault {
+    fn from(_error: AllocFailed<T>) -> EnvelopeFault {
+        EnvelopeFault::Memory
+    }
+}

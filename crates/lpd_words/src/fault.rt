@@ -1,0 +1,71 @@
+//! What stops the program.
+
+ghost use Rattle.std.specs.Prelude.{◌≡◌};
+ghost use Rattle.lpd_words.specs.Status.{status_of};
+ghost use Rattle.lpd_words.specs.declared.fault.Fault.TheVariants.{Memory, Run, Send};
+
+use lpr_client::SendFault;
+use std::alloc::{AllocError, AllocFailed};
+use thiserror::Error;
+
+/// Why the program stopped.
+#[derive(Clone, Copy, Debug, PartialEq, Eq, Error)]
+pub enum Fault {
+    /// Memory was refused.
+    #[error("fault 12 Memory")]
+    Memory,
+    /// A file can't be read or written, a configuration can't be used, or a script can't be run.
+    #[error("{0}")]
+    Run(lpd_script::Fault),
+    /// The server can't be reached.
+    #[error("fault 72 Network")]
+    Network,
+    /// The server didn't take the job.
+    #[error("{0}")]
+    Send(SendFault),
+}
+
+impl From<AllocError> for Fault {
+    ghost from_gives = { λ _ fault. fault ≡ Memory };
+
+    fn from(_error: AllocError) -> Fault {
+        Fault::Memory
+    }
+}
+
+impl<T: Drop> From<AllocFailed<T>> for Fault {
+    ghost from_gives = { λ _ fault. fault ≡ Memory };
+
+    fn from(_error: AllocFailed<T>) -> Fault {
+        Fault::Memory
+    }
+}
+
+impl From<lpd_script::Fault> for Fault {
+    ghost from_gives = { λ cause fault. fault ≡ Run cause };
+
+    fn from(fault: lpd_script::Fault) -> Fault {
+        Fault::Run(fault)
+    }
+}
+
+impl From<SendFault> for Fault {
+    ghost from_gives = { λ cause fault. fault ≡ Send cause };
+
+    fn from(fault: SendFault) -> Fault {
+        Fault::Send(fault)
+    }
+}
+
+impl Fault {
+    /// The exit status: 2 for the configuration, 3 for the script, 5 for a job that wasn't taken, 4 for the rest.
+    pub fn status(self) -> u8
+        ensures { result ≡ status_of self }
+    {
+        match self {
+            Fault::Run(fault) => fault.status(),
+            Fault::Memory | Fault::Network | Fault::Send(SendFault::Memory) => 4,
+            Fault::Send(_) => 5,
+        }
+    }
+}

@@ -1,0 +1,75 @@
+//! What is done with files: a configuration is checked, a script is run.
+
+ghost use Rattle.std.specs.Prelude.{◌≡◌, ◌≢◌, ◌++◌, ◌∷◌, [], OnOk, IfErr, Err, Some, List, ℕ};
+ghost use Rattle.lpd_commands.specs.Ends.{Writes, one_more};
+ghost use Rattle.lpd_script.specs.declared.fault.Fault.TheVariants.{ReadFile, WriteFile};
+ghost use Rattle.lpd_words.specs.declared.fault.Fault.TheVariants.{Run};
+ghost use Rattle.lpd_words.specs.Order.{Checked, StopsAt, write_faults};
+ghost use Rattle.spool_config.specs.Answers.{fault_of};
+ghost use Rattle.spool_config.specs.declared.settings.ConfigFault.{ConfigFault};
+
+use crate::fault::Fault;
+use crate::summary::summary_of;
+use lpd_commands::{OctetRead, OctetWrite, write_all};
+use lpd_script::{read_all, run_parts};
+use std::alloc::Global;
+
+/// Writes a text to the output.
+pub(crate) fn print<W: OctetWrite>(output: &mut W, text: &[u8]) -> Result<(), Fault>
+    ensures written { OnOk result (Writes (W.written output.old) (W.written output.new) text.now) }
+    ensures write_fault { W.faults output.new ≡ write_faults (W.faults output.old) result }
+    ensures fault { IfErr result (λ fault. fault ≡ Run WriteFile) }
+{
+    match write_all(output, text) {
+        Ok(()) => Ok(()),
+        Err(_) => Err(Fault::Run(lpd_script::Fault::WriteFile)),
+    }
+}
+
+/// Reads a configuration to its end, and prints what spool it is for. Answers the first fault: `ReadFile`, a fault of
+/// the configuration, `WriteFile`, and `Memory`.
+pub fn check<I: OctetRead, W: OctetWrite>(
+    alloc: Global,
+    config: &mut I,
+    output: &mut W,
+) -> Result<(), Fault>
+    ensures checked { OnOk result (Checked (I.left config.old) (I.left config.new)
+        (W.written output.old) (W.written output.new)) }
+    ensures read_fault { I.faults config.new ≢ I.faults config.old → result ≡ Err (Run ReadFile) }
+    ensures write_fault { W.faults output.new ≡ write_faults (W.faults output.old) result }
+    // A fault of the configuration is told before anything is printed.
+    ensures faulty { (text : List ℕ) → I.left config.old ≡ Some text → (due : ConfigFault) →
+        fault_of text ≡ Some due →
+        StopsAt due result × (W.written output.new ≡ W.written output.old) }
+{
+    let text = read_all(alloc, config)?;
+    match summary_of(alloc, text.as_slice()) {
+        Ok(summary) => print(output, format!(in alloc; "{summary}\n")?.as_bytes()),
+        Err(fault) => Err(Fault::Run(lpd_script::Fault::Config(fault))),
+    }
+}
+
+/// Reads a configuration and a script to their ends, and runs the script on the spool that the configuration gives.
+/// Answers the first fault: `ReadFile` of either, before anything is printed, then the faults of `run_parts`.
+pub fn replay<I: OctetRead, J: OctetRead, W: OctetWrite>(
+    alloc: Global,
+    config: &mut I,
+    script: &mut J,
+    output: &mut W,
+) -> Result<(), Fault>
+    ensures config_fault { I.faults config.new ≢ I.faults config.old
+        → result ≡ Err (Run ReadFile) }
+    ensures script_fault { J.faults script.new ≢ J.faults script.old
+        → result ≡ Err (Run ReadFile) }
+    ensures unread { result ≡ Err (Run ReadFile) → W.written output.new ≡ W.written output.old }
+    ensures write_fault { W.faults output.new ≡ write_faults (W.faults output.old) result }
+    // Files that can't be read come first, then the configuration's fault, and nothing is printed.
+    ensures faulty { (text : List ℕ) → I.left config.old ≡ Some text → (due : ConfigFault) →
+        fault_of text ≡ Some due →
+        StopsAt due result × (W.written output.new ≡ W.written output.old) }
+{
+    let config = read_all(alloc, config)?;
+    let script = read_all(alloc, script)?;
+    run_parts(alloc, config.as_slice(), script.as_slice(), output)?;
+    Ok(())
+}

@@ -1,0 +1,152 @@
+//! What the words ask for is done.
+
+ghost use Rattle.std.specs.Prelude.{◌≡◌, ◌≢◌, ◌≤◌, OnOk, IfOk};
+ghost use Rattle.lpd_commands.specs.Ends.{Writes};
+ghost use Rattle.lpd_script.specs.Streams.{IsUntouched};
+ghost use Rattle.lpd_words.specs.Naming.{sent_line};
+ghost use Rattle.lpd_words.specs.Order.{write_faults};
+ghost use Rattle.lpd_words.specs.Status.{end_status};
+ghost use Rattle.lpd_words.specs.Unread.{IsUnreadStatus};
+
+use crate::envelope::Envelope;
+use crate::fault::Fault;
+use crate::file::FileReader;
+use crate::files::{check, print, replay};
+use crate::naming::three_digits;
+use crate::sending::{data_files, send};
+use crate::words::{Asked, Sending, Unread, read_words};
+use lpd_commands::{OctetRead, OctetWrite, write_all};
+use lpd_script::run_input;
+use std::alloc::{AllocError, Global};
+use std::fs::Files;
+use std::net::Net;
+
+/// The exit status where the words can't be read.
+const UNREAD: u8 = 1;
+
+/// The line that says that the job of this number was sent.
+fn sent_line(alloc: Global, number: u16) -> Result<Vec<u8>, AllocError>
+    requires { number ≤ 999 }
+    ensures { IfOk result (λ line. line.items ≡ sent_line number) }
+{
+    let mut line = Vec::from_slice(alloc, b"sent ")?;
+    line.extend_from_slice(&three_digits(number))?;
+    line.push(b'\n')?;
+    Ok(line)
+}
+
+/// Reads a job's files, sends it, and says so.
+fn send_files<R: Files + Net, W: OctetWrite>(
+    alloc: Global,
+    rt: &R,
+    sending: &Sending,
+    envelope: Envelope,
+    output: &mut W,
+) -> Result<(), Fault>
+    ensures write_fault { W.faults output.new ≡ write_faults (W.faults output.old) result }
+    ensures sent { OnOk result (Writes (W.written output.old) (W.written output.new)
+        (sent_line envelope.control.number)) }
+{
+    let names = envelope.control.prints.as_slice();
+    let files = data_files(alloc, rt, names, sending.files.as_slice())?;
+    let line = sent_line(alloc, envelope.control.number)?;
+    send(alloc, rt, sending.port, envelope, files.as_slice())?;
+    print(output, line.as_slice())
+}
+
+/// Does what is asked for, but for what the standard input asks.
+fn run_asked<R: Files + Net, W: OctetWrite>(
+    alloc: Global,
+    rt: &R,
+    asked: Asked,
+    output: &mut W,
+) -> Result<(), Fault>
+    ensures write_fault { W.faults output.new ≡ write_faults (W.faults output.old) result }
+{
+    match asked {
+        Asked::Input => Ok(()),
+        Asked::Check { config } => check(alloc, &mut FileReader::open(rt, config), output),
+        Asked::Replay { config, script } => {
+            let mut config = FileReader::open(rt, config);
+            replay(
+                alloc,
+                &mut config,
+                &mut FileReader::open(rt, script),
+                output,
+            )
+        }
+        Asked::Send { sending, envelope } => send_files(alloc, rt, &sending, envelope, output),
+    }
+}
+
+/// The exit status of an end. A fault is told in a line of its own; where memory is short for that line, it says that.
+fn ended<E: OctetWrite>(alloc: Global, end: Result<(), Fault>, faults: &mut E) -> u8
+    ensures status { result ≡ end_status end }
+    ensures quiet { OnOk end (IsUntouched (E.written faults.old) (E.faults faults.old)
+        (E.written faults.new) (E.faults faults.new)) }
+{
+    let Err(fault) = end else {
+        return 0;
+    };
+    let told = match format!(in alloc; "{fault}\n") {
+        Ok(line) => write_all(faults, line.as_bytes()),
+        Err(AllocError) => write_all(faults, b"fault 12 Memory\n"),
+    };
+    // There is nowhere else to tell of a fault here: the exit status says that there was one.
+    let _ = told;
+    fault.status()
+}
+
+/// Does what the words ask for, of which the first is the program's name: without others, what the input asks (see
+/// `lpd_script::run_input`). What is answered is the exit status: 0 where it was done, or help or the version was
+/// asked for and printed; 1 where the words can't be read, which `faults` is told; otherwise that of the fault, which
+/// is told there in one line. Faults are looked for in this order: the words, files read, the configuration, the
+/// network.
+pub fn run<R: Files + Net, I: OctetRead, W: OctetWrite, E: OctetWrite>(
+    alloc: Global,
+    rt: &R,
+    words: &[String],
+    input: &mut I,
+    output: &mut W,
+    faults: &mut E,
+) -> u8
+    ensures status { result ≤ 5 }
+    ensures write_fault { W.faults output.new ≢ W.faults output.old → result ≡ 4 }
+    ensures read_fault { I.faults input.new ≢ I.faults input.old → result ≡ 4 }
+    ensures quiet { result ≡ 0 → IsUntouched (E.written faults.old) (E.faults faults.old)
+        (E.written faults.new) (E.faults faults.new) }
+    // Where the words can't be read nothing is read and nothing printed.
+    ensures unread { result ≡ 1 → (W.written output.new ≡ W.written output.old)
+        × (I.left input.new ≡ I.left input.old) }
+{
+    match read_words(alloc, words) {
+        Ok(Asked::Input) => run_input(alloc, input, output, faults),
+        Ok(asked) => ended(alloc, run_asked(alloc, rt, asked, output), faults),
+        Err(unread) => tell_unread(alloc, unread, output, faults),
+    }
+}
+
+/// Prints the text that words asked for, or tells why they can't be read. What is answered is the exit status: 0, 1,
+/// or 4 for memory and where the text can't be written.
+pub fn tell_unread<W: OctetWrite, E: OctetWrite>(
+    alloc: Global,
+    unread: Unread,
+    output: &mut W,
+    faults: &mut E,
+) -> u8
+    ensures status { IsUnreadStatus unread result }
+    ensures write_fault { W.faults output.new ≢ W.faults output.old → result ≡ 4 }
+    ensures quiet { result ≡ 0 → IsUntouched (E.written faults.old) (E.faults faults.old)
+        (E.written faults.new) (E.faults faults.new) }
+    ensures refused { result ≡ 1 → W.written output.new ≡ W.written output.old }
+{
+    match unread {
+        Unread::Shown(text) => ended(alloc, print(output, text.as_bytes()), faults),
+        Unread::Memory => ended(alloc, Err(Fault::Memory), faults),
+        Unread::Refused(text) => {
+            // As for a fault: the exit status says it too.
+            let _ = write_all(faults, text.as_bytes());
+            UNREAD
+        }
+    }
+}

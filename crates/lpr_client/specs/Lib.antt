@@ -1,0 +1,6 @@
+pub mod Granted
+pub mod OneJob
+pub mod Parts
+pub mod Sendable
+pub mod Sending
+pub mod Shown

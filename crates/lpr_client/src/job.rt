@@ -1,0 +1,68 @@
+//! A job as it is sent.
+
+ghost use Rattle.std.specs.Prelude.{IsTrue, ◌≡◌, ◌++◌, ◌∷◌, [], map, IfOk, OnOk};
+ghost use Rattle.std.specs.List.{concat};
+ghost use Rattle.control_file.specs.Written.{control_text};
+ghost use Rattle.control_file.specs.View.{contents};
+ghost use Rattle.lpr_client.specs.Parts.{job_octets};
+ghost use Rattle.lpr_client.specs.Shown.{part_octets};
+ghost use Rattle.lpr_client.specs.Granted.{IsAcknowledged};
+ghost use Rattle.lpr_client.specs.OneJob.{ReadsAsOneJob};
+ghost use Rattle.lpr_client.specs.Sendable.{is_sendable};
+
+use crate::file::DataFile;
+use crate::part::{Part, parts_of};
+use control_file::Control;
+use lpd_commands::{FileName, Octets};
+use std::alloc::{AllocError, Global};
+
+/// Puts contents and an octet 00 at the end.
+fn put_zeroed(octets: &mut Vec<u8>, contents: &[u8]) -> Result<(), AllocError>
+    ensures { OnOk result (octets.new.items ≡ octets.old.items ++ (contents.now ++ 0 ∷ [])) }
+{
+    octets.extend_from_slice(contents)?;
+    octets.push(0)?;
+    Ok(())
+}
+
+/// Puts the octets of a part at the end.
+fn put_octets(octets: &mut Vec<u8>, part: &Part) -> Result<(), AllocError>
+    ensures { OnOk result (octets.new.items ≡ octets.old.items ++ part_octets part.now) }
+{
+    match part {
+        Part::Line(line) => octets.extend_from_slice(line.as_slice()),
+        Part::Contents(contents) => put_zeroed(octets, contents),
+        Part::Text(text) => put_zeroed(octets, text.as_slice()),
+    }
+}
+
+/// The octets of parts, one after another.
+fn joined(alloc: Global, parts: &[Part]) -> Result<Octets, AllocError>
+    ensures { IfOk result (λ octets. octets ≡ concat (map part_octets parts.now)) }
+{
+    let mut octets = Vec::new(alloc);
+    for part in parts {
+        put_octets(&mut octets, part)?;
+    }
+    Ok(Octets::from_vec(octets))
+}
+
+/// The octets that send a job to a queue: the line that asks for it, the data files in order, and last the control file
+/// under this name (RFC 1179, sections 5.2, 6.2 and 6.3).
+pub fn job_bytes(
+    alloc: Global,
+    queue: Octets,
+    name: &FileName,
+    control: &Control,
+    files: &[DataFile],
+) -> Result<Octets, AllocError>
+    requires { IsTrue (is_sendable queue name.now control.now files.now) }
+    ensures octets { IfOk result (λ octets.
+        octets ≡ job_octets queue name.now (control_text (contents control.now)) files.now) }
+    ensures one_job { IfOk result (λ octets.
+        ReadsAsOneJob queue (contents control.now) files.now octets) }
+    ensures granted { IfOk result (λ octets. IsAcknowledged octets) }
+{
+    let parts = parts_of(alloc, queue, name, control, files)?;
+    joined(alloc, parts.as_slice())
+}

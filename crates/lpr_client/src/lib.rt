@@ -1,0 +1,18 @@
+//! What a client of the line printer daemon protocol (RFC 1179) sends: the octets of a job, and the lines that ask for
+//! a queue's state and for removals; and how a job is sent, acknowledgement by acknowledgement.
+#![tactic(auto)]
+
+mod file;
+mod job;
+mod part;
+mod questions;
+mod send;
+mod sendable;
+
+pub use control_file::Control;
+pub use file::DataFile;
+pub use job::job_bytes;
+pub use lpd_commands::{FileName, OctetRead, OctetWrite, Octets, Words};
+pub use questions::{remove_bytes, state_bytes};
+pub use send::{SendFault, send_job};
+pub use sendable::is_sendable;

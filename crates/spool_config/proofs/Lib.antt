@@ -1,0 +1,10 @@
+mod Exact
+mod Fitting
+mod Found
+mod Lists
+mod Names
+mod OneMore
+mod Rows
+mod Sound
+mod Texts
+mod Whole

@@ -1,0 +1,6 @@
+pub mod Answers
+pub mod Faults
+pub mod Keys
+pub mod Laws
+pub mod Told
+pub mod Words

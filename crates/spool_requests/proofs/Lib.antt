@@ -1,0 +1,6 @@
+pub mod Named
+pub mod Starts
+pub mod Puts
+pub mod Aborts
+pub mod Bridge
+pub mod OneAnswer

@@ -1,0 +1,7 @@
+pub mod Kinds
+pub mod Named
+pub mod Shows
+pub mod Due
+pub mod Decided
+pub mod Follows
+pub mod Agree

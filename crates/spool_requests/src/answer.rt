@@ -1,0 +1,51 @@
+//! What a session asks, and what it is answered.
+
+use lpd_values::{Octets, Refusal};
+
+/// Which kind of request a session makes.
+#[derive(Clone, Copy, Debug, PartialEq, Eq)]
+pub enum RequestKind {
+    /// Whether a queue takes jobs.
+    Queue,
+    /// A new job.
+    Open,
+    /// A data file begins.
+    BeginFile,
+    /// An empty page.
+    Page,
+    /// A page of the open file was filled.
+    Filled,
+    /// The open file has ended.
+    EndFile,
+    /// The control file came.
+    Control,
+    /// The job in hand is to be aborted.
+    Abort,
+    /// The stopped printers of a queue are to be started.
+    Start,
+    /// The state of a queue.
+    State,
+    /// Jobs of a queue are to be removed.
+    Remove,
+}
+
+/// What the spool answers to a request of a session.
+#[derive(Drop)]
+pub enum Answer {
+    /// It was done, or may be done.
+    Yes,
+    /// The job was accepted, with this number.
+    Accepted(u64),
+    /// An empty page for so many octets was lent.
+    Lent(usize),
+    /// No page is lent now: the same request comes again.
+    Later,
+    /// The file was kept, and something of the job is still missing.
+    Stored,
+    /// The file was kept, and the job is whole.
+    Received,
+    /// The text that is written for it.
+    Told(Octets),
+    /// It is refused, and the session is over.
+    Refused(Refusal),
+}

@@ -1,0 +1,258 @@
+//! The program's words, with files and a socket on loopback.
+
+use crate::rows::expect;
+use lpd_script::{StreamReader, StreamWriter};
+use lpd_words::run;
+use lpr_client::{Control, DataFile, FileName, Octets, is_sendable, job_bytes};
+use std::alloc::{AllocError, Global};
+use std::io::{Read, Write};
+use std::net::{Ipv4Addr, OpenListener, SocketAddr, TcpListener};
+use std::process::Abort;
+use std::test::Fail;
+use std::thread::Threads;
+use std::time::{Duration, Instant};
+use std::{env, fs, io, thread};
+
+const CONFIG: &[u8] =
+    b"pages = 4\npage_size = 8\nmax_jobs = 8\naccount = 100000\n[[queue]]\nname = \"lp\"\nlimit = 3\nprinters = 1\n";
+
+/// The words of a line, one space between them.
+fn words_of(alloc: Global, line: &str) -> Result<Vec<&str>, AllocError> {
+    let mut words = Vec::new(alloc);
+    for word in line.split(' ') {
+        words.push(word)?;
+    }
+    Ok(words)
+}
+
+/// What the program prints for these words and this input, its faults, and its exit status in a line of its own.
+fn told(rt: &HostRuntime, words: &[&str], input: &[u8]) -> Result<Vec<u8>, AllocError> {
+    let alloc = rt.alloc();
+    let mut all = Vec::new(alloc);
+    all.push(String::from_str(alloc, "lpd_server")?)?;
+    for word in words {
+        all.push(String::from_str(alloc, word)?)?;
+    }
+    let mut output = StreamWriter::new(Vec::new(alloc));
+    let mut faults = StreamWriter::new(Vec::new(alloc));
+    let mut input = StreamReader::new(input);
+    let status = run(
+        alloc,
+        rt,
+        all.as_slice(),
+        &mut input,
+        &mut output,
+        &mut faults,
+    );
+    let mut told = output.into_stream();
+    told.extend_from_slice(faults.into_stream().as_slice())?;
+    told.extend_from_slice(format!(in alloc; "status {status}\n")?.as_bytes())?;
+    Ok(told)
+}
+
+/// A listener at a port of loopback that nobody else has, and the port.
+fn listen(rt: &HostRuntime) -> io::Result<(TcpListener, u16)> {
+    let listener = TcpListener::bind(rt, SocketAddr::from((Ipv4Addr::LOCALHOST, 0)))?;
+    let port = listener.local_addr()?.port();
+    Ok((listener, port))
+}
+
+/// The path of a file for a test that holds this port.
+fn path_of(rt: &HostRuntime, port: u16) -> io::Result<String> {
+    let dir = env::temp_dir(rt)?;
+    let dir = dir.as_str();
+    Ok(format!(in rt.alloc(); "{dir}/hurgwaye-{port}")?)
+}
+
+/// What these words are told of a file with these octets, where the word `FILE` stands for its path.
+fn told_of_file(rt: &HostRuntime, words: &[&str], octets: &[u8]) -> Result<Vec<u8>, Fail> {
+    let (_holder, port) = listen(rt)?;
+    let path = path_of(rt, port)?;
+    fs::write(rt, path.as_str(), octets)?;
+    let mut all = Vec::new(rt.alloc());
+    for word in words {
+        all.push(if *word == "FILE" {
+            path.as_str()
+        } else {
+            *word
+        })?;
+    }
+    let told = told(rt, all.as_slice(), b"")?;
+    fs::remove_file(rt, path.as_str())?;
+    Ok(told)
+}
+
+#[test]
+fn without_words(rt: HostRuntime) -> Result<(), Fail> {
+    let mut input = Vec::from_slice(rt.alloc(), CONFIG)?;
+    input.extend_from_slice(b"%%\nfree\n")?;
+    let answer = told(&rt, &[], input.as_slice())?;
+    expect(&rt, b"no words", answer.as_slice(), b"free 4\nstatus 0\n");
+    Ok(())
+}
+
+#[test]
+fn configurations(rt: HostRuntime) -> Result<(), Fail> {
+    let check = ["check", "FILE"];
+    let answer = told_of_file(&rt, &check, CONFIG)?;
+    let line = b"ok pages 4 page_size 8 queues 1 printers 1\nstatus 0\n";
+    expect(&rt, b"check", answer.as_slice(), line);
+    let answer = told_of_file(&rt, &check, b"pages = 0\n")?;
+    let line = b"fault 53 OutOfRange pages\nstatus 2\n";
+    expect(&rt, b"check of pages = 0", answer.as_slice(), line);
+    let answer = told(&rt, &["check", "/there/is/no/such/file"], b"")?;
+    let line = b"fault 71 ReadFile\nstatus 4\n";
+    expect(&rt, b"check of no file", answer.as_slice(), line);
+    Ok(())
+}
+
+#[test]
+fn replays(rt: HostRuntime) -> Result<(), Fail> {
+    // A configuration is a script of bad lines, and a script is no configuration.
+    let answer = told_of_file(&rt, &["replay", "FILE", "FILE"], CONFIG)?;
+    let line = b"fault 70 BadScript 1\nstatus 3\n";
+    expect(&rt, b"replay", answer.as_slice(), line);
+    let answer = told_of_file(&rt, &["replay", "FILE", "FILE"], b"free\n")?;
+    let line = b"fault 50 NotToml\nstatus 2\n";
+    expect(&rt, b"replay of a script", answer.as_slice(), line);
+    // A file that can't be read comes before a fault of the configuration.
+    let words = ["replay", "FILE", "/there/is/no/such/file"];
+    let answer = told_of_file(&rt, &words, b"free\n")?;
+    let line = b"fault 71 ReadFile\nstatus 4\n";
+    expect(&rt, b"replay of no file", answer.as_slice(), line);
+    let comments = b"# nothing is done for the lines of this file\n";
+    let answer = told_of_file(&rt, &["replay", "FILE", "FILE"], comments)?;
+    let line = b"fault 51 Missing pages\nstatus 2\n";
+    expect(&rt, b"replay of comments", answer.as_slice(), line);
+    Ok(())
+}
+
+#[test]
+fn bad_words(rt: HostRuntime) -> Result<(), Fail> {
+    let bad: [&[&str]; 11] = [
+        &["serve", "spool.toml"],
+        &["check"],
+        &["check", "a", "b"],
+        &["replay", "a"],
+        &["send", "0", "lp", "1", "h1", "ann", "a"],
+        &["send", "65536", "lp", "1", "h1", "ann", "a"],
+        &["send", "515", "lp", "1000", "h1", "ann", "a"],
+        &["send", "515", "l p", "1", "h1", "ann", "a"],
+        &["send", "515", "lp", "1", "h 1", "ann", "a"],
+        &["send", "515", "lp", "1", "h1", "", "a"],
+        &["send", "515", "lp", "1", "h1", "ann"],
+    ];
+    for words in bad {
+        let answer = told(&rt, words, b"")?;
+        assert!(rt; answer.as_slice().starts_with(b"error: "));
+        assert!(rt; answer.as_slice().ends_with(b"\nstatus 1\n"));
+    }
+    let mut words = Vec::from_slice(rt.alloc(), &["send", "515", "lp", "1", "h1", "ann"])?;
+    for _ in 0..53 {
+        words.push("a")?;
+    }
+    let answer = told(&rt, words.as_slice(), b"")?;
+    assert!(rt; answer.as_slice().ends_with(b"\nstatus 1\n"));
+    Ok(())
+}
+
+#[test]
+fn help_and_version(rt: HostRuntime) -> Result<(), Fail> {
+    for words in [["--help"], ["--version"], ["-h"]] {
+        let answer = told(&rt, &words, b"")?;
+        assert!(rt; answer.as_slice().ends_with(b"\nstatus 0\n"));
+    }
+    Ok(())
+}
+
+/// Up to each acknowledgement, the octets of job 7 of host h1 and user ann with a file of `hello world`.
+const PARTS: [&[u8]; 5] = [
+    b"\x02lp\n",
+    b"\x0311 dfA007h1\n",
+    b"hello world\x00",
+    b"\x0219 cfA007h1\n",
+    b"Hh1\nPann\nfdfA007h1\n\x00",
+];
+
+/// Takes one connection, reads each part of a job and answers it by 00, but the part of this number by 1. What was read.
+fn serve(alloc: Global, listener: &TcpListener, refused: usize) -> io::Result<Vec<u8>> {
+    let (mut stream, _) = listener.accept()?;
+    let mut read = Vec::new(alloc);
+    let mut buffer = [0u8; 64];
+    for (number, part) in PARTS.iter().enumerate() {
+        let part_read = &mut buffer[..part.len().min(64)];
+        stream.read_exact(part_read)?;
+        read.extend_from_slice(part_read)?;
+        let answer = if number == refused { 1 } else { 0 };
+        stream.write_all(&[answer])?;
+        if number == refused {
+            break;
+        }
+    }
+    Ok(read)
+}
+
+/// What a server reads of the job where it refuses the part of this number, and what the client tells.
+fn sent(
+    rt: &HostRuntime,
+    threads: &impl Threads,
+    refused: usize,
+) -> Result<(Vec<u8>, Vec<u8>), Fail> {
+    let (listener, port) = listen(rt)?;
+    let path = path_of(rt, port)?;
+    fs::write(rt, path.as_str(), b"hello world".as_slice())?;
+    let path = path.as_str();
+    let line = format!(in rt.alloc(); "send {port} lp 7 h1 ann {path}")?;
+    let words = words_of(rt.alloc(), line.as_str())?;
+    let (listener, words) = (&listener, words.as_slice());
+    let (served, told) = thread::join(
+        threads,
+        move || serve(rt.alloc(), listener, refused),
+        move || told(rt, words, b""),
+    );
+    fs::remove_file(rt, path)?;
+    Ok((served?, told?))
+}
+
+/// The octets of that job, as a client has them.
+fn octets_of_job(rt: &impl Abort, alloc: Global) -> Result<Octets, Fail> {
+    let name = FileName::read(b"cfA007h1")?;
+    let control = Control::parse(alloc, &name, b"Hh1\nPann\nfdfA007h1\n")?;
+    let files = [DataFile {
+        name: FileName::read(b"dfA007h1")?,
+        octets: Octets::copy_of(alloc, b"hello world")?,
+    }];
+    let queue = Octets::copy_of(alloc, b"lp")?;
+    assert!(rt; is_sendable(alloc, &queue, &name, &control, files.as_slice())?);
+    Ok(job_bytes(alloc, queue, &name, &control, files.as_slice())?)
+}
+
+#[test]
+fn jobs_are_sent(rt: HostRuntime) -> Result<(), Fail> {
+    let (read, told) = sent(&rt, &rt, 5)?;
+    expect(&rt, b"send", told.as_slice(), b"sent 007\nstatus 0\n");
+    let octets = octets_of_job(&rt, rt.alloc())?;
+    expect(&rt, b"octets of send", read.as_slice(), octets.as_slice());
+    let (_, told) = sent(&rt, &rt, 1)?;
+    let line = b"fault 60 Refused 1\nstatus 5\n";
+    expect(&rt, b"send that is refused", told.as_slice(), line);
+    Ok(())
+}
+
+#[test]
+fn nobody_listens(rt: HostRuntime) -> Result<(), Fail> {
+    let begun = Instant::now(&rt)?;
+    let (listener, port) = listen(&rt)?;
+    drop(listener);
+    let line = format!(in rt.alloc(); "send {port} lp 7 h1 ann FILE")?;
+    let words = words_of(rt.alloc(), line.as_str())?;
+    let answer = told_of_file(&rt, words.as_slice(), b"hello")?;
+    let line = b"fault 72 Network\nstatus 4\n";
+    expect(&rt, b"send to nobody", answer.as_slice(), line);
+    assert!(rt; begun.elapsed(&rt)? < Duration::from_secs(1));
+    // A file without octets is found first.
+    let answer = told_of_file(&rt, words.as_slice(), b"")?;
+    let line = b"fault 71 ReadFile\nstatus 4\n";
+    expect(&rt, b"send of an empty file", answer.as_slice(), line);
+    Ok(())
+}

@@ -1,0 +1,17 @@
+pub mod Legal
+pub mod Read
+pub mod Reader
+pub mod Unread
+pub mod Cuts
+pub mod Stages
+pub mod Kept
+pub mod Asked
+pub mod AllFiles
+pub mod Turned
+pub mod Standing
+pub mod Places
+pub mod Whole
+pub mod Outs
+pub mod OneReply
+pub mod Steps
+pub mod Wanted

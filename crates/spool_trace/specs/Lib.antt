@@ -1,0 +1,10 @@
+pub mod Trace
+pub mod Sessions
+pub mod Shown
+pub mod Replies
+pub mod Reading
+pub mod Needs
+pub mod Hands
+pub mod Headline
+pub mod Agree
+pub mod Follows

@@ -1,0 +1,10 @@
+pub mod Answers
+pub mod Ends
+pub mod Begins
+pub mod Ties
+pub mod Doing
+pub mod Leading
+pub mod Sessions
+pub mod Printing
+pub mod Beginning
+pub mod Telling

@@ -1,0 +1,47 @@
+use Rattle.std.proofs.Common.{◌≡◌, ℕ, Option, ap, refl, sym, subst, ◌∙◌}
+use Rattle.page_pool.specs.Page.{Page}
+use Rattle.spool_requests.specs.declared.answer.Answer.{Answer}
+use Rattle.spool_requests.specs.declared.answer.Answer.TheVariants as answers
+use Rattle.spool_requests.specs.declared.answer.RequestKind.{RequestKind}
+use Rattle.spool_trace.specs.declared.reply.Deed.TheVariants as deed
+use Rattle.spool_trace.specs.Sessions.{job_after}
+use Rattle.spool_world.specs.Carried.{Carries}
+use Rattle.spool_world.specs.Stands.{first_page}
+use Rattle.spool_world.specs.Turns.{IsLentPage}
+use Rattle.spool_world.proofs.Answers.{answer_fits}
+use Rattle.spool_world.proofs.turning.answer.Goals as goal
+use Rattle.spool_world.proofs.turning.answer.Goals.{in-Accepted, in_default}
+
+-- the last job is the same where none was accepted
+kept_job : (job : ℕ) (answer : Answer) → ((n : ℕ) → answer ≡ answers.Accepted n → ⊥) → job_after job answer ≡ job
+kept_job job (answers.Accepted n) other = absurd (other n refl)
+kept_job job answers.Yes other = refl
+kept_job job (answers.Lent size) other = refl
+kept_job job answers.Later other = refl
+kept_job job answers.Stored other = refl
+kept_job job answers.Received other = refl
+kept_job job (answers.Told text) other = refl
+kept_job job (answers.Refused n) other = refl
+
+pub reply-requires-clause-fits : goal.reply-requires-clause-fits
+reply-requires-clause-fits c =
+    let same : c.match-answer.answer ≡ c.carry_out-answer.result.answer = elim c.match-answer.branch [ in-Accepted w ↦ w.answer-is ∙ sym w.in-Accepted.is | in_default w ↦ w.answer-is ] in
+    answer_fits c.args.request c.args.reader.now.owed c.carry_out-answer.result.answer c.match-answer.answer c.requires.asks c.requires.owed same c.carry_out-answer.ensures.fits
+
+pub returns-clause-done : goal.returns-clause-done
+returns-clause-done c r e =
+    let same : c.match-answer.answer ≡ c.carry_out-answer.result.answer = elim c.match-answer.branch [ in-Accepted w ↦ w.answer-is ∙ sym w.in-Accepted.is | in_default w ↦ w.answer-is ] in
+    let last : c.match-answer.job ≡ job_after c.args.job.now c.match-answer.answer = elim c.match-answer.branch [
+      | in-Accepted w ↦ w.job-is ∙ sym (ap (job_after c.args.job.now) w.answer-is)
+      | in_default w ↦ w.job-is ∙ sym (kept_job c.args.job.now c.match-answer.answer (λ n e. w.in_default.not-Accepted n (sym w.answer-is ∙ e)))
+    ] in
+    record {
+      answer = c.match-answer.answer;
+      page = c.carry_out-answer.result.page;
+      is = ap (λ (k : RequestKind). deed.Asked k c.match-answer.answer) (c.kind_of-kind.ensures r e);
+      carries = λ s. subst (λ (a : Answer). Carries c.args.core.now c.carry_out-answer.new.core c.args.sender c.args.job.now r a c.carry_out-answer.result.page) (sym same) (c.carry_out-answer.ensures.answer r e s);
+      lent = subst (λ (a : Answer). IsLentPage a c.carry_out-answer.result.page) (sym same) c.carry_out-answer.ensures.lent;
+      reader' = c.reply.ensures.answered;
+      last' = last;
+      keeps' = c.keep.ensures ∙ ap (λ (page : Option Page). first_page page c.args.kept.now) c.reply.ensures.page;
+    }

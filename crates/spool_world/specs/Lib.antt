@@ -1,0 +1,6 @@
+pub mod Carried
+pub mod Stands
+pub mod Turns
+pub mod Worlds
+pub mod Inside
+pub mod Runs

@@ -1,0 +1,118 @@
+//! The steps of printers.
+
+ghost use Rattle.std.specs.Prelude.{◌≡◌, ◌≤◌, [], vec_capacity};
+ghost use Rattle.spool_trace.specs.declared.step.Step.TheVariants as step;
+ghost use Rattle.config_values.specs.Config.{IsPrinter};
+ghost use Rattle.spool_world.specs.Worlds.{Steps, shown_page, with_page};
+
+use crate::world::World;
+use lpd_values::Octets;
+use spool_core::{Foreign, HandedPage, Next};
+use spool_trace::{Given, Reply, ShownPage};
+
+/// A page as it is told, its octets copied into this room.
+fn shown(page: &HandedPage, mut room: Vec<u8>) -> ShownPage
+    requires empty { room.items ≡ [] }
+    requires room { page.now.page.page_size ≤ vec_capacity room }
+    ensures { result ≡ shown_page page.now }
+{
+    // No more octets lie on a page than it has room for.
+    let _len = page.page.len();
+    match room.extend_from_slice(page.bytes()) {
+        Ok(()) => {}
+        Err(_) => unreachable!(),
+    }
+    ShownPage {
+        job: page.job,
+        place: page.place,
+        file: page.file,
+        number: page.number,
+        octets: Octets::from_vec(room),
+    }
+}
+
+impl World {
+    /// A printer asks for its next page.
+    pub(crate) fn next(&mut self, printer: u32) -> Reply
+        ensures config { self.new.core.config ≡ self.old.core.config }
+        ensures step { Steps self.old (step.Next printer) result self.new }
+    {
+        if !self.core.config().is_printer(printer) {
+            return Reply::NoSuch;
+        }
+        // Some history leaves the core here; so it is known which page `next` hands out.
+        let _held = self.core.held();
+        // Where no page is next no room is taken, since no reply but a page may be refused for want of it.
+        let room = if self.core.has_next(printer) {
+            let page_size = self.core.config().page_size() as usize;
+            match Vec::with_capacity(self.alloc, page_size) {
+                Ok(room) => room,
+                Err(_) => return Reply::Memory,
+            }
+        } else {
+            Vec::new(self.alloc)
+        };
+        let given = match self.core.next(printer) {
+            Next::Handed(page) => {
+                let shown = shown(&page, room);
+                self.put_at(printer, page);
+                Given::Page(shown)
+            }
+            Next::Nothing => Given::Nothing,
+            Next::Stopped => Given::Stopped,
+            Next::Busy => Given::Busy,
+            Next::Closed => Given::Closed,
+        };
+        Reply::Gave(given)
+    }
+
+    /// The page that a printer was handed is at it.
+    fn put_at(&mut self, printer: u32, page: HandedPage)
+        requires { IsPrinter self.old.core.config printer }
+        ensures { self.new ≡ with_page self.old printer page }
+    {
+        if let Some(old) = self.pages[printer as usize - 1].replace(page) {
+            old.surrender();
+        }
+    }
+
+    /// A printer has printed its page.
+    pub(crate) fn printed(&mut self, printer: u32) -> Reply
+        ensures config { self.new.core.config ≡ self.old.core.config }
+        ensures step { Steps self.old (step.Printed printer) result self.new }
+    {
+        if !self.core.config().is_printer(printer) {
+            return Reply::NoSuch;
+        }
+        let Some(page) = self.pages[printer as usize - 1].take() else {
+            return Reply::NoPage;
+        };
+        match self.core.printed(printer, page) {
+            Ok(progress) => Reply::Printed(progress),
+            Err(Foreign { page }) => {
+                page.surrender();
+                Reply::NoPage
+            }
+        }
+    }
+
+    /// A printer has failed on its page.
+    pub(crate) fn failed(&mut self, printer: u32) -> Reply
+        ensures config { self.new.core.config ≡ self.old.core.config }
+        ensures step { Steps self.old (step.Failed printer) result self.new }
+    {
+        if !self.core.config().is_printer(printer) {
+            return Reply::NoSuch;
+        }
+        let Some(page) = self.pages[printer as usize - 1].take() else {
+            return Reply::NoPage;
+        };
+        match self.core.failed(printer, page) {
+            Ok(()) => Reply::Failed,
+            Err(Foreign { page }) => {
+                page.surrender();
+                Reply::NoPage
+            }
+        }
+    }
+}

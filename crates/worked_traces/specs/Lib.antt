@@ -1,0 +1,4 @@
+pub mod Rows
+pub mod MoreRows
+pub mod Asking
+pub mod Waiting
