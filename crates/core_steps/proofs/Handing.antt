@@ -186,9 +186,10 @@ module _ (d : Detail) (b : Base) (h : List (Event (What d))) (k : Kept) (l : Lea
       -- so a page is next for the printer
       pub hands_some : (sheet : Sheet (What d)) × (next_page v p ≡ HandsOut sheet)
       hands_some =
-          let at' = place_at x x.handed some in
-          (record { job = x.number; place = x.handed; file = at'.page.file; number = at'.page.number; page = at'.page.page },
-          turn w (Some i) t ∙ ap (hand_first x.number x.handed) at'.left)
+          let at' = place_at x x.handed some in (
+            record { job = x.number; place = x.handed; file = at'.page.file; number = at'.page.number; page = at'.page.page },
+            turn w (Some i) t ∙ ap (hand_first x.number x.handed) at'.left,
+          )
 
       pub hand_ready : IsReady j.chain
       hand_ready = can_hand (look d) k.config j x can ties
