@@ -2,16 +2,15 @@
 #![tactic(auto)]
 
 mod fault;
-mod lines;
+mod hosts;
+mod printers;
 mod reader;
 mod run;
-mod script;
-mod session;
-mod world;
+mod runner;
+mod turns;
 mod writer;
 
 pub use fault::Fault;
 pub use reader::StreamReader;
 pub use run::{read_all, run_input, run_parts};
-pub use script::{LineFault, ScriptLine, line_has_one_meaning, parse_line};
 pub use writer::StreamWriter;

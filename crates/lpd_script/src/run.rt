@@ -11,9 +11,9 @@ ghost use Rattle.spool_config.specs.declared.settings.ConfigFault.TheVariants.{M
 ghost use Rattle.lpd_script.specs.Streams.{HasGivenAll, IsReadOut, IsReadOutAfter, IsUntouched, IsReadingFault, write_faults};
 
 use crate::fault::Fault;
-use crate::lines::run_line;
-use crate::world::World;
+use crate::runner::{NotRun, Runner};
 use lpd_commands::{OctetRead, OctetWrite, write_all};
+use script_lines::{LineFault, parse_line};
 use std::alloc::{AllocError, Global};
 
 /// How often the input is read at most.
@@ -107,6 +107,7 @@ pub fn read_all<R: OctetRead>(alloc: Global, input: &mut R) -> Result<Vec<u8>, F
 fn run_text<W: OctetWrite>(alloc: Global, text: &[u8], output: &mut W) -> Result<(), Fault>
     ensures write_fault { W.faults output.new ≡ write_faults (W.faults output.old) result }
     ensures read { result ≢ Err ReadFile }
+    ensures ran { RunsText text.now (W.written output.old) (W.written output.new) result }
 {
     let (config, script) = parts(text);
     run_parts(alloc, config, script, output)
@@ -129,30 +130,54 @@ pub fn run_parts<W: OctetWrite>(
     // A fault of the configuration is told only where it has it.
     ensures found { (due : ConfigFault) → result ≡ Err (Config due) → due ≢ ConfigMemory →
         fault_of config.now ≡ Some due }
+    // What is written is what the script's lines print on a spool of this configuration.
+    ensures ran { RunsParts config.now script.now (W.written output.old) (W.written output.new) result }
 {
     let config = spool_config::read(alloc, config)?;
-    let mut world = World::new(alloc, config)?;
-    run_script(alloc, &mut world, script, output)
+    let mut runner = Runner::new(alloc, config)?;
+    run_script(&mut runner, script, output)
+}
+
+/// Runs the line of this number, and answers what it prints.
+fn run_line(runner: &mut Runner, line: &[u8], number: u64) -> Result<String, Fault>
+    ensures ran { IfOk result (λ text.
+        RanText runner.old line.now (string_bytes text) runner.new) }
+    ensures not_run { IfErr result (λ fault.
+        ((fault ≡ BadScript number) × CannotRun runner.old line.now) ⊎ (fault ≡ Memory)) }
+{
+    let line = match parse_line(runner.alloc, line) {
+        Ok(line) => line,
+        Err(LineFault::Bad) => return Err(Fault::BadScript(number)),
+        Err(LineFault::Memory) => return Err(Fault::Memory),
+    };
+    match runner.run(line) {
+        Ok(text) => Ok(text),
+        Err(NotRun::NamesNothing) => Err(Fault::BadScript(number)),
+        Err(NotRun::Memory) => Err(Fault::Memory),
+    }
 }
 
 /// Runs a script line by line. What its lines print is written before a fault is told.
 fn run_script<W: OctetWrite>(
-    alloc: Global,
-    world: &mut World,
+    runner: &mut Runner,
     script: &[u8],
     output: &mut W,
 ) -> Result<(), Fault>
+    requires world { Leads [] runner.old.world }
+    requires hosts { runner.old.hosts ≡ [] }
     ensures write_fault { W.faults output.new ≡ write_faults (W.faults output.old) result }
     ensures fault { IfErr result IsScriptFault }
+    ensures ran { Prints (W.written output.old) (W.written output.new) result
+        (λ printed. RunsScript runner.old.world.core.config script.now printed result) }
 {
-    let mut printed = Vec::new(alloc);
+    let mut printed = Vec::new(runner.alloc);
     let mut number = 0u64;
     let mut rest = script;
     while !rest.is_empty() {
         let (line, after) = cut_line(rest);
-        number = number.saturating_add(1);
+        number += 1;
         rest = after;
-        match run_line(alloc, world, line, number) {
+        match run_line(runner, line, number) {
             Ok(text) => print(&mut printed, text.as_str(), output)?,
             Err(fault) => {
                 write_out(&mut printed, output)?;
@@ -165,6 +190,8 @@ fn run_script<W: OctetWrite>(
 
 /// Prints a text. It is collected, and written once there is enough or memory is short.
 fn print<W: OctetWrite>(printed: &mut Vec<u8>, text: &str, output: &mut W) -> Result<(), Fault>
+    ensures printed { OnOk result (Collects (W.written output.old) printed.old.items text.now
+        (W.written output.new) printed.new.items) }
     ensures write_fault { W.faults output.new ≡ write_faults (W.faults output.old) result }
     ensures fault { IfErr result (λ fault. fault ≡ WriteFile) }
 {
@@ -208,6 +235,10 @@ fn write<W: OctetWrite>(octets: &[u8], output: &mut W) -> Result<(), Fault>
 fn cut_line(text: &[u8]) -> (&[u8], &[u8])
     ensures within { length result.1.now ≤ length text.now }
     ensures shorter { 0 < length text.now → length result.1.now < length text.now }
+    ensures line { 0 < length text.now →
+        lines_of text.now ≡ result.0.now ∷ lines_of result.1.now }
+    // The line is the head of the text, and nothing but its LF stands between it and the rest.
+    ensures cut { IsCutLine text.now result.0.now result.1.now }
 {
     match text.iter().position(|octet| *octet == b'\n') {
         Some(end) => (&text[..end], &text[end + 1..]),
@@ -216,7 +247,9 @@ fn cut_line(text: &[u8]) -> (&[u8], &[u8])
 }
 
 /// What stands before the first line `%%`, and what stands after it.
-fn parts(text: &[u8]) -> (&[u8], &[u8]) {
+fn parts(text: &[u8]) -> (&[u8], &[u8])
+    ensures { AreParts text.now result.0.now result.1.now }
+{
     let mut rest = text;
     while !rest.is_empty() {
         let (line, after) = cut_line(rest);

@@ -1,0 +1,31 @@
+-- What a run writes and answers.
+use Rattle.std.specs.Prelude.{◌≡◌, ◌⊎◌, ◌++◌, ℕ, List, [], ◌∷◌, Option, Result, Err}
+use Rattle.lpd_commands.specs.Ends.{Writes}
+use Rattle.config_values.specs.Config as C
+use Rattle.spool_config.specs.Answers.{GivesConfig}
+use Rattle.lpd_script.specs.declared.fault.Fault.{Fault}
+use Rattle.lpd_script.specs.declared.fault.Fault.TheVariants.{Config, Memory, ReadFile, WriteFile}
+use Rattle.lpd_script.specs.Parts.{AreParts}
+use Rattle.lpd_script.specs.Scripts.{RunsScript}
+
+-- where no write failed, these octets were written
+abbrev pub Prints : Option (List ℕ) → Option (List ℕ) → Result (Unit {0}) Fault → (List ℕ → Type 0) → Type 0
+Prints old new (Err WriteFile) P = Unit {0}
+Prints old new result P = (printed : List ℕ) × Writes old new printed × P printed
+
+-- a text was put behind what is collected, of which the head may have been written
+abbrev pub Collects : Option (List ℕ) → List ℕ → List ℕ → Option (List ℕ) → List ℕ → Type 0
+Collects old collected text new left = (head : List ℕ) × Writes old new head × (collected ++ text ≡ head ++ left)
+
+-- a script was run on a spool of the configuration that a text gives
+abbrev pub RunsWith : List ℕ → List ℕ → List ℕ → Result (Unit {0}) Fault → Type 0
+RunsWith config script printed result = (c : C.Config) × GivesConfig config c × RunsScript c script printed result
+
+-- the two parts of a text were run: a fault of the configuration prints nothing
+abbrev pub RunsParts : List ℕ → List ℕ → Option (List ℕ) → Option (List ℕ) → Result (Unit {0}) Fault → Type 0
+RunsParts config script old new (Err (Config fault)) = new ≡ old
+RunsParts config script old new result = Prints old new result (λ printed. RunsWith config script printed result)
+
+-- a text was run, cut into its parts
+abbrev pub RunsText : List ℕ → Option (List ℕ) → Option (List ℕ) → Result (Unit {0}) Fault → Type 0
+RunsText text old new result = (config script : List ℕ) × AreParts text config script × RunsParts config script old new result
