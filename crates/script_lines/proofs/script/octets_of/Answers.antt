@@ -1,0 +1,28 @@
+use Rattle.std.proofs.Common.{◌<◌, length, arith, sym, ◌∙◌}
+use Rattle.std.proofs.lemmas.Bool.Decides.{nat_tests}
+use Rattle.std.proofs.lemmas.List.Sums.{AllPass-from_list_all, list_all-from_AllPass}
+use Rattle.hex.specs.Hex.{is_hex_digit}
+use Rattle.hex.proofs.HexLemmas.{decode_of-ok, decode_of-digits}
+use Rattle.script_lines.proofs.script.octets_of.Goals as goal
+
+pub returns-then-is_empty : goal.returns-then-is_empty
+returns-then-is_empty c = λ octets h. let some = h.0 in let none = c.is_empty.ensures in let true = c.if-is_empty.true in grind (arith, nat_tests)
+
+pub returns-then-digits-ne0 : goal.returns-then-digits-ne0
+returns-then-digits-ne0 c = λ octets h. let even = decode_of-ok c.args.digits.now octets h.1 in absurd (omega (arith, even.0))
+
+pub returns-then-not-are_hexadecimal : goal.returns-then-not-are_hexadecimal
+returns-then-not-are_hexadecimal c = λ octets h.
+    let digits = (decode_of-ok c.args.digits.now octets h.1).1 in
+    let all = list_all-from_AllPass is_hex_digit c.args.digits.now digits in
+    let none = c.are_hexadecimal.ensures in
+    let not = c.if-not-are_hexadecimal.true in
+    absurd (cc)
+
+pub returns-in-Err : goal.returns-in-Err
+returns-in-Err c =
+    let digits = AllPass-from_list_all is_hex_digit c.args.digits.now (sym c.are_hexadecimal.ensures ∙ c.if-not-are_hexadecimal.false) in
+    let octets = decode_of-digits c.args.digits.now (omega arith) digits in
+    let none = c.is_empty.ensures in let false = c.if-is_empty.false in
+    let some : 0 < length c.args.digits.now = grind (arith, nat_tests) in
+    (octets.0, (some, octets.1))
