@@ -1,3 +1,5 @@
 -- What this crate's proofs share.
-pub mod LineLemmas
+pub mod LineCuts
 pub mod ReadLemmas
+pub mod Running
+pub mod Turning

@@ -1,9 +1,14 @@
 //! The main job: a configuration and a script in, acknowledgements and pages out.
 
-ghost use Rattle.std.specs.Prelude.{◌≡◌, ◌≢◌, ◌≤◌, ◌<◌, length, IfOk, IfErr, OnOk, OnErr, Err, Some, []};
+ghost use Rattle.std.specs.Prelude.{◌≡◌, ◌≢◌, ◌≤◌, ◌<◌, ◌⊎◌, length, IfOk, IfErr, OnOk, OnErr, Err, Some, [], string_bytes};
 ghost use Rattle.lpd_commands.specs.Ends.{Writes};
-ghost use Rattle.lpd_script.specs.declared.fault.Fault.TheVariants.{Config, Memory, ReadFile, WriteFile};
+ghost use Rattle.spool_world.specs.Worlds.{Leads};
+ghost use Rattle.lpd_script.specs.declared.fault.Fault.TheVariants.{BadScript, Config, Memory, ReadFile, WriteFile};
 ghost use Rattle.lpd_script.specs.Config.{TellsConfig};
+ghost use Rattle.lpd_script.specs.Ends.{Collects, Prints, RunsParts, RunsText};
+ghost use Rattle.lpd_script.specs.Parts.{AreParts, IsCut};
+ghost use Rattle.lpd_script.specs.Runner.{CannotRun, RanText};
+ghost use Rattle.lpd_script.specs.Scripts.{RunsScript};
 ghost use Rattle.lpd_script.specs.Status.{IsScriptFault, IsStatus};
 ghost use Rattle.spool_config.specs.Answers.{fault_of};
 ghost use Rattle.spool_config.specs.declared.settings.ConfigFault.{ConfigFault};
@@ -235,15 +240,14 @@ fn write<W: OctetWrite>(octets: &[u8], output: &mut W) -> Result<(), Fault>
 fn cut_line(text: &[u8]) -> (&[u8], &[u8])
     ensures within { length result.1.now ≤ length text.now }
     ensures shorter { 0 < length text.now → length result.1.now < length text.now }
-    ensures line { 0 < length text.now →
-        lines_of text.now ≡ result.0.now ∷ lines_of result.1.now }
-    // The line is the head of the text, and nothing but its LF stands between it and the rest.
-    ensures cut { IsCutLine text.now result.0.now result.1.now }
+    ensures cut { IsCut text.now result.0.now result.1.now }
 {
-    match text.iter().position(|octet| *octet == b'\n') {
-        Some(end) => (&text[..end], &text[end + 1..]),
-        None => (text, &[]),
+    for (i, octet) in text.iter().enumerate() {
+        if *octet == b'\n' {
+            return (&text[..i], &text[i + 1..]);
+        }
     }
+    (text, &[])
 }
 
 /// What stands before the first line `%%`, and what stands after it.

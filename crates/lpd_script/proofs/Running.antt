@@ -1,0 +1,130 @@
+-- How far a script was run.
+use Rattle.std.proofs.Common.{◌≡◌, ◌⊎◌, inl, inr, ◌+◌, ◌++◌, ℕ, List, [], ◌∷◌, Option, Some, None, Result, Ok, Err, IsOk, refl, sym, subst, ap, ◌∙◌, append_assoc, append-nil}
+use Rattle.config_values.specs.Config.{Config}
+use Rattle.lpd_commands.specs.Ends.{Writes}
+use Rattle.spool_trace.specs.Trace.{Trace}
+use Rattle.spool_trace.specs.Replies.{IsTrace}
+use Rattle.spool_trace.specs.Shown.{spool_after}
+use Rattle.spool_world.specs.Worlds.{Leads}
+use Rattle.script_lines.specs.declared.script.ScriptLine.{ScriptLine}
+use Rattle.script_lines.specs.Grammar.{Means}
+use Rattle.lpd_script.specs.declared.fault.Fault.{Fault}
+use Rattle.lpd_script.specs.declared.fault.Fault.TheVariants.{BadScript, Memory}
+use Rattle.lpd_script.specs.declared.runner.Runner.{Runner}
+use Rattle.lpd_script.specs.Ends.{Collects}
+use Rattle.lpd_script.specs.Runner.{CannotRun, Misses, Ran, RanText}
+use Rattle.lpd_script.specs.Scripts.{IsBad, NamesNothing, RunsLine, RunsLines, RunsScript, lines_of}
+use Rattle.lpd_script.specs.Steps.{Tells, after, hosts_after}
+
+-- octets written one after another
+pub writes_both : (a b c : Option (List ℕ)) (x y : List ℕ) → Writes a b x → Writes b c y → Writes a c (x ++ y)
+writes_both None b c x y v w = subst (λ z. Writes z c y) v w
+writes_both (Some old) b c x y v w =
+    subst (λ z. Writes z c y) v w ∙ ap Some (append_assoc old x y)
+
+pub writes_none : (a : Option (List ℕ)) → Writes a a []
+writes_none None = refl
+writes_none (Some old) = ap Some (sym (append-nil old))
+
+-- Of a script the lines up to this number were run, and this text is left; what was printed is written or collected.
+pub record SoFar (c : Config) (script : List ℕ) (n : ℕ) (runner : Runner) (rest : List ℕ) (old now : Option (List ℕ))
+    (collected : List ℕ) : Type 0 where
+  pub config : runner.world.core.config ≡ c
+  pub trace : Trace
+  pub leads : Leads trace runner.world
+  pub wrote : List ℕ
+  pub writes : Writes old now wrote
+  pub onwards :
+      (more : List ℕ) (result : Result (Unit {0}) Fault)
+      → RunsLines c (n + 1) runner.hosts trace (lines_of rest) more result
+      → RunsScript c script ((wrote ++ collected) ++ more) result
+
+pub at_start :
+    (runner : Runner) (script : List ℕ) (out : Option (List ℕ)) → Leads [] runner.world → runner.hosts ≡ []
+    → SoFar runner.world.core.config script 0 runner script out out []
+at_start runner script out leads none = record {
+  config = refl;
+  trace = [];
+  leads = leads;
+  wrote = [];
+  writes = writes_none out;
+  onwards = λ more result r. subst (λ x. RunsLines runner.world.core.config 1 x [] (lines_of script) more result) none r;
+}
+
+-- the line that was run, in the words of scripts
+runs_line :
+    (c : Config) (old new : Runner) (t : Trace) (line : ScriptLine) (text : List ℕ) → old.world.core.config ≡ c
+    → Leads t old.world → (r : Ran old line text new) → RunsLine c old.hosts t line r.replies text
+runs_line c old new t line text same leads r = record {
+  tells = subst (λ x. Tells (spool_after x t) line r.replies text) same (r.tells t leads);
+  right = subst (λ x. IsTrace x (after old.hosts line r.replies t)) (r.config ∙ same) (r.leads t leads).right;
+}
+
+joins : (wrote collected text head left more : List ℕ) → collected ++ text ≡ head ++ left
+    → (wrote ++ collected) ++ (text ++ more) ≡ ((wrote ++ head) ++ left) ++ more
+joins wrote collected text head left more e =
+    sym (append_assoc (wrote ++ collected) text more)
+    ∙ ap (λ x. x ++ more) (append_assoc wrote collected text ∙ ap (λ x. wrote ++ x) e ∙ sym (append_assoc wrote head left))
+
+-- one line more
+pub one_more :
+    (c : Config) (script : List ℕ) (n : ℕ) (old new : Runner) (rest rest' line text : List ℕ)
+    (a b d : Option (List ℕ)) (collected left : List ℕ) → SoFar c script n old rest a b collected
+    → lines_of rest ≡ line ∷ lines_of rest' → RanText old line text new → Collects b collected text d left
+    → SoFar c script (n + 1) new rest' a d left
+one_more c script n old new rest rest' line text a b d collected left s cut ran put =
+    let meaning = ran.0 in
+    let means = ran.1 in
+    let r = ran.2 in
+    record {
+      config = r.config ∙ s.config;
+      trace = after old.hosts meaning r.replies s.trace;
+      leads = r.leads s.trace s.leads;
+      wrote = s.wrote ++ put.0;
+      writes = writes_both a b d s.wrote put.0 s.writes put.1;
+      onwards = λ more result runs.
+          subst (λ x. RunsScript c script x result) (joins s.wrote collected text put.0 left more put.2)
+            (s.onwards (text ++ more) result
+              (subst (λ x. RunsLines c (n + 1) old.hosts s.trace x (text ++ more) result) (sym cut)
+                (inr (meaning, r.replies, text, more, means, runs_line c old new s.trace meaning text s.config s.leads r,
+                  refl,
+                  subst (λ x. RunsLines c (n + 1 + 1) x (after old.hosts meaning r.replies s.trace) (lines_of rest') more
+                    result) r.hosts runs))));
+    }
+
+-- it stops at a line that can't be run
+bad_here : (c : Config) (runner : Runner) (t : Trace) (line : List ℕ) → runner.world.core.config ≡ c → Leads t runner.world
+    → CannotRun runner line → IsBad c t line
+bad_here c runner t line same leads bad = case bad of
+    | inl none ↦ inl none
+    | inr x ↦ inr (x.0, x.1, subst (λ y. NamesNothing y t x.0) same (x.2 t leads))
+
+pub stops_bad :
+    (c : Config) (script : List ℕ) (n : ℕ) (runner : Runner) (rest rest' line : List ℕ) (a b : Option (List ℕ))
+    (collected : List ℕ) (s : SoFar c script n runner rest a b collected) → lines_of rest ≡ line ∷ lines_of rest'
+    → CannotRun runner line → RunsScript c script (s.wrote ++ collected) (Err (BadScript (n + 1)))
+stops_bad c script n runner rest rest' line a b collected s cut bad =
+    subst (λ x. RunsScript c script x (Err (BadScript (n + 1)))) (append-nil (s.wrote ++ collected))
+      (s.onwards [] (Err (BadScript (n + 1)))
+        (subst (λ x. RunsLines c (n + 1) runner.hosts s.trace x [] (Err (BadScript (n + 1)))) (sym cut)
+          (inl (refl, inl (refl, bad_here c runner s.trace line s.config s.leads bad)))))
+
+-- it stops for want of memory
+pub stops_short :
+    (c : Config) (script : List ℕ) (n : ℕ) (runner : Runner) (rest rest' line : List ℕ) (a b : Option (List ℕ))
+    (collected : List ℕ) (s : SoFar c script n runner rest a b collected) → lines_of rest ≡ line ∷ lines_of rest'
+    → RunsScript c script (s.wrote ++ collected) (Err Memory)
+stops_short c script n runner rest rest' line a b collected s cut =
+    subst (λ x. RunsScript c script x (Err Memory)) (append-nil (s.wrote ++ collected))
+      (s.onwards [] (Err Memory)
+        (subst (λ x. RunsLines c (n + 1) runner.hosts s.trace x [] (Err Memory)) (sym cut) (inl (refl, inr refl))))
+
+-- it was run to its end
+pub ends :
+    (c : Config) (script : List ℕ) (n : ℕ) (runner : Runner) (rest : List ℕ) (a b : Option (List ℕ)) (collected : List ℕ)
+    (s : SoFar c script n runner rest a b collected) (result : Result (Unit {0}) Fault) → rest ≡ []
+    → result ≡ Ok tt → RunsScript c script (s.wrote ++ collected) result
+ends c script n runner rest a b collected s result none e =
+    subst (λ x. RunsScript c script x result) (append-nil (s.wrote ++ collected))
+      (s.onwards [] result
+        (subst (λ x. RunsLines c (n + 1) runner.hosts s.trace (lines_of x) [] result) (sym none) (refl, inl (subst (λ x. IsOk x) (sym e) tt))))

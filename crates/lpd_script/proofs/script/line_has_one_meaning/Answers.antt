@@ -1,5 +1,0 @@
-use Rattle.lpd_script.proofs.LineLemmas.{one_meaning}
-use Rattle.lpd_script.proofs.script.line_has_one_meaning.Goals as goal
-
-pub returns : goal.returns
-returns c = one_meaning c.args._line.now

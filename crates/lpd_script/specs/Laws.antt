@@ -1,8 +1,0 @@
--- What holds of all lines of a script.
-use Rattle.std.specs.Prelude.{◌≡◌, ℕ, List}
-use Rattle.lpd_script.specs.Grammar.{Means}
-use Rattle.lpd_script.specs.declared.script.ScriptLine.{ScriptLine}
-
--- a line has one meaning at most
-abbrev pub HasOneMeaning : List ℕ → Type 0
-HasOneMeaning line = (a b : ScriptLine) → Means line a → Means line b → a ≡ b
