@@ -1,4 +1,5 @@
 -- What this crate's proofs share.
+pub mod HostPlaces
 pub mod LineCuts
 pub mod ReadLemmas
 pub mod Running
