@@ -103,7 +103,8 @@ by_kind : (line : List ℕ) (m : ScriptLine) → Means line m → MeansAt (kind_
 by_kind line Nothing (inl w) = at_kind line Nothing nothing (ap kind_of w) refl
 by_kind line Nothing (inr w) = at_kind line Nothing nothing (ap kind_of w.1) refl
 by_kind line (Connect host) w = at_kind line (Connect host) connect (ap kind_of w.0) (host, refl, w)
-by_kind line (Send session octets) w = at_kind line (Send session octets) send (ap kind_of w.2) (session, octets, refl, w)
+by_kind line (Send session octets) w =
+    at_kind line (Send session octets) send (ap kind_of w.2) (session, octets, refl, w)
 by_kind line (Go n) w = at_kind line (Go n) go (ap kind_of w.1) (n, refl, w)
 by_kind line (Break n) w = at_kind line (Break n) break (ap kind_of w.1) (n, refl, w)
 by_kind line (Next n) w = at_kind line (Next n) next (ap kind_of w.1) (n, refl, w)

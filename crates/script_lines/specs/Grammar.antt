@@ -1,5 +1,6 @@
 -- What the lines of a script mean.
-use Rattle.std.specs.Prelude.{◌≡◌, ◌<◌, ◌≤◌, ◌⊎◌, ◌++◌, ℕ, Bool, true, List, [], ◌∷◌, Ok, length, codes, nat_le, ◌&&◌, ◌==◌, not, ◌+◌, ◌-◌, ◌*◌, fold, Result, MatchResult}
+use Rattle.std.specs.Prelude.{◌≡◌, ◌<◌, ◌≤◌, ◌⊎◌, ◌++◌, ℕ, Bool, true, List, [], ◌∷◌, length, codes, fold}
+use Rattle.std.specs.Prelude.{◌&&◌, ◌==◌, nat_le, not, ◌+◌, ◌-◌, ◌*◌, Result, Ok, MatchResult}
 use Rattle.std.specs.List.{list_all}
 use Rattle.hex.specs.Hex.{decode_of}
 use Rattle.script_lines.specs.declared.script.ScriptLine.{ScriptLine}

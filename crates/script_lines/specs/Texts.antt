@@ -43,7 +43,9 @@ abbrev pub of_printer : ℕ → List ℕ → List ℕ
 of_printer printer told = codes "printer " ++ decimal printer ++ codes ": " ++ told ++ codes "\n"
 
 abbrev pub shown_page : ShownPage → List ℕ
-shown_page page = codes "job " ++ decimal page.job ++ codes " place " ++ decimal page.place ++ codes " " ++ encode_lower page.octets
+shown_page page =
+    codes "job " ++ decimal page.job ++ codes " place " ++ decimal page.place ++ codes " "
+    ++ encode_lower page.octets
 
 abbrev pub shown_given : Given → List ℕ
 shown_given (given.Page page) = shown_page page

@@ -1,7 +1,9 @@
 //! What a line of a script asks for.
 
-ghost use Rattle.std.specs.Prelude.{◌≡◌, ◌↔◌, ◌++◌, ◌∷◌, ℕ, List, IsTrue, MatchOption, MatchResult, codes};
-ghost use Rattle.script_lines.specs.Grammar.{is_host_octet, IsHost, IsNumber, IsNoNumber, IsHex, RefusesHex, Lacks, HasOperand, IsOther, HasNoSpace, IsAtSpace, Means, AnswersLine};
+ghost use Rattle.std.specs.Prelude.{◌≡◌, ◌↔◌, ◌++◌, IsTrue, MatchOption, MatchResult, codes};
+ghost use Rattle.script_lines.specs.Grammar.{is_host_octet, IsHost, IsNumber, IsNoNumber};
+ghost use Rattle.script_lines.specs.Grammar.{IsHex, RefusesHex, HasNoSpace, IsAtSpace};
+ghost use Rattle.script_lines.specs.Grammar.{Lacks, HasOperand, IsOther, Means, AnswersLine};
 ghost use Rattle.script_lines.specs.Laws.{HasOneMeaning};
 ghost use Rattle.std.specs.List.{list_all};
 ghost use Rattle.hex.specs.Hex.{is_hex_digit};
@@ -54,7 +56,8 @@ pub fn line_has_one_meaning(_line: &[u8])
 ///
 /// # Errors
 ///
-/// `Bad` exactly where the line means nothing; `Memory` only where a host connects or octets are sent.
+/// `Bad` exactly where the line means nothing; `Memory` only where a host connects or octets are
+/// sent.
 pub fn parse_line(alloc: Global, line: &[u8]) -> Result<ScriptLine, LineFault>
     ensures { AnswersLine line.now result }
 {

@@ -6,10 +6,14 @@ use Rattle.hex.proofs.HexLemmas.{decode_of-ok, decode_of-digits}
 use Rattle.script_lines.proofs.script.octets_of.Goals as goal
 
 pub returns-then-is_empty : goal.returns-then-is_empty
-returns-then-is_empty c = λ octets h. let some = h.0 in let none = c.is_empty.ensures in let true = c.if-is_empty.true in grind (arith, nat_tests)
+returns-then-is_empty c = λ octets h.
+    let some = h.0 in let none = c.is_empty.ensures in let true = c.if-is_empty.true in
+    grind (arith, nat_tests)
 
 pub returns-then-digits-ne0 : goal.returns-then-digits-ne0
-returns-then-digits-ne0 c = λ octets h. let even = decode_of-ok c.args.digits.now octets h.1 in absurd (omega (arith, even.0))
+returns-then-digits-ne0 c = λ octets h.
+    let even = decode_of-ok c.args.digits.now octets h.1 in
+    absurd (omega (arith, even.0))
 
 pub returns-then-not-are_hexadecimal : goal.returns-then-not-are_hexadecimal
 returns-then-not-are_hexadecimal c = λ octets h.
@@ -21,7 +25,9 @@ returns-then-not-are_hexadecimal c = λ octets h.
 
 pub returns-in-Err : goal.returns-in-Err
 returns-in-Err c =
-    let digits = AllPass-from_list_all is_hex_digit c.args.digits.now (sym c.are_hexadecimal.ensures ∙ c.if-not-are_hexadecimal.false) in
+    let digits =
+    AllPass-from_list_all is_hex_digit c.args.digits.now
+    (sym c.are_hexadecimal.ensures ∙ c.if-not-are_hexadecimal.false) in
     let octets = decode_of-digits c.args.digits.now (omega arith) digits in
     let none = c.is_empty.ensures in let false = c.if-is_empty.false in
     let some : 0 < length c.args.digits.now = grind (arith, nat_tests) in

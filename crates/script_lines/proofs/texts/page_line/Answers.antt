@@ -22,5 +22,8 @@ returns c =
     let printer = decimal c.args.printer in
     let job = decimal c.args.page.now.job in
     let place = decimal c.args.page.now.place in
-    let same = regroup (codes "printer ") printer (codes ": ") (codes "job ") job (codes " place ") place (codes " ") (string_bytes c.in_ok-octets.octets) (codes "\n") in
+    let shown = string_bytes c.in_ok-octets.octets in
+    let same =
+    regroup (codes "printer ") printer (codes ": ") (codes "job ") job (codes " place ") place
+    (codes " ") shown (codes "\n") in
     simp (← octets) (in_other_words string_bytes c.format.result _ _ (sym same) c.format.ensures.ok)

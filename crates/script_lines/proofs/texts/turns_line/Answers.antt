@@ -22,4 +22,5 @@ returns-then-is_empty c =
 pub returns : goal.returns
 returns c =
     let some = shown_some c.args.written.now (sym c.is_empty.ensures ∙ c.if-is_empty.false) in
-    simp (some, ← c.in_ok-octets.ensures, ← c.shown_stop-stop.ensures) (simp append_assoc c.format-2.ensures.ok)
+    simp (some, ← c.in_ok-octets.ensures, ← c.shown_stop-stop.ensures)
+    (simp append_assoc c.format-2.ensures.ok)
