@@ -6,11 +6,13 @@ use Rattle.std.specs.List.{list_all}
 use Rattle.std.proofs.lemmas.Bool.{and_parts}
 use Rattle.std.proofs.lemmas.Bool.Decides.{nat_tests}
 use Rattle.std.specs.Cmp.Derive.{both_true}
-use Rattle.script_lines.specs.Grammar.{Means, IsHost, IsNumber, IsHex, RefusesLine, RefusesHex, IsNoNumber, AnswersLine, HasNoSpace, IsAtSpace, is_no_space, is_digit}
+use Rattle.script_lines.specs.Grammar.{Means, IsHost, IsNumber, IsHex, RefusesLine, RefusesHex}
+use Rattle.script_lines.specs.Grammar.{IsNoNumber, AnswersLine, HasNoSpace, IsAtSpace, is_no_space, is_digit}
 use Rattle.script_lines.specs.declared.script.LineFault.{LineFault}
 use Rattle.script_lines.specs.declared.script.LineFault.TheVariants.{Bad, Memory}
 use Rattle.script_lines.specs.declared.script.ScriptLine.{ScriptLine}
-use Rattle.script_lines.specs.declared.script.ScriptLine.TheVariants.{Nothing, Connect, Send, Go, Break, Next, Printed, Failed, Free, Pages, Shutdown}
+use Rattle.script_lines.specs.declared.script.ScriptLine.TheVariants.{Nothing, Connect, Send, Go, Break}
+use Rattle.script_lines.specs.declared.script.ScriptLine.TheVariants.{Next, Printed, Failed, Free, Pages, Shutdown}
 
 -- the first octet, or 0 where there is none
 abbrev first : List ℕ → ℕ

@@ -4,7 +4,8 @@ use Rattle.std.specs.Prelude.{◌&&◌, ◌==◌, nat_le, not, ◌+◌, ◌-◌,
 use Rattle.std.specs.List.{list_all}
 use Rattle.hex.specs.Hex.{decode_of}
 use Rattle.script_lines.specs.declared.script.ScriptLine.{ScriptLine}
-use Rattle.script_lines.specs.declared.script.ScriptLine.TheVariants.{Nothing, Connect, Send, Go, Break, Next, Printed, Failed, Free, Pages, Shutdown}
+use Rattle.script_lines.specs.declared.script.ScriptLine.TheVariants.{Nothing, Connect, Send, Go, Break}
+use Rattle.script_lines.specs.declared.script.ScriptLine.TheVariants.{Next, Printed, Failed, Free, Pages, Shutdown}
 use Rattle.script_lines.specs.declared.script.LineFault.{LineFault}
 use Rattle.script_lines.specs.declared.script.LineFault.TheVariants.{Bad, Memory}
 
