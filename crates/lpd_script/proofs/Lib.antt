@@ -3,4 +3,5 @@ pub mod HostPlaces
 pub mod LineCuts
 pub mod ReadLemmas
 pub mod Running
+pub mod Stepping
 pub mod Turning

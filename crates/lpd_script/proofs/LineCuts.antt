@@ -1,6 +1,8 @@
 -- A text cut into its lines.
-use Rattle.std.proofs.Common.{◌≡◌, ◌≢◌, ◌⊎◌, inl, inr, ◌<◌, ◌++◌, ◌==◌, ◌&&◌, ℕ, Bool, true, false, not, cond, All, List, [], ◌∷◌, codes, length, refl, sym, subst, ap, ◌∙◌, append_assoc, append-nil, arith}
+use Rattle.std.proofs.Common.{◌≡◌, ◌≢◌, ◌⊎◌, inl, inr, ◌<◌, ◌++◌, ◌==◌, ◌&&◌, ℕ, Bool, true, false, not, cond, All, List, [], ◌∷◌, codes, length, refl, sym, subst, ap, ◌∙◌, append_assoc, append-nil, length-append, take, ◌-◌, arith}
 use Rattle.std.specs.List.{list_all}
+use Rattle.std.proofs.Math.Seq.{take-append_seam}
+use Rattle.std.proofs.lemmas.List.Elements.{All-nil, All-push}
 use Rattle.lpd_script.specs.Scripts.{before_first, lines_of}
 use Rattle.lpd_script.specs.Parts.{AreParts, AreWhole, HasNoMark, IsCut, IsMarked, is_no_lf, mark}
 
@@ -34,9 +36,10 @@ line_last (b ∷ c ∷ line) none some =
 
 -- a text that isn't empty has a first line, and then the lines of what follows it
 pub cut_lines : (text line rest : List ℕ) → 0 < length text → IsCut text line rest → lines_of text ≡ line ∷ lines_of rest
-cut_lines text line rest some cut = case cut.1 of
-    | inl e ↦ ap lines_of e ∙ line_first line rest cut.0
-    | inr e ↦ ap lines_of e.0 ∙ line_last line cut.0 (subst (λ x. 0 < length x) e.0 some) ∙ ap (λ x. line ∷ lines_of x) (sym e.1)
+cut_lines text line rest some cut = elim cut.1 [
+  | inl e ↦ ap lines_of e ∙ line_first line rest cut.0
+  | inr e ↦ ap lines_of e.0 ∙ line_last line cut.0 (subst (λ x. 0 < length x) e.0 some) ∙ ap (λ x. line ∷ lines_of x) (sym e.1)
+]
 
 -- the lines of whole lines and what follows
 before_more : (b : ℕ) (first : List ℕ) (lines more : List (List ℕ)) → before_first b ((first ∷ lines) ++ more) ≡ before_first b (first ∷ lines) ++ more
@@ -72,6 +75,82 @@ lines_join (b ∷ text) more =
     ∙ joined b (b == 10) (lines_of (text ++ 10 ∷ [])) (lines_of more) (some_first text)
 
 pub whole_join : (text more : List ℕ) → AreWhole text → lines_of (text ++ more) ≡ lines_of text ++ lines_of more
-whole_join text more whole = case whole of
-    | inl e ↦ subst (λ x. lines_of (x ++ more) ≡ lines_of x ++ lines_of more) (sym e) refl
-    | inr e ↦ subst (λ x. lines_of (x ++ more) ≡ lines_of x ++ lines_of more) (sym e.1) (lines_join e.0 more)
+whole_join text more whole = elim whole [
+  | inl e ↦ subst (λ x. lines_of (x ++ more) ≡ lines_of x ++ lines_of more) (sym e) refl
+  | inr e ↦ subst (λ x. lines_of (x ++ more) ≡ lines_of x ++ lines_of more) (sym e.1) (lines_join e.0 more)
+]
+
+-- The lines of a text so far, of which none is the mark, and what is left of it.
+pub record Parted (text rest : List ℕ) : Type 0 where
+  pub before : List ℕ
+  pub cut : text ≡ before ++ rest
+  pub unmarked : HasNoMark before
+  pub whole : AreWhole before ⊎ (rest ≡ [])
+
+pub parted_first : (text : List ℕ) → Parted text text
+parted_first text = record {
+  before = [];
+  cut = refl;
+  unmarked = All-nil (λ line. line ≢ mark);
+  whole = inl (inl refl);
+}
+
+still_some : (rest : List ℕ) → 0 < length rest → rest ≡ [] → ⊥
+still_some rest some none = let short : length rest ≡ 0 = ap length none in omega (arith, some, short)
+
+whole_still : (before rest : List ℕ) → 0 < length rest → AreWhole before ⊎ (rest ≡ []) → AreWhole before
+whole_still before rest some w = elim w [
+  | inl x ↦ x
+  | inr none ↦ absurd (still_some rest some none)
+]
+
+pushed : (before piece line : List ℕ) → AreWhole before → HasNoMark before → lines_of piece ≡ line ∷ [] → line ≢ mark → HasNoMark (before ++ piece)
+pushed before piece line whole unmarked one other =
+    subst (All (λ x. x ≢ mark)) (sym (whole_join before piece whole ∙ ap (λ x. lines_of before ++ x) one))
+    (All-push (λ x. x ≢ mark) (lines_of before) line unmarked other)
+
+-- one line more that isn't the mark
+pub parted_more : (text rest line after : List ℕ) → 0 < length rest → Parted text rest → IsCut rest line after → line ≢ mark → Parted text after
+parted_more text rest line after some p cut other =
+    let whole = whole_still p.before rest some p.whole in
+    elim cut.1 [
+      | inl e ↦ record {
+        before = p.before ++ (line ++ 10 ∷ []);
+        cut = p.cut ∙ ap (λ x. p.before ++ x) (e ∙ sym (append_assoc line (10 ∷ []) after)) ∙ sym (append_assoc p.before (line ++ 10 ∷ []) after);
+        unmarked = pushed p.before (line ++ 10 ∷ []) line whole p.unmarked (line_first line [] cut.0) other;
+        whole = inl (inr (p.before ++ line, sym (append_assoc p.before line (10 ∷ []))));
+      }
+      | inr e ↦ record {
+        before = p.before ++ line;
+        cut = p.cut ∙ ap (λ x. p.before ++ x) e.0 ∙ sym (append-nil (p.before ++ line)) ∙ ap (λ x. (p.before ++ line) ++ x) (sym e.1);
+        unmarked = pushed p.before line line whole p.unmarked (line_last line cut.0 (subst (λ x. 0 < length x) e.0 some)) other;
+        whole = inr e.1;
+      }
+    ]
+
+marked : (rest line after : List ℕ) → IsCut rest line after → line ≡ mark → IsMarked rest after
+marked rest line after cut is = elim cut.1 [
+  | inl e ↦ inl (e ∙ ap (λ x. x ++ 10 ∷ after) is)
+  | inr e ↦ inr (e.0 ∙ is, e.1)
+]
+
+front : (before rest : List ℕ) → take (length (before ++ rest) - length rest) (before ++ rest) ≡ before
+front before rest =
+    let long = length-append before rest in
+    let many : length (before ++ rest) - length rest ≡ length before = omega (arith, long) in
+    ap (λ n. take n (before ++ rest)) many ∙ take-append_seam before rest
+
+-- the line is the mark
+pub parted_mark : (text rest line after : List ℕ) → 0 < length rest → Parted text rest → IsCut rest line after → line ≡ mark →
+    AreParts text (take (length text - length rest) text) after
+parted_mark text rest line after some p cut is =
+    let before : p.before ≡ take (length text - length rest) text =
+    sym (front p.before rest) ∙ ap (λ x. take (length x - length rest) x) (sym p.cut) in
+    subst (λ x. AreParts text x after) before
+    (p.unmarked, inr (whole_still p.before rest some p.whole, (rest, p.cut, marked rest line after cut is)))
+
+-- no line is
+pub parted_end : (text rest : List ℕ) → rest ≡ [] → Parted text rest → AreParts text text rest
+parted_end text rest none p =
+    let all : p.before ≡ text = sym (append-nil p.before) ∙ ap (λ x. p.before ++ x) (sym none) ∙ sym p.cut in
+    (subst HasNoMark all p.unmarked, inl (refl, none))

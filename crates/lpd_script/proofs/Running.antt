@@ -1,5 +1,5 @@
 -- How far a script was run.
-use Rattle.std.proofs.Common.{◌≡◌, ◌⊎◌, inl, inr, ◌+◌, ◌++◌, ℕ, List, [], ◌∷◌, Option, Some, None, Result, Ok, Err, IsOk, refl, sym, subst, ap, ◌∙◌, append_assoc, append-nil}
+use Rattle.std.proofs.Common.{◌≡◌, ◌⊎◌, inl, inr, ◌+◌, ◌++◌, ℕ, List, [], ◌∷◌, Option, Some, None, Result, Ok, Err, IfErr, OnOk, refl, sym, subst, ap, ◌∙◌, append_assoc, append-nil}
 use Rattle.config_values.specs.Config.{Config}
 use Rattle.lpd_commands.specs.Ends.{Writes}
 use Rattle.spool_trace.specs.Trace.{Trace}
@@ -9,9 +9,12 @@ use Rattle.spool_world.specs.Worlds.{Leads}
 use Rattle.script_lines.specs.declared.script.ScriptLine.{ScriptLine}
 use Rattle.script_lines.specs.Grammar.{Means}
 use Rattle.lpd_script.specs.declared.fault.Fault.{Fault}
-use Rattle.lpd_script.specs.declared.fault.Fault.TheVariants.{BadScript, Memory}
+use Rattle.lpd_script.specs.declared.fault.Fault.TheVariants.{BadScript, Config as ConfigFaulty, Memory, WriteFile}
+use Rattle.spool_config.specs.Answers.{GivesConfig}
+use Rattle.spool_config.specs.declared.settings.ConfigFault.{ConfigFault}
+use Rattle.lpd_script.specs.Status.{IsScriptFault}
 use Rattle.lpd_script.specs.declared.runner.Runner.{Runner}
-use Rattle.lpd_script.specs.Ends.{Collects}
+use Rattle.lpd_script.specs.Ends.{Collects, Prints, RunsParts}
 use Rattle.lpd_script.specs.Runner.{CannotRun, Misses, Ran, RanText}
 use Rattle.lpd_script.specs.Scripts.{IsBad, NamesNothing, RunsLine, RunsLines, RunsScript, lines_of}
 use Rattle.lpd_script.specs.Steps.{Tells, after, hosts_after}
@@ -84,47 +87,100 @@ one_more c script n old new rest rest' line text a b d collected left s cut ran 
       writes = writes_both a b d s.wrote put.0 s.writes put.1;
       onwards = λ more result runs.
           subst (λ x. RunsScript c script x result) (joins s.wrote collected text put.0 left more put.2)
-            (s.onwards (text ++ more) result
-              (subst (λ x. RunsLines c (n + 1) old.hosts s.trace x (text ++ more) result) (sym cut)
-                (inr (meaning, r.replies, text, more, means, runs_line c old new s.trace meaning text s.config s.leads r,
-                  refl,
-                  subst (λ x. RunsLines c (n + 1 + 1) x (after old.hosts meaning r.replies s.trace) (lines_of rest') more
-                    result) r.hosts runs))));
+          (s.onwards (text ++ more) result
+          (subst (λ x. RunsLines c (n + 1) old.hosts s.trace x (text ++ more) result) (sym cut)
+          (inr (
+            meaning,
+            r.replies,
+            text,
+            more,
+            means,
+            runs_line c old new s.trace meaning text s.config s.leads r,
+            refl,
+            subst (λ x. RunsLines c (n + 1 + 1) x (after old.hosts meaning r.replies s.trace) (lines_of rest') more
+                result) r.hosts runs,
+          ))));
     }
 
 -- it stops at a line that can't be run
 bad_here : (c : Config) (runner : Runner) (t : Trace) (line : List ℕ) → runner.world.core.config ≡ c → Leads t runner.world
     → CannotRun runner line → IsBad c t line
-bad_here c runner t line same leads bad = case bad of
-    | inl none ↦ inl none
-    | inr x ↦ inr (x.0, x.1, subst (λ y. NamesNothing y t x.0) same (x.2 t leads))
+bad_here c runner t line same leads bad = elim bad [
+  | inl none ↦ inl none
+  | inr x ↦ inr (x.0, x.1, subst (λ y. NamesNothing y t x.0) same (x.2 t leads))
+]
 
-pub stops_bad :
+stops_bad :
     (c : Config) (script : List ℕ) (n : ℕ) (runner : Runner) (rest rest' line : List ℕ) (a b : Option (List ℕ))
     (collected : List ℕ) (s : SoFar c script n runner rest a b collected) → lines_of rest ≡ line ∷ lines_of rest'
     → CannotRun runner line → RunsScript c script (s.wrote ++ collected) (Err (BadScript (n + 1)))
 stops_bad c script n runner rest rest' line a b collected s cut bad =
     subst (λ x. RunsScript c script x (Err (BadScript (n + 1)))) (append-nil (s.wrote ++ collected))
-      (s.onwards [] (Err (BadScript (n + 1)))
-        (subst (λ x. RunsLines c (n + 1) runner.hosts s.trace x [] (Err (BadScript (n + 1)))) (sym cut)
-          (inl (refl, inl (refl, bad_here c runner s.trace line s.config s.leads bad)))))
+    (s.onwards [] (Err (BadScript (n + 1)))
+    (subst (λ x. RunsLines c (n + 1) runner.hosts s.trace x [] (Err (BadScript (n + 1)))) (sym cut)
+    (inl (refl, inl (refl, bad_here c runner s.trace line s.config s.leads bad)))))
 
 -- it stops for want of memory
-pub stops_short :
+stops_short :
     (c : Config) (script : List ℕ) (n : ℕ) (runner : Runner) (rest rest' line : List ℕ) (a b : Option (List ℕ))
     (collected : List ℕ) (s : SoFar c script n runner rest a b collected) → lines_of rest ≡ line ∷ lines_of rest'
     → RunsScript c script (s.wrote ++ collected) (Err Memory)
 stops_short c script n runner rest rest' line a b collected s cut =
     subst (λ x. RunsScript c script x (Err Memory)) (append-nil (s.wrote ++ collected))
-      (s.onwards [] (Err Memory)
-        (subst (λ x. RunsLines c (n + 1) runner.hosts s.trace x [] (Err Memory)) (sym cut) (inl (refl, inr refl))))
+    (s.onwards [] (Err Memory)
+    (subst (λ x. RunsLines c (n + 1) runner.hosts s.trace x [] (Err Memory)) (sym cut) (inl (refl, inr refl))))
 
--- it was run to its end
-pub ends :
-    (c : Config) (script : List ℕ) (n : ℕ) (runner : Runner) (rest : List ℕ) (a b : Option (List ℕ)) (collected : List ℕ)
-    (s : SoFar c script n runner rest a b collected) (result : Result (Unit {0}) Fault) → rest ≡ []
-    → result ≡ Ok tt → RunsScript c script (s.wrote ++ collected) result
-ends c script n runner rest a b collected s result none e =
-    subst (λ x. RunsScript c script x result) (append-nil (s.wrote ++ collected))
-      (s.onwards [] result
-        (subst (λ x. RunsLines c (n + 1) runner.hosts s.trace (lines_of x) [] result) (sym none) (refl, inl (subst (λ x. IsOk x) (sym e) tt))))
+-- what is collected is written, and it stops
+pub stopped :
+    (c : Config) (script : List ℕ) (n : ℕ) (runner : Runner) (rest rest' line : List ℕ) (a b d : Option (List ℕ))
+    (collected : List ℕ) (fault : Fault) → SoFar c script n runner rest a b collected
+    → lines_of rest ≡ line ∷ lines_of rest'
+    → ((fault ≡ BadScript (n + 1)) × CannotRun runner line) ⊎ (fault ≡ Memory) → Writes b d collected
+    → Prints a d (Err fault) (λ printed. RunsScript c script printed (Err fault))
+stopped c script n runner rest rest' line a b d collected fault s cut why wrote =
+    let all = writes_both a b d s.wrote collected s.writes wrote in
+    elim why [
+      | inl bad ↦ subst (λ f. Prints a d (Err f) (λ printed. RunsScript c script printed (Err f))) (sym bad.0)
+          (s.wrote ++ collected, all, stops_bad c script n runner rest rest' line a b collected s cut bad.1)
+      | inr short ↦ subst (λ f. Prints a d (Err f) (λ printed. RunsScript c script printed (Err f))) (sym short)
+          (s.wrote ++ collected, all, stops_short c script n runner rest rest' line a b collected s cut)
+    ]
+
+-- or all was run
+pub finished :
+    (c : Config) (script : List ℕ) (n : ℕ) (runner : Runner) (rest : List ℕ) (a b d : Option (List ℕ))
+    (collected : List ℕ) (result : Result (Unit {0}) Fault) → SoFar c script n runner rest a b collected → rest ≡ []
+    → OnOk result (Writes b d collected) → IfErr result (λ fault. fault ≡ WriteFile)
+    → Prints a d result (λ printed. RunsScript c script printed result)
+finished c script n runner rest a b d collected (Err fault) s none wrote is =
+    subst (λ f. Prints a d (Err f) (λ printed. RunsScript c script printed (Err f))) (sym is) tt
+finished c script n runner rest a b d collected (Ok x) s none wrote is = (
+  s.wrote ++ collected,
+  writes_both a b d s.wrote collected s.writes wrote,
+  subst (λ x. RunsScript c script x (Ok tt)) (append-nil (s.wrote ++ collected))
+      (s.onwards [] (Ok tt)
+      (subst (λ x. RunsLines c (n + 1) runner.hosts s.trace (lines_of x) [] (Ok tt)) (sym none) (refl, inl refl))),
+)
+
+-- want of memory before the first line
+none_ran : (c : Config) (lines : List (List ℕ)) → RunsLines c 1 [] [] lines [] (Err Memory)
+none_ran c [] = (refl, inr refl)
+none_ran c (line ∷ lines) = inl (refl, inr refl)
+
+pub short_at_once :
+    (config script : List ℕ) (c : Config) (out : Option (List ℕ)) (result : Result (Unit {0}) Fault)
+    → GivesConfig config c → result ≡ Err Memory → RunsParts config script out out result
+short_at_once config script c out result gives is =
+    subst (RunsParts config script out out) (sym is) ([], writes_none out, (c, gives, none_ran c (lines_of script)))
+
+-- a script has no fault of the configuration
+pub no_config_fault :
+    (result : Result (Unit {0}) Fault) (due : ConfigFault) → IfErr result IsScriptFault → result ≡ Err (ConfigFaulty due) → ⊥
+no_config_fault (Ok x) due is e = cc
+no_config_fault (Err fault) due is e = elim is [
+  | inl bad ↦ let b = bad.1 in cc
+  | inr other ↦ elim other [
+    | inl short ↦ cc
+    | inr write ↦ cc
+  ]
+]

@@ -1,5 +1,5 @@
 -- What a run writes and answers.
-use Rattle.std.specs.Prelude.{◌≡◌, ◌⊎◌, ◌++◌, ℕ, List, [], ◌∷◌, Option, Result, Err}
+use Rattle.std.specs.Prelude.{◌≡◌, ◌⊎◌, ◌++◌, ℕ, List, [], ◌∷◌, Option, Result, Ok, Err}
 use Rattle.lpd_commands.specs.Ends.{Writes}
 use Rattle.config_values.specs.Config as C
 use Rattle.spool_config.specs.Answers.{GivesConfig}
@@ -7,6 +7,7 @@ use Rattle.lpd_script.specs.declared.fault.Fault.{Fault}
 use Rattle.lpd_script.specs.declared.fault.Fault.TheVariants.{Config, Memory, ReadFile, WriteFile}
 use Rattle.lpd_script.specs.Parts.{AreParts}
 use Rattle.lpd_script.specs.Scripts.{RunsScript}
+use Rattle.lpd_script.specs.Status.{status_of}
 
 -- where no write failed, these octets were written
 abbrev pub Prints : Option (List ℕ) → Option (List ℕ) → Result (Unit {0}) Fault → (List ℕ → Type 0) → Type 0
@@ -29,3 +30,19 @@ RunsParts config script old new result = Prints old new result (λ printed. Runs
 -- a text was run, cut into its parts
 abbrev pub RunsText : List ℕ → Option (List ℕ) → Option (List ℕ) → Result (Unit {0}) Fault → Type 0
 RunsText text old new result = (config script : List ℕ) × AreParts text config script × RunsParts config script old new result
+
+-- all of an input was run, or reading it stopped before anything was printed
+abbrev pub RunsAll : List ℕ → Option (List ℕ) → Option (List ℕ) → Result (Unit {0}) Fault → Type 0
+RunsAll text old new (Err ReadFile) = new ≡ old
+RunsAll text old new (Err Memory) = (new ≡ old) ⊎ RunsText text old new (Err Memory)
+RunsAll text old new result = RunsText text old new result
+
+-- the exit status of a run
+abbrev pub status_at : Result (Unit {0}) Fault → ℕ
+status_at (Ok done) = 0
+status_at (Err fault) = status_of fault
+
+-- the same by the exit status
+abbrev pub RunsTo : List ℕ → Option (List ℕ) → Option (List ℕ) → ℕ → Type 0
+RunsTo text old new status =
+    (result : Result (Unit {0}) Fault) × (status ≡ status_at result) × RunsAll text old new result

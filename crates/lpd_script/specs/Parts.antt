@@ -24,7 +24,7 @@ abbrev pub AreParts : List ℕ → List ℕ → List ℕ → Type 0
 AreParts text config script =
     HasNoMark config
     × (((text ≡ config) × (script ≡ []))
-      ⊎ (AreWhole config × ((rest : List ℕ) × (text ≡ config ++ rest) × IsMarked rest script)))
+    ⊎ (AreWhole config × ((rest : List ℕ) × (text ≡ config ++ rest) × IsMarked rest script)))
 
 abbrev pub is_no_lf : ℕ → Bool
 is_no_lf octet = not (octet == 10)

@@ -53,8 +53,8 @@ RunsLines c n hosts t [] printed result = (printed ≡ []) × (IsOk result ⊎ (
 RunsLines c n hosts t (line ∷ lines) printed result =
     (printed ≡ []) × StopsAt c n t line result
     ⊎ ((meaning : ScriptLine) × (replies : List Reply) × (text rest : List ℕ) × Means line meaning
-      × RunsLine c hosts t meaning replies text × (printed ≡ text ++ rest)
-      × RunsLines c (n + 1) (hosts_after hosts meaning) (after hosts meaning replies t) lines rest result)
+    × RunsLine c hosts t meaning replies text × (printed ≡ text ++ rest)
+    × RunsLines c (n + 1) (hosts_after hosts meaning) (after hosts meaning replies t) lines rest result)
 
 -- a script was run on a spool in which nothing had happened
 abbrev pub RunsScript : Config → List ℕ → List ℕ → Result (Unit {0}) Fault → Type 0

@@ -1,11 +1,11 @@
 //! The main job: a configuration and a script in, acknowledgements and pages out.
 
-ghost use Rattle.std.specs.Prelude.{◌≡◌, ◌≢◌, ◌≤◌, ◌<◌, ◌⊎◌, length, IfOk, IfErr, OnOk, OnErr, Err, Some, [], string_bytes};
+ghost use Rattle.std.specs.Prelude.{◌≡◌, ◌≢◌, ◌≤◌, ◌<◌, ◌⊎◌, ℕ, List, length, IfOk, IfErr, OnOk, OnErr, Err, Some, [], string_bytes};
 ghost use Rattle.lpd_commands.specs.Ends.{Writes};
 ghost use Rattle.spool_world.specs.Worlds.{Leads};
 ghost use Rattle.lpd_script.specs.declared.fault.Fault.TheVariants.{BadScript, Config, Memory, ReadFile, WriteFile};
 ghost use Rattle.lpd_script.specs.Config.{TellsConfig};
-ghost use Rattle.lpd_script.specs.Ends.{Collects, Prints, RunsParts, RunsText};
+ghost use Rattle.lpd_script.specs.Ends.{Collects, Prints, RunsAll, RunsParts, RunsText, RunsTo};
 ghost use Rattle.lpd_script.specs.Parts.{AreParts, IsCut};
 ghost use Rattle.lpd_script.specs.Runner.{CannotRun, RanText};
 ghost use Rattle.lpd_script.specs.Scripts.{RunsScript};
@@ -52,6 +52,9 @@ pub fn run_input<R: OctetRead, W: OctetWrite, E: OctetWrite>(
         → W.written output.new ≡ W.written output.old }
     ensures quiet { result ≡ 0 → IsUntouched (E.written faults.old) (E.faults faults.old)
         (E.written faults.new) (E.faults faults.new) }
+    // What is written is what the lines of the script print, and the status says how it ended.
+    ensures ran { (text : List ℕ) → R.left input.old ≡ Some text →
+        RunsTo text (W.written output.old) (W.written output.new) result }
 {
     match run_all(alloc, input, output) {
         Ok(()) => 0,
@@ -82,6 +85,8 @@ fn run_all<R: OctetRead, W: OctetWrite>(
     ensures read_fault { R.faults input.new ≢ R.faults input.old → result ≡ Err ReadFile }
     ensures write_fault { W.faults output.new ≡ write_faults (W.faults output.old) result }
     ensures unread { result ≡ Err ReadFile → W.written output.new ≡ W.written output.old }
+    ensures ran { (text : List ℕ) → R.left input.old ≡ Some text →
+        RunsAll text (W.written output.old) (W.written output.new) result }
 {
     let all = read_all(alloc, input)?;
     run_text(alloc, all.as_slice(), output)

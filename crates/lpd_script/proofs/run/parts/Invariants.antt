@@ -1,15 +1,12 @@
-use Rattle.std.proofs.Common.{◌≡◌, ◌≤◌, ◌⊎◌, ◌++◌, ℕ, List, [], length}
-use Rattle.lpd_script.specs.Parts.{AreWhole, HasNoMark}
+use Rattle.std.proofs.Common.{◌≤◌, length}
+use Rattle.lpd_script.proofs.LineCuts.{Parted}
 use Rattle.lpd_script.proofs.run.parts.Given as goal
 
-abbrev pub invariant-loop-rest : goal.invariant-loop-rest
-invariant-loop-rest l = record {
+abbrev pub invariant-loop-line : goal.invariant-loop-line
+invariant-loop-line l = record {
   room : length l.rest ≤ length l.text;
-  before : List ℕ;
-  cut : l.text ≡ before ++ l.rest;
-  unmarked : HasNoMark before;
-  whole : AreWhole before ⊎ (l.rest ≡ []);
+  parted : Parted l.text l.rest;
 }
 
-abbrev pub decreases-loop-rest : goal.decreases-loop-rest
-decreases-loop-rest l = length l.rest
+abbrev pub decreases-loop-line : goal.decreases-loop-line
+decreases-loop-line l = length l.rest

@@ -1,19 +1,27 @@
-use Rattle.std.proofs.Common.{rules, ◌≡◌, ◌≢◌, ◌≤◌, ◌<◌, ◌⊎◌, length, IfOk, IfErr, OnOk, OnErr, Err, Some, [], string_bytes, ℕ, ◌+◌, ◌-◌, ◌*◌, ◌/◌, ◌%◌, Bool, true, false, nat_eq, nat_lt, List, ◌∷◌, ◌++◌, slice_index_or, slice_set, bit_and, bit_or, Fits, w8, w32, w64, Bor, MutBor}
+use Rattle.std.proofs.Common.{rules, ◌≡◌, ◌++◌, [], false, cond, is_ok, sym, subst, ap, ◌∙◌, append-nil}
 use Rattle.lpd_commands.specs.Ends.{Writes}
-use Rattle.spool_world.specs.Worlds.{Leads}
-use Rattle.lpd_script.specs.declared.fault.Fault.TheVariants.{BadScript, Config, Memory, ReadFile, WriteFile}
-use Rattle.lpd_script.specs.Config.{TellsConfig}
-use Rattle.lpd_script.specs.Ends.{Collects, Prints, RunsParts, RunsText}
-use Rattle.lpd_script.specs.Parts.{AreParts, IsCut}
-use Rattle.lpd_script.specs.Runner.{CannotRun, RanText}
-use Rattle.lpd_script.specs.Scripts.{RunsScript}
-use Rattle.lpd_script.specs.Status.{IsScriptFault, IsStatus}
-use Rattle.spool_config.specs.Answers.{fault_of}
-use Rattle.spool_config.specs.declared.settings.ConfigFault.{ConfigFault}
-use Rattle.spool_config.specs.declared.settings.ConfigFault.TheVariants.{Memory as ConfigMemory}
-use Rattle.lpd_script.specs.Streams.{HasGivenAll, IsReadOut, IsReadOutAfter, IsUntouched, IsReadingFault, write_faults}
+use Rattle.lpd_script.specs.Ends.{Collects}
+use Rattle.lpd_script.proofs.Running.{writes_both}
+use Rattle.lpd_script.proofs.Turning.{where_ok}
 use Rattle.lpd_script.proofs.run.print.Goals as goal
 
--- src/run.rt:205:9
 pub returns-then-is_err-clause-printed : goal.returns-then-is_err-clause-printed
-returns-then-is_err-clause-printed g c = ?
+returns-then-is_err-clause-printed g c =
+    let old = c.args.printed.now.items in
+    let text = c.args.text.now in
+    let a = g.W.OctetWrite.written c.args.output.now in
+    let b = g.W.OctetWrite.written c.write_out.new.output in
+    let d = g.W.OctetWrite.written c.write.new.output in
+    let left = c.write_out.new.printed.items in
+    let bad : is_ok c.extend_from_slice.result ≡ false = search rules in
+    let kept : c.extend_from_slice.new.self.items ≡ old =
+    c.extend_from_slice.ensures.items ∙ ap (λ x. cond x (old ++ c.as_bytes.result.now) old) bad in
+    let same : (old ++ text ≡ (old ++ text) ++ left) =
+    sym (append-nil (old ++ text)) ∙ ap (λ x. (old ++ text) ++ x) (sym c.in_ok-write_out.ensures.emptied) in
+    where_ok (λ x. Writes b d c.as_bytes-then-is_err.result.now) (λ x. Collects a old text d left) c.write.result
+    (λ x w. (
+      old ++ text,
+      writes_both a b d old text (subst (λ y. Writes a b y) kept c.in_ok-write_out.ensures.written)
+          (subst (λ y. Writes b d y) c.as_bytes-then-is_err.ensures.value w),
+      same,
+    )) c.write.ensures.written

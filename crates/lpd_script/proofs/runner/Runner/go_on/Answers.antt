@@ -1,21 +1,18 @@
-use Rattle.std.proofs.Common.{rules, ◌≡◌, ◌++◌, IfErr, IfOk, OnOk, string_bytes, ℕ, ◌+◌, ◌-◌, ◌*◌, ◌<◌, ◌≤◌, length, ◌/◌, ◌%◌, Bool, true, false, nat_eq, nat_lt, List, [], ◌∷◌, slice_index_or, slice_set, bit_and, bit_or, Fits, w8, w32, w64, Bor, MutBor}
-use Rattle.script_lines.specs.declared.script.ScriptLine.TheVariants as line
-use Rattle.spool_trace.specs.Trace.{written_by}
-use Rattle.spool_trace.specs.declared.step.Step.TheVariants as step
-use Rattle.spool_world.specs.Worlds.{Steps}
-use Rattle.lpd_script.specs.Runner.{Misses, Ran, WentOn}
-use Rattle.lpd_script.specs.Steps as S
-use Rattle.lpd_script.specs.declared.runner.NotRun.TheVariants.{Memory, NamesNothing}
+use Rattle.std.proofs.Common.{sym, ap, ◌∙◌}
+use Rattle.script_lines.specs.Texts as T
+use Rattle.lpd_script.proofs.Turning.{begins, goes_on, stops}
 use Rattle.lpd_script.proofs.runner.Runner.go_on.Goals as goal
 
--- src/turns.rt:100:9
 pub loop-init : goal.loop-init
-loop-init c = ?
+loop-init c = begins c.args.self.now c.args.session c.args.first c.new-written.result.items c.new-written.ensures.items
 
--- src/turns.rt:103:17
 pub returns-in-Some-clause-ran : goal.returns-in-Some-clause-ran
-returns-in-Some-clause-ran c = ?
+returns-in-Some-clause-ran c =
+    stops c.args.self.now c.loop.self c.args.session c.args.first c.loop.deed c.loop.written.items _ _ c.in-Some.stop
+    c.loop.invariant (sym c.in-Some.is ∙ c.stop_of.ensures) c.in_ok-put_written.ensures (c.in_ok-turns_line.ensures ∙ ap (λ x. T.turns_line c.args.session x c.in-Some.stop) c.as_slice.ensures.value)
 
--- src/turns.rt:100:9
 pub loop-preserved : goal.loop-preserved
-loop-preserved c = ?
+loop-preserved c =
+    goes_on c.args.self.now c.loop.self c.turn.new.self c.args.session c.args.first c.loop.deed c.in-Turned.next
+    c.loop.written.items c.put_written.new.written.items c.loop.invariant (sym c.stop_of.ensures ∙ c.in_default.is)
+    c.in_ok-put_written.ensures c.in-Turned.ensures.config c.in-Turned.ensures.hosts c.in-Turned.ensures.step

@@ -1,13 +1,13 @@
-use Rattle.std.proofs.Common.{rules, ◌≡◌, IfErr, IfOk, string_bytes, ℕ, ◌+◌, ◌-◌, ◌*◌, ◌<◌, ◌≤◌, length, ◌/◌, ◌%◌, Bool, true, false, nat_eq, nat_lt, List, [], ◌∷◌, ◌++◌, slice_index_or, slice_set, bit_and, bit_or, Fits, w8, w32, w64, Bor, MutBor}
-use Rattle.script_lines.specs.declared.script.ScriptLine.TheVariants as line
-use Rattle.lpd_script.specs.Runner.{Misses, Ran}
-use Rattle.lpd_script.specs.declared.runner.NotRun.TheVariants.{NamesNothing}
+use Rattle.std.proofs.Common.{◌∷◌, [], refl, inl, inr}
+use Rattle.lpd_script.proofs.Stepping.{one_step}
 use Rattle.lpd_script.proofs.runner.Runner.printed.Goals as goal
 
--- src/printers.rt:33:5
 pub returns-in-Printed-clause-ran : goal.returns-in-Printed-clause-ran
-returns-in-Printed-clause-ran c = ?
+returns-in-Printed-clause-ran c =
+    one_step _ _ _ _ _ _ c.in-Printed.ensures.config refl refl
+    (λ v. inr (c.in-Printed.progress, refl, c.in_ok-progress_line-in-Printed.ensures)) c.in-Printed.ensures.step
 
--- src/printers.rt:33:5
 pub returns-in-NoPage-clause-ran : goal.returns-in-NoPage-clause-ran
-returns-in-NoPage-clause-ran c = ?
+returns-in-NoPage-clause-ran c =
+    one_step _ _ _ _ _ _ c.in-NoPage.ensures.config refl refl
+    (λ v. inl (refl, c.in_ok-no_page_line-in-NoPage.ensures)) c.in-NoPage.ensures.step

@@ -1,0 +1,14 @@
+use Rattle.std.proofs.Common.{[], refl, ap, ◌∙◌}
+use Rattle.lpd_script.proofs.Stepping.{same_pages}
+use Rattle.lpd_script.proofs.runner.Runner.pages.Goals as goal
+
+pub returns-clause-ran : goal.returns-clause-ran
+returns-clause-ran c = record {
+  config = refl;
+  hosts = refl;
+  replies = [];
+  tells = λ t l.
+      let p = c.pages_by_place-pages.ensures t l in
+      (refl, c.in_ok-pages_line.ensures ∙ same_pages _ _ _ _ _ _ _ _ p.free_is p.chain_is p.session_is p.printer_is);
+  leads = λ t l. l;
+}
