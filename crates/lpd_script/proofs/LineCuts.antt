@@ -1,5 +1,5 @@
 -- A text cut into its lines.
-use Rattle.std.proofs.Common.{◌≡◌, ◌≢◌, ◌⊎◌, inl, inr, ◌<◌, ◌++◌, ◌==◌, ◌&&◌, ℕ, Bool, true, false, not, cond, All, List, [], ◌∷◌, codes, length, refl, sym, subst, ap, ◌∙◌, append_assoc, append-nil, length-append, take, ◌-◌, arith}
+use Rattle.std.proofs.Common.{◌≡◌, ◌≢◌, ◌⊎◌, inl, inr, ◌<◌, ◌++◌, ◌==◌, ◌&&◌, ℕ, Bool, true, false, not, cond, All, List, [], ◌∷◌, length, refl, sym, subst, ap, ◌∙◌, append_assoc, append-nil, length-append, take, ◌-◌, arith}
 use Rattle.std.specs.List.{list_all}
 use Rattle.std.proofs.Math.Seq.{take-append_seam}
 use Rattle.std.proofs.lemmas.List.Elements.{All-nil, All-push}

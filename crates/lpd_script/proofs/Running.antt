@@ -7,7 +7,6 @@ use Rattle.spool_trace.specs.Replies.{IsTrace}
 use Rattle.spool_trace.specs.Shown.{spool_after}
 use Rattle.spool_world.specs.Worlds.{Leads}
 use Rattle.script_lines.specs.declared.script.ScriptLine.{ScriptLine}
-use Rattle.script_lines.specs.Grammar.{Means}
 use Rattle.lpd_script.specs.declared.fault.Fault.{Fault}
 use Rattle.lpd_script.specs.declared.fault.Fault.TheVariants.{BadScript, Config as ConfigFaulty, Memory, WriteFile}
 use Rattle.spool_config.specs.Answers.{GivesConfig}
@@ -15,9 +14,9 @@ use Rattle.spool_config.specs.declared.settings.ConfigFault.{ConfigFault}
 use Rattle.lpd_script.specs.Status.{IsScriptFault}
 use Rattle.lpd_script.specs.declared.runner.Runner.{Runner}
 use Rattle.lpd_script.specs.Ends.{Collects, Prints, RunsParts}
-use Rattle.lpd_script.specs.Runner.{CannotRun, Misses, Ran, RanText}
+use Rattle.lpd_script.specs.Runner.{CannotRun, Ran, RanText}
 use Rattle.lpd_script.specs.Scripts.{IsBad, NamesNothing, RunsLine, RunsLines, RunsScript, lines_of}
-use Rattle.lpd_script.specs.Steps.{Tells, after, hosts_after}
+use Rattle.lpd_script.specs.Steps.{Tells, after}
 
 -- octets written one after another
 pub writes_both : (a b c : Option (List ℕ)) (x y : List ℕ) → Writes a b x → Writes b c y → Writes a c (x ++ y)

@@ -1,5 +1,5 @@
 -- Turns of a session, one after another.
-use Rattle.std.proofs.Common.{◌≡◌, inr, ℕ, All, List, [], ◌∷◌, ◌++◌, Option, Some, None, Result, Ok, Err, IfOk, map, refl, sym, subst, ap, ◌∙◌, append-nil}
+use Rattle.std.proofs.Common.{◌≡◌, inr, ℕ, All, List, [], ◌∷◌, ◌++◌, Some, None, Result, Ok, Err, IfOk, map, refl, sym, subst, ap, ◌∙◌, append-nil}
 use Rattle.std.specs.List.{flat_map}
 use Rattle.std.proofs.lemmas.Grind.{flat_map-append}
 use Rattle.std.proofs.lemmas.List.Elements.{All-nil, All-push}

@@ -1,5 +1,5 @@
 -- What a run writes and answers.
-use Rattle.std.specs.Prelude.{◌≡◌, ◌⊎◌, ◌++◌, ℕ, List, [], ◌∷◌, Option, Result, Ok, Err}
+use Rattle.std.specs.Prelude.{◌≡◌, ◌⊎◌, ◌++◌, ℕ, List, Option, Result, Ok, Err}
 use Rattle.lpd_commands.specs.Ends.{Writes}
 use Rattle.config_values.specs.Config as C
 use Rattle.spool_config.specs.Answers.{GivesConfig}

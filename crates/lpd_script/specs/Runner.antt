@@ -1,5 +1,5 @@
 -- What the lines of a script do to a world and the hosts that connected to it.
-use Rattle.std.specs.Prelude.{◌≡◌, ◌⊎◌, ℕ, List, [], ◌∷◌, map}
+use Rattle.std.specs.Prelude.{◌≡◌, ◌⊎◌, ℕ, List, ◌∷◌, map}
 use Rattle.spool_trace.specs.declared.reply.Deed.{Deed}
 use Rattle.spool_trace.specs.declared.reply.Reply.{Reply}
 use Rattle.spool_trace.specs.declared.reply.Reply.TheVariants.{Turned}

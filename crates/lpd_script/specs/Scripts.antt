@@ -1,5 +1,5 @@
 -- What a script does and prints.
-use Rattle.std.specs.Prelude.{◌≡◌, ◌⊎◌, ◌++◌, ◌+◌, ◌==◌, ℕ, Bool, List, [], ◌∷◌, Result, Err, IsOk, if◌then◌else◌}
+use Rattle.std.specs.Prelude.{◌≡◌, ◌⊎◌, ◌++◌, ◌+◌, ◌==◌, ℕ, List, [], ◌∷◌, Result, Err, IsOk, if◌then◌else◌}
 use Rattle.config_values.specs.Config.{Config, IsPrinter}
 use Rattle.spool_trace.specs.Trace.{Trace}
 use Rattle.spool_trace.specs.declared.reply.Reply.{Reply}

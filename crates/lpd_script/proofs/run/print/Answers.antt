@@ -1,4 +1,4 @@
-use Rattle.std.proofs.Common.{rules, ◌≡◌, ◌++◌, [], false, cond, is_ok, sym, subst, ap, ◌∙◌, append-nil}
+use Rattle.std.proofs.Common.{rules, ◌≡◌, ◌++◌, false, cond, is_ok, sym, subst, ap, ◌∙◌, append-nil}
 use Rattle.lpd_commands.specs.Ends.{Writes}
 use Rattle.lpd_script.specs.Ends.{Collects}
 use Rattle.lpd_script.proofs.Running.{writes_both}

@@ -1,4 +1,4 @@
-use Rattle.std.proofs.Common.{◌≡◌, ℕ, List, map, ap, ◌∙◌}
+use Rattle.std.proofs.Common.{map, ap, ◌∙◌}
 use Rattle.lpd_script.specs.Hosts.{sender_of, with_host}
 use Rattle.lpd_script.proofs.HostPlaces.{same_place, same_hosts}
 use Rattle.lpd_script.proofs.hosts.Hosts.number.Goals as goal

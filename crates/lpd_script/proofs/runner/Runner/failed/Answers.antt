@@ -1,4 +1,4 @@
-use Rattle.std.proofs.Common.{◌∷◌, [], refl, inl, inr}
+use Rattle.std.proofs.Common.{refl, inl, inr}
 use Rattle.lpd_script.proofs.Stepping.{one_step}
 use Rattle.lpd_script.proofs.runner.Runner.failed.Goals as goal
 

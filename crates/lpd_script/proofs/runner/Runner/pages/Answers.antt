@@ -1,4 +1,4 @@
-use Rattle.std.proofs.Common.{[], refl, ap, ◌∙◌}
+use Rattle.std.proofs.Common.{[], refl, ◌∙◌}
 use Rattle.lpd_script.proofs.Stepping.{same_pages}
 use Rattle.lpd_script.proofs.runner.Runner.pages.Goals as goal
 

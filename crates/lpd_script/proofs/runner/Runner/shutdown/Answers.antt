@@ -1,4 +1,4 @@
-use Rattle.std.proofs.Common.{◌∷◌, [], refl}
+use Rattle.std.proofs.Common.{refl}
 use Rattle.lpd_script.proofs.Stepping.{one_step}
 use Rattle.lpd_script.proofs.runner.Runner.shutdown.Goals as goal
 use Rattle.lpd_script.proofs.runner.Runner.shutdown.Goals.{in-Closed+in_ok-closed_line-in-Closed, in_default}
