@@ -1,0 +1,9 @@
+pub mod Seen
+pub mod Dues
+pub mod Pages
+pub mod Held
+pub mod Places
+pub mod Turning
+pub mod Files
+pub mod Answering
+pub mod OneTurn
