@@ -1,9 +1,7 @@
 -- What a session is answered at each place of a job.
-use Rattle.std.proofs.Common.{◌≡◌, ◌+◌, ◌-◌, ◌*◌, ◌<◌, ◌≤◌, ℕ, suc, min, Bool, true, false, List, [], ◌∷◌, ◌++◌, length, take, drop, map, Option, Some, None, refl, sym, ap, subst, ◌∙◌, arith, append_assoc, length-take, length-drop}
+use Rattle.std.proofs.Common.{◌≡◌, ◌+◌, ◌-◌, ◌*◌, ◌<◌, ℕ, suc, min, true, false, List, [], ◌∷◌, ◌++◌, length, take, drop, Some, None, refl, sym, ap, subst, ◌∙◌, arith, append_assoc, length-take, length-drop}
 use Rattle.std.specs.List.{list_all}
-use Rattle.std.proofs.lemmas.Bool.{and_from}
 use Rattle.std.proofs.lemmas.List.{append-nil, length_push}
-use Rattle.lpd_values.specs.declared.limits.TheConstants.{MAX_FILES}
 use Rattle.lpd_values.specs.declared.refusal.Refusal.{Refusal}
 use Rattle.lpd_values.specs.declared.refusal.Refusal.TheVariants.{UnknownQueue, TableFull, AccountFull, Closed, OverClaim, ControlTwice, NameTaken, FilesFull, FileOpen, NotOpen, Memory}
 use Rattle.lpd_values.specs.Contents.{Contents}
@@ -26,19 +24,18 @@ use Rattle.spool_laws.proofs.Counts.{last_push}
 use Rattle.spool_laws.proofs.Known.{clash}
 use Rattle.spool_laws.proofs.Moves.{moved}
 use Rattle.spool_calls.specs.Looks.Detail.{Octets}
-use Rattle.spool_requests.specs.declared.answer.Answer.{Answer}
-use Rattle.spool_requests.specs.declared.answer.Answer.TheVariants.{Yes, Accepted, Lent, Later, Stored, Received, Told, Refused}
+use Rattle.spool_requests.specs.declared.answer.Answer.TheVariants.{Yes, Accepted, Lent, Later, Stored, Received, Refused}
 use Rattle.spool_requests.specs.Agree.{is_short}
 use Rattle.spool_requests.specs.Shows.{file_now, page_now}
 use Rattle.spool_requests.specs.Due.{RefusesQueue, RefusesJob, RefusesFile, RefusesPage, RefusesControl, RefusesUnless, MayPut, MayEnd}
 use Rattle.spool_trace.specs.Sessions.{Session}
-use Rattle.lone_jobs.specs.Lone.{Sent, file_names, pages_of_files}
-use Rattle.lone_jobs.proofs.Dues.{body, control_left, file_begun, file_end, in_hand, paged}
+use Rattle.lone_jobs.specs.Lone.{Sent, file_names}
+use Rattle.lone_jobs.proofs.Dues.{body, file_begun, file_end, in_hand, paged}
 use Rattle.lone_jobs.proofs.Pages.{no_pages, one_page_more}
 use Rattle.lone_jobs.proofs.Held.{History, Held, held_job, has_only, only_has, act_jobs, open_jobs, may_grant}
 use Rattle.lone_jobs.proofs.Files.{names_push, open_last, closed_last, count_files, pages_more}
-use Rattle.lone_jobs.proofs.Places.{Place, First, Asking, Ready, Begins, Began as BeganAt, Inside, Told as ToldAt, Last, IsKnown, Rest, Within, Holds, NoJob, IsWhole, Facts, Here, AllFresh, open_file, progress_at, text_at, count_at, q, z, text}
-use Rattle.lone_jobs.proofs.Turning.{Answered, answered_here, v}
+use Rattle.lone_jobs.proofs.Places.{Place, First, Asking, Ready, Began as BeganAt, Inside, Told as ToldAt, Last, IsKnown, Rest, Within, Holds, NoJob, Facts, Here, AllFresh, open_file, progress_at, text_at, count_at, q, z, text}
+use Rattle.lone_jobs.proofs.Turning.{Answered, answered_here}
 
 module _ (c : Config) (job : Sent) (k : IsKnown c job) (h : History) (l : IsLegal length c first_base h) (coming : List ℕ) (s : Session) where
   abbrev w0 : State (List ℕ)
@@ -77,7 +74,7 @@ module _ (c : Config) (job : Sent) (k : IsKnown c job) (h : History) (l : IsLega
       let opening : Event (List ℕ) = Opened number s.sender (q c job) in (
         p',
         answered_here c job h coming s p p' here (Open job.queue) items x (Accepted number) led e same refl (still_open opening m refl here.opened)
-        (held (now c first_base (opening ∷ h)) number (s.sender, open_jobs c h l number s.sender (q c job) none.0 m)),
+            (held (now c first_base (opening ∷ h)) number (s.sender, open_jobs c h l number s.sender (q c job) none.0 m)),
         tt,
       )
   open_answered p p' here none items led same held x e (Refused n) a m ample = absurd (no_room n here.opened none ample a)
@@ -119,7 +116,7 @@ module _ (c : Config) (job : Sent) (k : IsKnown c job) (h : History) (l : IsLega
       let event : Event (List ℕ) = OfJob s.job (Began file.name (length file.octets)) in (
         BeganAt g done file left,
         answered_here c job h coming s p (BeganAt g done file left) here (BeginFile file.name (length file.octets)) (file_begun (length file.octets)) x Yes led e same refl (still_open event m refl here.opened)
-        (begun g done file left r, (held.0, act_jobs c h l (held_job s.job held.0 (q c job) g false done None) (Began file.name (length file.octets)) held.1 refl m)),
+            (begun g done file left r, (held.0, act_jobs c h l (held_job s.job held.0 (q c job) g false done None) (Began file.name (length file.octets)) held.1 refl m)),
         tt,
       )
   begin_answered p here g done file left r held led same x e (Refused n) a m ample = absurd (no_file g held.0 done file left r held.1 n a)
@@ -156,7 +153,7 @@ module _ (c : Config) (job : Sent) (k : IsKnown c job) (h : History) (l : IsLega
         ap (λ (n : ℕ). answered (Rattle.receiver.specs.Reading.Lending) (script.Ticket n) (in_hand job.queue (FileOctets (length octets) ∷ file_end))) a in (
           Inside true g done file left octets pages,
           answered_here c job h coming s (Inside false g done file left octets pages) (Inside true g done file left octets pages) here AskPage (FileOctets (length octets) ∷ file_end) x (Lent size) led e refl refl (still_open event m refl here.opened)
-          (some, i, (sender, act_jobs c h l idle Granted one refl m)),
+              (some, i, (sender, act_jobs c h l idle Granted one refl m)),
           tt,
         )
     page_answered here some i one safe x e Later a m ample = absurd (a.1 (may_grant c s.job sender (q c job) g files w0 refl one (below some i) safe))
@@ -176,8 +173,11 @@ module _ (c : Config) (job : Sent) (k : IsKnown c job) (h : History) (l : IsLega
         let size : length (take taken octets) ≡ min (z c job) (length file.octets - length pages * z c job) = (let t = length-take taken octets in omega (arith, t, so_far)) in (
           length done,
           length pages,
-          (has_only w0.jobs busy (JobMay length c (Put (length done) (length pages) (take taken octets))) one
-          ((refl, refl), refl, (done, open_file file pages, refl, refl, refl, (refl, omega (arith, so_far, some), size))), tt),
+          (
+            has_only w0.jobs busy (JobMay length c (Put (length done) (length pages) (take taken octets))) one
+                ((refl, refl), refl, (done, open_file file pages, refl, refl, refl, (refl, omega (arith, so_far, some), size))),
+            tt,
+          ),
           refl,
         )
 
@@ -217,7 +217,7 @@ module _ (c : Config) (job : Sent) (k : IsKnown c job) (h : History) (l : IsLega
         let p' = Inside false (g + 1) done file left (drop taken octets) (pages ++ take taken octets ∷ []) in (
           p',
           answered_here c job h coming s (Inside true g done file left octets pages) p' here (Filled page) (FileOctets (length (drop taken octets)) ∷ file_end) x Yes refl e refl refl (still_open event m refl here.opened)
-          (put_into some i, (sender, after_put ∙ ap (λ (fs : List (File (List ℕ))). held_job s.job sender (q c job) (g + 1) false fs None ∷ []) put)),
+              (put_into some i, (sender, after_put ∙ ap (λ (fs : List (File (List ℕ))). held_job s.job sender (q c job) (g + 1) false fs None ∷ []) put)),
           tt,
         )
     put_answered here some i one x e (Refused n) a m ample = absurd (no_put some i one n a)
@@ -241,8 +241,11 @@ module _ (c : Config) (job : Sent) (k : IsKnown c job) (h : History) (l : IsLega
         let count : length pages ≡ pages_for (z c job) (length file.octets) = omega (arith, none, so_far) in (
           length done,
           is_received (acted (FileEnded (length done) true) all),
-          (has_only w0.jobs all (JobMay length c (FileEnded (length done) (is_received (acted (FileEnded (length done) true) all)))) one
-          ((refl, refl), refl, (done, open_file file pages, refl, refl, refl, count), refl), tt),
+          (
+            has_only w0.jobs all (JobMay length c (FileEnded (length done) (is_received (acted (FileEnded (length done) true) all)))) one
+                ((refl, refl), refl, (done, open_file file pages, refl, refl, refl, count), refl),
+            tt,
+          ),
         )
 
     no_end : Within c job g done file left [] pages → w0.jobs ≡ all ∷ [] → (n : Refusal) → RefusesUnless (MayEnd Octets w0 s.job) n → ⊥
@@ -273,7 +276,7 @@ module _ (c : Config) (job : Sent) (k : IsKnown c job) (h : History) (l : IsLega
         let same : 2 * length done + 2 ≡ 2 * length (done ++ ended_file ∷ []) + 0 = omega (arith, count) in (
           p',
           answered_here c job h coming s (Inside false g done file left [] pages) p' here EndFile (Acks ∷ []) x Stored refl e same refl (still_open event m refl here.opened)
-          (rest i, (sender, after_end ∙ ap (λ (fs : List (File (List ℕ))). held_job s.job sender (q c job) g false fs None ∷ []) at_end)),
+              (rest i, (sender, after_end ∙ ap (λ (fs : List (File (List ℕ))). held_job s.job sender (q c job) g false fs None ∷ []) at_end)),
           tt,
         )
     end_answered here i one x e Received a m ample =
@@ -312,7 +315,7 @@ module _ (c : Config) (job : Sent) (k : IsKnown c job) (h : History) (l : IsLega
         let same : 2 * length done + 2 ≡ 2 * length job.files + 2 = omega (arith, count) in (
           Last true,
           answered_here c job h coming s (ToldAt false g done) (Last true) here (Control said) (Acks ∷ []) x Received refl e same refl (still_open event m refl here.opened)
-          (complete, act_jobs c h l lacking act one refl m, refl, is_complete names closed, refl),
+              (complete, act_jobs c h l lacking act one refl m, refl, is_complete names closed, refl),
           tt,
         )
     control_answered here names closed one x e Stored a m ample =

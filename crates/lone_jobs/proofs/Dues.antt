@@ -1,9 +1,9 @@
 -- What is due at each place of a job's octets.
-use Rattle.std.proofs.Common.{◌≡◌, ◌==◌, ◌≤◌, ◌<◌, ◌+◌, ◌-◌, ◌||◌, ℕ, zero, suc, Bool, true, false, nat_lt, min, List, [], ◌∷◌, ◌++◌, length, take, drop, get_or, Some, None, Ok, refl, ap, sym, ◌∙◌, subst, arith, add-zero, append_assoc, length-take, length-drop}
+use Rattle.std.proofs.Common.{◌≡◌, ◌==◌, ◌≤◌, ◌-◌, ℕ, Bool, true, false, min, List, [], ◌∷◌, ◌++◌, length, take, drop, get_or, Some, None, Ok, refl, ap, sym, ◌∙◌, arith, add-zero, append_assoc, length-drop}
 use Rattle.std.specs.List.{concat}
 use Rattle.std.proofs.lemmas.Bool.{le-leb, le-ltb, lt-ltb, ne_eqb}
 use Rattle.std.proofs.Math.Seq.{take-append_seam, drop-append-add}
-use Rattle.std.proofs.lemmas.List.{length-append, get_or-append-add, take-append-le, drop-append-le, append-nil}
+use Rattle.std.proofs.lemmas.List.{length-append, get_or-append-add, take-append-le, drop-append-le}
 use Rattle.lpd_values.specs.declared.limits.TheConstants.{MAX_CONTROL_TEXT}
 use Rattle.lpd_values.specs.Contents.{Contents}
 use Rattle.lpd_commands.specs.Line.{command_of, sub_of}
@@ -17,7 +17,7 @@ use Rattle.lpr_client.specs.Parts.{zeroed, data_parts, control_parts}
 use Rattle.lpr_client.proofs.Clear.{due_line}
 use Rattle.receiver.specs.Blocks.{IsLine, between}
 use Rattle.receiver.specs.Script.{Request, Queue, Open, BeginFile, AskPage, Filled, EndFile, Control, Ack, Item, Asks, Acks, FileOctets, PageOctets, ZeroOctet, ControlText, block, first_block, after_line}
-use Rattle.receiver.specs.Reading.{Progress, Due, Waits, Writes, Requests, due, due_at, at_text, after_text, start}
+use Rattle.receiver.specs.Reading.{Progress, Waits, Writes, Requests, due, due_at, start}
 
 -- the files and the control file that are left of a job
 abbrev pub body : (name text : List ℕ) → List DataFile → List ℕ

@@ -1,10 +1,10 @@
 -- A spool that holds one job.
-use Rattle.std.proofs.Common.{◌≡◌, ◌==◌, ℕ, zero, suc, ◌+◌, ◌-◌, ◌<◌, ◌≤◌, Bool, true, false, List, [], ◌∷◌, ◌++◌, length, map, Option, Some, None, refl, sym, ap, subst, ◌∙◌, inl, inr, arith}
-use Rattle.std.specs.Prelude.{◌||◌, cond, not, filter, sum_by, Contains}
+use Rattle.std.proofs.Common.{◌≡◌, ℕ, zero, suc, ◌+◌, ◌-◌, ◌<◌, Bool, true, false, List, [], ◌∷◌, ◌++◌, length, map, Option, None, refl, sym, ap, subst, ◌∙◌, inl, inr, arith}
+use Rattle.std.specs.Prelude.{filter, sum_by}
 use Rattle.std.proofs.lemmas.List.{append-nil}
 use Rattle.counts.specs.Amounts.{amount, Fits}
 use Rattle.claims.specs.declared.row.Row.{Row}
-use Rattle.claims.specs.Safety.{HasFinishingOrder, IsOrderOf, IsFinishingOrder, CanFinish}
+use Rattle.claims.specs.Safety.{HasFinishingOrder, IsOrderOf, CanFinish}
 use Rattle.config_values.specs.Config.{Config, limit_of}
 use Rattle.lpd_values.specs.Contents.{Contents}
 use Rattle.spool_history.specs.Base.{first_base}
@@ -12,7 +12,7 @@ use Rattle.spool_history.specs.Events.{Act, Event}
 use Rattle.spool_history.specs.Events.Act.{Granted}
 use Rattle.spool_history.specs.Events.Event.{Opened, OfJob}
 use Rattle.spool_history.specs.Acts.{File}
-use Rattle.spool_history.specs.Now.{Job, State, now, is_held, has_page_out, row_of, capacity, free_amount, free_pages, IsSafeNow}
+use Rattle.spool_history.specs.Now.{Job, State, now, is_held, row_of, capacity, IsSafeNow}
 use Rattle.spool_history.specs.Steps.{acted, after, change, new_job}
 use Rattle.spool_history.specs.Legal.{HasJob, IsLegal, May, MayGrant}
 use Rattle.spool_laws.proofs.Known.{Has, has_contained, test}

@@ -7,3 +7,6 @@ pub mod Turning
 pub mod Files
 pub mod Answering
 pub mod OneTurn
+pub mod Room
+pub mod Steps
+pub mod Whole

@@ -1,9 +1,8 @@
 -- The places of a job that is being sent, and what a spool and a session are there.
-use Rattle.std.proofs.Common.{◌≡◌, ◌+◌, ◌*◌, ◌<◌, ◌≤◌, ℕ, suc, Bool, true, false, List, [], ◌∷◌, ◌++◌, length, map, Option, Some, None, Ok}
+use Rattle.std.proofs.Common.{◌≡◌, ◌+◌, ◌*◌, ◌<◌, ◌≤◌, ℕ, Bool, true, false, List, [], ◌∷◌, ◌++◌, length, Some, None, Ok}
 use Rattle.std.specs.Prelude.{cond, replicate}
 use Rattle.std.specs.List.{list_all}
 use Rattle.lpd_values.specs.declared.limits.TheConstants.{MAX_CONTROL_TEXT, MAX_FILES}
-use Rattle.lpd_values.specs.Contents.{Contents}
 use Rattle.lpd_values.specs.Kept.{is_among}
 use Rattle.lpd_commands.specs.Line.{command_of, sub_of}
 use Rattle.lpd_commands.specs.Written.{command_line, sub_line}
@@ -16,7 +15,7 @@ use Rattle.config_values.specs.Config.{Config, IsQueue, limit_of}
 use Rattle.config_values.specs.Ranges.{IsConfig}
 use Rattle.lpr_client.specs.declared.file.DataFile.{DataFile}
 use Rattle.lpr_client.proofs.JobReading.{AreFiles}
-use Rattle.receiver.specs.Blocks.{IsLine, between}
+use Rattle.receiver.specs.Blocks.{IsLine}
 use Rattle.receiver.specs.Script.{BeginFile, Item, Asks, Acks, FileOctets, ControlText}
 use Rattle.receiver.specs.Reading.{Progress, start}
 use Rattle.spool_history.specs.Base.{first_base}

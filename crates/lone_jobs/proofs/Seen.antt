@@ -12,7 +12,7 @@ use Rattle.lpd_commands.specs.declared.sub.Sub.{Sub}
 use Rattle.lpd_commands.specs.declared.sub.Sub.TheVariants as sub
 use Rattle.control_file.specs.Text.{control_of}
 use Rattle.receiver.specs.Script.{Request, Written, Fault, Item, Asks, Acks, Refuses, FileOctets, PageOctets, ZeroOctet, ControlText, Over, opening, block, first_block, after_line}
-use Rattle.receiver.specs.Reading.{Progress, Due, Waits, Ends, Writes, Requests, due, due_at, at_line, at_page, at_text, after_text, is_inner}
+use Rattle.receiver.specs.Reading.{Progress, Due, Waits, Ends, Writes, Requests, due, due_at, at_line, after_text, is_inner}
 use Rattle.receiver.proofs.Laws.{HasCome, extended, due_stable}
 
 -- the session doesn't end

@@ -1,12 +1,12 @@
 -- What a turn makes of a session at a place.
-use Rattle.std.proofs.Common.{◌≡◌, ◌+◌, ℕ, suc, Bool, true, false, List, [], ◌∷◌, ◌++◌, length, Option, Some, None, refl, sym, ap, subst, ◌∙◌, inl, inr}
+use Rattle.std.proofs.Common.{◌≡◌, ◌+◌, ℕ, true, false, List, [], ◌∷◌, ◌++◌, refl, sym, ap, subst, ◌∙◌, inl, inr}
 use Rattle.std.specs.Prelude.{replicate}
 use Rattle.std.proofs.lemmas.List.{append-nil, replicate_more}
 use Rattle.lpd_values.specs.declared.refusal.Refusal.{Refusal}
 use Rattle.lpd_values.specs.declared.refusal.Refusal.TheVariants.{Memory}
 use Rattle.config_values.specs.Config.{Config}
-use Rattle.receiver.specs.Script.{Request, Item, Ack, Fault}
-use Rattle.receiver.specs.Reading.{Progress, Due, Waits, Ends, Writes, Requests, due, answered, kind_of}
+use Rattle.receiver.specs.Script.{Request, Item, Ack}
+use Rattle.receiver.specs.Reading.{Progress, Due, Waits, Writes, Requests, due, answered, kind_of}
 use Rattle.spool_history.specs.Base.{first_base}
 use Rattle.spool_history.specs.Now.{State, now}
 use Rattle.spool_laws.proofs.Known.{clash}

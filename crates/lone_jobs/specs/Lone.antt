@@ -1,5 +1,5 @@
 -- A job that comes alone to a spool which has room for it, and what its session is answered.
-use Rattle.std.specs.Prelude.{◌≡◌, ◌≢◌, ◌⊎◌, ◌≤◌, ◌+◌, ◌*◌, ℕ, true, false, List, [], ◌∷◌, ◌++◌, All, Contains, None, length, map, replicate, sum_by}
+use Rattle.std.specs.Prelude.{◌≡◌, ◌≢◌, ◌⊎◌, ◌≤◌, ◌+◌, ◌*◌, ℕ, true, false, List, [], ◌∷◌, ◌++◌, All, None, length, map, replicate, sum_by}
 use Rattle.lpd_values.specs.Kept.{is_among}
 use Rattle.control_file.specs.Written.{control_text}
 use Rattle.control_file.specs.View.{contents}
