@@ -1,5 +1,5 @@
 -- What a session is answered at each place of a job.
-use Rattle.std.proofs.Common.{◌≡◌, ◌+◌, ◌-◌, ◌*◌, ◌<◌, ℕ, suc, min, true, false, List, [], ◌∷◌, ◌++◌, length, take, drop, Some, None, refl, sym, ap, subst, ◌∙◌, arith, append_assoc, length-take, length-drop}
+use Rattle.std.proofs.Common.{◌≡◌, ◌+◌, ◌-◌, ◌*◌, ◌<◌, ℕ, suc, min, true, false, List, [], ◌∷◌, ◌++◌, length, take, drop, Some, None, refl, sym, ap, subst, ◌∙◌, arith, append_assoc, length-take, length-drop, inl}
 use Rattle.std.specs.List.{list_all}
 use Rattle.std.proofs.lemmas.List.{append-nil, length_push}
 use Rattle.lpd_values.specs.declared.refusal.Refusal.{Refusal}
@@ -68,13 +68,13 @@ module _ (c : Config) (job : Sent) (k : IsKnown c job) (h : History) (l : IsLega
 
   pub open_answered : (p p' : Place) → Here c job coming s h p → NoJob c job w0 → (items : List Item)
       → answered Opening script.Yes (record (progress_at c job p) { items = items; tail = [] }) ≡ progress_at c job p' → count_at c job p ≡ count_at c job p'
-      → ((u : State (List ℕ)) (j : ℕ) → Holds c job u j 0 false [] → Facts c job p' u j)
+      → ((u : History) (j : ℕ) → Holds c job (now c first_base u) j 0 false [] → Facts c job p' u j)
       → Answered c job h coming s (Open job.queue) items (text_at c job p')
   open_answered p p' here none items led same held x e (Accepted number) a m ample =
       let opening : Event (List ℕ) = Opened number s.sender (q c job) in (
         p',
         answered_here c job h coming s p p' here (Open job.queue) items x (Accepted number) led e same refl (still_open opening m refl here.opened)
-            (held (now c first_base (opening ∷ h)) number (s.sender, open_jobs c h l number s.sender (q c job) none.0 m)),
+            (held (opening ∷ h) number (s.sender, open_jobs c h l number s.sender (q c job) none.0 m)),
         tt,
       )
   open_answered p p' here none items led same held x e (Refused n) a m ample = absurd (no_room n here.opened none ample a)
@@ -315,7 +315,7 @@ module _ (c : Config) (job : Sent) (k : IsKnown c job) (h : History) (l : IsLega
         let same : 2 * length done + 2 ≡ 2 * length job.files + 2 = omega (arith, count) in (
           Last true,
           answered_here c job h coming s (ToldAt false g done) (Last true) here (Control said) (Acks ∷ []) x Received refl e same refl (still_open event m refl here.opened)
-              (complete, act_jobs c h l lacking act one refl m, refl, is_complete names closed, refl),
+              (inl refl),
           tt,
         )
     control_answered here names closed one x e Stored a m ample =

@@ -8,5 +8,6 @@ pub mod Files
 pub mod Answering
 pub mod OneTurn
 pub mod Room
+pub mod Calm
 pub mod Steps
 pub mod Whole

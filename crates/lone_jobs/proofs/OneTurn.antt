@@ -12,7 +12,7 @@ use Rattle.receiver.specs.Reading.{Due, Waits, Writes, Requests, due}
 use Rattle.receiver.specs.Blocks.{between}
 use Rattle.spool_history.specs.Base.{first_base}
 use Rattle.spool_history.specs.Acts.{names_in}
-use Rattle.spool_history.specs.Now.{State, now, IsSafeNow}
+use Rattle.spool_history.specs.Now.{now, IsSafeNow}
 use Rattle.spool_history.specs.Legal.{IsLegal}
 use Rattle.spool_trace.specs.Sessions.{Session, due_in}
 use Rattle.lone_jobs.specs.Lone.{Sent, file_names, pages_of_files}
@@ -109,7 +109,7 @@ module _ (c : Config) (job : Sent) (k : IsKnown c job) where
       no_request (DueAt (Asking false)) _ _ _
       (ap (λ (f : List DataFile). due (between job.queue false) (body job.name (text c job) f)) (sym same) ∙ file_opens job.queue job.name (text c job) file left line.0 line.1) e
 
-  pub ends_last : (p : Place) (u : State (List ℕ)) (j : ℕ) → Facts c job p u j → DueAt p ≡ Waits → p ≡ Last false
+  pub ends_last : (p : Place) (u : History) (j : ℕ) → Facts c job p u j → DueAt p ≡ Waits → p ≡ Last false
   ends_last First u j f e =
       absurd (no_request (DueAt First) _ _ _ (first_due job.queue (command_line (Receive job.queue)) (body job.name (text c job) job.files) k.first_line.0 k.first_line.1) e)
   ends_last (Asking true) u j f e = absurd (no_write (DueAt (Asking true)) _ _ _ refl e)

@@ -19,15 +19,18 @@ use Rattle.receiver.specs.Blocks.{IsLine}
 use Rattle.receiver.specs.Script.{BeginFile, Item, Asks, Acks, FileOctets, ControlText}
 use Rattle.receiver.specs.Reading.{Progress, start}
 use Rattle.spool_history.specs.Base.{first_base}
+use Rattle.spool_history.specs.Events.Act.{Controlled}
+use Rattle.spool_history.specs.Events.Event.{OfJob}
+use Rattle.spool_laws.proofs.Known.{Has}
 use Rattle.spool_history.specs.Acts.{File, is_open_in, names_in}
-use Rattle.spool_history.specs.Now.{State, now, is_received}
+use Rattle.spool_history.specs.Now.{State, now}
 use Rattle.spool_history.specs.Legal.{pages_for}
 use Rattle.spool_requests.specs.Due.{HasEntries}
 use Rattle.spool_requests.specs.Named.{queue_named}
 use Rattle.spool_trace.specs.Sessions.{Session}
 use Rattle.lone_jobs.specs.Lone.{Sent, file_names, pages_of_files}
 use Rattle.lone_jobs.proofs.Dues.{body, control_left, file_begun, file_end, in_hand, paged}
-use Rattle.lone_jobs.proofs.Held.{History, Held, held_job}
+use Rattle.lone_jobs.proofs.Held.{History, held_job}
 
 -- none of these files has one of these names, nor that of a file before it
 abbrev pub AllFresh : List (List ℕ) → List DataFile → Type 0
@@ -138,20 +141,22 @@ module _ (c : Config) (job : Sent) where
     pub pages_so_far : length pages + pages_for z (length octets) ≡ pages_for z (length file.octets)
     pub octets_so_far : 0 < length octets → length pages * z + length octets ≡ length file.octets
 
-  abbrev pub IsWhole : State (List ℕ) → ℕ → Type 0
-  IsWhole v j = (w : Held) × (v.jobs ≡ w ∷ []) × (w.number ≡ j) × (is_received w ≡ true) × (w.ended ≡ false)
+  -- the control file made the job whole
+  abbrev pub WasWhole : History → ℕ → Type 0
+  WasWhole h j = Has (OfJob j (Controlled (contents job.control) true)) h
 
-  abbrev pub Facts : Place → State (List ℕ) → ℕ → Type 0
-  Facts First v j = NoJob v
-  Facts (Asking acking) v j = NoJob v
-  Facts (Ready acking g done left) v j = Rest g done left × Holds v j g false done
-  Facts (Begins file left) v j = Rest 0 [] (file ∷ left) × Holds v j 0 false []
-  Facts (Began g done file left) v j = Within g done file left file.octets [] × Holds v j g false (done ++ open_file file [] ∷ [])
-  Facts (Inside false g done file left octets pages) v j = Within g done file left octets pages × Holds v j g false (done ++ open_file file pages ∷ [])
-  Facts (Inside true g done file left octets pages) v j =
-      (0 < length octets) × Within g done file left octets pages × Holds v j (g + 1) true (done ++ open_file file pages ∷ [])
-  Facts (Told acking g done) v j = (names_in done ≡ file_names job.files) × (is_open_in done ≡ false) × Holds v j g false done
-  Facts (Last acking) v j = IsWhole v j
+  abbrev pub Facts : Place → History → ℕ → Type 0
+  Facts First h j = NoJob (now c first_base h)
+  Facts (Asking acking) h j = NoJob (now c first_base h)
+  Facts (Ready acking g done left) h j = Rest g done left × Holds (now c first_base h) j g false done
+  Facts (Begins file left) h j = Rest 0 [] (file ∷ left) × Holds (now c first_base h) j 0 false []
+  Facts (Began g done file left) h j = Within g done file left file.octets [] × Holds (now c first_base h) j g false (done ++ open_file file [] ∷ [])
+  Facts (Inside false g done file left octets pages) h j =
+      Within g done file left octets pages × Holds (now c first_base h) j g false (done ++ open_file file pages ∷ [])
+  Facts (Inside true g done file left octets pages) h j =
+      (0 < length octets) × Within g done file left octets pages × Holds (now c first_base h) j (g + 1) true (done ++ open_file file pages ∷ [])
+  Facts (Told acking g done) h j = (names_in done ≡ file_names job.files) × (is_open_in done ≡ false) × Holds (now c first_base h) j g false done
+  Facts (Last acking) h j = WasWhole h j
 
   -- a session is at this place, where these octets are still to come
   pub record Here (coming : List ℕ) (s : Session) (h : History) (p : Place) : Type 0 where
@@ -159,5 +164,5 @@ module _ (c : Config) (job : Sent) where
     pub unread : s.unread ++ coming ≡ text_at p
     pub going : s.over ≡ false
     pub opened : (now c first_base h).closed ≡ false
-    pub facts : Facts p (now c first_base h) s.job
+    pub facts : Facts p h s.job
     pub written : s.written ≡ replicate (count_at p) 0

@@ -1,9 +1,8 @@
 -- Each step leaves the session at a place of its job.
-use Rattle.std.proofs.Common.{◌≡◌, ◌≢◌, ◌-◌, ℕ, List, [], ◌∷◌, ◌++◌, length, Option, None, refl, sym, ap, subst, ◌∙◌, arith, append_assoc, append-nil}
+use Rattle.std.proofs.Common.{◌≡◌, ◌≢◌, ◌-◌, ℕ, List, [], ◌∷◌, ◌++◌, length, refl, sym, ap, subst, ◌∙◌, arith, append_assoc, append-nil}
 use Rattle.std.proofs.lemmas.List.{length-append, length-set, get_or_append_left}
 use Rattle.config_values.specs.Config.{Config}
 use Rattle.spool_history.specs.Base.{first_base}
-use Rattle.spool_history.specs.Events.{Event}
 use Rattle.spool_history.specs.Now.{State, now, IsSafeNow}
 use Rattle.spool_history.specs.Legal.{IsLegal}
 use Rattle.spool_requests.specs.Shows.{with_event}
@@ -17,7 +16,8 @@ use Rattle.spool_trace.specs.Shown.{shown}
 use Rattle.spool_trace.specs.Replies.{IsReplyIn, IsDueReply, IsSession}
 use Rattle.spool_trace.proofs.Standing.{same_at, other_at}
 use Rattle.spool_trace.proofs.Turned.{turned_arrived}
-use Rattle.lone_jobs.specs.Lone.{Sent, IsAmple, IsGranted, IsOf, IsOfOthers, octets_of}
+use Rattle.lone_jobs.specs.Lone.{Sent, IsAmple, IsByOthers, IsGranted, IsOf, IsOfOthers, octets_of}
+use Rattle.lone_jobs.proofs.Calm.{calm}
 use Rattle.lone_jobs.proofs.Held.{History}
 use Rattle.lone_jobs.proofs.Places.{Place, IsKnown, Here}
 use Rattle.lone_jobs.proofs.Turning.{Leads}
@@ -137,11 +137,29 @@ module _ (c : Config) (job : Sent) (k : IsKnown c job) (n : ℕ) where
     own_step (step.Turn m) re r is ample = subst (λ (i : ℕ). IsReplyIn v ss (step.Turn i) re → Leaves (step.Turn i) re) (sym is) (turns_on re ample) r
     own_step st re r is ample = absurd is
 
-    -- and one of others that shows nothing
-    pub other_step : (st : Step) (re : Reply) → IsReplyIn v ss st re → IsOfOthers n st → shown v ss st re ≡ None → Stands (moved st re ss) (with_event (shown v ss st re) h) × (session_at (moved st re ss) n ≡ s)
-    other_step st re r other none =
-        let stay = others_stay v ss n st re r.due stood.0 other in (
-          (stay.0, subst (λ (o : Option (Event (List ℕ))). IsAtPlace (session_at (moved st re ss) n) (with_event o h)) (sym none) (subst (λ (x : Session). IsAtPlace x h) (sym stay.1) stood.1)),
+    -- and one of others
+    calmly : (st : Step) (re : Reply) → IsReplyIn v ss st re → IsByOthers (shown v ss st re) → IsAtPlace s (with_event (shown v ss st re) h)
+    calmly st re r other coming e =
+        let at = stood.1 coming e in
+        let here = at.1 in
+        let still = calm c job h l (shown v ss st re) r.may other at.0 s.job here.opened here.facts in (
+          at.0,
+          record {
+            progress = here.progress;
+            unread = here.unread;
+            going = here.going;
+            opened = still.0;
+            facts = still.1;
+            written = here.written;
+          },
+        )
+
+    pub other_step : (st : Step) (re : Reply) → IsReplyIn v ss st re → IsOfOthers n st → IsByOthers (shown v ss st re)
+        → Stands (moved st re ss) (with_event (shown v ss st re) h) × (session_at (moved st re ss) n ≡ s)
+    other_step st re r apart other =
+        let stay = others_stay v ss n st re r.due stood.0 apart in
+        let h' : History = with_event (shown v ss st re) h in (
+          (stay.0, subst (λ (x : Session). IsAtPlace x h') (sym stay.1) (calmly st re r other)),
           stay.1,
         )
 

@@ -79,7 +79,7 @@ module _ (c : Config) (job : Sent) (h : History) (coming : List ℕ) (s : Sessio
       → answered (kind_of r) (reply_of answer) (record (progress_at c job p) { items = items; tail = [] }) ≡ progress_at c job p'
       → x ++ coming ≡ text_at c job p' → count_at c job p ≡ count_at c job p' → text_of answer ≡ []
       → (now c first_base (with_event (event_of Octets v s.sender s.job r answer) h)).closed ≡ false
-      → Facts c job p' (now c first_base (with_event (event_of Octets v s.sender s.job r answer) h)) (job_after s.job answer)
+      → Facts c job p' (with_event (event_of Octets v s.sender s.job r answer) h) (job_after s.job answer)
       → Here c job coming (record (asks r answer (goes_on items x s)) { written = s.written ++ text_of answer }) (with_event (event_of Octets v s.sender s.job r answer) h) p'
   answered_here p p' here r items x answer led left same silent closed facts = record {
     progress = ap (λ (g : Progress). answered (kind_of r) (reply_of answer) (record g { items = items; tail = [] })) here.progress ∙ led;
@@ -91,7 +91,7 @@ module _ (c : Config) (job : Sent) (h : History) (coming : List ℕ) (s : Sessio
   }
 
   wrote : (p p' : Place) → Here c job coming s h p → (items : List Item) (x : List ℕ) → record (progress_at c job p) { items = items; tail = [] } ≡ progress_at c job p' → x ++ coming ≡ text_at c job p'
-      → count_at c job p + 1 ≡ count_at c job p' → Facts c job p' v s.job → Goal (Writes Ack items x)
+      → count_at c job p + 1 ≡ count_at c job p' → Facts c job p' h s.job → Goal (Writes Ack items x)
   wrote p p' here items x led left more facts deed.Acked a m ample = (
     p',
     record {
@@ -108,7 +108,7 @@ module _ (c : Config) (job : Sent) (h : History) (coming : List ℕ) (s : Sessio
 
   -- where the octet 00 is due
   pub on_ack : (p p' : Place) → Here c job coming s h p → (items : List Item) → HasNoEnd (progress_at c job p).items → due (progress_at c job p) (text_at c job p) ≡ Writes Ack items (text_at c job p')
-      → record (progress_at c job p) { items = items; tail = [] } ≡ progress_at c job p' → count_at c job p + 1 ≡ count_at c job p' → Facts c job p' v s.job → Goal (due_in s)
+      → record (progress_at c job p) { items = items; tail = [] } ≡ progress_at c job p' → count_at c job p + 1 ≡ count_at c job p' → Facts c job p' h s.job → Goal (due_in s)
   on_ack p p' here items n e led more facts =
       elim (write_seen (progress_at c job p) s.unread coming Ack items (text_at c job p') n (ap (due (progress_at c job p)) here.unread ∙ e)) [
         | inl w ↦ subst Goal (sym (due_here p here ∙ w)) (waits p here)

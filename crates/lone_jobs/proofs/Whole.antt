@@ -1,5 +1,5 @@
 -- A job that comes alone.
-use Rattle.std.proofs.Common.{◌≡◌, ◌+◌, ◌-◌, ℕ, false, List, [], ◌∷◌, ◌++◌, length, refl, sym, ap, subst, ◌∙◌, inl, inr, arith, append_assoc, append-nil, slice_index_or}
+use Rattle.std.proofs.Common.{◌≡◌, ◌+◌, ◌-◌, ℕ, true, false, List, [], ◌∷◌, ◌++◌, length, refl, sym, ap, subst, ◌∙◌, inl, inr, arith, append_assoc, append-nil, slice_index_or}
 use Rattle.std.specs.Prelude.{All, replicate}
 use Rattle.std.specs.List.{concat}
 use Rattle.std.proofs.lemmas.List.{length-append, get_or-append-add}
@@ -11,10 +11,14 @@ use Rattle.lpr_client.specs.Parts.{data_parts, control_parts}
 use Rattle.receiver.specs.Reading.{Progress, Waits, due}
 use Rattle.spool_trace.specs.Trace.{Entry, Trace}
 use Rattle.spool_trace.specs.Sessions.{Session, session_at, sessions, new_session, due_in}
-use Rattle.spool_trace.specs.Shown.{events, spool_after}
+use Rattle.spool_trace.specs.Shown.{events}
 use Rattle.spool_trace.specs.Replies.{IsTrace}
 use Rattle.spool_trace.proofs.Legal.{legal}
+use Rattle.spool_trace.proofs.Places.{contained}
 use Rattle.spool_trace.proofs.Whole.{holds}
+use Rattle.control_file.specs.View.{contents}
+use Rattle.spool_history.specs.Events.Act.{Controlled}
+use Rattle.spool_history.specs.Events.Event.{OfJob}
 use Rattle.lone_jobs.specs.Lone.{Sent, AreGranted, HasRoomFor, IsAlone, IsGranted, IsOf, IsTaken, LoneJobsAreServed, LoneJobsAreTaken, connected, octets_of}
 use Rattle.lone_jobs.proofs.Places.{Place, First, Last, IsKnown, Here, Facts, progress_at, text_at, count_at, text}
 use Rattle.lone_jobs.proofs.OneTurn.{ends_last}
@@ -115,23 +119,18 @@ module _ (c : Config) (t : Trace) (job : Sent) (sender n : ℕ) (more : Trace) (
   s = session_at (sessions after_all) n
 
   at_end : (p : Place) → p ≡ Last false → Here c job [] s (events c after_all) p → IsTaken c job n after_all
-  at_end p is here =
-      let facts : Facts c job (Last false) (spool_after c after_all) s.job = subst (λ (x : Place). Facts c job x (spool_after c after_all) s.job) is here.facts in
-      record {
-        held = facts.0;
-        only = facts.1;
-        number = facts.2;
-        whole = facts.3;
-        lasting = facts.4;
-        acknowledged = here.written ∙ ap (λ (x : Place). replicate (count_at c job x) 0) is;
-      }
+  at_end p is here = record {
+    whole = contained (OfJob s.job (Controlled (contents job.control) true)) (events c after_all) (subst (λ (x : Place). Facts c job x (events c after_all) s.job) is here.facts);
+    released = here.progress ∙ ap (progress_at c job) is;
+    acknowledged = here.written ∙ ap (λ (x : Place). replicate (count_at c job x) 0) is;
+  }
 
   pub taken_whole : (p : Place) → Here c job [] s (events c after_all) p → due_in s ≡ Waits → IsTaken c job n after_all
   taken_whole p here waits =
       let all : s.unread ≡ text_at c job p = sym (append-nil s.unread) ∙ here.unread in
       let is_due : due (progress_at c job p) (text_at c job p) ≡ Waits =
       ap (due (progress_at c job p)) (sym all) ∙ (ap (λ (x : Progress). due x s.unread) (sym here.progress) ∙ waits) in
-      at_end p (ends_last c job (known c t job room) p (spool_after c after_all) s.job here.facts is_due) here
+      at_end p (ends_last c job (known c t job room) p (events c after_all) s.job here.facts is_due) here
 
 pub taken : LoneJobsAreTaken
 taken c t job sender n more a none waits =

@@ -1,5 +1,5 @@
 -- A job that comes alone to a spool which has room for it, and what its session is answered.
-use Rattle.std.specs.Prelude.{◌≡◌, ◌≢◌, ◌⊎◌, ◌≤◌, ◌+◌, ◌*◌, ℕ, true, false, List, [], ◌∷◌, ◌++◌, All, None, length, map, replicate, sum_by}
+use Rattle.std.specs.Prelude.{◌≡◌, ◌≢◌, ◌⊎◌, ◌≤◌, ◌+◌, ◌*◌, ℕ, true, false, List, [], ◌∷◌, ◌++◌, All, Contains, Option, Some, None, length, map, replicate, sum_by}
 use Rattle.lpd_values.specs.Kept.{is_among}
 use Rattle.control_file.specs.Written.{control_text}
 use Rattle.control_file.specs.View.{contents}
@@ -9,8 +9,11 @@ use Rattle.config_values.specs.Ranges.{IsConfig}
 use Rattle.lpr_client.specs.declared.file.DataFile.{DataFile}
 use Rattle.lpr_client.specs.Parts.{job_octets}
 use Rattle.lpr_client.specs.Sendable.{is_sendable}
+use Rattle.receiver.specs.Blocks.{between}
 use Rattle.receiver.specs.Reading.{Waits}
-use Rattle.spool_history.specs.Now.{Job, is_received}
+use Rattle.spool_history.specs.Events.{Event}
+use Rattle.spool_history.specs.Events.Act.{Controlled}
+use Rattle.spool_history.specs.Events.Event.{OfJob, AtPrinter, Removed, Started}
 use Rattle.spool_history.specs.Legal.{pages_for}
 use Rattle.spool_requests.specs.declared.answer.Answer.TheVariants.{Later, Refused}
 use Rattle.spool_requests.specs.Due.{HasEntries}
@@ -22,7 +25,7 @@ use Rattle.spool_trace.specs.declared.reply.Reply.{Reply}
 use Rattle.spool_trace.specs.declared.reply.Reply.TheVariants as reply
 use Rattle.spool_trace.specs.Trace.{Entry, Trace}
 use Rattle.spool_trace.specs.Sessions.{session_at, due_in, sessions}
-use Rattle.spool_trace.specs.Shown.{shown, spool_after}
+use Rattle.spool_trace.specs.Shown.{shown, events, spool_after}
 use Rattle.spool_trace.specs.Replies.{IsTrace}
 use Rattle.spool_trace.specs.Agree.{is_short_deed}
 
@@ -82,13 +85,21 @@ abbrev pub IsAmple : Reply → Type 0
 IsAmple (reply.Turned done) = is_short_deed done ≡ false
 IsAmple _ = Unit {0}
 
--- After t only the session n did anything that shows, and memory was ample for it: each further step is one of it, or one of
--- others that shows no event.
+-- what printers do, removals of jobs and starts of printers; no job is opened or changed by its session, and the spool isn't closed
+abbrev pub IsByOthers : Option (Event (List ℕ)) → Type 0
+IsByOthers None = Unit {0}
+IsByOthers (Some (AtPrinter p sheet turn)) = Unit {0}
+IsByOthers (Some (Removed queue jobs)) = Unit {0}
+IsByOthers (Some (Started queue)) = Unit {0}
+IsByOthers (Some _) = ⊥
+
+-- After t the session n is alone with its job, and memory is ample for it: each further step is one of it, or one of others that opens
+-- no job, does nothing for a job in hand and doesn't close the spool.
 abbrev pub IsAlone : Config → ℕ → Trace → Trace → Type 0
 IsAlone c n t [] = Unit {0}
 IsAlone c n t (e ∷ more) =
     ((IsOf n e.step × IsAmple e.reply)
-    ⊎ (IsOfOthers n e.step × (shown (spool_after c (more ++ t)) (sessions (more ++ t)) e.step e.reply ≡ None)))
+    ⊎ (IsOfOthers n e.step × IsByOthers (shown (spool_after c (more ++ t)) (sessions (more ++ t)) e.step e.reply)))
     × IsAlone c n t more
 
 -- the session's answer is no refusal, and a page that it asks for comes at once
@@ -126,14 +137,11 @@ LoneJobsAreServed =
     (c : Config) (t : Trace) (job : Sent) (sender n : ℕ) (more : Trace) → ComesAlone c t job sender n more →
     IsServed n more (more ++ connected sender n ∷ t)
 
--- the job that the session opened is the one held job, it is whole and hasn't ended; for the first line one octet 00 was written, and
--- for each file two
+-- The job that the session opened was made whole by its control file, which was the last thing that the session did for it; for the first
+-- line one octet 00 was written, and for each file two.
 pub record IsTaken (c : Config) (job : Sent) (n : ℕ) (all : Trace) : Type 0 where
-  pub held : Job (List ℕ)
-  pub only : (spool_after c all).jobs ≡ held ∷ []
-  pub number : held.number ≡ (session_at (sessions all) n).job
-  pub whole : is_received held ≡ true
-  pub lasting : held.ended ≡ false
+  pub whole : Contains (events c all) (OfJob (session_at (sessions all) n).job (Controlled (contents job.control) true))
+  pub released : (session_at (sessions all) n).progress ≡ between job.queue false
   pub acknowledged : (session_at (sessions all) n).written ≡ replicate (2 * length job.files + 3) 0
 
 -- where all octets have arrived and the session waits for more, the job was taken
