@@ -11,3 +11,4 @@ pub mod Room
 pub mod Calm
 pub mod Steps
 pub mod Whole
+pub mod SmallRoom

@@ -4,5 +4,7 @@
 #![tactic(auto)]
 
 mod granted;
+mod worked;
 
 pub use granted::{lone_jobs_are_served, lone_jobs_are_taken};
+pub use worked::{worked_job, worked_room};
