@@ -52,9 +52,9 @@ HaveOwnNames (file ∷ files) = All (λ other. other.name ≢ file.name) files �
 abbrev pub pages_of_files : ℕ → List DataFile → ℕ
 pages_of_files z files = sum_by (λ (file : DataFile). pages_for z (length file.octets)) files
 
--- After this trace a spool holds no job and has room for this one: it isn't closed, it knows the queue, the account has room for one more
--- job of it and a number for that is left, and the job can be sent; the names of its files differ, each name that it prints is one of
--- them, and all its files together take no more pages than a job of the queue may hold.
+-- After this trace a spool holds no job and has room for this one: it isn't closed, it knows the queue, the account has
+-- room for one more job of it and a number for that is left, and the job can be sent; the names of its files differ, each
+-- name that it prints is one of them, and all its files together take no more pages than a job of the queue may hold.
 pub record HasRoomFor (c : Config) (t : Trace) (job : Sent) : Type 0 where
   pub config : IsConfig c
   pub trace : IsTrace c t
@@ -85,7 +85,8 @@ abbrev pub IsAmple : Reply → Type 0
 IsAmple (reply.Turned done) = is_short_deed done ≡ false
 IsAmple _ = Unit {0}
 
--- what printers do, removals of jobs and starts of printers; no job is opened or changed by its session, and the spool isn't closed
+-- what printers do, removals of jobs and starts of printers: no job is opened or changed by its session, and the spool
+-- isn't closed
 abbrev pub IsByOthers : Option (Event (List ℕ)) → Type 0
 IsByOthers None = Unit {0}
 IsByOthers (Some (AtPrinter p sheet turn)) = Unit {0}
@@ -93,8 +94,8 @@ IsByOthers (Some (Removed queue jobs)) = Unit {0}
 IsByOthers (Some (Started queue)) = Unit {0}
 IsByOthers (Some _) = ⊥
 
--- After t the session n is alone with its job, and memory is ample for it: each further step is one of it, or one of others that opens
--- no job, does nothing for a job in hand and doesn't close the spool.
+-- After t the session n is alone with its job, and memory is ample for it: each further step is one of it, or one of
+-- others that opens no job, does nothing for a job in hand and doesn't close the spool.
 abbrev pub IsAlone : Config → ℕ → Trace → Trace → Type 0
 IsAlone c n t [] = Unit {0}
 IsAlone c n t (e ∷ more) =
@@ -117,8 +118,8 @@ AreGranted n more = All (λ (e : Entry). IsOf n e.step → IsGranted e.reply) mo
 abbrev pub connected : (sender n : ℕ) → Entry
 connected sender n = record { step = step.Connect sender; reply = reply.Connected n }
 
--- To a spool that has room for a job its host connects and gets the session n; then that is alone, and what has arrived on it
--- in the end is a beginning of the job's octets.
+-- To a spool that has room for a job its host connects and gets the session n; then that is alone, and what has arrived
+-- on it in the end is a beginning of the job's octets.
 pub record ComesAlone (c : Config) (t : Trace) (job : Sent) (sender n : ℕ) (more : Trace) : Type 0 where
   pub room : HasRoomFor c t job
   pub right : IsTrace c (more ++ connected sender n ∷ t)
@@ -137,8 +138,8 @@ LoneJobsAreServed =
     (c : Config) (t : Trace) (job : Sent) (sender n : ℕ) (more : Trace) → ComesAlone c t job sender n more →
     IsServed n more (more ++ connected sender n ∷ t)
 
--- The job that the session opened was made whole by its control file, which was the last thing that the session did for it; for the first
--- line one octet 00 was written, and for each file two.
+-- The job that the session opened was made whole by its control file, and the session has none in hand any more. One
+-- octet 00 was written for the first line, and two for each data file and for the control file.
 pub record IsTaken (c : Config) (job : Sent) (n : ℕ) (all : Trace) : Type 0 where
   pub whole : Contains (events c all) (OfJob (session_at (sessions all) n).job (Controlled (contents job.control) true))
   pub released : (session_at (sessions all) n).progress ≡ between job.queue false
