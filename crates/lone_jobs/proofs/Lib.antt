@@ -8,6 +8,7 @@ pub mod Files
 pub mod Answering
 pub mod OneTurn
 pub mod Room
+pub mod Owned
 pub mod Calm
 pub mod Steps
 pub mod Whole

@@ -1,5 +1,5 @@
 -- Each step leaves the session at a place of its job.
-use Rattle.std.proofs.Common.{◌≡◌, ◌≢◌, ◌-◌, ℕ, List, [], ◌∷◌, ◌++◌, length, refl, sym, ap, subst, ◌∙◌, arith, append_assoc, append-nil}
+use Rattle.std.proofs.Common.{◌≡◌, ◌≢◌, ◌-◌, ℕ, true, List, [], ◌∷◌, ◌++◌, length, refl, sym, ap, subst, ◌∙◌, arith, append_assoc, append-nil}
 use Rattle.std.proofs.lemmas.List.{length-append, length-set, get_or_append_left}
 use Rattle.config_values.specs.Config.{Config}
 use Rattle.spool_history.specs.Base.{first_base}
@@ -16,8 +16,10 @@ use Rattle.spool_trace.specs.Shown.{shown}
 use Rattle.spool_trace.specs.Replies.{IsReplyIn, IsDueReply, IsSession}
 use Rattle.spool_trace.proofs.Standing.{same_at, other_at}
 use Rattle.spool_trace.proofs.Turned.{turned_arrived}
-use Rattle.lone_jobs.specs.Lone.{Sent, IsAmple, IsByOthers, IsGranted, IsOf, IsOfOthers, octets_of}
+use Rattle.lone_jobs.specs.Lone.{Sent, IsAmple, LeavesAlone, IsGranted, IsOf, IsOfOthers, octets_of}
 use Rattle.lone_jobs.proofs.Calm.{calm}
+use Rattle.receiver.specs.Reading.{Progress}
+use Rattle.lone_jobs.proofs.Owned.{IsNotOf}
 use Rattle.lone_jobs.proofs.Held.{History}
 use Rattle.lone_jobs.proofs.Places.{Place, IsKnown, Here}
 use Rattle.lone_jobs.proofs.Turning.{Leads}
@@ -138,11 +140,11 @@ module _ (c : Config) (job : Sent) (k : IsKnown c job) (n : ℕ) where
     own_step st re r is ample = absurd is
 
     -- and one of others
-    calmly : (st : Step) (re : Reply) → IsReplyIn v ss st re → IsByOthers (shown v ss st re) → IsAtPlace s (with_event (shown v ss st re) h)
-    calmly st re r other coming e =
+    calmly : (st : Step) (re : Reply) → IsReplyIn v ss st re → LeavesAlone (shown v ss st re) → (s.progress.job ≡ true → IsNotOf s.job (shown v ss st re)) → IsAtPlace s (with_event (shown v ss st re) h)
+    calmly st re r other apart coming e =
         let at = stood.1 coming e in
         let here = at.1 in
-        let still = calm c job h l (shown v ss st re) r.may other at.0 s.job here.opened here.facts in (
+        let still = calm c job h l (shown v ss st re) r.may other at.0 s.job here.opened (λ hand. apart (ap (λ (g : Progress). g.job) here.progress ∙ hand)) here.facts in (
           at.0,
           record {
             progress = here.progress;
@@ -154,12 +156,12 @@ module _ (c : Config) (job : Sent) (k : IsKnown c job) (n : ℕ) where
           },
         )
 
-    pub other_step : (st : Step) (re : Reply) → IsReplyIn v ss st re → IsOfOthers n st → IsByOthers (shown v ss st re)
-        → Stands (moved st re ss) (with_event (shown v ss st re) h) × (session_at (moved st re ss) n ≡ s)
-    other_step st re r apart other =
-        let stay = others_stay v ss n st re r.due stood.0 apart in
+    pub other_step : (st : Step) (re : Reply) → IsReplyIn v ss st re → IsOfOthers n st → LeavesAlone (shown v ss st re)
+        → (s.progress.job ≡ true → IsNotOf s.job (shown v ss st re)) → Stands (moved st re ss) (with_event (shown v ss st re) h) × (session_at (moved st re ss) n ≡ s)
+    other_step st re r others other apart =
+        let stay = others_stay v ss n st re r.due stood.0 others in
         let h' : History = with_event (shown v ss st re) h in (
-          (stay.0, subst (λ (x : Session). IsAtPlace x h') (sym stay.1) (calmly st re r other)),
+          (stay.0, subst (λ (x : Session). IsAtPlace x h') (sym stay.1) (calmly st re r other apart)),
           stay.1,
         )
 

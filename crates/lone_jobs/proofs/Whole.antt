@@ -20,6 +20,7 @@ use Rattle.control_file.specs.View.{contents}
 use Rattle.spool_history.specs.Events.Act.{Controlled}
 use Rattle.spool_history.specs.Events.Event.{OfJob}
 use Rattle.lone_jobs.specs.Lone.{Sent, AreGranted, HasRoomFor, IsAlone, IsGranted, IsOf, IsTaken, LoneJobsAreServed, LoneJobsAreTaken, connected, octets_of}
+use Rattle.lone_jobs.proofs.Owned.{others_apart}
 use Rattle.lone_jobs.proofs.Places.{Place, First, Last, IsKnown, Here, Facts, progress_at, text_at, count_at, text}
 use Rattle.lone_jobs.proofs.OneTurn.{ends_last}
 use Rattle.lone_jobs.proofs.Room.{known}
@@ -86,7 +87,7 @@ module _ (c : Config) (t : Trace) (job : Sent) (sender n : ℕ) (room : HasRoomF
                   (before.granted (led.more ++ coming) (sym (append_assoc (session_at (sessions u) n).arrived led.more coming) ∙ (ap (λ (x : List ℕ). x ++ coming) (sym led.arrived) ∙ is)));
             }
         | inr other ↦
-            let led = other_step c job k n (sessions u) h l safe before.stands e.step e.reply r.0 other.0 other.1 in
+            let led = other_step c job k n (sessions u) h l safe before.stands e.step e.reply r.0 other.0 other.1 (λ hand. others_apart c u r.1 n before.stands.0 hand e.step e.reply r.0 other.0) in
             record {
               stands = led.0;
               granted = λ coming is.

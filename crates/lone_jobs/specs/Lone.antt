@@ -1,5 +1,5 @@
 -- A job that comes alone to a spool which has room for it, and what its session is answered.
-use Rattle.std.specs.Prelude.{◌≡◌, ◌≢◌, ◌⊎◌, ◌≤◌, ◌+◌, ◌*◌, ℕ, true, false, List, [], ◌∷◌, ◌++◌, All, Contains, Option, Some, None, length, map, replicate, sum_by}
+use Rattle.std.specs.Prelude.{◌≡◌, ◌≢◌, ◌⊎◌, ◌≤◌, ◌+◌, ◌*◌, ℕ, true, false, List, [], ◌∷◌, ◌++◌, All, Contains, Option, Some, length, map, replicate, sum_by}
 use Rattle.lpd_values.specs.Kept.{is_among}
 use Rattle.control_file.specs.Written.{control_text}
 use Rattle.control_file.specs.View.{contents}
@@ -13,7 +13,7 @@ use Rattle.receiver.specs.Blocks.{between}
 use Rattle.receiver.specs.Reading.{Waits}
 use Rattle.spool_history.specs.Events.{Event}
 use Rattle.spool_history.specs.Events.Act.{Controlled}
-use Rattle.spool_history.specs.Events.Event.{OfJob, AtPrinter, Removed, Started}
+use Rattle.spool_history.specs.Events.Event.{Opened, OfJob, Closed}
 use Rattle.spool_history.specs.Legal.{pages_for}
 use Rattle.spool_requests.specs.declared.answer.Answer.TheVariants.{Later, Refused}
 use Rattle.spool_requests.specs.Due.{HasEntries}
@@ -85,22 +85,19 @@ abbrev pub IsAmple : Reply → Type 0
 IsAmple (reply.Turned done) = is_short_deed done ≡ false
 IsAmple _ = Unit {0}
 
--- what printers do, removals of jobs and starts of printers: no job is opened or changed by its session, and the spool
--- isn't closed
-abbrev pub IsByOthers : Option (Event (List ℕ)) → Type 0
-IsByOthers None = Unit {0}
-IsByOthers (Some (AtPrinter p sheet turn)) = Unit {0}
-IsByOthers (Some (Removed queue jobs)) = Unit {0}
-IsByOthers (Some (Started queue)) = Unit {0}
-IsByOthers (Some _) = ⊥
+-- no job is opened, and the spool isn't closed
+abbrev pub LeavesAlone : Option (Event (List ℕ)) → Type 0
+LeavesAlone (Some (Opened job sender queue)) = ⊥
+LeavesAlone (Some Closed) = ⊥
+LeavesAlone _ = Unit {0}
 
 -- After t the session n is alone with its job, and memory is ample for it: each further step is one of it, or one of
--- others that opens no job, does nothing for a job in hand and doesn't close the spool.
+-- others that opens no job and doesn't close the spool.
 abbrev pub IsAlone : Config → ℕ → Trace → Trace → Type 0
 IsAlone c n t [] = Unit {0}
 IsAlone c n t (e ∷ more) =
     ((IsOf n e.step × IsAmple e.reply)
-    ⊎ (IsOfOthers n e.step × IsByOthers (shown (spool_after c (more ++ t)) (sessions (more ++ t)) e.step e.reply)))
+    ⊎ (IsOfOthers n e.step × LeavesAlone (shown (spool_after c (more ++ t)) (sessions (more ++ t)) e.step e.reply)))
     × IsAlone c n t more
 
 -- the session's answer is no refusal, and a page that it asks for comes at once
