@@ -1,6 +1,5 @@
 -- The steps of printers.
-use Rattle.std.proofs.Common.{◌≡◌, ◌==◌, ℕ, zero, suc, ◌-◌, ◌<◌, Bool, cond, List, [], ◌∷◌, Option, Some, None, Result, Ok, Err, inl, inr, length, get_or, set, get_or-set_same, get_or-set_other, arith, refl, sym, subst, ap, ◌∙◌}
-use Rattle.std.proofs.lemmas.List.{set-get_or}
+use Rattle.std.proofs.Common.{◌≡◌, ◌==◌, ℕ, ◌-◌, Bool, cond, List, ◌∷◌, Option, Some, None, Result, Ok, inl, inr, length, get_or, set, length-set, get_or-set_same, get_or-set_other, arith, refl, sym, subst, ap, ◌∙◌}
 use Rattle.account.specs.declared.entry.Progress.{Progress}
 use Rattle.config_values.specs.Config.{IsPrinter, printer_count}
 use Rattle.spool_history.specs.Base.{first_base}
@@ -19,24 +18,17 @@ use Rattle.spool_trace.specs.declared.reply.Given.{Given}
 use Rattle.spool_trace.specs.declared.reply.Given.TheVariants as given
 use Rattle.spool_trace.specs.declared.reply.Reply.{Reply}
 use Rattle.spool_trace.specs.declared.reply.Reply.TheVariants as reply
+use Rattle.spool_trace.specs.declared.step.Step.{Step}
 use Rattle.spool_trace.specs.declared.step.Step.TheVariants as step
 use Rattle.spool_trace.specs.Trace.{Trace}
 use Rattle.spool_trace.specs.Sessions.{sessions}
 use Rattle.spool_trace.specs.Shown.{events, spool_after}
 use Rattle.spool_trace.specs.Hands.{out_after}
+use Rattle.spool_trace.specs.Replies.{IsReply}
 use Rattle.spool_trace.specs.Follows.{IsItsPage, StepFollows, given_by}
 use Rattle.spool_trace.proofs.Steps.{fail_follows, next_follows, print_follows}
-use Rattle.spool_world.specs.Worlds.{IsOut, Leads, Steps, Worlds, sheet_of, shown_page, with_page}
+use Rattle.spool_world.specs.Worlds.{IsOut, Leads, Steps, TakesPage, Worlds, entry, sheet_of, shown_page, with_page, without_page}
 use Rattle.spool_world.proofs.Leading.{alone, nothing}
-
-same_ok : (x y : Progress) (a b : Result Progress Foreign) → a ≡ Ok x → b ≡ Ok y → a ≡ b → x ≡ y
-same_ok x y a b e f g = cc
-
-not_ok : (x : Foreign) (y : Progress) (a : Result Progress Foreign) → a ≡ Err x → a ≡ Ok y → ⊥
-not_ok x y a e f = cc
-
-not_done : (x : Foreign) (a : Result (Unit {0}) Foreign) → a ≡ Err x → a ≡ Ok tt → ⊥
-not_done x a e f = cc
 
 module _ (old : Worlds) (p : ℕ) (ip : IsPrinter old.core.config p) (few : length old.pages ≡ printer_count old.core.config) where
   abbrev size : ℕ
@@ -86,64 +78,57 @@ module _ (old : Worlds) (p : ℕ) (ip : IsPrinter old.core.config p) (few : leng
   its_page : (t : Trace) (page : HandedPage) → Leads t old → get_or old.pages (p - 1) None ≡ Some page → IsItsPage first_base (events old.core.config t) old.core p page
   its_page t page l e = its t page (printer_at (spool_after old.core.config t) p).out refl (subst (λ (x : Option HandedPage). IsOut size x (printer_at (spool_after old.core.config t) p).out) e (l.printers p ip))
 
+  -- a page came back to the core, and its printer has none
+  came_back : (t : Trace) (st : Step) (re said : Reply) (core : Kept) → Leads t old → re ≡ said → core.config ≡ old.core.config
+      → StepFollows first_base (events old.core.config t) old.core core (sessions t) st said → sessions (entry st said ∷ t) ≡ sessions t
+      → ((q : ℕ) (out : Option (Sheet (List ℕ))) → out_after st said q out ≡ cond (p == q) None out)
+      → IsReply old.core.config t st re × Leads (entry st re ∷ t) (record (without_page old p) { core = core })
+  came_back t st re said core l is same follows ss outs =
+      let new = record (without_page old p) { core = core } in
+      subst (λ (r : Reply). IsReply old.core.config t st r × Leads (entry st r ∷ t) new) (sym is)
+      (alone t old new st said l (record { follows = follows; same = same; connections = refl; sessions' = ss })
+      (λ q iq.
+      let was = (printer_at (spool_after old.core.config t) q).out in
+      subst (IsOut size (get_or new.pages (q - 1) None)) (sym (outs q was)) (changed q None was None iq tt (l.printers q iq))))
+
+-- the core where the page of a printer was taken
+at_core : (old mid : Worlds) (p : ℕ) (P : Kept → Type 0) → mid ≡ without_page old p → P mid.core → P old.core
+at_core old mid p P e x = subst (λ (w : Worlds). P w.core) e x
+
+-- what was taken, by what is seen of the world then
+pub taken : (old mid seen : Worlds) (p : ℕ) (page : HandedPage) (result : Result HandedPage Reply)
+    → TakesPage old p result mid → result ≡ Ok page → seen ≡ mid → TakesPage old p (Ok page) seen
+taken old mid seen p page result takes is view =
+    subst (TakesPage old p (Ok page)) (sym view) (subst (λ (r : Result HandedPage Reply). TakesPage old p r mid) is takes)
+
+-- A page was taken from its printer, and the core was told what came of it.
+module _ (old mid : Worlds) (p : ℕ) (page : HandedPage) (taken : TakesPage old p (Ok page) mid) (few : length mid.pages ≡ printer_count mid.core.config)
+    (core : Kept) (same : core.config ≡ mid.core.config) where
+  few' : length old.pages ≡ printer_count old.core.config
+  few' =
+      sym (length-set old.pages (p - 1) None) ∙ ap (λ (w : Worlds). length w.pages) (sym taken.2)
+      ∙ few ∙ ap (λ (w : Worlds). printer_count w.core.config) taken.2
+
+  same' : core.config ≡ old.core.config
+  same' = same ∙ ap (λ (w : Worlds). w.core.config) taken.2
+
+  here : (st : Step) (re : Reply) → Steps old st re (record (without_page old p) { core = core }) → Steps old st re (record mid { core = core })
+  here st re steps = subst (λ (w : Worlds). Steps old st re (record w { core = core })) (sym taken.2) steps
+
   -- it was printed
-  pub printed_step : (page : HandedPage) (core : Kept) (said : Progress) (result : Result Progress Foreign) → result ≡ Ok said → get_or old.pages (p - 1) None ≡ Some page → core.config ≡ old.core.config → IsRight old.core (λ d b h. Prints d b h old.core p page core result)
-      → Steps old (step.Printed p) (reply.Printed said) (record old { core = core; pages = set old.pages (p - 1) None })
-  printed_step page core said result is e same right t l =
-      let prints = subst (Prints Octets first_base (events old.core.config t) old.core p page core) is (right Octets first_base (events old.core.config t) l.core) in
-      let f = print_follows first_base (events old.core.config t) old.core core (sessions t) (stood t core l same) p page (Ok said) (its_page t page l e) prints in
-      alone t old (record old { core = core; pages = set old.pages (p - 1) None }) (step.Printed p) (reply.Printed said) l
-      (record { follows = subst (λ (x : Progress). StepFollows first_base (events old.core.config t) old.core core (sessions t) (step.Printed p) (reply.Printed x)) (sym (same_ok said f.0 (Ok said) (Ok f.0) refl refl f.1)) f.2; same = same; connections = refl; sessions' = refl })
-      (λ q iq. changed q None (printer_at (spool_after old.core.config t) q).out None iq tt (l.printers q iq))
+  pub printed_step : (result : Result Progress Foreign) (re : Reply) → IsRight mid.core (λ d b h. Prints d b h mid.core p page core result)
+      → ((x : Progress) → result ≡ Ok x → re ≡ reply.Printed x) → Steps old (step.Printed p) re (record mid { core = core })
+  printed_step result re right says = here (step.Printed p) re (λ t l.
+      let right' = at_core old mid p (λ (k : Kept). IsRight k (λ d b h. Prints d b h k p page core result)) taken.2 right in
+      let f = print_follows first_base (events old.core.config t) old.core core (sessions t) (stood old p taken.0 few' t core l same') p page result
+      (its_page old p taken.0 few' t page l taken.1) (right' Octets first_base (events old.core.config t) l.core) in
+      came_back old p taken.0 few' t (step.Printed p) re (reply.Printed f.0) core l (says f.0 f.1) same' f.2 refl (λ q out. refl))
 
-  -- no other page comes back
-  pub never_printed : (page : HandedPage) (core : Kept) (back : Foreign) (result : Result Progress Foreign) (re : Reply) (new : Worlds) → result ≡ Err back → get_or old.pages (p - 1) None ≡ Some page → core.config ≡ old.core.config → IsRight old.core (λ d b h. Prints d b h old.core p page core result)
-      → Steps old (step.Printed p) re new
-  never_printed page core back result re new is e same right t l =
-      let f = print_follows first_base (events old.core.config t) old.core core (sessions t) (stood t core l same) p page result (its_page t page l e) (right Octets first_base (events old.core.config t) l.core) in
-      absurd (not_ok back f.0 result is f.1)
-
-  -- a page failed
-  pub failed_step : (page : HandedPage) (core : Kept) (result : Result (Unit {0}) Foreign) → get_or old.pages (p - 1) None ≡ Some page → core.config ≡ old.core.config → IsRight old.core (λ d b h. Fails d b h old.core p page core result)
-      → Steps old (step.Failed p) reply.Failed (record old { core = core; pages = set old.pages (p - 1) None })
-  failed_step page core result e same right t l =
-      let f = fail_follows first_base (events old.core.config t) old.core core (sessions t) (stood t core l same) p page result (its_page t page l e) (right Octets first_base (events old.core.config t) l.core) in
-      alone t old (record old { core = core; pages = set old.pages (p - 1) None }) (step.Failed p) reply.Failed l
-      (record { follows = f.1; same = same; connections = refl; sessions' = refl })
-      (λ q iq. changed q None (printer_at (spool_after old.core.config t) q).out None iq tt (l.printers q iq))
-
-  pub never_failed : (page : HandedPage) (core : Kept) (back : Foreign) (result : Result (Unit {0}) Foreign) (re : Reply) (new : Worlds) → result ≡ Err back → get_or old.pages (p - 1) None ≡ Some page → core.config ≡ old.core.config → IsRight old.core (λ d b h. Fails d b h old.core p page core result)
-      → Steps old (step.Failed p) re new
-  never_failed page core back result re new is e same right t l =
-      let f = fail_follows first_base (events old.core.config t) old.core core (sessions t) (stood t core l same) p page result (its_page t page l e) (right Octets first_base (events old.core.config t) l.core) in
-      absurd (not_done back result is f.0)
-
-  -- the printer has no page
-  out_none : (out : Option (Sheet (List ℕ))) → IsOut size None out → out ≡ None
-  out_none None is = refl
-  out_none (Some sheet) is = absurd is
-
-  no_page_out : (t : Trace) → Leads t old → get_or old.pages (p - 1) None ≡ None → (printer_at (spool_after old.core.config t) p).out ≡ None
-  no_page_out t l e = out_none (printer_at (spool_after old.core.config t) p).out (subst (λ (x : Option HandedPage). IsOut size x (printer_at (spool_after old.core.config t) p).out) e (l.printers p ip))
-
-  unchanged : get_or old.pages (p - 1) None ≡ None → record old { pages = set old.pages (p - 1) None } ≡ old
-  unchanged e = ap (λ (x : List (Option HandedPage)). record old { pages = x }) (ap (set old.pages (p - 1)) (sym e) ∙ set-get_or old.pages (p - 1) None)
-
-  pub idle_printed : get_or old.pages (p - 1) None ≡ None → Steps old (step.Printed p) reply.NoPage (record old { pages = set old.pages (p - 1) None })
-  idle_printed e t l =
-      nothing t old (record old { pages = set old.pages (p - 1) None }) (step.Printed p) reply.NoPage l (unchanged e)
-      (record { is = record { due = (ip, no_page_out t l e); may = tt }; left = l.core }) refl (λ q. refl)
-
-  pub idle_failed : get_or old.pages (p - 1) None ≡ None → Steps old (step.Failed p) reply.NoPage (record old { pages = set old.pages (p - 1) None })
-  idle_failed e t l =
-      nothing t old (record old { pages = set old.pages (p - 1) None }) (step.Failed p) reply.NoPage l (unchanged e)
-      (record { is = record { due = (ip, no_page_out t l e); may = tt }; left = l.core }) refl (λ q. refl)
-
-other_default : (xs : List (Option HandedPage)) (i : ℕ) (d e : Option HandedPage) → i < length xs → get_or xs i e ≡ get_or xs i d
-other_default [] i d e lt = absurd (omega (arith, lt))
-other_default (x ∷ xs) zero d e lt = refl
-other_default (x ∷ xs) (suc i) d e lt = other_default xs i d e (omega (arith, lt))
-
--- the page that was found at a printer
-pub found : (old : Worlds) (p : ℕ) → IsPrinter old.core.config p → length old.pages ≡ printer_count old.core.config → (there is : Option HandedPage) → there ≡ get_or old.pages (p - 1) there → there ≡ is → get_or old.pages (p - 1) None ≡ is
-found old p ip few there is e f = other_default old.pages (p - 1) there None (let a = ip.0 in let b = ip.1 in let c = few in omega (arith, a, b, c)) ∙ sym e ∙ f
+  -- it failed
+  pub failed_step : (result : Result (Unit {0}) Foreign) (re : Reply) → IsRight mid.core (λ d b h. Fails d b h mid.core p page core result)
+      → (result ≡ Ok tt → re ≡ reply.Failed) → Steps old (step.Failed p) re (record mid { core = core })
+  failed_step result re right says = here (step.Failed p) re (λ t l.
+      let right' = at_core old mid p (λ (k : Kept). IsRight k (λ d b h. Fails d b h k p page core result)) taken.2 right in
+      let f = fail_follows first_base (events old.core.config t) old.core core (sessions t) (stood old p taken.0 few' t core l same') p page result
+      (its_page old p taken.0 few' t page l taken.1) (right' Octets first_base (events old.core.config t) l.core) in
+      came_back old p taken.0 few' t (step.Failed p) re reply.Failed core l (says f.0) same' f.1 refl (λ q out. refl))

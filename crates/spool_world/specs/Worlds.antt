@@ -1,5 +1,5 @@
 -- What is seen of a world, and where a trace leaves it.
-use Rattle.std.specs.Prelude.{◌≡◌, ℕ, ◌+◌, ◌-◌, ◌<◌, ◌≤◌, List, [], ◌∷◌, ◌++◌, Option, Some, None, get_or, length, set}
+use Rattle.std.specs.Prelude.{◌≡◌, ℕ, ◌+◌, ◌-◌, ◌<◌, ◌≤◌, List, [], ◌∷◌, ◌++◌, Option, Some, None, Result, Ok, Err, get_or, length, set}
 use Rattle.config_values.specs.Config.{Config, IsPrinter}
 use Rattle.config_values.specs.Ranges.{IsConfig}
 use Rattle.receiver.specs.Reading.{start}
@@ -11,6 +11,7 @@ use Rattle.spool_calls.specs.Looks.Detail.{Octets}
 use Rattle.spool_calls.specs.Kept.{Kept, Leaves}
 use Rattle.spool_trace.specs.declared.step.Step.{Step}
 use Rattle.spool_trace.specs.declared.reply.Reply.{Reply}
+use Rattle.spool_trace.specs.declared.reply.Reply.TheVariants as reply
 use Rattle.spool_trace.specs.declared.reply.ShownPage.{ShownPage}
 use Rattle.spool_trace.specs.Trace.{Entry, Trace}
 use Rattle.spool_trace.specs.Sessions.{session_at, sessions}
@@ -75,9 +76,24 @@ abbrev pub AddsConnection : (old : Worlds) → ℕ → (new : Worlds) → Type 0
 AddsConnection old sender new =
     (k : Connection) × IsNew sender k × (new ≡ record old { connections = old.connections ++ k ∷ [] })
 
+-- the page that a printer has
+abbrev pub page_at : Worlds → ℕ → Option HandedPage
+page_at w p = get_or w.pages (p - 1) None
+
 -- a page is at a printer
 abbrev pub with_page : Worlds → ℕ → HandedPage → Worlds
 with_page w p page = record w { pages = set w.pages (p - 1) (Some page) }
+
+-- no page is at a printer
+abbrev pub without_page : Worlds → ℕ → Worlds
+without_page w p = record w { pages = set w.pages (p - 1) None }
+
+-- the page of a printer was taken from it, or nothing has changed: there is no such printer, or it has no page
+abbrev pub TakesPage : (old : Worlds) → ℕ → Result HandedPage Reply → (new : Worlds) → Type 0
+TakesPage old p (Ok page) new = IsPrinter old.core.config p × (page_at old p ≡ Some page) × (new ≡ without_page old p)
+TakesPage old p (Err reply.NoSuch) new = ¬ IsPrinter old.core.config p × (new ≡ old)
+TakesPage old p (Err reply.NoPage) new = IsPrinter old.core.config p × (page_at old p ≡ None) × (new ≡ old)
+TakesPage old p (Err _) new = ⊥
 
 -- a page as it is told
 abbrev pub shown_page : HandedPage → ShownPage

@@ -3,7 +3,7 @@
 ghost use Rattle.std.specs.Prelude.{◌≡◌, ◌≤◌, [], vec_capacity};
 ghost use Rattle.spool_trace.specs.declared.step.Step.TheVariants as step;
 ghost use Rattle.config_values.specs.Config.{IsPrinter};
-ghost use Rattle.spool_world.specs.Worlds.{Steps, shown_page, with_page};
+ghost use Rattle.spool_world.specs.Worlds.{Steps, TakesPage, shown_page, with_page};
 
 use crate::world::World;
 use lpd_values::Octets;
@@ -76,16 +76,24 @@ impl World {
         }
     }
 
+    /// Takes the page that a printer has. An error is what is to be replied: there is no such printer, or it has no page.
+    fn take_page(&mut self, printer: u32) -> Result<HandedPage, Reply>
+        ensures { TakesPage self.old printer result self.new }
+    {
+        if !self.core.config().is_printer(printer) {
+            return Err(Reply::NoSuch);
+        }
+        self.pages[printer as usize - 1].take().ok_or(Reply::NoPage)
+    }
+
     /// A printer has printed its page.
     pub(crate) fn printed(&mut self, printer: u32) -> Reply
         ensures config { self.new.core.config ≡ self.old.core.config }
         ensures step { Steps self.old (step.Printed printer) result self.new }
     {
-        if !self.core.config().is_printer(printer) {
-            return Reply::NoSuch;
-        }
-        let Some(page) = self.pages[printer as usize - 1].take() else {
-            return Reply::NoPage;
+        let page = match self.take_page(printer) {
+            Ok(page) => page,
+            Err(reply) => return reply,
         };
         match self.core.printed(printer, page) {
             Ok(progress) => Reply::Printed(progress),
@@ -101,11 +109,9 @@ impl World {
         ensures config { self.new.core.config ≡ self.old.core.config }
         ensures step { Steps self.old (step.Failed printer) result self.new }
     {
-        if !self.core.config().is_printer(printer) {
-            return Reply::NoSuch;
-        }
-        let Some(page) = self.pages[printer as usize - 1].take() else {
-            return Reply::NoPage;
+        let page = match self.take_page(printer) {
+            Ok(page) => page,
+            Err(reply) => return reply,
         };
         match self.core.failed(printer, page) {
             Ok(()) => Reply::Failed,
