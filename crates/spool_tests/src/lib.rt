@@ -23,3 +23,5 @@ mod scripts;
 mod sessions;
 #[cfg(test)]
 mod words;
+#[cfg(test)]
+mod worlds;

@@ -5,11 +5,12 @@ use std::alloc::{AllocError, Global};
 use std::process::Abort;
 use std::test::Fail;
 
-const CONFIG: &str =
+/// A spool of four pages of 8 octets, with one queue and one printer.
+pub const CONFIG: &str =
     "pages = 4\npage_size = 8\nmax_jobs = 8\naccount = 100000\n\n[[queue]]\nname = \"lp\"\nlimit = 3\nprinters = 1\n";
 
 /// One job of 11 octets in queue lp, its data file first.
-const STREAM: &[u8] =
+pub const STREAM: &[u8] =
     b"\x02lp\n\x0311 dfA001h1\nhello world\x00\x0219 cfA001h1\nHh1\nPann\nfdfA001h1\n\x00";
 
 /// The control file first, and then the data file.
