@@ -9,3 +9,5 @@ cd ../bench_chains
 rt run -- run
 cd ../bench_core
 rt run -- run
+cd ../bench_world
+rt run -- run

@@ -1,6 +1,6 @@
 //! How fast octets become printed pages, beside their digests alone and a plain copy of them.
 
-use crate::load::Load;
+use crate::load::{Jobs, Load};
 use sha2::{Digest, Sha256};
 use std::rt::Clock;
 use std::time::Instant;
@@ -18,11 +18,11 @@ pub struct Speed {
 }
 
 impl Speed {
-    /// So many jobs of so many octets, which were not measured yet.
-    pub fn new(jobs: u32, octets: usize) -> Speed {
+    /// What these jobs took, which were not measured yet.
+    pub fn of(jobs: &Jobs) -> Speed {
         Speed {
-            jobs,
-            octets,
+            jobs: jobs.count,
+            octets: jobs.file.len(),
             world: u128::MAX,
             digests: u128::MAX,
             copy: u128::MAX,
@@ -34,12 +34,11 @@ impl Speed {
         &mut self,
         rt: &R,
         load: Load,
-        job: &[u8],
-        page: usize,
+        jobs: &Jobs,
     ) -> io::Result<()> {
         self.world = self.world.min(load.nanoseconds);
-        self.digests = self.digests.min(digests(rt, self.jobs, job, page)?);
-        self.copy = self.copy.min(copy(rt, self.jobs, job, page)?);
+        self.digests = self.digests.min(digests(rt, jobs)?);
+        self.copy = self.copy.min(copy(rt, jobs)?);
         Ok(())
     }
 }
@@ -65,12 +64,12 @@ impl fmt::Display for Speed {
 }
 
 /// Nanoseconds of the digests of the pages of these jobs.
-fn digests<R: Clock>(rt: &R, jobs: u32, job: &[u8], page: usize) -> io::Result<u128> {
+fn digests<R: Clock>(rt: &R, jobs: &Jobs) -> io::Result<u128> {
     let start = Instant::now(rt)?;
     let mut mixed = 0u8;
-    for _ in 0..jobs {
-        for octets in job.chunks(page.max(1)) {
-            let digest: [u8; 32] = Sha256::digest(octets);
+    for _ in 0..jobs.count {
+        for page in jobs.file.chunks(jobs.page.max(1)) {
+            let digest: [u8; 32] = Sha256::digest(page);
             mixed ^= digest[0];
         }
     }
@@ -78,15 +77,18 @@ fn digests<R: Clock>(rt: &R, jobs: u32, job: &[u8], page: usize) -> io::Result<u
     Ok(nanoseconds.saturating_add(u128::from(mixed & 1)))
 }
 
-/// Nanoseconds of a plain copy of these jobs, page by page.
-fn copy<R: AllocGlobal + Clock>(rt: &R, jobs: u32, job: &[u8], page: usize) -> io::Result<u128> {
-    let mut copied = Vec::with_capacity(rt.alloc(), job.len())?;
+/// Nanoseconds of a plain copy of these jobs, page by page, each to a place of its own.
+fn copy<R: AllocGlobal + Clock>(rt: &R, jobs: &Jobs) -> io::Result<u128> {
+    let octets = (jobs.count as usize).saturating_mul(jobs.file.len());
+    let mut copied = Vec::with_capacity(rt.alloc(), octets)?;
     let start = Instant::now(rt)?;
-    for _ in 0..jobs {
-        copied.clear();
-        for octets in job.chunks(page.max(1)) {
-            copied.extend_from_slice(octets)?;
+    for _ in 0..jobs.count {
+        for page in jobs.file.chunks(jobs.page.max(1)) {
+            copied.extend_from_slice(page)?;
         }
     }
-    Ok(start.elapsed(rt)?.as_nanos())
+    let nanoseconds = start.elapsed(rt)?.as_nanos();
+    // What was copied is read, so that no compiler leaves the copy out.
+    let mixed = copied.iter().fold(0u8, |mixed, octet| mixed ^ octet);
+    Ok(nanoseconds.saturating_add(u128::from(mixed & 1)))
 }
