@@ -17,7 +17,8 @@ abbrev pub BeginsSome : Request → Type 0
 BeginsSome (BeginFile name count) = 0 < count
 BeginsSome _ = Unit {0}
 
--- the size of the page that comes with an answer: the one that is lent, and one that was to be put and was refused
+-- the size of the page that comes with an answer: the one that is lent, and one that was to be put
+-- and was refused
 abbrev pub page_with : Request → Answer → Option ℕ
 page_with AskPage (Lent page_size) = Some page_size
 page_with (Filled page) (Refused refusal) = Some page.page_size
@@ -28,11 +29,11 @@ abbrev pub blank : Option ℕ → Option Page
 blank None = None
 blank (Some size) = Some (record { octets = []; page_size = size })
 
--- After every history that leads to where the core was the answer to the request is the one that is due, the core is where
--- that history leads with the event that the request shows, and the page that comes with the answer is blank: the session is
--- of this sender, and its last job is this.
-pub record CarriesOut (d : Detail) (b : Base) (h : List (Event (What d))) (old new : Kept) (sender job : ℕ) (r : Request)
-    (answer : Answer) (page : Option Page) : Type 0 where
+-- After every history that leads to where the core was the answer to the request is the one that is
+-- due, the core is where that history leads with the event that the request shows, and the page
+-- that comes with the answer is blank: the session is of this sender, and its last job is this.
+pub record CarriesOut (d : Detail) (b : Base) (h : List (Event (What d))) (old new : Kept)
+    (sender job : ℕ) (r : Request) (answer : Answer) (page : Option Page) : Type 0 where
   pub follows : Follows d b h old new sender job r answer
   pub blank' : page ≡ blank (page_with r answer)
 

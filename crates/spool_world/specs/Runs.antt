@@ -11,6 +11,7 @@ told [] replies t = t
 told (step ∷ steps) [] t = t
 told (step ∷ steps) (reply ∷ replies) t = told steps replies (entry step reply ∷ t)
 
--- after every trace that leads to where the world was the trace that goes on so is right, and leads to where it is
+-- after every trace that leads to where the world was the trace that goes on so is right, and leads
+-- to where it is
 abbrev pub Runs : Worlds → List Step → List Reply → Worlds → Type 0
 Runs old steps replies new = (t : Trace) → Leads t old → Leads (told steps replies t) new

@@ -14,11 +14,13 @@ abbrev pub first_page : Option Page → Option Page → Option Page
 first_page None page = page
 first_page (Some page) other = Some page
 
--- the page of a connection, where its reader is so far: the one that was kept, or the one in its reader's hand
+-- the page of a connection, where its reader is so far: the one that was kept, or the one in its
+-- reader's hand
 abbrev pub page_of : Progress → Connection → Option Page
 page_of p k = first_page k.kept (held p.items p.tail)
 
--- the connection goes on: its reader stands where the session does, and it has a page exactly where the session has one
+-- the connection goes on: its reader stands where the session does, and it has a page exactly where
+-- the session has one
 pub record GoesOn (page_size : ℕ) (k : Connection) (s : Session) (p : Progress) : Type 0 where
   pub open' : s.over ≡ false
   pub reads : reading.Stands p k.unread.items s

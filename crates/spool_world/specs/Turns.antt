@@ -36,10 +36,10 @@ abbrev pub IsLentPage : Answer → Option Page → Type 0
 IsLentPage (Lent page_size) page = page ≡ blank (Some page_size)
 IsLentPage _ page = Unit {0}
 
--- a request was carried out and answered to the reader: the last job is the one that was accepted, if one was, and a page that
--- came with a refusal is kept
-pub record Answered (old new : Kept) (sender job : ℕ) (r : Request) (done : Deed) (reader left : Progress) (last : ℕ)
-    (kept keeps : Option Page) : Type 0 where
+-- a request was carried out and answered to the reader: the last job is the one that was accepted,
+-- if one was, and a page that came with a refusal is kept
+pub record Answered (old new : Kept) (sender job : ℕ) (r : Request) (done : Deed)
+    (reader left : Progress) (last : ℕ) (kept keeps : Option Page) : Type 0 where
   pub answer : Answer
   pub page : Option Page
   pub is : done ≡ deed.Asked (request_kind r) answer
@@ -53,7 +53,8 @@ pub record Answered (old new : Kept) (sender job : ℕ) (r : Request) (done : De
 abbrev pub AbortsIt : (old new : Kept) → (in_hand : Bool) → (job : ℕ) → Option Page → Type 0
 AbortsIt old new false job page = new ≡ old
 AbortsIt old new true job page =
-    IsRight old (λ d b h. (result : Result (Unit {0}) ReturnedTicket) × Aborts d b h old job page new result)
+    IsRight old (λ d b h.
+    (result : Result (Unit {0}) ReturnedTicket) × Aborts d b h old job page new result)
 
 -- where the connection was going on its job in hand was aborted with its page
 abbrev pub EndsIt : (old new : Kept) → Connection → Option Progress → Type 0
@@ -67,8 +68,10 @@ pub record IsEnded (k l : Connection) : Type 0 where
   pub sender : l.sender ≡ k.sender
   pub job : l.job ≡ k.job
 
--- the reply to a step of a session is right, the core grew by what it shows, and the connection is where the session is then
-pub record Does (old new : Kept) (t : Trace) (step : Step) (reply : Reply) (l : Connection) (s : Session) : Type 0 where
+-- the reply to a step of a session is right, the core grew by what it shows, and the connection is
+-- where the session is then
+pub record Does (old new : Kept) (t : Trace) (step : Step) (reply : Reply) (l : Connection)
+    (s : Session) : Type 0 where
   pub follows : StepFollows first_base (events old.config t) old new (sessions t) step reply
   pub stands : Stands old.config.page_size l s
 

@@ -1,5 +1,6 @@
 -- What is seen of a world, and where a trace leaves it.
-use Rattle.std.specs.Prelude.{◌≡◌, ℕ, ◌+◌, ◌-◌, ◌<◌, ◌≤◌, List, [], ◌∷◌, ◌++◌, Option, Some, None, Result, Ok, Err, get_or, length, set}
+use Rattle.std.specs.Prelude.{◌≡◌, ℕ, ◌+◌, ◌-◌, ◌<◌, ◌≤◌, Option, Some, None, Result, Ok, Err}
+use Rattle.std.specs.Prelude.{List, [], ◌∷◌, ◌++◌, get_or, length, set}
 use Rattle.config_values.specs.Config.{Config, IsPrinter}
 use Rattle.config_values.specs.Ranges.{IsConfig}
 use Rattle.receiver.specs.Reading.{start}
@@ -28,12 +29,19 @@ pub record Worlds : Type 0 where
 
 -- the page in the words of histories
 abbrev pub sheet_of : HandedPage → Sheet (List ℕ)
-sheet_of page = record { job = page.job; place = page.place; file = page.file; number = page.number; page = page.page.octets }
+sheet_of page = record {
+  job = page.job;
+  place = page.place;
+  file = page.file;
+  number = page.number;
+  page = page.page.octets;
+}
 
 -- the page that a printer has is the one that is out at it
 abbrev pub IsOut : ℕ → Option HandedPage → Option (Sheet (List ℕ)) → Type 0
 IsOut page_size None None = Unit {0}
-IsOut page_size (Some page) (Some sheet) = (sheet_of page ≡ sheet) × (page.page.page_size ≡ page_size)
+IsOut page_size (Some page) (Some sheet) =
+    (sheet_of page ≡ sheet) × (page.page.page_size ≡ page_size)
 IsOut page_size _ _ = ⊥
 
 -- Each reply of the trace is right, and the trace leaves the world of this configuration here.
@@ -54,10 +62,12 @@ Leads t w = LeadsIn w.core.config t w
 abbrev pub entry : Step → Reply → Entry
 entry step reply = record { step = step; reply = reply }
 
--- a step is replied to rightly after every trace that leads to where the world was, which with it leads to where it is
+-- a step is replied to rightly after every trace that leads to where the world was, which with it
+-- leads to where it is
 abbrev pub Steps : Worlds → Step → Reply → Worlds → Type 0
 Steps old step reply new =
-    (t : Trace) → Leads t old → IsReply old.core.config t step reply × Leads (entry step reply ∷ t) new
+    (t : Trace) → Leads t old
+    → IsReply old.core.config t step reply × Leads (entry step reply ∷ t) new
 
 -- a session has this number
 abbrev pub IsPlace : Worlds → ℕ → Type 0
@@ -74,7 +84,8 @@ pub record IsNew (sender : ℕ) (k : Connection) : Type 0 where
 -- there is one connection more, on which nothing has arrived
 abbrev pub AddsConnection : (old : Worlds) → ℕ → (new : Worlds) → Type 0
 AddsConnection old sender new =
-    (k : Connection) × IsNew sender k × (new ≡ record old { connections = old.connections ++ k ∷ [] })
+    (k : Connection) × IsNew sender k
+    × (new ≡ record old { connections = old.connections ++ k ∷ [] })
 
 -- the page that a printer has
 abbrev pub page_at : Worlds → ℕ → Option HandedPage
@@ -88,14 +99,23 @@ with_page w p page = record w { pages = set w.pages (p - 1) (Some page) }
 abbrev pub without_page : Worlds → ℕ → Worlds
 without_page w p = record w { pages = set w.pages (p - 1) None }
 
--- the page of a printer was taken from it, or nothing has changed: there is no such printer, or it has no page
+-- the page of a printer was taken from it, or nothing has changed: there is no such printer, or it
+-- has no page
 abbrev pub TakesPage : (old : Worlds) → ℕ → Result HandedPage Reply → (new : Worlds) → Type 0
-TakesPage old p (Ok page) new = IsPrinter old.core.config p × (page_at old p ≡ Some page) × (new ≡ without_page old p)
+TakesPage old p (Ok page) new =
+    IsPrinter old.core.config p × (page_at old p ≡ Some page) × (new ≡ without_page old p)
 TakesPage old p (Err reply.NoSuch) new = ¬ IsPrinter old.core.config p × (new ≡ old)
-TakesPage old p (Err reply.NoPage) new = IsPrinter old.core.config p × (page_at old p ≡ None) × (new ≡ old)
+TakesPage old p (Err reply.NoPage) new =
+    IsPrinter old.core.config p × (page_at old p ≡ None) × (new ≡ old)
 TakesPage old p (Err _) new = ⊥
 
 -- a page as it is told
 abbrev pub shown_page : HandedPage → ShownPage
 shown_page page =
-    record { job = page.job; place = page.place; file = page.file; number = page.number; octets = page.page.octets }
+    record {
+      job = page.job;
+      place = page.place;
+      file = page.file;
+      number = page.number;
+      octets = page.page.octets;
+    }

@@ -1,7 +1,8 @@
-//! A spool of many sessions, told what to do step by step: hosts connect, their octets arrive in any pieces, printers ask for
-//! pages and give them back.
+//! A spool of many sessions, told what to do step by step: hosts connect, their octets arrive in
+//! any pieces, printers ask for pages and give them back.
 //!
-//! What it replies is right by the definitions of `spool_trace`, and after any steps the headline holds of the whole trace.
+//! What it replies is right by the definitions of `spool_trace`, and after any steps the headline
+//! holds of the whole trace.
 #![tactic(auto)]
 
 mod connection;

@@ -42,7 +42,8 @@ impl World {
         }
         // Some history leaves the core here; so it is known which page `next` hands out.
         let _held = self.core.held();
-        // Where no page is next no room is taken, since no reply but a page may be refused for want of it.
+        // Where no page is next no room is taken, since no reply but a page may be refused for
+        // want of it.
         let room = if self.core.has_next(printer) {
             let page_size = self.core.config().page_size() as usize;
             match Vec::with_capacity(self.alloc, page_size) {
@@ -76,7 +77,9 @@ impl World {
         }
     }
 
-    /// Takes the page that a printer has. An error is what is to be replied: there is no such printer, or it has no page.
+    /// Takes the page that a printer has.
+    ///
+    /// NoSuch where there is no such printer, and NoPage where it has no page.
     fn take_page(&mut self, printer: u32) -> Result<HandedPage, Reply>
         ensures { TakesPage self.old printer result self.new }
     {

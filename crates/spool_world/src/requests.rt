@@ -3,7 +3,8 @@
 ghost use Rattle.std.specs.Prelude.{◌≡◌, ◌<◌, ◌∷◌, ℕ, [], None, true, IsSome};
 ghost use Rattle.receiver.specs.Script as script;
 ghost use Rattle.receiver.specs.Script.{Request};
-ghost use Rattle.receiver.specs.Reading.{Aborting, Admission, Ending, Lending, Opening, Plain, fits, kind_of as reading_kind};
+ghost use Rattle.receiver.specs.Reading.{Aborting, Admission, Ending, Lending, Opening, Plain};
+ghost use Rattle.receiver.specs.Reading.{fits, kind_of as reading_kind};
 ghost use Rattle.receiver.specs.View.{asked, outputs};
 ghost use Rattle.control_file.specs.View.{contents};
 ghost use Rattle.spool_requests.specs.Follows.{done_by, kept_by, told_by};
@@ -20,7 +21,8 @@ use receiver::Need;
 use spool_core::{Asked, Core, Receipt, ReturnedPage};
 use spool_trace::{Answer, RequestKind};
 
-/// An answer, with the page that comes with it: the one that was lent, or the one that was to be put and was refused.
+/// An answer, with the page that comes with it: the one that was lent, or the one that was to be
+/// put and was refused.
 pub struct Outcome {
     pub answer: Answer,
     pub page: Option<PageTicket>,
@@ -126,8 +128,9 @@ fn open(core: &mut Core, sender: u32, queue: Octets) -> Outcome
 /// Begins a data file. No session requests one of no octets.
 fn begin_file(core: &mut Core, job: u64, name: FileName, count: u64) -> Outcome
     ensures config { core.new.config ≡ core.old.config }
-    ensures answer { (sender : ℕ)
-        → 0 < count → Carries core.old core.new sender job (script.BeginFile name count) result.answer result.page }
+    ensures answer { (sender : ℕ) → 0 < count
+        → Carries core.old core.new sender job (script.BeginFile name count)
+        result.answer result.page }
     ensures lent { IsLentPage result.answer result.page }
     ensures fits { fits Plain (reply_of result.answer) ≡ true }
 {
@@ -187,7 +190,8 @@ fn end_file(core: &mut Core, job: u64) -> Outcome
 fn take_control(core: &mut Core, job: u64, control: Control) -> Outcome
     ensures config { core.new.config ≡ core.old.config }
     ensures answer { (sender : ℕ)
-        → Carries core.old core.new sender job (script.Control (contents control)) result.answer result.page }
+        → Carries core.old core.new sender job (script.Control (contents control))
+        result.answer result.page }
     ensures lent { IsLentPage result.answer result.page }
     ensures fits { fits Ending (reply_of result.answer) ≡ true }
 {
@@ -215,7 +219,8 @@ fn abort(core: &mut Core, job: u64) -> Outcome
 fn start(core: &mut Core, queue: Octets) -> Outcome
     ensures config { core.new.config ≡ core.old.config }
     ensures answer { (sender job : ℕ)
-        → Carries core.old core.new sender job (script.StartPrinters queue) result.answer result.page }
+        → Carries core.old core.new sender job (script.StartPrinters queue)
+        result.answer result.page }
     ensures lent { IsLentPage result.answer result.page }
     ensures fits { fits Plain (reply_of result.answer) ≡ true }
 {
@@ -225,7 +230,8 @@ fn start(core: &mut Core, queue: Octets) -> Outcome
 /// Tells the state of a queue.
 fn tell(core: &Core, queue: Octets, list: Words, long: bool) -> Outcome
     ensures answer { (sender job : ℕ)
-        → Carries core.now core.now sender job (script.QueueState queue list long) result.answer result.page }
+        → Carries core.now core.now sender job (script.QueueState queue list long)
+        result.answer result.page }
     ensures lent { IsLentPage result.answer result.page }
     ensures fits { fits Plain (reply_of result.answer) ≡ true }
 {
@@ -236,7 +242,8 @@ fn tell(core: &Core, queue: Octets, list: Words, long: bool) -> Outcome
 fn remove(core: &mut Core, queue: Octets, agent: Octets, list: Words) -> Outcome
     ensures config { core.new.config ≡ core.old.config }
     ensures answer { (sender job : ℕ)
-        → Carries core.old core.new sender job (script.RemoveJobs queue agent list) result.answer result.page }
+        → Carries core.old core.new sender job (script.RemoveJobs queue agent list)
+        result.answer result.page }
     ensures lent { IsLentPage result.answer result.page }
     ensures fits { fits Plain (reply_of result.answer) ≡ true }
 {

@@ -17,7 +17,8 @@ impl World {
     pub fn run(&mut self, steps: &[Step]) -> Result<Vec<Reply>, AllocError>
         ensures config { self.new.core.config ≡ self.old.core.config }
         ensures count { IfOk result (λ replies. length replies.items ≡ length steps.now) }
-        // Each reply is the one that is due after the trace before it, and the longer trace leads to where the world is.
+        // Each reply is the one that is due after the trace before it, and the longer trace leads
+        // to where the world is.
         ensures replies { IfOk result (λ replies. Runs self.old steps.now replies.items self.new) }
         ensures refused { OnErr result (self.new ≡ self.old) }
         // Whatever trace leads to where the world is, the headline holds of it.

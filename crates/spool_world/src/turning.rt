@@ -7,7 +7,8 @@ ghost use Rattle.receiver.specs.Reading.{IsFitting, after_reply};
 ghost use Rattle.receiver.specs.View.{asked, outputs};
 ghost use Rattle.spool_trace.specs.Sessions.{reply_of};
 ghost use Rattle.spool_world.specs.Stands.{first_page};
-ghost use Rattle.spool_world.specs.Turns.{Answered, EndsIt, IsEnded, IsLentPage, TurnsRight, is_lent};
+ghost use Rattle.spool_world.specs.Turns.{Answered, EndsIt, IsEnded, IsLentPage, TurnsRight};
+ghost use Rattle.spool_world.specs.Turns.{is_lent};
 
 use crate::connection::{Connection, spend};
 use crate::requests::{Outcome, carry_out, kind_of};

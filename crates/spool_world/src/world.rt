@@ -1,6 +1,7 @@
 //! The world: a core, the connections of its hosts, and the pages at its printers.
 
-ghost use Rattle.std.specs.Prelude.{◌≡◌, ◌+◌, ◌<◌, ◌∷◌, [], All, Option, None, Some, IfOk, MatchOption, OnErr, OnOk, length};
+ghost use Rattle.std.specs.Prelude.{◌≡◌, ◌+◌, ◌<◌, ◌∷◌, [], All, Option, None, Some, length};
+ghost use Rattle.std.specs.Prelude.{IfOk, MatchOption, OnErr, OnOk};
 ghost use Rattle.spool_trace.specs.declared.step.Step.TheVariants as step;
 ghost use Rattle.spool_trace.specs.Trace.{Trace};
 ghost use Rattle.spool_trace.specs.Shown.{events, spool_after};
@@ -19,9 +20,11 @@ use spool_trace::{Reply, Step};
 use std::alloc::{AllocError, Global};
 use std::marker::Model;
 
-/// A spool with the connections of its hosts and the pages at its printers. A world that is dropped spends its pages.
+/// A spool with the connections of its hosts and the pages at its printers. A world that is dropped
+/// spends its pages.
 ///
-/// Contracts say of each step what is replied after any trace that leads to where the world is, and which trace it leaves.
+/// Contracts say of each step what is replied after any trace that leads to where the world is, and
+/// which trace it leaves.
 pub struct World {
     pub(crate) alloc: Global,
     pub(crate) core: Core,
@@ -64,7 +67,8 @@ impl Drop for World {
 /// A place for the page of each printer, with no page in it.
 fn no_pages(alloc: Global, printers: usize) -> Result<Vec<Option<HandedPage>>, AllocError>
     ensures count { IfOk result (λ pages. length pages.items ≡ printers) }
-    ensures none { IfOk result (λ pages. All (λ (page : Option HandedPage). page ≡ None) pages.items) }
+    ensures none { IfOk result (λ pages.
+        All (λ (page : Option HandedPage). page ≡ None) pages.items) }
 {
     let mut pages = Vec::with_capacity(alloc, printers)?;
     for _ in 0..printers {
@@ -120,8 +124,8 @@ impl World {
 
     /// Does a step, and replies to it.
     ///
-    /// Where memory is refused the reply is Memory and nothing has happened; so it may be of a connection, of octets that
-    /// arrive, and of a printer for which a page is next.
+    /// Where memory is refused the reply is Memory and nothing has happened; so it may be of a
+    /// connection, of octets that arrive, and of a printer for which a page is next.
     pub fn step(&mut self, step: &Step) -> Reply
         ensures config { self.new.core.config ≡ self.old.core.config }
         ensures step { Steps self.old step.now result self.new }
@@ -151,7 +155,8 @@ impl World {
         }
     }
 
-    /// One connection more, on which nothing has arrived. Nothing changes where memory for it is refused.
+    /// One connection more, on which nothing has arrived. Nothing changes where memory for it is
+    /// refused.
     fn add_connection(&mut self, sender: u32) -> Result<(), AllocError>
         ensures added { OnOk result (AddsConnection self.old sender self.new) }
         ensures same { OnErr result (self.new ≡ self.old) }
