@@ -11,6 +11,7 @@ use Rattle.spool_calls.specs.Calls.{IsRight}
 use Rattle.spool_requests.specs.declared.answer.Answer.{Answer}
 use Rattle.spool_requests.specs.declared.answer.Answer.TheVariants.{Lent, Refused}
 use Rattle.spool_requests.specs.Follows.{Follows}
+use Rattle.spool_world.specs.declared.requests.Outcome.{Outcome}
 
 -- a file that begins has octets
 abbrev pub BeginsSome : Request → Type 0
@@ -40,3 +41,7 @@ pub record CarriesOut (d : Detail) (b : Base) (h : List (Event (What d))) (old n
 abbrev pub Carries : (old new : Kept) → (sender job : ℕ) → Request → Answer → Option Page → Type 0
 Carries old new sender job r answer page =
     IsConfig old.config → IsRight old (λ d b h. CarriesOut d b h old new sender job r answer page)
+
+-- the same of an answer with its page
+abbrev pub CarriesTo : (old new : Kept) → (sender job : ℕ) → Request → Outcome → Type 0
+CarriesTo old new sender job r outcome = Carries old new sender job r outcome.answer outcome.page

@@ -10,7 +10,7 @@ ghost use Rattle.control_file.specs.View.{contents};
 ghost use Rattle.spool_requests.specs.Follows.{done_by, kept_by, told_by};
 ghost use Rattle.spool_requests.specs.Kinds.{request_kind};
 ghost use Rattle.spool_trace.specs.Sessions.{reply_of};
-ghost use Rattle.spool_world.specs.Carried.{BeginsSome, Carries};
+ghost use Rattle.spool_world.specs.Carried.{BeginsSome, CarriesTo};
 ghost use Rattle.spool_world.specs.Turns.{IsLentPage};
 
 use control_file::Control;
@@ -104,7 +104,7 @@ fn told(outcome: Result<Octets, Refusal>) -> Outcome
 /// Whether a queue takes jobs.
 fn admit(core: &Core, queue: Octets) -> Outcome
     ensures answer { (sender job : ℕ)
-        → Carries core.now core.now sender job (script.Queue queue) result.answer result.page }
+        → CarriesTo core.now core.now sender job (script.Queue queue) result }
     ensures lent { IsLentPage result.answer result.page }
     ensures fits { fits (Admission queue) (reply_of result.answer) ≡ true }
 {
@@ -115,7 +115,7 @@ fn admit(core: &Core, queue: Octets) -> Outcome
 fn open(core: &mut Core, sender: u32, queue: Octets) -> Outcome
     ensures config { core.new.config ≡ core.old.config }
     ensures answer { (job : ℕ)
-        → Carries core.old core.new sender job (script.Open queue) result.answer result.page }
+        → CarriesTo core.old core.new sender job (script.Open queue) result }
     ensures lent { IsLentPage result.answer result.page }
     ensures fits { fits Opening (reply_of result.answer) ≡ true }
 {
@@ -129,8 +129,7 @@ fn open(core: &mut Core, sender: u32, queue: Octets) -> Outcome
 fn begin_file(core: &mut Core, job: u64, name: FileName, count: u64) -> Outcome
     ensures config { core.new.config ≡ core.old.config }
     ensures answer { (sender : ℕ) → 0 < count
-        → Carries core.old core.new sender job (script.BeginFile name count)
-        result.answer result.page }
+        → CarriesTo core.old core.new sender job (script.BeginFile name count) result }
     ensures lent { IsLentPage result.answer result.page }
     ensures fits { fits Plain (reply_of result.answer) ≡ true }
 {
@@ -144,7 +143,7 @@ fn begin_file(core: &mut Core, job: u64, name: FileName, count: u64) -> Outcome
 fn lend(core: &mut Core, job: u64) -> Outcome
     ensures config { core.new.config ≡ core.old.config }
     ensures answer { (sender : ℕ)
-        → Carries core.old core.new sender job script.AskPage result.answer result.page }
+        → CarriesTo core.old core.new sender job script.AskPage result }
     ensures lent { IsLentPage result.answer result.page }
     ensures fits { fits Lending (reply_of result.answer) ≡ true }
 {
@@ -162,7 +161,7 @@ fn lend(core: &mut Core, job: u64) -> Outcome
 fn put(core: &mut Core, job: u64, page: FilledPage) -> Outcome
     ensures config { core.new.config ≡ core.old.config }
     ensures answer { (sender : ℕ)
-        → Carries core.old core.new sender job (script.Filled page) result.answer result.page }
+        → CarriesTo core.old core.new sender job (script.Filled page) result }
     ensures lent { IsLentPage result.answer result.page }
     ensures fits { fits Plain (reply_of result.answer) ≡ true }
 {
@@ -179,7 +178,7 @@ fn put(core: &mut Core, job: u64, page: FilledPage) -> Outcome
 fn end_file(core: &mut Core, job: u64) -> Outcome
     ensures config { core.new.config ≡ core.old.config }
     ensures answer { (sender : ℕ)
-        → Carries core.old core.new sender job script.EndFile result.answer result.page }
+        → CarriesTo core.old core.new sender job script.EndFile result }
     ensures lent { IsLentPage result.answer result.page }
     ensures fits { fits Ending (reply_of result.answer) ≡ true }
 {
@@ -190,8 +189,7 @@ fn end_file(core: &mut Core, job: u64) -> Outcome
 fn take_control(core: &mut Core, job: u64, control: Control) -> Outcome
     ensures config { core.new.config ≡ core.old.config }
     ensures answer { (sender : ℕ)
-        → Carries core.old core.new sender job (script.Control (contents control))
-        result.answer result.page }
+        → CarriesTo core.old core.new sender job (script.Control (contents control)) result }
     ensures lent { IsLentPage result.answer result.page }
     ensures fits { fits Ending (reply_of result.answer) ≡ true }
 {
@@ -202,7 +200,7 @@ fn take_control(core: &mut Core, job: u64, control: Control) -> Outcome
 fn abort(core: &mut Core, job: u64) -> Outcome
     ensures config { core.new.config ≡ core.old.config }
     ensures answer { (sender : ℕ)
-        → Carries core.old core.new sender job script.AbortJob result.answer result.page }
+        → CarriesTo core.old core.new sender job script.AbortJob result }
     ensures lent { IsLentPage result.answer result.page }
     ensures fits { fits Aborting (reply_of result.answer) ≡ true }
 {
@@ -219,8 +217,7 @@ fn abort(core: &mut Core, job: u64) -> Outcome
 fn start(core: &mut Core, queue: Octets) -> Outcome
     ensures config { core.new.config ≡ core.old.config }
     ensures answer { (sender job : ℕ)
-        → Carries core.old core.new sender job (script.StartPrinters queue)
-        result.answer result.page }
+        → CarriesTo core.old core.new sender job (script.StartPrinters queue) result }
     ensures lent { IsLentPage result.answer result.page }
     ensures fits { fits Plain (reply_of result.answer) ≡ true }
 {
@@ -230,8 +227,7 @@ fn start(core: &mut Core, queue: Octets) -> Outcome
 /// Tells the state of a queue.
 fn tell(core: &Core, queue: Octets, list: Words, long: bool) -> Outcome
     ensures answer { (sender job : ℕ)
-        → Carries core.now core.now sender job (script.QueueState queue list long)
-        result.answer result.page }
+        → CarriesTo core.now core.now sender job (script.QueueState queue list long) result }
     ensures lent { IsLentPage result.answer result.page }
     ensures fits { fits Plain (reply_of result.answer) ≡ true }
 {
@@ -242,8 +238,7 @@ fn tell(core: &Core, queue: Octets, list: Words, long: bool) -> Outcome
 fn remove(core: &mut Core, queue: Octets, agent: Octets, list: Words) -> Outcome
     ensures config { core.new.config ≡ core.old.config }
     ensures answer { (sender job : ℕ)
-        → Carries core.old core.new sender job (script.RemoveJobs queue agent list)
-        result.answer result.page }
+        → CarriesTo core.old core.new sender job (script.RemoveJobs queue agent list) result }
     ensures lent { IsLentPage result.answer result.page }
     ensures fits { fits Plain (reply_of result.answer) ≡ true }
 {
@@ -255,7 +250,7 @@ pub fn carry_out(core: &mut Core, sender: u32, job: u64, request: Need) -> Outco
     requires { IsSome (asked request) }
     ensures config { core.new.config ≡ core.old.config }
     ensures answer { (r : Request) → outputs request ≡ script.Asked r ∷ [] → BeginsSome r
-        → Carries core.old core.new sender job r result.answer result.page }
+        → CarriesTo core.old core.new sender job r result }
     ensures lent { IsLentPage result.answer result.page }
     ensures fits { (r : Request) → outputs request ≡ script.Asked r ∷ []
         → fits (reading_kind r) (reply_of result.answer) ≡ true }
