@@ -28,63 +28,63 @@ use Rattle.spool_world.specs.Carried.{BeginsSome, Carries, blank, page_with}
 same_request : (q r : Request) → script.Asked q ∷ [] ≡ script.Asked r ∷ [] → q ≡ r
 same_request q r e = cc
 
-module _ (old new : Kept) (sender job : ℕ) where
+stood : (old new : Kept) (d : Detail) (b : Base) (h : List (Event (What d))) → IsConfig old.config → new.config ≡ old.config → Leaves d b h old → Stood d b h old new
+stood old new d b h ranges same l = record { ranges = ranges; config = same; left = l }
+
+module _ {old new : Kept} {sender job : ℕ} where
   -- what is carried out of a request is so of the request that a need is
   pub carried : (q r : Request) (answer : Answer) (page : Option Page) → script.Asked q ∷ [] ≡ script.Asked r ∷ []
       → (BeginsSome q → Carries old new sender job q answer page) → BeginsSome r → Carries old new sender job r answer page
   carried q r answer page e f = subst (λ (x : Request). BeginsSome x → Carries old new sender job x answer page) (same_request q r e) f
 
   -- an answer with no page
-  pub plain : (r : Request) (given answer : Answer) (page : Option Page) → answer ≡ given → page ≡ None → Carries old new sender job r given None → Carries old new sender job r answer page
-  plain r given answer page e n f =
+  pub plain : {r : Request} {given answer : Answer} {page : Option Page} → answer ≡ given → page ≡ None → Carries old new sender job r given None → Carries old new sender job r answer page
+  plain {r} {given} {answer} {page} e n f =
       subst (λ (x : Answer). Carries old new sender job r x page) (sym e) (subst (λ (x : Option Page). Carries old new sender job r given x) (sym n) f)
-
-  stood : (d : Detail) (b : Base) (h : List (Event (What d))) → IsConfig old.config → new.config ≡ old.config → Leaves d b h old → Stood d b h old new
-  stood d b h ranges same l = record { ranges = ranges; config = same; left = l }
 
   pub put_carried : (page : Page) (result : Result (Unit {0}) ReturnedPage) (given : Option Page) → new.config ≡ old.config → IsRight old (λ d b h. Puts d b h old job page new result)
       → ((d : Detail) (b : Base) (h : List (Event (What d))) → Puts d b h old job page new result → given ≡ blank (page_with (script.Filled page) (put_by result))) → Carries old new sender job (script.Filled page) (put_by result) given
   put_carried page result given same right blank ranges d b h l =
       let p = right d b h l in
-      record { follows = put_follows page d b h old new sender job result (stood d b h ranges same l) p; blank' = blank d b h p }
+      record { follows = put_follows page d b h old new sender job result (stood old new d b h ranges same l) p; blank' = blank d b h p }
 
   pub queue_carried : (name : List ℕ) (result : Result (Unit {0}) Refusal) → new ≡ old → IsRight old (λ d b h. Admits d b h old name result) → Carries old new sender job (script.Queue name) (done_by result) None
   queue_carried name result e right ranges d b h l =
-      record { follows = queue_follows name d b h old new sender job result (stood d b h ranges (ap (λ (k : Kept). k.config) e) l) (e, right d b h l); blank' = refl }
+      record { follows = queue_follows name d b h old new sender job result (stood old new d b h ranges (ap (λ (k : Kept). k.config) e) l) (e, right d b h l); blank' = refl }
 
   pub open_carried : (name : List ℕ) (result : Result ℕ Refusal) → new.config ≡ old.config → IsRight old (λ d b h. Opens d b h old sender name new result) → Carries old new sender job (script.Open name) (opened_by result) None
   open_carried name result same right ranges d b h l =
-      record { follows = open_follows name d b h old new sender job result (stood d b h ranges same l) (right d b h l); blank' = refl }
+      record { follows = open_follows name d b h old new sender job result (stood old new d b h ranges same l) (right d b h l); blank' = refl }
 
   pub file_carried : (name : List ℕ) (count : ℕ) (result : Result (Unit {0}) Refusal) → new.config ≡ old.config → IsRight old (λ d b h. Begins d b h old job name count new result) → Carries old new sender job (script.BeginFile name count) (done_by result) None
   file_carried name count result same right ranges d b h l =
-      record { follows = file_follows name count d b h old new sender job result (stood d b h ranges same l) (right d b h l); blank' = refl }
+      record { follows = file_follows name count d b h old new sender job result (stood old new d b h ranges same l) (right d b h l); blank' = refl }
 
   pub end_carried : (result : Result Receipt Refusal) → new.config ≡ old.config → IsRight old (λ d b h. Ends d b h old job new result) → Carries old new sender job script.EndFile (kept_by result) None
   end_carried result same right ranges d b h l =
-      record { follows = end_follows d b h old new sender job result (stood d b h ranges same l) (right d b h l); blank' = refl }
+      record { follows = end_follows d b h old new sender job result (stood old new d b h ranges same l) (right d b h l); blank' = refl }
 
   pub control_carried : (control : Contents) (result : Result Receipt Refusal) → new.config ≡ old.config → IsRight old (λ d b h. Controls d b h old job control new result) → Carries old new sender job (script.Control control) (kept_by result) None
   control_carried control result same right ranges d b h l =
-      record { follows = control_follows control d b h old new sender job result (stood d b h ranges same l) (right d b h l); blank' = refl }
+      record { follows = control_follows control d b h old new sender job result (stood old new d b h ranges same l) (right d b h l); blank' = refl }
 
   pub start_carried : (name : List ℕ) (result : Result (Unit {0}) Refusal) → new.config ≡ old.config → IsRight old (λ d b h. Starts d b h old name new result) → Carries old new sender job (script.StartPrinters name) (done_by result) None
   start_carried name result same right ranges d b h l =
-      record { follows = start_follows name d b h old new sender job result (stood d b h ranges same l) (right d b h l); blank' = refl }
+      record { follows = start_follows name d b h old new sender job result (stood old new d b h ranges same l) (right d b h l); blank' = refl }
 
   pub state_carried : (name : List ℕ) (list : List (List ℕ)) (long : Bool) (result : Result (List ℕ) Refusal) → new ≡ old → IsRight old (λ d b h. Tells d b h old name list long result)
       → Carries old new sender job (script.QueueState name list long) (told_by result) None
   state_carried name list long result e right ranges d b h l =
-      record { follows = state_follows name list long d b h old new sender job result (stood d b h ranges (ap (λ (k : Kept). k.config) e) l) (e, right d b h l); blank' = refl }
+      record { follows = state_follows name list long d b h old new sender job result (stood old new d b h ranges (ap (λ (k : Kept). k.config) e) l) (e, right d b h l); blank' = refl }
 
   pub removal_carried : (name agent : List ℕ) (list : List (List ℕ)) (result : Result (List ℕ) Refusal) → new.config ≡ old.config → IsRight old (λ d b h. Removes d b h old name agent list new result)
       → Carries old new sender job (script.RemoveJobs name agent list) (told_by result) None
   removal_carried name agent list result same right ranges d b h l =
-      record { follows = removal_follows name agent list d b h old new sender job result (stood d b h ranges same l) (right d b h l); blank' = refl }
+      record { follows = removal_follows name agent list d b h old new sender job result (stood old new d b h ranges same l) (right d b h l); blank' = refl }
 
   pub abort_carried : (result : Result (Unit {0}) ReturnedTicket) → new.config ≡ old.config → IsRight old (λ d b h. Aborts d b h old job None new result) → Carries old new sender job script.AbortJob (aborted_by result) None
   abort_carried result same right ranges d b h l =
-      record { follows = abort_follows d b h old new sender job result (stood d b h ranges same l) (right d b h l); blank' = refl }
+      record { follows = abort_follows d b h old new sender job result (stood old new d b h ranges same l) (right d b h l); blank' = refl }
 
 none_asked : (false ≡ true) → ⊥
 none_asked e = cc

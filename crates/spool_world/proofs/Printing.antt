@@ -28,7 +28,12 @@ use Rattle.spool_trace.specs.Replies.{IsReply}
 use Rattle.spool_trace.specs.Follows.{IsItsPage, StepFollows, given_by}
 use Rattle.spool_trace.proofs.Steps.{fail_follows, next_follows, print_follows}
 use Rattle.spool_world.specs.Worlds.{IsOut, Leads, Steps, TakesPage, Worlds, entry, sheet_of, shown_page, with_page, without_page}
-use Rattle.spool_world.proofs.Leading.{alone, nothing}
+use Rattle.spool_world.proofs.Leading.{alone, at_view, nothing, replied}
+
+-- no page is handed out
+abbrev IsQuiet : Next → Type 0
+IsQuiet (next.Handed page) = ⊥
+IsQuiet q = Unit {0}
 
 module _ (old : Worlds) (p : ℕ) (ip : IsPrinter old.core.config p) (few : length old.pages ≡ printer_count old.core.config) where
   abbrev size : ℕ
@@ -59,16 +64,29 @@ module _ (old : Worlds) (p : ℕ) (ip : IsPrinter old.core.config p) (few : leng
       (record { follows = next_follows first_base (events old.core.config t) old.core core (sessions t) (stood t core l same) p (next.Handed page) ip hands; same = same; connections = refl; sessions' = refl })
       (λ q iq. changed q (Some page) (printer_at (spool_after old.core.config t) q).out (Some (sheet_of page)) iq (refl, hands.2) (l.printers q iq))
 
+  quiet_core : (q : Next) (core : Kept) (t : Trace) → IsQuiet q → Hands Octets first_base (events old.core.config t) old.core p core q → core ≡ old.core
+  quiet_core (next.Handed page) core t is hands = absurd is
+  quiet_core next.Nothing core t is hands = hands.1
+  quiet_core next.Stopped core t is hands = hands.1
+  quiet_core next.Busy core t is hands = hands.1
+  quiet_core next.Closed core t is hands = hands.1
+
+  quiet_out : (q : Next) (printer : ℕ) (out : Option (Sheet (List ℕ))) → IsQuiet q → out_after (step.Next p) (reply.Gave (given_by q)) printer out ≡ out
+  quiet_out (next.Handed page) printer out is = absurd is
+  quiet_out next.Nothing printer out is = refl
+  quiet_out next.Stopped printer out is = refl
+  quiet_out next.Busy printer out is = refl
+  quiet_out next.Closed printer out is = refl
+
   -- nothing was
-  pub given_step : (result : Next) (said : Given) (core : Kept) → said ≡ given_by result → IsRight old.core (λ d b h. Hands d b h old.core p core result)
-      → ((t : Trace) → Hands Octets first_base (events old.core.config t) old.core p core result → core ≡ old.core) → ((t : Trace) (q : ℕ) → out_after (step.Next p) (reply.Gave (given_by result)) q (printer_at (spool_after old.core.config t) q).out ≡ (printer_at (spool_after old.core.config t) q).out)
-      → Steps old (step.Next p) (reply.Gave said) (record old { core = core })
-  given_step result said core is right stays still t l =
-      let same = stays t (right Octets first_base (events old.core.config t) l.core) in
-      let hands = subst (λ (k : Kept). Hands Octets first_base (events old.core.config t) old.core p k result) same (right Octets first_base (events old.core.config t) l.core) in
-      subst (λ (g : Given). Rattle.spool_trace.specs.Replies.IsReply old.core.config t (step.Next p) (reply.Gave g) × Leads (Rattle.spool_world.specs.Worlds.entry (step.Next p) (reply.Gave g) ∷ t) (record old { core = core })) (sym is)
-      (nothing t old (record old { core = core }) (step.Next p) (reply.Gave (given_by result)) l (ap (λ (k : Kept). record old { core = k }) same)
-      (next_follows first_base (events old.core.config t) old.core old.core (sessions t) (stood t old.core l refl) p result ip hands) refl (still t))
+  given_step : (q : Next) (core : Kept) → IsQuiet q → IsRight old.core (λ d b h. Hands d b h old.core p core q)
+      → Steps old (step.Next p) (reply.Gave (given_by q)) (record old { core = core })
+  given_step q core is right t l =
+      let hands = right Octets first_base (events old.core.config t) l.core in
+      let same = quiet_core q core t is hands in
+      nothing t old (record old { core = core }) (step.Next p) (reply.Gave (given_by q)) l (ap (λ (k : Kept). record old { core = k }) same)
+      (next_follows first_base (events old.core.config t) old.core old.core (sessions t) (stood t old.core l refl) p q ip (subst (λ (k : Kept). Hands Octets first_base (events old.core.config t) old.core p k q) same hands)) refl
+      (λ printer. quiet_out q printer (printer_at (spool_after old.core.config t) printer).out is)
 
   -- the page at a printer is its own
   its : (t : Trace) (page : HandedPage) (out : Option (Sheet (List ℕ))) → (printer_at (spool_after old.core.config t) p).out ≡ out → IsOut size (Some page) out → IsItsPage first_base (events old.core.config t) old.core p page
@@ -90,6 +108,16 @@ module _ (old : Worlds) (p : ℕ) (ip : IsPrinter old.core.config p) (few : leng
       (λ q iq.
       let was = (printer_at (spool_after old.core.config t) q).out in
       subst (IsOut size (get_or new.pages (q - 1) None)) (sym (outs q was)) (changed q None was None iq tt (l.printers q iq))))
+
+-- no page was handed out, by what is seen of the world
+pub quiet_step : {now seen new : Worlds} {p : ℕ} {core : Kept} {result q : Next} {said : Given} → IsPrinter seen.core.config p → length seen.pages ≡ printer_count seen.core.config
+    → seen ≡ now → result ≡ q → IsQuiet q → said ≡ given_by q → new ≡ record seen { core = core } → IsRight seen.core (λ d b h. Hands d b h seen.core p core result)
+    → Steps now (step.Next p) (reply.Gave said) new
+quiet_step {now} {seen} {new} {p} {core} {result} {q} {said} ip few view is quiet given self right =
+    at_view seen now new (step.Next p) (reply.Gave said) view
+    (subst (λ (w : Worlds). Steps seen (step.Next p) (reply.Gave said) w) (sym self)
+    (replied seen (record seen { core = core }) (step.Next p) (reply.Gave said) (reply.Gave (given_by q)) (ap (λ (g : Given). reply.Gave g) given)
+    (given_step seen p ip few q core quiet (subst (λ (x : Next). IsRight seen.core (λ d b h. Hands d b h seen.core p core x)) is right))))
 
 -- the core where the page of a printer was taken
 at_core : (old mid : Worlds) (p : ℕ) (P : Kept → Type 0) → mid ≡ without_page old p → P mid.core → P old.core

@@ -27,6 +27,10 @@ pub record Worlds : Type 0 where
   pub connections : List Connection
   pub pages : List (Option HandedPage)
 
+-- the page that a printer has
+abbrev pub page_at : Worlds → ℕ → Option HandedPage
+page_at w p = get_or w.pages (p - 1) None
+
 -- the page in the words of histories
 abbrev pub sheet_of : HandedPage → Sheet (List ℕ)
 sheet_of page = record {
@@ -53,7 +57,7 @@ pub record LeadsIn (c : Config) (t : Trace) (w : Worlds) : Type 0 where
   pub connections : (i : ℕ) (other : Connection) → i < length w.connections →
       Stands c.page_size (get_or w.connections i other) (session_at (sessions t) (i + 1))
   pub printers : (p : ℕ) → IsPrinter c p →
-      IsOut c.page_size (get_or w.pages (p - 1) None) (printer_at (spool_after c t) p).out
+      IsOut c.page_size (page_at w p) (printer_at (spool_after c t) p).out
 
 abbrev pub Leads : Trace → Worlds → Type 0
 Leads t w = LeadsIn w.core.config t w
@@ -86,10 +90,6 @@ abbrev pub AddsConnection : (old : Worlds) → ℕ → (new : Worlds) → Type 0
 AddsConnection old sender new =
     (k : Connection) × IsNew sender k
     × (new ≡ record old { connections = old.connections ++ k ∷ [] })
-
--- the page that a printer has
-abbrev pub page_at : Worlds → ℕ → Option HandedPage
-page_at w p = get_or w.pages (p - 1) None
 
 -- a page is at a printer
 abbrev pub with_page : Worlds → ℕ → HandedPage → Worlds

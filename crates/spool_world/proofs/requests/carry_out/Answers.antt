@@ -15,7 +15,7 @@ of_need : {old new : Kept} {sender job : ℕ} {request need : Need} {q : Request
     → request ≡ need → outputs need ≡ script.Asked q ∷ [] → outputs request ≡ script.Asked r ∷ []
     → (BeginsSome q → Carries old new sender job q answer page) → BeginsSome r → Carries old new sender job r answer page
 of_need {old} {new} {sender} {job} {request} {need} {q} {answer} {page} r is eq er f =
-    carried old new sender job q r answer page (sym eq ∙ (ap outputs (sym is) ∙ er)) f
+    carried q r answer page (sym eq ∙ (ap outputs (sym is) ∙ er)) f
 
 pub returns-in-Queue-clause-answer : goal.returns-in-Queue-clause-answer
 returns-in-Queue-clause-answer c r e =

@@ -1,9 +1,7 @@
 use Rattle.std.proofs.Common.{ℕ, List, Result, Ok, Err, subst}
-use Rattle.receiver.specs.Script as script
 use Rattle.spool_calls.specs.Calls.{IsRight}
 use Rattle.lpd_values.specs.declared.refusal.Refusal.{Refusal}
 use Rattle.spool_calls.specs.Calls.{Opens}
-use Rattle.spool_requests.specs.Follows.{opened_by}
 use Rattle.spool_world.proofs.Answers.{open_carried, plain}
 use Rattle.spool_world.proofs.requests.open.Goals as goal
 
@@ -11,8 +9,8 @@ pub returns-in-Ok-clause-answer : goal.returns-in-Ok-clause-answer
 returns-in-Ok-clause-answer c job =
     let old = c.args.core.now in
     let new = c.open.new.self in
-    plain old new c.args.sender job (script.Open c.args.queue) (opened_by (Ok c.in-Ok.job)) c.of.result.answer c.of.result.page c.of.ensures.answer c.of.ensures.page
-    (open_carried old new c.args.sender job c.args.queue (Ok c.in-Ok.job) c.open.ensures.config
+    plain c.of.ensures.answer c.of.ensures.page
+    (open_carried c.args.queue (Ok c.in-Ok.job) c.open.ensures.config
     (subst (λ (x : Result ℕ Refusal). IsRight old (λ d b h. Opens d b h old c.args.sender c.args.queue new x)) c.in-Ok.is
     (subst (λ (name : List ℕ). IsRight old (λ d b h. Opens d b h old c.args.sender name new c.open.result)) c.as_slice.ensures c.open.ensures.answer)))
 
@@ -20,7 +18,7 @@ pub returns-clause-answer : goal.returns-clause-answer
 returns-clause-answer c job =
     let old = c.args.core.now in
     let new = c.open.new.self in
-    plain old new c.args.sender job (script.Open c.args.queue) (opened_by (Err c.in-Err.refusal)) c.of-in-Err.result.answer c.of-in-Err.result.page c.of-in-Err.ensures.answer c.of-in-Err.ensures.page
-    (open_carried old new c.args.sender job c.args.queue (Err c.in-Err.refusal) c.open.ensures.config
+    plain c.of-in-Err.ensures.answer c.of-in-Err.ensures.page
+    (open_carried c.args.queue (Err c.in-Err.refusal) c.open.ensures.config
     (subst (λ (x : Result ℕ Refusal). IsRight old (λ d b h. Opens d b h old c.args.sender c.args.queue new x)) c.in-Err.is
     (subst (λ (name : List ℕ). IsRight old (λ d b h. Opens d b h old c.args.sender name new c.open.result)) c.as_slice.ensures c.open.ensures.answer)))

@@ -1,10 +1,8 @@
 use Rattle.std.proofs.Common.{[], Some, None, Result, Ok, Err, refl, subst, ap, ◌∙◌}
-use Rattle.receiver.specs.Script as script
 use Rattle.spool_calls.specs.Calls.{IsRight}
 use Rattle.page_pool.specs.Page.{Page}
 use Rattle.spool_calls.specs.declared.answers.ReturnedPage.{ReturnedPage}
 use Rattle.spool_calls.specs.Calls.{Puts}
-use Rattle.spool_requests.specs.Follows.{put_by}
 use Rattle.spool_world.proofs.Answers.{plain, put_carried}
 use Rattle.spool_world.proofs.requests.put.Goals as goal
 
@@ -13,8 +11,8 @@ returns-in-Ok-clause-answer c sender =
     let old = c.args.core.now in
     let new = c.put.new.self in
     let job = c.args.job in
-    plain old new sender job (script.Filled c.args.page) (put_by (Ok c.in-Ok.field-0)) c.of.result.answer c.of.result.page c.of.ensures.answer c.of.ensures.page
-    (put_carried old new sender job c.args.page (Ok c.in-Ok.field-0) None c.put.ensures.config
+    plain c.of.ensures.answer c.of.ensures.page
+    (put_carried c.args.page (Ok c.in-Ok.field-0) None c.put.ensures.config
     (subst (λ (x : Result (Unit {0}) ReturnedPage). IsRight old (λ d b h. Puts d b h old job c.args.page new x)) c.in-Ok.is c.put.ensures.answer)
     (λ d b h p. refl))
 
@@ -23,6 +21,6 @@ returns-in-Err-clause-answer c sender =
     let old = c.args.core.now in
     let new = c.put.new.self in
     let job = c.args.job in
-    put_carried old new sender job c.args.page (Err c.in-Err.field-0) (Some c.unseal.result) c.put.ensures.config
+    put_carried c.args.page (Err c.in-Err.field-0) (Some c.unseal.result) c.put.ensures.config
     (subst (λ (x : Result (Unit {0}) ReturnedPage). IsRight old (λ d b h. Puts d b h old job c.args.page new x)) c.in-Err.is c.put.ensures.answer)
     (λ d b h p. ap (λ (x : Page). Some x) (c.unseal.ensures ∙ ap (λ (x : Page). record x { octets = [] }) p.2))

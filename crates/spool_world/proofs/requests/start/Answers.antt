@@ -1,8 +1,6 @@
 use Rattle.std.proofs.Common.{ℕ, List, subst}
-use Rattle.receiver.specs.Script as script
 use Rattle.spool_calls.specs.Calls.{IsRight}
 use Rattle.spool_calls.specs.Calls.{Starts}
-use Rattle.spool_requests.specs.Follows.{done_by}
 use Rattle.spool_world.proofs.Answers.{plain, start_carried}
 use Rattle.spool_world.proofs.requests.start.Goals as goal
 
@@ -10,6 +8,6 @@ pub returns-clause-answer : goal.returns-clause-answer
 returns-clause-answer c sender job =
     let old = c.args.core.now in
     let new = c.start.new.self in
-    plain old new sender job (script.StartPrinters c.args.queue) (done_by c.start.result) c.done.result.answer c.done.result.page c.done.ensures.answer c.done.ensures.page
-    (start_carried old new sender job c.args.queue c.start.result c.start.ensures.config
+    plain c.done.ensures.answer c.done.ensures.page
+    (start_carried c.args.queue c.start.result c.start.ensures.config
     (subst (λ (name : List ℕ). IsRight old (λ d b h. Starts d b h old name new c.start.result)) c.as_slice.ensures c.start.ensures.answer))

@@ -2,7 +2,6 @@ use Rattle.std.proofs.Common.{refl, subst, sym, arith, ap, ◌∙◌}
 use Rattle.std.specs.Vec.{vec_capacity}
 use Rattle.config_values.specs.Config.{Config, IsPrinter}
 use Rattle.spool_calls.specs.declared.answers.Next.{Next}
-use Rattle.spool_calls.specs.declared.answers.Next.TheVariants as next
 use Rattle.spool_calls.specs.Looks.Detail.{Outlines}
 use Rattle.spool_calls.specs.Calls.{IsRight, Hands, sheet_of}
 use Rattle.spool_trace.specs.declared.reply.Reply.TheVariants as reply
@@ -14,7 +13,7 @@ use Rattle.spool_world.specs.Worlds.{Worlds, with_page}
 use Rattle.spool_world.specs.Inside.{world_view}
 use Rattle.spool_world.proofs.Ends.{true_false}
 use Rattle.spool_world.proofs.Leading.{at_view}
-use Rattle.spool_world.proofs.Printing.{given_step, handed_step}
+use Rattle.spool_world.proofs.Printing.{handed_step, quiet_step}
 use Rattle.spool_world.proofs.world.World.next.Goals as goal
 use Rattle.spool_world.proofs.world.World.next.Goals.{in-Handed, in-Nothing, in-Stopped, in-Busy, in-Closed, then-has_next+in-Ok, else-has_next}
 
@@ -42,20 +41,8 @@ returns-clause-step c =
           (subst (λ (x : Worlds). Rattle.spool_world.specs.Worlds.Steps old (step.Next p) (reply.Gave c.match-next.given) x) (sym (w.self-is ∙ w.put_at.ensures))
           (subst (λ (x : Given). Rattle.spool_world.specs.Worlds.Steps old (step.Next p) (reply.Gave x) (with_page (record old { core = core }) p page)) (sym (w.given-is ∙ ap (λ (x : ShownPage). given.Page x) w.shown-shown.ensures))
           (handed_step old p ip c.self.invariant page core c.next.ensures.config (subst (λ (x : Next). IsRight old.core (λ d b h. Hands d b h old.core p core x)) w.in-Handed.is right))))
-      | in-Nothing w ↦
-          at_view old c.args.self.now c.match-next.self (step.Next p) (reply.Gave c.match-next.given) c.self.view_is
-          (subst (λ (x : Worlds). Rattle.spool_world.specs.Worlds.Steps old (step.Next p) (reply.Gave c.match-next.given) x) (sym w.self-is)
-          (given_step old p ip c.self.invariant next.Nothing c.match-next.given core w.given-is (subst (λ (x : Next). IsRight old.core (λ d b h. Hands d b h old.core p core x)) w.in-Nothing.is right) (λ t hands. hands.1) (λ t q. refl)))
-      | in-Stopped w ↦
-          at_view old c.args.self.now c.match-next.self (step.Next p) (reply.Gave c.match-next.given) c.self.view_is
-          (subst (λ (x : Worlds). Rattle.spool_world.specs.Worlds.Steps old (step.Next p) (reply.Gave c.match-next.given) x) (sym w.self-is)
-          (given_step old p ip c.self.invariant next.Stopped c.match-next.given core w.given-is (subst (λ (x : Next). IsRight old.core (λ d b h. Hands d b h old.core p core x)) w.in-Stopped.is right) (λ t hands. hands.1) (λ t q. refl)))
-      | in-Busy w ↦
-          at_view old c.args.self.now c.match-next.self (step.Next p) (reply.Gave c.match-next.given) c.self.view_is
-          (subst (λ (x : Worlds). Rattle.spool_world.specs.Worlds.Steps old (step.Next p) (reply.Gave c.match-next.given) x) (sym w.self-is)
-          (given_step old p ip c.self.invariant next.Busy c.match-next.given core w.given-is (subst (λ (x : Next). IsRight old.core (λ d b h. Hands d b h old.core p core x)) w.in-Busy.is right) (λ t hands. hands.1) (λ t q. refl)))
-      | in-Closed w ↦
-          at_view old c.args.self.now c.match-next.self (step.Next p) (reply.Gave c.match-next.given) c.self.view_is
-          (subst (λ (x : Worlds). Rattle.spool_world.specs.Worlds.Steps old (step.Next p) (reply.Gave c.match-next.given) x) (sym w.self-is)
-          (given_step old p ip c.self.invariant next.Closed c.match-next.given core w.given-is (subst (λ (x : Next). IsRight old.core (λ d b h. Hands d b h old.core p core x)) w.in-Closed.is right) (λ t hands. hands.1) (λ t q. refl)))
+      | in-Nothing w ↦ quiet_step ip c.self.invariant c.self.view_is w.in-Nothing.is tt w.given-is w.self-is right
+      | in-Stopped w ↦ quiet_step ip c.self.invariant c.self.view_is w.in-Stopped.is tt w.given-is w.self-is right
+      | in-Busy w ↦ quiet_step ip c.self.invariant c.self.view_is w.in-Busy.is tt w.given-is w.self-is right
+      | in-Closed w ↦ quiet_step ip c.self.invariant c.self.view_is w.in-Closed.is tt w.given-is w.self-is right
     ]
