@@ -1,5 +1,6 @@
 -- A job that comes alone to a spool which has room for it, and what its session is answered.
-use Rattle.std.specs.Prelude.{◌≡◌, ◌≢◌, ◌⊎◌, ◌≤◌, ◌+◌, ◌*◌, ℕ, true, false, List, [], ◌∷◌, ◌++◌, All, Contains, Option, Some, length, map, replicate, sum_by}
+use Rattle.std.specs.Prelude.{◌≡◌, ◌≢◌, ◌⊎◌, ◌≤◌, ◌+◌, ◌*◌, ℕ, true, false, ◌∷◌, ◌++◌}
+use Rattle.std.specs.Prelude.{List, [], All, Contains, Option, Some, length, map, replicate, sum_by}
 use Rattle.lpd_values.specs.Kept.{is_among}
 use Rattle.control_file.specs.Written.{control_text}
 use Rattle.control_file.specs.View.{contents}
@@ -53,8 +54,8 @@ abbrev pub pages_of_files : ℕ → List DataFile → ℕ
 pages_of_files z files = sum_by (λ (file : DataFile). pages_for z (length file.octets)) files
 
 -- After this trace a spool holds no job and has room for this one: it isn't closed, it knows the queue, the account has
--- room for one more job of it and a number for that is left, and the job can be sent; the names of its files differ, each
--- name that it prints is one of them, and all its files together take no more pages than a job of the queue may hold.
+-- room for one more job of it and a number for that is left. The job can be sent; the names of its files differ, each name
+-- that it prints is one of them, and all its files take no more pages together than a job of the queue may hold.
 pub record HasRoomFor (c : Config) (t : Trace) (job : Sent) : Type 0 where
   pub config : IsConfig c
   pub trace : IsTrace c t
@@ -145,5 +146,6 @@ pub record IsTaken (c : Config) (job : Sent) (n : ℕ) (all : Trace) : Type 0 wh
 -- where all octets have arrived and the session waits for more, the job was taken
 abbrev pub LoneJobsAreTaken : Type 0
 LoneJobsAreTaken =
-    (c : Config) (t : Trace) (job : Sent) (sender n : ℕ) (more : Trace) → (comes : ComesAlone c t job sender n more) → comes.coming ≡ [] →
-    due_in (session_at (sessions (more ++ connected sender n ∷ t)) n) ≡ Waits → IsTaken c job n (more ++ connected sender n ∷ t)
+    (c : Config) (t : Trace) (job : Sent) (sender n : ℕ) (more : Trace) → (comes : ComesAlone c t job sender n more) →
+    comes.coming ≡ [] → due_in (session_at (sessions (more ++ connected sender n ∷ t)) n) ≡ Waits →
+    IsTaken c job n (more ++ connected sender n ∷ t)
