@@ -1,6 +1,7 @@
 -- How the files of a job are named.
-use Rattle.std.specs.Prelude.{◌≡◌, ℕ, List, [], ◌∷◌, ◌++◌, ◌+◌, ◌-◌, ◌/◌, ◌%◌, if◌then◌else◌, nat_lt, length, map, zero, suc, codes}
+use Rattle.std.specs.Prelude.{◌≡◌, ◌==◌, ◌&&◌, ◌||◌, ℕ, Bool, slice_index, List, [], ◌∷◌, ◌++◌, ◌+◌, ◌-◌, ◌/◌, ◌%◌, if◌then◌else◌, nat_lt, length, zero, suc, codes}
 use Rattle.lpd_values.specs.Contents.{Contents}
+use Rattle.lpd_values.specs.Kinds.{is_letter}
 use Rattle.control_file.specs.View.{contents}
 use Rattle.lpd_words.specs.declared.words.Sending.{Sending}
 use Rattle.lpd_words.specs.declared.envelope.Envelope.{Envelope}
@@ -11,6 +12,12 @@ letter_of place = if nat_lt place 26 then 65 + place else 97 + (place - 26)
 
 abbrev pub three_digits : ℕ → List ℕ
 three_digits n = (48 + n / 100) ∷ (48 + n / 10 % 10) ∷ (48 + n % 10) ∷ []
+
+-- how the name of a file begins: c or d, then f, then a letter
+abbrev pub is_head : List ℕ → Bool
+is_head head =
+    (slice_index head 0 == 99 || slice_index head 0 == 100)
+    && (slice_index head 1 == 102 && is_letter (slice_index head 2))
 
 -- the name with this head, of a job of this number and host
 abbrev pub file_name : List ℕ → ℕ → List ℕ → List ℕ

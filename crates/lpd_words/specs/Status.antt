@@ -1,5 +1,5 @@
 -- The exit status of each fault.
-use Rattle.std.specs.Prelude.{◌≡◌, ◌⊎◌, ◌≤◌, ℕ, Result, Ok, Err}
+use Rattle.std.specs.Prelude.{ℕ, Result, Ok, Err}
 use Rattle.lpr_client.specs.declared.send.SendFault.{SendFault}
 use Rattle.lpr_client.specs.declared.send.SendFault.TheVariants as send
 use Rattle.lpd_script.specs.Status as script

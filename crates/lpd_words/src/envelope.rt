@@ -1,7 +1,8 @@
 //! What is known of a job before its files are read.
 
-ghost use Rattle.std.specs.Prelude.{◌≤◌, [], IsTrue, length};
+ghost use Rattle.std.specs.Prelude.{◌≡◌, ◌≤◌, [], IsTrue, length};
 ghost use Rattle.lpd_values.specs.declared.limits.TheConstants.{MAX_FILES};
+ghost use Rattle.lpd_words.specs.declared.envelope.EnvelopeFault.TheVariants as envelope;
 ghost use Rattle.lpr_client.specs.Sendable.{is_sendable};
 
 use lpr_client::{Control, FileName, Octets};
@@ -24,7 +25,7 @@ pub struct Envelope {
 /// Why words name no job.
 #[derive(Clone, Copy, Debug, PartialEq, Eq, Error)]
 pub enum EnvelopeFault {
-    /// The queue, or the host and the user together, can't be sent.
+    /// The queue is no word of 1 to 1,022 octets.
     #[error("QUEUE isn't 1 to 1022 octets without white space")]
     Queue,
     /// The host is no part of a file name.
@@ -48,12 +49,16 @@ pub enum EnvelopeFault {
 }
 
 impl From<AllocError> for EnvelopeFault {
+    ghost from_gives = { λ _ fault. fault ≡ envelope.Memory };
+
     fn from(_error: AllocError) -> EnvelopeFault {
         EnvelopeFault::Memory
     }
 }
 
 impl<T: Drop> From<AllocFailed<T>> for EnvelopeFault {
+    ghost from_gives = { λ _ fault. fault ≡ envelope.Memory };
+
     fn from(_error: AllocFailed<T>) -> EnvelopeFault {
         EnvelopeFault::Memory
     }

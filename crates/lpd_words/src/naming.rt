@@ -1,12 +1,13 @@
 //! How the files of a job are named.
 
-ghost use Rattle.std.specs.Prelude.{◌≡◌, ◌<◌, ◌≤◌, ◌∷◌, ◌++◌, [], IsTrue, IfOk, length, map};
+ghost use Rattle.std.specs.Prelude.{◌≡◌, ◌<◌, ◌≤◌, ◌∷◌, ◌++◌, [], IsTrue, IfOk, IfErr, length, map};
 ghost use Rattle.std.specs.List.{list_all};
 ghost use Rattle.control_file.specs.View.{contents};
 ghost use Rattle.lpd_values.specs.Kept.{is_line_feed, is_operand, is_operand_len, is_print_list};
 ghost use Rattle.lpd_values.specs.Name.{is_data_name};
 ghost use Rattle.lpd_values.specs.Pieces.{is_kept};
-ghost use Rattle.lpd_words.specs.Naming.{IsEnvelope, data_names, file_name, letter_of, said_of, three_digits};
+ghost use Rattle.lpd_words.specs.Naming.{IsEnvelope, data_names, file_name, is_head, letter_of, said_of, three_digits};
+ghost use Rattle.lpd_words.specs.Refused.{IsHostFault, IsWrong};
 
 use crate::envelope::{Envelope, EnvelopeFault};
 use crate::words::Sending;
@@ -43,8 +44,10 @@ fn file_name(
     number: u16,
     host: &[u8],
 ) -> Result<FileName, EnvelopeFault>
-    requires { number ≤ 999 }
-    ensures { IfOk result (λ name. name ≡ file_name head number host.now) }
+    requires head { IsTrue (is_head head) }
+    requires number { number ≤ 999 }
+    ensures name { IfOk result (λ name. name ≡ file_name head number host.now) }
+    ensures fault { IfErr result (IsHostFault host.now) }
 {
     let mut octets = Vec::from_slice(alloc, &head)?;
     octets.extend_from_slice(&three_digits(number))?;
@@ -66,6 +69,8 @@ fn data_names(
     requires number { number ≤ 999 }
     ensures names { IfOk result (λ names. names ≡ data_names count number host.now) }
     ensures count { IfOk result (λ names. length names ≡ count) }
+    ensures named { IfOk result (λ names. IsTrue (list_all is_data_name names)) }
+    ensures fault { IfErr result (IsHostFault host.now) }
 {
     let mut names = FileNames::new(alloc);
     for place in 0..count {
@@ -119,6 +124,7 @@ fn is_print_list(names: &FileNames) -> bool
 fn control_of(alloc: Global, sending: &Sending) -> Result<Control, EnvelopeFault>
     ensures said { IfOk result (λ control. contents control ≡ said_of sending.now) }
     ensures few { IfOk result (λ control. length control.prints ≤ MAX_FILES) }
+    ensures fault { IfErr result (IsWrong sending.now) }
 {
     if sending.number > 999 {
         return Err(EnvelopeFault::Number);
@@ -152,7 +158,8 @@ impl Envelope {
     /// them, `Host` for one that isn't 1 to 120 octets of words, `User` for one that isn't 1 to 255 octets without
     /// LF, `Queue` for one that isn't 1 to 1,022 octets of words, and `Memory`.
     pub fn new(alloc: Global, sending: &Sending) -> Result<Envelope, EnvelopeFault>
-        ensures { IfOk result (λ envelope. IsEnvelope sending.now envelope) }
+        ensures envelope { IfOk result (λ envelope. IsEnvelope sending.now envelope) }
+        ensures fault { IfErr result (IsWrong sending.now) }
     {
         let control = control_of(alloc, sending)?;
         let name = file_name(alloc, *b"cfA", sending.number, sending.host.as_bytes())?;

@@ -1,11 +1,12 @@
 //! What the words ask for is done.
 
-ghost use Rattle.std.specs.Prelude.{◌≡◌, ◌≢◌, ◌≤◌, OnOk, IfOk};
+ghost use Rattle.std.specs.Prelude.{◌≡◌, ◌≢◌, ◌≤◌, OnOk, IfOk, map, string_bytes};
 ghost use Rattle.lpd_commands.specs.Ends.{Writes};
 ghost use Rattle.lpd_script.specs.Streams.{IsUntouched};
 ghost use Rattle.lpd_words.specs.Naming.{sent_line};
 ghost use Rattle.lpd_words.specs.Order.{write_faults};
 ghost use Rattle.lpd_words.specs.Status.{end_status};
+ghost use Rattle.lpd_words.specs.Refused.{IsRefused, IsTaken};
 ghost use Rattle.lpd_words.specs.Unread.{IsUnreadStatus};
 
 use crate::envelope::Envelope;
@@ -111,6 +112,8 @@ pub fn run<R: Files + Net, I: OctetRead, W: OctetWrite, E: OctetWrite>(
     faults: &mut E,
 ) -> u8
     ensures status { result ≤ 5 }
+    ensures taken { result ≡ 0 → IsTaken (map string_bytes words.now) }
+    ensures refused { result ≡ 1 → IsRefused (map string_bytes words.now) }
     ensures write_fault { W.faults output.new ≢ W.faults output.old → result ≡ 4 }
     ensures read_fault { I.faults input.new ≢ I.faults input.old → result ≡ 4 }
     ensures quiet { result ≡ 0 → IsUntouched (E.written faults.old) (E.faults faults.old)

@@ -1,14 +1,17 @@
 //! What the words ask for.
 
-ghost use Rattle.std.specs.Prelude.{IfOk, map, string_bytes};
-ghost use Rattle.clap.specs.Words.{first_value, found_of, subcommand_of, subcommand_rows_of};
-ghost use Rattle.lpd_words.specs.Asked.{IsAsked, IsAskedBy, IsSending};
+ghost use Rattle.std.specs.Prelude.{◌≡◌, [], IfOk, IfErr, None, Some, map, string_bytes};
+ghost use Rattle.clap.specs.Words.{all_of, fault_of, first_of, found_of, kind_of, rows_of, subcommand_of, subcommand_rows_of};
+ghost use Rattle.lpd_words.specs.Asked.{HasNoNumber, IsAsked, IsAskedBy, IsNumber, IsSending};
 ghost use Rattle.lpd_words.specs.CommandLine.{command_line};
+ghost use Rattle.lpd_words.specs.declared.envelope.EnvelopeFault.TheVariants.{Missing};
+ghost use Rattle.lpd_words.specs.declared.words.Unread.TheVariants.{Memory};
+ghost use Rattle.lpd_words.specs.Refused.{AsksNothing, IsUnread, IsUnreadBy, IsUnreadFor, LacksWords};
 
 use crate::command::command;
 use crate::envelope::{Envelope, EnvelopeFault};
 use clap::error::ErrorKind;
-use clap::{ArgMatches, Error};
+use clap::{ArgMatches, Command, Error};
 use std::alloc::{AllocError, Global};
 use std::env::Env;
 use std::io;
@@ -63,13 +66,17 @@ pub enum Unread {
 }
 
 impl From<AllocError> for Unread {
+    ghost from_gives = { λ _ unread. unread ≡ Memory };
+
     fn from(_error: AllocError) -> Unread {
         Unread::Memory
     }
 }
 
 /// Why the words weren't read, with the text for the user.
-fn why_unread(alloc: Global, error: &Error) -> Unread {
+fn why_unread(alloc: Global, error: &Error) -> Unread
+    ensures { IsUnreadBy (kind_of error.now) result }
+{
     if error.kind() == ErrorKind::OutOfMemory {
         return Unread::Memory;
     }
@@ -80,32 +87,54 @@ fn why_unread(alloc: Global, error: &Error) -> Unread {
     }
 }
 
+/// The text of a word, which has to be there.
+fn text_of<'a>(matches: &ArgMatches<'a>, id: &str) -> Result<&'a str, EnvelopeFault>
+    ensures text { IfOk result (λ text.
+        first_of id.now (rows_of (found_of matches.now)) ≡ Some text.now) }
+    ensures fault { IfErr result (λ fault. (fault ≡ Missing)
+        × (first_of id.now (rows_of (found_of matches.now)) ≡ None)) }
+{
+    matches.get_str(id).ok_or(EnvelopeFault::Missing)
+}
+
+/// The texts of a word that may stand several times, and has to be there.
+fn texts_of<'a, 'm>(matches: &'m ArgMatches<'a>, id: &str) -> Result<&'m [&'a str], EnvelopeFault>
+    ensures texts { IfOk result (λ texts.
+        all_of id.now (rows_of (found_of matches.now)) ≡ Some (map (λ text. text.now) texts.now)) }
+    ensures fault { IfErr result (λ fault. (fault ≡ Missing)
+        × (all_of id.now (rows_of (found_of matches.now)) ≡ None)) }
+{
+    matches.get_strs(id).ok_or(EnvelopeFault::Missing)
+}
+
+/// The number that a word is, which has to be there.
+fn number_of(matches: &ArgMatches, id: &str) -> Result<u16, EnvelopeFault>
+    ensures number { IfOk result (IsNumber (rows_of (found_of matches.now)) id.now) }
+    ensures fault { IfErr result (λ fault. (fault ≡ Missing)
+        × HasNoNumber (rows_of (found_of matches.now)) id.now) }
+{
+    matches.get_one::<u16>(id).ok_or(EnvelopeFault::Missing)
+}
+
 /// What words say of a job that is to be sent.
 fn sending_of<'a>(alloc: Global, matches: &ArgMatches<'a>) -> Result<Sending<'a>, EnvelopeFault>
-    ensures { IfOk result (IsSending (first_value (found_of matches.now))) }
+    ensures read { IfOk result (IsSending (rows_of (found_of matches.now))) }
+    ensures fault { IfErr result (LacksWords (rows_of (found_of matches.now))) }
 {
-    let numbers = (
-        matches.get_one::<u16>("port"),
-        matches.get_one::<u16>("number"),
-    );
-    let names = (
-        matches.get_str("queue"),
-        matches.get_str("host"),
-        matches.get_str("user"),
-    );
-    match (numbers, names, matches.get_strs("file")) {
-        ((Some(port), Some(number)), (Some(queue), Some(host), Some(user)), Some(files)) => {
-            Ok(Sending {
-                port,
-                queue,
-                number,
-                host,
-                user,
-                files: Vec::from_slice(alloc, files)?,
-            })
-        }
-        _ => Err(EnvelopeFault::Missing),
-    }
+    let port = number_of(matches, "port")?;
+    let queue = text_of(matches, "queue")?;
+    let number = number_of(matches, "number")?;
+    let host = text_of(matches, "host")?;
+    let user = text_of(matches, "user")?;
+    let files = texts_of(matches, "file")?;
+    Ok(Sending {
+        port,
+        queue,
+        number,
+        host,
+        user,
+        files: Vec::from_slice(alloc, files)?,
+    })
 }
 
 /// What a command and its words ask for.
@@ -114,13 +143,20 @@ fn asked_by<'a>(
     name: &str,
     matches: &ArgMatches<'a>,
 ) -> Result<Asked<'a>, EnvelopeFault>
-    ensures { IfOk result (IsAskedBy name.now (first_value (found_of matches.now))) }
+    ensures asked { IfOk result (IsAskedBy name.now (rows_of (found_of matches.now))) }
+    ensures fault { IfErr result (AsksNothing (Some (name.now, rows_of (found_of matches.now)))) }
 {
-    let (config, script) = (matches.get_str("config"), matches.get_str("script"));
-    match (name, config, script) {
-        ("check", Some(config), _) => Ok(Asked::Check { config }),
-        ("replay", Some(config), Some(script)) => Ok(Asked::Replay { config, script }),
-        ("send", _, _) => {
+    match name {
+        "check" => {
+            let config = text_of(matches, "config")?;
+            Ok(Asked::Check { config })
+        }
+        "replay" => {
+            let config = text_of(matches, "config")?;
+            let script = text_of(matches, "script")?;
+            Ok(Asked::Replay { config, script })
+        }
+        "send" => {
             let sending = sending_of(alloc, matches)?;
             let envelope = Envelope::new(alloc, &sending)?;
             Ok(Asked::Send { sending, envelope })
@@ -131,7 +167,8 @@ fn asked_by<'a>(
 
 /// What a parse of the words asks for.
 fn asked_of<'a>(alloc: Global, matches: &ArgMatches<'a>) -> Result<Asked<'a>, EnvelopeFault>
-    ensures { IfOk result (IsAsked (subcommand_rows_of matches.now)) }
+    ensures asked { IfOk result (IsAsked (subcommand_rows_of matches.now)) }
+    ensures fault { IfErr result (AsksNothing (subcommand_rows_of matches.now)) }
 {
     match matches.subcommand() {
         Some((name, inner)) => asked_by(alloc, name, inner),
@@ -139,10 +176,30 @@ fn asked_of<'a>(alloc: Global, matches: &ArgMatches<'a>) -> Result<Asked<'a>, En
     }
 }
 
+/// Why words that `clap` reads ask for nothing, with the text for the user.
+fn why_nothing(
+    alloc: Global,
+    command: &mut Command,
+    fault: EnvelopeFault,
+) -> Result<Unread, AllocError>
+    ensures { IfOk result (IsUnreadFor fault) }
+{
+    if let EnvelopeFault::Memory = fault {
+        return Ok(Unread::Memory);
+    }
+    let why = format!(in alloc; "{fault}")?;
+    let error = command.error(ErrorKind::ValueValidation, why.as_str())?;
+    Ok(why_unread(alloc, &error))
+}
+
 /// Reads the words, of which the first is the program's name. `Shown` has the text of `--help` or `--version` where
 /// they ask for that, `Refused` what is wrong and how the program is used.
 pub fn read_words<'a>(alloc: Global, words: &'a [String]) -> Result<Asked<'a>, Unread>
-    ensures { IfOk result (IsAsked (subcommand_of command_line (map string_bytes words.entry.now))) }
+    ensures asked { IfOk result (IsAsked
+        (subcommand_of command_line (map string_bytes words.entry.now))) }
+    ensures taken { IfOk result (λ _.
+        fault_of command_line (map string_bytes words.entry.now) ≡ []) }
+    ensures unread { IfErr result (IsUnread (map string_bytes words.entry.now)) }
 {
     let mut command = command(alloc)?;
     let matches = match command.try_get_matches_from_mut(words) {
@@ -151,12 +208,7 @@ pub fn read_words<'a>(alloc: Global, words: &'a [String]) -> Result<Asked<'a>, U
     };
     match asked_of(alloc, &matches) {
         Ok(asked) => Ok(asked),
-        Err(EnvelopeFault::Memory) => Err(Unread::Memory),
-        Err(fault) => {
-            let why = format!(in alloc; "{fault}")?;
-            let error = command.error(ErrorKind::ValueValidation, why.as_str())?;
-            Err(why_unread(alloc, &error))
-        }
+        Err(fault) => Err(why_nothing(alloc, &mut command, fault)?),
     }
 }
 

@@ -1,4 +1,6 @@
-use Rattle.std.proofs.Common.{◌≡◌, length}
+use Rattle.std.proofs.Common.{◌≡◌, IsTrue, length}
+use Rattle.std.specs.List.{list_all}
+use Rattle.lpd_values.specs.Name.{is_data_name}
 use Rattle.lpd_words.specs.Naming.{data_names}
 use Rattle.lpd_words.proofs.naming.data_names.Given as goal
 
@@ -6,4 +8,5 @@ abbrev pub invariant-loop-place : goal.invariant-loop-place
 invariant-loop-place l = record {
   names : l.names ≡ data_names l.place l.fn.number l.fn.host;
   count : length l.names ≡ l.place;
+  named : IsTrue (list_all is_data_name l.names);
 }

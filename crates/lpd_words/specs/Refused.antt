@@ -1,0 +1,98 @@
+-- Why words ask for nothing.
+use Rattle.std.specs.Prelude.{◌≡◌, ◌≢◌, ◌⊎◌, ◌<◌, ◌&&◌, ℕ, Bool, false, nat_le, List, [], Option, Some, None, length, codes}
+use Rattle.std.specs.List.{list_all}
+use Rattle.clap.specs.Words.{IsAmong, Kinds, Row, Text, fault_of, subcommand_of}
+use Rattle.clap.specs.declared.error.kind.ErrorKind.{ErrorKind}
+use Rattle.clap.specs.declared.error.kind.ErrorKind.TheVariants.{DisplayHelp, DisplayVersion, OutOfMemory}
+use Rattle.lpd_commands.specs.Written.{command_has_line}
+use Rattle.lpd_commands.specs.declared.command.Command.TheVariants.{Receive}
+use Rattle.lpd_values.specs.Kept.{is_operand}
+use Rattle.lpd_values.specs.Kinds.{is_word_octet}
+use Rattle.lpd_values.specs.declared.limits.TheConstants.{MAX_FILES}
+use Rattle.lpd_words.specs.Asked.{IsAsked, IsSending}
+use Rattle.lpd_words.specs.CommandLine.{command_line}
+use Rattle.lpd_words.specs.declared.envelope.EnvelopeFault.{EnvelopeFault}
+use Rattle.lpd_words.specs.declared.envelope.EnvelopeFault.TheVariants as envelope
+use Rattle.lpd_words.specs.declared.words.Asked.{Asked}
+use Rattle.lpd_words.specs.declared.words.Sending.{Sending}
+use Rattle.lpd_words.specs.declared.words.Unread.{Unread}
+use Rattle.lpd_words.specs.declared.words.Unread.TheVariants.{Shown, Refused, Memory}
+
+-- a host that can stand in the names of files: 1 to 120 octets of words
+abbrev pub is_host : List ℕ → Bool
+is_host host = nat_le 1 (length host) && nat_le (length host) 120 && list_all is_word_octet host
+
+-- a host doesn't fit, or memory was refused
+abbrev pub IsHostFault : List ℕ → EnvelopeFault → Type 0
+IsHostFault host envelope.Host = is_host host ≡ false
+IsHostFault host envelope.Memory = Unit {0}
+IsHostFault host fault = ⊥
+
+-- what is wrong with the words of a job
+abbrev pub IsWrong : Sending → EnvelopeFault → Type 0
+IsWrong s envelope.Queue = command_has_line (Receive s.queue.now) ≡ false
+IsWrong s envelope.Host = is_host s.host.now ≡ false
+IsWrong s envelope.User = is_operand s.user.now ≡ false
+IsWrong s envelope.Files =
+    (length s.files.items ≡ 0) ⊎ (MAX_FILES < length s.files.items)
+IsWrong s envelope.Number = 999 < s.number
+IsWrong s envelope.Missing = ⊥
+IsWrong s envelope.Memory = Unit {0}
+
+-- the words of a job aren't all there, or memory was refused
+abbrev pub LacksWords : List Row → EnvelopeFault → Type 0
+LacksWords rows envelope.Missing = (s : Sending) → IsSending rows s → ⊥
+LacksWords rows envelope.Memory = Unit {0}
+LacksWords rows fault = ⊥
+
+-- words ask to send a job, and this is wrong with its words
+abbrev pub NamesNoJob : Option (Text × List Row) → EnvelopeFault → Type 0
+NamesNoJob None fault = ⊥
+NamesNoJob (Some met) fault =
+    (met.0 ≡ codes "send") × ((s : Sending) × IsSending met.1 s × IsWrong s fault)
+
+-- why what clap reads of words asks for nothing: a word isn't there, or the job's words are wrong
+abbrev pub AsksNothing : Option (Text × List Row) → EnvelopeFault → Type 0
+AsksNothing met envelope.Memory = Unit {0}
+AsksNothing met envelope.Missing = (asked : Asked) → IsAsked met asked → ⊥
+AsksNothing met fault = NamesNoJob met fault
+
+-- clap finds a mistake in words: not that they ask for help or the version
+abbrev pub IsMistake : Kinds → Type 0
+IsMistake kinds =
+    (kind : ErrorKind) × IsAmong kind kinds × (kind ≢ DisplayHelp) × (kind ≢ DisplayVersion)
+
+-- words ask for help or the version
+abbrev pub IsToShow : Kinds → Type 0
+IsToShow kinds = IsAmong DisplayHelp kinds ⊎ IsAmong DisplayVersion kinds
+
+-- clap takes words, or they ask for help or the version
+abbrev pub IsTaken : List Text → Type 0
+IsTaken words =
+    (fault_of command_line words ≡ []) ⊎ IsToShow (fault_of command_line words)
+
+-- words can't be read: clap finds a mistake, or finds none and they ask for nothing
+abbrev pub IsRefused : List Text → Type 0
+IsRefused words =
+    IsMistake (fault_of command_line words)
+    ⊎ ((fault_of command_line words ≡ []) × ((fault : EnvelopeFault) × (fault ≢ envelope.Memory)
+    × AsksNothing (subcommand_of command_line words) fault))
+
+-- what an error of clap comes to, by its kind
+abbrev pub IsUnreadBy : ErrorKind → Unread → Type 0
+IsUnreadBy kind (Shown text) = (kind ≡ DisplayHelp) ⊎ (kind ≡ DisplayVersion)
+IsUnreadBy kind (Refused text) =
+    (kind ≢ OutOfMemory) × (kind ≢ DisplayHelp) × (kind ≢ DisplayVersion)
+IsUnreadBy kind Memory = Unit {0}
+
+-- what a fault of the words comes to
+abbrev pub IsUnreadFor : EnvelopeFault → Unread → Type 0
+IsUnreadFor fault (Shown text) = ⊥
+IsUnreadFor fault (Refused text) = fault ≢ envelope.Memory
+IsUnreadFor fault Memory = Unit {0}
+
+-- why words aren't read: they ask for a text, can't be read, or memory was refused
+abbrev pub IsUnread : List Text → Unread → Type 0
+IsUnread words (Shown text) = IsToShow (fault_of command_line words)
+IsUnread words (Refused text) = IsRefused words
+IsUnread words Memory = Unit {0}
