@@ -1,9 +1,11 @@
 -- Why words ask for nothing.
-use Rattle.std.specs.Prelude.{◌≡◌, ◌≢◌, ◌⊎◌, ◌<◌, ◌&&◌, ℕ, Bool, false, nat_le, List, [], Option, Some, None, length, codes}
+use Rattle.std.specs.Prelude.{◌≡◌, ◌≢◌, ◌⊎◌, ◌<◌, ◌&&◌, ℕ, Bool, false, nat_le, List, []}
+use Rattle.std.specs.Prelude.{Option, Some, None, length, codes}
 use Rattle.std.specs.List.{list_all}
 use Rattle.clap.specs.Words.{IsAmong, Kinds, Row, Text, fault_of, subcommand_of}
 use Rattle.clap.specs.declared.error.kind.ErrorKind.{ErrorKind}
-use Rattle.clap.specs.declared.error.kind.ErrorKind.TheVariants.{DisplayHelp, DisplayVersion, OutOfMemory}
+use Rattle.clap.specs.declared.error.kind.ErrorKind.TheVariants.{DisplayHelp, DisplayVersion}
+use Rattle.clap.specs.declared.error.kind.ErrorKind.TheVariants.{OutOfMemory}
 use Rattle.lpd_commands.specs.Written.{command_has_line}
 use Rattle.lpd_commands.specs.declared.command.Command.TheVariants.{Receive}
 use Rattle.lpd_values.specs.Kept.{is_operand}

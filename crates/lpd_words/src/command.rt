@@ -4,7 +4,8 @@ ghost use Rattle.std.specs.Prelude.{◌≡◌, IfOk, codes, false, pos};
 ghost use Rattle.clap.specs.Words.{app_of, new_app, rule_of, with_rule, with_subcommand};
 ghost use Rattle.clap.specs.declared.builder.command.Command.TheViews.{out-Command as fields_of};
 ghost use Rattle.clap.specs.declared.builder.value_parser.ValueParser.TheVariants as parser;
-ghost use Rattle.lpd_words.specs.CommandLine.{check_app, command_line, number, program_app, replay_app, send_app, send_to_app, word, words};
+ghost use Rattle.lpd_words.specs.CommandLine.{check_app, command_line, program_app, replay_app};
+ghost use Rattle.lpd_words.specs.CommandLine.{number, send_app, send_to_app, word, words};
 
 use clap::builder::ValueParser;
 use clap::{Arg, Command, value_parser};
@@ -118,7 +119,8 @@ fn plain<'a>(alloc: Global, name: &'a str, about: &'a str, more: &'a str) -> Com
 fn with_word<'a>(command: Command<'a>, word: Arg<'a>) -> Result<Command<'a>, AllocError>
     requires local { word.global ≡ false }
     requires before { (fields_of command).has_globals ≡ false }
-    ensures app { IfOk result (λ r. app_of r ≡ with_rule (app_of command.entry) (rule_of word.entry)) }
+    ensures app { IfOk result (λ r.
+        app_of r ≡ with_rule (app_of command.entry) (rule_of word.entry)) }
     ensures local { IfOk result (λ r. (fields_of r).has_globals ≡ false) }
 {
     command.arg(word)
@@ -127,7 +129,8 @@ fn with_word<'a>(command: Command<'a>, word: Arg<'a>) -> Result<Command<'a>, All
 /// A command with one command more.
 fn with_command<'a>(command: Command<'a>, more: Command<'a>) -> Result<Command<'a>, AllocError>
     requires { (fields_of more).has_globals ≡ false }
-    ensures { IfOk result (λ r. app_of r ≡ with_subcommand (app_of command.entry) (app_of more.entry).top) }
+    ensures { IfOk result (λ r.
+        app_of r ≡ with_subcommand (app_of command.entry) (app_of more.entry).top) }
 {
     command.subcommand(more)
 }

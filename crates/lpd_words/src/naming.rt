@@ -6,7 +6,8 @@ ghost use Rattle.control_file.specs.View.{contents};
 ghost use Rattle.lpd_values.specs.Kept.{is_line_feed, is_operand, is_operand_len, is_print_list};
 ghost use Rattle.lpd_values.specs.Name.{is_data_name};
 ghost use Rattle.lpd_values.specs.Pieces.{is_kept};
-ghost use Rattle.lpd_words.specs.Naming.{IsEnvelope, data_names, file_name, is_head, letter_of, said_of, three_digits};
+ghost use Rattle.lpd_words.specs.Naming.{IsEnvelope, data_names, file_name, is_head, letter_of};
+ghost use Rattle.lpd_words.specs.Naming.{said_of, three_digits};
 ghost use Rattle.lpd_words.specs.Refused.{IsHostFault, IsWrong};
 
 use crate::envelope::{Envelope, EnvelopeFault};

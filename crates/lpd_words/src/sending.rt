@@ -1,6 +1,7 @@
 //! A job is sent to a server at 127.0.0.1.
 
-ghost use Rattle.std.specs.Prelude.{◌≡◌, ◌≢◌, ◌≤◌, ◌<◌, [], IsTrue, IfOk, IfErr, IsErr, Err, Some, length};
+ghost use Rattle.std.specs.Prelude.{◌≡◌, ◌≢◌, ◌≤◌, ◌<◌, [], IsTrue, IfOk, IfErr, IsErr, Err};
+ghost use Rattle.std.specs.Prelude.{Some, length};
 ghost use Rattle.std.specs.List.{list_all};
 ghost use Rattle.lpd_script.specs.Streams.{HasGivenAll};
 ghost use Rattle.lpd_script.specs.declared.fault.Fault.TheVariants.{ReadFile};

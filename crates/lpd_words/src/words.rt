@@ -1,12 +1,14 @@
 //! What the words ask for.
 
 ghost use Rattle.std.specs.Prelude.{◌≡◌, [], IfOk, IfErr, None, Some, map, string_bytes};
-ghost use Rattle.clap.specs.Words.{all_of, fault_of, first_of, found_of, kind_of, rows_of, subcommand_of, subcommand_rows_of};
+ghost use Rattle.clap.specs.Words.{all_of, fault_of, first_of, found_of, kind_of, rows_of};
+ghost use Rattle.clap.specs.Words.{subcommand_of, subcommand_rows_of};
 ghost use Rattle.lpd_words.specs.Asked.{HasNoNumber, IsAsked, IsAskedBy, IsNumber, IsSending};
 ghost use Rattle.lpd_words.specs.CommandLine.{command_line};
 ghost use Rattle.lpd_words.specs.declared.envelope.EnvelopeFault.TheVariants.{Missing};
 ghost use Rattle.lpd_words.specs.declared.words.Unread.TheVariants.{Memory};
-ghost use Rattle.lpd_words.specs.Refused.{AsksNothing, IsUnread, IsUnreadBy, IsUnreadFor, LacksWords};
+ghost use Rattle.lpd_words.specs.Refused.{AsksNothing, IsUnread, IsUnreadBy, IsUnreadFor};
+ghost use Rattle.lpd_words.specs.Refused.{LacksWords};
 
 use crate::command::command;
 use crate::envelope::{Envelope, EnvelopeFault};

@@ -200,6 +200,22 @@ fn jobs_are_sent(rt: HostRuntime) -> Result<(), Fail> {
     Ok(())
 }
 
+#[test]
+fn texts_of_faults(rt: HostRuntime) -> Result<(), Fail> {
+    let faults: [(SendFault, &[u8]); 5] = [
+        (SendFault::Refused(1), b"fault 60 Refused 1"),
+        (SendFault::Cut, b"fault 61 Cut"),
+        (SendFault::ReadFault, b"fault 62 ReadFault"),
+        (SendFault::WriteFault, b"fault 63 WriteFault"),
+        (SendFault::Memory, b"fault 12 Memory"),
+    ];
+    for (fault, wanted) in faults {
+        let text = fault.to_string(rt.alloc())?;
+        expect(&rt, b"a fault", text.as_bytes(), wanted);
+    }
+    Ok(())
+}
+
 /// Where the first write fails, nothing is sent; where a later one does, what came before it.
 #[test]
 fn each_write_fails_in_turn(rt: HostRuntime) -> Result<(), Fail> {

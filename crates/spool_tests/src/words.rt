@@ -2,8 +2,8 @@
 
 use crate::rows::expect;
 use lpd_script::{StreamReader, StreamWriter};
-use lpd_words::run;
-use lpr_client::{Control, DataFile, FileName, Octets, is_sendable, job_bytes};
+use lpd_words::{Fault, run};
+use lpr_client::{Control, DataFile, FileName, Octets, SendFault, is_sendable, job_bytes};
 use std::alloc::{AllocError, Global};
 use std::io::{Read, Write};
 use std::net::{Ipv4Addr, OpenListener, SocketAddr, TcpListener};
@@ -15,6 +15,22 @@ use std::{env, fs, io, thread};
 
 const CONFIG: &[u8] =
     b"pages = 4\npage_size = 8\nmax_jobs = 8\naccount = 100000\n[[queue]]\nname = \"lp\"\nlimit = 3\nprinters = 1\n";
+
+/// What `docs/example.toml` says, without its remarks.
+const EXAMPLE: &[u8] = b"\
+pages = 1024
+page_size = 4096
+max_jobs = 64
+account = 16000000
+[[queue]]
+name = \"lp\"
+limit = 64
+printers = 1
+[[queue]]
+name = \"plotter\"
+limit = 512
+printers = 2
+";
 
 /// The words of a line, one space between them.
 fn words_of(alloc: Global, line: &str) -> Result<Vec<&str>, AllocError> {
@@ -97,6 +113,9 @@ fn configurations(rt: HostRuntime) -> Result<(), Fail> {
     let answer = told_of_file(&rt, &check, CONFIG)?;
     let line = b"ok pages 4 page_size 8 queues 1 printers 1\nstatus 0\n";
     expect(&rt, b"check", answer.as_slice(), line);
+    let answer = told_of_file(&rt, &check, EXAMPLE)?;
+    let line = b"ok pages 1024 page_size 4096 queues 2 printers 3\nstatus 0\n";
+    expect(&rt, b"check of the example", answer.as_slice(), line);
     let answer = told_of_file(&rt, &check, b"pages = 0\n")?;
     let line = b"fault 53 OutOfRange pages\nstatus 2\n";
     expect(&rt, b"check of pages = 0", answer.as_slice(), line);
@@ -165,6 +184,24 @@ fn help_and_version(rt: HostRuntime) -> Result<(), Fail> {
     Ok(())
 }
 
+#[test]
+fn texts_of_faults(rt: HostRuntime) -> Result<(), Fail> {
+    let faults: [(Fault, &[u8]); 4] = [
+        (Fault::Memory, b"fault 12 Memory"),
+        (Fault::Network, b"fault 72 Network"),
+        (Fault::Send(SendFault::Cut), b"fault 61 Cut"),
+        (
+            Fault::Run(lpd_script::Fault::WriteFile),
+            b"fault 73 WriteFile",
+        ),
+    ];
+    for (fault, wanted) in faults {
+        let text = fault.to_string(rt.alloc())?;
+        expect(&rt, b"a fault", text.as_bytes(), wanted);
+    }
+    Ok(())
+}
+
 /// Up to each acknowledgement, the octets of job 7 of host h1 and user ann with a file of `hello world`.
 const PARTS: [&[u8]; 5] = [
     b"\x02lp\n",
@@ -174,12 +211,28 @@ const PARTS: [&[u8]; 5] = [
     b"Hh1\nPann\nfdfA007h1\n\x00",
 ];
 
+/// The same with a file of `other words` behind it.
+const PARTS_OF_TWO: [&[u8]; 7] = [
+    b"\x02lp\n",
+    b"\x0311 dfA007h1\n",
+    b"hello world\x00",
+    b"\x0311 dfB007h1\n",
+    b"other words\x00",
+    b"\x0229 cfA007h1\n",
+    b"Hh1\nPann\nfdfA007h1\nfdfB007h1\n\x00",
+];
+
 /// Takes one connection, reads each part of a job and answers it by 00, but the part of this number by 1. What was read.
-fn serve(alloc: Global, listener: &TcpListener, refused: usize) -> io::Result<Vec<u8>> {
+fn serve(
+    alloc: Global,
+    listener: &TcpListener,
+    parts: &[&[u8]],
+    refused: usize,
+) -> io::Result<Vec<u8>> {
     let (mut stream, _) = listener.accept()?;
     let mut read = Vec::new(alloc);
     let mut buffer = [0u8; 64];
-    for (number, part) in PARTS.iter().enumerate() {
+    for (number, part) in parts.iter().enumerate() {
         let part_read = &mut buffer[..part.len().min(64)];
         stream.read_exact(part_read)?;
         read.extend_from_slice(part_read)?;
@@ -192,25 +245,36 @@ fn serve(alloc: Global, listener: &TcpListener, refused: usize) -> io::Result<Ve
     Ok(read)
 }
 
-/// What a server reads of the job where it refuses the part of this number, and what the client tells.
+/// What a server reads of the job of these parts and files where it refuses the part of this number, and what the
+/// client tells.
 fn sent(
     rt: &HostRuntime,
     threads: &impl Threads,
+    parts: &[&[u8]],
+    files: &[&[u8]],
     refused: usize,
 ) -> Result<(Vec<u8>, Vec<u8>), Fail> {
     let (listener, port) = listen(rt)?;
     let path = path_of(rt, port)?;
-    fs::write(rt, path.as_str(), b"hello world".as_slice())?;
-    let path = path.as_str();
-    let line = format!(in rt.alloc(); "send {port} lp 7 h1 ann {path}")?;
+    let mut line = format!(in rt.alloc(); "send {port} lp 7 h1 ann")?;
+    for (number, octets) in files.iter().enumerate() {
+        fs::write(
+            rt,
+            format!(in rt.alloc(); "{path}-{number}")?.as_str(),
+            *octets,
+        )?;
+        line = format!(in rt.alloc(); "{line} {path}-{number}")?;
+    }
     let words = words_of(rt.alloc(), line.as_str())?;
     let (listener, words) = (&listener, words.as_slice());
     let (served, told) = thread::join(
         threads,
-        move || serve(rt.alloc(), listener, refused),
+        move || serve(rt.alloc(), listener, parts, refused),
         move || told(rt, words, b""),
     );
-    fs::remove_file(rt, path)?;
+    for number in 0..files.len() {
+        fs::remove_file(rt, format!(in rt.alloc(); "{path}-{number}")?.as_str())?;
+    }
     Ok((served?, told?))
 }
 
@@ -229,13 +293,32 @@ fn octets_of_job(rt: &impl Abort, alloc: Global) -> Result<Octets, Fail> {
 
 #[test]
 fn jobs_are_sent(rt: HostRuntime) -> Result<(), Fail> {
-    let (read, told) = sent(&rt, &rt, 5)?;
+    let file: [&[u8]; 1] = [b"hello world"];
+    let (read, told) = sent(&rt, &rt, &PARTS, &file, 5)?;
     expect(&rt, b"send", told.as_slice(), b"sent 007\nstatus 0\n");
     let octets = octets_of_job(&rt, rt.alloc())?;
     expect(&rt, b"octets of send", read.as_slice(), octets.as_slice());
-    let (_, told) = sent(&rt, &rt, 1)?;
+    let (_, told) = sent(&rt, &rt, &PARTS, &file, 1)?;
     let line = b"fault 60 Refused 1\nstatus 5\n";
     expect(&rt, b"send that is refused", told.as_slice(), line);
+    Ok(())
+}
+
+#[test]
+fn files_are_sent_in_order(rt: HostRuntime) -> Result<(), Fail> {
+    let files: [&[u8]; 2] = [b"hello world", b"other words"];
+    let (read, told) = sent(&rt, &rt, &PARTS_OF_TWO, &files, 7)?;
+    expect(&rt, b"two files", told.as_slice(), b"sent 007\nstatus 0\n");
+    let mut octets = Vec::new(rt.alloc());
+    for part in PARTS_OF_TWO {
+        octets.extend_from_slice(part)?;
+    }
+    expect(
+        &rt,
+        b"octets of two files",
+        read.as_slice(),
+        octets.as_slice(),
+    );
     Ok(())
 }
 
