@@ -98,3 +98,9 @@ abbrev pub IsUnread : List Text → Unread → Type 0
 IsUnread words (Shown text) = IsToShow (fault_of command_line words)
 IsUnread words (Refused text) = IsRefused words
 IsUnread words Memory = Unit {0}
+
+-- the system has no words to read: one isn't text, or memory was refused
+abbrev pub HasNoWords : Unread → Type 0
+HasNoWords (Shown text) = ⊥
+HasNoWords (Refused text) = Unit {0}
+HasNoWords Memory = Unit {0}

@@ -8,7 +8,7 @@ ghost use Rattle.lpd_words.specs.CommandLine.{command_line};
 ghost use Rattle.lpd_words.specs.declared.envelope.EnvelopeFault.TheVariants.{Missing};
 ghost use Rattle.lpd_words.specs.declared.words.Unread.TheVariants.{Memory};
 ghost use Rattle.lpd_words.specs.Refused.{AsksNothing, IsUnread, IsUnreadBy, IsUnreadFor};
-ghost use Rattle.lpd_words.specs.Refused.{LacksWords};
+ghost use Rattle.lpd_words.specs.Refused.{HasNoWords, LacksWords};
 
 use crate::command::command;
 use crate::envelope::{Envelope, EnvelopeFault};
@@ -216,7 +216,9 @@ pub fn read_words<'a>(alloc: Global, words: &'a [String]) -> Result<Asked<'a>, U
 
 /// The words that the program was started with, of which the first is its name. Answers `Refused` where one isn't
 /// UTF-8, and `Memory`.
-pub fn words_of<R: Env + Alloc<A = Global>>(rt: &R) -> Result<Vec<String>, Unread> {
+pub fn words_of<R: Env + Alloc<A = Global>>(rt: &R) -> Result<Vec<String>, Unread>
+    ensures { IfErr result HasNoWords }
+{
     let alloc = rt.alloc();
     match std::env::args(rt) {
         Ok(words) => Ok(words.collect(alloc)?),
