@@ -13,7 +13,7 @@ use Rattle.spool_config.specs.Answers.{GivesConfig}
 use Rattle.spool_config.specs.declared.settings.ConfigFault.{ConfigFault}
 use Rattle.lpd_script.specs.Status.{IsScriptFault}
 use Rattle.lpd_script.specs.declared.runner.Runner.{Runner}
-use Rattle.lpd_script.specs.Ends.{Collects, Prints, RunsParts}
+use Rattle.lpd_script.specs.Ends.{Collects, HasFault, Prints, RunsParts}
 use Rattle.lpd_script.specs.Runner.{CannotRun, Ran, RanText}
 use Rattle.lpd_script.specs.Scripts.{IsBad, NamesNothing, RunsLine, RunsLines, RunsScript, lines_of}
 use Rattle.lpd_script.specs.Steps.{Tells, after}
@@ -171,6 +171,12 @@ pub short_at_once :
     → GivesConfig config c → result ≡ Err Memory → RunsParts config script out out result
 short_at_once config script c out result gives is =
     subst (RunsParts config script out out) (sym is) ([], writes_none out, (c, gives, none_ran c (lines_of script)))
+
+-- a configuration with a fault
+pub faulty_at_once :
+    (config script : List ℕ) (fault : ConfigFault) (out : Option (List ℕ)) (result : Result (Unit {0}) Fault)
+    → HasFault config fault → result ≡ Err (ConfigFaulty fault) → RunsParts config script out out result
+faulty_at_once config script fault out result has is = subst (RunsParts config script out out) (sym is) (refl, has)
 
 -- a script has no fault of the configuration
 pub no_config_fault :

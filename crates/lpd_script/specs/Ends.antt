@@ -1,8 +1,10 @@
 -- What a run writes and answers.
-use Rattle.std.specs.Prelude.{◌≡◌, ◌⊎◌, ◌++◌, ℕ, List, Option, Result, Ok, Err}
+use Rattle.std.specs.Prelude.{◌≡◌, ◌≢◌, ◌⊎◌, ◌++◌, ℕ, List, Option, Some, Result, Ok, Err}
 use Rattle.lpd_commands.specs.Ends.{Writes}
 use Rattle.config_values.specs.Config as C
-use Rattle.spool_config.specs.Answers.{GivesConfig}
+use Rattle.spool_config.specs.Answers.{GivesConfig, fault_of}
+use Rattle.spool_config.specs.declared.settings.ConfigFault.{ConfigFault}
+use Rattle.spool_config.specs.declared.settings.ConfigFault.TheVariants.{Memory as ConfigMemory}
 use Rattle.lpd_script.specs.declared.fault.Fault.{Fault}
 use Rattle.lpd_script.specs.declared.fault.Fault.TheVariants.{Config, Memory, ReadFile, WriteFile}
 use Rattle.lpd_script.specs.Parts.{AreParts}
@@ -22,9 +24,13 @@ Collects old collected text new left = (head : List ℕ) × Writes old new head 
 abbrev pub RunsWith : List ℕ → List ℕ → List ℕ → Result (Unit {0}) Fault → Type 0
 RunsWith config script printed result = (c : C.Config) × GivesConfig config c × RunsScript c script printed result
 
+-- a configuration has this fault first, if it isn't that memory was refused
+abbrev pub HasFault : List ℕ → ConfigFault → Type 0
+HasFault config fault = fault ≢ ConfigMemory → fault_of config ≡ Some fault
+
 -- the two parts of a text were run: a fault of the configuration prints nothing
 abbrev pub RunsParts : List ℕ → List ℕ → Option (List ℕ) → Option (List ℕ) → Result (Unit {0}) Fault → Type 0
-RunsParts config script old new (Err (Config fault)) = new ≡ old
+RunsParts config script old new (Err (Config fault)) = (new ≡ old) × HasFault config fault
 RunsParts config script old new result = Prints old new result (λ printed. RunsWith config script printed result)
 
 -- a text was run, cut into its parts

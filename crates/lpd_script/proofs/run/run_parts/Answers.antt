@@ -1,7 +1,12 @@
 use Rattle.std.proofs.Common.{rules, ◌≡◌, Err}
-use Rattle.lpd_script.specs.declared.fault.Fault.TheVariants.{Memory}
-use Rattle.lpd_script.proofs.Running.{no_config_fault, short_at_once}
+use Rattle.lpd_script.specs.declared.fault.Fault.TheVariants.{Config, Memory}
+use Rattle.lpd_script.proofs.Running.{faulty_at_once, no_config_fault, short_at_once}
 use Rattle.lpd_script.proofs.run.run_parts.Goals as goal
+
+pub returns-in_err-config-clause-ran : goal.returns-in_err-config-clause-ran
+returns-in_err-config-clause-ran g c =
+    let told : c.from_residual.result ≡ Err (Config c.in_err-config.field-0.0) = search rules in
+    faulty_at_once c.args.config.now c.args.script.now c.in_err-config.field-0.0 _ _ c.in_err-config.ensures.fault told
 
 pub returns-in_err-runner-clause-ran : goal.returns-in_err-runner-clause-ran
 returns-in_err-runner-clause-ran g c =
