@@ -174,7 +174,8 @@ impl Jobs {
         })
     }
 
-    /// Sends the jobs, from the senders in turn, and prints them. None where a step was refused, or the clock can't be read.
+    /// Sends the jobs, from the senders in turn, and prints them. None where a step was refused, or
+    /// the clock can't be read.
     pub fn run<R: AllocGlobal + Clock>(&self, rt: &R) -> Option<Load> {
         let mut spool = Spool::new(rt.alloc(), self.config)?;
         for sender in 1..=SENDERS {

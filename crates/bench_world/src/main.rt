@@ -1,5 +1,5 @@
-//! How fast a world takes octets to printed pages: `bench_world run`. `bench_world count` sends a little of the same, and
-//! prints what was printed and no times.
+//! How fast a world takes octets to printed pages: `bench_world run`. `bench_world count` sends a
+//! little of the same, and prints what was printed and no times.
 #![tactic(auto)]
 
 mod load;
