@@ -147,6 +147,28 @@ fn replays(rt: HostRuntime) -> Result<(), Fail> {
 }
 
 #[test]
+fn a_script_runs_on_a_configuration(rt: HostRuntime) -> Result<(), Fail> {
+    let (_holder, port) = listen(&rt)?;
+    let config = path_of(&rt, port)?;
+    let script = format!(in rt.alloc(); "{config}-script")?;
+    let (config, script) = (config.as_str(), script.as_str());
+    fs::write(&rt, config, CONFIG)?;
+    fs::write(&rt, script, b"free\n".as_slice())?;
+    let line = format!(in rt.alloc(); "replay {config} {script}")?;
+    let words = words_of(rt.alloc(), line.as_str())?;
+    let answer = told(&rt, words.as_slice(), b"")?;
+    fs::remove_file(&rt, config)?;
+    fs::remove_file(&rt, script)?;
+    expect(
+        &rt,
+        b"replay of both",
+        answer.as_slice(),
+        b"free 4\nstatus 0\n",
+    );
+    Ok(())
+}
+
+#[test]
 fn bad_words(rt: HostRuntime) -> Result<(), Fail> {
     let bad: [&[&str]; 11] = [
         &["serve", "spool.toml"],
