@@ -10,6 +10,7 @@ use Rattle.lpd_script.specs.declared.fault.Fault.TheVariants.{Config, Memory, Re
 use Rattle.lpd_script.specs.Parts.{AreParts}
 use Rattle.lpd_script.specs.Scripts.{RunsScript}
 use Rattle.lpd_script.specs.Status.{status_of}
+use Rattle.lpd_script.specs.Streams.{write_faults}
 
 -- where no write failed, these octets were written
 abbrev pub Prints : Option (List ℕ) → Option (List ℕ) → Result (Unit {0}) Fault → (List ℕ → Type 0) → Type 0
@@ -48,7 +49,12 @@ abbrev pub status_at : Result (Unit {0}) Fault → ℕ
 status_at (Ok done) = 0
 status_at (Err fault) = status_of fault
 
--- the same by the exit status
-abbrev pub RunsTo : List ℕ → Option (List ℕ) → Option (List ℕ) → ℕ → Type 0
-RunsTo text old new status =
-    (result : Result (Unit {0}) Fault) × (status ≡ status_at result) × RunsAll text old new result
+-- A run of all of an input answered this status: it ended so, a writer's faults tell where writing is what failed, and where
+-- reading is, that holds.
+pub record RunsTo (text : List ℕ) (old new : Option (List ℕ)) (old_faults new_faults : ℕ) (unread : Type 0)
+    (status : ℕ) : Type 0 where
+  pub ended : Result (Unit {0}) Fault
+  pub answer : status ≡ status_at ended
+  pub ran : RunsAll text old new ended
+  pub written : new_faults ≡ write_faults old_faults ended
+  pub read : ended ≡ Err ReadFile → unread

@@ -1,5 +1,5 @@
 -- What a run leaves of its reader and its writers.
-use Rattle.std.specs.Prelude.{◌≡◌, ◌⊎◌, ◌++◌, ℕ, List, [], Option, Some, None, Result, Err}
+use Rattle.std.specs.Prelude.{◌≡◌, ◌⊎◌, ◌++◌, ◌≤◌, ℕ, List, [], Option, Some, None, Result, Err, length}
 use Rattle.lpd_commands.specs.Ends.{one_more}
 use Rattle.lpd_script.specs.declared.fault.Fault.{Fault}
 use Rattle.lpd_script.specs.declared.fault.Fault.TheVariants.{Memory, ReadFile, WriteFile}
@@ -37,3 +37,9 @@ IsUntouched old old_faults new new_faults = (new ≡ old) × (new_faults ≡ old
 abbrev pub write_faults : ℕ → Result (Unit {0}) Fault → ℕ
 write_faults n (Err WriteFile) = one_more n
 write_faults n _ = n
+
+-- a read failed, or each of 4,294,967,295 reads gave octets
+abbrev pub IsUnread : (old_faults new_faults : ℕ) → (old new : Option (List ℕ)) → Type 0
+IsUnread old_faults new_faults old new =
+    (new_faults ≡ one_more old_faults)
+    ⊎ ((octets : List ℕ) × HasGiven old new octets × (4294967295 ≤ length octets))

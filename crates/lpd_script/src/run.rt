@@ -13,7 +13,7 @@ ghost use Rattle.lpd_script.specs.Status.{IsScriptFault, IsStatus};
 ghost use Rattle.spool_config.specs.Answers.{fault_of};
 ghost use Rattle.spool_config.specs.declared.settings.ConfigFault.{ConfigFault};
 ghost use Rattle.spool_config.specs.declared.settings.ConfigFault.TheVariants.{Memory as ConfigMemory};
-ghost use Rattle.lpd_script.specs.Streams.{HasGivenAll, IsReadOut, IsReadOutAfter, IsUntouched, IsReadingFault, write_faults};
+ghost use Rattle.lpd_script.specs.Streams.{HasGivenAll, IsReadOut, IsReadOutAfter, IsUnread, IsUntouched, IsReadingFault, write_faults};
 
 use crate::fault::Fault;
 use crate::runner::{NotRun, Runner};
@@ -54,7 +54,8 @@ pub fn run_input<R: OctetRead, W: OctetWrite, E: OctetWrite>(
         (E.written faults.new) (E.faults faults.new) }
     // What is written is what the lines of the script print, and the status says how it ended.
     ensures ran { (text : List ℕ) → R.left input.old ≡ Some text →
-        RunsTo text (W.written output.old) (W.written output.new) result }
+        RunsTo text (W.written output.old) (W.written output.new) (W.faults output.old) (W.faults output.new)
+        (IsUnread (R.faults input.old) (R.faults input.new) (R.left input.old) (R.left input.new)) result }
 {
     match run_all(alloc, input, output) {
         Ok(()) => 0,
@@ -87,6 +88,8 @@ fn run_all<R: OctetRead, W: OctetWrite>(
     ensures unread { result ≡ Err ReadFile → W.written output.new ≡ W.written output.old }
     ensures ran { (text : List ℕ) → R.left input.old ≡ Some text →
         RunsAll text (W.written output.old) (W.written output.new) result }
+    ensures cause { result ≡ Err ReadFile →
+        IsUnread (R.faults input.old) (R.faults input.new) (R.left input.old) (R.left input.new) }
 {
     let all = read_all(alloc, input)?;
     run_text(alloc, all.as_slice(), output)
@@ -98,6 +101,8 @@ pub fn read_all<R: OctetRead>(alloc: Global, input: &mut R) -> Result<Vec<u8>, F
     ensures all { IfOk result (λ all. HasGivenAll (R.left input.old) (R.left input.new) all.items) }
     ensures fault { IfErr result (λ fault. IsReadingFault fault) }
     ensures read_fault { R.faults input.new ≢ R.faults input.old → result ≡ Err ReadFile }
+    ensures cause { result ≡ Err ReadFile →
+        IsUnread (R.faults input.old) (R.faults input.new) (R.left input.old) (R.left input.new) }
 {
     let mut all = Vec::new(alloc);
     let mut piece = [0u8; PIECE];

@@ -18,7 +18,8 @@ use std::alloc::{AllocError, Global};
 pub enum NotRun {
     /// It names a session that was never connected, or a printer that isn't there.
     NamesNothing,
-    /// Memory was refused.
+    /// Memory was refused. The replies that a line has no word for are told so too: but for `Memory` itself the world gives
+    /// none of them to the line's steps.
     Memory,
 }
 

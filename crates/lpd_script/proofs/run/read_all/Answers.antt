@@ -7,6 +7,7 @@ loop-init g c = record {
   given = rw c.new-all.ensures.items (HasGiven-none _);
   faults = search rules;
   room = search rules;
+  many = omega (arith);
 }
 
 pub loop-preserved : goal.loop-preserved
@@ -15,6 +16,7 @@ loop-preserved g c = record {
       (HasGiven-more _ _ _ _ _ _ c.loop.invariant.given c.in-Ok.ensures.octets);
   faults = search rules;
   room = search rules;
+  many = search rules;
 }
 
 pub returns-then-count-eq0-clause-all : goal.returns-then-count-eq0-clause-all

@@ -1,4 +1,4 @@
-use Rattle.std.proofs.Common.{◌≡◌, length}
+use Rattle.std.proofs.Common.{◌≡◌, ◌≤◌, length}
 use Rattle.lpd_script.specs.Streams.{HasGiven}
 use Rattle.lpd_script.proofs.run.read_all.Given as goal
 
@@ -7,4 +7,5 @@ invariant-loop g l = record {
   given : HasGiven (g.R.OctetRead.left l.fn.input) (g.R.OctetRead.left l.input) l.all.items;
   faults : g.R.OctetRead.faults l.input ≡ g.R.OctetRead.faults l.fn.input;
   room : length l.piece ≡ 4096;
+  many : l.counter ≤ length l.all.items;
 }
