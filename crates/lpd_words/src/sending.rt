@@ -1,9 +1,9 @@
 //! A job is sent to a server at 127.0.0.1.
 
-ghost use Rattle.std.specs.Prelude.{◌≡◌, ◌≢◌, ◌≤◌, ◌<◌, [], IsTrue, IfOk, IfErr, IsErr, Err};
+ghost use Rattle.std.specs.Prelude.{◌≡◌, ◌≢◌, ◌≤◌, ◌<◌, ◌⊎◌, [], IsTrue, IfOk, IfErr, IsErr, Err};
 ghost use Rattle.std.specs.Prelude.{Some, length};
 ghost use Rattle.std.specs.List.{list_all};
-ghost use Rattle.lpd_script.specs.Streams.{HasGivenAll};
+ghost use Rattle.lpd_script.specs.Streams.{HasGivenAll, IsUnread};
 ghost use Rattle.lpd_script.specs.declared.fault.Fault.TheVariants.{ReadFile};
 ghost use Rattle.lpd_values.specs.Name.{is_data_name};
 ghost use Rattle.lpd_words.specs.declared.fault.Fault.TheVariants.{Network, Run};
@@ -34,6 +34,10 @@ pub fn data_file<F: OctetRead>(
         × HasGivenAll (F.left file.old) (F.left file.new) read.octets × (0 < length read.octets)) }
     ensures read_fault { F.faults file.new ≢ F.faults file.old → result ≡ Err (Run ReadFile) }
     ensures empty { F.left file.old ≡ Some [] → IsErr result }
+    // A file is refused only where reading it failed, or it has no octets.
+    ensures cause { result ≡ Err (Run ReadFile) →
+        IsUnread (F.faults file.old) (F.faults file.new) (F.left file.old) (F.left file.new)
+        ⊎ HasGivenAll (F.left file.old) (F.left file.new) [] }
     ensures fault { IfErr result IsFileFault }
 {
     let octets = read_all(alloc, file)?;
