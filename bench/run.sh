@@ -9,5 +9,9 @@ cd ../bench_chains
 rt run -- run
 cd ../bench_core
 rt run -- run
+cd ../bench_shared
+rt run -- run
+cd ../bench_session
+rt run -- run
 cd ../bench_world
 rt run -- run

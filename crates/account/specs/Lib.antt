@@ -1,1 +1,4 @@
+pub mod After
+pub mod Kinds
+pub mod Logs
 pub mod Seen

@@ -2,8 +2,16 @@
 //! entries begin from.
 #![tactic(auto)]
 
+mod account;
+mod after;
 mod base;
 mod entry;
+mod kind;
+mod segment;
 
+pub use account::Account;
+pub use after::base_after;
 pub use base::Base;
 pub use entry::{Act, Entry, Outline, Progress, Sheet, Turn};
+pub use kind::Kind;
+pub use segment::Segment;

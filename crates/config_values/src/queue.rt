@@ -19,7 +19,11 @@ impl Model for Queue {
 
     ghost Value = { C.Queue };
 
-    ghost view = { λ q. record { name = string_bytes q.name; limit = q.limit; printers = q.printers } };
+    ghost view = { λ q. record {
+      name = string_bytes q.name;
+      limit = q.limit;
+      printers = q.printers;
+    } };
 }
 
 impl Queue {

@@ -313,7 +313,8 @@ fn has_name(files: &[DataFile], name: &FileName) -> bool
 
 /// Whether files of all these names are there.
 fn has_names(files: &[DataFile], names: &[FileName]) -> bool
-    ensures { result ≡ list_all (λ name. is_among name (map (λ (f : DataFile). f.name) files.now)) names.now }
+    ensures { result
+        ≡ list_all (λ name. is_among name (map (λ (f : DataFile). f.name) files.now)) names.now }
 {
     let Some((first, rest)) = names.split_first() else {
         return true;

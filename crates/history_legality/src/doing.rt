@@ -175,7 +175,8 @@ fn is_whole_by_control(job: &Job, control: &Control) -> bool
 /// Whether this control file of a job may come, and make it whole or not.
 fn may_control(job: &Job, control: &Control, whole: bool) -> bool
     ensures { IsTrue result
-        ↔ L.IsReceiving (job_seen job.now) × ((job_seen job.now).control ≡ None) × (whole ≡ A.is_whole (Some (contents control.now)) (job_seen job.now).files) }
+        ↔ L.IsReceiving (job_seen job.now) × ((job_seen job.now).control ≡ None)
+        × (whole ≡ A.is_whole (Some (contents control.now)) (job_seen job.now).files) }
 {
     if job.control.is_some() {
         return false;

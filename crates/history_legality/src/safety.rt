@@ -107,7 +107,9 @@ fn claims_with_page(
     number: u64,
 ) -> Result<Vec<Claim>, AllocError>
     ensures { IfOk result (λ v. rows_seen config.now v.items
-        ≡ map (N.row_of config.now) (filter N.is_held (map (change (E.Event.OfJob number E.Act.Granted)) (map job_seen jobs.now)))) }
+        ≡ map (N.row_of config.now)
+        (filter N.is_held
+        (map (change (E.Event.OfJob number E.Act.Granted)) (map job_seen jobs.now)))) }
 {
     let Some((job, rest)) = jobs.split_first() else {
         return Ok(Vec::new(alloc));

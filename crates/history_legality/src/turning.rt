@@ -21,7 +21,8 @@ fn is_same_sheet(a: &Sheet, b: &Sheet) -> bool
 /// Whether this page is out at a printer.
 fn is_out(state: &State, printer: u32, sheet: &Sheet) -> bool
     ensures { IsTrue result
-        ↔ (slice_index_or (X.no_printer ∷ map printer_seen state.now.printers.items) printer X.no_printer).out ≡ Some (sheet_seen sheet.now) }
+        ↔ (slice_index_or (X.no_printer ∷ map printer_seen state.now.printers.items) printer X.no_printer).out
+        ≡ Some (sheet_seen sheet.now) }
 {
     match printer_numbered(state, printer).out {
         Some(out) => is_same_sheet(&out, sheet),

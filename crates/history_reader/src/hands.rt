@@ -37,7 +37,8 @@ fn printer_at(printers: &[Printer], place: usize) -> Printer
 /// The printer of a number, or one of no queue where no printer has this number.
 pub fn printer_numbered(state: &State, printer: u32) -> Printer
     ensures { printer_seen result
-        ≡ slice_index_or (X.no_printer ∷ map printer_seen state.now.printers.items) printer X.no_printer }
+        ≡ slice_index_or (X.no_printer ∷ map printer_seen state.now.printers.items) printer
+        X.no_printer }
 {
     if printer == 0 {
         return NO_PRINTER;

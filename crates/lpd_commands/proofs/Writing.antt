@@ -1,8 +1,9 @@
--- One write after another.
-use Rattle.std.proofs.Common.{◌≡◌, ℕ, List, ◌++◌, Option, Some, None, ap, ◌∙◌, append_assoc, ◌+◌, ◌-◌, length, take, drop, arith}
+-- One write after another, and one read after another.
+use Rattle.std.proofs.Common.{◌≡◌, ◌≤◌, ℕ, List, [], ◌++◌, Option, Some, None, refl, sym, subst, ap, ◌∙◌, append_assoc, ◌+◌, ◌-◌, min, length, take, drop, arith}
 use Rattle.std.proofs.lemmas.Grind.{common_steps}
-use Rattle.std.proofs.Math.Seq.{take-add}
-use Rattle.lpd_commands.specs.Ends.{Writes}
+use Rattle.std.proofs.lemmas.List.{append-nil, take-append-le, take_min}
+use Rattle.std.proofs.Math.Seq.{take-add, take-append-add}
+use Rattle.lpd_commands.specs.Ends.{Took, Writes, WritesSome}
 
 -- one write after another
 pub Writes-append : (a b c : Option (List ℕ)) (xs ys : List ℕ) → Writes a b xs → Writes b c ys → Writes a c (xs ++ ys)
@@ -17,3 +18,34 @@ pub Writes-more : (a b c : Option (List ℕ)) (s : List ℕ) (d n : ℕ) → Wri
 Writes-more a b c s d n p q =
     let r : Writes b c (take n (drop d s)) = rw (whole_rest s d) at q in
     rw (take-add d n s) (Writes-append a b c (take d s) (take n (drop d s)) p r)
+
+-- a head of the first is a head of both
+front : (xs ys : List ℕ) (n : ℕ) → take (min n (length xs)) (xs ++ ys) ≡ take n xs
+front xs ys n =
+    let within : min n (length xs) ≤ length xs = omega arith in
+    take-append-le (min n (length xs)) xs ys within ∙ take_min n xs
+
+-- a head of the first octets is a head of all
+pub some_of_front : (was now : Option (List ℕ)) (xs ys : List ℕ) → WritesSome was now xs → WritesSome was now (xs ++ ys)
+some_of_front was now xs ys h = (min h.0 (length xs), subst (λ t. Writes was now t) (sym (front xs ys h.0)) h.1)
+
+-- some octets after others that were written
+pub some_after : (was then_ now : Option (List ℕ)) (xs ys : List ℕ) → Writes was then_ xs → WritesSome then_ now ys → WritesSome was now (xs ++ ys)
+some_after was then_ now xs ys h k = (length xs + k.0, subst (λ t. Writes was now t) (sym (take-append-add xs ys k.0)) (Writes-append was then_ now xs (take k.0 ys) h k.1))
+
+-- one read after another
+pub Took-append : (left then_ rest : Option (List ℕ)) (xs ys : List ℕ) → Took left then_ xs → Took then_ rest ys → Took left rest (xs ++ ys)
+Took-append None then_ rest xs ys h k = let r : Took None rest ys = rw h at k in r
+Took-append (Some old) then_ rest xs ys h k =
+    let r : Took (Some h.0) rest ys = rw h.2 at k in
+    (r.0, h.1 ∙ (ap (λ t. xs ++ t) r.1 ∙ sym (append_assoc xs ys r.0)), r.2)
+
+-- nothing was read
+pub Took-none : (left : Option (List ℕ)) → Took left left []
+Took-none None = refl
+Took-none (Some old) = (old, refl, refl)
+
+-- nothing was written
+pub Writes-none : (was : Option (List ℕ)) → Writes was was []
+Writes-none None = refl
+Writes-none (Some old) = sym (ap Some (append-nil old))

@@ -12,6 +12,16 @@ Reads (Some old) rest got room =
     (old ≡ got ++ drop (length got) old) × (rest ≡ Some (drop (length got) old))
     × (got ≡ [] → 0 < room → old ≡ [])
 
+-- these octets were read, one after another, where the reader tells them
+abbrev pub Took : Option (List ℕ) → Option (List ℕ) → List ℕ → Type 0
+Took None rest octets = rest ≡ None
+Took (Some old) rest octets = (after : List ℕ) × (old ≡ octets ++ after) × (rest ≡ Some after)
+
+-- nothing is left, where the reader tells it
+abbrev pub IsReadOut : Option (List ℕ) → Type 0
+IsReadOut None = Unit {0}
+IsReadOut (Some rest) = rest ≡ []
+
 -- these octets were written
 abbrev pub Writes : Option (List ℕ) → Option (List ℕ) → List ℕ → Type 0
 Writes None now octets = now ≡ None

@@ -146,7 +146,8 @@ pub fn run_parts<W: OctetWrite>(
     ensures found { (due : ConfigFault) → result ≡ Err (Config due) → due ≢ ConfigMemory →
         fault_of config.now ≡ Some due }
     // What is written is what the script's lines print on a spool of this configuration.
-    ensures ran { RunsParts config.now script.now (W.written output.old) (W.written output.new) result }
+    ensures ran { RunsParts config.now script.now (W.written output.old)
+        (W.written output.new) result }
 {
     let config = spool_config::read(alloc, config)?;
     let mut runner = Runner::new(alloc, config)?;

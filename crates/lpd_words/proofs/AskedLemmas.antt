@@ -87,6 +87,7 @@ names_no_job name rows s Host is sending wrong = (is, (s, sending, wrong))
 names_no_job name rows s User is sending wrong = (is, (s, sending, wrong))
 names_no_job name rows s Files is sending wrong = (is, (s, sending, wrong))
 names_no_job name rows s Number is sending wrong = (is, (s, sending, wrong))
+names_no_job name rows s envelope.Address is sending wrong = absurd wrong
 names_no_job name rows s Missing is sending wrong = absurd wrong
 names_no_job name rows s envelope.Memory is sending wrong = tt
 

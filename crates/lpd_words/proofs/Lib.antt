@@ -1,2 +1,4 @@
 mod AskedLemmas
 mod EnvelopeLemmas
+mod OrderLemmas
+mod ServingLemmas

@@ -1,17 +1,24 @@
 -- What the words ask for, by what clap reads of them.
-use Rattle.std.specs.Prelude.{◌≡◌, ◌<◌, ◌^◌, ℕ, List, Option, Some, None, codes, map}
+use Rattle.std.specs.Prelude.{◌≡◌, ◌<◌, ◌^◌, ℕ, List, Option, Some, None, codes, map, unwrap_or}
+use Rattle.std.specs.Net.Grammar.{IsIpv4Text}
+use Rattle.std.specs.declared.net.ipv4_addr.Ipv4Addr.{Ipv4Addr}
 use Rattle.std.specs.Str.Parse.{IsNumeral, digits_value, without_leading_plus}
 use Rattle.clap.specs.Words.{Row, Text, all_of, first_of, one_of}
 use Rattle.lpd_words.specs.Naming.{IsEnvelope}
 use Rattle.lpd_words.specs.declared.words.Asked.{Asked}
-use Rattle.lpd_words.specs.declared.words.Asked.TheVariants.{Input, Check, Replay, Send}
+use Rattle.lpd_words.specs.declared.serving.Serving.{Serving}
+use Rattle.lpd_words.specs.declared.words.Asked.TheVariants.{Input, Check, Replay, Send, Serve}
 use Rattle.lpd_words.specs.declared.words.Sending.{Sending}
 
--- a word that was read is this number of at most 65,535, in decimal digits
-abbrev pub IsNumber : List Row → Text → ℕ → Type 0
-IsNumber rows id number =
+-- a word that was read is this number of so many bits, in decimal digits
+abbrev pub IsNumberOf : ℕ → List Row → Text → ℕ → Type 0
+IsNumberOf bits rows id number =
     (text : Text) × (one_of id rows ≡ Some text) × IsNumeral 10 (without_leading_plus text)
-    × (number ≡ digits_value 10 (without_leading_plus text)) × (number < 2 ^ 16)
+    × (number ≡ digits_value 10 (without_leading_plus text)) × (number < 2 ^ bits)
+
+-- a word that was read is this number of at most 65,535
+abbrev pub IsNumber : List Row → Text → ℕ → Type 0
+IsNumber rows id number = IsNumberOf 16 rows id number
 
 -- there is no word, or it is no such number
 abbrev pub HasNoNumber : List Row → Text → Type 0
@@ -26,6 +33,31 @@ pub record IsSending (rows : List Row) (sending : Sending) : Type 0 where
   pub user : first_of (codes "user") rows ≡ Some sending.user.now
   pub files : all_of (codes "file") rows ≡ Some (map (λ file. file.now) sending.files.items)
 
+-- an option's number of so many bits, if the option is there
+abbrev pub IsGiven : ℕ → List Row → Text → Option ℕ → Type 0
+IsGiven bits rows id None = one_of id rows ≡ None
+IsGiven bits rows id (Some number) = IsNumberOf bits rows id number
+
+-- an option's number, and this other one where the option isn't there
+abbrev pub IsGivenOr : ℕ → List Row → Text → ℕ → Type 0
+IsGivenOr other rows id number =
+    (given : Option ℕ) × IsGiven 32 rows id given × (number ≡ unwrap_or given other)
+
+-- the address that is listened on: 127.0.0.1 where no other is given
+abbrev pub IsAddress : List Row → Ipv4Addr → Type 0
+IsAddress rows address =
+    IsIpv4Text (unwrap_or (first_of (codes "bind") rows) (codes "127.0.0.1")) address
+
+-- a server runs as these rows say: with 8 sessions at once, in the directory . where they don't say it
+pub record IsServing (rows : List Row) (serving : Serving) : Type 0 where
+  pub port : IsNumber rows (codes "port") serving.port
+  pub bind : IsAddress rows serving.bind
+  pub out : serving.out.now ≡ unwrap_or (first_of (codes "out") rows) (codes ".")
+  pub sessions : IsGivenOr 8 rows (codes "sessions") serving.sessions
+  pub connections : IsGiven 64 rows (codes "connections") serving.connections
+  pub rotate : IsGiven 64 rows (codes "rotate") serving.rotate
+  pub silence : IsGiven 64 rows (codes "silence") serving.silence
+
 -- what the command of this name with the words of these rows asks for
 abbrev pub IsAskedBy : Text → List Row → Asked → Type 0
 IsAskedBy name rows Input = ⊥
@@ -36,6 +68,9 @@ IsAskedBy name rows (Replay config script) =
     × (first_of (codes "script") rows ≡ Some script.now)
 IsAskedBy name rows (Send sending envelope) =
     (name ≡ codes "send") × IsSending rows sending × IsEnvelope sending envelope
+IsAskedBy name rows (Serve config serving) =
+    (name ≡ codes "serve") × (first_of (codes "config") rows ≡ Some config.now)
+    × IsServing rows serving
 
 -- what words ask for: what their command asks for, and without one what the input asks
 abbrev pub IsAsked : Option (Text × List Row) → Asked → Type 0

@@ -4,6 +4,7 @@ pub mod Causes
 pub mod CommandLine
 pub mod Naming
 pub mod Order
+pub mod Outcome
 pub mod Refused
 pub mod Status
 pub mod Summary

@@ -1,5 +1,5 @@
 -- What is done with files, and which fault comes first.
-use Rattle.std.specs.Prelude.{◌≡◌, ◌⊎◌, ◌++◌, ◌∷◌, ℕ, List, [], Option, Result, Err}
+use Rattle.std.specs.Prelude.{◌≡◌, ◌⊎◌, ◌++◌, ◌∷◌, ℕ, List, [], Option, Some, Result, Err}
 use Rattle.config_values.specs.Config as C
 use Rattle.lpd_commands.specs.Ends.{Writes, one_more}
 use Rattle.lpd_script.specs.Streams.{HasGivenAll}
@@ -7,9 +7,22 @@ use Rattle.lpd_script.specs.declared.fault.Fault.TheVariants as script
 use Rattle.lpd_words.specs.declared.fault.Fault.{Fault}
 use Rattle.lpd_words.specs.declared.fault.Fault.TheVariants.{Run}
 use Rattle.lpd_words.specs.Summary.{summary_of, summary_text}
-use Rattle.spool_config.specs.Answers.{GivesConfig}
+use Rattle.spool_config.specs.Answers.{GivesConfig, fault_of}
 use Rattle.spool_config.specs.declared.settings.ConfigFault.{ConfigFault}
 use Rattle.spool_config.specs.declared.settings.ConfigFault.TheVariants as config
+
+-- all of a text was read, and it gives this configuration
+abbrev pub ReadsConfig : (left rest : Option (List ℕ)) → C.Config → Type 0
+ReadsConfig left rest due =
+    (text : List ℕ) × HasGivenAll left rest text × GivesConfig text due
+
+-- a file can't be read, memory was refused, or all of a text was read and this is its first fault
+abbrev pub IsConfigFault : (left rest : Option (List ℕ)) → Fault → Type 0
+IsConfigFault left rest (Run (script.Config config.Memory)) = Unit {0}
+IsConfigFault left rest (Run (script.Config fault)) =
+    (text : List ℕ) × HasGivenAll left rest text × (fault_of text ≡ Some fault)
+IsConfigFault left rest fault =
+    (fault ≡ Run script.ReadFile) ⊎ (fault ≡ Run script.Memory)
 
 -- all of a text was read, it gives a configuration, and the line that says what spool that is for was written
 abbrev pub Checked : (left rest was now : Option (List ℕ)) → Type 0
@@ -19,7 +32,7 @@ Checked left rest was now =
     × Writes was now (summary_text (summary_of due) ++ 10 ∷ []))
 
 -- what may be told of a configuration with this first fault: that a file can't be read, the fault, or want of memory
-abbrev pub StopsAt : ConfigFault → Result (Unit {0}) Fault → Type 0
+abbrev pub StopsAt : {A : Type 0} → ConfigFault → Result A Fault → Type 0
 StopsAt due result =
     (result ≡ Err (Run script.ReadFile)) ⊎ (result ≡ Err (Run script.Memory))
     ⊎ (result ≡ Err (Run (script.Config due))) ⊎ (result ≡ Err (Run (script.Config config.Memory)))

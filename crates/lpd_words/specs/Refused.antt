@@ -2,6 +2,7 @@
 use Rattle.std.specs.Prelude.{◌≡◌, ◌≢◌, ◌⊎◌, ◌<◌, ◌&&◌, ℕ, Bool, false, nat_le, List, []}
 use Rattle.std.specs.Prelude.{Option, Some, None, length, codes}
 use Rattle.std.specs.List.{list_all}
+use Rattle.std.specs.declared.net.ipv4_addr.Ipv4Addr.{Ipv4Addr}
 use Rattle.clap.specs.Words.{IsAmong, Kinds, Row, Text, fault_of, subcommand_of}
 use Rattle.clap.specs.declared.error.kind.ErrorKind.{ErrorKind}
 use Rattle.clap.specs.declared.error.kind.ErrorKind.TheVariants.{DisplayHelp, DisplayVersion}
@@ -11,10 +12,11 @@ use Rattle.lpd_commands.specs.declared.command.Command.TheVariants.{Receive}
 use Rattle.lpd_values.specs.Kept.{is_operand}
 use Rattle.lpd_values.specs.Kinds.{is_word_octet}
 use Rattle.lpd_values.specs.declared.limits.TheConstants.{MAX_FILES}
-use Rattle.lpd_words.specs.Asked.{IsAsked, IsSending}
+use Rattle.lpd_words.specs.Asked.{IsAddress, IsAsked, IsGiven, IsGivenOr, IsSending, IsServing}
 use Rattle.lpd_words.specs.CommandLine.{command_line}
 use Rattle.lpd_words.specs.declared.envelope.EnvelopeFault.{EnvelopeFault}
 use Rattle.lpd_words.specs.declared.envelope.EnvelopeFault.TheVariants as envelope
+use Rattle.lpd_words.specs.declared.serving.Serving.{Serving}
 use Rattle.lpd_words.specs.declared.words.Asked.{Asked}
 use Rattle.lpd_words.specs.declared.words.Sending.{Sending}
 use Rattle.lpd_words.specs.declared.words.Unread.{Unread}
@@ -38,6 +40,7 @@ IsWrong s envelope.User = is_operand s.user.now ≡ false
 IsWrong s envelope.Files =
     (length s.files.items ≡ 0) ⊎ (MAX_FILES < length s.files.items)
 IsWrong s envelope.Number = 999 < s.number
+IsWrong s envelope.Address = ⊥
 IsWrong s envelope.Missing = ⊥
 IsWrong s envelope.Memory = Unit {0}
 
@@ -47,14 +50,38 @@ LacksWords rows envelope.Missing = (s : Sending) → IsSending rows s → ⊥
 LacksWords rows envelope.Memory = Unit {0}
 LacksWords rows fault = ⊥
 
+-- no address is given by a text that is one, nor left out
+abbrev pub HasNoAddress : List Row → Type 0
+HasNoAddress rows = (address : Ipv4Addr) → IsAddress rows address → ⊥
+
+-- an option is there, and no number of 64 bits
+abbrev pub HasNoCount : List Row → Text → Type 0
+HasNoCount rows id = (count : Option ℕ) → IsGiven 64 rows id count → ⊥
+
+-- the sessions of a server are there, and no number of 32 bits
+abbrev pub HasNoSessions : List Row → Type 0
+HasNoSessions rows = (sessions : ℕ) → IsGivenOr 8 rows (codes "sessions") sessions → ⊥
+
+-- the words of a server aren't all there, or its address isn't one
+abbrev pub LacksServing : List Row → EnvelopeFault → Type 0
+LacksServing rows envelope.Address = HasNoAddress rows
+LacksServing rows envelope.Missing = (s : Serving) → IsServing rows s → ⊥
+LacksServing rows fault = ⊥
+
+-- words ask to serve, and give no address
+abbrev pub NamesNoAddress : Option (Text × List Row) → Type 0
+NamesNoAddress None = ⊥
+NamesNoAddress (Some met) = (met.0 ≡ codes "serve") × HasNoAddress met.1
+
 -- words ask to send a job, and this is wrong with its words
 abbrev pub NamesNoJob : Option (Text × List Row) → EnvelopeFault → Type 0
 NamesNoJob None fault = ⊥
 NamesNoJob (Some met) fault =
     (met.0 ≡ codes "send") × ((s : Sending) × IsSending met.1 s × IsWrong s fault)
 
--- why what clap reads of words asks for nothing: a word isn't there, or the job's words are wrong
+-- why what clap reads of words asks for nothing: a word isn't there, or those of a job or a server are wrong
 abbrev pub AsksNothing : Option (Text × List Row) → EnvelopeFault → Type 0
+AsksNothing met envelope.Address = NamesNoAddress met
 AsksNothing met envelope.Memory = Unit {0}
 AsksNothing met envelope.Missing = (asked : Asked) → IsAsked met asked → ⊥
 AsksNothing met fault = NamesNoJob met fault

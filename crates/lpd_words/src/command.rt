@@ -4,8 +4,10 @@ ghost use Rattle.std.specs.Prelude.{◌≡◌, IfOk, codes, false, pos};
 ghost use Rattle.clap.specs.Words.{app_of, new_app, rule_of, with_rule, with_subcommand};
 ghost use Rattle.clap.specs.declared.builder.command.Command.TheViews.{out-Command as fields_of};
 ghost use Rattle.clap.specs.declared.builder.value_parser.ValueParser.TheVariants as parser;
-ghost use Rattle.lpd_words.specs.CommandLine.{check_app, command_line, program_app, replay_app};
-ghost use Rattle.lpd_words.specs.CommandLine.{number, send_app, send_to_app, word, words};
+ghost use Rattle.lpd_words.specs.CommandLine.{check_app, command_line, count, files_app};
+ghost use Rattle.lpd_words.specs.CommandLine.{listening_port, number, number_option, option};
+ghost use Rattle.lpd_words.specs.CommandLine.{program_app, replay_app, send_app, send_to_app};
+ghost use Rattle.lpd_words.specs.CommandLine.{serve_app, serve_at_app, sessions, word, words};
 
 use clap::builder::ValueParser;
 use clap::{Arg, Command, value_parser};
@@ -22,6 +24,7 @@ Examples:
   lpd_server check spool.toml
   lpd_server replay spool.toml day.script
   lpd_server send 515 lp 1 myhost ann letter.txt
+  lpd_server serve spool.toml --port 515
   lpd_server < both
 
 Exit status:
@@ -56,6 +59,16 @@ number in three digits. A word that begins with - stands behind a word --.
 Example:
   lpd_server send 515 lp 1 myhost ann letter.txt";
 
+const MORE_OF_SERVE: &str = "\
+Prints `listening N` with its port, `rotated K entries E` when the account is rotated, and after the last
+connection, where there is one, `closed entries E`. The pages of printer K are written to DIR/printer-K, at its end.
+Sessions that fail are told on standard error.
+
+Examples:
+  lpd_server serve spool.toml --port 515
+  lpd_server serve spool.toml --port 5150 --bind 0.0.0.0 --out pages --sessions 16 --silence 60
+  lpd_server serve spool.toml --port 5150 --connections 1";
+
 /// A word that has to be there.
 fn word<'a>(alloc: Global, id: &'a str, name: &'a str, help: &'a str) -> Arg<'a>
     ensures rule { rule_of result ≡ word id.now }
@@ -75,6 +88,14 @@ fn words<'a>(alloc: Global, id: &'a str, name: &'a str, help: &'a str) -> Arg<'a
     word(alloc, id, name, help).num_args(1..=52)
 }
 
+/// An option with one value, `--ID NAME`.
+fn option<'a>(alloc: Global, id: &'a str, name: &'a str, help: &'a str) -> Arg<'a>
+    ensures rule { rule_of result ≡ option id.now }
+    ensures local { result.global ≡ false }
+{
+    Arg::new(alloc, id).long(id).value_name(name).help(help)
+}
+
 /// The ports that there are.
 fn port_range<'a>() -> ValueParser<'a>
     ensures { result ≡ parser.Signed (pos 1) (pos 65535) }
@@ -87,6 +108,20 @@ fn job_range<'a>() -> ValueParser<'a>
     ensures { result ≡ parser.Signed (pos 0) (pos 999) }
 {
     value_parser!(u16).range(0..=999)
+}
+
+/// The numbers of sessions at once that a server may have.
+fn sessions_range<'a>() -> ValueParser<'a>
+    ensures { result ≡ parser.Signed (pos 1) (pos 64) }
+{
+    value_parser!(u32).range(1..=64)
+}
+
+/// The numbers that count something: 1 or more.
+fn count_range<'a>() -> ValueParser<'a>
+    ensures { result ≡ parser.Signed (pos 1) (pos 4294967295) }
+{
+    value_parser!(u32).range(1..)
 }
 
 /// A word that has to be there, a port.
@@ -105,6 +140,46 @@ fn number<'a>(alloc: Global) -> Arg<'a>
 {
     let help = "The number of the job: 0 to 999";
     word(alloc, "number", "NUMBER", help).value_parser(job_range())
+}
+
+/// An option whose value is a number of a range.
+fn number_option<'a>(
+    alloc: Global,
+    id: &'a str,
+    name: &'a str,
+    help: &'a str,
+    range: ValueParser<'a>,
+) -> Arg<'a>
+    ensures rule { rule_of result ≡ number_option id.now range.entry }
+    ensures local { result.global ≡ false }
+{
+    option(alloc, id, name, help).value_parser(range)
+}
+
+/// An option whose value counts something.
+fn count<'a>(alloc: Global, id: &'a str, name: &'a str, help: &'a str) -> Arg<'a>
+    ensures rule { rule_of result ≡ count id.now }
+    ensures local { result.global ≡ false }
+{
+    number_option(alloc, id, name, help, count_range())
+}
+
+/// The option that has to be there, the port to listen on.
+fn listening_port<'a>(alloc: Global) -> Arg<'a>
+    ensures rule { rule_of result ≡ listening_port }
+    ensures local { result.global ≡ false }
+{
+    let help = "The port to listen on: 1 to 65535";
+    number_option(alloc, "port", "PORT", help, port_range()).required(true)
+}
+
+/// The option of how many sessions there are at once.
+fn sessions<'a>(alloc: Global) -> Arg<'a>
+    ensures rule { rule_of result ≡ sessions }
+    ensures local { result.global ≡ false }
+{
+    let help = "How many connections are served at once: 1 to 64 [default: 8]";
+    number_option(alloc, "sessions", "SESSIONS", help, sessions_range())
 }
 
 /// A command of this name without words.
@@ -182,6 +257,36 @@ fn send<'a>(alloc: Global) -> Result<Command<'a>, AllocError>
     with_word(command, words(alloc, "file", "FILE", files))
 }
 
+/// The command that serves, up to where it listens and writes.
+fn serve_at<'a>(alloc: Global) -> Result<Command<'a>, AllocError>
+    ensures app { IfOk result (λ command. app_of command ≡ serve_at_app) }
+    ensures local { IfOk result (λ command. (fields_of command).has_globals ≡ false) }
+{
+    let about = "Serves the queues of a configuration to the network";
+    let bind = "The IPv4 address to listen on [default: 127.0.0.1]";
+    let out = "The directory of the printers' files [default: .]";
+    let config = word(alloc, "config", "CONFIG", CONFIG);
+    let command = with_word(plain(alloc, "serve", about, MORE_OF_SERVE), config)?;
+    let command = with_word(command, listening_port(alloc))?;
+    let command = with_word(command, option(alloc, "bind", "BIND", bind))?;
+    with_word(command, option(alloc, "out", "DIR", out))
+}
+
+/// The command that serves.
+fn serve<'a>(alloc: Global) -> Result<Command<'a>, AllocError>
+    ensures app { IfOk result (λ command. app_of command ≡ serve_app) }
+    ensures local { IfOk result (λ command. (fields_of command).has_globals ≡ false) }
+{
+    let connections = "Ends after so many connections [default: none is the last]";
+    let rotate = "Rotates the account after each so many connections";
+    let silence = "Ends a session whose peer is silent for so many seconds";
+    let command = with_word(serve_at(alloc)?, sessions(alloc))?;
+    let last = count(alloc, "connections", "CONNECTIONS", connections);
+    let command = with_word(command, last)?;
+    let command = with_word(command, count(alloc, "rotate", "ROTATE", rotate))?;
+    with_word(command, count(alloc, "silence", "SECONDS", silence))
+}
+
 /// The program without its commands.
 fn program<'a>(alloc: Global) -> Command<'a>
     ensures { app_of result ≡ program_app }
@@ -192,11 +297,18 @@ fn program<'a>(alloc: Global) -> Command<'a>
         .disable_help_subcommand(true)
 }
 
+/// The program with its commands on files.
+fn with_files<'a>(alloc: Global) -> Result<Command<'a>, AllocError>
+    ensures { IfOk result (λ command. app_of command ≡ files_app) }
+{
+    let command = with_command(program(alloc), check(alloc)?)?;
+    with_command(command, replay(alloc)?)
+}
+
 /// The command line.
 pub(crate) fn command<'a>(alloc: Global) -> Result<Command<'a>, AllocError>
     ensures { IfOk result (λ command. app_of command ≡ command_line) }
 {
-    let command = with_command(program(alloc), check(alloc)?)?;
-    let command = with_command(command, replay(alloc)?)?;
-    with_command(command, send(alloc)?)
+    let command = with_command(with_files(alloc)?, send(alloc)?)?;
+    with_command(command, serve(alloc)?)
 }

@@ -22,7 +22,7 @@ pub struct Envelope {
     ghost files_fit: { length control.prints ≤ MAX_FILES },
 }
 
-/// Why words name no job.
+/// Why words name no job, or no server.
 #[derive(Clone, Copy, Debug, PartialEq, Eq, Error)]
 pub enum EnvelopeFault {
     /// The queue is no word of 1 to 1,022 octets.
@@ -40,6 +40,9 @@ pub enum EnvelopeFault {
     /// The number has more than three digits.
     #[error("NUMBER isn't 0 to 999")]
     Number,
+    /// The address to listen on isn't one.
+    #[error("BIND isn't four numbers of 0 to 255 with points between")]
+    Address,
     /// A word isn't there.
     #[error("a word is missing")]
     Missing,

@@ -1,15 +1,17 @@
 //! What is done with files: a configuration is checked, a script is run.
 
-ghost use Rattle.std.specs.Prelude.{◌≡◌, ◌≢◌, ◌++◌, ◌∷◌, [], OnOk, IfErr, Err, Some, List, ℕ};
+ghost use Rattle.std.specs.Prelude.{◌≡◌, ◌≢◌, ◌++◌, ◌∷◌, [], OnOk, IfOk, IfErr, Err, Some, List, ℕ};
 ghost use Rattle.lpd_commands.specs.Ends.{Writes, one_more};
 ghost use Rattle.lpd_script.specs.declared.fault.Fault.TheVariants.{ReadFile, WriteFile};
 ghost use Rattle.lpd_words.specs.declared.fault.Fault.TheVariants.{Run};
-ghost use Rattle.lpd_words.specs.Order.{Checked, StopsAt, write_faults};
+ghost use Rattle.lpd_words.specs.Order.{Checked, IsConfigFault, ReadsConfig, StopsAt};
+ghost use Rattle.lpd_words.specs.Order.{write_faults};
 ghost use Rattle.spool_config.specs.Answers.{fault_of};
 ghost use Rattle.spool_config.specs.declared.settings.ConfigFault.{ConfigFault};
 
 use crate::fault::Fault;
 use crate::summary::summary_of;
+use config_values::Config;
 use lpd_commands::{OctetRead, OctetWrite, write_all};
 use lpd_script::{read_all, run_parts};
 use std::alloc::Global;
@@ -23,6 +25,21 @@ pub(crate) fn print<W: OctetWrite>(output: &mut W, text: &[u8]) -> Result<(), Fa
     match write_all(output, text) {
         Ok(()) => Ok(()),
         Err(_) => Err(Fault::Run(lpd_script::Fault::WriteFile)),
+    }
+}
+
+/// Reads a configuration to its end. Answers the first fault: `ReadFile`, a fault of the configuration, and `Memory`.
+pub fn read_config<I: OctetRead>(alloc: Global, input: &mut I) -> Result<Config, Fault>
+    ensures config { IfOk result (ReadsConfig (I.left input.old) (I.left input.new)) }
+    ensures read_fault { I.faults input.new ≢ I.faults input.old → result ≡ Err (Run ReadFile) }
+    ensures fault { IfErr result (IsConfigFault (I.left input.old) (I.left input.new)) }
+    ensures faulty { (text : List ℕ) → I.left input.old ≡ Some text → (due : ConfigFault) →
+        fault_of text ≡ Some due → StopsAt due result }
+{
+    let text = read_all(alloc, input)?;
+    match spool_config::read(alloc, text.as_slice()) {
+        Ok(config) => Ok(config),
+        Err(fault) => Err(Fault::Run(lpd_script::Fault::Config(fault))),
     }
 }
 
@@ -42,11 +59,8 @@ pub fn check<I: OctetRead, W: OctetWrite>(
         fault_of text ≡ Some due →
         StopsAt due result × (W.written output.new ≡ W.written output.old) }
 {
-    let text = read_all(alloc, config)?;
-    match summary_of(alloc, text.as_slice()) {
-        Ok(summary) => print(output, format!(in alloc; "{summary}\n")?.as_bytes()),
-        Err(fault) => Err(Fault::Run(lpd_script::Fault::Config(fault))),
-    }
+    let summary = summary_of(&read_config(alloc, config)?);
+    print(output, format!(in alloc; "{summary}\n")?.as_bytes())
 }
 
 /// Reads a configuration and a script to their ends, and runs the script on the spool that the configuration gives.

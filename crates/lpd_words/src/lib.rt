@@ -9,14 +9,16 @@ mod files;
 mod naming;
 mod running;
 mod sending;
+mod serving;
 mod summary;
 mod words;
 
 pub use envelope::{Envelope, EnvelopeFault};
 pub use fault::Fault;
 pub use file::FileReader;
-pub use files::{check, replay};
-pub use running::{run, tell_unread};
+pub use files::{check, read_config, replay};
+pub use running::{Outcome, run, tell, tell_unread};
 pub use sending::{data_file, send};
+pub use serving::Serving;
 pub use summary::{Summary, summary_of};
 pub use words::{Asked, Sending, Unread, read_words, words_of};

@@ -1,13 +1,19 @@
 //! What the words ask for is done.
 
-ghost use Rattle.std.specs.Prelude.{◌≡◌, ◌≢◌, ◌≤◌, OnOk, IfOk, map, string_bytes};
+ghost use Rattle.std.specs.Prelude.{◌≡◌, ◌≢◌, ◌≤◌, [], OnOk, IfOk, map, string_bytes};
+ghost use Rattle.clap.specs.Words.{fault_of, subcommand_of};
 ghost use Rattle.lpd_commands.specs.Ends.{Writes};
 ghost use Rattle.lpd_script.specs.Streams.{IsUntouched};
+ghost use Rattle.lpd_words.specs.Asked.{IsAsked};
+ghost use Rattle.lpd_words.specs.CommandLine.{command_line};
 ghost use Rattle.lpd_words.specs.Naming.{sent_line};
 ghost use Rattle.lpd_words.specs.Order.{write_faults};
+ghost use Rattle.lpd_words.specs.Outcome.{IfEnded, IfServes};
 ghost use Rattle.lpd_words.specs.Status.{end_status};
 ghost use Rattle.lpd_words.specs.Refused.{IsRefused, IsTaken};
 ghost use Rattle.lpd_words.specs.Unread.{IsUnreadStatus};
+ghost use Rattle.lpd_words.specs.declared.running.Outcome.TheVariants.{Ended};
+ghost use Rattle.lpd_words.specs.declared.words.Asked.TheVariants.{Serve};
 
 use crate::envelope::Envelope;
 use crate::fault::Fault;
@@ -15,15 +21,29 @@ use crate::file::FileReader;
 use crate::files::{check, print, replay};
 use crate::naming::three_digits;
 use crate::sending::{data_files, send};
+use crate::serving::Serving;
 use crate::words::{Asked, Sending, Unread, read_words};
 use lpd_commands::{OctetRead, OctetWrite, write_all};
 use lpd_script::run_input;
 use std::alloc::{AllocError, Global};
+use std::fmt;
 use std::fs::Files;
 use std::net::Net;
 
 /// The exit status where the words can't be read.
 const UNREAD: u8 = 1;
+
+/// What comes of words.
+#[derive(Clone, Copy, Debug)]
+pub enum Outcome<'a> {
+    /// It was done, or a fault was told: the exit status.
+    Ended(u8),
+    /// They ask to serve the queues of the configuration at this path.
+    Serve {
+        config: &'a str,
+        serving: Serving<'a>,
+    },
+}
 
 /// The line that says that the job of this number was sent.
 fn sent_line(alloc: Global, number: u16) -> Result<Vec<u8>, AllocError>
@@ -55,7 +75,7 @@ fn send_files<R: Files + Net, W: OctetWrite>(
     print(output, line.as_slice())
 }
 
-/// Does what is asked for, but for what the standard input asks.
+/// Does what is asked for, but for what the standard input asks and for serving.
 fn run_asked<R: Files + Net, W: OctetWrite>(
     alloc: Global,
     rt: &R,
@@ -65,7 +85,7 @@ fn run_asked<R: Files + Net, W: OctetWrite>(
     ensures write_fault { W.faults output.new ≡ write_faults (W.faults output.old) result }
 {
     match asked {
-        Asked::Input => Ok(()),
+        Asked::Input | Asked::Serve { .. } => Ok(()),
         Asked::Check { config } => check(alloc, &mut FileReader::open(rt, config), output),
         Asked::Replay { config, script } => {
             let mut config = FileReader::open(rt, config);
@@ -80,7 +100,17 @@ fn run_asked<R: Files + Net, W: OctetWrite>(
     }
 }
 
-/// The exit status of an end. A fault is told in a line of its own; where memory is short for that line, it says that.
+/// Tells of a fault in a line of its own; where memory is short for that line, it says that.
+pub fn tell<F: fmt::Display, E: OctetWrite>(alloc: Global, fault: &F, faults: &mut E) {
+    let told = match format!(in alloc; "{fault}\n") {
+        Ok(line) => write_all(faults, line.as_bytes()),
+        Err(AllocError) => write_all(faults, b"fault 12 Memory\n"),
+    };
+    // There is nowhere else to tell of a fault here: the exit status says that there was one.
+    let _ = told;
+}
+
+/// The exit status of an end. A fault is told.
 fn ended<E: OctetWrite>(alloc: Global, end: Result<(), Fault>, faults: &mut E) -> u8
     ensures status { result ≡ end_status end }
     ensures quiet { OnOk end (IsUntouched (E.written faults.old) (E.faults faults.old)
@@ -89,43 +119,53 @@ fn ended<E: OctetWrite>(alloc: Global, end: Result<(), Fault>, faults: &mut E) -
     let Err(fault) = end else {
         return 0;
     };
-    let told = match format!(in alloc; "{fault}\n") {
-        Ok(line) => write_all(faults, line.as_bytes()),
-        Err(AllocError) => write_all(faults, b"fault 12 Memory\n"),
-    };
-    // There is nowhere else to tell of a fault here: the exit status says that there was one.
-    let _ = told;
+    tell(alloc, &fault, faults);
     fault.status()
 }
 
 /// Does what the words ask for, of which the first is the program's name: without others, what the input asks (see
-/// `lpd_script::run_input`). What is answered is the exit status: 0 where it was done, or help or the version was
-/// asked for and printed; 1 where the words can't be read, which `faults` is told; otherwise that of the fault, which
-/// is told there in one line. Faults are looked for in this order: the words, files read, the configuration, the
-/// network.
-pub fn run<R: Files + Net, I: OctetRead, W: OctetWrite, E: OctetWrite>(
+/// `lpd_script::run_input`). Where they ask to serve, `Serve` says how, and nothing is done yet. Otherwise `Ended` has the
+/// exit status: 0 where it was done, or help or the version was asked for and printed; 1 where the words can't be read,
+/// which `faults` is told; otherwise that of the fault, which is told there in one line. Faults are looked for in this
+/// order: the words, files read, the configuration, the network.
+pub fn run<'a, R: Files + Net, I: OctetRead, W: OctetWrite, E: OctetWrite>(
     alloc: Global,
     rt: &R,
-    words: &[String],
+    words: &'a [String],
     input: &mut I,
     output: &mut W,
     faults: &mut E,
-) -> u8
-    ensures status { result ≤ 5 }
-    ensures taken { result ≡ 0 → IsTaken (map string_bytes words.now) }
-    ensures refused { result ≡ 1 → IsRefused (map string_bytes words.now) }
-    ensures write_fault { W.faults output.new ≢ W.faults output.old → result ≡ 4 }
-    ensures read_fault { I.faults input.new ≢ I.faults input.old → result ≡ 4 }
-    ensures quiet { result ≡ 0 → IsUntouched (E.written faults.old) (E.faults faults.old)
+) -> Outcome<'a>
+    ensures status { IfEnded result (λ status. status ≤ 5) }
+    ensures taken { result ≡ Ended 0 → IsTaken (map string_bytes words.entry.now) }
+    ensures refused { result ≡ Ended 1 → IsRefused (map string_bytes words.entry.now) }
+    ensures write_fault { W.faults output.new ≢ W.faults output.old → result ≡ Ended 4 }
+    ensures read_fault { I.faults input.new ≢ I.faults input.old → result ≡ Ended 4 }
+    ensures quiet { result ≡ Ended 0 → IsUntouched (E.written faults.old) (E.faults faults.old)
         (E.written faults.new) (E.faults faults.new) }
     // Where the words can't be read nothing is read and nothing printed.
-    ensures unread { result ≡ 1 → (W.written output.new ≡ W.written output.old)
+    ensures unread { result ≡ Ended 1 → (W.written output.new ≡ W.written output.old)
         × (I.left input.new ≡ I.left input.old) }
+    // Words that ask to serve are taken, and nothing is read, printed or told.
+    ensures serve { IfServes result (λ config serving.
+        IsAsked (subcommand_of command_line (map string_bytes words.entry.now))
+        (Serve config serving)
+        × (fault_of command_line (map string_bytes words.entry.now) ≡ [])) }
+    ensures serve_output { IfServes result (λ _ _. IsUntouched
+        (W.written output.old) (W.faults output.old) (W.written output.new) (W.faults output.new)) }
+    ensures serve_input { IfServes result (λ _ _. IsUntouched
+        (I.left input.old) (I.faults input.old) (I.left input.new) (I.faults input.new)) }
+    ensures serve_faults { IfServes result (λ _ _. IsUntouched
+        (E.written faults.old) (E.faults faults.old) (E.written faults.new) (E.faults faults.new)) }
 {
     match read_words(alloc, words) {
-        Ok(Asked::Input) => run_input(alloc, input, output, faults),
-        Ok(asked) => ended(alloc, run_asked(alloc, rt, asked, output), faults),
-        Err(unread) => tell_unread(alloc, unread, output, faults),
+        Ok(Asked::Input) => Outcome::Ended(run_input(alloc, input, output, faults)),
+        Ok(Asked::Serve { config, serving }) => Outcome::Serve { config, serving },
+        Ok(asked) => {
+            let end = run_asked(alloc, rt, asked, output);
+            Outcome::Ended(ended(alloc, end, faults))
+        }
+        Err(unread) => Outcome::Ended(tell_unread(alloc, unread, output, faults)),
     }
 }
 

@@ -1,14 +1,9 @@
 //! What spool a configuration is for.
 
-ghost use Rattle.std.specs.Prelude.{◌≡◌, ◌⊎◌, Some, IfOk, IfErr, IsErrAnd};
-ghost use Rattle.config_values.specs.Config as C;
-ghost use Rattle.lpd_words.specs.Summary.{summary_of, summary_text, TellsFault};
-ghost use Rattle.spool_config.specs.Answers.{GivesConfig, fault_of};
-ghost use Rattle.spool_config.specs.declared.settings.ConfigFault.{ConfigFault as Fault};
-ghost use Rattle.spool_config.specs.declared.settings.ConfigFault.TheVariants.{Memory};
+ghost use Rattle.std.specs.Prelude.{◌≡◌, Some};
+ghost use Rattle.lpd_words.specs.Summary.{summary_of, summary_text};
 
-use spool_config::ConfigFault;
-use std::alloc::Global;
+use config_values::Config;
 use std::fmt;
 
 /// What spool a configuration is for.
@@ -37,19 +32,14 @@ impl fmt::Display for Summary {
     }
 }
 
-/// What spool the configuration of a text, the whole text, is for; or the first fault of the text, or `Memory`.
-pub fn summary_of(alloc: Global, text: &[u8]) -> Result<Summary, ConfigFault>
-    ensures summary { IfOk result (λ summary.
-        (config : C.Config) × GivesConfig text.now config × (summary ≡ summary_of config)) }
-    ensures fault { IfErr result (TellsFault text.now) }
-    ensures faulty { (due : Fault) → fault_of text.now ≡ Some due →
-        IsErrAnd result (λ fault. (fault ≡ Memory) ⊎ (fault ≡ due)) }
+/// What spool a configuration is for.
+pub fn summary_of(config: &Config) -> Summary
+    ensures { result ≡ summary_of config.now }
 {
-    let config = spool_config::read(alloc, text)?;
-    Ok(Summary {
+    Summary {
         pages: config.pages(),
         page_size: config.page_size(),
         queues: config.queues().len() as u32,
         printers: config.printer_count(),
-    })
+    }
 }

@@ -12,6 +12,7 @@ ghost use Rattle.lpd_words.specs.Refused.{HasNoWords, LacksWords};
 
 use crate::command::command;
 use crate::envelope::{Envelope, EnvelopeFault};
+use crate::serving::{Serving, serving_of};
 use clap::error::ErrorKind;
 use clap::{ArgMatches, Command, Error};
 use std::alloc::{AllocError, Global};
@@ -53,6 +54,11 @@ pub enum Asked<'a> {
     Send {
         sending: Sending<'a>,
         envelope: Envelope,
+    },
+    /// To serve the queues of the configuration at this path.
+    Serve {
+        config: &'a str,
+        serving: Serving<'a>,
     },
 }
 
@@ -110,7 +116,7 @@ fn texts_of<'a, 'm>(matches: &'m ArgMatches<'a>, id: &str) -> Result<&'m [&'a st
 }
 
 /// The number that a word is, which has to be there.
-fn number_of(matches: &ArgMatches, id: &str) -> Result<u16, EnvelopeFault>
+pub(crate) fn number_of(matches: &ArgMatches, id: &str) -> Result<u16, EnvelopeFault>
     ensures number { IfOk result (IsNumber (rows_of (found_of matches.now)) id.now) }
     ensures fault { IfErr result (λ fault. (fault ≡ Missing)
         × HasNoNumber (rows_of (found_of matches.now)) id.now) }
@@ -162,6 +168,11 @@ fn asked_by<'a>(
             let sending = sending_of(alloc, matches)?;
             let envelope = Envelope::new(alloc, &sending)?;
             Ok(Asked::Send { sending, envelope })
+        }
+        "serve" => {
+            let config = text_of(matches, "config")?;
+            let serving = serving_of(matches)?;
+            Ok(Asked::Serve { config, serving })
         }
         _ => Err(EnvelopeFault::Missing),
     }

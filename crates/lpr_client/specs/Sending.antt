@@ -1,19 +1,9 @@
 -- What sending a job wrote and read, where it stopped.
-use Rattle.std.specs.Prelude.{◌≡◌, ◌≢◌, ◌<◌, ◌≤◌, ◌+◌, ◌++◌, ℕ, List, [], ◌∷◌, Option, Some, None, Result, Err, length, take, replicate}
+use Rattle.std.specs.Prelude.{◌≡◌, ◌≢◌, ◌<◌, ◌≤◌, ◌+◌, ◌++◌, ℕ, List, [], ◌∷◌, Option, Result, Err, length, take, replicate}
 use Rattle.std.specs.List.{concat}
-use Rattle.lpd_commands.specs.Ends.{one_more, Writes, WritesSome}
+use Rattle.lpd_commands.specs.Ends.{one_more, IsReadOut, Took, Writes, WritesSome}
 use Rattle.lpr_client.specs.declared.send.SendFault.{SendFault}
 use Rattle.lpr_client.specs.declared.send.SendFault.TheVariants.{Refused, Cut, ReadFault, WriteFault, Memory}
-
--- these octets were read, one after another, where the reader tells them
-abbrev pub Took : Option (List ℕ) → Option (List ℕ) → List ℕ → Type 0
-Took None rest octets = rest ≡ None
-Took (Some old) rest octets = (after : List ℕ) × (old ≡ octets ++ after) × (rest ≡ Some after)
-
--- nothing is left, where the reader tells it
-abbrev pub IsReadOut : Option (List ℕ) → Type 0
-IsReadOut None = Unit {0}
-IsReadOut (Some rest) = rest ≡ []
 
 -- Where sending stopped by a fault after k acknowledgements: the octets of the parts that were written, and the octets
 -- that were read. Each acknowledgement was 00. What a failed write left is a head of the first k + 1 parts that has the

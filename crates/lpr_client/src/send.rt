@@ -1,13 +1,13 @@
 //! Sending a job, acknowledgement by acknowledgement.
 
 ghost use Rattle.std.specs.Prelude.{IsTrue, ◌≡◌, ◌∷◌, [], map, OnOk, OnErr, IfErr};
-ghost use Rattle.lpd_commands.specs.Ends.{one_more, Writes, WritesSome};
+ghost use Rattle.lpd_commands.specs.Ends.{one_more, Took, Writes, WritesSome};
 ghost use Rattle.control_file.specs.Written.{control_text};
 ghost use Rattle.control_file.specs.View.{contents};
 ghost use Rattle.lpr_client.specs.Parts.{job_parts, zeroed};
 ghost use Rattle.lpr_client.specs.Shown.{part_octets};
 ghost use Rattle.lpr_client.specs.Sendable.{is_sendable};
-ghost use Rattle.lpr_client.specs.Sending.{AllSent, LacksOne, PartStops, Stops, StopsOrNot, Took, reader_faults, writer_faults};
+ghost use Rattle.lpr_client.specs.Sending.{AllSent, LacksOne, PartStops, Stops, StopsOrNot, reader_faults, writer_faults};
 ghost use Rattle.lpr_client.specs.declared.send.SendFault.TheVariants.{Memory};
 
 use crate::file::DataFile;

@@ -16,12 +16,16 @@ pub fn drain_files(row: usize, files: usize, kept: &[usize], nodes: &mut Nodes, 
     requires rows { row < 2 ^ 32 }
     requires few { files ≤ 52 }
     requires here { HasRow nodes.old row }
-    requires sizes { (i : ℕ) → i < files → is_among kept.now i ≡ false → AreOfSize pool.old.page_size (pages_in nodes.old row i) }
+    requires sizes { (i : ℕ) → i < files → is_among kept.now i ≡ false
+        → AreOfSize pool.old.page_size (pages_in nodes.old row i) }
     requires room { pool.old.free + dropped_in nodes.old row kept.now files ≤ pool.old.pages }
-    ensures kept { (i : ℕ) → i < 52 → pages_in nodes.new row i ≡ left_in nodes.old row kept.now files i }
+    ensures kept { (i : ℕ) → i < 52
+        → pages_in nodes.new row i ≡ left_in nodes.old row kept.now files i }
     ensures only { OnlyRow nodes.old nodes.new row }
-    ensures pool { pool.new ≡ record pool.old { free = pool.old.free + dropped_in nodes.old row kept.now files } }
-    ensures total { total nodes.new.chains + dropped_in nodes.old row kept.now files ≡ total nodes.old.chains }
+    ensures pool { pool.new
+        ≡ record pool.old { free = pool.old.free + dropped_in nodes.old row kept.now files } }
+    ensures total { total nodes.new.chains + dropped_in nodes.old row kept.now files
+        ≡ total nodes.old.chains }
 {
     'files: for i in 0..files {
         if !kept.contains(&i) {

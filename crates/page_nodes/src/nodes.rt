@@ -127,7 +127,8 @@ impl Nodes {
         requires sizes { AreOfSize pool.old.page_size (chain_of self.old key) }
         requires room { pool.old.free + length (chain_of self.old key) ≤ pool.old.pages }
         ensures nodes { self.new ≡ with_chain self.old key [] }
-        ensures pool { pool.new ≡ record pool.old { free = pool.old.free + length (chain_of self.old key) } }
+        ensures pool { pool.new
+            ≡ record pool.old { free = pool.old.free + length (chain_of self.old key) } }
     {
         'pages: while self.len(key) > 0 {
             let page = self.take(key);

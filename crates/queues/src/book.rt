@@ -111,7 +111,8 @@ impl Book {
     pub fn find(&self, number: u64) -> Option<usize>
         ensures found { IfSome result (λ i.
             (i < length self.now.jobs) × ((job_at self.now i).facts.number ≡ number)) }
-        ensures absent { IfNone result (All (λ (j : HeldJob). j.facts.number ≢ number) self.now.jobs) }
+        ensures absent { IfNone result
+            (All (λ (j : HeldJob). j.facts.number ≢ number) self.now.jobs) }
     {
         self.jobs.get_index_of(&number)
     }
@@ -166,7 +167,8 @@ impl Book {
     /// Whether the page of the place that was handed out last comes again.
     pub fn comes_again(&self, i: usize) -> bool
         requires { i < length self.now.jobs }
-        ensures { result ≡ comes_again (job_at self.now i).chain.places (job_at self.now i).chain.last }
+        ensures { result
+            ≡ comes_again (job_at self.now i).chain.places (job_at self.now i).chain.last }
     {
         let entry = &self.jobs[i];
         entry.chain.comes_again()
@@ -276,7 +278,8 @@ impl Book {
         requires room { pool.old.free + unnamed_of (job_at self.old i) ≤ pool.old.pages }
         ensures book { self.new ≡ received_in self.old i }
         ensures counted { unnamed_of (job_at self.old i) ≤ self.old.stored }
-        ensures pool { pool.new ≡ record pool.old { free = pool.old.free + unnamed_of (job_at self.old i) } }
+        ensures pool { pool.new
+            ≡ record pool.old { free = pool.old.free + unnamed_of (job_at self.old i) } }
     {
         let entry = &mut self.jobs[i];
         match entry.job.control() {
@@ -294,7 +297,9 @@ impl Book {
         requires here { i < length self.old.jobs }
         requires ready { IsReady (job_at self.old i).chain }
         requires few { (job_at self.old i).facts.handed + 1 < 2 ^ 64 }
-        ensures page { page_at (job_at self.old i).chain.files (next_place (job_at self.old i).chain) ≡ Some result }
+        ensures page { page_at (job_at self.old i).chain.files
+            (next_place (job_at self.old i).chain)
+            ≡ Some result }
         ensures size { result.page_size ≡ self.old.page_size }
         ensures book { self.new ≡ handed_in self.old i }
         ensures counted { 0 < self.old.stored }

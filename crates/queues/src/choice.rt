@@ -223,7 +223,8 @@ impl Book {
     /// The number of the active job of a queue, where an agent may remove it.
     fn chosen_active(&self, queue: u32, agent: &[u8]) -> Result<Vec<u64>, AllocError>
         ensures { IfOk result (λ numbers. numbers.items
-            ≡ map (λ (j : Facts). j.number) (C.chosen queue agent.now [] (facts_in self.now.jobs))) }
+            ≡ map (λ (j : Facts). j.number)
+            (C.chosen queue agent.now [] (facts_in self.now.jobs))) }
     {
         let mut numbers = Vec::new(self.alloc());
         let Some(i) = self.active(queue) else {
@@ -236,7 +237,8 @@ impl Book {
     /// The numbers of the jobs that a removal by these words takes.
     fn chosen_by(&self, queue: u32, agent: &[u8], words: &[Octets]) -> Result<Vec<u64>, AllocError>
         ensures { IfOk result (λ numbers. numbers.items
-            ≡ map (λ (j : Facts). j.number) (T.picked queue agent.now words.now (facts_in self.now.jobs))) }
+            ≡ map (λ (j : Facts). j.number)
+            (T.picked queue agent.now words.now (facts_in self.now.jobs))) }
     {
         let mut numbers = Vec::new(self.alloc());
         for i in 0..self.len() {
@@ -250,7 +252,8 @@ impl Book {
     /// AllocError where memory for them is refused.
     pub fn chosen(&self, queue: u32, agent: &[u8], list: &[Octets]) -> Result<Vec<u64>, AllocError>
         ensures { IfOk result (λ numbers. numbers.items
-            ≡ map (λ (j : Facts). j.number) (C.chosen queue agent.now list.now (facts_in self.now.jobs))) }
+            ≡ map (λ (j : Facts). j.number)
+            (C.chosen queue agent.now list.now (facts_in self.now.jobs))) }
     {
         match list {
             [] => self.chosen_active(queue, agent),

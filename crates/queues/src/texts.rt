@@ -319,7 +319,8 @@ impl Book {
         list: &[Octets],
     ) -> Result<Vec<u8>, AllocError>
         ensures { IfOk result (λ text. text.items
-            ≡ flat_map T.removed_line (C.chosen queue agent.now list.now (facts_in self.now.jobs))) }
+            ≡ flat_map T.removed_line
+            (C.chosen queue agent.now list.now (facts_in self.now.jobs))) }
     {
         match list {
             [] => self.removed_active(queue, agent),

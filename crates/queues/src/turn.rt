@@ -24,7 +24,8 @@ impl Book {
     /// Whether an earlier job of the sender and queue of the job at a place is held.
     fn has_earlier(&self, i: usize) -> bool
         requires { i < length self.now.jobs }
-        ensures { result ≡ list_any (is_preceded_by (job_at self.now i).facts) (facts_in self.now.jobs) }
+        ensures { result
+            ≡ list_any (is_preceded_by (job_at self.now i).facts) (facts_in self.now.jobs) }
     {
         for other in 0..self.len() {
             if self.is_before(i, other) {
@@ -58,7 +59,8 @@ impl Book {
 
     /// The place of the first job that a queue may begin.
     pub fn ready(&self, queue: u32) -> Option<usize>
-        ensures { FirstOf (ready_in (facts_in self.now.jobs) queue) (facts_in self.now.jobs) result }
+        ensures { FirstOf (ready_in (facts_in self.now.jobs) queue) (facts_in self.now.jobs)
+            result }
     {
         for i in 0..self.len() {
             if self.is_ready_in(queue, i) {

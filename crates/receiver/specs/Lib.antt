@@ -5,3 +5,4 @@ pub mod View
 pub mod Sound
 pub mod Leads
 pub mod Blocks
+pub mod Idle

@@ -6,6 +6,7 @@ ghost use Rattle.receiver.specs.Script.{Ticket, after_line, first_block, block};
 ghost use Rattle.receiver.specs.Reading.{due, start, is_inner, IsFitting, after_reply};
 ghost use Rattle.receiver.specs.View.{Steps, StepsAt, EndsLine, Leaves, reply_of, IsEmptyTicket, held};
 ghost use Rattle.receiver.specs.Sound.{state_of, IsSound, IsAtLineEnd, OpensOrNot};
+ghost use Rattle.receiver.specs.Idle.{IsIdle};
 
 use crate::need::{Answer, Need};
 use control_file::Control;
@@ -203,6 +204,15 @@ impl Machine {
         ensures { result ≡ (state_of self.now).job }
     {
         self.job
+    }
+
+    pub(crate) fn is_idle(&self) -> bool
+        ensures { IsTrue result ↔ IsIdle (state_of self.now) }
+    {
+        match self.phase {
+            Phase::Line => self.line.is_empty() && !self.job,
+            _ => false,
+        }
     }
 
     pub(crate) fn into_ticket(self) -> Option<PageTicket>

@@ -5,6 +5,7 @@ ghost use Rattle.std.specs.Prelude.{◌≡◌, ◌≤◌, [], ◌∷◌, length,
 ghost use Rattle.receiver.specs.Reading.{start, IsFitting, after_reply};
 ghost use Rattle.receiver.specs.View.{Steps, Leaves, Rested, outputs, reply_of, IsEmptyTicket, held};
 ghost use Rattle.receiver.specs.Leads.{Advances, Replies};
+ghost use Rattle.receiver.specs.Idle.{IsIdle};
 
 use crate::machine::Machine;
 use crate::need::{Answer, Need};
@@ -84,6 +85,13 @@ impl Receiver {
         ensures { result ≡ self.now.job }
     {
         self.machine.has_job()
+    }
+
+    /// Whether it is between blocks, with no job in hand and no octet of a line read.
+    pub fn is_idle(&self) -> bool
+        ensures { IsTrue result ↔ IsIdle self.now }
+    {
+        self.machine.is_idle()
     }
 
     /// Ends the reading, and gives the ticket in hand.

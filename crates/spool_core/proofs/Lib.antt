@@ -3,3 +3,4 @@ pub mod Cores
 pub mod Packs
 pub mod Beginning
 pub mod Outs
+pub mod Standing

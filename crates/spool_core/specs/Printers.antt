@@ -1,5 +1,5 @@
 -- The printers of a core.
-use Rattle.std.specs.Prelude.{◌≡◌, ℕ, List, [], Option, Some, None, map}
+use Rattle.std.specs.Prelude.{◌≡◌, ◌⊎◌, ℕ, List, [], Option, Some, None, map}
 use Rattle.account.specs.declared.entry.Sheet.{Sheet}
 use Rattle.account.specs.declared.entry.Outline.{Outline}
 use Rattle.config_values.specs.Config.{Config}
@@ -8,7 +8,7 @@ use Rattle.spool_history.specs.Events as E
 use Rattle.spool_history.specs.Events.{Event}
 use Rattle.spool_history.specs.Now.{printer_of, up_to}
 use Rattle.spool_history.specs.Next.{next_page}
-use Rattle.spool_history.specs.Next.Next.{Hands}
+use Rattle.spool_history.specs.Next.Next.{Hands, Nothing, Stops}
 use Rattle.spool_calls.specs.declared.printer.Printer.{Printer}
 use Rattle.spool_calls.specs.declared.handed.HandedPage.{HandedPage}
 use Rattle.spool_calls.specs.Looks.{Detail, What, outline_of}
@@ -33,3 +33,7 @@ IsOutAt (Some s) page page_size =
 -- a page is next for a printer
 abbrev pub HasNext : (d : Detail) → Base → List (Event (What d)) → Kept → (printer : ℕ) → Type 0
 HasNext d b h k p = (sheet : E.Sheet (What d)) × (next_page (before d b h k) p ≡ Hands sheet)
+
+-- nothing is next for a printer, or it is stopped
+abbrev pub MustWait : (d : Detail) → Base → List (Event (What d)) → Kept → (printer : ℕ) → Type 0
+MustWait d b h k p = (next_page (before d b h k) p ≡ Nothing) ⊎ (next_page (before d b h k) p ≡ Stops)

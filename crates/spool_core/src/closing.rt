@@ -42,7 +42,8 @@ fn is_listed(numbers: &[u64], number: u64) -> bool
 /// Ends the job at a place, unless it has ended: its pages go back to the pool, and where no page of it is out it goes.
 fn end_job(book: &mut Book, pool: &mut Pool, table: &mut Table, i: usize)
     requires { CanEnd (stock book.old pool.old table.old) i }
-    ensures { stock book.new pool.new table.new ≡ stock_after (stock book.old pool.old table.old) i }
+    ensures { stock book.new pool.new table.new
+        ≡ stock_after (stock book.old pool.old table.old) i }
 {
     let job = book.job(i);
     if has_ended(job) {
@@ -64,7 +65,8 @@ fn end_job(book: &mut Book, pool: &mut Pool, table: &mut Table, i: usize)
 /// Ends all jobs.
 fn end_all(book: &mut Book, pool: &mut Pool, table: &mut Table)
     requires { IsStocked (stock book.old pool.old table.old) }
-    ensures { EndsTo all_end (stock book.old pool.old table.old) (stock book.new pool.new table.new) }
+    ensures { EndsTo all_end (stock book.old pool.old table.old)
+        (stock book.new pool.new table.new) }
 {
     let mut i = book.len();
     while i > 0 {
@@ -76,7 +78,8 @@ fn end_all(book: &mut Book, pool: &mut Pool, table: &mut Table)
 /// Ends the jobs of these numbers.
 pub(crate) fn end_listed(book: &mut Book, pool: &mut Pool, table: &mut Table, numbers: &[u64])
     requires { IsStocked (stock book.old pool.old table.old) }
-    ensures { EndsTo (listed numbers.now) (stock book.old pool.old table.old) (stock book.new pool.new table.new) }
+    ensures { EndsTo (listed numbers.now) (stock book.old pool.old table.old)
+        (stock book.new pool.new table.new) }
 {
     let mut i = book.len();
     while i > 0 {

@@ -7,7 +7,7 @@ ghost use Rattle.claims.specs.Changes.{closed, granted};
 ghost use Rattle.config_values.specs.Config.{IsPrinter};
 ghost use Rattle.held_jobs.specs.Books.{job_at};
 ghost use Rattle.spool_calls.specs.Calls.{IsRight, Hands, Prints, Fails};
-ghost use Rattle.spool_core.specs.Printers.{HasNext};
+ghost use Rattle.spool_core.specs.Printers.{HasNext, MustWait};
 ghost use Rattle.account.specs.declared.entry.Progress.TheVariants as progress;
 ghost use Rattle.core_steps.proofs.Backing.{said_of};
 ghost use Rattle.held_jobs.specs.Moves.{pages_of};
@@ -67,7 +67,8 @@ fn let_go(book: &mut Book, pool: &mut Pool, table: &mut Table, i: usize, page: H
       jobs = remove book.old.jobs i;
       stored = book.old.stored - pages_of (job_at book.old i);
     } }
-    ensures pool { pool.new ≡ record pool.old { free = pool.old.free + pages_of (job_at book.old i) + 1 } }
+    ensures pool { pool.new
+        ≡ record pool.old { free = pool.old.free + pages_of (job_at book.old i) + 1 } }
     ensures table { table.new ≡ closed table.old i }
 {
     book.drain(i, pool);
@@ -144,6 +145,27 @@ impl Core {
             return false;
         };
         self.book.next_place(i).is_some()
+    }
+
+    /// Whether a printer has to wait for its next page: `next` would answer Nothing or Stopped.
+    pub fn must_wait(&self, printer: u32) -> bool
+        requires { IsPrinter self.now.config printer }
+        ensures { IsRight self.now (λ d b h. IsTrue result ↔ MustWait d b h self.now printer) }
+    {
+        let at = self.printers[printer as usize - 1];
+        if self.closed {
+            return false;
+        }
+        if at.stopped {
+            return true;
+        }
+        if at.out.is_some() {
+            return false;
+        }
+        let Some(i) = self.book.turn_of(at.queue, at.began) else {
+            return true;
+        };
+        self.book.next_place(i).is_none()
     }
 
     /// Takes back the page that is out at a printer, printed, and says how far its job is.

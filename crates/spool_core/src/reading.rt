@@ -1,20 +1,23 @@
 //! What a core tells of itself. No reader takes memory, and none changes anything.
 
-ghost use Rattle.std.specs.Prelude.{◌≡◌, ◌↔◌, ◌+◌, ◌-◌, ◌<◌, ◌≤◌, ◌^◌, List, IsTrue, MatchOption, length};
+ghost use Rattle.std.specs.Prelude.{◌≡◌, ◌↔◌, ◌+◌, ◌-◌, ◌<◌, ◌≤◌, ◌^◌, List, IsTrue, MatchOption, length, slice_index_or};
 ghost use Rattle.account.specs.declared.entry.Outline.{Outline};
-ghost use Rattle.config_values.specs.Config.{reserve_of};
+ghost use Rattle.config_values.specs.Config.{IsPrinter, reserve_of};
 ghost use Rattle.held_jobs.specs.Jobs.{last_size};
 ghost use Rattle.spool_history.specs.Base.{Base};
 ghost use Rattle.spool_history.specs.Events.{Event};
 ghost use Rattle.spool_history.specs.Now.{free_pages};
+ghost use Rattle.spool_history.specs.Next.{printer_at};
 ghost use Rattle.spool_calls.specs.Looks.Detail.{Outlines};
-ghost use Rattle.spool_calls.specs.Kept.{Leaves};
+ghost use Rattle.spool_calls.specs.Kept.{Leaves, kept_out};
 ghost use Rattle.spool_calls.specs.Calls.{IsNamed, IsRight, IsUnknown, before};
 ghost use Rattle.spool_calls.specs.Readers.{ArePlaced, HasOpenFile, IsOpenFile, MayControl, MayOpenIn, RefusesControl, RefusesOpen, stopped_for};
 ghost use Rattle.core_steps.proofs.Reading.{lent_among, out_among, stopped_in_queue};
+ghost use Rattle.core_steps.proofs.Starting.{no_kept};
 
 use crate::core_state::Core;
 use crate::receiving::is_receiving;
+use account::Sheet;
 use config_values::Config;
 use held_jobs::Job;
 use lpd_values::Refusal;
@@ -132,6 +135,17 @@ impl Core {
         ensures { IsRight self.now (λ d b h. result ≡ stopped_for d b h self.now queue) }
     {
         count_stopped_in(self.printers.as_slice(), queue) as u32
+    }
+
+    /// The page that is out at a printer.
+    pub fn out_at(&self, printer: u32) -> Option<Sheet>
+        requires { IsPrinter self.now.config printer }
+        ensures value { result ≡ (slice_index_or self.now.printers (printer - 1) no_kept).out }
+        ensures out { IsRight self.now (λ d b h.
+            result ≡ kept_out d (printer_at (before d b h self.now) printer).out) }
+    {
+        let at = self.printers[printer as usize - 1];
+        at.out
     }
 
     /// The number of the queue of a name.

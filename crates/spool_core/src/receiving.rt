@@ -121,7 +121,8 @@ fn receive(book: &mut Book, pool: &mut Pool, table: &mut Table, i: usize)
     requires kind { 0 < length table.old.capacity }
     requires held { unnamed_of (job_at book.old i) ≤ amount (row_at table.old.rows i).held PAGES }
     ensures book { book.new ≡ received_in book.old i }
-    ensures pool { pool.new ≡ record pool.old { free = pool.old.free + unnamed_of (job_at book.old i) } }
+    ensures pool { pool.new
+        ≡ record pool.old { free = pool.old.free + unnamed_of (job_at book.old i) } }
     ensures table { table.new
         ≡ given_back (need_ended table.old i PAGES) i PAGES (unnamed_of (job_at book.old i)) }
 {

@@ -1,6 +1,7 @@
 //! What a session asks, and what it is answered.
 
 use lpd_values::{Octets, Refusal};
+use spool_calls::Receipt;
 
 /// Which kind of request a session makes.
 #[derive(Clone, Copy, Debug, PartialEq, Eq)]
@@ -48,4 +49,50 @@ pub enum Answer {
     Told(Octets),
     /// It is refused, and the session is over.
     Refused(Refusal),
+}
+
+/// Yes, or the refusal.
+impl From<Result<(), Refusal>> for Answer {
+    ghost use Rattle.std.specs.Prelude.{◌≡◌};
+    ghost use Rattle.spool_requests.specs.Follows.{done_by};
+
+    ghost from_gives = { λ outcome answer. answer ≡ done_by outcome };
+
+    fn from(outcome: Result<(), Refusal>) -> Answer {
+        match outcome {
+            Ok(()) => Answer::Yes,
+            Err(refusal) => Answer::Refused(refusal),
+        }
+    }
+}
+
+/// Whether the job is whole, or the refusal.
+impl From<Result<Receipt, Refusal>> for Answer {
+    ghost use Rattle.std.specs.Prelude.{◌≡◌};
+    ghost use Rattle.spool_requests.specs.Follows.{kept_by};
+
+    ghost from_gives = { λ outcome answer. answer ≡ kept_by outcome };
+
+    fn from(outcome: Result<Receipt, Refusal>) -> Answer {
+        match outcome {
+            Ok(Receipt::Stored) => Answer::Stored,
+            Ok(Receipt::Received) => Answer::Received,
+            Err(refusal) => Answer::Refused(refusal),
+        }
+    }
+}
+
+/// The text, or the refusal.
+impl From<Result<Octets, Refusal>> for Answer {
+    ghost use Rattle.std.specs.Prelude.{◌≡◌};
+    ghost use Rattle.spool_requests.specs.Follows.{told_by};
+
+    ghost from_gives = { λ outcome answer. answer ≡ told_by outcome };
+
+    fn from(outcome: Result<Octets, Refusal>) -> Answer {
+        match outcome {
+            Ok(text) => Answer::Told(text),
+            Err(refusal) => Answer::Refused(refusal),
+        }
+    }
 }

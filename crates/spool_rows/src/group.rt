@@ -1,7 +1,8 @@
 //! The groups of rows.
 
-use crate::{calls, control, histories, lines, rows, scripts, tables};
+use crate::{control, cores, histories, lines, rows, scripts, seats, tables};
 use std::alloc::{AllocError, Global};
+use std::sync::Wait;
 
 /// A group of rows that are asked of the same function.
 #[derive(Clone, Copy)]
@@ -32,10 +33,12 @@ pub enum Group {
     Histories,
     /// Calls of a core and what they answer.
     Calls,
+    /// Calls of a spool that threads share, and its account.
+    Seats,
 }
 
 /// All groups.
-pub const GROUPS: [Group; 13] = [
+pub const GROUPS: [Group; 14] = [
     Group::Commands,
     Group::Subcommands,
     Group::Names,
@@ -49,6 +52,7 @@ pub const GROUPS: [Group; 13] = [
     Group::Scripts,
     Group::Histories,
     Group::Calls,
+    Group::Seats,
 ];
 
 impl Group {
@@ -68,13 +72,14 @@ impl Group {
             Group::Scripts => "scripts",
             Group::Histories => "histories",
             Group::Calls => "calls",
+            Group::Seats => "seats",
         }
     }
 
     /// What stands between two rows.
     pub fn between(self) -> &'static str {
         match self {
-            Group::Scripts | Group::Histories | Group::Calls => "====\n",
+            Group::Scripts | Group::Histories | Group::Calls | Group::Seats => "====\n",
             _ => "\n",
         }
     }
@@ -82,7 +87,7 @@ impl Group {
     /// Whether what stands between two of these is a row, and no comment.
     pub fn is_row(self, row: &str) -> bool {
         match self {
-            Group::Scripts | Group::Histories | Group::Calls => !row.is_empty(),
+            Group::Scripts | Group::Histories | Group::Calls | Group::Seats => !row.is_empty(),
             _ => !row.is_empty() && !row.starts_with("# "),
         }
     }
@@ -92,7 +97,7 @@ impl Group {
         match self {
             Group::Scripts => row.split_once("----\n").unwrap_or((row, "")),
             Group::Histories => (row, histories::rows_of(row)),
-            Group::Calls => (row, row),
+            Group::Calls | Group::Seats => (row, row),
             _ => row.split_once(" => ").unwrap_or((row, "")),
         }
     }
@@ -100,13 +105,16 @@ impl Group {
     /// The octets that are wanted: those of a text with escapes, but for histories and calls, which are wanted as they stand.
     pub fn wanted(self, alloc: Global, wanted: &str) -> Result<Vec<u8>, AllocError> {
         match self {
-            Group::Histories | Group::Calls => Vec::from_slice(alloc, wanted.as_bytes()),
+            Group::Histories | Group::Calls | Group::Seats => {
+                Vec::from_slice(alloc, wanted.as_bytes())
+            }
             _ => rows::octets(alloc, wanted),
         }
     }
 
     /// What is answered.
-    pub fn answer(self, alloc: Global, asked: &str) -> Result<Vec<u8>, AllocError> {
+    pub fn answer<R: AllocGlobal + Wait>(self, rt: &R, asked: &str) -> Result<Vec<u8>, AllocError> {
+        let alloc = rt.alloc();
         match self {
             Group::Commands => lines::command(alloc, asked),
             Group::Subcommands => lines::subcommand(alloc, asked),
@@ -120,7 +128,8 @@ impl Group {
             Group::Lines => scripts::line(alloc, asked),
             Group::Scripts => scripts::script(alloc, asked),
             Group::Histories => histories::history(alloc, asked),
-            Group::Calls => calls::calls(alloc, asked),
+            Group::Calls => cores::calls(alloc, asked),
+            Group::Seats => seats::seats(rt, alloc, asked),
         }
     }
 }

@@ -10,14 +10,13 @@
 //! A line `base ACCEPTED RESERVED CLOSED STOPPED ..`, of numbers and then 0 or 1 each, has the history begin from that
 //! base. A line `rotated` has it go on from the base after it, and is refused where a job is held.
 
-use crate::rows::{escaped, value, word, words};
-use account::{Act, Base, Entry, Outline, Progress, Sheet, Turn};
+use crate::entries::{entry, number};
+use crate::rows::{escaped, word, words};
+use account::{Act, Base, Entry};
 use config_values::Config;
-use control_file::Control;
 use history_legality::{free_pages, is_legal, is_safe_now, may};
 use history_reader::{Next, State, next_page, now, rotated};
 use history_texts::{removal_text, state_text};
-use lpd_values::FileName;
 use std::alloc::{AllocError, Global};
 
 /// The configuration of a history that has none of its own.
@@ -99,11 +98,6 @@ fn told_row(
     format!(in alloc; "{asked}| {said}")
 }
 
-/// The number that a word spells, or 0.
-fn number(word: &str) -> u32 {
-    word.parse::<u32>().unwrap_or(0)
-}
-
 /// The base that these words tell: the last acceptance number, the counted reserve, whether the spool is closed, and for
 /// each printer whether it is stopped.
 fn base_of(alloc: Global, told: &str) -> Result<Base, AllocError> {
@@ -119,120 +113,6 @@ fn base_of(alloc: Global, told: &str) -> Result<Base, AllocError> {
         reserved: reserved.parse::<u64>().unwrap_or(0),
         closed: closed == "1",
         stopped,
-    })
-}
-
-/// A page of so many octets.
-fn page(length: u32) -> Outline {
-    Outline {
-        length,
-        digest: [(length & 0xff) as u8; 32],
-    }
-}
-
-/// A control file of this name that prints these files, with a comma between two.
-fn control(alloc: Global, name: &str, prints: &str) -> Result<Option<Control>, AllocError> {
-    let Ok(name) = FileName::read(name.as_bytes()) else {
-        return Ok(None);
-    };
-    let mut text = String::from_str(alloc, "Hh1\nPann\n")?;
-    for print in prints.split(',') {
-        text.push_str("f")?;
-        text.push_str(print)?;
-        text.push_str("\n")?;
-    }
-    Ok(Control::parse(alloc, &name, text.as_bytes()).ok())
-}
-
-/// What the session of a job did.
-fn act(alloc: Global, verb: &str, values: [&str; 5]) -> Result<Option<Act>, AllocError> {
-    let [name, prints, _, _, _] = values;
-    let (first, second, third) = (number(values[0]), number(values[1]), number(values[2]));
-    Ok(match verb {
-        "began" => match FileName::read(name.as_bytes()) {
-            Ok(name) => Some(Act::Began(name, u64::from(second))),
-            Err(_) => None,
-        },
-        "granted" => Some(Act::Granted),
-        "put" => Some(Act::Put(u64::from(first), u64::from(second), page(third))),
-        "ended" => Some(Act::FileEnded(u64::from(first), second == 1)),
-        "controlled" => match control(alloc, name, prints)? {
-            Some(control) => Some(Act::Controlled(control, third == 1)),
-            None => None,
-        },
-        "aborted" => Some(Act::Aborted),
-        _ => None,
-    })
-}
-
-/// What became of a page at a printer: it was handed to it, failed, or was printed and this is said of its job.
-fn turn(verb: &str) -> Option<Turn> {
-    match verb {
-        "handed" => Some(Turn::Handed),
-        "going" => Some(Turn::Printed(Progress::Going)),
-        "done" => Some(Turn::Printed(Progress::Done)),
-        "ended" => Some(Turn::Printed(Progress::Ended)),
-        "failed" => Some(Turn::Failed),
-        _ => None,
-    }
-}
-
-/// The page of this job and place, of so many octets. Where no file and page number stand behind these, it is the page
-/// of its place's number in the first file.
-fn sheet(values: [&str; 5]) -> Sheet {
-    let [job, place, length, file, page_number] = values;
-    let of_place = if page_number.is_empty() {
-        place
-    } else {
-        page_number
-    };
-    Sheet {
-        job: u64::from(number(job)),
-        place: u64::from(number(place)),
-        file: u64::from(number(file)),
-        number: u64::from(number(of_place)),
-        page: page(number(length)),
-    }
-}
-
-/// Jobs of a queue were removed: their numbers with a comma between two, and none where that is 0.
-fn removed(alloc: Global, queue: u32, numbers: &str) -> Result<Entry, AllocError> {
-    let mut jobs = Vec::new(alloc);
-    for job in numbers.split(',') {
-        if number(job) != 0 {
-            jobs.push(u64::from(number(job)))?;
-        }
-    }
-    Ok(Entry::Removed(queue, jobs))
-}
-
-/// The entry that a line tells, or None where it tells none.
-fn entry(alloc: Global, line: &str) -> Result<Option<Entry>, AllocError> {
-    let (who, rest) = word(line);
-    let (which, rest) = word(rest);
-    let (verb, rest) = word(rest);
-    let (first, rest) = value(rest);
-    let (second, rest) = value(rest);
-    let (third, rest) = value(rest);
-    let (fourth, rest) = value(rest);
-    let (fifth, _) = value(rest);
-    let values = [first, second, third, fourth, fifth];
-    let which = number(which);
-    let job = u64::from(which);
-    Ok(match (who, verb) {
-        ("job", "opened") => Some(Entry::Opened(job, number(first), number(second))),
-        ("job", _) => match act(alloc, verb, values)? {
-            Some(act) => Some(Entry::OfJob(job, act)),
-            None => None,
-        },
-        ("printer", _) => match turn(verb) {
-            Some(turn) => Some(Entry::AtPrinter(which, sheet(values), turn)),
-            None => None,
-        },
-        ("queue", "removed") => Some(removed(alloc, which, first)?),
-        ("queue", "started") => Some(Entry::Started(which)),
-        ("spool", "closed") => Some(Entry::Closed),
-        _ => None,
     })
 }
 

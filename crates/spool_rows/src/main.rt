@@ -5,17 +5,24 @@
 
 mod calls;
 mod control;
+mod cores;
 mod desk;
+mod entries;
 mod group;
 mod histories;
+mod kept;
 mod lines;
 mod rows;
 mod scripts;
+mod seated;
+mod seats;
+mod spool;
 mod tables;
 
 use group::{GROUPS, Group};
-use std::alloc::{AllocError, Global};
+use std::alloc::AllocError;
 use std::rt::Files;
+use std::sync::Wait;
 use std::{fs, io};
 
 fn main(rt: HostRuntime) -> io::Result<()> {
@@ -26,7 +33,7 @@ fn main(rt: HostRuntime) -> io::Result<()> {
 }
 
 /// Reads the rows of a group, and answers them one after another.
-fn run_group<R: Files + AllocGlobal + Print>(rt: &R, group: Group) -> io::Result<()> {
+fn run_group<R: Files + AllocGlobal + Print + Wait>(rt: &R, group: Group) -> io::Result<()> {
     let file = format!(in rt.alloc(); "{}.rows", group.name())?;
     let text = fs::read_to_string(rt, file.as_str())?;
     let mut count = 0u64;
@@ -35,7 +42,7 @@ fn run_group<R: Files + AllocGlobal + Print>(rt: &R, group: Group) -> io::Result
             continue;
         }
         count = count.saturating_add(1);
-        if let Some(told) = difference(rt.alloc(), group, row)? {
+        if let Some(told) = difference(rt, group, row)? {
             println!(rt; "{}, row {count}: {told}", group.name())?;
         }
     }
@@ -43,10 +50,14 @@ fn run_group<R: Files + AllocGlobal + Print>(rt: &R, group: Group) -> io::Result
 }
 
 /// What is answered to a row and what is wanted, where these differ.
-fn difference(alloc: Global, group: Group, row: &str) -> Result<Option<String>, AllocError> {
+fn difference<R: AllocGlobal + Wait>(
+    rt: &R,
+    group: Group,
+    row: &str,
+) -> Result<Option<String>, AllocError> {
     let (asked, wanted) = group.sides(row);
-    let answer = group.answer(alloc, asked)?;
-    let wanted = group.wanted(alloc, wanted)?;
+    let answer = group.answer(rt, asked)?;
+    let wanted = group.wanted(rt.alloc(), wanted)?;
     if answer.as_slice() == wanted.as_slice() {
         return Ok(None);
     }
@@ -54,5 +65,5 @@ fn difference(alloc: Global, group: Group, row: &str) -> Result<Option<String>, 
         answer.as_slice().escape_ascii(),
         wanted.as_slice().escape_ascii(),
     );
-    Ok(Some(format!(in alloc; "{asked} gives {answer} and not {wanted}")?))
+    Ok(Some(format!(in rt.alloc(); "{asked} gives {answer} and not {wanted}")?))
 }

@@ -2,7 +2,7 @@
 
 use crate::rows::expect;
 use lpd_script::{StreamReader, StreamWriter};
-use lpd_words::{Fault, run};
+use lpd_words::{Fault, Outcome, Serving, run};
 use lpr_client::{Control, DataFile, FileName, Octets, SendFault, is_sendable, job_bytes};
 use std::alloc::{AllocError, Global};
 use std::io::{Read, Write};
@@ -41,18 +41,32 @@ fn words_of(alloc: Global, line: &str) -> Result<Vec<&str>, AllocError> {
     Ok(words)
 }
 
-/// What the program prints for these words and this input, its faults, and its exit status in a line of its own.
-fn told(rt: &HostRuntime, words: &[&str], input: &[u8]) -> Result<Vec<u8>, AllocError> {
-    let alloc = rt.alloc();
+/// The words that the program is started with, its name before these.
+fn all_words(alloc: Global, words: &[&str]) -> Result<Vec<String>, AllocError> {
     let mut all = Vec::new(alloc);
     all.push(String::from_str(alloc, "lpd_server")?)?;
     for word in words {
         all.push(String::from_str(alloc, word)?)?;
     }
+    Ok(all)
+}
+
+/// The exit status, where the program ends.
+fn status_of(outcome: Outcome) -> Option<u8> {
+    match outcome {
+        Outcome::Ended(status) => Some(status),
+        Outcome::Serve { .. } => None,
+    }
+}
+
+/// What the program prints for these words and this input, its faults, and its exit status in a line of its own.
+fn told(rt: &HostRuntime, words: &[&str], input: &[u8]) -> Result<Vec<u8>, AllocError> {
+    let alloc = rt.alloc();
+    let all = all_words(alloc, words)?;
     let mut output = StreamWriter::new(Vec::new(alloc));
     let mut faults = StreamWriter::new(Vec::new(alloc));
     let mut input = StreamReader::new(input);
-    let status = run(
+    let outcome = run(
         alloc,
         rt,
         all.as_slice(),
@@ -62,7 +76,11 @@ fn told(rt: &HostRuntime, words: &[&str], input: &[u8]) -> Result<Vec<u8>, Alloc
     );
     let mut told = output.into_stream();
     told.extend_from_slice(faults.into_stream().as_slice())?;
-    told.extend_from_slice(format!(in alloc; "status {status}\n")?.as_bytes())?;
+    let end = match status_of(outcome) {
+        Some(status) => format!(in alloc; "status {status}\n")?,
+        None => String::from_str(alloc, "serves\n")?,
+    };
+    told.extend_from_slice(end.as_bytes())?;
     Ok(told)
 }
 
@@ -171,7 +189,7 @@ fn a_script_runs_on_a_configuration(rt: HostRuntime) -> Result<(), Fail> {
 #[test]
 fn bad_words(rt: HostRuntime) -> Result<(), Fail> {
     let bad: [&[&str]; 11] = [
-        &["serve", "spool.toml"],
+        &["spool", "spool.toml"],
         &["check"],
         &["check", "a", "b"],
         &["replay", "a"],
@@ -194,6 +212,87 @@ fn bad_words(rt: HostRuntime) -> Result<(), Fail> {
     }
     let answer = told(&rt, words.as_slice(), b"")?;
     assert!(rt; answer.as_slice().ends_with(b"\nstatus 1\n"));
+    Ok(())
+}
+
+/// How a server is to run, in a line.
+fn line_of(alloc: Global, config: &str, serving: &Serving) -> Result<String, AllocError> {
+    let Serving {
+        port,
+        bind,
+        out,
+        sessions,
+        connections,
+        rotate,
+        silence,
+    } = *serving;
+    format!(in alloc;
+        "{config} {port} {bind} {out} {sessions} {connections:?} {rotate:?} {silence:?}\n"
+    )
+}
+
+/// What the words of a line ask to serve, and how.
+fn served(rt: &HostRuntime, line: &str) -> Result<String, AllocError> {
+    let alloc = rt.alloc();
+    let words = words_of(alloc, line)?;
+    let all = all_words(alloc, words.as_slice())?;
+    let mut output = StreamWriter::new(Vec::new(alloc));
+    let mut faults = StreamWriter::new(Vec::new(alloc));
+    let mut input = StreamReader::new(b"".as_slice());
+    let outcome = run(
+        alloc,
+        rt,
+        all.as_slice(),
+        &mut input,
+        &mut output,
+        &mut faults,
+    );
+    match outcome {
+        Outcome::Serve { config, serving } => line_of(alloc, config, &serving),
+        Outcome::Ended(status) => format!(in alloc; "status {status}\n"),
+    }
+}
+
+#[test]
+fn servers(rt: HostRuntime) -> Result<(), Fail> {
+    let answer = served(&rt, "serve spool.toml --port 515")?;
+    let line = b"spool.toml 515 127.0.0.1 . 8 None None None\n";
+    expect(&rt, b"serve", answer.as_bytes(), line);
+    let words = "serve --port=65535 --bind 10.0.200.255 --out pages --sessions 64 --connections 3 \
+        --rotate 4294967295 --silence 60 spool.toml";
+    let answer = served(&rt, words)?;
+    let line = b"spool.toml 65535 10.0.200.255 pages 64 Some(3) Some(4294967295) Some(60)\n";
+    expect(&rt, b"serve with options", answer.as_bytes(), line);
+    let answer = told(&rt, &["serve", "a", "--port", "1"], b"free\n")?;
+    expect(&rt, b"what serve tells", answer.as_slice(), b"serves\n");
+    Ok(())
+}
+
+#[test]
+fn bad_words_of_serve(rt: HostRuntime) -> Result<(), Fail> {
+    let bad = [
+        "serve spool.toml",
+        "serve --port 515",
+        "serve a b --port 515",
+        "serve a --port 0",
+        "serve a --port 65536",
+        "serve a --port 515 --port 516",
+        "serve a --port 515 --bind localhost",
+        "serve a --port 515 --bind 127.0.0.256",
+        "serve a --port 515 --bind 127.0.0",
+        "serve a --port 515 --sessions 0",
+        "serve a --port 515 --sessions 65",
+        "serve a --port 515 --connections 0",
+        "serve a --port 515 --rotate 4294967296",
+        "serve a --port 515 --silence long",
+        "serve a --port 515 --quiet",
+    ];
+    for line in bad {
+        let words = words_of(rt.alloc(), line)?;
+        let answer = told(&rt, words.as_slice(), b"")?;
+        assert!(rt; answer.as_slice().starts_with(b"error: "));
+        assert!(rt; answer.as_slice().ends_with(b"\nstatus 1\n"));
+    }
     Ok(())
 }
 

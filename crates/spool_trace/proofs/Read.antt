@@ -80,10 +80,10 @@ short_read p r items text unread e f d k t a os h =
     let z = nothing_over os (record p { items = Over ∷ []; tail = [] }) (text ++ t) a refl m in
     rw (z, e, f, still p unread t (Requests r items text) d tt) (inr (refl, refl, refl, k))
 
-taken : (s : Session) (octets : List ℕ) → IsRead s → IsRead (takes octets s)
+pub taken : (s : Session) (octets : List ℕ) → IsRead s → IsRead (takes octets s)
 taken s octets h = record { owed = h.owed; tail = h.tail; leads = on_arrival s.outputs s.arrived s.answers s.progress s.unread octets h.leads }
 
-asked : (s : Session) (r : Request) (items : List Item) (text : List ℕ) (answer : Answer) → due_in s ≡ Requests r items text → IsRead s → IsRead (asks r answer (goes_on items text s))
+pub asked : (s : Session) (r : Request) (items : List Item) (text : List ℕ) (answer : Answer) → due_in s ≡ Requests r items text → IsRead s → IsRead (asks r answer (goes_on items text s))
 asked s r items text answer d h =
     let k = answered_keeps (kind_of r) (reply_of answer) (record s.progress { items = items; tail = [] }) in
     record {
@@ -92,7 +92,7 @@ asked s r items text answer d h =
       leads = λ t a os m. rw (append_assoc s.outputs (Asked r ∷ []) os, append_assoc s.answers (reply_of answer ∷ []) a) (h.leads t (reply_of answer ∷ a) (Asked r ∷ os) (asked_read s.progress r items text s.unread (reply_of answer) h.owed h.tail d t a os m));
     }
 
-acked : (s : Session) (items : List Item) (text : List ℕ) → due_in s ≡ Writes Ack items text → IsRead s → IsRead (acks (goes_on items text s))
+pub acked : (s : Session) (items : List Item) (text : List ℕ) → due_in s ≡ Writes Ack items text → IsRead s → IsRead (acks (goes_on items text s))
 acked s items text d h =
     record {
       owed = h.owed;
@@ -100,7 +100,7 @@ acked s items text d h =
       leads = λ t a os m. rw append_assoc (h.leads t a (Wrote Ack ∷ os) (wrote_read s.progress Ack items text s.unread h.owed h.tail d t a os m));
     }
 
-refused : (s : Session) (items : List Item) (text : List ℕ) (n : Refusal) → due_in s ≡ Writes (Fault n) items text → IsRead s → IsRead (refuses n (goes_on items text s))
+pub refused : (s : Session) (items : List Item) (text : List ℕ) (n : Refusal) → due_in s ≡ Writes (Fault n) items text → IsRead s → IsRead (refuses n (goes_on items text s))
 refused s items text n d h =
     record {
       owed = h.owed;
@@ -108,7 +108,7 @@ refused s items text n d h =
       leads = λ t a os m. rw append_assoc (h.leads t a (Wrote (Fault n) ∷ os) (wrote_read s.progress (Fault n) items text s.unread h.owed h.tail d t a os m));
     }
 
-short : (s : Session) (r : Request) (items : List Item) (text : List ℕ) → due_in s ≡ Requests r items text → TakesMemory (Requests r items text) → IsRead s → IsRead (refuses refusal.Memory (goes_on (Over ∷ []) text s))
+pub short : (s : Session) (r : Request) (items : List Item) (text : List ℕ) → due_in s ≡ Requests r items text → TakesMemory (Requests r items text) → IsRead s → IsRead (refuses refusal.Memory (goes_on (Over ∷ []) text s))
 short s r items text d k h =
     record {
       owed = h.owed;
@@ -116,7 +116,7 @@ short s r items text d k h =
       leads = λ t a os m. rw append_assoc (h.leads t a (Wrote (Fault refusal.Memory) ∷ os) (short_read s.progress r items text s.unread h.owed h.tail d k t a os m));
     }
 
-ended : (s : Session) → IsRead s → IsRead (ends s)
+pub ended : (s : Session) → IsRead s → IsRead (ends s)
 ended s h = record { owed = h.owed; tail = h.tail; leads = h.leads }
 
 turned_read : (v : State (List ℕ)) (s : Session) (d : Due) (done : Deed) → due_in s ≡ d → IsDueTurn v s.job d done → IsRead s → IsRead (turned d done s)
@@ -146,7 +146,7 @@ turned_read v s Ends deed.Acked e i h = h
 turned_read v s Ends (deed.Asked kind answer) e i h = h
 turned_read v s Ends (deed.Refused n) e i h = h
 
-wrote : (s : Session) (octets : List ℕ) → IsRead s → IsRead (record s { written = octets })
+pub wrote : (s : Session) (octets : List ℕ) → IsRead s → IsRead (record s { written = octets })
 wrote s octets h = record { owed = h.owed; tail = h.tail; leads = h.leads }
 
 -- what holds of all sessions, and of one that is changed or new, holds of all after it
@@ -163,7 +163,7 @@ one_more P x d [] (suc j) p q h = q
 one_more P x d (y ∷ ys) zero p q h = h zero
 one_more P x d (y ∷ ys) (suc j) p q h = one_more P x d ys j p q (λ k. h (suc k))
 
-new_read : (sender : ℕ) → IsRead (new_session sender)
+pub new_read : (sender : ℕ) → IsRead (new_session sender)
 new_read sender = record { owed = refl; tail = refl; leads = λ t a os h. h }
 
 moved_read : (v : State (List ℕ)) (ss : List Session) (st : Step) (re : Reply) → IsDueReply v ss st re → ((k : ℕ) → IsRead (slice_index_or ss k (new_session 0)))
@@ -185,7 +185,7 @@ read_at c (e ∷ t) r n = moved_read (spool_after c t) (sessions t) e.step e.rep
 pub all_read : (c : Config) (t : Trace) → IsTrace c t → (n : ℕ) → IsRead (session_at (sessions t) n)
 all_read c t r n = read_at c t r (n - 1)
 
-rested : (s : Session) → IsRead s → Rests (due_in s) → ReadsFrom true s.outputs start s.arrived s.answers
+pub rested : (s : Session) → IsRead s → Rests (due_in s) → ReadsFrom true s.outputs start s.arrived s.answers
 rested s h r =
     let all : s.unread ++ [] ≡ s.unread = append-nil s.unread in
     let m : ReadsFrom true [] s.progress (s.unread ++ []) [] = rw (all, h.owed, h.tail) r in

@@ -1,5 +1,6 @@
 use Rattle.std.proofs.lemmas.Result.{err_from_is_err_and}
 use Rattle.lpd_words.proofs.AskedLemmas.{names_no_job}
+use Rattle.lpd_words.proofs.ServingLemmas.{asks_no_server}
 use Rattle.lpd_words.proofs.words.asked_by.Goals as goal
 
 pub returns-in_err-envelope-in-send-clause-fault : goal.returns-in_err-envelope-in-send-clause-fault
@@ -9,3 +10,10 @@ returns-in_err-envelope-in-send-clause-fault c =
     rw (p.1, p.2)
     (names_no_job _ _ c.in_ok-sending-in-send.sending c.in_err-envelope-in-send.field-0.0 c.in-send.is c.in_ok-sending-in-send.ensures.read
     c.in_err-envelope-in-send.ensures.fault)
+
+pub returns-in_err-serving-in-serve-clause-fault : goal.returns-in_err-serving-in-serve-clause-fault
+returns-in_err-serving-in-serve-clause-fault c =
+    let r = c.from_residual-in_err-serving-in-serve in
+    let p = err_from_is_err_and r.result r.ensures.1 in
+    rw (p.1, p.2)
+    (asks_no_server _ _ c.in_err-serving-in-serve.field-0.0 c.in-serve.is c.in_err-serving-in-serve.ensures.fault)

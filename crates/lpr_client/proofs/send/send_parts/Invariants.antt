@@ -1,8 +1,7 @@
 use Rattle.std.proofs.Common.{◌≡◌, map, take, replicate}
 use Rattle.std.specs.List.{concat}
-use Rattle.lpd_commands.specs.Ends.{Writes}
+use Rattle.lpd_commands.specs.Ends.{Took, Writes}
 use Rattle.lpr_client.specs.Shown.{part_octets}
-use Rattle.lpr_client.specs.Sending.{Took}
 use Rattle.lpr_client.proofs.send.send_parts.Given as goal
 
 abbrev pub invariant-loop-part : goal.invariant-loop-part

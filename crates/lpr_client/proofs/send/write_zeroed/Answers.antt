@@ -1,7 +1,7 @@
 use Rattle.std.proofs.Common.{[], ◌∷◌, ◌∙◌, ap}
 use Rattle.std.proofs.lemmas.Result.{err_from_is_err_and, on_err_weaker}
 use Rattle.lpd_commands.specs.Ends.{one_more}
-use Rattle.lpr_client.proofs.SendLemmas.{some_of_front, some_after}
+use Rattle.lpd_commands.proofs.Writing.{some_of_front, some_after}
 use Rattle.lpr_client.proofs.send.write_zeroed.Goals as goal
 
 pub returns-in_err-write_all-clause-err : goal.returns-in_err-write_all-clause-err

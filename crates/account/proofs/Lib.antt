@@ -1,0 +1,4 @@
+pub mod Accepted
+mod Histories
+mod Mapped
+mod Printers

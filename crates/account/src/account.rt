@@ -1,0 +1,131 @@
+//! The account of a spool since its last rotation.
+
+ghost use Rattle.std.specs.Prelude.{◌≡◌, ◌<◌, ◌≤◌, ◌*◌, ◌^◌, ◌∷◌, [], OnErr, OnOk, length, reverse};
+ghost use Rattle.account.specs.Kinds.{handed_in, kinds_in};
+ghost use Rattle.account.specs.Seen.{event_seen, history};
+
+use crate::entry::Entry;
+use std::alloc::{AllocError, Global};
+use std::marker::Model;
+
+/// The entries since the last rotation. Contracts see the events that they tell of, the newest first, and how many
+/// entries there is memory for.
+#[derive(Drop)]
+pub struct Account {
+    /// In order of writing.
+    entries: Vec<Entry>,
+}
+
+impl Model for Account {
+    ghost use Rattle.std.specs.Prelude.{reverse, vec_capacity};
+    ghost use Rattle.account.specs.Logs.{Log};
+    ghost use Rattle.account.specs.Seen.{history};
+
+    ghost Value = { Log };
+
+    ghost view = { λ a. record {
+      events = history (reverse a.entries.items);
+      room = vec_capacity a.entries;
+    } };
+}
+
+/// The sum of the numbers of the kinds of these entries.
+fn kinds_of(entries: &[Entry]) -> u64
+    requires { 13 * length entries.now < 2 ^ 64 }
+    ensures value { result ≡ kinds_in (history (reverse entries.now)) }
+    ensures within { result ≤ 13 * length entries.now }
+{
+    let mut sum = 0;
+    for entry in entries {
+        sum += entry.kind().number();
+    }
+    sum
+}
+
+/// How many of these entries tell of a page that was handed to a printer.
+fn handed_of(entries: &[Entry]) -> u64
+    ensures value { result ≡ handed_in (history (reverse entries.now)) }
+    ensures within { result ≤ length entries.now }
+{
+    let mut count = 0;
+    for entry in entries {
+        if entry.kind().is_handed() {
+            count += 1;
+        }
+    }
+    count
+}
+
+impl Account {
+    /// An account with no entries. It takes no memory.
+    pub fn new(alloc: Global) -> Account
+        ensures events { result.events ≡ [] }
+        ensures room { result.room ≡ 0 }
+    {
+        Account {
+            entries: Vec::new(alloc),
+        }
+    }
+
+    /// Asks for memory for so many entries in all, those there included.
+    ///
+    /// AllocError where it is refused; then nothing has changed.
+    pub fn reserve(&mut self, entries: u64) -> Result<(), AllocError>
+        ensures events { self.new.events ≡ self.old.events }
+        ensures room { OnOk result (entries ≤ self.new.room) }
+        ensures kept { self.old.room ≤ self.new.room }
+        ensures unchanged { OnErr result (self.new ≡ self.old) }
+    {
+        let more = (entries as usize).saturating_sub(self.entries.len());
+        self.entries.reserve(more)
+    }
+
+    /// Writes one entry more.
+    pub fn add(&mut self, entry: Entry)
+        requires { length self.old.events < self.old.room }
+        ensures { self.new ≡ record self.old { events = event_seen entry ∷ self.old.events } }
+    {
+        self.entries.push_reserved(entry);
+    }
+
+    /// The entries, in order of writing.
+    pub fn entries(&self) -> &[Entry]
+        ensures { history (reverse result.now) ≡ self.now.events }
+    {
+        self.entries.as_slice()
+    }
+
+    /// How many entries there are.
+    pub fn len(&self) -> u64
+        ensures value { result ≡ length self.now.events }
+        ensures room { result ≤ self.now.room }
+        ensures within { length self.now.events < 2 ^ 63 }
+    {
+        self.entries.len() as u64
+    }
+
+    /// The entries, in order of writing.
+    pub fn into_entries(self) -> Vec<Entry>
+        ensures { history (reverse result.items) ≡ self.events }
+    {
+        let Account { entries } = self;
+        entries
+    }
+
+    /// The sum of the numbers of the kinds of the entries.
+    pub fn kinds(&self) -> u64
+        requires { 13 * length self.now.events < 2 ^ 64 }
+        ensures value { result ≡ kinds_in self.now.events }
+        ensures within { result ≤ 13 * length self.now.events }
+    {
+        kinds_of(self.entries.as_slice())
+    }
+
+    /// How many of the entries tell of a page that was handed to a printer.
+    pub fn handed(&self) -> u64
+        ensures value { result ≡ handed_in self.now.events }
+        ensures within { result ≤ length self.now.events }
+    {
+        handed_of(self.entries.as_slice())
+    }
+}

@@ -1,0 +1,8 @@
+mod Beginning
+mod Decided
+mod Removed
+mod Rotated
+mod Segments
+mod Stopped
+mod Sums
+mod Written

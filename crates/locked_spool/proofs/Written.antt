@@ -1,0 +1,83 @@
+-- One entry more in the account.
+use Rattle.std.proofs.Common.{◌≡◌, ℕ, ◌+◌, ◌<◌, ◌≤◌, List, ◌∷◌, length, sym, ◌∙◌, ap, subst, arith}
+use Rattle.std.specs.Prelude.{sum_by}
+use Rattle.account.specs.declared.entry.Outline.{Outline}
+use Rattle.account.specs.Kinds.{kind_of}
+use Rattle.config_values.specs.Config.{Config, reserve_of}
+use Rattle.config_values.specs.Ranges.{IsConfig}
+use Rattle.spool_history.specs.Events.{Event}
+use Rattle.spool_history.specs.Said.{Opening, openings}
+use Rattle.spool_laws.proofs.Reserve.{reserve_is_enough}
+use Rattle.spool_laws.specs.Reserve.{CountsStops}
+use Rattle.spool_calls.specs.Looks.{size}
+use Rattle.spool_calls.specs.Looks.Detail.{Outlines}
+use Rattle.spool_calls.specs.Kept.{Kept, Leaves}
+use Rattle.spool_ledgers.specs.Sums.{Sums, with_entry}
+use Rattle.locked_spool.specs.Held.{Held, IsHeld}
+use Rattle.locked_spool.specs.Entries.{Writes}
+
+-- an entry was written, and the core did a step
+pub writes : (h : Held) (k : Kept) (e : Event Outline) (events : List (Event Outline)) → events ≡ e ∷ h.events → Writes h (record h { core = k; events = events }) e
+writes h k e events one = ap (λ (es : List (Event Outline)). record h { core = k; events = es }) one
+
+module _ {config : Config} {h : Held} {room : ℕ} {totals : Sums} (is : IsHeld config h room totals) where
+  -- the configuration of the core is in its ranges
+  pub in_ranges : IsConfig h.core.config
+  in_ranges = subst IsConfig (sym is.config_is) is.ranges
+
+  -- nothing has changed
+  pub unchanged : (k : Kept) → k ≡ h.core → IsHeld config (record h { core = k }) room totals
+  unchanged k same = subst (λ (z : Kept). IsHeld config (record h { core = z }) room totals) (sym same) is
+
+  -- where a core counts no more than the account has room for, there is room for the entry that led to it
+  pub room_for : {e : Event Outline} {k : Kept} (more : ℕ) → Leaves Outlines h.base (e ∷ h.events) k → k.config ≡ h.core.config → k.reserved + 1 ≤ more → length h.events < more
+  room_for {e = e} {k = k} more l same within =
+      let counts : CountsStops k.config h.base = subst (λ (c : Config). CountsStops c h.base) (sym is.config_is ∙ sym same) is.counts in
+      let n = reserve_is_enough (size Outlines) k.config h.base (e ∷ h.events) counts l.legal in
+      let r = l.kept.reserved in
+      omega (arith, n, r, within)
+
+  -- but for an acceptance no event changes what is counted
+  pub counted : {e : Event Outline} {k : Kept} → Leaves Outlines h.base (e ∷ h.events) k → k.config ≡ h.core.config → openings (e ∷ h.events) ≡ openings h.events → k.reserved ≡ h.core.reserved
+  counted {e = e} {k = k} l same none =
+      l.kept.reserved
+      ∙ (ap (λ (c : Config). h.base.reserved + sum_by (λ (o : Opening). reserve_of c o.queue) (openings (e ∷ h.events))) same
+      ∙ (ap (λ (os : List Opening). h.base.reserved + sum_by (λ (o : Opening). reserve_of h.core.config o.queue) os) none
+      ∙ sym is.left.kept.reserved))
+
+  -- so there is room for its entry
+  pub room_here : {e : Event Outline} {k : Kept} → Leaves Outlines h.base (e ∷ h.events) k → k.config ≡ h.core.config → openings (e ∷ h.events) ≡ openings h.events → length h.events < room
+  room_here {e = e} {k = k} l same none =
+      let r = counted l same none in
+      let w = is.room_is in
+      room_for room l same (omega (arith, r, w))
+
+  -- what the lock keeps once a core did a step and its entry was written
+  pub written : {e : Event Outline} {k : Kept} (events : List (Event Outline)) (more : ℕ) (sums : Sums) → Leaves Outlines h.base (e ∷ h.events) k → k.config ≡ h.core.config
+      → events ≡ e ∷ h.events → k.reserved + 1 ≤ more → sums ≡ with_entry (kind_of e) totals → IsHeld config (record h { core = k; events = events }) more sums
+  written {e = e} {k = k} events more sums l same one within added =
+      let n = is.entries in
+      let m = is.kinds in
+      let o = is.handed in
+      subst (λ (es : List (Event Outline)). IsHeld config (record h { core = k; events = es }) more sums) (sym one)
+      (subst (λ (s : Sums). IsHeld config (record h { core = k; events = e ∷ h.events }) more s) (sym added) (record {
+        config_is = same ∙ is.config_is;
+        ranges = is.ranges;
+        left = l;
+        counts = is.counts;
+        room_is = within;
+        entries = omega (arith, n);
+        kinds = omega (arith, m);
+        handed = omega (arith, o);
+        few = is.few;
+        few_kinds = is.few_kinds;
+        few_handed = is.few_handed;
+      }))
+
+  -- the same for an event that accepts no job
+  pub written_here : {e : Event Outline} {k : Kept} (events : List (Event Outline)) (more : ℕ) (sums : Sums) → Leaves Outlines h.base (e ∷ h.events) k → k.config ≡ h.core.config
+      → openings (e ∷ h.events) ≡ openings h.events → events ≡ e ∷ h.events → more ≡ room → sums ≡ with_entry (kind_of e) totals → IsHeld config (record h { core = k; events = events }) more sums
+  written_here {e = e} {k = k} events more sums l same none one still added =
+      let r = counted l same none in
+      let w = is.room_is in
+      written events more sums l same one (omega (arith, r, w, still)) added

@@ -1,0 +1,130 @@
+-- By which entry each call grows the account, and by none where it answers so.
+use Rattle.std.specs.Prelude.{◌≡◌, ◌≢◌, ℕ, ◌⊎◌, Bool, true, false, List, [], ◌∷◌, Result, Ok, Err}
+use Rattle.page_pool.specs.Page.{Page}
+use Rattle.lpd_values.specs.Contents.{Contents}
+use Rattle.lpd_values.specs.declared.refusal.Refusal.{Refusal}
+use Rattle.lpd_values.specs.declared.refusal.Refusal.TheVariants.{Memory}
+use Rattle.account.specs.Seen.{progress_seen}
+use Rattle.account.specs.declared.entry.Outline.{Outline}
+use Rattle.account.specs.declared.entry.Progress.{Progress}
+use Rattle.spool_history.specs.Base.{Base}
+use Rattle.spool_history.specs.Events as E
+use Rattle.spool_history.specs.Events.{Event, Sheet}
+use Rattle.spool_history.specs.Events.Act.{Granted, Began, Put, FileEnded, Controlled, Aborted}
+use Rattle.spool_history.specs.Events.Turn.{Handed, Printed, Failed}
+use Rattle.spool_history.specs.Events.Event.{Opened, OfJob, AtPrinter, Removed, Started}
+use Rattle.spool_history.specs.Now.{State}
+use Rattle.spool_history.specs.Legal.{HasJob, JobMay, May}
+use Rattle.spool_calls.specs.declared.answers.Asked.{Asked}
+use Rattle.spool_calls.specs.declared.answers.Asked.TheVariants as asked
+use Rattle.spool_calls.specs.declared.answers.Receipt.{Receipt}
+use Rattle.spool_calls.specs.declared.answers.Next.{Next}
+use Rattle.spool_calls.specs.declared.answers.Next.TheVariants as next
+use Rattle.spool_calls.specs.declared.answers.Foreign.{Foreign}
+use Rattle.spool_calls.specs.declared.answers.ReturnedPage.{ReturnedPage}
+use Rattle.spool_calls.specs.declared.answers.ReturnedTicket.{ReturnedTicket}
+use Rattle.spool_calls.specs.declared.handed.HandedPage.{HandedPage}
+use Rattle.spool_calls.specs.Looks.{Detail, What, outline_of, size}
+use Rattle.spool_calls.specs.Looks.Detail.{Outlines}
+use Rattle.spool_calls.specs.Kept.{Kept}
+use Rattle.spool_calls.specs.Readers.{MayControl}
+use Rattle.spool_calls.specs.Calls as calls
+use Rattle.spool_calls.specs.Calls.{IsNamed}
+use Rattle.locked_spool.specs.Held.{Held}
+
+module _ (old new : Held) where
+  -- the account grew by this entry alone; the core is where the event leads
+  abbrev pub Writes : Event Outline → Type 0
+  Writes e = new ≡ record old { core = new.core; events = e ∷ old.events }
+
+  -- where the account leaves the spool
+  abbrev pub here : State (What Outlines)
+  here = calls.before Outlines old.base old.events old.core
+
+  abbrev pub WritesOpened : (sender : ℕ) → List ℕ → Result ℕ Refusal → Type 0
+  WritesOpened sender name (Ok job) = (q : ℕ) × IsNamed old.core.config name q × Writes (Opened job sender q)
+  WritesOpened sender name (Err refusal) = new ≡ old
+
+  abbrev pub WritesGranted : (job : ℕ) → Result Asked Refusal → Type 0
+  WritesGranted job (Ok (asked.Page ticket)) = Writes (OfJob job Granted)
+  WritesGranted job (Ok asked.Later) = new ≡ old
+  WritesGranted job (Err refusal) = new ≡ old
+
+  abbrev pub WritesBegan : (job : ℕ) → List ℕ → (count : ℕ) → Result (Unit {0}) Refusal → Type 0
+  WritesBegan job name count (Ok done) = Writes (OfJob job (Began name count))
+  WritesBegan job name count (Err refusal) = new ≡ old
+
+  -- the page stands in the entry by its length and digest, at the one place where it may be put
+  abbrev pub WritesPut : (job : ℕ) → Page → Result (Unit {0}) ReturnedPage → Type 0
+  WritesPut job page (Ok done) =
+      (file : ℕ) × (number : ℕ) × calls.MayTake Outlines old.base old.events old.core job page file number
+      × Writes (OfJob job (Put file number (outline_of page.octets)))
+  WritesPut job page (Err back) = new ≡ old
+
+  -- whether the answer tells that the job is whole
+  abbrev pub is_whole : Receipt → Bool
+  is_whole = calls.is_whole Outlines old.base old.events old.core
+
+  abbrev pub WritesFileEnded : (job : ℕ) → Result Receipt Refusal → Type 0
+  WritesFileEnded job (Ok got) =
+      (file : ℕ) × HasJob here.jobs job (JobMay (size Outlines) old.core.config (FileEnded file (is_whole got)))
+      × Writes (OfJob job (FileEnded file (is_whole got)))
+  WritesFileEnded job (Err refusal) = new ≡ old
+
+  abbrev pub WritesControlled : (job : ℕ) → Contents → Result Receipt Refusal → Type 0
+  WritesControlled job control (Ok got) =
+      Writes (OfJob job (Controlled control (is_whole got)))
+  WritesControlled job control (Err refusal) = new ≡ old
+
+  abbrev pub WritesAborted : (job : ℕ) → Result (Unit {0}) ReturnedTicket → Type 0
+  WritesAborted job (Ok done) = Writes (OfJob job Aborted)
+  WritesAborted job (Err back) = new ≡ old
+
+  -- the page that is handed has the length and the digest of its entry
+  abbrev pub WritesHanded : (printer : ℕ) → Next → Type 0
+  WritesHanded printer (next.Handed page) =
+      Writes (AtPrinter printer (calls.sheet_of Outlines old.base old.events old.core page) Handed)
+  WritesHanded printer _ = new ≡ old
+
+  -- the page that came back is the one that was handed last, by its length and digest
+  abbrev pub WritesPrinted : (printer : ℕ) → HandedPage → Result Progress Foreign → Type 0
+  WritesPrinted printer page (Ok said) =
+      (sheet : Sheet Outline) × calls.IsOut Outlines old.base old.events old.core printer page sheet
+      × Writes (AtPrinter printer sheet (Printed (progress_seen said)))
+  WritesPrinted printer page (Err back) = new ≡ old
+
+  abbrev pub WritesFailed : (printer : ℕ) → HandedPage → Result (Unit {0}) Foreign → Type 0
+  WritesFailed printer page (Ok done) =
+      (sheet : Sheet Outline) × calls.IsOut Outlines old.base old.events old.core printer page sheet
+      × Writes (AtPrinter printer sheet Failed)
+  WritesFailed printer page (Err back) = new ≡ old
+
+  -- one entry where a printer of the queue was stopped, and none where none was
+  abbrev pub WritesStarted : List ℕ → Result (Unit {0}) Refusal → Type 0
+  WritesStarted name (Ok done) =
+      (q : ℕ) × IsNamed old.core.config name q
+      × ((May (size Outlines) here (Started q) × Writes (Started q))
+      ⊎ ((May (size Outlines) here (Started q) → ⊥) × (new ≡ old)))
+  WritesStarted name (Err refusal) = new ≡ old
+
+  -- the numbers of the jobs that a removal takes
+  abbrev pub chosen : (queue : ℕ) → List ℕ → List (List ℕ) → List ℕ
+  chosen = calls.removed_by Outlines old.base old.events old.core
+
+  -- one entry with the chosen jobs, and none where none was chosen
+  abbrev pub WritesRemoved : List ℕ → List ℕ → List (List ℕ) → Result (List ℕ) Refusal → Type 0
+  WritesRemoved name agent list (Ok text) =
+      (q : ℕ) × IsNamed old.core.config name q
+      × (((chosen q agent list ≡ []) × (new ≡ old))
+      ⊎ ((chosen q agent list ≢ []) × Writes (Removed q (chosen q agent list))))
+  WritesRemoved name agent list (Err refusal) = new ≡ old
+
+  -- one entry for the first close, and none for a later one
+  abbrev pub WritesClosed : Type 0
+  WritesClosed = ((here.closed ≡ false) × Writes E.Event.Closed) ⊎ ((here.closed ≡ true) × (new ≡ old))
+
+-- the control file came; memory may be refused for the account's copy where nothing else is
+abbrev pub Controls : (d : Detail) → (b : Base) → (h : List (Event (What d))) → (old : Kept) → (job : ℕ) → Contents
+    → (new : Kept) → Result Receipt Refusal → Type 0
+Controls d b h old job control new (Err Memory) = MayControl d b h old job × (new ≡ old)
+Controls d b h old job control new answer = calls.Controls d b h old job control new answer

@@ -1,0 +1,44 @@
+-- What the lock keeps.
+use Rattle.std.specs.Prelude.{◌≡◌, ℕ, ◌+◌, ◌*◌, ◌<◌, ◌≤◌, ◌^◌, List, length}
+use Rattle.account.specs.declared.entry.Outline.{Outline}
+use Rattle.account.specs.Kinds.{kinds_in, handed_in}
+use Rattle.config_values.specs.Config.{Config}
+use Rattle.config_values.specs.Ranges.{IsConfig}
+use Rattle.spool_history.specs.Base.{Base}
+use Rattle.spool_history.specs.Events.{Event}
+use Rattle.spool_laws.specs.Reserve.{CountsStops}
+use Rattle.spool_calls.specs.Looks.Detail.{Outlines}
+use Rattle.spool_calls.specs.Kept.{Kept, Leaves}
+use Rattle.spool_ledgers.specs.Sums.{Sums}
+
+-- a spool with its account: the entries since the last rotation, the newest first, the base from which they begin, and what
+-- all earlier segments of the account came to
+pub record Held : Type 0 where
+  pub core : Kept
+  pub base : Base
+  pub events : List (Event Outline)
+  -- the number of this segment, from 1
+  pub number : ℕ
+  -- how many entries earlier segments have, the sum of their kind numbers, and how many hand-outs
+  pub before : ℕ
+  pub kinds_before : ℕ
+  pub handed_before : ℕ
+
+-- what the lock keeps of a spool of this configuration
+pub record IsHeld (config : Config) (h : Held) (room : ℕ) (totals : Sums) : Type 0 where
+  -- it is of this configuration, which is in its ranges
+  pub config_is : h.core.config ≡ config
+  pub ranges : IsConfig config
+  -- the account is legal from its base, and the core is where base and account leave it
+  pub left : Leaves Outlines h.base h.events h.core
+  -- the account has room for all that the core has counted, and the close
+  pub counts : CountsStops config h.base
+  pub room_is : h.core.reserved + 1 ≤ room
+  -- the ledgers' totals are those of all segments together
+  pub entries : totals.entries ≡ h.before + length h.events
+  pub kinds : totals.kinds ≡ h.kinds_before + kinds_in h.events
+  pub handed : totals.handed ≡ h.handed_before + handed_in h.events
+  -- earlier segments stay within numbers
+  pub few : 13 * h.before < 2 ^ 64
+  pub few_kinds : h.kinds_before ≤ 13 * h.before
+  pub few_handed : h.handed_before ≤ h.before

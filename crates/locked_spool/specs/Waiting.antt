@@ -1,0 +1,37 @@
+-- Which printers are stopped, and which have to wait.
+use Rattle.std.specs.Prelude.{◌≡◌, ◌<◌, ℕ, List}
+use Rattle.config_values.specs.Config.{Config, IsPrinter, IsQueue}
+use Rattle.spool_history.specs.Base.{Base}
+use Rattle.spool_history.specs.Events.{Event}
+use Rattle.spool_calls.specs.declared.answers.Next.{Next}
+use Rattle.spool_calls.specs.declared.answers.Next.TheVariants as next
+use Rattle.spool_calls.specs.Looks.{Detail, What}
+use Rattle.spool_calls.specs.Looks.Detail.{Outlines}
+use Rattle.spool_calls.specs.Kept.{Kept}
+use Rattle.spool_calls.specs.Calls.{IsNamed}
+use Rattle.spool_calls.specs.Readers.{stopped_for}
+use Rattle.spool_core.specs.Printers.{MustWait}
+use Rattle.locked_spool.specs.Held.{Held}
+
+module _ (d : Detail) (b : Base) (h : List (Event (What d))) (k : Kept) where
+  -- a printer of this queue is stopped
+  abbrev pub IsStopped : ℕ → Type 0
+  IsStopped q = 0 < stopped_for d b h k q
+
+  -- a printer of some queue is stopped
+  abbrev pub HasStopped : Type 0
+  HasStopped = (q : ℕ) × IsQueue k.config q × IsStopped q
+
+  -- no printer of a queue of this name is stopped
+  abbrev pub HasNoStopped : List ℕ → Type 0
+  HasNoStopped name = (q : ℕ) → IsNamed k.config name q → stopped_for d b h k q ≡ 0
+
+-- a printer of this configuration has to wait
+abbrev pub Waits : Config → Held → (printer : ℕ) → Type 0
+Waits c h p = IsPrinter c p × MustWait Outlines h.base h.events h.core p
+
+-- this holds where a printer got nothing because it has to wait
+abbrev pub WhereNothing : Next → Type 0 → Type 0
+WhereNothing next.Nothing P = P
+WhereNothing next.Stopped P = P
+WhereNothing _ P = Unit {0}

@@ -1,0 +1,70 @@
+//! What a locked spool tells of itself. No reader takes memory, and none changes anything.
+
+ghost use Rattle.std.specs.Prelude.{◌≡◌, ◌+◌, ◌↔◌, ◌<◌, ◌⊎◌, IsTrue, length};
+ghost use Rattle.config_values.specs.Config.{IsPrinter};
+ghost use Rattle.spool_calls.specs.Calls.{IsRight, before};
+ghost use Rattle.spool_calls.specs.Readers.{ArePlaced};
+ghost use Rattle.spool_core.specs.Printers.{MustWait};
+ghost use Rattle.locked_spool.specs.Waiting.{HasStopped, Waits};
+
+use crate::locked::Locked;
+use spool_core::Pages;
+use spool_ledgers::SpoolLedger;
+use std::sync::ledger::Ledger;
+
+impl<E: SpoolLedger, K: Ledger, H: Ledger> Locked<E, K, H> {
+    /// How many jobs are held.
+    pub fn held(&self) -> usize
+        ensures { IsRight self.now.core (λ d b h.
+            result ≡ length (before d b h self.now.core).jobs) }
+    {
+        self.core.held()
+    }
+
+    /// How many entries of the account are counted for the jobs that were accepted and for the starts that may come.
+    pub fn counted_reserve(&self) -> u64
+        ensures { IsRight self.now.core (λ d b h.
+            result ≡ (before d b h self.now.core).reserved) }
+    {
+        self.core.counted_reserve()
+    }
+
+    /// The pages by where they are. All together are the pages of the spool.
+    pub fn pages_by_place(&self) -> Pages
+        ensures placed { IsRight self.now.core (λ d b h.
+            ArePlaced d b h self.now.core result.free result.chained result.lent result.out) }
+        ensures all { result.chained + result.lent + result.out + result.free ≡ E.config.pages }
+    {
+        self.core.pages_by_place()
+    }
+
+    /// Whether a printer of some queue is stopped.
+    fn has_stopped(&self) -> bool
+        ensures { IsRight self.now.core (λ d b h. IsTrue result ↔ HasStopped d b h self.now.core) }
+    {
+        let queues = self.core.config().queues().len() as u32;
+        for before in 0..queues {
+            if 0 < self.core.stopped_in(before + 1) {
+                return true;
+            }
+        }
+        false
+    }
+
+    /// Whether no job is held, or a printer is stopped.
+    pub fn is_idle(&self) -> bool
+        ensures { IsRight self.now.core (λ d b h. IsTrue result
+            ↔ ((length (before d b h self.now.core).jobs ≡ 0) ⊎ HasStopped d b h self.now.core)) }
+    {
+        self.core.held() == 0 || self.has_stopped()
+    }
+
+    /// Whether a printer has to wait for its next page: `next` would answer Nothing or Stopped.
+    pub fn must_wait(&self, printer: u32) -> bool
+        ensures waits { IsRight self.now.core (λ d b h. IsTrue result
+            ↔ IsPrinter E.config printer × MustWait d b h self.now.core printer) }
+        ensures here { IsTrue result ↔ Waits E.config self.now printer }
+    {
+        self.core.config().is_printer(printer) && self.core.must_wait(printer)
+    }
+}

@@ -1,0 +1,208 @@
+//! The calls for a job that is being received.
+
+ghost use Rattle.std.specs.Prelude.{◌≡◌, ◌<◌, IfErr, IfOk};
+ghost use Rattle.account.specs.declared.kind.Kind.TheVariants as kind;
+ghost use Rattle.control_file.specs.View.{contents};
+ghost use Rattle.spool_calls.specs.Calls.{IsRight, Aborts, Admits, Asks, Begins, Ends, Opens, Puts};
+ghost use Rattle.spool_core.specs.Tickets.{IsBlank};
+ghost use Rattle.locked_spool.specs.Entries.{Controls, WritesAborted, WritesBegan, WritesControlled, WritesFileEnded, WritesGranted, WritesOpened, WritesPut};
+ghost use Rattle.locked_spool.specs.Shares.{when_done, when_lent};
+
+use crate::locked::{Locked, write};
+use crate::sheets::outline_of;
+use account::{Act, Entry};
+use control_file::Control;
+use lpd_values::{FileName, Refusal};
+use page_pool::{FilledPage, PageTicket};
+use spool_core::{Asked, Receipt, ReturnedPage, ReturnedTicket};
+use spool_ledgers::{Shares, SpoolLedger};
+use std::sync::ledger::Ledger;
+
+impl<E: SpoolLedger, K: Ledger, H: Ledger> Locked<E, K, H> {
+    /// Whether a session may send jobs to the queue of a name.
+    ///
+    /// Closed once the spool is closed; UnknownQueue where no queue has this name.
+    pub fn admits(&self, queue: &[u8]) -> Result<(), Refusal>
+        ensures { IsRight self.now.core (λ d b h. Admits d b h self.now.core queue.now result) }
+    {
+        self.core.admits(queue)
+    }
+
+    /// Accepts a job from a sender for a queue, and answers its number: 1, 2, 3 and so on, over all queues.
+    ///
+    /// Closed; UnknownQueue; TableFull where as many jobs are held as may be; AccountFull where the account has no room for all
+    /// entries of one more job, or no number is left; Memory where memory for the job or for its entries is refused.
+    pub fn open(
+        &mut self,
+        mine: &mut Shares<E, K, H>,
+        sender: u32,
+        queue: &[u8],
+    ) -> Result<u64, Refusal>
+        requires { 0 < mine.old.parts }
+        ensures answer { IsRight self.old.core (λ d b h.
+            Opens d b h self.old.core sender queue.now self.new.core result) }
+        ensures account { WritesOpened self.old self.new sender queue.now result }
+        ensures shares { mine.new ≡ when_done kind.Opened result mine.old }
+    {
+        if let Some(refusal) = self.core.open_refusal(queue) {
+            return Err(refusal);
+        }
+        let Some(number) = self.core.queue_number(queue) else {
+            return Err(Refusal::UnknownQueue);
+        };
+        let reserve = self.core.config().reserve_of(number);
+        // No entry that is to come may be refused for want of memory.
+        self.account
+            .reserve(self.core.counted_reserve() + reserve + 1)?;
+        let job = self.core.open(sender, queue)?;
+        let entry = Entry::Opened(job, sender, number);
+        write(&mut self.account, &mut self.books, mine, entry);
+        Ok(job)
+    }
+
+    /// Lends a page to a job, which has to come back by `put` or `abort`; or answers Later, where no page is free or the state
+    /// would not be safe.
+    ///
+    /// NotOpen where the job isn't being received, no file of it is open or a page is lent to it; OverClaim where it holds as
+    /// many pages as its queue allows.
+    pub fn ask(&mut self, mine: &mut Shares<E, K, H>, job: u64) -> Result<Asked, Refusal>
+        requires { 0 < mine.old.parts }
+        ensures answer { IsRight self.old.core (λ d b h.
+            Asks d b h self.old.core job self.new.core result) }
+        ensures page { IfOk result (IsBlank E.config.page_size) }
+        ensures account { WritesGranted self.old self.new job result }
+        ensures shares { mine.new ≡ when_lent result mine.old }
+    {
+        match self.core.ask(job)? {
+            Asked::Page(ticket) => {
+                let entry = Entry::OfJob(job, Act::Granted);
+                write(&mut self.account, &mut self.books, mine, entry);
+                Ok(Asked::Page(ticket))
+            }
+            Asked::Later => Ok(Asked::Later),
+        }
+    }
+
+    /// Begins a data file of so many octets.
+    ///
+    /// NotOpen where the job isn't being received; FileOpen; NameTaken; FilesFull; OverClaim where the file's pages pass what its
+    /// queue allows.
+    pub fn begin_file(
+        &mut self,
+        mine: &mut Shares<E, K, H>,
+        job: u64,
+        name: FileName,
+        count: u64,
+    ) -> Result<(), Refusal>
+        requires part { 0 < mine.old.parts }
+        requires some { 0 < count }
+        ensures answer { IsRight self.old.core (λ d b h.
+            Begins d b h self.old.core job name count self.new.core result) }
+        ensures account { WritesBegan self.old self.new job name count result }
+        ensures shares { mine.new ≡ when_done kind.Began result mine.old }
+    {
+        self.core.begin_file(job, name, count)?;
+        let entry = Entry::OfJob(job, Act::Began(name, count));
+        write(&mut self.account, &mut self.books, mine, entry);
+        Ok(())
+    }
+
+    /// Puts the next page of a job's open file.
+    ///
+    /// Refused, with the page, where the job doesn't await it.
+    pub fn put(
+        &mut self,
+        mine: &mut Shares<E, K, H>,
+        job: u64,
+        page: FilledPage,
+    ) -> Result<(), ReturnedPage>
+        requires { 0 < mine.old.parts }
+        ensures answer { IsRight self.old.core (λ d b h.
+            Puts d b h self.old.core job page self.new.core result) }
+        ensures back { IfErr result (λ e. e.page ≡ page) }
+        ensures account { WritesPut self.old self.new job page result }
+        ensures shares { mine.new ≡ when_done kind.Put result mine.old }
+    {
+        if page.page_size() != self.core.config().page_size() as usize {
+            return Err(ReturnedPage { page });
+        }
+        let Some((file, number)) = self.core.open_file(job) else {
+            return Err(ReturnedPage { page });
+        };
+        let outline = outline_of(&page);
+        self.core.put(job, page)?;
+        let entry = Entry::OfJob(job, Act::Put(file, number, outline));
+        write(&mut self.account, &mut self.books, mine, entry);
+        Ok(())
+    }
+
+    /// Ends the open file of a job, and says whether the job is whole by that.
+    ///
+    /// NotOpen where the job isn't being received, no file of it is open, a page is lent to it, or the file lacks pages.
+    pub fn end_file(&mut self, mine: &mut Shares<E, K, H>, job: u64) -> Result<Receipt, Refusal>
+        requires { 0 < mine.old.parts }
+        ensures answer { IsRight self.old.core (λ d b h.
+            Ends d b h self.old.core job self.new.core result) }
+        ensures account { WritesFileEnded self.old self.new job result }
+        ensures shares { mine.new ≡ when_done kind.FileEnded result mine.old }
+    {
+        let Some((file, _)) = self.core.open_file(job) else {
+            return Err(Refusal::NotOpen);
+        };
+        let receipt = self.core.end_file(job)?;
+        let whole = receipt == Receipt::Received;
+        let entry = Entry::OfJob(job, Act::FileEnded(file, whole));
+        write(&mut self.account, &mut self.books, mine, entry);
+        Ok(receipt)
+    }
+
+    /// Takes the control file of a job, and says whether the job is whole by that.
+    ///
+    /// NotOpen where the job isn't being received; ControlTwice where it has one; Memory where memory for the account's copy is
+    /// refused.
+    pub fn control(
+        &mut self,
+        mine: &mut Shares<E, K, H>,
+        job: u64,
+        control: Control,
+    ) -> Result<Receipt, Refusal>
+        requires { 0 < mine.old.parts }
+        ensures answer { IsRight self.old.core (λ d b h.
+            Controls d b h self.old.core job (contents control) self.new.core result) }
+        ensures account { WritesControlled self.old self.new job (contents control) result }
+        ensures shares { mine.new ≡ when_done kind.Controlled result mine.old }
+    {
+        if let Some(refusal) = self.core.control_refusal(job) {
+            return Err(refusal);
+        }
+        let copy = control.copy(self.alloc)?;
+        let receipt = self.core.control(job, control)?;
+        let whole = receipt == Receipt::Received;
+        let entry = Entry::OfJob(job, Act::Controlled(copy, whole));
+        write(&mut self.account, &mut self.books, mine, entry);
+        Ok(receipt)
+    }
+
+    /// Ends a job that is being received, or takes back the page that was lent to one that has ended.
+    ///
+    /// Refused, with the page, where the job is neither, or where a page is given though none is lent, none though one is, or
+    /// one of another size.
+    pub fn abort(
+        &mut self,
+        mine: &mut Shares<E, K, H>,
+        job: u64,
+        ticket: Option<PageTicket>,
+    ) -> Result<(), ReturnedTicket>
+        requires { 0 < mine.old.parts }
+        ensures answer { IsRight self.old.core (λ d b h.
+            Aborts d b h self.old.core job ticket self.new.core result) }
+        ensures back { IfErr result (λ e. e.ticket ≡ ticket) }
+        ensures account { WritesAborted self.old self.new job result }
+        ensures shares { mine.new ≡ when_done kind.Aborted result mine.old }
+    {
+        self.core.abort(job, ticket)?;
+        let entry = Entry::OfJob(job, Act::Aborted);
+        write(&mut self.account, &mut self.books, mine, entry);
+        Ok(())
+    }
+}

@@ -1,0 +1,31 @@
+-- The lines that a server prints.
+use Rattle.std.specs.Prelude.{◌≡◌, ◌++◌, ◌∷◌, ℕ, List, [], Option, codes}
+use Rattle.std.specs.Fmt.{decimal}
+use Rattle.lpd_commands.specs.Ends.{Writes}
+use Rattle.lpd_daemon.specs.declared.faults.Fault.{Fault}
+use Rattle.lpd_daemon.specs.declared.faults.Fault.TheVariants.{Network, PrinterFile}
+use Rattle.lpd_daemon.specs.declared.lines.Line.{Line}
+use Rattle.lpd_daemon.specs.declared.lines.Line.TheVariants.{Closed, Listening, Rotated}
+
+abbrev pub line_text : Line → List ℕ
+line_text (Listening port) = codes "listening " ++ decimal port
+line_text (Rotated number entries) = codes "rotated " ++ decimal number ++ codes " entries " ++ decimal entries
+line_text (Closed entries) = codes "closed entries " ++ decimal entries
+
+abbrev pub line_octets : Line → List ℕ
+line_octets line = line_text line ++ 10 ∷ []
+
+-- the lines of rotations: the number and the entries of each segment, in order
+abbrev pub rotation_octets : List (ℕ × ℕ) → List ℕ
+rotation_octets [] = []
+rotation_octets (segment ∷ more) = line_octets (Rotated segment.0 segment.1) ++ rotation_octets more
+
+-- nothing was written but lines of rotations
+abbrev pub WritesRotations : Option (List ℕ) → Option (List ℕ) → Type 0
+WritesRotations was now = (segments : List (ℕ × ℕ)) × Writes was now (rotation_octets segments)
+
+-- nothing was written where a printer's file can't be opened or the address can't be listened on
+abbrev pub IsQuiet : Option (List ℕ) → Option (List ℕ) → Fault → Type 0
+IsQuiet was now (PrinterFile path) = now ≡ was
+IsQuiet was now Network = now ≡ was
+IsQuiet was now _ = Unit {0}

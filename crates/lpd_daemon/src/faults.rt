@@ -1,0 +1,49 @@
+//! What stops a server.
+
+ghost use Rattle.std.specs.Prelude.{◌≡◌};
+ghost use Rattle.lpd_daemon.specs.declared.faults.Fault.TheVariants.{Memory};
+
+use std::alloc::{AllocError, AllocFailed};
+use thiserror::Error;
+
+/// Why a server stopped.
+#[derive(Debug, PartialEq, Eq, Drop, Error)]
+pub enum Fault {
+    /// Memory was refused, or a thread.
+    #[error("fault 12 Memory")]
+    Memory,
+    /// The address can't be listened on.
+    #[error("fault 72 Network")]
+    Network,
+    /// The printer's file at this path can't be opened for writing.
+    #[error("fault 73 WriteFile {0}")]
+    PrinterFile(String),
+    /// The output can't be written.
+    #[error("fault 73 WriteFile")]
+    Output,
+}
+
+impl From<AllocError> for Fault {
+    ghost from_gives = { λ _ fault. fault ≡ Memory };
+
+    fn from(_error: AllocError) -> Fault {
+        Fault::Memory
+    }
+}
+
+impl<T: Drop> From<AllocFailed<T>> for Fault {
+    ghost from_gives = { λ _ fault. fault ≡ Memory };
+
+    fn from(_error: AllocFailed<T>) -> Fault {
+        Fault::Memory
+    }
+}
+
+impl Fault {
+    /// The exit status, 4 for each.
+    pub fn status(&self) -> u8
+        ensures { result ≡ 4 }
+    {
+        4
+    }
+}

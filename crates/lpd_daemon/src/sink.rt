@@ -1,0 +1,40 @@
+//! The file of a printer.
+
+use lpd_commands::write_all;
+use lpd_script::StreamWriter;
+use printer_worker::{HandedPage, PrintSink, SinkFault};
+use std::io::Write;
+
+/// A file that the pages of a printer are written to, one after another.
+#[derive(Drop)]
+pub struct FileSink<F: Write + Drop> {
+    file: StreamWriter<F>,
+    written: u64,
+    faults: u64,
+}
+
+impl<F: Write + Drop> FileSink<F> {
+    /// A sink that writes to the file from where it stands.
+    pub fn new(file: F) -> FileSink<F> {
+        FileSink {
+            file: StreamWriter::new(file),
+            written: 0,
+            faults: 0,
+        }
+    }
+}
+
+impl<F: Write + Drop> PrintSink for FileSink<F> {
+    ghost oks = { λ sink. sink.written };
+
+    ghost errs = { λ sink. sink.faults };
+
+    fn write_page(&mut self, page: &HandedPage) -> Result<(), SinkFault> {
+        if write_all(&mut self.file, page.bytes()).is_err() {
+            self.faults = self.faults.saturating_add(1);
+            return Err(SinkFault);
+        }
+        self.written = self.written.saturating_add(1);
+        Ok(())
+    }
+}

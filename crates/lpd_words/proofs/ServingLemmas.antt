@@ -1,0 +1,76 @@
+-- The values of the words of a server, by the rows of a parse.
+use Rattle.std.proofs.Common.{◌≡◌, ◌∙◌, ◌<◌, ◌^◌, sym, refl, ap, arith, slice_index, ℕ, List, Option, Some, None, Result, Ok, Err, IfOk, IfErr, option_map, unwrap_or, codes}
+use Rattle.std.specs.Borrow.{Bor}
+use Rattle.std.specs.Str.Parse.{ParsesUnsigned, digits_value, without_leading_plus}
+use Rattle.clap.specs.Words.{Row, Text, TriesOne, one_of}
+use Rattle.lpd_words.specs.Asked.{IsAsked, IsGiven}
+use Rattle.lpd_words.specs.Refused.{AsksNothing, LacksServing}
+use Rattle.lpd_words.specs.declared.envelope.EnvelopeFault.{EnvelopeFault}
+use Rattle.lpd_words.specs.declared.envelope.EnvelopeFault.TheVariants as envelope
+use Rattle.lpd_words.specs.declared.words.Asked.{Asked}
+use Rattle.lpd_words.specs.declared.words.Asked.TheVariants.{Input, Check, Replay, Send, Serve}
+
+-- the text of an option, or another where it isn't there
+pub text_or : (o : Option (Bor Text)) (first : Option Text) (other : Bor Text) → option_map (λ s. s.now) o ≡ first → (unwrap_or o other).now ≡ unwrap_or first other.now
+text_or None first other h = rw (← h) refl
+text_or (Some s) first other h = rw (← h) refl
+
+-- the number that is read of an option of so many bits, or that it is none
+module _ {E : Type 0} (A B : Text → Result ℕ E → Type 0) (bits : ℕ) (rows : List Row) (id : Text) where
+  abbrev Tries : Text → Result (Option ℕ) E → Type 0
+  Tries t r = TriesOne (λ text r. ParsesUnsigned bits 10 text r × A text r × B text r) t r
+
+  pub number_given : (r : Result (Option ℕ) E) (text : Option Text) → one_of id rows ≡ text → (text ≡ None → r ≡ Ok None) → ((t : Text) → text ≡ Some t → Tries t r) → IfOk r (IsGiven bits rows id)
+  number_given (Err e) text same none value = tt
+  number_given (Ok None) None same none value = same
+  number_given (Ok (Some n)) None same none value =
+      let bad = none refl in
+      cc
+  number_given (Ok None) (Some t) same none value = absurd (value t refl)
+  number_given (Ok (Some n)) (Some t) same none value =
+      let read = (value t refl).0 in
+      (t, same, read.0.0, read.1, rw read.1 read.0.1)
+
+  pub none_given : (r : Result (Option ℕ) E) (text : Option Text) → one_of id rows ≡ text → (text ≡ None → r ≡ Ok None) → ((t : Text) → text ≡ Some t → Tries t r) → IfErr r (λ _. (o : Option ℕ) → IsGiven bits rows id o → ⊥)
+  none_given (Ok o) text same none value = tt
+  none_given (Err e) None same none value =
+      let bad = none refl in
+      cc
+  none_given (Err e) (Some t) same none value = go
+    where
+      go : (o : Option ℕ) → IsGiven bits rows id o → ⊥
+      go None is =
+          let bad : Some t ≡ None = sym same ∙ is in
+          cc
+      go (Some n) is =
+          let read = value is.0 (sym same ∙ is.1) in
+          let small : digits_value 10 (without_leading_plus is.0) < 2 ^ bits = rw is.3 at is.4 in
+          read.0 (is.2, small)
+
+-- the third octet of a name that is serve and another
+third : (name other : Text) → name ≡ codes "serve" → name ≡ other → 114 ≡ slice_index other 2
+third name other is e = ap (λ (t : Text). slice_index t 2) (sym is ∙ e)
+
+below : (n : ℕ) → n < 114 → 114 ≡ n → ⊥
+below n small e = absurd (omega (arith, small, e))
+
+-- words that ask to serve, and don't say how, ask for nothing
+no_server : (name : Text) (rows : List Row) → name ≡ codes "serve" → LacksServing rows envelope.Missing → (asked : Asked) → IsAsked (Some (name, rows)) asked → ⊥
+no_server name rows is lacks Input h = absurd h
+no_server name rows is lacks (Check config) h =
+    below 101 (omega arith) (third name (codes "check") is h.0)
+no_server name rows is lacks (Replay config script) h =
+    below 112 (omega arith) (third name (codes "replay") is h.0)
+no_server name rows is lacks (Send sending envelope) h =
+    below 110 (omega arith) (third name (codes "send") is h.0)
+no_server name rows is lacks (Serve config serving) h = lacks serving h.2
+
+pub asks_no_server : (name : Text) (rows : List Row) (fault : EnvelopeFault) → name ≡ codes "serve" → LacksServing rows fault → AsksNothing (Some (name, rows)) fault
+asks_no_server name rows envelope.Address is lacks = (is, lacks)
+asks_no_server name rows envelope.Missing is lacks = no_server name rows is lacks
+asks_no_server name rows envelope.Queue is lacks = absurd lacks
+asks_no_server name rows envelope.Host is lacks = absurd lacks
+asks_no_server name rows envelope.User is lacks = absurd lacks
+asks_no_server name rows envelope.Files is lacks = absurd lacks
+asks_no_server name rows envelope.Number is lacks = absurd lacks
+asks_no_server name rows envelope.Memory is lacks = tt

@@ -1,0 +1,16 @@
+-- What comes of words.
+use Rattle.std.specs.Prelude.{ℕ, List}
+use Rattle.std.specs.Borrow.{Bor}
+use Rattle.lpd_words.specs.declared.running.Outcome.{Outcome}
+use Rattle.lpd_words.specs.declared.running.Outcome.TheVariants.{Ended, Serve}
+use Rattle.lpd_words.specs.declared.serving.Serving.{Serving}
+
+-- a fact of the exit status, if the program ends
+abbrev pub IfEnded : Outcome → (ℕ → Type 0) → Type 0
+IfEnded (Ended status) P = P status
+IfEnded (Serve config serving) P = Unit {0}
+
+-- a fact of what is to be served and how, if the program serves
+abbrev pub IfServes : Outcome → (Bor (List ℕ) → Serving → Type 0) → Type 0
+IfServes (Ended status) P = Unit {0}
+IfServes (Serve config serving) P = P config serving

@@ -1,0 +1,150 @@
+//! Clients at a port of 127.0.0.1. None waits longer than thirty seconds.
+
+ghost use Rattle.std.specs.Prelude.{IsTrue, ◌≡◌};
+ghost use Rattle.lpr_client.specs.Sendable.{is_sendable};
+
+use lpd_script::{StreamReader, StreamWriter};
+use lpr_client::{
+    Control, DataFile, FileName, Octets, SendFault, is_sendable, job_bytes, send_job,
+};
+use std::alloc::Global;
+use std::io::{Read, Write};
+use std::net::{Ipv4Addr, Net, SocketAddr, TcpStream};
+use std::process::Abort;
+use std::time::Duration;
+
+/// How many seconds a client waits for an octet.
+const LIMIT_SECONDS: u64 = 30;
+
+/// A connection to the port.
+pub fn connect<R: Abort + Net<Stream = TcpStream>>(rt: &R, port: u16) -> TcpStream {
+    let address = SocketAddr::from((Ipv4Addr::LOCALHOST, port));
+    let limit = Some(Duration::from_secs(LIMIT_SECONDS));
+    let stream = TcpStream::connect(rt, address).expect(rt, "a connection");
+    stream.set_nodelay(true).expect(rt, "octets go out at once");
+    stream.set_read_timeout(limit).expect(rt, "a limit");
+    stream.set_write_timeout(limit).expect(rt, "a limit");
+    stream
+}
+
+/// A job with all that it is sent with, for queue `lp`, by user ann at host h1.
+struct Envelope {
+    queue: Octets,
+    name: FileName,
+    control: Control,
+    files: [DataFile; 1],
+}
+
+impl Envelope {
+    /// Whether it can be sent. False where memory is refused.
+    fn is_sendable(&self, alloc: Global) -> bool
+        ensures { IsTrue result → IsTrue (is_sendable self.now.queue self.now.name self.now.control self.now.files) }
+    {
+        is_sendable(
+            alloc,
+            &self.queue,
+            &self.name,
+            &self.control,
+            self.files.as_slice(),
+        ) == Ok(true)
+    }
+
+    /// Of the job of this number, with these octets.
+    fn new(alloc: Global, number: u32, octets: &[u8]) -> Option<Envelope> {
+        let of_control = format!(in alloc; "cfA{number:03}h1").ok()?;
+        let of_data = format!(in alloc; "dfA{number:03}h1").ok()?;
+        let text = format!(in alloc; "Hh1\nPann\nf{of_data}\n").ok()?;
+        let name = FileName::read(of_control.as_bytes()).ok()?;
+        Some(Envelope {
+            queue: Octets::copy_of(alloc, b"lp").ok()?,
+            control: Control::parse(alloc, &name, text.as_bytes()).ok()?,
+            name,
+            files: [DataFile {
+                name: FileName::read(of_data.as_bytes()).ok()?,
+                octets: Octets::copy_of(alloc, octets).ok()?,
+            }],
+        })
+    }
+}
+
+/// What the job of this number is sent with.
+fn envelope_of<R: Abort>(rt: &R, alloc: Global, number: u32, octets: &[u8]) -> Envelope
+    ensures { IsTrue (is_sendable result.queue result.name result.control result.files) }
+{
+    let Some(envelope) = Envelope::new(alloc, number, octets) else {
+        panic!(rt; "no job {number}");
+    };
+    assert!(rt; envelope.is_sendable(alloc));
+    envelope
+}
+
+/// Sends the job of this number, with these octets.
+pub fn send<R: Abort + AllocGlobal>(
+    rt: &R,
+    stream: &TcpStream,
+    number: u32,
+    octets: &[u8],
+) -> Result<(), SendFault> {
+    let alloc = rt.alloc();
+    let Envelope {
+        queue,
+        name,
+        control,
+        files,
+    } = envelope_of(rt, alloc, number, octets);
+    send_job(
+        alloc,
+        &mut StreamReader::new(stream),
+        &mut StreamWriter::new(stream),
+        queue,
+        &name,
+        &control,
+        files.as_slice(),
+    )
+}
+
+/// The octets that send the job of this number, with these octets.
+pub fn octets_of<R: Abort + AllocGlobal>(rt: &R, number: u32, octets: &[u8]) -> Octets {
+    let alloc = rt.alloc();
+    let Envelope {
+        queue,
+        name,
+        control,
+        files,
+    } = envelope_of(rt, alloc, number, octets);
+    job_bytes(alloc, queue, &name, &control, files.as_slice()).expect(rt, "memory")
+}
+
+/// The line that asks for the queue.
+const FIRST_LINE: usize = b"\x02lp\n".len();
+
+/// Sends one job more over a connection over which one was sent, at once: the line that asks for the queue stands once.
+pub fn send_more<R: Abort + AllocGlobal>(rt: &R, stream: &TcpStream, number: u32, octets: &[u8]) {
+    let octets = octets_of(rt, number, octets);
+    let job = octets.as_slice().get(FIRST_LINE..).expect(rt, "a job");
+    write(rt, stream, job);
+    is_answered(rt, stream, &[0; 4]);
+}
+
+/// Writes octets that no client of this protocol's would, or not so.
+pub fn write<R: Abort>(rt: &R, stream: &TcpStream, octets: &[u8]) {
+    let mut stream = stream;
+    stream.write_all(octets).expect(rt, "octets are written");
+}
+
+/// The server answers exactly this.
+pub fn is_answered<R: Abort>(rt: &R, stream: &TcpStream, wanted: &[u8]) {
+    let mut stream = stream;
+    for octet in wanted {
+        let mut answer = [0xFF];
+        let count = stream.read(&mut answer).expect(rt, "an answer");
+        assert_eq!(rt; (count, answer[0]), (1, *octet));
+    }
+}
+
+/// The server ends the connection, and says nothing more.
+pub fn is_ended<R: Abort>(rt: &R, stream: &TcpStream) {
+    let mut stream = stream;
+    let mut answer = [0];
+    assert_eq!(rt; stream.read(&mut answer).expect(rt, "the end"), 0);
+}

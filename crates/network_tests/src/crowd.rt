@@ -1,0 +1,171 @@
+//! Many clients at once, of which some break the rules.
+
+use crate::clients::{connect, is_answered, is_ended, octets_of, send, send_more, write};
+use crate::jobs::{are_in_order, job_text, jobs_in, pages_of};
+use crate::place::{make, printed, remove};
+use crate::server::{Spool, Terminal, run, settings};
+use std::fs::Files;
+use std::net::{Net, Shutdown, TcpStream};
+use std::process::Abort;
+use std::test::Fail;
+use std::thread;
+
+/// How many clients send jobs by the rules.
+const CLIENTS: u32 = 32;
+
+/// How many jobs each of them sends.
+const JOBS: u32 = 4;
+
+/// How many connections are opened and closed.
+const PASSERS: u64 = 1_000;
+
+/// How many of them are opened at once, at most.
+const ROW: u64 = 20;
+
+/// How many connections there are: one of each even client, one for each job of the odd ones, of those that pass by,
+/// and of three that break the rules.
+const CONNECTIONS: u64 = 16 + 16 * 4 + PASSERS + 3;
+
+/// A spool with few pages, so that sessions wait for them. All clients are one sender, whose jobs in a queue are printed
+/// in order of acceptance, so the one that stops in the middle has a queue of its own.
+const SPOOL: Spool = Spool {
+    pages: 16,
+    jobs: 64,
+    account: 1_000_000,
+    printers: 2,
+    plots: true,
+};
+
+/// Sends a client's jobs, one after another: an even one over one connection, an odd one each over its own.
+fn send_all<R: Abort + AllocGlobal + Net<Stream = TcpStream>>(rt: &R, port: u16, client: u32) {
+    let mut stream = connect(rt, port);
+    for number in 0..JOBS {
+        let text = job_text(rt, rt.alloc(), client, number);
+        if number != 0 && client % 2 == 0 {
+            send_more(rt, &stream, number, text.as_bytes());
+            continue;
+        }
+        if number != 0 {
+            stream = connect(rt, port);
+        }
+        let sent = send(rt, &stream, number, text.as_bytes());
+        assert_eq!(rt; sent, Ok(()), "job {number} of {client}");
+    }
+}
+
+/// Sends the job of a client who leaves before the last acknowledgement. All octets have come then, so it is printed.
+fn send_and_leave<R: Abort + AllocGlobal + Net<Stream = TcpStream>>(
+    rt: &R,
+    port: u16,
+    client: u32,
+) {
+    let stream = connect(rt, port);
+    let text = job_text(rt, rt.alloc(), client, 0);
+    let octets = octets_of(rt, 0, text.as_bytes());
+    let (last, head) = octets.as_slice().split_last().expect(rt, "octets");
+    write(rt, &stream, head);
+    is_answered(rt, &stream, &[0; 4]);
+    write(rt, &stream, &[*last]);
+}
+
+/// Sends what is no command.
+fn send_garbage<R: Abort + Net<Stream = TcpStream>>(rt: &R, port: u16) {
+    let stream = connect(rt, port);
+    write(rt, &stream, b"\x7Fgarbage\n");
+    is_answered(rt, &stream, &[1]);
+    is_ended(rt, &stream);
+}
+
+/// Opens connections and closes them, without a word. One of each row waits until the server has closed it too, so
+/// that no more than a row of them stand before the other clients.
+fn pass_by<R: Abort + Net<Stream = TcpStream>>(rt: &R, port: u16) {
+    for passer in 0..PASSERS {
+        let stream = connect(rt, port);
+        if passer % ROW == 0 {
+            stream.shutdown(Shutdown::Write).expect(rt, "the end");
+            is_ended(rt, &stream);
+        }
+    }
+}
+
+/// What one of the threads does: a client's sends jobs, and the last one breaks the rules.
+fn come_and_go<R: Abort + AllocGlobal + Net<Stream = TcpStream>>(rt: &R, port: u16, thread: usize) {
+    match u32::try_from(thread) {
+        Ok(client) if client < CLIENTS => send_all(rt, port, client),
+        _ => {
+            send_garbage(rt, port);
+            send_and_leave(rt, port, CLIENTS);
+            pass_by(rt, port);
+        }
+    }
+}
+
+/// A client that stops in the middle of a job, and stays.
+fn stop<R: Abort + Net<Stream = TcpStream>>(rt: &R, port: u16) -> TcpStream {
+    let stream = connect(rt, port);
+    write(rt, &stream, b"\x02plotter\n\x0311 dfA001h1\nhello");
+    is_answered(rt, &stream, &[0, 0]);
+    stream
+}
+
+/// How many entries the account has: 4 of each job and 4 of each of its pages, 4 of the job that is aborted, and the close.
+fn entries() -> u64 {
+    let mut entries: u64 = 4 + 4 * pages_of(CLIENTS, 0) + 4 + 1;
+    for client in 0..CLIENTS {
+        for number in 0..JOBS {
+            entries = entries.saturating_add(4 + 4 * pages_of(client, number));
+        }
+    }
+    entries
+}
+
+/// Each job that should be printed is, once.
+fn each_is_printed<R: Abort>(rt: &R, jobs: &[(u32, u32)]) {
+    let count = |job: (u32, u32)| jobs.iter().filter(|printed| **printed == job).count();
+    for client in 0..CLIENTS {
+        for number in 0..JOBS {
+            assert_eq!(rt; count((client, number)), 1, "job {number} of {client}");
+        }
+    }
+    assert_eq!(rt; count((CLIENTS, 0)), 1);
+    assert_eq!(rt; jobs.len(), (CLIENTS * JOBS + 1) as usize);
+}
+
+/// The two printers' files have what they should.
+fn are_printed<R: Abort + AllocGlobal + Files>(rt: &R, out: &str) {
+    let mut all = Vec::new(rt.alloc());
+    for printer in 1..=2 {
+        let jobs = jobs_in(rt, printed(rt, out, printer).as_slice());
+        assert!(rt; are_in_order(jobs.as_slice()), "printer {printer}");
+        all.extend_from_slice(jobs.as_slice()).expect(rt, "memory");
+    }
+    each_is_printed(rt, all.as_slice());
+}
+
+/// Jobs of 32 clients are printed whole, in each client's order and once, beside a client that stops in the middle, one
+/// that sends garbage, one that leaves too early, and 1,000 connections that say nothing.
+#[test]
+fn good_jobs_are_printed_beside_bad_clients(rt: HostRuntime) -> Result<(), Fail> {
+    let out = "good_jobs_are_printed_beside_bad_clients";
+    make(&rt, out);
+    let terminal = Terminal::new(rt.alloc());
+    let (ended, _) = thread::join(
+        &rt,
+        || run(&rt, &terminal, SPOOL, settings(out, CONNECTIONS), 0),
+        || {
+            let port = terminal.port(&rt);
+            let stopped = stop(&rt, port);
+            let come_and_go = |thread: usize| come_and_go(&rt, port, thread);
+            let gone = thread::map_indices(&rt, rt.alloc(), CLIENTS as usize + 1, &come_and_go);
+            assert!(rt; gone.is_ok());
+            drop(stopped);
+            terminal.await_end(&rt);
+        },
+    );
+    assert_eq!(rt; ended, Ok(()));
+    let line = format!(in rt.alloc(); "closed entries {}\n", entries())?;
+    terminal.has_printed(&rt, line.as_str());
+    are_printed(&rt, out);
+    remove(&rt, out);
+    Ok(())
+}

@@ -1,0 +1,17 @@
+//! Tests of a server over real sockets on 127.0.0.1, through public items alone.
+#![tactic(auto)]
+
+#[cfg(test)]
+mod clients;
+#[cfg(test)]
+mod crowd;
+#[cfg(test)]
+mod failing;
+#[cfg(test)]
+mod jobs;
+#[cfg(test)]
+mod place;
+#[cfg(test)]
+mod printing;
+#[cfg(test)]
+mod server;

@@ -1,0 +1,207 @@
+//! Jobs of one client, one after another.
+
+use crate::clients::{connect, is_answered, is_ended, send, write};
+use crate::place::{make, path, printed, remove};
+use crate::server::{SMALL, Spool, Terminal, run, settings};
+use lpd_daemon::Settings;
+use std::fs::Files;
+use std::net::{Net, TcpStream};
+use std::process::Abort;
+use std::sync::Wait;
+use std::test::Fail;
+use std::time::Clock;
+use std::{fs, thread};
+
+/// What a job has.
+const HELLO: &[u8] = b"hello world";
+
+/// One job: its octets come out at the printer, behind what its file has, and the account has its 13 entries.
+#[test]
+fn one_job(rt: HostRuntime) -> Result<(), Fail> {
+    let out = "one_job";
+    make(&rt, out);
+    fs::write(&rt, path(&rt, rt.alloc(), out, 1).as_str(), "title ")?;
+    let terminal = Terminal::new(rt.alloc());
+    let (ended, _) = thread::join(
+        &rt,
+        || run(&rt, &terminal, SMALL, settings(out, 1), 0),
+        || {
+            let stream = connect(&rt, terminal.port(&rt));
+            assert_eq!(rt; send(&rt, &stream, 1, HELLO), Ok(()));
+            drop(stream);
+            terminal.await_end(&rt);
+        },
+    );
+    assert_eq!(rt; ended, Ok(()));
+    terminal.has_printed(&rt, "closed entries 13\n");
+    assert_eq!(rt;
+        printed(&rt, out, 1).as_slice(),
+        b"title hello world".as_slice()
+    );
+    remove(&rt, out);
+    Ok(())
+}
+
+/// The account of a spool that has room for one job alone: 712 entries for a job of lp, and one for the close.
+const ONE_JOB: Spool = Spool {
+    account: 713,
+    ..SMALL
+};
+
+/// Settings of a server that ends after two connections, and rotates the account after so many.
+fn rotating(out: &str, rotate: Option<u64>) -> Settings<'_> {
+    Settings {
+        rotate,
+        ..settings(out, 2)
+    }
+}
+
+/// Sends two jobs, each over a connection of its own.
+fn send_two<R: Abort + AllocGlobal + Clock + Net<Stream = TcpStream> + Wait>(
+    rt: &R,
+    terminal: &Terminal,
+) {
+    let port = terminal.port(rt);
+    assert_eq!(rt; send(rt, &connect(rt, port), 1, HELLO), Ok(()));
+    assert_eq!(rt; send(rt, &connect(rt, port), 2, HELLO), Ok(()));
+    terminal.await_end(rt);
+}
+
+/// The two jobs are printed, and the directory is removed.
+fn are_printed<R: Abort + AllocGlobal + Files>(rt: &R, out: &str) {
+    assert_eq!(rt;
+        printed(rt, out, 1).as_slice(),
+        b"hello worldhello world".as_slice()
+    );
+    remove(rt, out);
+}
+
+/// What is printed where the account is rotated before the second connection is served, and where it isn't.
+const ROTATED: &str = "rotated 1 entries 12\nclosed entries 25\n";
+
+const WHOLE: &str = "closed entries 25\n";
+
+/// Each connection is followed by a rotation.
+#[test]
+fn the_account_has_its_turn(rt: HostRuntime) {
+    let out = "the_account_has_its_turn";
+    make(&rt, out);
+    let terminal = Terminal::new(rt.alloc());
+    let (ended, _) = thread::join(
+        &rt,
+        || run(&rt, &terminal, SMALL, rotating(out, Some(1)), 0),
+        || send_two(&rt, &terminal),
+    );
+    assert_eq!(rt; ended, Ok(()));
+    terminal.has_printed(&rt, ROTATED);
+    are_printed(&rt, out);
+}
+
+/// There is no room for one job more, so the account is rotated by itself.
+#[test]
+fn the_account_has_no_room(rt: HostRuntime) {
+    let out = "the_account_has_no_room";
+    make(&rt, out);
+    let terminal = Terminal::new(rt.alloc());
+    let (ended, _) = thread::join(
+        &rt,
+        || run(&rt, &terminal, ONE_JOB, rotating(out, None), 0),
+        || send_two(&rt, &terminal),
+    );
+    assert_eq!(rt; ended, Ok(()));
+    terminal.has_printed(&rt, ROTATED);
+    are_printed(&rt, out);
+}
+
+/// The second connection is the last one, and no rotation follows it.
+#[test]
+fn the_account_has_no_turn_yet(rt: HostRuntime) {
+    let out = "the_account_has_no_turn_yet";
+    make(&rt, out);
+    let terminal = Terminal::new(rt.alloc());
+    let (ended, _) = thread::join(
+        &rt,
+        || run(&rt, &terminal, SMALL, rotating(out, Some(2)), 0),
+        || send_two(&rt, &terminal),
+    );
+    assert_eq!(rt; ended, Ok(()));
+    terminal.has_printed(&rt, WHOLE);
+    are_printed(&rt, out);
+}
+
+/// At 0 it is as without a number.
+#[test]
+fn the_account_has_never_its_turn(rt: HostRuntime) {
+    let out = "the_account_has_never_its_turn";
+    make(&rt, out);
+    let terminal = Terminal::new(rt.alloc());
+    let (ended, _) = thread::join(
+        &rt,
+        || run(&rt, &terminal, SMALL, rotating(out, Some(0)), 0),
+        || send_two(&rt, &terminal),
+    );
+    assert_eq!(rt; ended, Ok(()));
+    terminal.has_printed(&rt, WHOLE);
+    are_printed(&rt, out);
+}
+
+/// A connection's second job is refused for now where the account has no room for it, since the account is rotated
+/// between connections alone.
+#[test]
+fn a_job_finds_no_room(rt: HostRuntime) -> Result<(), Fail> {
+    let out = "a_job_finds_no_room";
+    make(&rt, out);
+    let terminal = Terminal::new(rt.alloc());
+    let (ended, _) = thread::join(
+        &rt,
+        || run(&rt, &terminal, ONE_JOB, settings(out, 1), 0),
+        || {
+            let stream = connect(&rt, terminal.port(&rt));
+            assert_eq!(rt; send(&rt, &stream, 1, HELLO), Ok(()));
+            write(&rt, &stream, b"\x0311 dfA002h1\n");
+            is_answered(&rt, &stream, &[2]);
+            is_ended(&rt, &stream);
+            drop(stream);
+            terminal.await_end(&rt);
+        },
+    );
+    assert_eq!(rt; ended, Ok(()));
+    terminal.has_printed(&rt, "closed entries 13\n");
+    assert_eq!(rt; printed(&rt, out, 1).as_slice(), HELLO);
+    remove(&rt, out);
+    Ok(())
+}
+
+/// A peer that says nothing, at first or in the middle of a job, loses the only thread after a second; the next one is served.
+#[test]
+fn silent_peers_are_left(rt: HostRuntime) -> Result<(), Fail> {
+    let out = "silent_peers_are_left";
+    make(&rt, out);
+    let terminal = Terminal::new(rt.alloc());
+    let settings = Settings {
+        sessions: 1,
+        silence: Some(1),
+        ..settings(out, 3)
+    };
+    let (ended, _) = thread::join(
+        &rt,
+        || run(&rt, &terminal, SMALL, settings, 0),
+        || {
+            let port = terminal.port(&rt);
+            let silent = connect(&rt, port);
+            let halting = connect(&rt, port);
+            write(&rt, &halting, b"\x02lp\n\x0311 dfA002h1\nhello");
+            let stream = connect(&rt, port);
+            assert_eq!(rt; send(&rt, &stream, 1, HELLO), Ok(()));
+            is_ended(&rt, &silent);
+            is_answered(&rt, &halting, &[0, 0]);
+            is_ended(&rt, &halting);
+            drop(stream);
+            terminal.await_end(&rt);
+        },
+    );
+    assert_eq!(rt; ended, Ok(()));
+    assert_eq!(rt; printed(&rt, out, 1).as_slice(), HELLO);
+    remove(&rt, out);
+    Ok(())
+}

@@ -1,0 +1,211 @@
+//! A server in a thread of its own, and what it prints.
+
+ghost use Rattle.std.specs.Prelude.{None};
+
+use config_values::Config;
+use log::Log;
+use lpd_commands::{OctetFault, OctetWrite};
+use lpd_daemon::{Fault, Settings, serve};
+use std::alloc::Global;
+use std::fs::{File, Files};
+use std::net::{Ipv4Addr, Net, TcpListener, TcpStream};
+use std::process::Abort;
+use std::sync::{Condvar, Mutex, Wait};
+use std::thread::Threads;
+use std::time::{Clock, Duration};
+
+/// How many seconds are waited for the server to listen, or to end.
+const LIMIT_SECONDS: u64 = 30;
+
+/// Settings of a server that ends after so many connections, at a port that the system picks.
+pub fn settings(out: &str, connections: u64) -> Settings<'_> {
+    Settings {
+        bind: Ipv4Addr::LOCALHOST,
+        port: 0,
+        out,
+        sessions: 8,
+        connections: Some(connections),
+        rotate: None,
+        silence: None,
+    }
+}
+
+/// A spool of pages of 8 octets, with a queue `lp`.
+#[derive(Clone, Copy)]
+pub struct Spool {
+    pub pages: u32,
+    pub jobs: u32,
+    pub account: u32,
+    pub printers: u32,
+    /// Whether there is a queue `plotter` too, with a printer.
+    pub plots: bool,
+}
+
+/// A small one with one printer.
+pub const SMALL: Spool = Spool {
+    pages: 4,
+    jobs: 8,
+    account: 100_000,
+    printers: 1,
+    plots: false,
+};
+
+/// What a configuration says of the queue `plotter`.
+const PLOTTER: &str = "[[queue]]\nname = \"plotter\"\nlimit = 3\nprinters = 1\n";
+
+impl Spool {
+    fn config<R: Abort>(&self, rt: &R, alloc: Global) -> Config {
+        let Spool {
+            pages,
+            jobs,
+            account,
+            printers,
+            plots,
+        } = *self;
+        let more = if plots { PLOTTER } else { "" };
+        let text = format!(in alloc;
+            "pages = {pages}\npage_size = 8\nmax_jobs = {jobs}\naccount = {account}\n\
+             [[queue]]\nname = \"lp\"\nlimit = 3\nprinters = {printers}\n{more}"
+        )
+        .expect(rt, "memory");
+        spool_config::read(alloc, text.as_bytes()).expect(rt, "a configuration")
+    }
+}
+
+/// What a server has printed, and whether it has ended.
+#[derive(Drop)]
+struct Said {
+    octets: Vec<u8>,
+    has_ended: bool,
+}
+
+/// A server's output, which other threads see.
+#[derive(Drop)]
+pub struct Terminal {
+    said: Mutex<Said>,
+    changed: Condvar,
+}
+
+/// The end of a terminal that a server writes to. The write of this number fails, from 1, and those after it.
+#[derive(Drop)]
+struct Output<'a, R: Wait> {
+    rt: &'a R,
+    terminal: &'a Terminal,
+    fails: u64,
+    calls: u64,
+    faults: u64,
+}
+
+impl<R: Wait> OctetWrite for Output<'_, R> {
+    ghost written = { λ _. None };
+
+    ghost faults = { λ output. output.faults };
+
+    fn write(&mut self, octets: &[u8]) -> Result<usize, OctetFault> {
+        self.calls = self.calls.saturating_add(1);
+        let fails = self.fails != 0 && self.fails <= self.calls;
+        if fails || !self.terminal.add(self.rt, octets) {
+            self.faults = self.faults.saturating_add(1);
+            return Err(OctetFault);
+        }
+        Ok(octets.len())
+    }
+}
+
+impl Terminal {
+    /// Nothing is printed.
+    pub fn new(alloc: Global) -> Terminal {
+        let said = Said {
+            octets: Vec::new(alloc),
+            has_ended: false,
+        };
+        Terminal {
+            said: Mutex::new(said),
+            changed: Condvar::new(),
+        }
+    }
+
+    /// Adds octets. False where memory for them is refused.
+    fn add<R: Wait>(&self, rt: &R, octets: &[u8]) -> bool {
+        let added = self.said.lock(rt).octets.extend_from_slice(octets).is_ok();
+        self.changed.notify_all();
+        added
+    }
+
+    /// The server has ended.
+    fn end<R: Wait>(&self, rt: &R) {
+        self.said.lock(rt).has_ended = true;
+        self.changed.notify_all();
+    }
+
+    /// The port that the server says it listens at.
+    pub fn port<R: Abort + Clock + Wait>(&self, rt: &R) -> u16 {
+        let limit = Duration::from_secs(LIMIT_SECONDS);
+        let said = self.said.lock(rt);
+        let (said, _) = self.changed.wait_timeout_while(rt, said, limit, |said| {
+            !said.has_ended && said.octets.is_empty()
+        });
+        port_of(said.octets.as_slice()).expect(rt, "the server listens")
+    }
+
+    /// Waits until the server has ended, so that no test waits forever for it.
+    pub fn await_end<R: Abort + Clock + Wait>(&self, rt: &R) {
+        let limit = Duration::from_secs(LIMIT_SECONDS);
+        let said = self.said.lock(rt);
+        let (said, _) = self
+            .changed
+            .wait_timeout_while(rt, said, limit, |said| !said.has_ended);
+        assert!(rt; said.has_ended, "the server goes on");
+    }
+
+    /// The server has printed this after its first line, which tells the port.
+    pub fn has_printed<R: Abort + AllocGlobal + Wait>(&self, rt: &R, wanted: &str) {
+        let said = self.said.lock(rt);
+        let text = str::from_utf8(said.octets.as_slice()).expect(rt, "text");
+        let rest = text.split_once('\n').map_or(text, |lines| lines.1);
+        assert_eq!(rt; rest, wanted);
+    }
+
+    /// The server has printed nothing.
+    pub fn is_empty<R: Wait>(&self, rt: &R) -> bool {
+        self.said.lock(rt).octets.is_empty()
+    }
+}
+
+/// The port in the line `listening N`.
+fn port_of(octets: &[u8]) -> Option<u16> {
+    let line = str::from_utf8(octets).ok()?.strip_suffix('\n')?;
+    line.strip_prefix("listening ")?.parse::<u16>().ok()
+}
+
+/// Runs a server whose output is the terminal. The write of this number fails there, and those after it.
+pub fn run<
+    R: Abort
+        + AllocGlobal
+        + Clock
+        + Files<File = File>
+        + Log
+        + Net<Listener = TcpListener, Stream = TcpStream>
+        + Threads
+        + Wait
+        + Sync,
+>(
+    rt: &R,
+    terminal: &Terminal,
+    spool: Spool,
+    settings: Settings<'_>,
+    fails: u64,
+) -> Result<(), Fault> {
+    let alloc = rt.alloc();
+    let config = spool.config(rt, alloc);
+    let mut output = Output {
+        rt,
+        terminal,
+        fails,
+        calls: 0,
+        faults: 0,
+    };
+    let ended = serve(rt, alloc, config, &settings, &mut output);
+    terminal.end(rt);
+    ended
+}

@@ -1,0 +1,12 @@
+//! A worker that prints: it takes the pages that a spool hands to one printer, writes each to what
+//! prints it, and gives it back.
+//!
+//! No lock is held while a page is written.
+#![tactic(auto)]
+
+mod sink;
+mod worker;
+
+pub use shared_spool::{HandedPage, PrinterSeat, SharedSpool};
+pub use sink::{PrintSink, SinkFault};
+pub use worker::{Ending, WorkReport, work};

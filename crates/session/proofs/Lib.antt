@@ -1,0 +1,4 @@
+pub mod CourseLemmas
+pub mod Turning
+pub mod ReadLemmas
+pub mod EndLemmas

@@ -1,0 +1,4 @@
+pub mod Course
+pub mod Added
+pub mod Served
+pub mod Turned

@@ -1,0 +1,16 @@
+//! A session of the line printer daemon protocol (RFC 1179) that runs in a thread of its own: it
+//! reads octets, does what its receiver needs through its seat at a spool that threads share, and
+//! writes what is due.
+//!
+//! No lock is held while octets are read or written.
+#![tactic(auto)]
+
+mod ending;
+mod requests;
+mod session;
+mod talk;
+
+pub use ending::SessionEnd;
+pub use lpd_commands::{OctetFault, OctetRead, OctetWrite};
+pub use session::{BUFFER_SIZE, MOST_READS, serve};
+pub use shared_spool::{SessionSeat, SharedSpool};

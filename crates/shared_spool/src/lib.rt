@@ -1,0 +1,20 @@
+//! A spool that threads share: a core with its account under one lock, and a seat for each session and each printer.
+//!
+//! Whenever the lock is free, the account is a legal history and the core is where the account leaves it. Each seat counts
+//! which entries its calls wrote; when all seats have come back, they add up to the account.
+#![tactic(auto)]
+
+mod printers;
+mod queue_calls;
+mod seats;
+mod sessions;
+mod spool;
+mod waiting;
+
+pub use locked_spool::{
+    Account, Asked, Base, Config, Entry, Foreign, HandedPage, Kind, Next, Pages, Progress, Receipt,
+    ReturnedPage, ReturnedTicket, RotateError, Segment,
+};
+pub use seats::{PrinterSeat, SessionSeat};
+pub use spool::{Opened, SharedSpool, Unfinished};
+pub use spool_ledgers::SpoolLedger;

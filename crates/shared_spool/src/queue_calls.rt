@@ -1,0 +1,121 @@
+//! The calls on a queue or on the whole spool, through a session's seat.
+
+ghost use Rattle.std.specs.Prelude.{◌≡◌, ◌+◌, IfOk};
+ghost use Rattle.account.specs.declared.kind.Kind.TheVariants as kind;
+ghost use Rattle.locked_spool.specs.Segments.{HasHeadline, IsLegalSegment};
+ghost use Rattle.locked_spool.specs.Shares.{OneOrNone, WhenStarted, when_removed};
+
+use crate::seats::SessionSeat;
+use crate::spool::SharedSpool;
+use locked_spool::{Pages, RotateError, Segment};
+use lpd_values::{Octets, Refusal};
+use spool_ledgers::SpoolLedger;
+use std::sync::Wait;
+use std::sync::ledger::Ledger;
+
+impl<E: SpoolLedger, K: Ledger, H: Ledger> SharedSpool<E, K, H> {
+    /// Starts the stopped printers of a queue. Where none is stopped nothing changes.
+    ///
+    /// Closed once the spool is closed; UnknownQueue where no queue has this name.
+    pub fn start<R: Wait>(
+        &self,
+        rt: &R,
+        seat: &mut SessionSeat<E, K, H>,
+        queue: &[u8],
+    ) -> Result<(), Refusal>
+        ensures { WhenStarted result seat.old seat.new }
+    {
+        let answer = self.state.lock(rt).start(&mut seat.shares, queue);
+        if answer.is_ok() {
+            self.changed.notify_all();
+        }
+        answer
+    }
+
+    /// Removes the jobs of a queue that an agent removes by a list, or its active job alone where the list is empty, and
+    /// answers the text that tells of them.
+    ///
+    /// Closed; UnknownQueue; Memory where memory for the text or for the numbers of the jobs is refused.
+    pub fn remove<R: Wait>(
+        &self,
+        rt: &R,
+        seat: &mut SessionSeat<E, K, H>,
+        queue: &[u8],
+        agent: &[u8],
+        list: &[Octets],
+    ) -> Result<Octets, Refusal>
+        ensures { seat.new ≡ when_removed result seat.old }
+    {
+        let answer = self
+            .state
+            .lock(rt)
+            .remove(&mut seat.shares, queue, agent, list);
+        if answer.is_ok() {
+            self.changed.notify_all();
+        }
+        answer
+    }
+
+    /// The text that answers a question for the state of a queue. A closed spool answers too.
+    ///
+    /// UnknownQueue; Memory where memory for the text is refused.
+    pub fn state<R: Wait>(
+        &self,
+        rt: &R,
+        _seat: &mut SessionSeat<E, K, H>,
+        queue: &[u8],
+        list: &[Octets],
+        long: bool,
+    ) -> Result<Octets, Refusal>
+        ensures { _seat.new ≡ _seat.old }
+    {
+        self.state.lock(rt).state(queue, list, long)
+    }
+
+    /// Closes the spool: each job ends, and nothing is accepted or handed out from then on. A page that is out may still come
+    /// back. A second close changes nothing.
+    pub fn close<R: Wait>(&self, rt: &R, seat: &mut SessionSeat<E, K, H>)
+        ensures { OneOrNone kind.Closed seat.old seat.new }
+    {
+        self.state.lock(rt).close(&mut seat.shares);
+        self.changed.notify_all();
+    }
+
+    /// Hands out the entries so far with their base, and begins an account of no entries from the base that they leave.
+    ///
+    /// JobsHeld where a job is held; AccountFull where the sums over all segments would pass what a number holds; Memory where
+    /// memory for the new account is refused.
+    pub fn rotate<R: Wait>(
+        &self,
+        rt: &R,
+        _seat: &mut SessionSeat<E, K, H>,
+    ) -> Result<Segment, RotateError>
+        ensures shares { _seat.new ≡ _seat.old }
+        ensures legal { IfOk result (IsLegalSegment E.config) }
+        ensures headline { IfOk result (HasHeadline E.config) }
+    {
+        self.state.lock(rt).rotate()
+    }
+
+    /// How many jobs are held.
+    pub fn held<R: Wait>(&self, rt: &R, _seat: &mut SessionSeat<E, K, H>) -> usize
+        ensures { _seat.new ≡ _seat.old }
+    {
+        self.state.lock(rt).held()
+    }
+
+    /// How many entries of the account are counted for the jobs that were accepted and for the starts that may come.
+    pub fn counted_reserve<R: Wait>(&self, rt: &R, _seat: &mut SessionSeat<E, K, H>) -> u64
+        ensures { _seat.new ≡ _seat.old }
+    {
+        self.state.lock(rt).counted_reserve()
+    }
+
+    /// The pages by where they are. All together are the pages of the spool.
+    pub fn pages_by_place<R: Wait>(&self, rt: &R, _seat: &mut SessionSeat<E, K, H>) -> Pages
+        ensures seat { _seat.new ≡ _seat.old }
+        ensures all { result.chained + result.lent + result.out + result.free ≡ E.config.pages }
+    {
+        self.state.lock(rt).pages_by_place()
+    }
+}

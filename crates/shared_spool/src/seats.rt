@@ -1,0 +1,105 @@
+//! Seats at a spool.
+
+ghost use Rattle.std.specs.Prelude.{◌≡◌};
+ghost use Rattle.shared_spool.specs.Seats.{new_desk};
+
+use spool_ledgers::Shares;
+use std::marker::Model;
+use std::sync::ledger::Ledger;
+
+/// A session's seat. Contracts see what its calls added to the account.
+#[derive(Drop)]
+pub struct SessionSeat<E: Ledger, K: Ledger, H: Ledger> {
+    pub(crate) shares: Shares<E, K, H>,
+}
+
+impl<E: Ledger, K: Ledger, H: Ledger> Model for SessionSeat<E, K, H> {
+    ghost use Rattle.std.specs.Prelude.{◌≡◌};
+    ghost use Rattle.spool_ledgers.specs.Sums.{Sums};
+
+    ghost Value = { Sums };
+
+    ghost view = { λ s. s.shares };
+
+    ghost invariant = { λ s. s.shares.parts ≡ 1 };
+}
+
+impl<E: Ledger, K: Ledger, H: Ledger> SessionSeat<E, K, H> {
+    /// A seat with its part.
+    pub(crate) fn new(shares: Shares<E, K, H>) -> SessionSeat<E, K, H>
+        requires { shares.parts ≡ 1 }
+        ensures { result ≡ shares }
+    {
+        SessionSeat { shares }
+    }
+
+    /// Gives its shares up.
+    pub(crate) fn into_shares(self) -> Shares<E, K, H>
+        ensures same { result ≡ self }
+        ensures one { self.parts ≡ 1 }
+    {
+        let SessionSeat { shares } = self;
+        shares
+    }
+}
+
+/// A printer's seat. Contracts see its number, whether a page that it was handed is out, and what its calls added to the
+/// account.
+#[derive(Drop)]
+pub struct PrinterSeat<E: Ledger, K: Ledger, H: Ledger> {
+    pub(crate) printer: u32,
+    pub(crate) is_out: bool,
+    pub(crate) shares: Shares<E, K, H>,
+}
+
+impl<E: Ledger, K: Ledger, H: Ledger> Model for PrinterSeat<E, K, H> {
+    ghost use Rattle.std.specs.Prelude.{◌≡◌};
+    ghost use Rattle.shared_spool.specs.Seats.{Desk};
+
+    ghost Value = { Desk };
+
+    ghost view = { λ s. record { printer = s.printer; is_out = s.is_out; sums = s.shares } };
+
+    ghost invariant = { λ s. s.shares.parts ≡ 1 };
+}
+
+impl<E: Ledger, K: Ledger, H: Ledger> PrinterSeat<E, K, H> {
+    /// A seat with its part.
+    pub(crate) fn new(printer: u32, shares: Shares<E, K, H>) -> PrinterSeat<E, K, H>
+        requires { shares.parts ≡ 1 }
+        ensures { result ≡ record (new_desk printer) { sums = shares } }
+    {
+        PrinterSeat {
+            printer,
+            is_out: false,
+            shares,
+        }
+    }
+
+    /// Gives its shares up.
+    pub(crate) fn into_shares(self) -> Shares<E, K, H>
+        ensures same { result ≡ self.sums }
+        ensures one { self.sums.parts ≡ 1 }
+    {
+        let PrinterSeat {
+            printer: _,
+            is_out: _,
+            shares,
+        } = self;
+        shares
+    }
+
+    /// The number of its printer, from 1 over all queues.
+    pub fn printer(&self) -> u32
+        ensures { result ≡ self.now.printer }
+    {
+        self.printer
+    }
+
+    /// Whether a page that it was handed is out.
+    pub fn is_out(&self) -> bool
+        ensures { result ≡ self.now.is_out }
+    {
+        self.is_out
+    }
+}

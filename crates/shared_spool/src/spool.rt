@@ -1,0 +1,177 @@
+//! The spool, its seats, and its end.
+
+ghost use Rattle.std.specs.Prelude.{◌≡◌, ◌≢◌, ◌+◌, ◌↔◌, sum_by, vec_len, IfOk, IfErr, IsErr};
+ghost use Rattle.config_values.specs.Config.{printer_count};
+ghost use Rattle.locked_spool.specs.Segments.{HasHeadline, IsLegalSegment, all_entries, all_handed, all_kinds};
+ghost use Rattle.shared_spool.specs.Seats.{AreDesks, AreFresh, entries_by, handed_by_all, kinds_by};
+
+use crate::seats::{PrinterSeat, SessionSeat};
+use locked_spool::{Config, Locked, Segment};
+use spool_ledgers::{Books, Shares, SpoolLedger};
+use std::alloc::{AllocError, Global};
+use std::fmt;
+use std::marker::Model;
+use std::sync::ledger::{Blank, Ledger};
+use std::sync::{Condvar, Mutex};
+
+/// A spool that threads share. Contracts see how many seats it has.
+///
+/// It is generic in the three ledgers of its entries, their kind numbers and its hand-outs, so whoever makes one does it in a
+/// function that is generic in all three.
+#[derive(Drop)]
+pub struct SharedSpool<E: SpoolLedger, K: Ledger, H: Ledger> {
+    pub(crate) state: Mutex<Locked<E, K, H>>,
+    // Told after each event that wrote an entry.
+    pub(crate) changed: Condvar,
+    seats: u64,
+}
+
+impl<E: SpoolLedger, K: Ledger, H: Ledger> Model for SharedSpool<E, K, H> {
+    ghost use Rattle.std.specs.Prelude.{◌≡◌, ℕ};
+
+    ghost Value = { ℕ };
+
+    ghost view = { λ s. s.seats };
+
+    ghost invariant = { λ s. (s.seats ≡ E.parts) × (K.parts ≡ E.parts) × (H.parts ≡ E.parts) };
+}
+
+/// A spool with its seats.
+#[derive(Drop)]
+pub struct Opened<E: SpoolLedger, K: Ledger, H: Ledger> {
+    pub spool: SharedSpool<E, K, H>,
+    /// The seats of the sessions.
+    pub sessions: Vec<SessionSeat<E, K, H>>,
+    /// The seats of the printers, by their numbers.
+    pub printers: Vec<PrinterSeat<E, K, H>>,
+}
+
+/// What `finish` gives back where a seat is missing.
+#[derive(Drop)]
+pub struct Unfinished<E: SpoolLedger, K: Ledger, H: Ledger> {
+    pub spool: SharedSpool<E, K, H>,
+    pub sessions: Vec<SessionSeat<E, K, H>>,
+    pub printers: Vec<PrinterSeat<E, K, H>>,
+}
+
+/// Writes the number and the name of the refusal, `13 SeatsMissing`.
+impl<E: SpoolLedger, K: Ledger, H: Ledger> fmt::Display for Unfinished<E, K, H> {
+    fn fmt<W: fmt::Write>(&self, f: &mut fmt::Formatter<W>) -> fmt::Result {
+        f.write_str("13 SeatsMissing")
+    }
+}
+
+/// Puts together what these seats of sessions added.
+fn merge_sessions<E: SpoolLedger, K: Ledger, H: Ledger>(
+    all: &mut Shares<E, K, H>,
+    seats: Vec<SessionSeat<E, K, H>>,
+)
+    ensures parts { all.new.parts ≡ all.old.parts + vec_len seats }
+    ensures entries { all.new.entries ≡ all.old.entries + sum_by (λ s. s.entries) seats.items }
+    ensures kinds { all.new.kinds ≡ all.old.kinds + sum_by (λ s. s.kinds) seats.items }
+    ensures handed { all.new.handed ≡ all.old.handed + sum_by (λ s. s.handed) seats.items }
+{
+    for seat in seats {
+        all.merge(seat.into_shares());
+    }
+}
+
+/// Puts together what these seats of printers added.
+fn merge_printers<E: SpoolLedger, K: Ledger, H: Ledger>(
+    all: &mut Shares<E, K, H>,
+    seats: Vec<PrinterSeat<E, K, H>>,
+)
+    ensures parts { all.new.parts ≡ all.old.parts + vec_len seats }
+    ensures entries { all.new.entries
+        ≡ all.old.entries + sum_by (λ d. d.sums.entries) seats.items }
+    ensures kinds { all.new.kinds ≡ all.old.kinds + sum_by (λ d. d.sums.kinds) seats.items }
+    ensures handed { all.new.handed ≡ all.old.handed + sum_by (λ d. d.sums.handed) seats.items }
+{
+    for seat in seats {
+        all.merge(seat.into_shares());
+    }
+}
+
+impl<E: SpoolLedger, K: Ledger, H: Ledger> SharedSpool<E, K, H> {
+    /// A spool in which nothing happened yet, a seat for each of so many sessions, and one for each printer.
+    ///
+    /// AllocError where memory for it is refused.
+    pub fn new(
+        alloc: Global,
+        entries: Blank,
+        kinds: Blank,
+        handed: Blank,
+        config: Config,
+        sessions: u32,
+    ) -> Result<Opened<E, K, H>, AllocError>
+        requires entries { (entries.name ≡ E.name) × (entries.parts ≡ E.parts) }
+        requires kinds { (kinds.name ≡ K.name) × (kinds.parts ≡ K.parts) }
+        requires handed { (handed.name ≡ H.name) × (handed.parts ≡ H.parts) }
+        requires config { config ≡ E.config }
+        requires one_each { (E.parts ≡ sessions + printer_count config) × (K.parts ≡ E.parts)
+            × (H.parts ≡ E.parts) }
+        ensures seats { IfOk result (λ o. o.spool ≡ sessions + printer_count config) }
+        ensures sessions { IfOk result (λ o. AreFresh sessions o.sessions.items) }
+        ensures printers { IfOk result (λ o. AreDesks (printer_count config) o.printers.items) }
+    {
+        let printers = config.printer_count();
+        let (books, mut all) = Books::open(entries, kinds, handed);
+        let mut session_seats = Vec::new(alloc);
+        'sessions: for _i in 0..sessions {
+            session_seats.push(SessionSeat::new(all.split_one()))?;
+        }
+        let mut printer_seats = Vec::new(alloc);
+        'printers: for i in 0..printers {
+            printer_seats.push(PrinterSeat::new(i + 1, all.split_one()))?;
+        }
+        Ok(Opened {
+            spool: SharedSpool {
+                state: Mutex::new(Locked::new(alloc, config, books)?),
+                changed: Condvar::new(),
+                seats: u64::from(sessions) + u64::from(printers),
+            },
+            sessions: session_seats,
+            printers: printer_seats,
+        })
+    }
+
+    /// The last segment of the account, for which all seats come back.
+    ///
+    /// With all earlier segments it has as many entries as the calls of all seats wrote, their kind numbers add up to what the
+    /// seats added, and as many of them are hand-outs as the printers' seats took. Where a seat is missing everything comes back.
+    pub fn finish(
+        self,
+        sessions: Vec<SessionSeat<E, K, H>>,
+        printers: Vec<PrinterSeat<E, K, H>>,
+    ) -> Result<Segment, Unfinished<E, K, H>>
+        ensures legal { IfOk result (IsLegalSegment E.config) }
+        ensures headline { IfOk result (HasHeadline E.config) }
+        ensures entries { IfOk result (λ s. all_entries s
+            ≡ entries_by sessions.items printers.items) }
+        ensures kinds { IfOk result (λ s. all_kinds s ≡ kinds_by sessions.items printers.items) }
+        ensures handed { IfOk result (λ s. all_handed s
+            ≡ handed_by_all sessions.items printers.items) }
+        ensures missing { IsErr result ↔ (vec_len sessions + vec_len printers ≢ self) }
+        ensures back { IfErr result (λ u. (u.spool ≡ self) × (u.sessions ≡ sessions)
+            × (u.printers ≡ printers)) }
+    {
+        let given = sessions.len() as u64 + printers.len() as u64;
+        if given != self.seats {
+            return Err(Unfinished {
+                spool: self,
+                sessions,
+                printers,
+            });
+        }
+        let SharedSpool {
+            state,
+            changed: _,
+            seats: _,
+        } = self;
+        let mut locked = state.into_inner();
+        let mut all = locked.no_shares();
+        merge_sessions(&mut all, sessions);
+        merge_printers(&mut all, printers);
+        Ok(locked.into_segment(&mut all))
+    }
+}

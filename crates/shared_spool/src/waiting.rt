@@ -1,0 +1,69 @@
+//! The calls that wait for another one.
+
+ghost use Rattle.std.specs.Prelude.{◌≡◌, ◌≢◌, ◌<◌, ◌^◌, Ok, IfOk};
+ghost use Rattle.spool_calls.specs.declared.answers.Asked.TheVariants as asked;
+ghost use Rattle.spool_calls.specs.declared.answers.Next.TheVariants as next;
+ghost use Rattle.spool_core.specs.Tickets.{IsBlank};
+ghost use Rattle.locked_spool.specs.Shares.{when_lent};
+ghost use Rattle.shared_spool.specs.Seats.{next_desk};
+
+use crate::seats::{PrinterSeat, SessionSeat};
+use crate::spool::SharedSpool;
+use locked_spool::{Asked, Next};
+use lpd_values::Refusal;
+use spool_ledgers::SpoolLedger;
+use std::sync::Wait;
+use std::sync::ledger::Ledger;
+
+impl<E: SpoolLedger, K: Ledger, H: Ledger> SharedSpool<E, K, H> {
+    /// Lends a page to a job, once one may be lent. It waits while `ask` would answer Later.
+    ///
+    /// NotOpen where the job isn't being received, no file of it is open or a page is lent to it; OverClaim where it holds as
+    /// many pages as its queue allows.
+    pub fn ask_wait<R: Wait>(
+        &self,
+        rt: &R,
+        seat: &mut SessionSeat<E, K, H>,
+        job: u64,
+    ) -> Result<Asked, Refusal>
+        ensures page { IfOk result (IsBlank E.config.page_size) }
+        ensures lent { result ≢ Ok asked.Later }
+        ensures shares { seat.new ≡ when_lent result seat.old }
+    {
+        let mut state = self.state.lock(rt);
+        for _ in rt.forever() {
+            match state.ask(&mut seat.shares, job) {
+                Ok(Asked::Later) => {}
+                answer => {
+                    drop(state);
+                    self.changed.notify_all();
+                    return answer;
+                }
+            }
+            state = self.changed.wait(rt, state);
+        }
+        unreachable!()
+    }
+
+    /// Gives the seat's printer its next page, once there is one or the spool is closed. It waits while `next` would answer
+    /// Nothing or Stopped.
+    pub fn next_wait<R: Wait>(&self, rt: &R, seat: &mut PrinterSeat<E, K, H>) -> Next
+        ensures seat { seat.new ≡ next_desk result seat.old }
+        ensures bound { seat.new.sums.handed < 2 ^ 64 }
+        ensures something { (result ≢ next.Nothing) × (result ≢ next.Stopped) }
+    {
+        let printer = seat.printer;
+        let state = self.state.lock(rt);
+        let mut state = self.changed.wait_while(rt, state, |s| s.must_wait(printer));
+        let answer = state.next(&mut seat.shares, printer);
+        drop(state);
+        self.hands(seat, &answer);
+        answer
+    }
+
+    /// Waits until no job is held, or a printer is stopped.
+    pub fn idle_wait<R: Wait>(&self, rt: &R) {
+        let state = self.state.lock(rt);
+        let _state = self.changed.wait_while(rt, state, |s| !s.is_idle());
+    }
+}

@@ -1,0 +1,243 @@
+//! A spool from its opening to its end.
+
+ghost use Rattle.std.specs.Prelude.{◌≡◌, ◌+◌};
+ghost use Rattle.config_values.specs.Config.{printer_count};
+
+use crate::audit::Audit;
+use crate::draws::Draws;
+use crate::figures::Figures;
+use crate::hosts::{Host, Printer};
+use crate::rounds::{Front, Plan};
+use crate::sink::Sink;
+use crate::violation::Violation;
+use config_values::Config;
+use printer_worker::PrinterSeat;
+use session::SessionSeat;
+use shared_spool::{Opened, SharedSpool, SpoolLedger};
+use std::alloc::{AllocError, Global};
+use std::marker::Brand;
+use std::rt::Clock;
+use std::sync::Wait;
+use std::sync::ledger::{Blank, Ledger};
+use std::thread;
+use std::thread::Threads;
+
+/// How many seats there are for sessions. Each is a thread's but one, which is the operator's.
+const SEATS: u32 = 9;
+
+/// What a spool is made for.
+const CONFIG: &[u8] = b"pages = 24\npage_size = 256\nmax_jobs = 12\naccount = 60000\n\
+    [[queue]]\nname = \"q1\"\nlimit = 8\nprinters = 2\n\
+    [[queue]]\nname = \"q2\"\nlimit = 8\nprinters = 2\n";
+
+/// What a spool is made for.
+///
+/// NoConfig.
+fn config(alloc: Global) -> Result<Config, Violation> {
+    spool_config::read(alloc, CONFIG).map_err(|_| Violation::NoConfig)
+}
+
+/// The ledgers of a spool, before they are opened.
+struct Blanks {
+    entries: Blank,
+    kinds: Blank,
+    handed: Blank,
+}
+
+/// Those who serve sessions, each at a seat of these.
+fn hosts_at<E: SpoolLedger, K: Ledger, H: Ledger>(
+    alloc: Global,
+    draws: &mut Draws,
+    seats: Vec<SessionSeat<E, K, H>>,
+) -> Result<Vec<Host<E, K, H>>, AllocError> {
+    let mut hosts = Vec::new(alloc);
+    for seat in seats {
+        hosts.push(Host::new(seat, draws.split()))?;
+    }
+    Ok(hosts)
+}
+
+/// The operator at the last of these seats, and those who serve sessions at the others.
+///
+/// SeatMissing where there is none; Memory.
+fn front_at<E: SpoolLedger, K: Ledger, H: Ledger>(
+    alloc: Global,
+    audit: Audit,
+    plan: Plan,
+    seats: Vec<SessionSeat<E, K, H>>,
+) -> Result<Front<E, K, H>, Violation> {
+    let (mut plan, mut seats) = (plan, seats);
+    let operator = seats.pop().ok_or(Violation::SeatMissing)?;
+    Ok(Front {
+        operator,
+        hosts: hosts_at(alloc, &mut plan.draws, seats)?,
+        audit,
+        figures: Figures::of_spools(1),
+        plan,
+    })
+}
+
+/// Those who print, each at a seat of these.
+fn printers_at<E: SpoolLedger, K: Ledger, H: Ledger>(
+    alloc: Global,
+    draws: &mut Draws,
+    seats: Vec<PrinterSeat<E, K, H>>,
+) -> Result<Vec<Printer<E, K, H>>, AllocError> {
+    let mut printers = Vec::new(alloc);
+    for seat in seats {
+        printers.push(Printer::new(alloc, seat, draws.split()))?;
+    }
+    Ok(printers)
+}
+
+/// Has rounds of sessions served at a spool while its printers print, and closes it.
+///
+/// What is wrong after a round; Memory.
+fn run<
+    R: AllocGlobal + Clock + Threads + Wait + Sync,
+    E: SpoolLedger + Send + Sync,
+    K: Ledger + Send + Sync,
+    H: Ledger + Send + Sync,
+>(
+    rt: &R,
+    spool: &SharedSpool<E, K, H>,
+    front: &mut Front<E, K, H>,
+    printers: Vec<Printer<E, K, H>>,
+) -> Result<Vec<Printer<E, K, H>>, Violation> {
+    let (printers, found) = thread::join(
+        rt,
+        || thread::map_vec(
+            rt,
+            printers,
+            &|printer: Printer<E, K, H>| printer.print(rt, spool),
+        ),
+        || {
+            let found = front.rounds(rt, spool);
+            spool.close(rt, &mut front.operator);
+            found
+        },
+    );
+    found?;
+    Ok(printers?)
+}
+
+/// The seats of those who serve sessions, and of the operator.
+fn session_seats<E: SpoolLedger, K: Ledger, H: Ledger>(
+    alloc: Global,
+    operator: SessionSeat<E, K, H>,
+    hosts: Vec<Host<E, K, H>>,
+) -> Result<Vec<SessionSeat<E, K, H>>, AllocError> {
+    let mut seats = Vec::new(alloc);
+    seats.push(operator)?;
+    for host in hosts {
+        seats.push(host.seat)?;
+    }
+    Ok(seats)
+}
+
+/// The seats of those who print, and their sinks.
+fn printer_seats<E: SpoolLedger, K: Ledger, H: Ledger>(
+    alloc: Global,
+    printers: Vec<Printer<E, K, H>>,
+) -> Result<(Vec<PrinterSeat<E, K, H>>, Vec<Sink>), AllocError> {
+    let mut seats = Vec::new(alloc);
+    let mut sinks = Vec::new(alloc);
+    for printer in printers {
+        seats.push(printer.seat)?;
+        sinks.push(printer.sink)?;
+    }
+    Ok((seats, sinks))
+}
+
+/// Ends a spool, and checks the last segment of its account and what its printers were given.
+///
+/// WorkerEnded; SeatMissing; OtherOctets; OtherPages; what is wrong with the segment; Memory.
+fn finish<E: SpoolLedger, K: Ledger, H: Ledger>(
+    alloc: Global,
+    spool: SharedSpool<E, K, H>,
+    front: Front<E, K, H>,
+    printers: Vec<Printer<E, K, H>>,
+) -> Result<Figures, Violation> {
+    for printer in printers.iter() {
+        printer.is_well()?;
+    }
+    let ends = front.ends();
+    let Front {
+        operator,
+        hosts,
+        mut audit,
+        mut figures,
+        plan: _,
+    } = front;
+    let sessions = session_seats(alloc, operator, hosts)?;
+    let (printers, sinks) = printer_seats(alloc, printers)?;
+    match spool.finish(sessions, printers) {
+        Ok(segment) => audit.add(segment)?,
+        Err(_) => return Err(Violation::SeatMissing),
+    }
+    for sink in sinks.iter() {
+        audit.compare(sink)?;
+    }
+    figures.ends = ends;
+    figures.events = audit.events();
+    Ok(figures)
+}
+
+/// The life of a spool, at any ledgers, with so many seats for sessions.
+fn live_at<
+    R: AllocGlobal + Clock + Threads + Wait + Sync,
+    E: SpoolLedger + Send + Sync,
+    K: Ledger + Send + Sync,
+    H: Ledger + Send + Sync,
+>(
+    rt: &R,
+    config: Config,
+    seats: u32,
+    blanks: Blanks,
+    audit: Audit,
+    plan: Plan,
+) -> Result<Figures, Violation>
+    requires entries { (blanks.entries.name ≡ E.name) × (blanks.entries.parts ≡ E.parts) }
+    requires kinds { (blanks.kinds.name ≡ K.name) × (blanks.kinds.parts ≡ K.parts) }
+    requires handed { (blanks.handed.name ≡ H.name) × (blanks.handed.parts ≡ H.parts) }
+    requires config { config ≡ E.config }
+    requires one_each { (E.parts ≡ seats + printer_count config) × (K.parts ≡ E.parts)
+        × (H.parts ≡ E.parts) }
+{
+    let Blanks {
+        entries,
+        kinds,
+        handed,
+    } = blanks;
+    let alloc = rt.alloc();
+    let mut plan = plan;
+    let Opened {
+        spool,
+        sessions,
+        printers,
+    } = SharedSpool::<E, K, H>::new(alloc, entries, kinds, handed, config, seats)?;
+    let printers = printers_at(alloc, &mut plan.draws, printers)?;
+    let mut front = front_at(alloc, audit, plan, sessions)?;
+    let printers = run(rt, &spool, &mut front, printers)?;
+    finish(alloc, spool, front, printers)
+}
+
+/// Has a spool live, with so many rounds of sessions, printers and rotations up to its end, and checks what
+/// it leaves.
+///
+/// What is found wrong; NoConfig; Memory.
+pub fn live<R: AllocGlobal + Clock + Threads + Wait + Sync>(
+    rt: &R,
+    plan: Plan,
+) -> Result<Figures, Violation> {
+    let alloc = rt.alloc();
+    let audit = Audit::new(alloc, config(alloc)?);
+    let config = config(alloc)?;
+    let parts = u64::from(SEATS) + u64::from(config.printer_count());
+    let blanks = Blanks {
+        entries: Blank::new(parts),
+        kinds: Blank::new(parts),
+        handed: Blank::new(parts),
+    };
+    live_at::<R, Brand, Brand, Brand>(rt, config, SEATS, blanks, audit, plan)
+}

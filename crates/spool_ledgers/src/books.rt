@@ -1,0 +1,107 @@
+//! The totals of the three ledgers.
+
+ghost use Rattle.std.specs.Prelude.{◌≡◌, ◌<◌, ◌≤◌};
+ghost use Rattle.spool_ledgers.specs.Sums.{no_sums, with_entry};
+
+use crate::shares::Shares;
+use account::Kind;
+use std::marker::Model;
+use std::sync::ledger::{Blank, Book, Ledger};
+
+/// The totals of the three ledgers.
+/// They are kept under the lock, beside what they count.
+#[derive(Drop)]
+pub struct Books<E: Ledger, K: Ledger, H: Ledger> {
+    entries: Book<E>,
+    kinds: Book<K>,
+    handed: Book<H>,
+    // A share of no part, from which others are made.
+    rest: Shares<E, K, H>,
+}
+
+impl<E: Ledger, K: Ledger, H: Ledger> Model for Books<E, K, H> {
+    ghost use Rattle.spool_ledgers.specs.Sums.{Sums};
+
+    ghost Value = { Sums };
+
+    ghost view = { λ b. record {
+      parts = 0;
+      entries = b.entries.total;
+      kinds = b.kinds.total;
+      handed = b.handed.total;
+    } };
+}
+
+impl<E: Ledger, K: Ledger, H: Ledger> Books<E, K, H> {
+    /// Opens the three ledgers.
+    pub fn open(entries: Blank, kinds: Blank, handed: Blank) -> (Books<E, K, H>, Shares<E, K, H>)
+        requires entries { (entries.name ≡ E.name) × (entries.parts ≡ E.parts) }
+        requires kinds { (kinds.name ≡ K.name) × (kinds.parts ≡ K.parts) }
+        requires handed { (handed.name ≡ H.name) × (handed.parts ≡ H.parts) }
+        requires same { (K.parts ≡ E.parts) × (H.parts ≡ E.parts) }
+        ensures books { result.0 ≡ no_sums 0 }
+        ensures shares { result.1 ≡ no_sums E.parts }
+    {
+        let (entries, all_entries) = entries.open::<E>();
+        let (kinds, all_kinds) = kinds.open::<K>();
+        let (handed, all_handed) = handed.open::<H>();
+        let mut all = Shares {
+            entries: all_entries,
+            kinds: all_kinds,
+            handed: all_handed,
+        };
+        let rest = all.empty();
+        let books = Books {
+            entries,
+            kinds,
+            handed,
+            rest,
+        };
+        (books, all)
+    }
+
+    /// A share of no part.
+    pub fn no_shares(&mut self) -> Shares<E, K, H>
+        ensures none { result ≡ no_sums 0 }
+        ensures same { self.new ≡ self.old }
+    {
+        self.rest.empty()
+    }
+
+    /// Counts an entry of a kind, and adds it to the share.
+    pub fn count(&mut self, mine: &mut Shares<E, K, H>, kind: Kind)
+        requires { 0 < mine.old.parts }
+        ensures books { self.new ≡ with_entry kind self.old }
+        ensures shares { mine.new ≡ with_entry kind mine.old }
+    {
+        let handed = match kind {
+            Kind::Handed => 1,
+            _ => 0,
+        };
+        self.entries.add(&mut mine.entries, 1);
+        self.kinds.add(&mut mine.kinds, kind.number());
+        self.handed.add(&mut mine.handed, handed);
+    }
+
+    /// No share has more than the total.
+    pub fn bound(&mut self, mine: &mut Shares<E, K, H>)
+        ensures books { self.new ≡ self.old }
+        ensures shares { mine.new ≡ mine.old }
+        ensures bound { mine.old.handed ≤ self.old.handed }
+    {
+        self.handed.audit(&mut mine.handed);
+    }
+
+    /// All shares together have the totals.
+    pub fn audit(&mut self, all: &mut Shares<E, K, H>)
+        requires { (all.old.parts ≡ E.parts) × (K.parts ≡ E.parts) × (H.parts ≡ E.parts) }
+        ensures books { self.new ≡ self.old }
+        ensures shares { all.new ≡ all.old }
+        ensures whole { (all.old.entries ≡ self.old.entries) × (all.old.kinds ≡ self.old.kinds)
+            × (all.old.handed ≡ self.old.handed) }
+    {
+        self.entries.audit(&mut all.entries);
+        self.kinds.audit(&mut all.kinds);
+        self.handed.audit(&mut all.handed);
+    }
+}

@@ -1,0 +1,177 @@
+//! A spool for each scene: made, and finished when all seats have come back.
+
+ghost use Rattle.std.specs.Prelude.{◌≡◌, ◌+◌};
+ghost use Rattle.config_values.specs.Config.{printer_count};
+
+use crate::board::{Board, Mark};
+use crate::ends::{Client, Device};
+use crate::report::Report;
+use crate::scene::{Cue, Missing, Outcome, Scene, Seats, Stage, act};
+use config_values::Config;
+use shared_spool::{
+    Opened, PrinterSeat, Segment, SessionSeat, SharedSpool, SpoolLedger, Unfinished,
+};
+use std::alloc::Global;
+use std::marker::Brand;
+use std::process::Abort;
+use std::sync::Wait;
+use std::sync::ledger::{Blank, Ledger};
+use std::test::Fail;
+use std::thread::Threads;
+use std::time::Clock;
+
+/// How many octets a page has.
+pub const PAGE_SIZE: usize = 8;
+
+/// How many pages a spool has.
+pub const PAGES: usize = 4;
+
+/// A spool of one queue with so many printers. None where memory is refused.
+fn config_of(alloc: Global, printers: usize) -> Option<Config> {
+    let text = format!(in alloc;
+        "pages = {PAGES}\npage_size = {PAGE_SIZE}\nmax_jobs = 8\naccount = 100000\n\
+         [[queue]]\nname = \"lp\"\nlimit = 3\nprinters = {printers}\n"
+    )
+    .ok()?;
+    spool_config::read(alloc, text.as_bytes()).ok()
+}
+
+/// The ledgers of a spool, before they are opened.
+struct Blanks {
+    entries: Blank,
+    kinds: Blank,
+    handed: Blank,
+}
+
+/// Finishes a spool, of which a seat may be missing at first. Answers the last segment of the
+/// account, and what was told where everything came back for that seat.
+fn finish<E: SpoolLedger, K: Ledger, H: Ledger>(
+    alloc: Global,
+    spool: SharedSpool<E, K, H>,
+    missing: Missing,
+    mut sessions: Vec<SessionSeat<E, K, H>>,
+    mut printers: Vec<PrinterSeat<E, K, H>>,
+) -> Option<(Segment, Option<String>)> {
+    let (mut session, mut printer) = (None, None);
+    match missing {
+        Missing::Nothing => {}
+        Missing::Session => session = sessions.pop(),
+        Missing::Printer => printer = printers.pop(),
+    }
+    let unfinished = match spool.finish(sessions, printers) {
+        Ok(segment) => return Some((segment, None)),
+        Err(unfinished) => unfinished,
+    };
+    let told = unfinished.to_string(alloc).ok()?;
+    let Unfinished {
+        spool,
+        mut sessions,
+        mut printers,
+    } = unfinished;
+    if let Some(seat) = session {
+        sessions.push(seat).ok()?;
+    }
+    if let Some(seat) = printer {
+        printers.push(seat).ok()?;
+    }
+    let segment = spool.finish(sessions, printers).ok()?;
+    Some((segment, Some(told)))
+}
+
+/// Has a scene act at a spool of these ledgers.
+fn perform_at<
+    R: AllocGlobal + Clock + Threads + Wait + Sync,
+    E: SpoolLedger + Send + Sync,
+    K: Ledger + Send + Sync,
+    H: Ledger + Send + Sync,
+>(rt: &R, scene: Scene<'_>, config: Config, count: u32, blanks: Blanks) -> Option<Report>
+    requires entries { (blanks.entries.name ≡ E.name) × (blanks.entries.parts ≡ E.parts) }
+    requires kinds { (blanks.kinds.name ≡ K.name) × (blanks.kinds.parts ≡ K.parts) }
+    requires handed { (blanks.handed.name ≡ H.name) × (blanks.handed.parts ≡ H.parts) }
+    requires config { config ≡ E.config }
+    requires one_each { (E.parts ≡ count + printer_count config) × (K.parts ≡ E.parts)
+        × (H.parts ≡ E.parts) }
+{
+    let alloc = rt.alloc();
+    let Blanks {
+        entries,
+        kinds,
+        handed,
+    } = blanks;
+    let Opened {
+        spool,
+        mut sessions,
+        printers,
+    } = SharedSpool::<E, K, H>::new(alloc, entries, kinds, handed, config, count).ok()?;
+    let board = Board::new(alloc);
+    let stage = Stage {
+        rt,
+        board: &board,
+        spool: &spool,
+    };
+    let seats = Seats {
+        director: sessions.pop()?,
+        sessions,
+        printers,
+    };
+    let outcome = act(&stage, scene, seats)?;
+    let Outcome {
+        mut session_seats,
+        printer_seats,
+        sessions,
+        printers,
+        looks,
+    } = outcome;
+    let seat = session_seats.last_mut()?;
+    let pages = spool.pages_by_place(rt, seat);
+    let held = spool.held(rt, seat);
+    let (account, missed) = finish(alloc, spool, scene.missing, session_seats, printer_seats)?;
+    Some(Report {
+        sessions,
+        printers,
+        looks,
+        is_late: board.has(rt, Mark::Late),
+        is_early: board.has(rt, Mark::Early),
+        pages,
+        held,
+        missed,
+        account,
+    })
+}
+
+/// Has a scene act at a spool of its own. None where memory is refused, a thread can't be made or a
+/// seat doesn't come back.
+pub fn perform<R: AllocGlobal + Clock + Threads + Wait + Sync>(
+    rt: &R,
+    scene: Scene<'_>,
+) -> Option<Report> {
+    let config = config_of(rt.alloc(), scene.devices.len())?;
+    // One more for the director.
+    let count = u32::try_from(scene.clients.len()).ok()?.checked_add(1)?;
+    let seats = u64::from(count) + u64::from(config.printer_count());
+    let blanks = Blanks {
+        entries: Blank::new(seats),
+        kinds: Blank::new(seats),
+        handed: Blank::new(seats),
+    };
+    perform_at::<R, Brand, Brand, Brand>(rt, scene, config, count, blanks)
+}
+
+/// Has these sessions and printers act, with these cues, and gives what came of it: all marks came
+/// in time, no job is held and all pages are free.
+pub fn play<R: Abort + AllocGlobal + Clock + Threads + Wait + Sync>(
+    rt: &R,
+    clients: &[Client<'_>],
+    devices: &[Device<'_>],
+    cues: &[Cue],
+) -> Result<Report, Fail> {
+    let scene = Scene {
+        clients,
+        devices,
+        cues,
+        missing: Missing::Nothing,
+    };
+    let report = perform(rt, scene).ok_or("no report")?;
+    report.is_quiet(rt);
+    Ok(report)
+}
