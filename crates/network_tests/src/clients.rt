@@ -148,3 +148,11 @@ pub fn is_ended<R: Abort>(rt: &R, stream: &TcpStream) {
     let mut answer = [0];
     assert_eq!(rt; stream.read(&mut answer).expect(rt, "the end"), 0);
 }
+
+/// A client that stops in the middle of a job of the queue `plotter`, whose page is lent, and stays.
+pub fn stop<R: Abort + Net<Stream = TcpStream>>(rt: &R, port: u16) -> TcpStream {
+    let stream = connect(rt, port);
+    write(rt, &stream, b"\x02plotter\n\x0311 dfA001h1\nhello");
+    is_answered(rt, &stream, &[0, 0]);
+    stream
+}

@@ -1,9 +1,10 @@
 //! Many clients at once, of which some break the rules.
 
-use crate::clients::{connect, is_answered, is_ended, octets_of, send, send_more, write};
+use crate::clients::{connect, is_answered, is_ended, octets_of, send, send_more, stop, write};
 use crate::jobs::{are_in_order, job_text, jobs_in, pages_of};
 use crate::place::{make, printed, remove};
 use crate::server::{Spool, Terminal, run, settings};
+use lpd_daemon::Settings;
 use std::fs::Files;
 use std::net::{Net, Shutdown, TcpStream};
 use std::process::Abort;
@@ -35,6 +36,10 @@ const SPOOL: Spool = Spool {
     printers: 2,
     plots: true,
 };
+
+/// For how many seconds a peer may be silent. Where all others wait for pages that the job of the one that stopped may
+/// still need, they wait for no longer.
+const SILENCE: u64 = 10;
 
 /// Sends a client's jobs, one after another: an even one over one connection, an odd one each over its own.
 fn send_all<R: Abort + AllocGlobal + Net<Stream = TcpStream>>(rt: &R, port: u16, client: u32) {
@@ -100,14 +105,6 @@ fn come_and_go<R: Abort + AllocGlobal + Net<Stream = TcpStream>>(rt: &R, port: u
     }
 }
 
-/// A client that stops in the middle of a job, and stays.
-fn stop<R: Abort + Net<Stream = TcpStream>>(rt: &R, port: u16) -> TcpStream {
-    let stream = connect(rt, port);
-    write(rt, &stream, b"\x02plotter\n\x0311 dfA001h1\nhello");
-    is_answered(rt, &stream, &[0, 0]);
-    stream
-}
-
 /// How many entries the account has: 4 of each job and 4 of each of its pages, 4 of the job that is aborted, and the close.
 fn entries() -> u64 {
     let mut entries: u64 = 4 + 4 * pages_of(CLIENTS, 0) + 4 + 1;
@@ -149,9 +146,13 @@ fn good_jobs_are_printed_beside_bad_clients(rt: HostRuntime) -> Result<(), Fail>
     let out = "good_jobs_are_printed_beside_bad_clients";
     make(&rt, out);
     let terminal = Terminal::new(rt.alloc());
+    let settings = Settings {
+        silence: Some(SILENCE),
+        ..settings(out, CONNECTIONS)
+    };
     let (ended, _) = thread::join(
         &rt,
-        || run(&rt, &terminal, SPOOL, settings(out, CONNECTIONS), 0),
+        || run(&rt, &terminal, SPOOL, settings, 0),
         || {
             let port = terminal.port(&rt);
             let stopped = stop(&rt, port);

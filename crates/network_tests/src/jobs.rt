@@ -5,6 +5,9 @@ ghost use Rattle.std.specs.Prelude.{◌≤◌};
 use std::alloc::Global;
 use std::process::Abort;
 
+/// What a client's only job has.
+pub const HELLO: &[u8] = b"hello world";
+
 /// The octets of a client's job, a line that no other job has: 7, 16 or 21 octets, of one page, two or three.
 pub fn job_text<R: Abort>(rt: &R, alloc: Global, client: u32, number: u32) -> String {
     let more = match pages_of(client, number) {

@@ -8,6 +8,8 @@ mod crowd;
 #[cfg(test)]
 mod failing;
 #[cfg(test)]
+mod halting;
+#[cfg(test)]
 mod jobs;
 #[cfg(test)]
 mod place;

@@ -1,6 +1,7 @@
 //! Jobs of one client, one after another.
 
 use crate::clients::{connect, is_answered, is_ended, send, write};
+use crate::jobs::HELLO;
 use crate::place::{make, path, printed, remove};
 use crate::server::{SMALL, Spool, Terminal, run, settings};
 use lpd_daemon::Settings;
@@ -11,9 +12,6 @@ use std::sync::Wait;
 use std::test::Fail;
 use std::time::Clock;
 use std::{fs, thread};
-
-/// What a job has.
-const HELLO: &[u8] = b"hello world";
 
 /// One job: its octets come out at the printer, behind what its file has, and the account has its 13 entries.
 #[test]
@@ -167,40 +165,6 @@ fn a_job_finds_no_room(rt: HostRuntime) -> Result<(), Fail> {
     );
     assert_eq!(rt; ended, Ok(()));
     terminal.has_printed(&rt, "closed entries 13\n");
-    assert_eq!(rt; printed(&rt, out, 1).as_slice(), HELLO);
-    remove(&rt, out);
-    Ok(())
-}
-
-/// A peer that says nothing, at first or in the middle of a job, loses the only thread after a second; the next one is served.
-#[test]
-fn silent_peers_are_left(rt: HostRuntime) -> Result<(), Fail> {
-    let out = "silent_peers_are_left";
-    make(&rt, out);
-    let terminal = Terminal::new(rt.alloc());
-    let settings = Settings {
-        sessions: 1,
-        silence: Some(1),
-        ..settings(out, 3)
-    };
-    let (ended, _) = thread::join(
-        &rt,
-        || run(&rt, &terminal, SMALL, settings, 0),
-        || {
-            let port = terminal.port(&rt);
-            let silent = connect(&rt, port);
-            let halting = connect(&rt, port);
-            write(&rt, &halting, b"\x02lp\n\x0311 dfA002h1\nhello");
-            let stream = connect(&rt, port);
-            assert_eq!(rt; send(&rt, &stream, 1, HELLO), Ok(()));
-            is_ended(&rt, &silent);
-            is_answered(&rt, &halting, &[0, 0]);
-            is_ended(&rt, &halting);
-            drop(stream);
-            terminal.await_end(&rt);
-        },
-    );
-    assert_eq!(rt; ended, Ok(()));
     assert_eq!(rt; printed(&rt, out, 1).as_slice(), HELLO);
     remove(&rt, out);
     Ok(())
