@@ -17,3 +17,5 @@ mod place;
 mod printing;
 #[cfg(test)]
 mod server;
+#[cfg(test)]
+mod words;

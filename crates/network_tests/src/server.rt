@@ -88,7 +88,7 @@ pub struct Terminal {
 
 /// The end of a terminal that a server writes to. The write of this number fails, from 1, and those after it.
 #[derive(Drop)]
-struct Output<'a, R: Wait> {
+pub struct Output<'a, R: Wait> {
     rt: &'a R,
     terminal: &'a Terminal,
     fails: u64,
@@ -109,6 +109,19 @@ impl<R: Wait> OctetWrite for Output<'_, R> {
             return Err(OctetFault);
         }
         Ok(octets.len())
+    }
+}
+
+impl<'a, R: Wait> Output<'a, R> {
+    /// An end to which writes fail from the one of this number on; at 0 none does.
+    pub fn new(rt: &'a R, terminal: &'a Terminal, fails: u64) -> Output<'a, R> {
+        Output {
+            rt,
+            terminal,
+            fails,
+            calls: 0,
+            faults: 0,
+        }
     }
 }
 
@@ -166,6 +179,12 @@ impl Terminal {
         assert_eq!(rt; rest, wanted);
     }
 
+    /// This was printed, and nothing else.
+    pub fn has_said<R: Abort + Wait>(&self, rt: &R, wanted: &str) {
+        let said = self.said.lock(rt);
+        assert_eq!(rt; str::from_utf8(said.octets.as_slice()), Ok(wanted));
+    }
+
     /// The server has printed nothing.
     pub fn is_empty<R: Wait>(&self, rt: &R) -> bool {
         self.said.lock(rt).octets.is_empty()
@@ -178,7 +197,32 @@ fn port_of(octets: &[u8]) -> Option<u16> {
     line.strip_prefix("listening ")?.parse::<u16>().ok()
 }
 
-/// Runs a server whose output is the terminal. The write of this number fails there, and those after it.
+/// Runs a server of this configuration whose output is the terminal. The write of this number fails there, and those
+/// after it.
+pub fn run_config<
+    R: Abort
+        + AllocGlobal
+        + Clock
+        + Files<File = File>
+        + Log
+        + Net<Listener = TcpListener, Stream = TcpStream>
+        + Threads
+        + Wait
+        + Sync,
+>(
+    rt: &R,
+    terminal: &Terminal,
+    config: Config,
+    settings: Settings<'_>,
+    fails: u64,
+) -> Result<(), Fault> {
+    let mut output = Output::new(rt, terminal, fails);
+    let ended = serve(rt, rt.alloc(), config, &settings, &mut output);
+    terminal.end(rt);
+    ended
+}
+
+/// Runs a server of this spool, as `run_config` does.
 pub fn run<
     R: Abort
         + AllocGlobal
@@ -196,16 +240,5 @@ pub fn run<
     settings: Settings<'_>,
     fails: u64,
 ) -> Result<(), Fault> {
-    let alloc = rt.alloc();
-    let config = spool.config(rt, alloc);
-    let mut output = Output {
-        rt,
-        terminal,
-        fails,
-        calls: 0,
-        faults: 0,
-    };
-    let ended = serve(rt, alloc, config, &settings, &mut output);
-    terminal.end(rt);
-    ended
+    run_config(rt, terminal, spool.config(rt, rt.alloc()), settings, fails)
 }
