@@ -8,7 +8,7 @@ use lpd_daemon::Settings;
 use std::test::Fail;
 use std::thread;
 
-/// A peer that says nothing, at first or in the middle of a job, loses the only thread after a second; the next one is served.
+/// A peer that says nothing, at first or in the middle of a job, loses the only thread after two seconds; the next one is served.
 #[test]
 fn silent_peers_are_left(rt: HostRuntime) -> Result<(), Fail> {
     let out = "silent_peers_are_left";
@@ -16,7 +16,7 @@ fn silent_peers_are_left(rt: HostRuntime) -> Result<(), Fail> {
     let terminal = Terminal::new(rt.alloc());
     let settings = Settings {
         sessions: 1,
-        silence: Some(1),
+        silence: Some(2),
         ..settings(out, 3)
     };
     let (ended, _) = thread::join(
@@ -52,7 +52,7 @@ const NARROW: Spool = Spool {
 };
 
 /// The lines that open job 1, whose file has 11 octets.
-const LINES: usize = b"\x02lp\n\x0311 dfA001h1\n".len();
+const LINES: &[u8] = b"\x02lp\n\x0311 dfA001h1\n";
 
 /// A peer that halts in the middle of a job keeps the pages that its job may still need, so that a job of another queue
 /// waits. That one goes on once the peer was silent for too long.
@@ -73,8 +73,8 @@ fn a_halting_peer_gives_its_pages_back(rt: HostRuntime) -> Result<(), Fail> {
             let halting = stop(&rt, port);
             let stream = connect(&rt, port);
             let octets = octets_of(&rt, 1, HELLO);
-            let (lines, rest) = octets.as_slice().split_at(LINES);
-            write(&rt, &stream, lines);
+            let rest = octets.as_slice().get(LINES.len()..).expect(&rt, "a file");
+            write(&rt, &stream, LINES);
             is_answered(&rt, &stream, &[0, 0]);
             // This one comes out after job 1, as it is of one sender and queue with it, so its page stays.
             assert_eq!(rt; send(&rt, &connect(&rt, port), 2, b" again"), Ok(()));
