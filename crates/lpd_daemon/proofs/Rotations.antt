@@ -1,10 +1,10 @@
 -- Lines of rotations, one after another.
-use Rattle.std.proofs.Common.{◌≡◌, ◌++◌, ◌∷◌, ◌∙◌, ℕ, List, [], Option, refl, ap, sym, subst, append_assoc}
+use Rattle.std.proofs.Common.{◌≡◌, ◌++◌, ◌∷◌, ◌∙◌, ℕ, List, [], Ok, OnOk, Err, Option, Result, refl, ap, sym, subst, append_assoc}
 use Rattle.std.proofs.lemmas.List.{append-nil}
 use Rattle.lpd_commands.specs.Ends.{Writes}
 use Rattle.lpd_commands.proofs.Writing.{Writes-append, Writes-none}
-use Rattle.lpd_daemon.specs.Lines.{WritesRotations, line_octets, rotation_octets}
-use Rattle.lpd_daemon.specs.declared.lines.Line.TheVariants.{Rotated}
+use Rattle.lpd_daemon.specs.Lines.{WritesAll, WritesRotations, line_octets, rotation_octets}
+use Rattle.lpd_daemon.specs.declared.lines.Line.TheVariants.{Closed, Listening, Rotated}
 
 pub rotation_octets-append : (a b : List (ℕ × ℕ)) → rotation_octets (a ++ b) ≡ rotation_octets a ++ rotation_octets b
 rotation_octets-append [] b = refl
@@ -28,3 +28,18 @@ WritesRotations-append was then_ now a b = (
   subst (λ t. Writes was now t) (sym (rotation_octets-append a.0 b.0))
       (Writes-append was then_ now (rotation_octets a.0) (rotation_octets b.0) a.1 b.1),
 )
+
+-- rotations between the first line and the last one
+pub WritesAll-of : (was listening rotated now : Option (List ℕ)) (port entries : ℕ) → Writes was listening (line_octets (Listening port)) → WritesRotations listening rotated → Writes rotated now (line_octets (Closed entries)) → WritesAll was now
+WritesAll-of was listening rotated now port entries first between last = (
+  port,
+  between.0,
+  entries,
+  Writes-append was listening now (line_octets (Listening port)) (rotation_octets between.0 ++ line_octets (Closed entries)) first
+      (Writes-append listening rotated now (rotation_octets between.0) (line_octets (Closed entries)) between.1 last),
+)
+
+-- where all went well
+pub WritesAll-ok : {A E : Type 0} (result : Result A E) (was listening rotated now : Option (List ℕ)) (port : ℕ) → Writes was listening (line_octets (Listening port)) → WritesRotations listening rotated → OnOk result ((entries : ℕ) × Writes rotated now (line_octets (Closed entries))) → OnOk result (WritesAll was now)
+WritesAll-ok (Ok v) was listening rotated now port first between last = WritesAll-of was listening rotated now port last.0 first between last.1
+WritesAll-ok (Err e) was listening rotated now port first between last = tt

@@ -24,6 +24,10 @@ rotation_octets (segment ∷ more) = line_octets (Rotated segment.0 segment.1) +
 abbrev pub WritesRotations : Option (List ℕ) → Option (List ℕ) → Type 0
 WritesRotations was now = (segments : List (ℕ × ℕ)) × Writes was now (rotation_octets segments)
 
+-- a server that ended well has written the port that it listens at, its rotations, and the entries of its whole account
+abbrev pub WritesAll : Option (List ℕ) → Option (List ℕ) → Type 0
+WritesAll was now = (port : ℕ) × (segments : List (ℕ × ℕ)) × (entries : ℕ) × Writes was now (line_octets (Listening port) ++ (rotation_octets segments ++ line_octets (Closed entries)))
+
 -- nothing was written where a printer's file can't be opened or the address can't be listened on
 abbrev pub IsQuiet : Option (List ℕ) → Option (List ℕ) → Fault → Type 0
 IsQuiet was now (PrinterFile path) = now ≡ was

@@ -3,7 +3,7 @@
 ghost use Rattle.std.specs.Prelude.{◌≡◌, ◌+◌, ℕ, OnOk, IfErr};
 ghost use Rattle.config_values.specs.Config.{printer_count};
 ghost use Rattle.lpd_daemon.specs.Faults.{IsOpeningFault, IsRunningFault, write_faults};
-ghost use Rattle.lpd_daemon.specs.Lines.{IsQuiet, line_octets};
+ghost use Rattle.lpd_daemon.specs.Lines.{IsQuiet, WritesAll, line_octets};
 ghost use Rattle.lpd_daemon.specs.declared.lines.Line.TheVariants.{Closed};
 ghost use Rattle.lpd_commands.specs.Ends.{Writes};
 
@@ -119,7 +119,9 @@ pub fn serve<
     settings: &Settings<'_>,
     output: &mut W,
 ) -> Result<(), Fault>
-    ensures { IfErr result (IsQuiet (W.written output.old) (W.written output.new)) }
+    ensures printed { OnOk result (WritesAll (W.written output.old) (W.written output.new)) }
+    ensures quiet { IfErr result (IsQuiet (W.written output.old) (W.written output.new)) }
+    ensures write_fault { W.faults output.new ≡ write_faults (W.faults output.old) result }
 {
     let sinks = open_sinks(rt, alloc, settings.out, config.printer_count())?;
     let (listener, port) = listen(rt, settings)?;
@@ -157,7 +159,10 @@ impl<'a, R: Clock + Log + Threads + Wait + Sync> Server<'a, R> {
         requires config { config ≡ E.config }
         requires one_each { (E.parts ≡ sessions + printer_count config) × (K.parts ≡ E.parts)
             × (H.parts ≡ E.parts) }
-        ensures { IfErr result IsRunningFault }
+        ensures printed { OnOk result
+            (WritesAll (W.written output.old) (W.written output.new)) }
+        ensures write_fault { W.faults output.new ≡ write_faults (W.faults output.old) result }
+        ensures fault { IfErr result IsRunningFault }
     {
         let Server {
             rt,

@@ -1,5 +1,7 @@
 //! The file of a printer.
 
+ghost use Rattle.std.specs.Prelude.{◌≡◌};
+
 use lpd_commands::write_all;
 use lpd_script::StreamWriter;
 use printer_worker::{HandedPage, PrintSink, SinkFault};
@@ -15,7 +17,9 @@ pub struct FileSink<F: Write + Drop> {
 
 impl<F: Write + Drop> FileSink<F> {
     /// A sink that writes to the file from where it stands.
-    pub fn new(file: F) -> FileSink<F> {
+    pub fn new(file: F) -> FileSink<F>
+        ensures { (result.written ≡ 0) × (result.faults ≡ 0) }
+    {
         FileSink {
             file: StreamWriter::new(file),
             written: 0,

@@ -1,8 +1,9 @@
 //! The threads of a server.
 
-ghost use Rattle.std.specs.Prelude.{IfErr};
+ghost use Rattle.std.specs.Prelude.{◌≡◌, ℕ, Ok, OnOk, IfErr};
 ghost use Rattle.std.specs.Thread.{IsSend};
-ghost use Rattle.lpd_daemon.specs.Faults.{IsRunningFault};
+ghost use Rattle.lpd_daemon.specs.Faults.{IsRunningFault, write_faults};
+ghost use Rattle.lpd_daemon.specs.Lines.{WritesRotations};
 
 use crate::answering::answer_all;
 use crate::faults::Fault;
@@ -74,6 +75,31 @@ fn keep<T: Drop, F: Drop>(
     }
 }
 
+/// All seats, once the threads have returned theirs and none is left out. Otherwise the fault for which no more connections were
+/// admitted; Memory where a thread wasn't started, or memory is refused.
+fn seats_of<E: SpoolLedger, K: Ledger, H: Ledger>(
+    admitted: Result<(), Fault>,
+    started: bool,
+    sessions: Result<Vec<SessionSeat<E, K, H>>, AllocError>,
+    seat: SessionSeat<E, K, H>,
+    printers: Result<Vec<PrinterSeat<E, K, H>>, AllocError>,
+) -> Result<Seats<E, K, H>, Fault>
+    ensures admitted { OnOk result (admitted ≡ Ok tt) }
+    ensures write_fault { (n : ℕ) → write_faults n result ≡ write_faults n admitted }
+    ensures fault { IfErr admitted IsRunningFault → IfErr result IsRunningFault }
+{
+    admitted?;
+    if !started {
+        return Err(Fault::Memory);
+    }
+    let mut sessions = sessions?;
+    sessions.push(seat)?;
+    Ok(Seats {
+        sessions,
+        printers: printers?,
+    })
+}
+
 impl<'a, E: SpoolLedger + Send + Sync, K: Ledger + Send + Sync, H: Ledger + Send + Sync> Crew<
     'a,
     E,
@@ -88,7 +114,10 @@ impl<'a, E: SpoolLedger + Send + Sync, K: Ledger + Send + Sync, H: Ledger + Send
         porter: Porter<'_, R, E, K, H>,
         output: &mut W,
     ) -> Result<Seats<E, K, H>, Fault>
-        ensures { IfErr result IsRunningFault }
+        ensures written { OnOk result
+            (WritesRotations (W.written output.old) (W.written output.new)) }
+        ensures write_fault { W.faults output.new ≡ write_faults (W.faults output.old) result }
+        ensures fault { IfErr result IsRunningFault }
     {
         let Crew {
             settings,
@@ -99,12 +128,18 @@ impl<'a, E: SpoolLedger + Send + Sync, K: Ledger + Send + Sync, H: Ledger + Send
         let (rt, alloc, spool) = (porter.rt, porter.alloc, porter.spool);
         let (sender, visits) = crossbeam_channel::bounded(alloc, seats.sessions.len())?;
         let visits = &visits;
-        thread::scope(
+        // The output comes back with the seats, so that it is known what was written.
+        let (seats, _output) = thread::scope(
             thread::scope_env(),
             rt,
-            |scope| -> Result<Seats<E, K, H>, Fault>
+            |scope| -> (Result<Seats<E, K, H>, Fault>, &mut W)
                 requires { IsSend E.row × IsSend K.row × IsSend H.row }
-                ensures { IfErr result IsRunningFault }
+                ensures same { result.1.ghost_name ≡ output.entry.ghost_name }
+                ensures written { OnOk result.0 (WritesRotations
+                    (W.written output.entry.now) (W.written result.1.now)) }
+                ensures write_fault { W.faults result.1.now
+                    ≡ write_faults (W.faults output.entry.now) result.0 }
+                ensures fault { IfErr result.0 IsRunningFault }
             {
                 let mut printing = Vec::new(alloc);
                 let mut answering = Vec::new(alloc);
@@ -129,17 +164,10 @@ impl<'a, E: SpoolLedger + Send + Sync, K: Ledger + Send + Sync, H: Ledger + Send
                 spool.idle_wait(rt);
                 porter.close();
                 let printers = join_all(rt, alloc, printing);
-                admitted?;
-                if !started {
-                    return Err(Fault::Memory);
-                }
-                let mut sessions = sessions?;
-                sessions.push(porter.seat)?;
-                Ok(Seats {
-                    sessions,
-                    printers: printers?,
-                })
+                let seats = seats_of(admitted, started, sessions, porter.seat, printers);
+                (seats, output)
             },
-        )
+        );
+        seats
     }
 }
