@@ -1,5 +1,5 @@
 -- Which faults a step of a server may have.
-use Rattle.std.specs.Prelude.{◌≡◌, ◌⊎◌, ℕ, List, Result, Err}
+use Rattle.std.specs.Prelude.{◌≡◌, ◌⊎◌, ℕ, Result, Err}
 use Rattle.lpd_commands.specs.Ends.{one_more}
 use Rattle.lpd_daemon.specs.declared.faults.Fault.{Fault}
 use Rattle.lpd_daemon.specs.declared.faults.Fault.TheVariants.{Memory, Output, PrinterFile}
