@@ -54,7 +54,8 @@ pub const SMALL: Spool = Spool {
 const PLOTTER: &str = "[[queue]]\nname = \"plotter\"\nlimit = 3\nprinters = 1\n";
 
 impl Spool {
-    fn config<R: Abort>(&self, rt: &R, alloc: Global) -> Config {
+    /// What its configuration says.
+    pub fn text<R: Abort>(&self, rt: &R, alloc: Global) -> String {
         let Spool {
             pages,
             jobs,
@@ -63,11 +64,15 @@ impl Spool {
             plots,
         } = *self;
         let more = if plots { PLOTTER } else { "" };
-        let text = format!(in alloc;
+        format!(in alloc;
             "pages = {pages}\npage_size = 8\nmax_jobs = {jobs}\naccount = {account}\n\
              [[queue]]\nname = \"lp\"\nlimit = 3\nprinters = {printers}\n{more}"
         )
-        .expect(rt, "memory");
+        .expect(rt, "memory")
+    }
+
+    fn config<R: Abort>(&self, rt: &R, alloc: Global) -> Config {
+        let text = self.text(rt, alloc);
         spool_config::read(alloc, text.as_bytes()).expect(rt, "a configuration")
     }
 }

@@ -2,7 +2,7 @@
 
 use crate::jobs::HELLO;
 use crate::place::{make, printed, remove};
-use crate::server::{Output, Terminal, run_config};
+use crate::server::{Output, SMALL, Terminal, run_config};
 use log::Log;
 use lpd_daemon::{Fault, Settings};
 use lpd_script::{StreamReader, StreamWriter};
@@ -16,9 +16,6 @@ use std::test::Fail;
 use std::thread::Threads;
 use std::time::Clock;
 use std::{fs, thread};
-
-const CONFIG: &[u8] =
-    b"pages = 4\npage_size = 8\nmax_jobs = 8\naccount = 100000\n[[queue]]\nname = \"lp\"\nlimit = 3\nprinters = 1\n";
 
 /// The words of a line, one space between them.
 fn words_of<R: Abort>(rt: &R, alloc: Global, line: &str) -> Vec<String> {
@@ -93,7 +90,12 @@ fn a_job_is_sent_and_printed(rt: HostRuntime) -> Result<(), Fail> {
     let out = "a_job_is_sent_and_printed";
     make(&rt, out);
     let alloc = rt.alloc();
-    fs::write(&rt, format!(in alloc; "{out}/spool.toml")?.as_str(), CONFIG)?;
+    let config = SMALL.text(&rt, alloc);
+    fs::write(
+        &rt,
+        format!(in alloc; "{out}/spool.toml")?.as_str(),
+        config.as_str(),
+    )?;
     fs::write(&rt, format!(in alloc; "{out}/file")?.as_str(), HELLO)?;
     let port = free_port(&rt);
     let serves = format!(in alloc;
