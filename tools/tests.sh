@@ -1,0 +1,87 @@
+#!/usr/bin/env bash
+# Runs all rows and tests by `rt try`, and each program on its stored run: what is compiled is run, and nothing is proved. It says
+# where `rt version` is another kit than the README names; then comes what failed, and a line for each crate. The last line is
+# 'N passed, M failed', where a stored run counts as one, and the exit status is 0 only where none failed. As many crates are
+# tried at a time as there are processors, or as RT_JOBS says; each takes up to 2 GB of memory.
+set -u
+cd "$(dirname "${BASH_SOURCE[0]}")/.." || exit 2
+echo "tests by rt try: nothing is proved here (bash .ci/run proves)"
+named=$(grep -om1 'rattle-kit-[^`]*' README.md)
+here=$(rt version)
+[ "$here" = "$named" ] || echo "the kit here is $here, and README.md names $named"
+
+folder=$(mktemp -d) || exit 2
+trap 'rm -rf "$folder"' EXIT
+passed=0
+failed=0
+lanes=${RT_JOBS:-$(nproc)}
+running=0
+
+# start LABEL CRATE WORDS..: tries a crate beside others, on the standard input of its stored run, if it has one.
+start() {
+    local label=$1 crate=$2 input=/dev/null
+    shift 2
+    if [ "$running" -ge "$lanes" ]; then
+        wait -n
+        running=$((running - 1))
+    fi
+    [ -f "crates/$crate/stdin" ] && input=stdin
+    (
+        cd "crates/$crate" && rt try "$@" < "$input" > "$folder/$label.out" 2> "$folder/$label.err"
+        echo $? > "$folder/$label.status"
+    ) &
+    running=$((running + 1))
+}
+
+# add LABEL GOOD BAD: adds what a crate came to, and says so. Where its run failed in another way, that is one more that is bad.
+add() {
+    local label=$1 good=$2 bad=$3
+    if [ "$(cat "$folder/$label.status")" -ne 0 ] && [ "$bad" -eq 0 ]; then
+        bad=1
+        tail -n 5 "$folder/$label.err"
+    fi
+    echo "$label: $good passed, $bad failed"
+    passed=$((passed + good))
+    failed=$((failed + bad))
+}
+
+with_tests=$(grep -rl '^ *#\[test\]' crates/*/src | cut -d/ -f2 | sort -u)
+programs=$(for file in crates/*/stdout; do basename "$(dirname "$file")"; done)
+for crate in $with_tests; do
+    start "$crate tests" "$crate" --test
+done
+for crate in $programs; do
+    words=()
+    for file in "crates/$crate"/data/*; do
+        [ -e "$file" ] && words+=(--data "$(basename "$file")=data/$(basename "$file")")
+    done
+    [ -f "crates/$crate/args" ] && words+=(--) && mapfile -t -O ${#words[@]} words < "crates/$crate/args"
+    start "$crate" "$crate" ${words[@]+"${words[@]}"}
+done
+wait
+
+for crate in $with_tests; do
+    label="$crate tests"
+    cat "$folder/$label.out" "$folder/$label.err" > "$folder/said"
+    grep '^test .* \.\.\. ' "$folder/said" | grep -v ' ok$'
+    read -r good bad < <(sed -n 's/^test result: .* \([0-9]*\) passed; \([0-9]*\) failed.*/\1 \2/p' "$folder/said") || true
+    add "$label" "${good:-0}" "${bad:-0}"
+    unset good bad
+done
+for crate in $programs; do
+    out=$folder/$crate.out
+    if [ -d "crates/$crate/data" ]; then
+        # A line for each group says how many rows it has, and one before it names each row that is answered otherwise.
+        bad=$(grep -c '^[a-z]*, row [0-9]*: ' "$out")
+        good=$(awk '/^[a-z]*: [0-9]* rows$/ { rows += $2 } END { print rows + 0 }' "$out")
+        grep -vxFf "crates/$crate/stdout" "$out"
+        add "$crate" $((good - bad)) "$bad"
+    elif cmp -s "crates/$crate/stdout" "$out"; then
+        add "$crate" 1 0
+    else
+        diff "crates/$crate/stdout" "$out" | head -n 5
+        add "$crate" 0 1
+    fi
+done
+echo "$passed passed, $failed failed"
+[ "$failed" -eq 0 ]
