@@ -1,17 +1,14 @@
 #!/usr/bin/env bash
-# Measures speed: run it on an idle machine. The numbers are printed, and nothing is tested.
+# Measures speed: run it on an idle machine. The numbers are printed, and nothing is tested. Each measurement is a run of its
+# own, since what one asks of memory would change what the next one finds.
 set -eu
-cd "$(dirname "${BASH_SOURCE[0]}")/../crates/bench_receiver"
-rt run -- run
-cd ../bench_banker
-rt run -- run
-cd ../bench_chains
-rt run -- run
-cd ../bench_core
-rt run -- run
-cd ../bench_shared
-rt run -- run
-cd ../bench_session
-rt run -- run
-cd ../bench_world
-rt run -- run
+cd "$(dirname "${BASH_SOURCE[0]}")/../crates/bench_parts"
+for word in receiver banker chains core; do
+    rt run -- "$word"
+done
+cd ../bench_threads
+for word in shared session; do
+    rt run -- "$word"
+done
+cd ../bench_parts
+rt run -- world

@@ -5,9 +5,9 @@
 set -eu
 top=$(cd "$(dirname "${BASH_SOURCE[0]}")/.." && pwd)
 (cd "$top/crates/lpd_server" && rt run -- --version)
-(cd "$top/crates/bench_network" && rt run -- count)
+(cd "$top/crates/bench_threads" && rt run -- count)
 server=$top/crates/lpd_server/out/lpd_server
-client=$top/crates/bench_network/out/bench_network
+client=$top/crates/bench_threads/out/bench_threads
 
 room=$(mktemp -d)
 trap 'kill $(jobs -p) 2> /dev/null; rm -rf "$room"' EXIT
