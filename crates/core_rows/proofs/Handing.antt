@@ -27,7 +27,7 @@ use Rattle.spool_laws.proofs.Busy.{received_if}
 use Rattle.spool_laws.proofs.Copies.{kept_some}
 use Rattle.spool_laws.proofs.Enough.{no_kind_runs_over}
 use Rattle.spool_moves.specs.Standing.{no_job}
-use Rattle.spool_moves.specs.Claimed.{IsTableOf}
+use Rattle.spool_history.specs.Claimed.{IsTableOf}
 use Rattle.spool_moves.proofs.Standing.{Stands, has_get}
 use Rattle.spool_moves.proofs.Moving.{turned_jobs}
 use Rattle.spool_moves.proofs.Claimed.{row_here, rows_len}

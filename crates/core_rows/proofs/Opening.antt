@@ -17,7 +17,7 @@ use Rattle.spool_laws.specs.Sums.{chained_of}
 use Rattle.spool_laws.proofs.Known.{Has, known}
 use Rattle.spool_laws.proofs.Facts.{facts}
 use Rattle.spool_moves.specs.Standing.{no_job}
-use Rattle.spool_moves.specs.Claimed.{IsTableOf}
+use Rattle.spool_history.specs.Claimed.{IsTableOf}
 use Rattle.spool_moves.proofs.Standing.{has_get}
 use Rattle.spool_moves.proofs.Claimed.{rows_len}
 use Rattle.core_rows.proofs.Amounts.{amounts_len, zeros}

@@ -23,7 +23,7 @@ use Rattle.spool_history.specs.Steps.{acted, after}
 use Rattle.spool_history.specs.Legal.{HasJob, IsReceiving, IsBelowLimit, CanAsk, JobMay, MayGrant}
 use Rattle.spool_laws.specs.Sums.{chained_of}
 use Rattle.spool_moves.specs.Standing.{no_job}
-use Rattle.spool_moves.specs.Claimed.{IsTableOf}
+use Rattle.spool_history.specs.Claimed.{IsTableOf}
 use Rattle.spool_moves.proofs.Standing.{Stands, has_here, has_job}
 use Rattle.spool_moves.proofs.Moving.{act_set}
 use Rattle.spool_moves.proofs.Claimed.{table_free, table_safe, safe_table, row_here, row_granted, need_here, rows_len}

@@ -14,7 +14,7 @@ use Rattle.spool_history.specs.Legal.{May}
 use Rattle.spool_laws.specs.Sums.{chained_of}
 use Rattle.spool_laws.proofs.Known.{Has, filter_cons}
 use Rattle.spool_moves.specs.Standing.{no_job}
-use Rattle.spool_moves.specs.Claimed.{IsTableOf}
+use Rattle.spool_history.specs.Claimed.{IsTableOf}
 use Rattle.spool_moves.proofs.Standing.{has_get, none_changed}
 use Rattle.spool_moves.proofs.Claimed.{table_free}
 use Rattle.spool_calls.specs.declared.printer.Printer.{Printer}

@@ -23,7 +23,7 @@ use Rattle.spool_laws.specs.Sums.{chained, chained_of}
 use Rattle.spool_laws.proofs.Known.{Has}
 use Rattle.spool_laws.proofs.Moves.{moved}
 use Rattle.spool_moves.specs.Standing.{no_job}
-use Rattle.spool_moves.specs.Claimed.{IsTableOf}
+use Rattle.spool_history.specs.Claimed.{IsTableOf}
 use Rattle.page_chain.specs.Files.{every_page}
 use Rattle.spool_moves.proofs.Standing.{Stands, has_get, has_none}
 use Rattle.spool_moves.proofs.Holding.{back_within, handed_within, one_is_out}

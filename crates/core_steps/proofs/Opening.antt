@@ -28,7 +28,7 @@ use Rattle.spool_laws.proofs.Facts.{facts}
 use Rattle.spool_laws.proofs.Adding.{length_up_to}
 use Rattle.spool_laws.proofs.Printers.{get_up_to}
 use Rattle.spool_moves.specs.Standing.{no_job}
-use Rattle.spool_moves.specs.Claimed.{IsTableOf}
+use Rattle.spool_history.specs.Claimed.{IsTableOf}
 use Rattle.spool_moves.proofs.Standing.{all_held, has_get, none_changed}
 use Rattle.spool_moves.proofs.Claimed.{rows_len}
 use Rattle.lpd_values.specs.declared.refusal.Refusal.TheVariants.{UnknownQueue, TableFull, AccountFull, Closed, Memory}

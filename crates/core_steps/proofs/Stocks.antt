@@ -24,7 +24,7 @@ use Rattle.spool_history.specs.Legal.{IsLegal}
 use Rattle.spool_laws.specs.Sums.{chained_of}
 use Rattle.spool_laws.proofs.Known.{Has}
 use Rattle.spool_moves.specs.Standing.{no_job}
-use Rattle.spool_moves.specs.Claimed.{IsTableOf}
+use Rattle.spool_history.specs.Claimed.{IsTableOf}
 use Rattle.spool_moves.proofs.Standing.{all_held}
 use Rattle.spool_moves.proofs.Holding.{back_within, handed_within, one_is_out}
 use Rattle.spool_moves.proofs.Claimed.{table_free, rows_len}

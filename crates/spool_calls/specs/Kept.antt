@@ -23,7 +23,7 @@ use Rattle.spool_history.specs.Now as N
 use Rattle.spool_history.specs.Now.{State, is_received, places, now, free_pages}
 use Rattle.spool_history.specs.Legal.{IsLegal}
 use Rattle.spool_laws.specs.Sums.{chained}
-use Rattle.spool_moves.specs.Claimed.{IsTableOf}
+use Rattle.spool_history.specs.Claimed.{IsTableOf}
 use Rattle.spool_calls.specs.declared.printer.Printer.{Printer}
 use Rattle.spool_calls.specs.Looks.{Detail, What, see, size, outline_in}
 

@@ -3,6 +3,7 @@ pub mod Events
 pub mod Acts
 pub mod Said
 pub mod Now
+pub mod Claimed
 pub mod Rotated
 pub mod Next
 pub mod Steps

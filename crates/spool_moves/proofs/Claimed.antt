@@ -13,7 +13,7 @@ use Rattle.spool_history.specs.Now.{Job, State, row_of, capacity, free_amount, I
 use Rattle.spool_history.specs.Steps.{acted}
 use Rattle.spool_history.specs.Legal.{IsReceiving}
 use Rattle.spool_moves.specs.Standing.{no_job}
-use Rattle.spool_moves.specs.Claimed.{IsTableOf}
+use Rattle.spool_history.specs.Claimed.{IsTableOf}
 
 -- so what is free in it is what the jobs leave free
 pub table_free : {C : Type 0} (t : Claims) (v : State C) → IsTableOf t v → (k : ℕ) → amount t.free k ≡ free_amount v k
