@@ -1,9 +1,10 @@
 -- Whatever calls were made of a core, the headline holds of its history.
-use Rattle.std.proofs.Common.{◌≡◌, ℕ, zero, suc, ◌<◌, ◌≤◌, List, arith}
+use Rattle.std.proofs.Common.{ℕ, zero, suc, ◌≤◌, arith}
 use Rattle.config_values.specs.Config.{Config, IsQueue, no_queue, queue_at}
 use Rattle.config_values.specs.Ranges.{IsConfig}
 use Rattle.spool_laws.specs.Safety.{EachCouldFinish}
 use Rattle.spool_laws.proofs.Behind.{each_in_order}
+use Rattle.spool_laws.proofs.Joined.{each_accepted, joined}
 use Rattle.spool_laws.proofs.Leaves.{each_going, each_open}
 use Rattle.spool_laws.proofs.Places.{placed}
 use Rattle.spool_laws.proofs.Reserve.{reserve_is_enough}
@@ -28,6 +29,8 @@ stands d b h k ranges l = record {
   done = all_placed (size d) k.config b h l.legal;
   said = each_says (size d) k.config b h l.legal;
   by_acceptance = each_in_order (size d) k.config b h l.legal;
+  joined = joined (size d) k.config b h l.legal;
+  accepted = each_accepted (size d) k.config b h l.legal;
   going = each_going (size d) k.config b h l.legal;
   while_open = each_open (size d) k.config b h l.legal;
   pages = pages_add_up (size d) k.config b h l.legal;

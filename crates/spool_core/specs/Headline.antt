@@ -6,7 +6,8 @@ use Rattle.spool_history.specs.Base.{Base}
 use Rattle.spool_history.specs.Events.{Event}
 use Rattle.spool_history.specs.Said.{handed_of, is_done}
 use Rattle.spool_history.specs.Now.{now, IsSafeNow}
-use Rattle.spool_laws.specs.Leaving.{EachHanded, EachPrinted, EarlierAreGone, HasNotEnded, IsOpen, SaysWhatIs, places_of, sheets}
+use Rattle.spool_history.specs.Joined.{LeavesJoined}
+use Rattle.spool_laws.specs.Leaving.{EachHanded, EachPrinted, EarlierAreGone, HasNotEnded, IsOpen, SaysWhatIs, WasAccepted, places_of, sheets}
 use Rattle.spool_laws.specs.Reserve.{CountsStops}
 use Rattle.spool_laws.specs.Sums.{AddUp}
 use Rattle.spool_calls.specs.Looks.{Detail, What}
@@ -21,6 +22,11 @@ pub record Headline {C : Type 0} (c : Config) (b : Base) (h : List (Event C)) : 
   pub said : EachPrinted SaysWhatIs h
   -- when a page of a job was handed, each earlier job of its sender and queue was gone
   pub by_acceptance : EachHanded EarlierAreGone h
+  -- for each sender and queue, what was handed of their jobs is the join, by rising number over the accepted ones, of the
+  -- first places of each: all of them where the job is done, none where it wasn't received or an earlier one is held
+  pub joined : LeavesJoined h
+  -- and nothing was handed but of accepted jobs
+  pub accepted : EachHanded WasAccepted h
   -- nothing was handed after a job's end, or after the close
   pub going : EachHanded HasNotEnded h
   pub while_open : EachHanded (IsOpen b) h

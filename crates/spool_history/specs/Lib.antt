@@ -5,6 +5,7 @@ pub mod Said
 pub mod Now
 pub mod Claimed
 pub mod Rotated
+pub mod Joined
 pub mod Next
 pub mod Steps
 pub mod Legal

@@ -21,11 +21,11 @@ use Rattle.spool_laws.proofs.Turns.{given}
 use Rattle.spool_laws.proofs.Facts.{Facts, facts, last, handed_at, handed_more, handed_same}
 use Rattle.spool_laws.proofs.Moves.{steady}
 
-abbrev IsBehind : {C : Type 0} → List (Event C) → Opening → Opening → Type 0
+abbrev pub IsBehind : {C : Type 0} → List (Event C) → Opening → Opening → Type 0
 IsBehind h o k = Has o (openings h) × Has k (openings h) × (o.job < k.job) × (o.sender ≡ k.sender) × (o.queue ≡ k.queue)
 
 -- once a page of a job was handed, all earlier jobs of its sender and queue are gone
-abbrev Behind : {C : Type 0} → List (Event C) → Type 0
+abbrev pub Behind : {C : Type 0} → List (Event C) → Type 0
 Behind h = (o k : Opening) → IsBehind h o k → 0 < handed_at h k.job → is_held (job_of h o) ≡ false
 
 bool_cases : (b : Bool) → (b ≡ true → ⊥) → b ≡ false
@@ -98,7 +98,7 @@ behind_step size c base h (Removed q jobs) l m b = λ o k is pos. steady size c 
 behind_step size c base h (Started q) l m b = λ o k is pos. steady size c base h (Started q) l m o (b o k is pos)
 behind_step size c base h Closed l m b = λ o k is pos. steady size c base h Closed l m o (b o k is pos)
 
-behind : {C : Type 0} (size : C → ℕ) (c : Config) (base : Base) (h : List (Event C)) → IsLegal size c base h → Behind h
+pub behind : {C : Type 0} (size : C → ℕ) (c : Config) (base : Base) (h : List (Event C)) → IsLegal size c base h → Behind h
 behind size c base [] l = λ o k is pos. absurd is.0
 behind size c base (e ∷ h) l = behind_step size c base h e l.1 l.0 (behind size c base h l.1)
 

@@ -27,3 +27,4 @@ pub mod Apart
 pub mod Enough
 pub mod Staying
 pub mod Rotated
+pub mod Joined

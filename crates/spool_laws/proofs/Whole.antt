@@ -22,10 +22,10 @@ pub still_ended : {C : Type 0} (h : List (Event C)) (e : Event C) (j : ℕ) → 
 still_ended h e j is = or_right (ends j e) (has_ended h j) is
 
 -- it has ended, and each place was handed
-abbrev WholeAt : {C : Type 0} → List (Event C) → ℕ → Type 0
+abbrev pub WholeAt : {C : Type 0} → List (Event C) → ℕ → Type 0
 WholeAt h j = (has_ended h j ≡ true) × (handed_at h j ≡ length (places_of h j))
 
-abbrev Whole : {C : Type 0} → List (Event C) → Type 0
+abbrev pub Whole : {C : Type 0} → List (Event C) → Type 0
 Whole h = (j : ℕ) → is_done h j ≡ true → WholeAt h j
 
 same_places : {C : Type 0} (h : List (Event C)) (k : ℕ) (act : Act C) (j : ℕ) → k ≢ j → places_of (OfJob k act ∷ h) j ≡ places_of h j
@@ -83,7 +83,7 @@ whole_step size c base h (Removed q jobs) l m w = λ j e. (still_ended h (Remove
 whole_step size c base h (Started q) l m w = w
 whole_step size c base h Closed l m w = λ j e. (refl, (w j e).1)
 
-whole : {C : Type 0} (size : C → ℕ) (c : Config) (base : Base) (h : List (Event C)) → IsLegal size c base h → Whole h
+pub whole : {C : Type 0} (size : C → ℕ) (c : Config) (base : Base) (h : List (Event C)) → IsLegal size c base h → Whole h
 whole size c base [] l = λ j e. absurd cc
 whole size c base (e ∷ h) l = whole_step size c base h e l.1 l.0 (whole size c base h l.1)
 

@@ -4,12 +4,13 @@ use Rattle.spool_history.specs.Events.{Sheet, Progress, Event}
 use Rattle.spool_history.specs.Events.Progress.{Done, Ended}
 use Rattle.spool_history.specs.Events.Turn.{Handed, Printed}
 use Rattle.spool_history.specs.Events.Event.{AtPrinter}
-use Rattle.spool_history.specs.Acts.{Page, control_by, files_by, places_in}
-use Rattle.spool_history.specs.Said.{Opening, openings, acts_of, handed_of, has_ended, is_closed, is_done}
+use Rattle.spool_history.specs.Said.{Opening, openings, handed_of, has_ended, is_closed, is_done}
 use Rattle.config_values.specs.Config.{Config}
 use Rattle.spool_history.specs.Base.{Base}
 use Rattle.spool_history.specs.Now.{is_held, job_of}
 use Rattle.spool_history.specs.Legal.{IsLegal}
+use Rattle.spool_history.specs.Joined.{LeavesJoined}
+pub use Rattle.spool_history.specs.Joined.{places_of, sheets}
 
 -- of each page that is handed, P holds of the events before it and of the page
 abbrev pub EachHanded : {C : Type 0} → (List (Event C) → Sheet C → Type 0) → List (Event C) → Type 0
@@ -43,10 +44,6 @@ EachPrinted P [] = Unit {0}
 EachPrinted P (AtPrinter printer sheet (Printed progress) ∷ h) = P h sheet progress × EachPrinted P h
 EachPrinted P (_ ∷ h) = EachPrinted P h
 
--- the places of the job of this number, in print order
-abbrev pub places_of : {C : Type 0} → List (Event C) → ℕ → List (Page C)
-places_of h j = places_in (control_by (acts_of h j)) (files_by (acts_of h j))
-
 -- the page is the last place of its job
 abbrev pub IsLastPlace : {C : Type 0} → List (Event C) → Sheet C → Type 0
 IsLastPlace h sheet = sheet.place + 1 ≡ length (places_of h sheet.job)
@@ -60,11 +57,6 @@ abbrev pub DoneForTheLastPlace : Type 0 → Type 0
 DoneForTheLastPlace C =
     (size : C → ℕ) (c : Config) (b : Base) (h : List (Event C)) → IsLegal size c b h
     → EachPrinted SaysWhatIs h
-
--- places of a job as printers get them, the first of which has this number
-abbrev pub sheets : {C : Type 0} → (job place : ℕ) → List (Page C) → List (Sheet C)
-sheets job n [] = []
-sheets job n (x ∷ xs) = record { job = job; place = n; file = x.file; number = x.number; page = x.page } ∷ sheets job (n + 1) xs
 
 -- what was handed of a job are its first places, in order, each once and as it was put
 abbrev pub FirstPlacesInOrder : Type 0 → Type 0
@@ -87,3 +79,20 @@ abbrev pub InOrderOfAcceptance : Type 0 → Type 0
 InOrderOfAcceptance C =
     (size : C → ℕ) (c : Config) (b : Base) (h : List (Event C)) → IsLegal size c b h
     → EachHanded EarlierAreGone h
+
+-- what was handed of the jobs of one sender in one queue is the join, by rising number, of the first places of each: all of
+-- them of a job that is done, none of one that wasn't received or that stands behind a held one
+abbrev pub JobsLeaveJoined : Type 0 → Type 0
+JobsLeaveJoined C =
+    (size : C → ℕ) (c : Config) (b : Base) (h : List (Event C)) → IsLegal size c b h
+    → LeavesJoined h
+
+-- the job of the page was accepted
+abbrev pub WasAccepted : {C : Type 0} → List (Event C) → Sheet C → Type 0
+WasAccepted h sheet = (o : Opening) × Contains (openings h) o × (o.job ≡ sheet.job)
+
+-- and nothing was handed but of these jobs
+abbrev pub AcceptedAlone : Type 0 → Type 0
+AcceptedAlone C =
+    (size : C → ℕ) (c : Config) (b : Base) (h : List (Event C)) → IsLegal size c b h
+    → EachHanded WasAccepted h

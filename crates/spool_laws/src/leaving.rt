@@ -1,6 +1,6 @@
 //! How pages leave a spool.
 
-ghost use Rattle.spool_laws.specs.Leaving.{AllPlacesOfDone, DoneForTheLastPlace, FirstPlacesInOrder, InOrderOfAcceptance, NothingAfterTheClose, NothingAfterTheEnd};
+ghost use Rattle.spool_laws.specs.Leaving.{AcceptedAlone, AllPlacesOfDone, DoneForTheLastPlace, FirstPlacesInOrder, InOrderOfAcceptance, JobsLeaveJoined, NothingAfterTheClose, NothingAfterTheEnd};
 
 /// Nothing is handed to a printer after the close, whatever a page holds.
 pub fn nothing_after_the_close<C>()
@@ -24,4 +24,12 @@ pub fn leave_in_order<C>()
     ensures places { FirstPlacesInOrder C }
     ensures done { AllPlacesOfDone C }
     ensures by_acceptance { InOrderOfAcceptance C }
+{}
+
+/// For each sender and queue, what was handed of their jobs, in the order in which it was handed, is the join, by rising
+/// number over the accepted ones, of the first places of each: all of them where the job is done, none where it wasn't
+/// received or an earlier one of that sender and queue is held. Nothing is handed but of accepted jobs.
+pub fn leave_joined<C>()
+    ensures joins { JobsLeaveJoined C }
+    ensures accepted { AcceptedAlone C }
 {}

@@ -13,7 +13,8 @@ mod stepping;
 
 pub use entries::reserve_is_enough;
 pub use leaving::{
-    done_for_the_last_place, leave_in_order, nothing_after_the_close, nothing_after_the_end,
+    done_for_the_last_place, leave_in_order, leave_joined, nothing_after_the_close,
+    nothing_after_the_end,
 };
 pub use outline::outline_is_legal;
 pub use pages::pages_add_up;

@@ -13,6 +13,7 @@ use Rattle.spool_laws.proofs.Known.{has_contained, known, known_at}
 use Rattle.spool_laws.proofs.Facts.{acts_other}
 use Rattle.spool_laws.proofs.Leaves.{each_open, each_going}
 use Rattle.spool_laws.proofs.Behind.{each_in_order}
+use Rattle.spool_laws.proofs.Joined.{joined}
 use Rattle.spool_laws.proofs.Places.{placed}
 use Rattle.spool_laws.proofs.Whole.{all_placed}
 use Rattle.spool_laws.proofs.Staying.{stays}
@@ -75,6 +76,7 @@ holds c t ranges r =
       as_arrived = arrived c t ranges r;
       handed_arrived = handed c t r (arrived c t ranges r);
       by_acceptance = each_in_order length c first_base h l;
+      joined = joined length c first_base h l;
       not_after_end = each_going length c first_base h l;
       not_after_close = each_open length c first_base h l;
       finishing_order = stays length c first_base h (could c ranges) l;

@@ -12,6 +12,7 @@ use Rattle.spool_history.specs.Events.{Sheet}
 use Rattle.spool_history.specs.Acts.{File, files_by}
 use Rattle.spool_history.specs.Said.{Opening, openings, acts_of, handed_of, is_done}
 use Rattle.spool_history.specs.Now.{IsSafeNow, free_pages}
+use Rattle.spool_history.specs.Joined.{LeavesJoined}
 use Rattle.spool_history.specs.Legal.{IsLegal}
 use Rattle.spool_laws.specs.Leaving.{EachHanded, IsOpen, HasNotEnded, EarlierAreGone, sheets, places_of}
 use Rattle.spool_laws.specs.Outline.{outline}
@@ -80,8 +81,8 @@ HandedAsArrived c t =
 
 -- After any steps every page place of every job was handed to a printer at most once, in print order, with its bytes as
 -- they arrived, and exactly once where the job is done; the jobs of one sender in one queue leave in order of
--- acceptance; nothing leaves after the end of its job or after the close; and the held jobs have a finishing order that
--- keeps each sender's order.
+-- acceptance, one after the other, and nothing of a job that wasn't received; nothing leaves after the end of its job or
+-- after the close; and the held jobs have a finishing order that keeps each sender's order.
 pub record Headline (c : Config) (t : Trace) : Type 0 where
   -- what was handed of a job are its first places, in print order, each once and as it was put
   pub once_in_order : (j : ℕ) → handed_of (events c t) j ≡ sheets j 0 (take (length (handed_of (events c t) j)) (places_of (events c t) j))
@@ -93,6 +94,9 @@ pub record Headline (c : Config) (t : Trace) : Type 0 where
   pub handed_arrived : HandedAsArrived c t
   -- a page of a job is handed only once all earlier jobs of its sender and queue are gone
   pub by_acceptance : EachHanded EarlierAreGone (events c t)
+  -- for each sender and queue, what was handed of their jobs is the join, by rising number over the accepted ones, of the
+  -- first places of each: all of them where the job is done, none where it wasn't received or an earlier one is held
+  pub joined : LeavesJoined (events c t)
   pub not_after_end : EachHanded HasNotEnded (events c t)
   pub not_after_close : EachHanded (IsOpen first_base) (events c t)
   pub finishing_order : IsSafeNow (spool_after c t)

@@ -15,9 +15,9 @@ pub fn pages_are_as_arrived()
 {}
 
 /// Every page place of every job is handed to a printer at most once, in print order, with its octets as they
-/// arrived, and exactly once where the job is done; the jobs of one sender in one queue leave in order of acceptance;
-/// nothing leaves after the end of its job or after the close; and the held jobs have a finishing order that keeps
-/// each sender's order.
+/// arrived, and exactly once where the job is done; the jobs of one sender in one queue leave in order of acceptance, and
+/// what was handed of them is the join of the first places of each, with none of a job that wasn't received; nothing leaves
+/// after the end of its job or after the close; and the held jobs have a finishing order that keeps each sender's order.
 pub fn headline_holds()
     ensures { HeadlineHolds }
 {}

@@ -6,3 +6,4 @@ pub mod TextRows
 pub mod Waiting
 pub mod Copies
 pub mod Bases
+pub mod Joined

@@ -8,6 +8,6 @@ mod rows;
 
 pub use rows::{
     aborted_job, after_rotation, claims_meet, closed_before, closed_spool, failed_page,
-    filled_account, one_job, one_job_is_legal, printed_twice, refused, removed_job, stopped_before,
-    texts, two_jobs, waiting,
+    filled_account, joined, one_job, one_job_is_legal, printed_twice, refused, removed_job,
+    stopped_before, texts, two_jobs, waiting,
 };

@@ -4,6 +4,7 @@ ghost use Rattle.worked_histories.specs.Rows.{OneJob, OneJobIsLegal};
 ghost use Rattle.worked_histories.specs.Bases.{AfterRotation, BasesAreRefused, ClosedBefore, StoppedBefore};
 ghost use Rattle.worked_histories.specs.Claims.{ClaimsMeet};
 ghost use Rattle.worked_histories.specs.Copies.{CopiesAreRefused, PrintedTwice};
+ghost use Rattle.worked_histories.specs.Joined.{AreNoJoins, Joined};
 ghost use Rattle.worked_histories.specs.Refused.{AreRefused};
 ghost use Rattle.worked_histories.specs.TextRows.{TextsAre};
 ghost use Rattle.worked_histories.specs.Waiting.{PagesAreRefused, Waiting};
@@ -17,6 +18,14 @@ pub fn one_job()
 /// Two jobs of one sender leave in order of acceptance.
 pub fn two_jobs()
     ensures { TwoJobs }
+{}
+
+/// What was handed of one sender's jobs in one queue is the join of the first places of each, by rising number. It isn't in
+/// histories in which a page of a job leaves that is still received, a later job leaves first, a place is left out, comes
+/// again or has other octets, or a job is done before its last place.
+pub fn joined()
+    ensures joins { Joined }
+    ensures others { AreNoJoins }
 {}
 
 /// A job waits for each earlier one of its sender, and until its open file has ended.
