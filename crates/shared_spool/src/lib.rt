@@ -4,6 +4,8 @@
 //! which entries its calls wrote; when all seats have come back, they add up to the account.
 #![tactic(auto)]
 
+mod bells;
+mod line;
 mod printers;
 mod queue_calls;
 mod seats;

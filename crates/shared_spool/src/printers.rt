@@ -4,6 +4,7 @@ ghost use Rattle.std.specs.Prelude.{◌≡◌, ◌<◌, ◌^◌, IfErr};
 ghost use Rattle.account.specs.declared.kind.Kind.TheVariants as kind;
 ghost use Rattle.shared_spool.specs.Seats.{back_desk, is_out_after, next_desk};
 
+use crate::line::Calls;
 use crate::seats::PrinterSeat;
 use crate::spool::SharedSpool;
 use locked_spool::{Foreign, HandedPage, Next, Progress};
@@ -33,7 +34,7 @@ impl<E: SpoolLedger, K: Ledger, H: Ledger> SharedSpool<E, K, H> {
         ensures bound { seat.new.sums.handed < 2 ^ 64 }
     {
         let printer = seat.printer;
-        let answer = self.state.lock(rt).next(&mut seat.shares, printer);
+        let answer = self.state.lock(rt).locked.next(&mut seat.shares, printer);
         self.hands(seat, &answer);
         answer
     }
@@ -51,7 +52,22 @@ impl<E: SpoolLedger, K: Ledger, H: Ledger> SharedSpool<E, K, H> {
         ensures back { IfErr result (λ e. e.page ≡ page) }
     {
         let printer = seat.printer;
-        let answer = self.state.lock(rt).printed(&mut seat.shares, printer, page);
+        let row = self.bells.row_with(printer);
+        let mut room = self.state.lock(rt);
+        let answer = room.locked.printed(&mut seat.shares, printer, page);
+        let calls = match &answer {
+            Ok(Progress::Going) => Calls {
+                printer: None,
+                session: room.call_session(),
+            },
+            Ok(_) => room.call(row),
+            Err(_) => Calls {
+                printer: None,
+                session: None,
+            },
+        };
+        drop(room);
+        self.ring(calls);
         if answer.is_ok() {
             seat.is_out = false;
             self.changed.notify_all();
@@ -72,8 +88,13 @@ impl<E: SpoolLedger, K: Ledger, H: Ledger> SharedSpool<E, K, H> {
         ensures back { IfErr result (λ e. e.page ≡ page) }
     {
         let printer = seat.printer;
-        let answer = self.state.lock(rt).failed(&mut seat.shares, printer, page);
+        let row = self.bells.row_with(printer);
+        let mut room = self.state.lock(rt);
+        let answer = room.locked.failed(&mut seat.shares, printer, page);
         if answer.is_ok() {
+            let calls = room.call(row);
+            drop(room);
+            self.ring(calls);
             seat.is_out = false;
             self.changed.notify_all();
         }

@@ -25,8 +25,11 @@ impl<E: SpoolLedger, K: Ledger, H: Ledger> SharedSpool<E, K, H> {
     ) -> Result<(), Refusal>
         ensures { WhenStarted result seat.old seat.new }
     {
-        let answer = self.state.lock(rt).start(&mut seat.shares, queue);
+        let mut room = self.state.lock(rt);
+        let answer = room.locked.start(&mut seat.shares, queue);
         if answer.is_ok() {
+            self.ring_printers(&mut *room, self.bells.row_of(queue));
+            drop(room);
             self.changed.notify_all();
         }
         answer
@@ -46,11 +49,11 @@ impl<E: SpoolLedger, K: Ledger, H: Ledger> SharedSpool<E, K, H> {
     ) -> Result<Octets, Refusal>
         ensures { seat.new ≡ when_removed result seat.old }
     {
-        let answer = self
-            .state
-            .lock(rt)
-            .remove(&mut seat.shares, queue, agent, list);
+        let mut room = self.state.lock(rt);
+        let answer = room.locked.remove(&mut seat.shares, queue, agent, list);
         if answer.is_ok() {
+            self.ring_all(&mut *room, self.bells.row_of(queue));
+            drop(room);
             self.changed.notify_all();
         }
         answer
@@ -69,7 +72,7 @@ impl<E: SpoolLedger, K: Ledger, H: Ledger> SharedSpool<E, K, H> {
     ) -> Result<Octets, Refusal>
         ensures { _seat.new ≡ _seat.old }
     {
-        self.state.lock(rt).state(queue, list, long)
+        self.state.lock(rt).locked.state(queue, list, long)
     }
 
     /// Closes the spool: each job ends, and nothing is accepted or handed out from then on. A page that is out may still come
@@ -77,7 +80,10 @@ impl<E: SpoolLedger, K: Ledger, H: Ledger> SharedSpool<E, K, H> {
     pub fn close<R: Wait>(&self, rt: &R, seat: &mut SessionSeat<E, K, H>)
         ensures { OneOrNone kind.Closed seat.old seat.new }
     {
-        self.state.lock(rt).close(&mut seat.shares);
+        let mut room = self.state.lock(rt);
+        room.locked.close(&mut seat.shares);
+        self.ring_all(&mut *room, self.all_printers());
+        drop(room);
         self.changed.notify_all();
     }
 
@@ -94,21 +100,21 @@ impl<E: SpoolLedger, K: Ledger, H: Ledger> SharedSpool<E, K, H> {
         ensures legal { IfOk result (IsLegalSegment E.config) }
         ensures headline { IfOk result (HasHeadline E.config) }
     {
-        self.state.lock(rt).rotate()
+        self.state.lock(rt).locked.rotate()
     }
 
     /// How many jobs are held.
     pub fn held<R: Wait>(&self, rt: &R, _seat: &mut SessionSeat<E, K, H>) -> usize
         ensures { _seat.new ≡ _seat.old }
     {
-        self.state.lock(rt).held()
+        self.state.lock(rt).locked.held()
     }
 
     /// How many entries of the account are counted for the jobs that were accepted and for the starts that may come.
     pub fn counted_reserve<R: Wait>(&self, rt: &R, _seat: &mut SessionSeat<E, K, H>) -> u64
         ensures { _seat.new ≡ _seat.old }
     {
-        self.state.lock(rt).counted_reserve()
+        self.state.lock(rt).locked.counted_reserve()
     }
 
     /// The pages by where they are. All together are the pages of the spool.
@@ -116,6 +122,6 @@ impl<E: SpoolLedger, K: Ledger, H: Ledger> SharedSpool<E, K, H> {
         ensures seat { _seat.new ≡ _seat.old }
         ensures all { result.chained + result.lent + result.out + result.free ≡ E.config.pages }
     {
-        self.state.lock(rt).pages_by_place()
+        self.state.lock(rt).locked.pages_by_place()
     }
 }

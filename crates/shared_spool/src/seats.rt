@@ -3,6 +3,7 @@
 ghost use Rattle.std.specs.Prelude.{◌≡◌};
 ghost use Rattle.shared_spool.specs.Seats.{new_desk};
 
+use crate::line::Row;
 use spool_ledgers::Shares;
 use std::marker::Model;
 use std::sync::ledger::Ledger;
@@ -10,6 +11,11 @@ use std::sync::ledger::Ledger;
 /// A session's seat. Contracts see what its calls added to the account.
 #[derive(Drop)]
 pub struct SessionSeat<E: Ledger, K: Ledger, H: Ledger> {
+    // The number of its bell.
+    pub(crate) number: u32,
+    // The last job that it opened, and the printers of its queue.
+    pub(crate) opened: u64,
+    pub(crate) row: Row,
     pub(crate) shares: Shares<E, K, H>,
 }
 
@@ -26,11 +32,16 @@ impl<E: Ledger, K: Ledger, H: Ledger> Model for SessionSeat<E, K, H> {
 
 impl<E: Ledger, K: Ledger, H: Ledger> SessionSeat<E, K, H> {
     /// A seat with its part.
-    pub(crate) fn new(shares: Shares<E, K, H>) -> SessionSeat<E, K, H>
+    pub(crate) fn new(number: u32, shares: Shares<E, K, H>) -> SessionSeat<E, K, H>
         requires { shares.parts ≡ 1 }
         ensures { result ≡ shares }
     {
-        SessionSeat { shares }
+        SessionSeat {
+            number,
+            opened: 0,
+            row: Row { first: 0, past: 0 },
+            shares,
+        }
     }
 
     /// Gives its shares up.
@@ -38,8 +49,21 @@ impl<E: Ledger, K: Ledger, H: Ledger> SessionSeat<E, K, H> {
         ensures same { result ≡ self }
         ensures one { self.parts ≡ 1 }
     {
-        let SessionSeat { shares } = self;
+        let SessionSeat {
+            number: _,
+            opened: _,
+            row: _,
+            shares,
+        } = self;
         shares
+    }
+
+    /// The printers of a job's queue, where it is the last one that was opened here.
+    pub(crate) fn row_for(&self, job: u64) -> Option<Row> {
+        if self.opened == job {
+            return Some(self.row);
+        }
+        None
     }
 }
 

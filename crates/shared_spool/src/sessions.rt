@@ -27,7 +27,7 @@ impl<E: SpoolLedger, K: Ledger, H: Ledger> SharedSpool<E, K, H> {
     ) -> Result<(), Refusal>
         ensures { _seat.new ≡ _seat.old }
     {
-        self.state.lock(rt).admits(queue)
+        self.state.lock(rt).locked.admits(queue)
     }
 
     /// Accepts a job from a sender for a queue, and answers its number.
@@ -43,8 +43,12 @@ impl<E: SpoolLedger, K: Ledger, H: Ledger> SharedSpool<E, K, H> {
     ) -> Result<u64, Refusal>
         ensures { seat.new ≡ when_done kind.Opened result seat.old }
     {
-        let answer = self.state.lock(rt).open(&mut seat.shares, sender, queue);
-        if answer.is_ok() {
+        let mut room = self.state.lock(rt);
+        let answer = room.locked.open(&mut seat.shares, sender, queue);
+        drop(room);
+        if let Ok(job) = &answer {
+            seat.opened = *job;
+            seat.row = self.bells.row_of(queue);
             self.changed.notify_all();
         }
         answer
@@ -64,7 +68,7 @@ impl<E: SpoolLedger, K: Ledger, H: Ledger> SharedSpool<E, K, H> {
         ensures page { IfOk result (IsBlank E.config.page_size) }
         ensures shares { seat.new ≡ when_lent result seat.old }
     {
-        let answer = self.state.lock(rt).ask(&mut seat.shares, job);
+        let answer = self.state.lock(rt).locked.ask(&mut seat.shares, job);
         if answer.is_ok() {
             self.changed.notify_all();
         }
@@ -89,6 +93,7 @@ impl<E: SpoolLedger, K: Ledger, H: Ledger> SharedSpool<E, K, H> {
         let answer = self
             .state
             .lock(rt)
+            .locked
             .begin_file(&mut seat.shares, job, name, count);
         if answer.is_ok() {
             self.changed.notify_all();
@@ -109,7 +114,7 @@ impl<E: SpoolLedger, K: Ledger, H: Ledger> SharedSpool<E, K, H> {
         ensures back { IfErr result (λ e. e.page ≡ page) }
         ensures shares { seat.new ≡ when_done kind.Put result seat.old }
     {
-        let answer = self.state.lock(rt).put(&mut seat.shares, job, page);
+        let answer = self.state.lock(rt).locked.put(&mut seat.shares, job, page);
         if answer.is_ok() {
             self.changed.notify_all();
         }
@@ -127,7 +132,16 @@ impl<E: SpoolLedger, K: Ledger, H: Ledger> SharedSpool<E, K, H> {
     ) -> Result<Receipt, Refusal>
         ensures { seat.new ≡ when_done kind.FileEnded result seat.old }
     {
-        let answer = self.state.lock(rt).end_file(&mut seat.shares, job);
+        let row = seat.row_for(job);
+        let mut room = self.state.lock(rt);
+        let answer = room.locked.end_file(&mut seat.shares, job);
+        if matches!(&answer, Ok(Receipt::Received)) {
+            let calls = self.call_for(&mut *room, row);
+            drop(room);
+            self.ring(calls);
+        } else {
+            drop(room);
+        }
         if answer.is_ok() {
             self.changed.notify_all();
         }
@@ -147,7 +161,16 @@ impl<E: SpoolLedger, K: Ledger, H: Ledger> SharedSpool<E, K, H> {
     ) -> Result<Receipt, Refusal>
         ensures { seat.new ≡ when_done kind.Controlled result seat.old }
     {
-        let answer = self.state.lock(rt).control(&mut seat.shares, job, control);
+        let row = seat.row_for(job);
+        let mut room = self.state.lock(rt);
+        let answer = room.locked.control(&mut seat.shares, job, control);
+        if matches!(&answer, Ok(Receipt::Received)) {
+            let calls = self.call_for(&mut *room, row);
+            drop(room);
+            self.ring(calls);
+        } else {
+            drop(room);
+        }
         if answer.is_ok() {
             self.changed.notify_all();
         }
@@ -168,8 +191,12 @@ impl<E: SpoolLedger, K: Ledger, H: Ledger> SharedSpool<E, K, H> {
         ensures back { IfErr result (λ e. e.ticket ≡ ticket) }
         ensures shares { seat.new ≡ when_done kind.Aborted result seat.old }
     {
-        let answer = self.state.lock(rt).abort(&mut seat.shares, job, ticket);
+        let row = seat.row_for(job).unwrap_or(self.all_printers());
+        let mut room = self.state.lock(rt);
+        let answer = room.locked.abort(&mut seat.shares, job, ticket);
         if answer.is_ok() {
+            self.ring_all(&mut *room, row);
+            drop(room);
             self.changed.notify_all();
         }
         answer

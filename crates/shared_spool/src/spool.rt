@@ -5,6 +5,8 @@ ghost use Rattle.config_values.specs.Config.{printer_count};
 ghost use Rattle.locked_spool.specs.Segments.{HasHeadline, IsLegalSegment, all_entries, all_handed, all_kinds};
 ghost use Rattle.shared_spool.specs.Seats.{AreDesks, AreFresh, entries_by, handed_by_all, kinds_by};
 
+use crate::bells::Bells;
+use crate::line::{Line, Room};
 use crate::seats::{PrinterSeat, SessionSeat};
 use locked_spool::{Config, Locked, Segment};
 use spool_ledgers::{Books, Shares, SpoolLedger};
@@ -20,9 +22,11 @@ use std::sync::{Condvar, Mutex};
 /// function that is generic in all three.
 #[derive(Drop)]
 pub struct SharedSpool<E: SpoolLedger, K: Ledger, H: Ledger> {
-    pub(crate) state: Mutex<Locked<E, K, H>>,
-    // Told after each event that wrote an entry.
+    pub(crate) state: Mutex<Room<E, K, H>>,
+    // Told after each event that wrote an entry, for those that wait until nothing is left to do.
     pub(crate) changed: Condvar,
+    // Told after an event that may end the wait of a seat.
+    pub(crate) bells: Bells,
     seats: u64,
 }
 
@@ -117,17 +121,23 @@ impl<E: SpoolLedger, K: Ledger, H: Ledger> SharedSpool<E, K, H> {
         let printers = config.printer_count();
         let (books, mut all) = Books::open(entries, kinds, handed);
         let mut session_seats = Vec::new(alloc);
-        'sessions: for _i in 0..sessions {
-            session_seats.push(SessionSeat::new(all.split_one()))?;
+        'sessions: for i in 0..sessions {
+            session_seats.push(SessionSeat::new(i, all.split_one()))?;
         }
         let mut printer_seats = Vec::new(alloc);
         'printers: for i in 0..printers {
             printer_seats.push(PrinterSeat::new(i + 1, all.split_one()))?;
         }
+        let bells = Bells::new(alloc, &config, sessions)?;
+        let line = Line::new(alloc, printers, sessions)?;
         Ok(Opened {
             spool: SharedSpool {
-                state: Mutex::new(Locked::new(alloc, config, books)?),
+                state: Mutex::new(Room {
+                    locked: Locked::new(alloc, config, books)?,
+                    line,
+                }),
                 changed: Condvar::new(),
+                bells,
                 seats: u64::from(sessions) + u64::from(printers),
             },
             sessions: session_seats,
@@ -166,9 +176,13 @@ impl<E: SpoolLedger, K: Ledger, H: Ledger> SharedSpool<E, K, H> {
         let SharedSpool {
             state,
             changed: _,
+            bells: _,
             seats: _,
         } = self;
-        let mut locked = state.into_inner();
+        let Room {
+            mut locked,
+            line: _,
+        } = state.into_inner();
         let mut all = locked.no_shares();
         merge_sessions(&mut all, sessions);
         merge_printers(&mut all, printers);

@@ -30,17 +30,22 @@ impl<E: SpoolLedger, K: Ledger, H: Ledger> SharedSpool<E, K, H> {
         ensures lent { result ≢ Ok asked.Later }
         ensures shares { seat.new ≡ when_lent result seat.old }
     {
-        let mut state = self.state.lock(rt);
+        let number = seat.number;
+        let mut room = self.state.lock(rt);
         for _ in rt.forever() {
-            match state.ask(&mut seat.shares, job) {
+            match room.locked.ask(&mut seat.shares, job) {
                 Ok(Asked::Later) => {}
                 answer => {
-                    drop(state);
+                    let next = room.leaves(number);
+                    drop(room);
+                    self.ring_session(next);
                     self.changed.notify_all();
                     return answer;
                 }
             }
-            state = self.changed.wait(rt, state);
+            let next = room.stays(number, job);
+            self.ring_session(next);
+            room = self.session_bell(number).wait(rt, room);
         }
         unreachable!()
     }
@@ -53,17 +58,18 @@ impl<E: SpoolLedger, K: Ledger, H: Ledger> SharedSpool<E, K, H> {
         ensures something { (result ≢ next.Nothing) × (result ≢ next.Stopped) }
     {
         let printer = seat.printer;
-        let state = self.state.lock(rt);
-        let mut state = self.changed.wait_while(rt, state, |s| s.must_wait(printer));
-        let answer = state.next(&mut seat.shares, printer);
-        drop(state);
+        let room = self.state.lock(rt);
+        let bell = self.printer_bell(printer);
+        let mut room = bell.wait_while(rt, room, |r| r.must_wait(printer));
+        let answer = room.locked.next(&mut seat.shares, printer);
+        drop(room);
         self.hands(seat, &answer);
         answer
     }
 
     /// Waits until no job is held, or a printer is stopped.
     pub fn idle_wait<R: Wait>(&self, rt: &R) {
-        let state = self.state.lock(rt);
-        let _state = self.changed.wait_while(rt, state, |s| !s.is_idle());
+        let room = self.state.lock(rt);
+        let _room = self.changed.wait_while(rt, room, |r| !r.locked.is_idle());
     }
 }

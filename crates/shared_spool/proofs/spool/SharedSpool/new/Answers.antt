@@ -1,8 +1,8 @@
 use Rattle.std.proofs.Common.{◌≡◌, ℕ, ◌+◌, ◌<◌, List, rules, sym, ap, ◌∙◌, subst, length}
-use Rattle.std.specs.Prelude.{Some, slice_get}
-use Rattle.spool_ledgers.specs.Sums.{Sums}
+use Rattle.std.specs.Prelude.{Some, All, slice_get}
+use Rattle.spool_ledgers.specs.Sums.{Sums, no_sums}
 use Rattle.shared_spool.specs.Seats.{Desk, new_desk}
-use Rattle.shared_spool.proofs.Rows.{at_pushed}
+use Rattle.shared_spool.proofs.Rows.{all_pushed, at_pushed}
 use Rattle.shared_spool.proofs.spool.SharedSpool.new.Goals as goal
 
 pub printers-preserved : goal.printers-preserved
@@ -17,4 +17,15 @@ printers-preserved g c =
       fresh = search rules;
       seats = search rules;
       row = subst (λ (ds : List Desk). (i : ℕ) → i < length ds → slice_get ds i ≡ Some (new_desk (i + 1))) (sym c.in_ok-push-2.ensures.items) row;
+    }
+
+pub sessions-preserved : goal.sessions-preserved
+sessions-preserved g c =
+    let fresh : c.new.result ≡ no_sums 1 = c.new.ensures ∙ c.split_one.ensures.one in
+    let all = all_pushed (λ (s : Sums). s ≡ no_sums 1) c.sessions.session_seats.items c.new.result c.sessions.invariant.none fresh in
+    record {
+      parts = search rules;
+      fresh = search rules;
+      seats = search rules;
+      none = subst (λ (ss : List Sums). All (λ (s : Sums). s ≡ no_sums 1) ss) (sym c.in_ok-push.ensures.items) all;
     }

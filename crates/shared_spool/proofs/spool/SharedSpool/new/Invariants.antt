@@ -5,9 +5,9 @@ use Rattle.shared_spool.proofs.spool.SharedSpool.new.Given as goal
 
 abbrev pub invariant-sessions : goal.invariant-sessions
 invariant-sessions g l = record {
-  parts : l.all.parts + l._i ≡ g.E.Ledger.parts;
+  parts : l.all.parts + l.i ≡ g.E.Ledger.parts;
   fresh : l.all ≡ no_sums l.all.parts;
-  seats : length l.session_seats.items ≡ l._i;
+  seats : length l.session_seats.items ≡ l.i;
   none : All (λ s. s ≡ no_sums 1) l.session_seats.items;
 }
 

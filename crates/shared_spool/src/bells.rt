@@ -1,0 +1,162 @@
+//! The bells of the seats: on each one only its seat waits.
+
+use crate::line::{Calls, Room, Row};
+use crate::spool::SharedSpool;
+use locked_spool::Config;
+use spool_ledgers::SpoolLedger;
+use std::alloc::{AllocError, Global};
+use std::sync::Condvar;
+use std::sync::ledger::Ledger;
+
+/// A queue's name and its printers.
+#[derive(Drop)]
+pub(crate) struct Door {
+    name: Vec<u8>,
+    row: Row,
+}
+
+/// The bells of the seats, and the queues.
+#[derive(Drop)]
+pub(crate) struct Bells {
+    // By the printers' numbers. None has the number 0.
+    printers: Vec<Condvar>,
+    // By the numbers of the seats.
+    sessions: Vec<Condvar>,
+    doors: Vec<Door>,
+    all: Row,
+}
+
+/// The queues of a configuration, with their printers.
+fn doors_of(alloc: Global, config: &Config) -> Result<Vec<Door>, AllocError> {
+    let mut doors = Vec::new(alloc);
+    let mut first = 1u32;
+    for queue in config.queues().iter() {
+        let past = first.saturating_add(queue.printers());
+        doors.push(Door {
+            name: Vec::from_slice(alloc, queue.name())?,
+            row: Row { first, past },
+        })?;
+        first = past;
+    }
+    Ok(doors)
+}
+
+/// So many bells.
+fn bells_of(alloc: Global, count: u32) -> Result<Vec<Condvar>, AllocError> {
+    let mut bells = Vec::new(alloc);
+    for _i in 0..count {
+        bells.push(Condvar::new())?;
+    }
+    Ok(bells)
+}
+
+impl Bells {
+    /// The bells of so many sessions and of the printers of a configuration.
+    pub(crate) fn new(alloc: Global, config: &Config, sessions: u32) -> Result<Bells, AllocError> {
+        let past = config.printer_count().saturating_add(1);
+        Ok(Bells {
+            printers: bells_of(alloc, past)?,
+            sessions: bells_of(alloc, sessions)?,
+            doors: doors_of(alloc, config)?,
+            all: Row { first: 1, past },
+        })
+    }
+
+    /// The printers of the queue that a printer serves, or all where it serves none.
+    pub(crate) fn row_with(&self, printer: u32) -> Row {
+        for door in self.doors.iter() {
+            if door.row.first <= printer && printer < door.row.past {
+                return door.row;
+            }
+        }
+        self.all
+    }
+
+    /// The printers of the queue of a name, or all where no queue has it.
+    pub(crate) fn row_of(&self, name: &[u8]) -> Row {
+        for door in self.doors.iter() {
+            if door.name.as_slice() == name {
+                return door.row;
+            }
+        }
+        self.all
+    }
+}
+
+impl<E: SpoolLedger, K: Ledger, H: Ledger> SharedSpool<E, K, H> {
+    /// The bell of a printer, or what is told after each event where it has none.
+    pub(crate) fn printer_bell(&self, printer: u32) -> &Condvar {
+        match self.bells.printers.get(printer as usize) {
+            Some(bell) => bell,
+            None => &self.changed,
+        }
+    }
+
+    /// The bell of a session, or what is told after each event where it has none.
+    pub(crate) fn session_bell(&self, seat: u32) -> &Condvar {
+        match self.bells.sessions.get(seat as usize) {
+            Some(bell) => bell,
+            None => &self.changed,
+        }
+    }
+
+    /// Rings the bell of a printer that was called.
+    pub(crate) fn ring_printer(&self, printer: Option<u32>) {
+        if let Some(printer) = printer {
+            self.printer_bell(printer).notify_one();
+        }
+    }
+
+    /// Rings the bell of a session that was called.
+    pub(crate) fn ring_session(&self, seat: Option<u32>) {
+        if let Some(seat) = seat {
+            self.session_bell(seat).notify_one();
+        }
+    }
+
+    /// Rings the bells of those that were called.
+    pub(crate) fn ring(&self, calls: Calls) {
+        self.ring_printer(calls.printer);
+        self.ring_session(calls.session);
+    }
+
+    /// Calls all printers of these that wait and need not any more, and rings their bells.
+    pub(crate) fn ring_printers(&self, room: &mut Room<E, K, H>, row: Row) {
+        for _printer in row.first..row.past {
+            let called = room.call_printer(row);
+            if called.is_none() {
+                return;
+            }
+            self.ring_printer(called);
+        }
+    }
+
+    /// Rings the bells of all printers that wait and need not any more, and of all sessions that wait.
+    pub(crate) fn ring_all(&self, room: &mut Room<E, K, H>, row: Row) {
+        self.ring_printers(room, row);
+        for place in room.line.sessions.iter() {
+            if let Some(waiter) = place {
+                self.ring_session(Some(waiter.seat));
+            }
+        }
+    }
+
+    /// A session's job is whole. Where it isn't the last one that the seat opened, its queue isn't known.
+    pub(crate) fn call_for(&self, room: &mut Room<E, K, H>, row: Option<Row>) -> Calls {
+        match row {
+            Some(row) => room.call(row),
+            None => {
+                self.ring_printers(room, self.bells.all);
+                Calls {
+                    printer: None,
+                    session: room.call_session(),
+                }
+            }
+        }
+    }
+
+    /// The printers of all queues.
+    pub(crate) fn all_printers(&self) -> Row {
+        self.bells.all
+    }
+}
