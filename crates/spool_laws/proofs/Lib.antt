@@ -28,3 +28,5 @@ pub mod Enough
 pub mod Staying
 pub mod Rotated
 pub mod Joined
+pub mod Taken
+pub mod PutOff

@@ -5,3 +5,4 @@ pub mod Outline
 pub mod Sums
 pub mod Safety
 pub mod Rotating
+pub mod PutOff

@@ -10,6 +10,7 @@ mod pages;
 mod rotating;
 mod safe;
 mod stepping;
+mod waiting;
 
 pub use entries::reserve_is_enough;
 pub use leaving::{
@@ -21,3 +22,4 @@ pub use pages::pages_add_up;
 pub use rotating::rotation_keeps;
 pub use safe::stays_safe;
 pub use stepping::step_leads;
+pub use waiting::put_off_stays;
