@@ -30,3 +30,4 @@ pub mod Rotated
 pub mod Joined
 pub mod Taken
 pub mod PutOff
+pub mod Served

@@ -62,7 +62,7 @@ took_row c u w n s q a b d e = record {
 -- what such an event makes of a job
 
 -- a job that is being received stays so, and is lent no less
-record Receives {C : Type 0} (u w : Job C) : Type 0 where
+pub record Receives {C : Type 0} (u w : Job C) : Type 0 where
   pub number : w.number ≡ u.number
   pub sender : w.sender ≡ u.sender
   pub queue : w.queue ≡ u.queue
@@ -74,11 +74,11 @@ record Receives {C : Type 0} (u w : Job C) : Type 0 where
   pub handed : w.handed ≡ u.handed
 
 -- one more page of a received job is handed
-record Hands {C : Type 0} (u w : Job C) : Type 0 where
+pub record Hands {C : Type 0} (u w : Job C) : Type 0 where
   pub is : w ≡ record u { handed = u.handed + 1 }
   pub was : u.ended ≡ false
 
-abbrev Takes : {C : Type 0} → Job C → Job C → Type 0
+abbrev pub Takes : {C : Type 0} → Job C → Job C → Type 0
 Takes u w = (w ≡ u) ⊎ (Receives u w ⊎ Hands u w)
 
 abbrev grant : {C : Type 0} → ℕ → Job C → Job C
@@ -145,7 +145,7 @@ all_took : {C : Type 0} (c : Config) (f g : Job C → Job C) (us : List (Job C))
 all_took c f g [] t = tt
 all_took c f g (u ∷ us) t = (took c (f u) (g u) (t u (inl refl)), all_took c f g us (λ v has. t v (inr has)))
 
-still_held : {C : Type 0} (u w : Job C) → Takes u w → is_held u ≡ true → is_held w ≡ true
+pub still_held : {C : Type 0} (u w : Job C) → Takes u w → is_held u ≡ true → is_held w ≡ true
 still_held {C} u w t held = elim t [
   | inl e ↦ subst (λ (v : Job C). is_held v ≡ true) (sym e) held
   | inr t ↦ elim t [
@@ -159,7 +159,7 @@ held_granted j u held = elim (test j u.number) [ inl s ↦ rw s.1 (or_true (not 
 
 -- each held job, after such an event
 
-at_job : {C : Type 0} {base : Base} (h : List (Event C)) (k : ℕ) (P : Job C → Type 0) (u : Job C) → Facts base h → At h k P → Known h (openings h) u → k ≡ u.number → P u
+pub at_job : {C : Type 0} {base : Base} (h : List (Event C)) (k : ℕ) (P : Job C → Type 0) (u : Job C) → Facts base h → At h k P → Known h (openings h) u → k ≡ u.number → P u
 at_job {C} h k P u f a kn e =
     let x : Opening = record { job = k; sender = a.sender; queue = a.queue } in
     let n : k ≡ kn.opening.job = e ∙ ap (λ (v : Job C). v.number) kn.is in
@@ -178,7 +178,7 @@ open_last {C} (f ∷ fs) last e = rw (open_last fs last e) (or_true (not f.ended
 not_whole : {C : Type 0} (control : Rattle.std.specs.Prelude.Option Contents) (files : List (File C)) → is_open_in files ≡ true → is_whole control files ≡ false
 not_whole control files e = rw e (and_false (is_some control))
 
-takes : {C : Type 0} (size : C → ℕ) (c : Config) (base : Base) (h : List (Event C)) (e : Event C) → may_help e ≡ false → IsLegal size c base h → May size (now c base h) e → (u : Job C) → Has u (now c base h).jobs → Takes u (change e u)
+pub takes : {C : Type 0} (size : C → ℕ) (c : Config) (base : Base) (h : List (Event C)) (e : Event C) → may_help e ≡ false → IsLegal size c base h → May size (now c base h) e → (u : Job C) → Has u (now c base h).jobs → Takes u (change e u)
 takes size c base h (Opened k s q) quiet l m = λ u has. inl refl
 takes size c base h (OfJob k Granted) quiet l m = act_takes size c base h k Granted l m.0 (λ u a.
     inr (inl record { number = refl; sender = refl; queue = refl; was = a.0.0.0; is = a.0.0.0; before = a.0.0.1; after = a.0.0.1; granted = omega arith; handed = refl }))

@@ -33,20 +33,28 @@ pub record TurnOf {C : Type 0} (jobs : List (Job C)) (p : Printer C) (v : Job C)
   pub goes_on : v.ended ≡ false
   pub why : (p.began ≡ Some v.number) ⊎ Begins jobs p.queue v
 
-first_by : {C : Type 0} (jobs : List (Job C)) (p : Printer C) (x : Job C) → first_ready jobs p.queue ≡ Some x → TurnOf jobs p x
-first_by {C} jobs p x e =
-    let f = find_has (λ (w : Job C). (w.queue == p.queue) && is_ready jobs w) x jobs e in
-    let a = and_parts (x.queue == p.queue) (is_ready jobs x) f.1 in
+-- what is ready begins, and what begins is ready
+pub begins_by : {C : Type 0} (jobs : List (Job C)) (q : ℕ) (x : Job C) → ((x.queue == q) && is_ready jobs x) ≡ true → Begins jobs q x × (x.ended ≡ false)
+begins_by {C} jobs q x e =
+    let a = and_parts (x.queue == q) (is_ready jobs x) e in
     let b = and_parts (is_received x) (not x.ended && ((x.handed == 0) && not (list_any (is_preceded_by x) jobs))) a.1 in
     let d = and_parts (not x.ended) ((x.handed == 0) && not (list_any (is_preceded_by x) jobs)) b.1 in
     let g = and_parts (x.handed == 0) (not (list_any (is_preceded_by x) jobs)) d.1 in
-    let queue : x.queue ≡ p.queue = let z = a.0 in grind (arith, nat_tests) in
+    let queue : x.queue ≡ q = let z = a.0 in grind (arith, nat_tests) in
     let none : x.handed ≡ 0 = let z = g.0 in grind (arith, nat_tests) in
-    record {
-      there = f.0;
-      goes_on = not-true x.ended d.0;
-      why = inr (record { queue = queue; received = b.0; unhanded = none; first = not-true (list_any (is_preceded_by x) jobs) g.1 });
-    }
+    (record { queue = queue; received = b.0; unhanded = none; first = not-true (list_any (is_preceded_by x) jobs) g.1 }, not-true x.ended d.0)
+
+pub ready_by : {C : Type 0} (jobs : List (Job C)) (q : ℕ) (x : Job C) → Begins jobs q x → x.ended ≡ false → ((x.queue == q) && is_ready jobs x) ≡ true
+ready_by jobs q x b e =
+    let a : (x.queue == q) ≡ true = let z = b.queue in grind (arith, nat_tests) in
+    let d : (x.handed == 0) ≡ true = let z = b.unhanded in grind (arith, nat_tests) in
+    rw (a, b.received, e, d, b.first) refl
+
+first_by : {C : Type 0} (jobs : List (Job C)) (p : Printer C) (x : Job C) → first_ready jobs p.queue ≡ Some x → TurnOf jobs p x
+first_by {C} jobs p x e =
+    let f = find_has (λ (w : Job C). (w.queue == p.queue) && is_ready jobs w) x jobs e in
+    let b = begins_by jobs p.queue x f.1 in
+    record { there = f.0; goes_on = b.1; why = inr b.0 }
 
 begun_by : {C : Type 0} (jobs : List (Job C)) (p : Printer C) (k : ℕ) (x : Job C) (found : Option (Job C)) → p.began ≡ Some k → find (λ (v : Job C). (v.number == k) && not v.ended) jobs ≡ found → or_first jobs p.queue found ≡ Some x → TurnOf jobs p x
 begun_by jobs p k x None b e h = first_by jobs p x h

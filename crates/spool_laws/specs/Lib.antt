@@ -6,3 +6,4 @@ pub mod Sums
 pub mod Safety
 pub mod Rotating
 pub mod PutOff
+pub mod Served

@@ -22,4 +22,4 @@ pub use pages::pages_add_up;
 pub use rotating::rotation_keeps;
 pub use safe::stays_safe;
 pub use stepping::step_leads;
-pub use waiting::put_off_stays;
+pub use waiting::{nothing_stays, put_off_stays};
