@@ -22,7 +22,11 @@ pub(crate) struct Bells {
     printers: Vec<Condvar>,
     // By the numbers of the seats.
     sessions: Vec<Condvar>,
+    // Of the one who rotates the account.
+    pub(crate) rotates: Condvar,
     doors: Vec<Door>,
+    // The printers of the queue that each printer serves, by its number. None has the number 0.
+    rows: Vec<Row>,
     all: Row,
 }
 
@@ -41,6 +45,18 @@ fn doors_of(alloc: Global, config: &Config) -> Result<Vec<Door>, AllocError> {
     Ok(doors)
 }
 
+/// The printers of the queue that each printer serves, and all of them for 0.
+fn rows_of(alloc: Global, doors: &[Door], all: Row) -> Result<Vec<Row>, AllocError> {
+    let mut rows = Vec::new(alloc);
+    rows.push(all)?;
+    for door in doors.iter() {
+        for _printer in door.row.first..door.row.past {
+            rows.push(door.row)?;
+        }
+    }
+    Ok(rows)
+}
+
 /// So many bells.
 fn bells_of(alloc: Global, count: u32) -> Result<Vec<Condvar>, AllocError> {
     let mut bells = Vec::new(alloc);
@@ -54,22 +70,25 @@ impl Bells {
     /// The bells of so many sessions and of the printers of a configuration.
     pub(crate) fn new(alloc: Global, config: &Config, sessions: u32) -> Result<Bells, AllocError> {
         let past = config.printer_count().saturating_add(1);
+        let all = Row { first: 1, past };
+        let doors = doors_of(alloc, config)?;
+        let rows = rows_of(alloc, doors.as_slice(), all)?;
         Ok(Bells {
             printers: bells_of(alloc, past)?,
             sessions: bells_of(alloc, sessions)?,
-            doors: doors_of(alloc, config)?,
-            all: Row { first: 1, past },
+            rotates: Condvar::new(),
+            doors,
+            rows,
+            all,
         })
     }
 
     /// The printers of the queue that a printer serves, or all where it serves none.
     pub(crate) fn row_with(&self, printer: u32) -> Row {
-        for door in self.doors.iter() {
-            if door.row.first <= printer && printer < door.row.past {
-                return door.row;
-            }
+        match self.rows.get(printer as usize) {
+            Some(row) => *row,
+            None => self.all,
         }
-        self.all
     }
 
     /// The printers of the queue of a name, or all where no queue has it.
@@ -118,26 +137,33 @@ impl<E: SpoolLedger, K: Ledger, H: Ledger> SharedSpool<E, K, H> {
     pub(crate) fn ring(&self, calls: Calls) {
         self.ring_printer(calls.printer);
         self.ring_session(calls.session);
+        if calls.rotates {
+            self.bells.rotates.notify_one();
+        }
     }
 
     /// Calls all printers of these that wait and need not any more, and rings their bells.
     pub(crate) fn ring_printers(&self, room: &mut Room<E, K, H>, row: Row) {
-        for _printer in row.first..row.past {
-            let called = room.call_printer(row);
-            if called.is_none() {
-                return;
-            }
-            self.ring_printer(called);
+        for first in row.first..row.past {
+            let one = Row {
+                first,
+                past: first.saturating_add(1),
+            };
+            self.ring_printer(room.call_printer(one));
         }
     }
 
-    /// Rings the bells of all printers that wait and need not any more, and of all sessions that wait.
+    /// Rings the bells of all printers that wait and need not any more, of all sessions that wait, and of the one who rotates
+    /// the account where it may.
     pub(crate) fn ring_all(&self, room: &mut Room<E, K, H>, row: Row) {
         self.ring_printers(room, row);
         for place in room.line.sessions.iter() {
             if let Some(waiter) = place {
-                self.ring_session(Some(waiter.seat));
+                self.ring_session(Some(waiter.waiting.seat));
             }
+        }
+        if room.may_rotate() {
+            self.bells.rotates.notify_one();
         }
     }
 
@@ -150,6 +176,7 @@ impl<E: SpoolLedger, K: Ledger, H: Ledger> SharedSpool<E, K, H> {
                 Calls {
                     printer: None,
                     session: room.call_session(),
+                    rotates: false,
                 }
             }
         }

@@ -13,6 +13,7 @@ mod sessions;
 mod spool;
 mod waiting;
 
+pub use line::Waiting;
 pub use locked_spool::{
     Account, Asked, Base, Config, Entry, Foreign, HandedPage, Kind, Next, Pages, Progress, Receipt,
     ReturnedPage, ReturnedTicket, RotateError, Segment,

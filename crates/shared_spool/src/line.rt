@@ -12,11 +12,21 @@ use spool_ledgers::SpoolLedger;
 use std::alloc::{AllocError, Global};
 use std::sync::ledger::Ledger;
 
-/// A session that waits for a page of a job, and how many events there were when it asked last.
+/// A session that waits for a page.
+#[derive(Clone, Copy, Debug, PartialEq, Eq)]
+pub struct Waiting {
+    /// The number of its seat.
+    pub seat: u32,
+    /// The job for which it asked.
+    pub job: u64,
+    /// How many octets the file lacks that was begun last through its seat.
+    pub lacks: u64,
+}
+
+/// A session that waits, and how many events there were when it asked last.
 #[derive(Clone, Copy)]
 pub(crate) struct Waiter {
-    pub(crate) seat: u32,
-    job: u64,
+    pub(crate) waiting: Waiting,
     asked: u64,
 }
 
@@ -35,6 +45,12 @@ pub(crate) struct Line {
     round: u64,
     // The session that was called and didn't ask since.
     called: Option<u32>,
+    // For how many counted entries the one waits who rotates the account, where one waits.
+    rotates_from: Option<u64>,
+    // The spool was closed.
+    closed: bool,
+    // A printer may be stopped: one failed since all were seen to run.
+    may_be_stopped: bool,
 }
 
 /// Who is to be called once the lock is free.
@@ -42,6 +58,7 @@ pub(crate) struct Line {
 pub(crate) struct Calls {
     pub(crate) printer: Option<u32>,
     pub(crate) session: Option<u32>,
+    pub(crate) rotates: bool,
 }
 
 /// The printers of a queue: those from the first number on, before the last one.
@@ -70,6 +87,9 @@ impl Line {
             events: 0,
             round: 0,
             called: None,
+            rotates_from: None,
+            closed: false,
+            may_be_stopped: false,
         })
     }
 
@@ -89,13 +109,13 @@ impl Line {
     }
 
     /// A session asked and has to wait.
-    fn enter(&mut self, seat: u32, job: u64) {
+    fn enter(&mut self, waiting: Waiting) {
         let asked = self.events;
-        if let Some(place) = self.sessions.get_mut(seat as usize) {
+        if let Some(place) = self.sessions.get_mut(waiting.seat as usize) {
             if place.is_none() {
                 self.waiting = self.waiting.saturating_add(1);
             }
-            *place = Some(Waiter { seat, job, asked });
+            *place = Some(Waiter { waiting, asked });
         }
     }
 
@@ -115,7 +135,7 @@ impl Line {
         for place in self.sessions.iter() {
             if let Some(waiter) = place {
                 let is_first = match found {
-                    Some(other) => waiter.job < other.job,
+                    Some(other) => waiter.waiting.job < other.waiting.job,
                     None => true,
                 };
                 if waiter.asked < events && is_first {
@@ -124,9 +144,20 @@ impl Line {
             }
         }
         match found {
-            Some(waiter) => Some(waiter.seat),
+            Some(waiter) => Some(waiter.waiting.seat),
             None => None,
         }
+    }
+
+    /// The sessions that wait, by the numbers of their seats.
+    pub(crate) fn all_waiting(&self, alloc: Global) -> Result<Vec<Waiting>, AllocError> {
+        let mut all = Vec::new(alloc);
+        for place in self.sessions.iter() {
+            if let Some(waiter) = place {
+                all.push(waiter.waiting)?;
+            }
+        }
+        Ok(all)
     }
 
     /// Calls the next session of the round, or the first of the next round where more happened since.
@@ -206,11 +237,11 @@ impl<E: SpoolLedger, K: Ledger, H: Ledger> Room<E, K, H> {
     }
 
     /// A session asked and has to wait. Answers who is called next.
-    pub(crate) fn stays(&mut self, seat: u32, job: u64) -> Option<u32>
+    pub(crate) fn stays(&mut self, waiting: Waiting) -> Option<u32>
         ensures { self.new.locked ≡ self.old.locked }
     {
-        self.line.enter(seat, job);
-        self.pass(seat)
+        self.line.enter(waiting);
+        self.pass(waiting.seat)
     }
 
     /// A session asked and need not wait any more. Answers who is called next.
@@ -229,6 +260,59 @@ impl<E: SpoolLedger, K: Ledger, H: Ledger> Room<E, K, H> {
         Calls {
             printer: self.call_printer(row),
             session: self.call_session(),
+            rotates: self.may_rotate(),
         }
+    }
+
+    /// Whether no job is held and at least so many entries are counted.
+    fn is_at_rest(&self, least: u64) -> bool {
+        self.locked.held() == 0 && least <= self.locked.counted_reserve()
+    }
+
+    /// Whether who rotates the account waits, and need not any more.
+    pub(crate) fn may_rotate(&self) -> bool {
+        match self.line.rotates_from {
+            Some(least) => self.line.closed || self.is_at_rest(least),
+            None => false,
+        }
+    }
+
+    /// Whether who rotates the account has to wait. It is called while it has to.
+    pub(crate) fn must_keep(&mut self, least: u64) -> bool
+        ensures { self.new.locked ≡ self.old.locked }
+    {
+        let waits = !self.line.closed && !self.is_at_rest(least);
+        self.line.rotates_from = if waits { Some(least) } else { None };
+        waits
+    }
+
+    /// Whether the spool was closed.
+    pub(crate) fn is_closed(&self) -> bool {
+        self.line.closed
+    }
+
+    /// The spool is closed.
+    pub(crate) fn closes(&mut self)
+        ensures { self.new.locked ≡ self.old.locked }
+    {
+        self.line.closed = true;
+    }
+
+    /// A page failed at a printer.
+    pub(crate) fn fails(&mut self)
+        ensures { self.new.locked ≡ self.old.locked }
+    {
+        self.line.may_be_stopped = true;
+    }
+
+    /// Whether no job is held, or a printer is stopped. All printers are looked at only where one failed.
+    pub(crate) fn is_idle(&mut self) -> bool
+        ensures { self.new.locked ≡ self.old.locked }
+    {
+        if self.locked.held() == 0 {
+            return true;
+        }
+        self.line.may_be_stopped = self.line.may_be_stopped && self.locked.is_idle();
+        self.line.may_be_stopped
     }
 }

@@ -59,11 +59,13 @@ impl<E: SpoolLedger, K: Ledger, H: Ledger> SharedSpool<E, K, H> {
             Ok(Progress::Going) => Calls {
                 printer: None,
                 session: room.call_session(),
+                rotates: false,
             },
             Ok(_) => room.call(row),
             Err(_) => Calls {
                 printer: None,
                 session: None,
+                rotates: false,
             },
         };
         drop(room);
@@ -92,6 +94,7 @@ impl<E: SpoolLedger, K: Ledger, H: Ledger> SharedSpool<E, K, H> {
         let mut room = self.state.lock(rt);
         let answer = room.locked.failed(&mut seat.shares, printer, page);
         if answer.is_ok() {
+            room.fails();
             let calls = room.call(row);
             drop(room);
             self.ring(calls);

@@ -82,6 +82,7 @@ impl<E: SpoolLedger, K: Ledger, H: Ledger> SharedSpool<E, K, H> {
     {
         let mut room = self.state.lock(rt);
         room.locked.close(&mut seat.shares);
+        room.closes();
         self.ring_all(&mut *room, self.all_printers());
         drop(room);
         self.changed.notify_all();

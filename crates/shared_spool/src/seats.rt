@@ -16,6 +16,8 @@ pub struct SessionSeat<E: Ledger, K: Ledger, H: Ledger> {
     // The last job that it opened, and the printers of its queue.
     pub(crate) opened: u64,
     pub(crate) row: Row,
+    // How many octets the file lacks that it began last.
+    pub(crate) lacks: u64,
     pub(crate) shares: Shares<E, K, H>,
 }
 
@@ -40,8 +42,14 @@ impl<E: Ledger, K: Ledger, H: Ledger> SessionSeat<E, K, H> {
             number,
             opened: 0,
             row: Row { first: 0, past: 0 },
+            lacks: 0,
             shares,
         }
+    }
+
+    /// Its number, from 0 over all sessions' seats.
+    pub fn number(&self) -> u32 {
+        self.number
     }
 
     /// Gives its shares up.
@@ -53,6 +61,7 @@ impl<E: Ledger, K: Ledger, H: Ledger> SessionSeat<E, K, H> {
             number: _,
             opened: _,
             row: _,
+            lacks: _,
             shares,
         } = self;
         shares

@@ -96,6 +96,7 @@ impl<E: SpoolLedger, K: Ledger, H: Ledger> SharedSpool<E, K, H> {
             .locked
             .begin_file(&mut seat.shares, job, name, count);
         if answer.is_ok() {
+            seat.lacks = count;
             self.changed.notify_all();
         }
         answer
@@ -114,8 +115,10 @@ impl<E: SpoolLedger, K: Ledger, H: Ledger> SharedSpool<E, K, H> {
         ensures back { IfErr result (λ e. e.page ≡ page) }
         ensures shares { seat.new ≡ when_done kind.Put result seat.old }
     {
+        let octets = page.len() as u64;
         let answer = self.state.lock(rt).locked.put(&mut seat.shares, job, page);
         if answer.is_ok() {
+            seat.lacks = seat.lacks.saturating_sub(octets);
             self.changed.notify_all();
         }
         answer

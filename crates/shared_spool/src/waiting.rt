@@ -1,17 +1,20 @@
 //! The calls that wait for another one.
 
-ghost use Rattle.std.specs.Prelude.{◌≡◌, ◌≢◌, ◌<◌, ◌^◌, Ok, IfOk};
+ghost use Rattle.std.specs.Prelude.{◌≡◌, ◌≢◌, ◌<◌, ◌^◌, Ok, IfOk, IfSome};
 ghost use Rattle.spool_calls.specs.declared.answers.Asked.TheVariants as asked;
 ghost use Rattle.spool_calls.specs.declared.answers.Next.TheVariants as next;
 ghost use Rattle.spool_core.specs.Tickets.{IsBlank};
+ghost use Rattle.locked_spool.specs.Segments.{HasHeadline, IsLegalSegment};
 ghost use Rattle.locked_spool.specs.Shares.{when_lent};
 ghost use Rattle.shared_spool.specs.Seats.{next_desk};
 
+use crate::line::Waiting;
 use crate::seats::{PrinterSeat, SessionSeat};
 use crate::spool::SharedSpool;
-use locked_spool::{Asked, Next};
+use locked_spool::{Asked, Next, RotateError, Segment};
 use lpd_values::Refusal;
 use spool_ledgers::SpoolLedger;
+use std::alloc::{AllocError, Global};
 use std::sync::Wait;
 use std::sync::ledger::Ledger;
 
@@ -43,7 +46,11 @@ impl<E: SpoolLedger, K: Ledger, H: Ledger> SharedSpool<E, K, H> {
                     return answer;
                 }
             }
-            let next = room.stays(number, job);
+            let next = room.stays(Waiting {
+                seat: number,
+                job,
+                lacks: seat.lacks,
+            });
             self.ring_session(next);
             room = self.session_bell(number).wait(rt, room);
         }
@@ -70,6 +77,39 @@ impl<E: SpoolLedger, K: Ledger, H: Ledger> SharedSpool<E, K, H> {
     /// Waits until no job is held, or a printer is stopped.
     pub fn idle_wait<R: Wait>(&self, rt: &R) {
         let room = self.state.lock(rt);
-        let _room = self.changed.wait_while(rt, room, |r| !r.locked.is_idle());
+        let _room = self.changed.wait_while(rt, room, |r| !r.is_idle());
+    }
+
+    /// Waits until no job is held and at least so many entries are counted, and rotates the account then, before another job can
+    /// come. None once the spool is closed. One at a time may wait so.
+    ///
+    /// AccountFull where the sums over all segments would pass what a number holds; Memory where memory for the new account is
+    /// refused.
+    pub fn rotate_wait<R: Wait>(
+        &self,
+        rt: &R,
+        _seat: &mut SessionSeat<E, K, H>,
+        least: u64,
+    ) -> Option<Result<Segment, RotateError>>
+        ensures shares { _seat.new ≡ _seat.old }
+        ensures legal { IfSome result (λ r. IfOk r (IsLegalSegment E.config)) }
+        ensures headline { IfSome result (λ r. IfOk r (HasHeadline E.config)) }
+    {
+        let room = self.state.lock(rt);
+        let mut room = self
+            .bells
+            .rotates
+            .wait_while(rt, room, |r| r.must_keep(least));
+        if room.is_closed() {
+            return None;
+        }
+        Some(room.locked.rotate())
+    }
+
+    /// The sessions that wait for a page, by the numbers of their seats.
+    ///
+    /// AllocError where memory for the list is refused.
+    pub fn waiting<R: Wait>(&self, rt: &R, alloc: Global) -> Result<Vec<Waiting>, AllocError> {
+        self.state.lock(rt).line.all_waiting(alloc)
     }
 }
