@@ -1,3 +1,4 @@
+pub mod JoinLaws
 pub mod KindLaws
 pub mod OrderLaws
 pub mod DoingLaws

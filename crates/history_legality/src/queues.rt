@@ -45,7 +45,7 @@ fn all_may_be_removed(jobs: &[Job], queue: u32, numbers: &[u64]) -> bool
 }
 
 /// Whether each number is below the next.
-fn rises(numbers: &[u64]) -> bool
+pub(crate) fn rises(numbers: &[u64]) -> bool
     ensures { IsTrue result ↔ IsStrictlyIncreasing numbers.now }
 {
     for place in 1..numbers.len() {

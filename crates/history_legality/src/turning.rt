@@ -12,7 +12,7 @@ use history_reader::{Job, Next, State, next_page, printer_numbered};
 use std::alloc::{AllocError, Global};
 
 /// Whether two pages at a printer are the same.
-fn is_same_sheet(a: &Sheet, b: &Sheet) -> bool
+pub(crate) fn is_same_sheet(a: &Sheet, b: &Sheet) -> bool
     ensures { IsTrue result ↔ sheet_seen a.now ≡ sheet_seen b.now }
 {
     *a == *b

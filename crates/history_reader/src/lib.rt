@@ -14,7 +14,9 @@ mod states;
 mod told;
 
 pub use hands::{next_page, printer_numbered};
+pub use jobs::job_in;
 pub use received::{all_begun, is_begun, is_open_in};
 pub use rotations::rotated;
-pub use state::{File, Job, Next, Page, Printer, State};
+pub use said::openings;
+pub use state::{File, Job, Next, Opening, Page, Printer, State};
 pub use states::now;

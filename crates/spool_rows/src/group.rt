@@ -1,6 +1,6 @@
 //! The groups of rows.
 
-use crate::{control, cores, histories, lines, rows, scripts, seats, tables};
+use crate::{control, cores, histories, joins, lines, rows, scripts, seats, tables};
 use std::alloc::{AllocError, Global};
 use std::sync::Wait;
 
@@ -31,6 +31,8 @@ pub enum Group {
     Scripts,
     /// Worked histories and what the plain reader says after each entry.
     Histories,
+    /// Histories, legal or not, and whether the plain reader finds that they leave joined after each entry.
+    Joins,
     /// Calls of a core and what they answer.
     Calls,
     /// Calls of a spool that threads share, and its account.
@@ -38,7 +40,7 @@ pub enum Group {
 }
 
 /// All groups.
-pub const GROUPS: [Group; 14] = [
+pub const GROUPS: [Group; 15] = [
     Group::Commands,
     Group::Subcommands,
     Group::Names,
@@ -51,6 +53,7 @@ pub const GROUPS: [Group; 14] = [
     Group::Lines,
     Group::Scripts,
     Group::Histories,
+    Group::Joins,
     Group::Calls,
     Group::Seats,
 ];
@@ -71,6 +74,7 @@ impl Group {
             Group::Lines => "lines",
             Group::Scripts => "scripts",
             Group::Histories => "histories",
+            Group::Joins => "joins",
             Group::Calls => "calls",
             Group::Seats => "seats",
         }
@@ -79,7 +83,8 @@ impl Group {
     /// What stands between two rows.
     pub fn between(self) -> &'static str {
         match self {
-            Group::Scripts | Group::Histories | Group::Calls | Group::Seats => "====\n",
+            Group::Scripts | Group::Histories | Group::Joins | Group::Calls | Group::Seats =>
+                "====\n",
             _ => "\n",
         }
     }
@@ -87,7 +92,8 @@ impl Group {
     /// Whether what stands between two of these is a row, and no comment.
     pub fn is_row(self, row: &str) -> bool {
         match self {
-            Group::Scripts | Group::Histories | Group::Calls | Group::Seats => !row.is_empty(),
+            Group::Scripts | Group::Histories | Group::Joins | Group::Calls | Group::Seats =>
+                !row.is_empty(),
             _ => !row.is_empty() && !row.starts_with("# "),
         }
     }
@@ -97,15 +103,16 @@ impl Group {
         match self {
             Group::Scripts => row.split_once("----\n").unwrap_or((row, "")),
             Group::Histories => (row, histories::rows_of(row)),
-            Group::Calls | Group::Seats => (row, row),
+            Group::Joins | Group::Calls | Group::Seats => (row, row),
             _ => row.split_once(" => ").unwrap_or((row, "")),
         }
     }
 
-    /// The octets that are wanted: those of a text with escapes, but for histories and calls, which are wanted as they stand.
+    /// The octets that are wanted: those of a text with escapes, but for histories and calls, which are wanted as they
+    /// stand.
     pub fn wanted(self, alloc: Global, wanted: &str) -> Result<Vec<u8>, AllocError> {
         match self {
-            Group::Histories | Group::Calls | Group::Seats => {
+            Group::Histories | Group::Joins | Group::Calls | Group::Seats => {
                 Vec::from_slice(alloc, wanted.as_bytes())
             }
             _ => rows::octets(alloc, wanted),
@@ -128,6 +135,7 @@ impl Group {
             Group::Lines => scripts::line(alloc, asked),
             Group::Scripts => scripts::script(alloc, asked),
             Group::Histories => histories::history(alloc, asked),
+            Group::Joins => joins::joins(alloc, asked),
             Group::Calls => cores::calls(alloc, asked),
             Group::Seats => seats::seats(rt, alloc, asked),
         }

@@ -4,8 +4,9 @@
 //! up to five times `NAME VALUE`, and behind the bar what the reader says once the entry came, which has to leave the
 //! spool safe. This is the count of free pages, what the first printer gets next (a page as its job and place, or a word)
 //! and the jobs that may be lent a page, as the digits of one number. An entry that may not come is `refused`, and the next
-//! line goes on without it. At its end, and where it is rotated, a history has to be legal. `state QUEUE short WORDS`, `state QUEUE long WORDS` and `removal QUEUE AGENT WORDS` are no
-//! entries: behind their bar stands the text that answers them.
+//! line goes on without it. At its end, and where it is rotated, a history has to be legal and to leave joined. `state QUEUE
+//! short WORDS`, `state QUEUE long WORDS` and `removal QUEUE AGENT WORDS` are no entries: behind their bar stands the text that
+//! answers them.
 //!
 //! A line `base ACCEPTED RESERVED CLOSED STOPPED ..`, of numbers and then 0 or 1 each, has the history begin from that
 //! base. A line `rotated` has it go on from the base after it, and is refused where a job is held.
@@ -14,7 +15,7 @@ use crate::entries::{entry, number};
 use crate::rows::{escaped, word, words};
 use account::{Act, Base, Entry};
 use config_values::Config;
-use history_legality::{free_pages, is_legal, is_safe_now, may};
+use history_legality::{free_pages, is_legal, is_safe_now, leaves_joined, may};
 use history_reader::{Next, State, next_page, now, rotated};
 use history_texts::{removal_text, state_text};
 use std::alloc::{AllocError, Global};
@@ -36,9 +37,16 @@ impl Account {
         now(alloc, config, &self.base, self.entries.as_slice())
     }
 
-    /// Whether each of its entries met its conditions.
-    fn is_legal(&self, alloc: Global, config: &Config) -> Result<bool, AllocError> {
-        is_legal(alloc, config, &self.base, self.entries.as_slice())
+    /// What is wrong where an entry didn't meet its conditions, or what was handed isn't joined.
+    fn fault(&self, alloc: Global, config: &Config) -> Result<Option<&'static str>, AllocError> {
+        let entries = self.entries.as_slice();
+        if !is_legal(alloc, config, &self.base, entries)? {
+            return Ok(Some("not legal"));
+        }
+        if !leaves_joined(alloc, entries)? {
+            return Ok(Some("not joined"));
+        }
+        Ok(None)
     }
 }
 
@@ -67,8 +75,9 @@ pub fn history(alloc: Global, rows: &str) -> Result<Vec<u8>, AllocError> {
         told.extend_from_slice(row.as_bytes())?;
         told.push(b'\n')?;
     }
-    if !account.is_legal(alloc, &config)? {
-        told.extend_from_slice(b"not legal\n")?;
+    if let Some(fault) = account.fault(alloc, &config)? {
+        told.extend_from_slice(fault.as_bytes())?;
+        told.push(b'\n')?;
     }
     Ok(told)
 }
@@ -170,8 +179,8 @@ fn rotate(alloc: Global, config: &Config, account: &mut Account) -> Result<Strin
     if !state.jobs.is_empty() || state.accepted > u128::from(u64::MAX) {
         return String::from_str(alloc, "refused");
     }
-    if !account.is_legal(alloc, config)? {
-        return String::from_str(alloc, "not legal");
+    if let Some(fault) = account.fault(alloc, config)? {
+        return String::from_str(alloc, fault);
     }
     account.base = rotated(alloc, &state)?;
     account.entries.clear();

@@ -10,6 +10,7 @@ mod desk;
 mod entries;
 mod group;
 mod histories;
+mod joins;
 mod kept;
 mod lines;
 mod rows;
