@@ -5,7 +5,7 @@ use crate::sink::{Print, Sink};
 use crate::violation::Violation;
 use account::{Base, Entry, Outline, Segment, Turn};
 use config_values::Config;
-use history_legality::is_legal;
+use history_legality::{is_legal, leaves_joined};
 use history_reader::{State, now, rotated};
 use std::alloc::{AllocError, Global};
 
@@ -116,8 +116,11 @@ impl Audit {
 
     /// Where the entries of a segment, the newest first, leave the spool.
     ///
-    /// NotLegal; Memory.
+    /// NotJoined; NotLegal; Memory.
     fn state(&self, number: u64, entries: &[Entry]) -> Result<State, Violation> {
+        if !leaves_joined(self.alloc, entries)? {
+            return Err(Violation::NotJoined(number));
+        }
         if !is_legal(self.alloc, &self.config, &self.base, entries)? {
             return Err(Violation::NotLegal(number));
         }
@@ -126,7 +129,7 @@ impl Audit {
 
     /// Checks the next segment of the account.
     ///
-    /// NotNext; OtherBase; NotLegal; JobHeld; Memory.
+    /// NotNext; OtherBase; NotJoined; NotLegal; JobHeld; Memory.
     pub fn add(&mut self, segment: Segment) -> Result<(), Violation> {
         if !self.is_next(&segment) {
             return Err(Violation::NotNext(segment.number));

@@ -22,8 +22,8 @@ use std::sync::ledger::{Blank, Ledger};
 use std::thread;
 use std::thread::Threads;
 
-/// How many seats there are for sessions. Each is a thread's but one, which is the operator's.
-const SEATS: u32 = 9;
+/// How many seats there are for sessions: those of the threads that serve them, the operator's, and that of who watches.
+const SEATS: u32 = 10;
 
 /// What a spool is made for.
 const CONFIG: &[u8] = b"pages = 24\npage_size = 256\nmax_jobs = 12\naccount = 60000\n\
@@ -57,9 +57,9 @@ fn hosts_at<E: SpoolLedger, K: Ledger, H: Ledger>(
     Ok(hosts)
 }
 
-/// The operator at the last of these seats, and those who serve sessions at the others.
+/// The operator at the last of these seats, who watches at the one before, and those who serve sessions at the others.
 ///
-/// SeatMissing where there is none; Memory.
+/// SeatMissing where there aren't two; Memory.
 fn front_at<E: SpoolLedger, K: Ledger, H: Ledger>(
     alloc: Global,
     audit: Audit,
@@ -68,8 +68,10 @@ fn front_at<E: SpoolLedger, K: Ledger, H: Ledger>(
 ) -> Result<Front<E, K, H>, Violation> {
     let (mut plan, mut seats) = (plan, seats);
     let operator = seats.pop().ok_or(Violation::SeatMissing)?;
+    let watch = seats.pop().ok_or(Violation::SeatMissing)?;
     Ok(Front {
         operator,
+        watch,
         hosts: hosts_at(alloc, &mut plan.draws, seats)?,
         audit,
         figures: Figures::of_spools(1),
@@ -121,14 +123,16 @@ fn run<
     Ok(printers?)
 }
 
-/// The seats of those who serve sessions, and of the operator.
+/// The seats of those who serve sessions, of the operator, and of who watches.
 fn session_seats<E: SpoolLedger, K: Ledger, H: Ledger>(
     alloc: Global,
     operator: SessionSeat<E, K, H>,
+    watch: SessionSeat<E, K, H>,
     hosts: Vec<Host<E, K, H>>,
 ) -> Result<Vec<SessionSeat<E, K, H>>, AllocError> {
     let mut seats = Vec::new(alloc);
     seats.push(operator)?;
+    seats.push(watch)?;
     for host in hosts {
         seats.push(host.seat)?;
     }
@@ -164,12 +168,13 @@ fn finish<E: SpoolLedger, K: Ledger, H: Ledger>(
     let ends = front.ends();
     let Front {
         operator,
+        watch,
         hosts,
         mut audit,
         mut figures,
         plan: _,
     } = front;
-    let sessions = session_seats(alloc, operator, hosts)?;
+    let sessions = session_seats(alloc, operator, watch, hosts)?;
     let (printers, sinks) = printer_seats(alloc, printers)?;
     match spool.finish(sessions, printers) {
         Ok(segment) => audit.add(segment)?,

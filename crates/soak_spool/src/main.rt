@@ -16,6 +16,7 @@ mod rounds;
 mod sink;
 mod talks;
 mod violation;
+mod watch;
 
 use draws::Draws;
 use figures::Figures;

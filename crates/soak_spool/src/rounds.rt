@@ -7,6 +7,7 @@ use crate::draws::Draws;
 use crate::figures::{Ends, Figures};
 use crate::hosts::Host;
 use crate::violation::Violation;
+use crate::watch::{Round, watch};
 use session::SessionSeat;
 use shared_spool::{SharedSpool, SpoolLedger};
 use std::rt::Clock;
@@ -32,11 +33,13 @@ pub struct Plan {
     pub rounds: u32,
 }
 
-/// Who starts the stopped printers of a spool and rotates its account, and those who serve its
-/// sessions.
+/// Who starts the stopped printers of a spool and rotates its account, who watches, and those who
+/// serve its sessions.
 #[derive(Drop)]
 pub struct Front<E: SpoolLedger, K: Ledger, H: Ledger> {
     pub operator: SessionSeat<E, K, H>,
+    /// The seat of who watches the others.
+    pub watch: SessionSeat<E, K, H>,
     pub hosts: Vec<Host<E, K, H>>,
     pub audit: Audit,
     pub figures: Figures,
@@ -89,7 +92,7 @@ impl<E: SpoolLedger + Send + Sync, K: Ledger + Send + Sync, H: Ledger + Send + S
 > {
     /// Serves the sessions of a round, until they are over and no job is held.
     ///
-    /// Memory.
+    /// SessionWaits; PrinterWaits; OperatorWaits; Memory.
     fn serve<R: AllocGlobal + Clock + Threads + Wait + Sync>(
         &mut self,
         rt: &R,
@@ -99,8 +102,9 @@ impl<E: SpoolLedger + Send + Sync, K: Ledger + Send + Sync, H: Ledger + Send + S
         let alloc = rt.alloc();
         let hosts = mem::replace(&mut self.hosts, Vec::new(alloc));
         let are_over = AtomicBool::new(false);
-        let operator = &mut self.operator;
-        let (hosts, ()) = thread::join(
+        let round = Round::new();
+        let (operator, seat) = (&mut self.operator, &mut self.watch);
+        let (hosts, watched) = thread::join(
             rt,
             || {
                 let hosts = thread::map_vec(
@@ -111,10 +115,20 @@ impl<E: SpoolLedger + Send + Sync, K: Ledger + Send + Sync, H: Ledger + Send + S
                 are_over.store(true, Ordering::SeqCst);
                 hosts
             },
-            || operate(rt, spool, operator, &are_over, close_after),
+            || {
+                let ((), watched) = thread::join(
+                    rt,
+                    || {
+                        operate(rt, spool, operator, &are_over, close_after);
+                        round.end(rt);
+                    },
+                    || watch(rt, spool, seat, &round),
+                );
+                watched
+            },
         );
         self.hosts = hosts?;
-        Ok(())
+        watched
     }
 
     /// Checks that all pages are free.
@@ -149,7 +163,7 @@ impl<E: SpoolLedger + Send + Sync, K: Ledger + Send + Sync, H: Ledger + Send + S
     /// Has rounds of sessions served. The account is rotated between some of them; the last may be
     /// cut off by a close.
     ///
-    /// PageMissing; NotRotated; what is wrong with a segment; Memory.
+    /// SessionWaits; PrinterWaits; OperatorWaits; PageMissing; NotRotated; what is wrong with a segment; Memory.
     pub fn rounds<R: AllocGlobal + Clock + Threads + Wait + Sync>(
         &mut self,
         rt: &R,

@@ -10,6 +10,9 @@ pub enum Violation {
     /// An entry of a segment doesn't meet its conditions on those before it.
     #[error("segment {0}: an entry is not legal")]
     NotLegal(u64),
+    /// What was handed of a sender's jobs in a queue isn't joined job by job.
+    #[error("segment {0}: what a sender's jobs left in a queue is not joined")]
+    NotJoined(u64),
     /// A segment's number, or the sums over those before it, aren't those that follow from these.
     #[error("segment {0}: it doesn't follow on the segment before it")]
     NotNext(u64),
@@ -35,6 +38,16 @@ pub enum Violation {
     /// A printer's worker ended in another way than by the spool's close.
     #[error("printer {printer}: its worker ended with {ending:?}")]
     WorkerEnded { printer: u32, ending: Ending },
+    /// Nothing went on for seconds, though a page would have been lent to this job.
+    #[error("job {0}: its session waits though a page would be lent to it")]
+    SessionWaits(u64),
+    /// Nothing went on for seconds though jobs are held, and no page would have been lent to one: so a page is next for a printer,
+    /// or the operator doesn't start one that is stopped.
+    #[error("jobs are held, and nothing goes on: a printer waits though a page is next for it, or isn't started")]
+    PrinterWaits,
+    /// Nothing went on for seconds though no job is held.
+    #[error("a round doesn't end though no job is held")]
+    OperatorWaits,
     /// Not all seats came back.
     #[error("a seat is missing")]
     SeatMissing,

@@ -7,7 +7,18 @@ use std::time::{Clock, Duration};
 /// How many seconds a thread waits for what another one is to tell.
 const LIMIT_SECONDS: u64 = 10;
 
-/// What a thread tells the others. Sessions and printers are numbered from 0.
+/// With what a wait through a seat ended.
+#[derive(Clone, Copy, PartialEq, Eq)]
+pub enum Answer {
+    /// With a page.
+    Page,
+    /// With none, since the job or the spool has ended.
+    NoPage,
+    /// With no job held or a printer stopped.
+    Idle,
+}
+
+/// What a thread tells the others. Sessions, printers and waiters are numbered from 0.
 #[derive(Clone, Copy, PartialEq, Eq)]
 pub enum Mark {
     /// All is done for so many octets of a session, and it reads on.
@@ -24,6 +35,12 @@ pub enum Mark {
     Back { printer: usize, pages: usize },
     /// The worker of a printer has ended.
     Worked { printer: usize },
+    /// A waiter waits next.
+    Waits { waiter: usize },
+    /// A waiter waits no longer.
+    Gone { waiter: usize },
+    /// A waiter went on, with this.
+    Went { waiter: usize, answer: Answer },
     /// So many cues are done.
     Done { cues: usize },
     /// The director has closed the spool. Nobody waits for anything else from then on.

@@ -15,7 +15,7 @@ use std::sync::ledger::Ledger;
 use std::time::Clock;
 
 /// The queue of each job.
-const QUEUE: &[u8] = b"lp";
+pub const QUEUE: &[u8] = b"lp";
 
 /// The control file of each job.
 const CONTROL: &[u8] = b"Hh1\nPann\nfdfA001h1\n";
@@ -31,7 +31,7 @@ fn filled(mut page: PageTicket, octets: &[u8]) -> Option<FilledPage> {
 }
 
 /// Has a page lent to a job and puts it with these octets. None where a call is refused.
-fn put<R: Wait, E: SpoolLedger, K: Ledger, H: Ledger>(
+pub fn put<R: Wait, E: SpoolLedger, K: Ledger, H: Ledger>(
     rt: &R,
     spool: &SharedSpool<E, K, H>,
     seat: &mut SessionSeat<E, K, H>,

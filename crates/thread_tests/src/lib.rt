@@ -9,17 +9,25 @@ mod called;
 #[cfg(test)]
 mod closing;
 #[cfg(test)]
+mod director;
+#[cfg(test)]
 mod ends;
 #[cfg(test)]
 mod jobs;
 #[cfg(test)]
 mod report;
 #[cfg(test)]
+mod rings;
+#[cfg(test)]
 mod scene;
 #[cfg(test)]
 mod sessions;
 #[cfg(test)]
 mod stage;
+#[cfg(test)]
+mod turns;
+#[cfg(test)]
+mod waiters;
 #[cfg(test)]
 mod waiting;
 #[cfg(test)]

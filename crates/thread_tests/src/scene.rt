@@ -6,6 +6,7 @@ use crate::board::{Board, Mark};
 use crate::called::{print, send};
 use crate::ends::{Client, Device, Reader, Sink, Way, Writer};
 use crate::report::{PrinterReport, SessionReport};
+use crate::turns::Pair;
 use printer_worker::work;
 use session::serve;
 use shared_spool::{Pages, PrinterSeat, SessionSeat, SharedSpool, SpoolLedger};
@@ -57,6 +58,7 @@ pub struct Scene<'a> {
 pub struct Stage<'a, R: Wait, E: SpoolLedger, K: Ledger, H: Ledger> {
     pub rt: &'a R,
     pub board: &'a Board,
+    pub pair: &'a Pair,
     pub spool: &'a SharedSpool<E, K, H>,
 }
 
@@ -80,7 +82,7 @@ pub struct Outcome<E: SpoolLedger, K: Ledger, H: Ledger> {
 
 impl<E: SpoolLedger, K: Ledger, H: Ledger> Outcome<E, K, H> {
     /// Nothing came back.
-    fn new(alloc: Global) -> Outcome<E, K, H> {
+    pub fn new(alloc: Global) -> Outcome<E, K, H> {
         Outcome {
             session_seats: Vec::new(alloc),
             printer_seats: Vec::new(alloc),

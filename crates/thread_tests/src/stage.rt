@@ -4,9 +4,12 @@ ghost use Rattle.std.specs.Prelude.{◌≡◌, ◌+◌};
 ghost use Rattle.config_values.specs.Config.{printer_count};
 
 use crate::board::{Board, Mark};
+use crate::director::Step;
 use crate::ends::{Client, Device};
 use crate::report::Report;
 use crate::scene::{Cue, Missing, Outcome, Scene, Seats, Stage, act};
+use crate::turns::Pair;
+use crate::waiters::{sessions_in, wait_through};
 use config_values::Config;
 use shared_spool::{
     Opened, PrinterSeat, Segment, SessionSeat, SharedSpool, SpoolLedger, Unfinished,
@@ -34,6 +37,33 @@ fn config_of(alloc: Global, printers: usize) -> Option<Config> {
     )
     .ok()?;
     spool_config::read(alloc, text.as_bytes()).ok()
+}
+
+/// What happens at a spool.
+#[derive(Clone, Copy)]
+pub enum Script<'a> {
+    /// Sessions and printers act.
+    Scene(Scene<'a>),
+    /// Waiters wait while a director does these steps.
+    Steps(&'a [Step]),
+}
+
+impl Script<'_> {
+    /// How many seats for sessions it wants beside the director's, and how many printers.
+    fn seats(&self) -> (usize, usize) {
+        match self {
+            Script::Scene(scene) => (scene.clients.len(), scene.devices.len()),
+            Script::Steps(steps) => (sessions_in(*steps), 2),
+        }
+    }
+
+    /// Which seat is missing at first.
+    fn missing(&self) -> Missing {
+        match self {
+            Script::Scene(scene) => scene.missing,
+            Script::Steps(_) => Missing::Nothing,
+        }
+    }
 }
 
 /// The ledgers of a spool, before they are opened.
@@ -78,13 +108,13 @@ fn finish<E: SpoolLedger, K: Ledger, H: Ledger>(
     Some((segment, Some(told)))
 }
 
-/// Has a scene act at a spool of these ledgers.
+/// Has it happen at a spool of these ledgers.
 fn perform_at<
     R: AllocGlobal + Clock + Threads + Wait + Sync,
     E: SpoolLedger + Send + Sync,
     K: Ledger + Send + Sync,
     H: Ledger + Send + Sync,
->(rt: &R, scene: Scene<'_>, config: Config, count: u32, blanks: Blanks) -> Option<Report>
+>(rt: &R, what: Script<'_>, config: Config, count: u32, blanks: Blanks) -> Option<Report>
     requires entries { (blanks.entries.name ≡ E.name) × (blanks.entries.parts ≡ E.parts) }
     requires kinds { (blanks.kinds.name ≡ K.name) × (blanks.kinds.parts ≡ K.parts) }
     requires handed { (blanks.handed.name ≡ H.name) × (blanks.handed.parts ≡ H.parts) }
@@ -104,9 +134,11 @@ fn perform_at<
         printers,
     } = SharedSpool::<E, K, H>::new(alloc, entries, kinds, handed, config, count).ok()?;
     let board = Board::new(alloc);
+    let pair = Pair::new();
     let stage = Stage {
         rt,
         board: &board,
+        pair: &pair,
         spool: &spool,
     };
     let seats = Seats {
@@ -114,7 +146,10 @@ fn perform_at<
         sessions,
         printers,
     };
-    let outcome = act(&stage, scene, seats)?;
+    let outcome = match what {
+        Script::Scene(scene) => act(&stage, scene, seats)?,
+        Script::Steps(steps) => wait_through(&stage, steps, seats)?,
+    };
     let Outcome {
         mut session_seats,
         printer_seats,
@@ -125,7 +160,7 @@ fn perform_at<
     let seat = session_seats.last_mut()?;
     let pages = spool.pages_by_place(rt, seat);
     let held = spool.held(rt, seat);
-    let (account, missed) = finish(alloc, spool, scene.missing, session_seats, printer_seats)?;
+    let (account, missed) = finish(alloc, spool, what.missing(), session_seats, printer_seats)?;
     Some(Report {
         sessions,
         printers,
@@ -139,22 +174,32 @@ fn perform_at<
     })
 }
 
-/// Has a scene act at a spool of its own. None where memory is refused, a thread can't be made or a
+/// Has it happen at a spool of its own. None where memory is refused, a thread can't be made or a
 /// seat doesn't come back.
-pub fn perform<R: AllocGlobal + Clock + Threads + Wait + Sync>(
+pub fn happen<R: AllocGlobal + Clock + Threads + Wait + Sync>(
     rt: &R,
-    scene: Scene<'_>,
+    what: Script<'_>,
 ) -> Option<Report> {
-    let config = config_of(rt.alloc(), scene.devices.len())?;
+    let (sessions, printers) = what.seats();
+    let config = config_of(rt.alloc(), printers)?;
     // One more for the director.
-    let count = u32::try_from(scene.clients.len()).ok()?.checked_add(1)?;
+    let count = u32::try_from(sessions).ok()?.checked_add(1)?;
     let seats = u64::from(count) + u64::from(config.printer_count());
     let blanks = Blanks {
         entries: Blank::new(seats),
         kinds: Blank::new(seats),
         handed: Blank::new(seats),
     };
-    perform_at::<R, Brand, Brand, Brand>(rt, scene, config, count, blanks)
+    perform_at::<R, Brand, Brand, Brand>(rt, what, config, count, blanks)
+}
+
+/// Has a scene act at a spool of its own. None where memory is refused, a thread can't be made or a
+/// seat doesn't come back.
+pub fn perform<R: AllocGlobal + Clock + Threads + Wait + Sync>(
+    rt: &R,
+    scene: Scene<'_>,
+) -> Option<Report> {
+    happen(rt, Script::Scene(scene))
 }
 
 /// Has these sessions and printers act, with these cues, and gives what came of it: all marks came

@@ -1,4 +1,4 @@
-use Rattle.thread_tests.proofs.stage.perform.Given as goal
+use Rattle.thread_tests.proofs.stage.happen.Given as goal
 
 abbrev pub ghosts-perform_at-E-Ledger : goal.ghosts-perform_at-E-Ledger
 ghosts-perform_at-E-Ledger g a = record { name = a.blanks.entries.name; parts = a.blanks.entries.parts }
