@@ -1,0 +1,98 @@
+//! What a connection's peer did, asked without waiting and from any thread.
+
+ghost use Rattle.std.specs.Prelude.{◌≡◌, ◌+◌, ◌-◌, ◌<◌, ◌≤◌, ◌↔◌, min, length, IfSome, IsTrue};
+
+use libc::net::{
+    IPPROTO_TCP, MSG_DONTWAIT, MSG_PEEK, POLLERR, POLLHUP, POLLIN, POLLNVAL, POLLRDHUP,
+    SO_KEEPALIVE, SOL_SOCKET, TCP_KEEPCNT, TCP_KEEPIDLE, TCP_KEEPINTVL, poll, recv, setsockopt,
+};
+use libc::types::pollfd;
+use std::net::TcpStream;
+use std::os::fd::AsRawFd;
+
+/// What a peer did.
+#[derive(Clone, Copy)]
+pub enum Peer {
+    /// It may send and is there, as far as is known.
+    There,
+    /// It has ended its own sending, and may still read.
+    EndedSending,
+    /// The connection is no more.
+    Gone,
+}
+
+/// Asks the system what a stream's peer did, without waiting, from any thread. It takes no error away.
+pub fn ask_peer(stream: &TcpStream) -> Peer {
+    let mut asked = [pollfd {
+        fd: stream.as_raw_fd(),
+        events: POLLIN | POLLRDHUP,
+        revents: 0,
+    }];
+    if poll(&mut asked, 0) < 0 {
+        return Peer::There;
+    }
+    let told = asked[0].revents;
+    if told & (POLLERR | POLLHUP | POLLNVAL) != 0 {
+        Peer::Gone
+    } else if told & POLLRDHUP != 0 {
+        Peer::EndedSending
+    } else {
+        Peer::There
+    }
+}
+
+/// How many octets have come that nobody has read, counted as far as this buffer has room for. None where the connection is
+/// broken, or where none has come and more may come.
+pub fn unread_octets(stream: &TcpStream, buffer: &mut [u8]) -> Option<usize>
+    ensures { IfSome result (λ count. count ≤ length buffer.old) }
+{
+    let count = unsafe { recv(stream.as_raw_fd(), buffer, MSG_PEEK | MSG_DONTWAIT) };
+    usize::try_from(count).ok()
+}
+
+/// What is known of a session that waits for a page, while its peer sends no more.
+#[derive(Clone, Copy)]
+pub struct Standing {
+    /// Octets of the connection that nobody has read.
+    pub unread: u64,
+    /// Octets that its last read gave.
+    pub last: u64,
+    /// Octets that all its reads gave.
+    pub received: u64,
+    /// Octets of files that pages of this connection's jobs have.
+    pub taken: u64,
+    /// Octets that its open file lacks.
+    pub left: u64,
+}
+
+/// Whether what came may still end the open file, with the octet 00 after it: what the session has read and not used is no more
+/// than its last read, nor than what is in no page.
+pub fn may_end(standing: &Standing) -> bool
+    ensures { IsTrue result ↔ standing.now.left < standing.now.unread
+        + min standing.now.last (standing.now.received - standing.now.taken) }
+{
+    let in_hand = standing
+        .last
+        .min(standing.received.saturating_sub(standing.taken));
+    u128::from(standing.left) < u128::from(standing.unread) + u128::from(in_hand)
+}
+
+/// Has the system ask a silent peer each so many seconds whether it is there, and end the connection where it isn't three times.
+pub fn keep_asking(stream: &TcpStream, seconds: u8) -> bool {
+    let fd = stream.as_raw_fd();
+    let one = number(1);
+    let three = number(3);
+    let seconds = number(seconds);
+    let counted = unsafe { setsockopt(fd, IPPROTO_TCP, TCP_KEEPCNT, &three, 4) } == 0;
+    let idle = unsafe { setsockopt(fd, IPPROTO_TCP, TCP_KEEPIDLE, &seconds, 4) } == 0;
+    let between = unsafe { setsockopt(fd, IPPROTO_TCP, TCP_KEEPINTVL, &seconds, 4) } == 0;
+    let on = unsafe { setsockopt(fd, SOL_SOCKET, SO_KEEPALIVE, &one, 4) } == 0;
+    counted && idle && between && on
+}
+
+/// The octets of a small number, as C keeps an int.
+fn number(value: u8) -> [u8; 16] {
+    let mut octets = [0u8; 16];
+    octets[0] = value;
+    octets
+}
