@@ -29,6 +29,12 @@ WritesRotations-append was then_ now a b = (
       (Writes-append was then_ now (rotation_octets a.0) (rotation_octets b.0) a.1 b.1),
 )
 
+-- rotations after rotations, where all was printed until now
+pub WritesRotations-after : {A B : Type 0} (told : Result (Unit {0}) A) (result : Result (Unit {0}) B) (was then_ now : Option (List ℕ)) → OnOk told (WritesRotations was then_) → OnOk result (told ≡ Ok tt) → OnOk result (WritesRotations then_ now) → OnOk result (WritesRotations was now)
+WritesRotations-after {A} told (Ok v) was then_ now before is after =
+    WritesRotations-append was then_ now (subst (λ (t : Result (Unit {0}) A). OnOk t (WritesRotations was then_)) is before) after
+WritesRotations-after told (Err e) was then_ now before is after = tt
+
 -- rotations between the first line and the last one
 pub WritesAll-of : (was listening rotated now : Option (List ℕ)) (port entries : ℕ) → Writes was listening (line_octets (Listening port)) → WritesRotations listening rotated → Writes rotated now (line_octets (Closed entries)) → WritesAll was now
 WritesAll-of was listening rotated now port entries first between last = (

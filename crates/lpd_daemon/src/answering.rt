@@ -1,55 +1,89 @@
 //! Connections, each served through a session's seat.
 
-use crate::listening::Visit;
-use crossbeam_channel::Receiver;
+use crate::posts::{Meter, Posts};
 use log::{Log, warn};
 use lpd_script::{StreamReader, StreamWriter};
+use mio::Waker;
+use server_edge::{Desk, Kind, Served, Visit, keep_asking};
 use session::{SessionEnd, SessionSeat, SharedSpool};
 use shared_spool::SpoolLedger;
 use std::alloc::Global;
 use std::io;
 use std::io::Read;
-use std::net::{IpAddr, Shutdown, SocketAddr, TcpStream};
+use std::net::{Shutdown, SocketAddr, TcpStream};
+use std::rt::Clock;
 use std::sync::Wait;
 use std::sync::ledger::Ledger;
-use std::time::Duration;
+use std::time::{Duration, Instant};
 
 /// How many octets that come after the end of a session are passed over at once, at most.
 const PIECE: usize = 4_096;
 
-/// How often octets that come after the end of a session are read, at most.
-const MOST_PIECES: u32 = 256;
+/// How many octets that come after the end of a session are passed over, at most.
+const MOST_PASSED: usize = 1 << 20;
+
+/// For how many seconds octets that come after the end of a session are passed over, at most.
+const LEAVE: u64 = 5;
 
 /// How many seconds the peer is waited for at each of these reads.
 const PATIENCE: u64 = 1;
 
-/// The number that stands for a host: the four octets of its address.
-fn sender_of(peer: SocketAddr) -> u32 {
-    match peer.ip() {
-        IpAddr::V4(address) => u32::from(address),
-        IpAddr::V6(_) => 0,
-    }
+/// For how many seconds the peer of a connection that brings no job may be silent, or not read, where a session serves such
+/// ones alone.
+const QUESTION: u64 = 5;
+
+/// After how many seconds of silence the system asks a peer whether it is there.
+const KEEPALIVE: u8 = 30;
+
+/// Where sessions get their connections, and what they do with them.
+#[derive(Clone, Copy)]
+pub(crate) struct Front<'a> {
+    pub(crate) desk: &'a Desk<Visit>,
+    pub(crate) waker: &'a Waker,
+    pub(crate) posts: &'a Posts,
+    pub(crate) served: Served,
+    /// For how many seconds a peer may be silent, or not read. At 0 for any time.
+    pub(crate) silence: u64,
+    /// How many octets a second a peer has to send.
+    pub(crate) slowest: u64,
 }
 
-/// Has octets sent at once, and limits how many seconds the peer may be silent or not read.
-fn prepare(stream: &TcpStream, silence: Option<u64>) -> io::Result<()> {
-    stream.set_nodelay(true)?;
-    let limit = silence
-        .filter(|seconds| *seconds != 0)
-        .map(Duration::from_secs);
-    stream.set_read_timeout(limit)?;
-    stream.set_write_timeout(limit)
+impl Front<'_> {
+    /// For how many seconds a peer may be silent here, or not read.
+    fn patience(&self) -> Option<Duration> {
+        let seconds = match self.served {
+            Served::All => self.silence,
+            Served::Questions => QUESTION,
+        };
+        if seconds == 0 {
+            return None;
+        }
+        Some(Duration::from_secs(seconds))
+    }
+
+    /// Has octets sent at once and peers asked whether they are there, and limits how long a peer may be silent or not read.
+    fn prepare(&self, stream: &TcpStream) -> io::Result<()> {
+        stream.set_nodelay(true)?;
+        keep_asking(stream, KEEPALIVE);
+        let limit = self.patience();
+        stream.set_read_timeout(limit)?;
+        stream.set_write_timeout(limit)
+    }
 }
 
 /// Ends what is sent, and passes over what the peer still sends, for a while: a connection that is closed with octets unread
 /// may take the last answer away from its peer.
-fn take_leave(stream: &TcpStream) -> io::Result<()> {
+fn take_leave<R: Clock>(rt: &R, stream: &TcpStream) -> io::Result<()> {
     stream.shutdown(Shutdown::Write)?;
     stream.set_read_timeout(Some(Duration::from_secs(PATIENCE)))?;
+    let start = Instant::now(rt)?;
     let mut passed_over = [0u8; PIECE];
     let mut stream = stream;
-    for _ in 0..MOST_PIECES {
-        if stream.read(&mut passed_over)? == 0 {
+    let mut passed = 0usize;
+    for _ in 0..MOST_PASSED {
+        let count = stream.read(&mut passed_over)?;
+        passed = passed.saturating_add(count);
+        if count == 0 || passed >= MOST_PASSED || start.elapsed(rt)?.as_secs() >= LEAVE {
             break;
         }
     }
@@ -71,43 +105,62 @@ fn tell<R: Log>(rt: &R, peer: SocketAddr, end: SessionEnd) {
 }
 
 /// Serves a connection.
-fn answer<E: SpoolLedger, K: Ledger, H: Ledger, R: Wait + Log>(
+fn answer<E: SpoolLedger, K: Ledger, H: Ledger, R: Clock + Wait + Log>(
     rt: &R,
     alloc: Global,
     spool: &SharedSpool<E, K, H>,
     seat: SessionSeat<E, K, H>,
-    visit: Visit,
-    silence: Option<u64>,
+    visit: &Visit,
+    front: Front<'_>,
 ) -> SessionSeat<E, K, H> {
-    let Visit { stream, peer } = visit;
-    if let Err(error) = prepare(&stream, silence) {
+    let (stream, peer) = (&visit.stream, visit.peer);
+    if let Err(error) = front.prepare(stream) {
         warn!(rt; "{peer}: {error}");
         return seat;
     }
-    let mut reader = StreamReader::new(&stream);
-    let mut writer = StreamWriter::new(&stream);
-    let sender = sender_of(peer);
-    let (seat, end) = session::serve(rt, alloc, spool, seat, sender, &mut reader, &mut writer);
+    let number = seat.number();
+    front.posts.begin(rt, number, stream);
+    let meter = Meter::new(rt, stream, front.posts, number, front.slowest);
+    let mut reader = StreamReader::new(meter);
+    let mut writer = StreamWriter::new(stream);
+    let (seat, end) = session::serve(
+        rt,
+        alloc,
+        spool,
+        seat,
+        visit.host(),
+        &mut reader,
+        &mut writer,
+    );
+    front.posts.end(rt, number);
     tell(rt, peer, end);
     if matches!(end, SessionEnd::Finished | SessionEnd::Refused(_)) {
         // A peer that is gone already has lost nothing.
-        let _ = take_leave(&stream);
+        let _ = take_leave(rt, stream);
     }
     seat
 }
 
 /// Serves connections, one after another, until no more can come.
-pub(crate) fn answer_all<E: SpoolLedger, K: Ledger, H: Ledger, R: Wait + Log>(
+pub(crate) fn answer_all<E: SpoolLedger, K: Ledger, H: Ledger, R: Clock + Wait + Log>(
     rt: &R,
     alloc: Global,
     spool: &SharedSpool<E, K, H>,
     seat: SessionSeat<E, K, H>,
-    visits: &Receiver<Visit>,
-    silence: Option<u64>,
+    front: Front<'_>,
 ) -> SessionSeat<E, K, H> {
     let mut seat = seat;
-    for visit in visits.iter(rt) {
-        seat = answer(rt, alloc, spool, seat, visit, silence);
+    for _ in rt.forever() {
+        let came = front.desk.take(rt, front.served, || {
+            let _ = front.waker.wake();
+        });
+        let Some(visit) = came else {
+            break;
+        };
+        seat = answer(rt, alloc, spool, seat, &visit, front);
+        let (kind, host): (Kind, u32) = (visit.kind, visit.host());
+        drop(visit);
+        front.desk.leave(rt, front.served, kind, host);
     }
     seat
 }

@@ -1,34 +1,32 @@
-//! The listener, and the connections that it accepts.
+//! The listener, and the thread that hands its connections on.
 
-ghost use Rattle.std.specs.Prelude.{◌≡◌, OnOk, IfErr};
+ghost use Rattle.std.specs.Prelude.{◌≡◌, ℕ, OnOk, IfErr, Ok};
 ghost use Rattle.lpd_daemon.specs.Faults.{IsRunningFault, write_faults};
 ghost use Rattle.lpd_daemon.specs.Lines.{WritesRotations};
 ghost use Rattle.lpd_daemon.specs.declared.faults.Fault.TheVariants.{Network};
 
 use crate::faults::Fault;
-use crate::rotating::Rotation;
+use crate::lines::{Line, print};
+use crate::room::Room;
+use crate::rotating::{Rotated, Rotations, has_turn, rotate};
 use crate::settings::Settings;
-use crossbeam_channel::Sender;
-use log::{Log, warn};
+use log::{Log, error, warn};
 use lpd_commands::OctetWrite;
+use server_edge::{Desk, Lobby, Visit};
 use shared_spool::{SessionSeat, SharedSpool, SpoolLedger};
 use std::alloc::Global;
-use std::net::{Net, OpenListener, SocketAddr, TcpListener, TcpStream};
+use std::net::{Net, OpenListener, SocketAddr, TcpListener};
 use std::rt::Clock;
 use std::sync::Wait;
 use std::sync::ledger::Ledger;
 use std::thread;
 use std::time::Duration;
 
-/// For how many milliseconds it is waited after a connection couldn't be accepted.
+/// For how many milliseconds it is waited after the system didn't tell what happened.
 const PAUSE: u64 = 100;
 
-/// A connection that was accepted.
-#[derive(Drop)]
-pub(crate) struct Visit {
-    pub(crate) stream: TcpStream,
-    pub(crate) peer: SocketAddr,
-}
+/// After how many milliseconds it is looked again whether jobs that wait are let in.
+const LOOK: u64 = 10;
 
 /// A listener at the address of the settings, and its port. Network where there can't be one.
 pub(crate) fn listen<R: Net>(rt: &R, settings: &Settings<'_>) -> Result<(R::Listener, u16), Fault>
@@ -44,71 +42,92 @@ pub(crate) fn listen<R: Net>(rt: &R, settings: &Settings<'_>) -> Result<(R::List
     }
 }
 
-/// The next connection. One that can't be accepted is logged and passed over.
-fn next_visit<R: Clock + Log + Wait>(rt: &R, listener: &TcpListener) -> Visit {
-    for _ in rt.forever() {
-        match listener.accept() {
-            Ok((stream, peer)) => return Visit { stream, peer },
-            Err(error) => {
-                warn!(rt; "a connection wasn't accepted: {error}");
-                thread::sleep(rt, Duration::from_millis(PAUSE));
-            }
-        }
+/// Prints that the account was rotated, where all was printed until now. Where it can't be printed that is logged at once, and
+/// nothing more is printed.
+fn announce<R: Log, W: OctetWrite>(
+    rt: &R,
+    alloc: Global,
+    output: &mut W,
+    told: Result<(), Fault>,
+    rotated: Rotated,
+) -> Result<(), Fault>
+    ensures before { OnOk result (told ≡ Ok tt) }
+    ensures written { OnOk result
+        (WritesRotations (W.written output.old) (W.written output.new)) }
+    ensures write_fault { (n : ℕ) → W.faults output.old ≡ write_faults n told
+        → W.faults output.new ≡ write_faults n result }
+    ensures fault { IfErr told IsRunningFault → IfErr result IsRunningFault }
+{
+    told?;
+    let line = Line::Rotated {
+        number: rotated.number,
+        entries: rotated.entries,
+    };
+    let printed = print(alloc, output, line);
+    if let Err(fault) = &printed {
+        error!(rt; "{fault}: nothing more is printed, and the server goes on");
     }
-    unreachable!()
+    printed
 }
 
-/// The thread that accepts connections and hands them on, and rotates the account in between.
+/// The thread that holds connections and hands them on, and rotates the account in between.
 #[derive(Drop)]
 pub(crate) struct Porter<'a, R, E: SpoolLedger, K: Ledger, H: Ledger> {
     pub(crate) rt: &'a R,
     pub(crate) alloc: Global,
     pub(crate) spool: &'a SharedSpool<E, K, H>,
     pub(crate) seat: SessionSeat<E, K, H>,
-    pub(crate) rotation: Rotation,
+    pub(crate) lobby: Lobby,
+    /// After how many connections the account is rotated.
+    pub(crate) every: Option<u64>,
+    /// Room in the account, where it is kept.
+    pub(crate) room: Option<Room>,
 }
 
 impl<'a, R: Clock + Log + Wait, E: SpoolLedger, K: Ledger, H: Ledger> Porter<'a, R, E, K, H> {
-    /// Accepts so many connections, and hands each on.
-    ///
-    /// Output where a line can't be written; Memory.
-    fn admit_each<W: OctetWrite>(
-        &mut self,
-        listener: &TcpListener,
-        connections: u64,
-        visits: &Sender<Visit>,
-        output: &mut W,
-    ) -> Result<(), Fault>
-        ensures written { OnOk result
-            (WritesRotations (W.written output.old) (W.written output.new)) }
-        ensures write_fault { W.faults output.new ≡ write_faults (W.faults output.old) result }
-        ensures fault { IfErr result IsRunningFault }
-    {
-        'connections: for handed_on in 0..connections {
-            let visit = next_visit(self.rt, listener);
-            self.rotation.before_next(
-                self.rt,
-                self.alloc,
-                self.spool,
-                &mut self.seat,
-                handed_on,
-                output,
-            )?;
-            if visits.send(self.rt, visit).is_err() {
-                return Err(Fault::Memory);
-            }
+    /// Whether new jobs are let in.
+    fn lets_jobs_in(&mut self) -> bool {
+        if !self.lobby.has_job() {
+            return true;
         }
-        Ok(())
+        match &mut self.room {
+            Some(room) => room.lets_jobs_in(self.rt, self.spool, &mut self.seat),
+            None => true,
+        }
     }
 
-    /// Accepts so many connections, and hands each on. The sender is the last one: no more can come then.
+    /// Waits for something to happen, or for a moment where jobs have to wait.
+    fn wait(&mut self, lets_jobs_in: bool) {
+        let limit = if lets_jobs_in { None } else { Some(LOOK) };
+        if let Err(error) = self.lobby.round(self.rt, self.alloc, limit) {
+            warn!(self.rt; "connections can't be looked at: {error}");
+            thread::sleep(self.rt, Duration::from_millis(PAUSE));
+        }
+    }
+
+    /// Hands a connection on, after so many others. What is answered is the rotation that was due before.
+    fn hand_on(&mut self, desk: &Desk<Visit>, visit: Visit, handed_on: u64) -> Option<Rotated> {
+        let rotated = if has_turn(self.every, handed_on) {
+            rotate(self.rt, self.spool, &mut self.seat)
+        } else {
+            None
+        };
+        let (kind, host, peer) = (visit.kind, visit.host(), visit.peer);
+        if desk.hand(self.rt, kind, host, visit).is_err() {
+            warn!(self.rt; "{peer}: memory was refused");
+        }
+        rotated
+    }
+
+    /// Holds connections and hands each on, until all that are to come have come. Says in lines when the account was rotated.
     ///
-    /// Output where a line can't be written; Memory. The spool is closed then.
+    /// A rotation after that isn't printed.
+    ///
+    /// Output where such a line couldn't be written, Memory where memory for it was refused: all have been handed on.
     pub(crate) fn admit<W: OctetWrite>(
         &mut self,
-        listener: TcpListener,
-        connections: u64,
-        visits: Sender<Visit>,
+        desk: &Desk<Visit>,
+        rotations: &Rotations,
         output: &mut W,
     ) -> Result<(), Fault>
         ensures written { OnOk result
@@ -116,11 +135,45 @@ impl<'a, R: Clock + Log + Wait, E: SpoolLedger, K: Ledger, H: Ledger> Porter<'a,
         ensures write_fault { W.faults output.new ≡ write_faults (W.faults output.old) result }
         ensures fault { IfErr result IsRunningFault }
     {
-        let admitted = self.admit_each(&listener, connections, &visits, output);
-        if admitted.is_err() {
-            self.close();
+        let mut told = Ok(());
+        let mut handed_on = 0u64;
+        'rounds: for _ in self.rt.forever() {
+            let mut rotated = rotations.next(self.rt);
+            if rotated.is_none() {
+                let lets_jobs_in = self.lets_jobs_in();
+                match self.lobby.next(self.rt, desk, lets_jobs_in) {
+                    Some(visit) => {
+                        rotated = self.hand_on(desk, visit, handed_on);
+                        handed_on = handed_on.saturating_add(1);
+                    }
+                    None if self.lobby.is_over() => break,
+                    None => self.wait(lets_jobs_in),
+                }
+            }
+            if let Some(rotated) = rotated {
+                told = announce(self.rt, self.alloc, output, told, rotated);
+            }
         }
-        admitted
+        told
+    }
+
+    /// Does what `admit` does where all threads were started, and nothing otherwise.
+    pub(crate) fn admit_if<W: OctetWrite>(
+        &mut self,
+        started: bool,
+        desk: &Desk<Visit>,
+        rotations: &Rotations,
+        output: &mut W,
+    ) -> Result<(), Fault>
+        ensures written { OnOk result
+            (WritesRotations (W.written output.old) (W.written output.new)) }
+        ensures write_fault { W.faults output.new ≡ write_faults (W.faults output.old) result }
+        ensures fault { IfErr result IsRunningFault }
+    {
+        if !started {
+            return Ok(());
+        }
+        self.admit(desk, rotations, output)
     }
 
     /// Closes the spool.

@@ -4,46 +4,65 @@ ghost use Rattle.std.specs.Prelude.{◌≡◌, ◌+◌, ℕ, OnOk, IfErr};
 ghost use Rattle.config_values.specs.Config.{printer_count};
 ghost use Rattle.lpd_daemon.specs.Faults.{IsOpeningFault, IsRunningFault, write_faults};
 ghost use Rattle.lpd_daemon.specs.Lines.{IsQuiet, WritesAll, line_octets};
+ghost use Rattle.lpd_daemon.specs.declared.faults.Fault.TheVariants.{Network};
 ghost use Rattle.lpd_daemon.specs.declared.lines.Line.TheVariants.{Closed};
 ghost use Rattle.lpd_commands.specs.Ends.{Writes};
 
 use crate::faults::Fault;
 use crate::lines::{Line, print};
 use crate::listening::{Porter, listen};
-use crate::rotating::Rotation;
+use crate::room::Room;
 use crate::settings::{MOST_SESSIONS, Settings};
 use crate::sink::FileSink;
-use crate::threads::{Crew, Seats};
+use crate::threads::{Crew, OTHERS, QUESTIONS, Seats};
 use config_values::Config;
 use log::Log;
 use lpd_commands::OctetWrite;
+use mio::Waker;
+use server_edge::{Lobby, descriptor_limit, places};
 use shared_spool::{Opened, SharedSpool, SpoolLedger};
 use std::alloc::Global;
 use std::fs::{File, Files, OpenOptions};
 use std::marker::Brand;
 use std::net::{Net, TcpListener, TcpStream};
+use std::os::unix::fs::FileTypeExt;
 use std::rt::Clock;
 use std::sync::Wait;
 use std::sync::ledger::{Blank, Ledger};
 use std::thread::Threads;
+use std::{fs, io};
+
+/// How many descriptors are kept for more than connections that wait.
+const KEPT: u64 = 64;
+
+/// Opens a printer's file at its end. A pipe is opened for reading too: so it doesn't wait for a reader, and one that ends and is
+/// started again stops no printer.
+fn open_sink<R: Files<File = File>>(rt: &R, path: &str) -> io::Result<File> {
+    let is_pipe = match fs::metadata(rt, path) {
+        Ok(metadata) => metadata.file_type().is_fifo(),
+        Err(_) => false,
+    };
+    let mut options = OpenOptions::new();
+    options.read(is_pipe).append(true).create(true);
+    options.open(rt, path)
+}
 
 /// Opens the files of so many printers in a directory, `printer-1` and so on, at their ends.
 ///
 /// PrinterFile with the path of the first that can't be opened; Memory.
-fn open_sinks<R: Files>(
+fn open_sinks<R: Files<File = File>>(
     rt: &R,
     alloc: Global,
     directory: &str,
     printers: u32,
-) -> Result<Vec<FileSink<R::File>>, Fault>
+) -> Result<Vec<FileSink<File>>, Fault>
     ensures { IfErr result IsOpeningFault }
 {
     let mut sinks = Vec::new(alloc);
     for printer in 0..printers {
         let number = printer + 1;
         let path = format!(in alloc; "{directory}/printer-{number}")?;
-        let mut options = OpenOptions::new();
-        match options.append(true).create(true).open(rt, path.as_str()) {
+        match open_sink(rt, path.as_str()) {
             Ok(file) => sinks.push(FileSink::new(file))?,
             Err(_) => return Err(Fault::PrinterFile(path)),
         }
@@ -80,29 +99,50 @@ struct Blanks {
     handed: Blank,
 }
 
+/// A lobby behind a listener, for so many connections, and what wakes its thread. So many descriptors are kept for others.
+/// Network where the system doesn't give what it takes.
+fn open_lobby<R: Net>(
+    rt: &R,
+    alloc: Global,
+    listener: TcpListener,
+    connections: Option<u64>,
+    kept: u64,
+) -> Result<(Lobby, Waker), Fault>
+    ensures { IfErr result (λ fault. fault ≡ Network) }
+{
+    let places = places(descriptor_limit(), kept).max(1);
+    match Lobby::new(rt, alloc, listener, places, connections.unwrap_or(u64::MAX)) {
+        Ok(lobby) => Ok(lobby),
+        Err(_) => Err(Fault::Network),
+    }
+}
+
 /// A server before its spool is opened.
 struct Server<'a, R> {
     rt: &'a R,
     alloc: Global,
     settings: Settings<'a>,
-    listener: TcpListener,
+    lobby: Lobby,
+    waker: Waker,
     port: u16,
     sinks: Vec<FileSink<File>>,
 }
 
 /// Runs a server: opens the printers' files in the directory of the settings, `printer-1` and so on, at their ends; listens,
-/// and prints `listening N` with the port; serves connections by `session::serve`, and has pages printed by
-/// `printer_worker::work`. Sessions that end neither as finished nor as closed are logged, with the peer's address.
+/// and prints `listening N` with the port; holds connections until their first line is there and a session is free; serves them by
+/// `session::serve`, and has pages printed by `printer_worker::work`. Sessions that end neither as finished nor as closed are
+/// logged, with the peer's address. Once a second jobs are ended that wait for a page and whose peers are gone.
 ///
-/// After each `rotate` connections, and where the account has no room left for a job of each queue in each connection that may
-/// bring one, it waits until no job is held or a printer is stopped, rotates the account, and prints `rotated K entries E` with
-/// the number and the entries of the segment. A rotation that is refused is logged.
+/// After each `rotate` connections it waits until no job is held or a printer is stopped, rotates the account, and prints
+/// `rotated K entries E` with the number and the entries of the segment. With `keep_room` it does so too as soon as no job is held,
+/// once a quarter of the account is counted. A rotation that is refused is logged.
 ///
 /// After `connections` connections it waits until their sessions have ended and no job is held or a printer is stopped, closes
 /// the spool, and prints `closed entries E` with the entries of all segments.
 ///
 /// PrinterFile where a printer's file can't be opened, before it listens; Network where it can't listen; Output where a line
-/// can't be written; Memory where memory or a thread is refused. A printer's file that fails later stops its printer.
+/// couldn't be written: after the first one it goes on to its end; Memory where memory or a thread is refused. A printer's file that
+/// fails later stops its printer.
 pub fn serve<
     R: Files<File = File>
         + Net<Listener = TcpListener, Stream = TcpStream>
@@ -125,8 +165,11 @@ pub fn serve<
 {
     let sinks = open_sinks(rt, alloc, settings.out, config.printer_count())?;
     let (listener, port) = listen(rt, settings)?;
-    let sessions = settings.sessions.clamp(1, MOST_SESSIONS);
-    let seats = u64::from(sessions + 1) + u64::from(config.printer_count());
+    let sessions = settings.sessions.clamp(1, MOST_SESSIONS) + QUESTIONS;
+    let printers = u64::from(config.printer_count());
+    let kept = KEPT + printers + 2 * u64::from(sessions);
+    let (lobby, waker) = open_lobby(rt, alloc, listener, settings.connections, kept)?;
+    let seats = u64::from(sessions + OTHERS) + printers;
     let blanks = Blanks {
         entries: Blank::new(seats),
         kinds: Blank::new(seats),
@@ -136,15 +179,16 @@ pub fn serve<
         rt,
         alloc,
         settings: *settings,
-        listener,
+        lobby,
+        waker,
         port,
         sinks,
     };
-    server.run::<Brand, Brand, Brand, W>(config, sessions + 1, blanks, output)
+    server.run::<Brand, Brand, Brand, W>(config, sessions + OTHERS, blanks, output)
 }
 
 impl<'a, R: Clock + Log + Threads + Wait + Sync> Server<'a, R> {
-    /// Runs with a spool that has so many sessions' seats: one for the thread that accepts, and the others for those that serve.
+    /// Runs with a spool that has so many sessions' seats: those of the sessions, and of the other threads.
     ///
     /// Output where a line can't be written; Memory where memory or a thread is refused.
     fn run<
@@ -168,18 +212,28 @@ impl<'a, R: Clock + Log + Threads + Wait + Sync> Server<'a, R> {
             rt,
             alloc,
             settings,
-            listener,
+            lobby,
+            waker,
             port,
             sinks,
         } = self;
-        let rotation = Rotation::new(&config, settings.rotate, sessions);
+        let (room, least) = if settings.keep_room {
+            let least = u64::from(config.account() / 4).max(1);
+            (Some(Room::new(&config, sessions, least)), Some(least))
+        } else {
+            (None, None)
+        };
         let (entries, kinds, handed) = (blanks.entries, blanks.kinds, blanks.handed);
         let Opened {
             spool,
             mut sessions,
             printers,
         } = SharedSpool::<E, K, H>::new(alloc, entries, kinds, handed, config, sessions)?;
-        let Some(seat) = sessions.pop() else {
+        let (Some(seat), Some(watcher), Some(keeper)) = (
+            sessions.pop(),
+            sessions.pop(),
+            sessions.pop(),
+        ) else {
             return Err(Fault::Memory);
         };
         print(alloc, output, Line::Listening { port })?;
@@ -188,13 +242,18 @@ impl<'a, R: Clock + Log + Threads + Wait + Sync> Server<'a, R> {
             alloc,
             spool: &spool,
             seat,
-            rotation,
+            lobby,
+            every: settings.rotate,
+            room,
         };
         let crew = Crew {
             settings,
-            listener,
+            waker,
             sinks,
             seats: Seats { sessions, printers },
+            watcher,
+            keeper,
+            least,
         };
         let seats = crew.run(porter, output)?;
         finish(alloc, spool, seats, output)

@@ -5,18 +5,27 @@ ghost use Rattle.std.specs.Prelude.{◌≤◌};
 ghost use Rattle.std.specs.Process.{exit_status};
 ghost use Rattle.lpd_words.specs.Outcome.{IfEnded};
 
-use log::Log;
+use log::{Level, Log, Logged, error};
 use lpd_daemon::Settings;
 use lpd_script::{StreamReader, StreamWriter};
 use lpd_words::{FileReader, Outcome, Serving};
+use server_edge::{LineLog, LineQueue, fill_standard_descriptors};
 use std::alloc::Global;
 use std::fs::{File, Files};
 use std::io::{Lock, Write};
 use std::net::{Net, TcpListener, TcpStream};
 use std::process::ExitCode;
 use std::rt::Clock;
-use std::sync::Wait;
+use std::sync::{Arc, Wait};
 use std::thread::Threads;
+use std::time::Duration;
+use std::{io, thread};
+
+/// How many lines of the log wait to be written, at most.
+const LINES: usize = 256;
+
+/// For how many seconds it is waited at the end until the log is written.
+const PATIENCE: u64 = 2;
 
 /// Does what the words ask for, but for serving.
 fn run<'a>(rt: &HostRuntime, words: &'a [String]) -> Outcome<'a>
@@ -28,7 +37,25 @@ fn run<'a>(rt: &HostRuntime, words: &'a [String]) -> Outcome<'a>
     lpd_words::run(rt.alloc(), rt, words, &mut input, &mut output, &mut faults)
 }
 
-/// Serves the queues of the configuration at this path. What is answered is the exit status.
+/// Starts the thread that writes what is logged, so that no other waits for whoever reads that. It isn't joined: its last write
+/// may wait for ever.
+fn start_log<R: Threads + Wait + Copy + Send + 'static, W: Write + Drop + Send + 'static>(
+    rt: &R,
+    alloc: Global,
+    out: W,
+) -> io::Result<Arc<LineQueue>> {
+    let queue = Arc::new(alloc, LineQueue::new(alloc, LINES))?;
+    let lines = Arc::try_clone(&queue)?;
+    let host = *rt;
+    let writer = thread::spawn(rt, move || {
+        let mut out = out;
+        lines.write_all(&host, alloc, &mut out);
+    })?;
+    drop(writer);
+    Ok(queue)
+}
+
+/// Serves the queues of the configuration at this path. Faults are told in the log. What is answered is the exit status.
 fn serve<
     R: Files<File = File>
         + Net<Listener = TcpListener, Stream = TcpStream>
@@ -38,16 +65,14 @@ fn serve<
         + Wait
         + Sync,
     O: Write + Drop,
-    E: Write + Drop,
->(rt: &R, alloc: Global, config: &str, serving: Serving, output: O, faults: E) -> u8
+>(rt: &R, alloc: Global, config: &str, serving: Serving, output: O) -> u8
     ensures { result ≤ 5 }
 {
     let mut output = StreamWriter::new(output);
-    let mut faults = StreamWriter::new(faults);
     let config = match lpd_words::read_config(alloc, &mut FileReader::open(rt, config)) {
         Ok(config) => config,
         Err(fault) => {
-            lpd_words::tell(alloc, &fault, &mut faults);
+            error!(rt; "{fault}");
             return fault.status();
         }
     };
@@ -59,11 +84,14 @@ fn serve<
         connections: serving.connections,
         rotate: serving.rotate,
         silence: serving.silence,
+        per_host: serving.per_host,
+        slowest: serving.slowest,
+        keep_room: serving.keep_room,
     };
     match lpd_daemon::serve(rt, alloc, config, &settings, &mut output) {
         Ok(()) => 0,
         Err(fault) => {
-            lpd_words::tell(alloc, &fault, &mut faults);
+            error!(rt; "{fault}");
             fault.status()
         }
     }
@@ -78,6 +106,8 @@ fn code(status: u8) -> ExitCode
 }
 
 fn main(rt: HostRuntime) -> ExitCode {
+    // Before anything else is opened: a file takes the lowest number that is free, and a printer's isn't to be written to by the log.
+    let filled = fill_standard_descriptors();
     let alloc = rt.alloc();
     let words = match lpd_words::words_of(&rt) {
         Ok(words) => words,
@@ -90,7 +120,18 @@ fn main(rt: HostRuntime) -> ExitCode {
     match run(&rt, words.as_slice()) {
         Outcome::Ended(status) => code(status),
         Outcome::Serve { config, serving } => {
-            code(serve(&rt, alloc, config, serving, rt.stdout(), rt.stderr()))
+            let Ok(queue) = start_log(&rt, alloc, rt.stderr()) else {
+                return code(4);
+            };
+            let logged = Logged::new(rt, Level::Info, LineLog::new(&rt, alloc, &queue));
+            let status = if filled {
+                serve(&logged, alloc, config, serving, rt.stdout())
+            } else {
+                error!(logged; "fault 71 ReadFile /dev/null");
+                4
+            };
+            queue.end(&rt, Duration::from_secs(PATIENCE));
+            code(status)
         }
     }
 }

@@ -57,7 +57,7 @@ below n small e = absurd (omega (arith, small, e))
 -- words that ask to serve, and don't say how, ask for nothing
 no_server : (name : Text) (rows : List Row) → name ≡ codes "serve" → LacksServing rows envelope.Missing → (asked : Asked) → IsAsked (Some (name, rows)) asked → ⊥
 no_server name rows is lacks Input h = absurd h
-no_server name rows is lacks (Check config) h =
+no_server name rows is lacks (Check config sizes) h =
     below 101 (omega arith) (third name (codes "check") is h.0)
 no_server name rows is lacks (Replay config script) h =
     below 112 (omega arith) (third name (codes "replay") is h.0)

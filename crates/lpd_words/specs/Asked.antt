@@ -1,5 +1,5 @@
 -- What the words ask for, by what clap reads of them.
-use Rattle.std.specs.Prelude.{◌≡◌, ◌<◌, ◌^◌, ℕ, List, Option, Some, None, codes, map, unwrap_or}
+use Rattle.std.specs.Prelude.{◌≡◌, ◌<◌, ◌^◌, ℕ, Bool, List, Option, Some, None, codes, false, map, true, unwrap_or}
 use Rattle.std.specs.Net.Grammar.{IsIpv4Text}
 use Rattle.std.specs.declared.net.ipv4_addr.Ipv4Addr.{Ipv4Addr}
 use Rattle.std.specs.Str.Parse.{IsNumeral, digits_value, without_leading_plus}
@@ -43,6 +43,12 @@ abbrev pub IsGivenOr : ℕ → List Row → Text → ℕ → Type 0
 IsGivenOr other rows id number =
     (given : Option ℕ) × IsGiven 32 rows id given × (number ≡ unwrap_or given other)
 
+-- an option without a value is there, or isn't
+abbrev pub IsFlag : List Row → Text → Bool → Type 0
+IsFlag rows id is =
+    (one_of id rows ≡ None → is ≡ false) × (one_of id rows ≡ Some (codes "true") → is ≡ true)
+    × (one_of id rows ≡ Some (codes "false") → is ≡ false)
+
 -- the address that is listened on: 127.0.0.1 where no other is given
 abbrev pub IsAddress : List Row → Ipv4Addr → Type 0
 IsAddress rows address =
@@ -57,12 +63,16 @@ pub record IsServing (rows : List Row) (serving : Serving) : Type 0 where
   pub connections : IsGiven 64 rows (codes "connections") serving.connections
   pub rotate : IsGiven 64 rows (codes "rotate") serving.rotate
   pub silence : IsGiven 64 rows (codes "silence") serving.silence
+  pub per_host : IsGiven 64 rows (codes "per-host") serving.per_host
+  pub slowest : IsGiven 64 rows (codes "slowest") serving.slowest
+  pub keep_room : IsFlag rows (codes "keep-room") serving.keep_room
 
 -- what the command of this name with the words of these rows asks for
 abbrev pub IsAskedBy : Text → List Row → Asked → Type 0
 IsAskedBy name rows Input = ⊥
-IsAskedBy name rows (Check config) =
+IsAskedBy name rows (Check config sizes) =
     (name ≡ codes "check") × (first_of (codes "config") rows ≡ Some config.now)
+    × IsFlag rows (codes "sizes") sizes
 IsAskedBy name rows (Replay config script) =
     (name ≡ codes "replay") × (first_of (codes "config") rows ≡ Some config.now)
     × (first_of (codes "script") rows ≡ Some script.now)

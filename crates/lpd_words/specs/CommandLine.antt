@@ -1,6 +1,7 @@
 -- The words that the program takes, as clap sees them.
 use Rattle.std.specs.Prelude.{Some, true, codes, pos, []}
 use Rattle.clap.specs.Words.{App, Rule, Text, new_app, new_rule, with_rule, with_subcommand}
+use Rattle.clap.specs.declared.builder.action.ArgAction.TheVariants.{SetTrue}
 use Rattle.clap.specs.declared.builder.value_parser.ValueParser.{ValueParser}
 use Rattle.clap.specs.declared.builder.value_parser.ValueParser.TheVariants as parser
 
@@ -28,6 +29,10 @@ number_option id range = record (option id) { parser = Some range }
 abbrev pub count : Text → Rule
 count id = number_option id (parser.Signed (pos 1) (pos 4294967295))
 
+-- an option without a value, --id
+abbrev pub flag : Text → Rule
+flag id = record (new_rule id) { long = Some id; action = Some SetTrue }
+
 -- the port to listen on, which has to be there
 abbrev pub listening_port : Rule
 listening_port =
@@ -37,7 +42,7 @@ abbrev pub sessions : Rule
 sessions = number_option (codes "sessions") (parser.Signed (pos 1) (pos 64))
 
 abbrev pub check_app : App
-check_app = with_rule (new_app (codes "check")) (word (codes "config"))
+check_app = with_rule (with_rule (new_app (codes "check")) (word (codes "config"))) (flag (codes "sizes"))
 
 abbrev pub replay_app : App
 replay_app =
@@ -61,10 +66,15 @@ serve_at_app =
     with_rule (with_rule (with_rule (with_rule (new_app (codes "serve")) (word (codes "config")))
     listening_port) (option (codes "bind"))) (option (codes "out"))
 
-abbrev pub serve_app : App
-serve_app =
+abbrev pub serve_until_app : App
+serve_until_app =
     with_rule (with_rule (with_rule (with_rule serve_at_app sessions)
     (count (codes "connections"))) (count (codes "rotate"))) (count (codes "silence"))
+
+abbrev pub serve_app : App
+serve_app =
+    with_rule (with_rule (with_rule serve_until_app (count (codes "per-host")))
+    (count (codes "slowest"))) (flag (codes "keep-room"))
 
 abbrev pub program_app : App
 program_app = record {

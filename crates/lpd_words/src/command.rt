@@ -4,13 +4,13 @@ ghost use Rattle.std.specs.Prelude.{◌≡◌, IfOk, codes, false, pos};
 ghost use Rattle.clap.specs.Words.{app_of, new_app, rule_of, with_rule, with_subcommand};
 ghost use Rattle.clap.specs.declared.builder.command.Command.TheViews.{out-Command as fields_of};
 ghost use Rattle.clap.specs.declared.builder.value_parser.ValueParser.TheVariants as parser;
-ghost use Rattle.lpd_words.specs.CommandLine.{check_app, command_line, count, files_app};
+ghost use Rattle.lpd_words.specs.CommandLine.{check_app, command_line, count, files_app, flag};
 ghost use Rattle.lpd_words.specs.CommandLine.{listening_port, number, number_option, option};
 ghost use Rattle.lpd_words.specs.CommandLine.{program_app, replay_app, send_app, send_to_app};
-ghost use Rattle.lpd_words.specs.CommandLine.{serve_app, serve_at_app, sessions, word, words};
+ghost use Rattle.lpd_words.specs.CommandLine.{serve_app, serve_at_app, serve_until_app, sessions, word, words};
 
 use clap::builder::ValueParser;
-use clap::{Arg, Command, value_parser};
+use clap::{Arg, ArgAction, Command, value_parser};
 use std::alloc::{AllocError, Global};
 
 /// What a configuration's file is.
@@ -40,9 +40,12 @@ The keys of a configuration and all faults: docs/OPERATING.md; a configuration w
 
 const MORE_OF_CHECK: &str = "\
 Prints one line, as: ok pages 1024 page_size 4096 queues 2 printers 3
+With --sizes a line more for each queue, as: queue lp jobs 622
+So many jobs fit into the account, each as large as the queue allows, between two moments without held jobs.
 
-Example:
+Examples:
   lpd_server check spool.toml
+  lpd_server check spool.toml --sizes
 
 The keys of a configuration: docs/OPERATING.md, and with remarks docs/example.toml.";
 
@@ -65,7 +68,7 @@ connection, where there is one, `closed entries E`. The pages of printer K are w
 Sessions that fail are told on standard error.
 
 Examples:
-  lpd_server serve spool.toml --port 515
+  lpd_server serve spool.toml --port 515 --keep-room
   lpd_server serve spool.toml --port 5150 --bind 0.0.0.0 --out pages --sessions 16 --silence 60
   lpd_server serve spool.toml --port 5150 --connections 1";
 
@@ -164,6 +167,17 @@ fn count<'a>(alloc: Global, id: &'a str, name: &'a str, help: &'a str) -> Arg<'a
     number_option(alloc, id, name, help, count_range())
 }
 
+/// An option without a value, `--ID`.
+fn flag<'a>(alloc: Global, id: &'a str, help: &'a str) -> Arg<'a>
+    ensures rule { rule_of result ≡ flag id.now }
+    ensures local { result.global ≡ false }
+{
+    Arg::new(alloc, id)
+        .long(id)
+        .help(help)
+        .action(ArgAction::SetTrue)
+}
+
 /// The option that has to be there, the port to listen on.
 fn listening_port<'a>(alloc: Global) -> Arg<'a>
     ensures rule { rule_of result ≡ listening_port }
@@ -216,8 +230,10 @@ fn check<'a>(alloc: Global) -> Result<Command<'a>, AllocError>
     ensures local { IfOk result (λ command. (fields_of command).has_globals ≡ false) }
 {
     let about = "Reads a configuration, and says what spool it is for";
+    let sizes = "Says how many jobs fit into the account";
     let config = word(alloc, "config", "CONFIG", CONFIG);
-    with_word(plain(alloc, "check", about, MORE_OF_CHECK), config)
+    let command = with_word(plain(alloc, "check", about, MORE_OF_CHECK), config)?;
+    with_word(command, flag(alloc, "sizes", sizes))
 }
 
 /// The command that runs a script.
@@ -272,9 +288,9 @@ fn serve_at<'a>(alloc: Global) -> Result<Command<'a>, AllocError>
     with_word(command, option(alloc, "out", "DIR", out))
 }
 
-/// The command that serves.
-fn serve<'a>(alloc: Global) -> Result<Command<'a>, AllocError>
-    ensures app { IfOk result (λ command. app_of command ≡ serve_app) }
+/// The command that serves, up to when it ends and whom it leaves.
+fn serve_until<'a>(alloc: Global) -> Result<Command<'a>, AllocError>
+    ensures app { IfOk result (λ command. app_of command ≡ serve_until_app) }
     ensures local { IfOk result (λ command. (fields_of command).has_globals ≡ false) }
 {
     let connections = "Ends after so many connections [default: none is the last]";
@@ -285,6 +301,22 @@ fn serve<'a>(alloc: Global) -> Result<Command<'a>, AllocError>
     let command = with_word(command, last)?;
     let command = with_word(command, count(alloc, "rotate", "ROTATE", rotate))?;
     with_word(command, count(alloc, "silence", "SECONDS", silence))
+}
+
+/// The command that serves.
+fn serve<'a>(alloc: Global) -> Result<Command<'a>, AllocError>
+    ensures app { IfOk result (λ command. app_of command ≡ serve_app) }
+    ensures local { IfOk result (λ command. (fields_of command).has_globals ≡ false) }
+{
+    let per_host = "Serves at most so many connections of one address at once";
+    let slowest = "Ends a session whose peer sends less than so many octets a second for a minute";
+    let keep_room = "Rotates the account as soon as no job is held, and has new jobs wait for that";
+    let command = with_word(
+        serve_until(alloc)?,
+        count(alloc, "per-host", "SESSIONS", per_host),
+    )?;
+    let command = with_word(command, count(alloc, "slowest", "OCTETS", slowest))?;
+    with_word(command, flag(alloc, "keep-room", keep_room))
 }
 
 /// The program without its commands.

@@ -14,7 +14,7 @@ use crate::summary::summary_of;
 use config_values::Config;
 use lpd_commands::{OctetRead, OctetWrite, write_all};
 use lpd_script::{read_all, run_parts};
-use std::alloc::Global;
+use std::alloc::{AllocError, Global};
 
 /// Writes a text to the output.
 pub(crate) fn print<W: OctetWrite>(output: &mut W, text: &[u8]) -> Result<(), Fault>
@@ -61,6 +61,52 @@ pub fn check<I: OctetRead, W: OctetWrite>(
 {
     let summary = summary_of(&read_config(alloc, config)?);
     print(output, format!(in alloc; "{summary}\n")?.as_bytes())
+}
+
+/// Below so many jobs that fit into the account it is said that they are few.
+const FEW: u64 = 50;
+
+/// How many jobs of a queue fit into the account between two moments without held jobs, each as large as the queue allows.
+fn jobs_that_fit(config: &Config, queue: u32) -> u64 {
+    let entries = u64::from(config.account()).saturating_sub(1);
+    entries
+        .checked_div(config.reserve_of(queue))
+        .unwrap_or(entries)
+}
+
+/// A line for each queue: how many jobs of it fit into the account.
+fn sizes_text(alloc: Global, config: &Config) -> Result<String, AllocError> {
+    let mut text = String::new(alloc);
+    let queues = config.queues();
+    for place in 0..queues.len() {
+        let name = str::from_utf8(queues[place].name()).unwrap_or("");
+        let jobs = jobs_that_fit(config, place as u32 + 1);
+        let few = if jobs < FEW {
+            ", too few: a larger account or larger pages make room"
+        } else {
+            ""
+        };
+        text.push_str(format!(in alloc; "queue {name} jobs {jobs}{few}\n")?.as_str())?;
+    }
+    Ok(text)
+}
+
+/// Reads a configuration to its end, and prints what spool it is for, and how many jobs of each queue fit into the account.
+/// Answers the first fault, as `check` does.
+pub fn check_sizes<I: OctetRead, W: OctetWrite>(
+    alloc: Global,
+    config: &mut I,
+    output: &mut W,
+) -> Result<(), Fault>
+    ensures read_fault { I.faults config.new ≢ I.faults config.old → result ≡ Err (Run ReadFile) }
+    ensures write_fault { W.faults output.new ≡ write_faults (W.faults output.old) result }
+{
+    let config = read_config(alloc, config)?;
+    let sizes = sizes_text(alloc, &config)?;
+    print(
+        output,
+        format!(in alloc; "{}\n{sizes}", summary_of(&config))?.as_bytes(),
+    )
 }
 
 /// Reads a configuration and a script to their ends, and runs the script on the spool that the configuration gives.

@@ -16,7 +16,7 @@ mod words;
 pub use envelope::{Envelope, EnvelopeFault};
 pub use fault::Fault;
 pub use file::FileReader;
-pub use files::{check, read_config, replay};
+pub use files::{check, check_sizes, read_config, replay};
 pub use running::{Outcome, run, tell, tell_unread};
 pub use sending::{data_file, send};
 pub use serving::Serving;

@@ -18,7 +18,7 @@ ghost use Rattle.lpd_words.specs.declared.words.Asked.TheVariants.{Serve};
 use crate::envelope::Envelope;
 use crate::fault::Fault;
 use crate::file::FileReader;
-use crate::files::{check, print, replay};
+use crate::files::{check, check_sizes, print, replay};
 use crate::naming::three_digits;
 use crate::sending::{data_files, send};
 use crate::serving::Serving;
@@ -86,7 +86,13 @@ fn run_asked<R: Files + Net, W: OctetWrite>(
 {
     match asked {
         Asked::Input | Asked::Serve { .. } => Ok(()),
-        Asked::Check { config } => check(alloc, &mut FileReader::open(rt, config), output),
+        Asked::Check { config, sizes } => {
+            let mut config = FileReader::open(rt, config);
+            if sizes {
+                return check_sizes(alloc, &mut config, output);
+            }
+            check(alloc, &mut config, output)
+        }
         Asked::Replay { config, script } => {
             let mut config = FileReader::open(rt, config);
             replay(

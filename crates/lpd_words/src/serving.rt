@@ -2,7 +2,7 @@
 
 ghost use Rattle.std.specs.Prelude.{◌≡◌, IfOk, IfErr, codes, unwrap_or};
 ghost use Rattle.clap.specs.Words.{first_of, found_of, rows_of};
-ghost use Rattle.lpd_words.specs.Asked.{IsAddress, IsGiven, IsGivenOr, IsServing};
+ghost use Rattle.lpd_words.specs.Asked.{IsAddress, IsFlag, IsGiven, IsGivenOr, IsServing};
 ghost use Rattle.lpd_words.specs.Refused.{HasNoAddress, HasNoCount, HasNoSessions, LacksServing};
 ghost use Rattle.lpd_words.specs.declared.envelope.EnvelopeFault.TheVariants.{Address, Missing};
 
@@ -37,6 +37,19 @@ pub struct Serving<'a> {
     pub rotate: Option<u64>,
     /// For how many seconds a peer may be silent.
     pub silence: Option<u64>,
+    /// How many connections of one address are served at once.
+    pub per_host: Option<u64>,
+    /// How many octets a second a peer has to send.
+    pub slowest: Option<u64>,
+    /// Whether room is kept in the account.
+    pub keep_room: bool,
+}
+
+/// Whether an option without a value is there.
+pub(crate) fn flag_of(matches: &ArgMatches, id: &str) -> bool
+    ensures { IsFlag (rows_of (found_of matches.now)) id.now result }
+{
+    matches.get_flag(id)
 }
 
 /// The text of an option, or this one where it isn't there.
@@ -104,5 +117,8 @@ pub(crate) fn serving_of<'a>(matches: &ArgMatches<'a>) -> Result<Serving<'a>, En
         connections: count_of(matches, "connections")?,
         rotate: count_of(matches, "rotate")?,
         silence: count_of(matches, "silence")?,
+        per_host: count_of(matches, "per-host")?,
+        slowest: count_of(matches, "slowest")?,
+        keep_room: flag_of(matches, "keep-room"),
     })
 }

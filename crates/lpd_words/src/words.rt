@@ -12,7 +12,7 @@ ghost use Rattle.lpd_words.specs.Refused.{HasNoWords, LacksWords};
 
 use crate::command::command;
 use crate::envelope::{Envelope, EnvelopeFault};
-use crate::serving::{Serving, serving_of};
+use crate::serving::{Serving, flag_of, serving_of};
 use clap::error::ErrorKind;
 use clap::{ArgMatches, Command, Error};
 use std::alloc::{AllocError, Global};
@@ -44,6 +44,8 @@ pub enum Asked<'a> {
     /// To read the configuration at this path.
     Check {
         config: &'a str,
+        /// Whether to say how many jobs fit into the account.
+        sizes: bool,
     },
     /// To run the script at a path on the spool that the configuration at a path gives.
     Replay {
@@ -157,7 +159,8 @@ fn asked_by<'a>(
     match name {
         "check" => {
             let config = text_of(matches, "config")?;
-            Ok(Asked::Check { config })
+            let sizes = flag_of(matches, "sizes");
+            Ok(Asked::Check { config, sizes })
         }
         "replay" => {
             let config = text_of(matches, "config")?;

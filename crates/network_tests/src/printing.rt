@@ -5,6 +5,7 @@ use crate::jobs::HELLO;
 use crate::place::{make, path, printed, remove};
 use crate::server::{SMALL, Spool, Terminal, run, settings};
 use lpd_daemon::Settings;
+use lpr_client::SendFault;
 use std::fs::Files;
 use std::net::{Net, TcpStream};
 use std::process::Abort;
@@ -95,7 +96,7 @@ fn the_account_has_its_turn(rt: HostRuntime) {
     are_printed(&rt, out);
 }
 
-/// There is no room for one job more, so the account is rotated by itself.
+/// There is no room for one job more: the second one is refused for now.
 #[test]
 fn the_account_has_no_room(rt: HostRuntime) {
     let out = "the_account_has_no_room";
@@ -104,10 +105,38 @@ fn the_account_has_no_room(rt: HostRuntime) {
     let (ended, _) = thread::join(
         &rt,
         || run(&rt, &terminal, ONE_JOB, rotating(out, None), 0),
+        || {
+            let port = terminal.port(&rt);
+            assert_eq!(rt; send(&rt, &connect(&rt, port), 1, HELLO), Ok(()));
+            let sent = send(&rt, &connect(&rt, port), 2, HELLO);
+            assert_eq!(rt; sent, Err(SendFault::Refused(2)));
+            terminal.await_end(&rt);
+        },
+    );
+    assert_eq!(rt; ended, Ok(()));
+    terminal.has_printed(&rt, "closed entries 13\n");
+    assert_eq!(rt; printed(&rt, out, 1).as_slice(), HELLO);
+    remove(&rt, out);
+}
+
+/// There is no room for one job more, and room is kept: the second job waits until the first one has gone and the account is
+/// rotated.
+#[test]
+fn room_is_kept(rt: HostRuntime) {
+    let out = "room_is_kept";
+    make(&rt, out);
+    let terminal = Terminal::new(rt.alloc());
+    let settings = Settings {
+        keep_room: true,
+        ..settings(out, 2)
+    };
+    let (ended, _) = thread::join(
+        &rt,
+        || run(&rt, &terminal, ONE_JOB, settings, 0),
         || send_two(&rt, &terminal),
     );
     assert_eq!(rt; ended, Ok(()));
-    terminal.has_printed(&rt, ROTATED);
+    terminal.has_printed_around(&rt, "rotated 1 entries 12\n", "closed entries 25\n");
     are_printed(&rt, out);
 }
 

@@ -27,6 +27,9 @@ pub fn settings(out: &str, connections: u64) -> Settings<'_> {
         connections: Some(connections),
         rotate: None,
         silence: None,
+        per_host: None,
+        slowest: None,
+        keep_room: false,
     }
 }
 
@@ -182,6 +185,19 @@ impl Terminal {
         let text = str::from_utf8(said.octets.as_slice()).expect(rt, "text");
         let rest = text.split_once('\n').map_or(text, |lines| lines.1);
         assert_eq!(rt; rest, wanted);
+    }
+
+    /// The server has printed this first after its first line, and this at last.
+    pub fn has_printed_around<R: Abort + AllocGlobal + Wait>(
+        &self,
+        rt: &R,
+        first: &str,
+        last: &str,
+    ) {
+        let said = self.said.lock(rt);
+        let text = str::from_utf8(said.octets.as_slice()).expect(rt, "text");
+        let rest = text.split_once('\n').map_or(text, |lines| lines.1);
+        assert!(rt; rest.starts_with(first) && rest.ends_with(last));
     }
 
     /// This was printed, and nothing else.

@@ -74,6 +74,9 @@ fn serve_by<
         connections: serving.connections,
         rotate: serving.rotate,
         silence: serving.silence,
+        per_host: serving.per_host,
+        slowest: serving.slowest,
+        keep_room: serving.keep_room,
     };
     run_config(
         rt,

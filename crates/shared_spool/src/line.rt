@@ -21,6 +21,8 @@ pub struct Waiting {
     pub job: u64,
     /// How many octets the file lacks that was begun last through its seat.
     pub lacks: u64,
+    /// How many octets of files were put through its seat since the last job was opened there.
+    pub put: u64,
 }
 
 /// A session that waits, and how many events there were when it asked last.

@@ -16,8 +16,9 @@ pub struct SessionSeat<E: Ledger, K: Ledger, H: Ledger> {
     // The last job that it opened, and the printers of its queue.
     pub(crate) opened: u64,
     pub(crate) row: Row,
-    // How many octets the file lacks that it began last.
+    // How many octets the file lacks that it began last, and how many were put since it opened that job.
     pub(crate) lacks: u64,
+    pub(crate) put: u64,
     pub(crate) shares: Shares<E, K, H>,
 }
 
@@ -43,6 +44,7 @@ impl<E: Ledger, K: Ledger, H: Ledger> SessionSeat<E, K, H> {
             opened: 0,
             row: Row { first: 0, past: 0 },
             lacks: 0,
+            put: 0,
             shares,
         }
     }
@@ -62,6 +64,7 @@ impl<E: Ledger, K: Ledger, H: Ledger> SessionSeat<E, K, H> {
             opened: _,
             row: _,
             lacks: _,
+            put: _,
             shares,
         } = self;
         shares

@@ -48,6 +48,7 @@ impl<E: SpoolLedger, K: Ledger, H: Ledger> SharedSpool<E, K, H> {
         drop(room);
         if let Ok(job) = &answer {
             seat.opened = *job;
+            seat.put = 0;
             seat.row = self.bells.row_of(queue);
             self.changed.notify_all();
         }
@@ -119,6 +120,7 @@ impl<E: SpoolLedger, K: Ledger, H: Ledger> SharedSpool<E, K, H> {
         let answer = self.state.lock(rt).locked.put(&mut seat.shares, job, page);
         if answer.is_ok() {
             seat.lacks = seat.lacks.saturating_sub(octets);
+            seat.put = seat.put.saturating_add(octets);
             self.changed.notify_all();
         }
         answer

@@ -50,6 +50,7 @@ impl<E: SpoolLedger, K: Ledger, H: Ledger> SharedSpool<E, K, H> {
                 seat: number,
                 job,
                 lacks: seat.lacks,
+                put: seat.put,
             });
             self.ring_session(next);
             room = self.session_bell(number).wait(rt, room);

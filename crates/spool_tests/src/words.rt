@@ -19,18 +19,22 @@ const CONFIG: &[u8] =
 /// What `docs/example.toml` says, without its remarks.
 const EXAMPLE: &[u8] = b"\
 pages = 1024
-page_size = 4096
+page_size = 65536
 max_jobs = 64
 account = 16000000
 [[queue]]
 name = \"lp\"
-limit = 64
+limit = 128
 printers = 1
 [[queue]]
 name = \"plotter\"
 limit = 512
 printers = 2
 ";
+
+/// An account that takes no job of its queue.
+const FEW: &[u8] =
+    b"pages = 64\npage_size = 8\nmax_jobs = 8\naccount = 10000\n[[queue]]\nname = \"lp\"\nlimit = 64\nprinters = 1\n";
 
 /// The words of a line, one space between them.
 fn words_of(alloc: Global, line: &str) -> Result<Vec<&str>, AllocError> {
@@ -132,8 +136,21 @@ fn configurations(rt: HostRuntime) -> Result<(), Fail> {
     let line = b"ok pages 4 page_size 8 queues 1 printers 1\nstatus 0\n";
     expect(&rt, b"check", answer.as_slice(), line);
     let answer = told_of_file(&rt, &check, EXAMPLE)?;
-    let line = b"ok pages 1024 page_size 4096 queues 2 printers 3\nstatus 0\n";
+    let line = b"ok pages 1024 page_size 65536 queues 2 printers 3\nstatus 0\n";
     expect(&rt, b"check of the example", answer.as_slice(), line);
+    let answer = told_of_file(&rt, &["check", "FILE", "--sizes"], EXAMPLE)?;
+    let lines =
+        b"ok pages 1024 page_size 65536 queues 2 printers 3\nqueue lp jobs 622\nqueue plotter jobs 156\nstatus 0\n";
+    expect(&rt, b"sizes of the example", answer.as_slice(), lines);
+    let answer = told_of_file(&rt, &["check", "--sizes", "FILE"], FEW)?;
+    let lines =
+        b"ok pages 64 page_size 8 queues 1 printers 1\nqueue lp jobs 0, too few: a larger account or larger pages make room\nstatus 0\n";
+    expect(
+        &rt,
+        b"an account that takes no job",
+        answer.as_slice(),
+        lines,
+    );
     let answer = told_of_file(&rt, &check, b"pages = 0\n")?;
     let line = b"fault 53 OutOfRange pages\nstatus 2\n";
     expect(&rt, b"check of pages = 0", answer.as_slice(), line);
@@ -225,9 +242,12 @@ fn line_of(alloc: Global, config: &str, serving: &Serving) -> Result<String, All
         connections,
         rotate,
         silence,
+        per_host,
+        slowest,
+        keep_room,
     } = *serving;
     format!(in alloc;
-        "{config} {port} {bind} {out} {sessions} {connections:?} {rotate:?} {silence:?}\n"
+        "{config} {port} {bind} {out} {sessions} {connections:?} {rotate:?} {silence:?} {per_host:?} {slowest:?} {keep_room}\n"
     )
 }
 
@@ -256,12 +276,13 @@ fn served(rt: &HostRuntime, line: &str) -> Result<String, AllocError> {
 #[test]
 fn servers(rt: HostRuntime) -> Result<(), Fail> {
     let answer = served(&rt, "serve spool.toml --port 515")?;
-    let line = b"spool.toml 515 127.0.0.1 . 8 None None None\n";
+    let line = b"spool.toml 515 127.0.0.1 . 8 None None None None None false\n";
     expect(&rt, b"serve", answer.as_bytes(), line);
     let words = "serve --port=65535 --bind 10.0.200.255 --out pages --sessions 64 --connections 3 \
-        --rotate 4294967295 --silence 60 spool.toml";
+        --rotate 4294967295 --silence 60 --per-host 4 --slowest 100 --keep-room spool.toml";
     let answer = served(&rt, words)?;
-    let line = b"spool.toml 65535 10.0.200.255 pages 64 Some(3) Some(4294967295) Some(60)\n";
+    let line =
+        b"spool.toml 65535 10.0.200.255 pages 64 Some(3) Some(4294967295) Some(60) Some(4) Some(100) true\n";
     expect(&rt, b"serve with options", answer.as_bytes(), line);
     let answer = told(&rt, &["serve", "a", "--port", "1"], b"free\n")?;
     expect(&rt, b"what serve tells", answer.as_slice(), b"serves\n");
@@ -285,6 +306,8 @@ fn bad_words_of_serve(rt: HostRuntime) -> Result<(), Fail> {
         "serve a --port 515 --connections 0",
         "serve a --port 515 --rotate 4294967296",
         "serve a --port 515 --silence long",
+        "serve a --port 515 --per-host 0",
+        "serve a --port 515 --keep-room yes",
         "serve a --port 515 --quiet",
     ];
     for line in bad {

@@ -1,0 +1,168 @@
+//! What sessions are at, for the thread that looks whether their peers are gone.
+
+use server_edge::{Peer, Standing, ask_peer, may_end, unread_octets};
+use shared_spool::Waiting;
+use std::alloc::{AllocError, Global};
+use std::io;
+use std::io::{Error, ErrorKind, Read};
+use std::net::TcpStream;
+use std::rt::Clock;
+use std::sync::atomic::{AtomicU64, Ordering};
+use std::sync::{Mutex, Wait};
+use std::time::Instant;
+
+/// For how many seconds a peer is waited for before it is judged as slow.
+const MINUTE: u64 = 60;
+
+/// What the session of a seat is at.
+#[derive(Drop)]
+struct Post {
+    // The connection that it serves.
+    stream: Mutex<Option<TcpStream>>,
+    // How many octets it has read of that, and how many by the last read.
+    received: AtomicU64,
+    last: AtomicU64,
+}
+
+/// What sessions are at, by the numbers of their seats.
+#[derive(Drop)]
+pub(crate) struct Posts {
+    posts: Vec<Post>,
+}
+
+impl Posts {
+    /// Of so many seats, the first ones.
+    pub(crate) fn new(alloc: Global, seats: usize) -> Result<Posts, AllocError> {
+        let mut posts = Vec::new(alloc);
+        for _seat in 0..seats {
+            posts.push(Post {
+                stream: Mutex::new(None),
+                received: AtomicU64::new(0),
+                last: AtomicU64::new(0),
+            })?;
+        }
+        Ok(Posts { posts })
+    }
+
+    /// A session serves this connection. Where the system gives no second number for it, its peer isn't looked at.
+    pub(crate) fn begin<R: Wait>(&self, rt: &R, seat: u32, stream: &TcpStream) {
+        if let Some(post) = self.posts.get(seat as usize) {
+            post.received.store(0, Ordering::SeqCst);
+            post.last.store(0, Ordering::SeqCst);
+            *post.stream.lock(rt) = stream.try_clone().ok();
+        }
+    }
+
+    /// A session has served its connection.
+    pub(crate) fn end<R: Wait>(&self, rt: &R, seat: u32) {
+        if let Some(post) = self.posts.get(seat as usize) {
+            *post.stream.lock(rt) = None;
+        }
+    }
+
+    /// A session has read so many octets.
+    fn count(&self, seat: u32, octets: u64) {
+        if let Some(post) = self.posts.get(seat as usize) {
+            let received = post.received.load(Ordering::SeqCst);
+            post.received
+                .store(received.saturating_add(octets), Ordering::SeqCst);
+            post.last.store(octets, Ordering::SeqCst);
+        }
+    }
+
+    /// Whether the peer of a session that waits for a page is gone: the connection is broken, or it sends no more, and what came
+    /// and isn't used can't end the open file. `buffer` is room for octets that are looked at.
+    pub(crate) fn is_gone<R: Wait>(&self, rt: &R, waiting: Waiting, buffer: &mut [u8]) -> bool {
+        let Some(post) = self.posts.get(waiting.seat as usize) else {
+            return false;
+        };
+        let stream = post.stream.lock(rt);
+        let Some(stream) = &*stream else {
+            return false;
+        };
+        match ask_peer(stream) {
+            Peer::There => false,
+            Peer::Gone => true,
+            Peer::EndedSending => !may_end(&Standing {
+                unread: unread_octets(stream, buffer).unwrap_or(0) as u64,
+                last: post.last.load(Ordering::SeqCst),
+                received: post.received.load(Ordering::SeqCst),
+                taken: waiting.put,
+                left: waiting.lacks,
+            }),
+        }
+    }
+}
+
+/// The connection of a session, which counts what is read of it, and fails where its peer is too slow.
+#[derive(Drop)]
+pub(crate) struct Meter<'a, R> {
+    rt: &'a R,
+    stream: &'a TcpStream,
+    posts: &'a Posts,
+    seat: u32,
+    slowest: u64,
+    // The milliseconds for which it was waited, and the octets that came by that.
+    waited: u64,
+    octets: u64,
+}
+
+impl<'a, R: Clock> Meter<'a, R> {
+    /// What the session of this seat reads of a stream. At 0 no peer is too slow.
+    pub(crate) fn new(
+        rt: &'a R,
+        stream: &'a TcpStream,
+        posts: &'a Posts,
+        seat: u32,
+        slowest: u64,
+    ) -> Meter<'a, R> {
+        Meter {
+            rt,
+            stream,
+            posts,
+            seat,
+            slowest,
+            waited: 0,
+            octets: 0,
+        }
+    }
+
+    /// The peer was waited for since this moment, and sent so many octets. Whether it is too slow.
+    fn is_slow(&mut self, start: &io::Result<Instant>, octets: u64) -> bool {
+        let Ok(start) = start else {
+            return false;
+        };
+        let Ok(waited) = start.elapsed(self.rt) else {
+            return false;
+        };
+        let waited = u64::try_from(waited.as_millis()).unwrap_or(u64::MAX);
+        self.waited = self.waited.saturating_add(waited);
+        self.octets = self.octets.saturating_add(octets);
+        let seconds = self.waited / 1_000;
+        if seconds < MINUTE {
+            return false;
+        }
+        let is_slow = self.octets < self.slowest.saturating_mul(seconds);
+        self.waited = 0;
+        self.octets = 0;
+        is_slow
+    }
+}
+
+impl<R: Clock> Read for Meter<'_, R> {
+    fn read(&mut self, into: &mut [u8]) -> io::Result<usize> {
+        let mut stream = self.stream;
+        if self.slowest == 0 {
+            let count = stream.read(into)?;
+            self.posts.count(self.seat, count as u64);
+            return Ok(count);
+        }
+        let start = Instant::now(self.rt);
+        let count = stream.read(into)?;
+        self.posts.count(self.seat, count as u64);
+        if count > 0 && self.is_slow(&start, count as u64) {
+            return Err(Error::from(ErrorKind::TimedOut));
+        }
+        Ok(count)
+    }
+}

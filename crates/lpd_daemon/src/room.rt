@@ -1,0 +1,133 @@
+//! Room in the account: new jobs wait for a rotation for a moment where it is nearly full.
+
+ghost use Rattle.std.specs.Prelude.{◌≤◌, ◌+◌, ◌-◌, ℕ};
+ghost use Rattle.config_values.specs.Config.{IsQueue, reserve_of};
+
+use config_values::Config;
+use log::{Log, warn};
+use shared_spool::{SessionSeat, SharedSpool, SpoolLedger};
+use std::rt::Clock;
+use std::sync::Wait;
+use std::sync::ledger::Ledger;
+use std::time::Instant;
+
+/// For how many milliseconds new jobs wait until the held ones have gone, at most.
+const LONGEST: u64 = 1_000;
+
+/// After how many seconds without room it is told again.
+const TELL: u64 = 60;
+
+/// Whether new jobs wait.
+///
+/// ```text
+///        nearly full          a second passed
+///   No --------------> Since -----------------> Over
+///    ^                  | ^                      | |
+///    +------ room ------+ +------ a job left ----+ |
+///    +------------------- room ---------------------+
+/// ```
+#[derive(Clone, Copy)]
+enum Hold {
+    No,
+    /// They wait since this moment.
+    Since(Instant),
+    /// They have waited in vain: so many jobs were held then.
+    Over { held: usize },
+}
+
+/// Room in the account, where it is kept.
+#[derive(Drop)]
+pub(crate) struct Room {
+    // The most entries that may be counted for there to be room for a job of each queue in each connection that may bring one, or
+    // with which the account isn't rotated.
+    most: u64,
+    // The most that may be counted for there to be room for a job of each queue.
+    full: u64,
+    hold: Hold,
+    // Since when there is no room, and when that was told last.
+    full_since: Option<Instant>,
+    told: Option<Instant>,
+}
+
+/// How many milliseconds have passed since.
+fn milliseconds_since<R: Clock>(rt: &R, start: Instant) -> u64 {
+    match start.elapsed(rt) {
+        Ok(elapsed) => u64::try_from(elapsed.as_millis()).unwrap_or(u64::MAX),
+        Err(_) => 0,
+    }
+}
+
+impl Room {
+    /// In an account of this configuration, which is rotated from so many counted entries on, where so many threads serve
+    /// connections that may bring a job.
+    pub(crate) fn new(config: &Config, sessions: u32, least: u64) -> Room
+        ensures room { (queue : ℕ) → IsQueue config.now queue
+            → result.full ≤ config.now.account - (reserve_of config.now queue + 1) }
+    {
+        let queues = config.queues().len() as u32;
+        let mut largest = 0;
+        for queue in 0..queues {
+            largest = config.reserve_of(queue + 1).max(largest);
+        }
+        // Each connection that is served, or waits for that, may bring a job that isn't counted yet.
+        let jobs = u64::from(sessions).saturating_mul(2);
+        let account = u64::from(config.account());
+        let most = account.saturating_sub((largest + 1).saturating_mul(jobs));
+        Room {
+            most: most.max(least.saturating_sub(1)),
+            full: account.saturating_sub(largest + 1),
+            hold: Hold::No,
+            full_since: None,
+            told: None,
+        }
+    }
+
+    /// Says once a minute for how long there has been no room.
+    fn tell_full<R: Clock + Log>(&mut self, rt: &R, counted: u64) {
+        if counted <= self.full {
+            self.full_since = None;
+            self.told = None;
+            return;
+        }
+        let Ok(now) = Instant::now(rt) else {
+            return;
+        };
+        let since = self.full_since.unwrap_or(now);
+        self.full_since = Some(since);
+        let is_due = match self.told {
+            Some(told) => milliseconds_since(rt, told) >= TELL.saturating_mul(1_000),
+            None => true,
+        };
+        if is_due {
+            self.told = Some(now);
+            let seconds = milliseconds_since(rt, since) / 1_000;
+            warn!(rt; "the account has had no room for {seconds} s: jobs are refused until no job is held");
+        }
+    }
+
+    /// Whether new jobs are let in.
+    pub(crate) fn lets_jobs_in<E: SpoolLedger, K: Ledger, H: Ledger, R: Clock + Log + Wait>(
+        &mut self,
+        rt: &R,
+        spool: &SharedSpool<E, K, H>,
+        seat: &mut SessionSeat<E, K, H>,
+    ) -> bool {
+        let counted = spool.counted_reserve(rt, seat);
+        self.tell_full(rt, counted);
+        if counted <= self.most {
+            self.hold = Hold::No;
+            return true;
+        }
+        let held = spool.held(rt, seat);
+        let Ok(now) = Instant::now(rt) else {
+            return true;
+        };
+        self.hold = match self.hold {
+            Hold::No => Hold::Since(now),
+            Hold::Since(start) if milliseconds_since(rt, start) < LONGEST => Hold::Since(start),
+            Hold::Over { held: before } if held < before => Hold::Since(now),
+            Hold::Since(_) | Hold::Over { .. } => Hold::Over { held },
+        };
+        matches!(self.hold, Hold::Over { .. })
+    }
+}

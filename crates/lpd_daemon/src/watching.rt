@@ -1,0 +1,175 @@
+//! The thread that gives back the pages of jobs whose peers are gone.
+
+use crate::posts::Posts;
+use log::{Log, warn};
+use shared_spool::{SessionSeat, SharedSpool, SpoolLedger, Waiting};
+use std::alloc::{AllocError, Global};
+use std::rt::Clock;
+use std::sync::Wait;
+use std::sync::atomic::{AtomicBool, Ordering};
+use std::sync::ledger::Ledger;
+use std::thread;
+use std::time::Duration;
+
+/// How many milliseconds pass between two looks at whether the server ends.
+const STEP: u64 = 250;
+
+/// After how many of these steps it is looked for peers that are gone.
+const STEPS: u64 = 4;
+
+/// How many octets that a peer has sent are looked at, at most.
+const LOOKED_AT: usize = 1 << 20;
+
+/// What a spool is at while sessions wait: whoever compares two of these sees whether anything happened in between.
+#[derive(Drop)]
+struct Sample {
+    waiting: Vec<Waiting>,
+    pages: [usize; 4],
+    counted: u64,
+}
+
+impl Sample {
+    /// Whether nothing has happened since.
+    fn is_same(&self, other: &Sample) -> bool {
+        self.waiting.as_slice() == other.waiting.as_slice()
+            && self.pages == other.pages
+            && self.counted == other.counted
+    }
+}
+
+/// For how many seconds nothing has happened, and what the spool was at.
+#[derive(Drop)]
+struct Still {
+    sample: Sample,
+    seconds: u64,
+}
+
+impl Still {
+    /// Nothing was seen yet.
+    fn new(alloc: Global) -> Still {
+        Still {
+            sample: Sample {
+                waiting: Vec::new(alloc),
+                pages: [0; 4],
+                counted: 0,
+            },
+            seconds: 0,
+        }
+    }
+
+    /// A second has passed, and the spool is at this now. For how many seconds nothing has happened.
+    fn pass(&mut self, sample: Sample) -> u64 {
+        self.seconds = if self.sample.is_same(&sample) {
+            self.seconds.saturating_add(1)
+        } else {
+            0
+        };
+        self.sample = sample;
+        self.seconds
+    }
+}
+
+/// Who looks after the sessions that wait for pages.
+#[derive(Drop)]
+struct Watcher<'a, R, E: SpoolLedger, K: Ledger, H: Ledger> {
+    rt: &'a R,
+    alloc: Global,
+    spool: &'a SharedSpool<E, K, H>,
+    seat: SessionSeat<E, K, H>,
+    posts: &'a Posts,
+    // After how many seconds in which nothing happened all that wait are ended; 0 for never.
+    silence: u64,
+    still: Still,
+}
+
+impl<'a, R: Clock + Log + Wait, E: SpoolLedger, K: Ledger, H: Ledger> Watcher<'a, R, E, K, H> {
+    /// What the spool is at.
+    fn sample(&mut self) -> Result<Sample, AllocError> {
+        let waiting = self.spool.waiting(self.rt, self.alloc)?;
+        let pages = self.spool.pages_by_place(self.rt, &mut self.seat);
+        Ok(Sample {
+            waiting,
+            pages: [pages.free, pages.chained, pages.lent, pages.out],
+            counted: self.spool.counted_reserve(self.rt, &mut self.seat),
+        })
+    }
+
+    /// Ends a job whose session waits: the session is answered that it isn't open any more.
+    fn give_up(&mut self, waiting: Waiting, why: &str) {
+        let ended = self.spool.abort(self.rt, &mut self.seat, waiting.job, None);
+        match ended {
+            Ok(()) =>
+                warn!(self.rt; "job {}, which waits for a page, is ended: {why}", waiting.job),
+            // It waits no more, or has ended.
+            Err(returned) => returned.surrender(),
+        }
+    }
+
+    /// Looks at those that wait, once a second.
+    fn look(&mut self, buffer: &mut [u8]) -> Result<(), AllocError> {
+        let sample = self.sample()?;
+        let mut gone = Vec::new(self.alloc);
+        for waiting in sample.waiting.iter() {
+            if self.posts.is_gone(self.rt, *waiting, buffer) {
+                gone.push(*waiting)?;
+            }
+        }
+        for waiting in gone {
+            self.give_up(waiting, "its peer is gone");
+        }
+        let waits = sample.waiting.to_vec(self.alloc)?;
+        let seconds = self.still.pass(sample);
+        if self.silence != 0 && self.silence <= seconds {
+            for waiting in waits {
+                self.give_up(
+                    waiting,
+                    "nothing has happened for as long as a peer may be silent",
+                );
+            }
+        }
+        Ok(())
+    }
+
+    /// Looks at those that wait, until the server ends. Answers its seat.
+    fn run(mut self, buffer: &mut [u8], ended: &AtomicBool) -> SessionSeat<E, K, H> {
+        let mut step = 0u64;
+        for _ in self.rt.forever() {
+            if ended.load(Ordering::SeqCst) {
+                break;
+            }
+            thread::sleep(self.rt, Duration::from_millis(STEP));
+            step = step.saturating_add(1) % STEPS;
+            if step == 0 && self.look(buffer).is_err() {
+                warn!(self.rt; "memory was refused to look for peers that are gone");
+            }
+        }
+        self.seat
+    }
+}
+
+/// Ends jobs that wait for a page and whose peers are gone, until the server ends; and where nothing at all happens for so many
+/// seconds, all that wait, unless that is 0. Answers its seat.
+pub(crate) fn watch<R: Clock + Log + Wait, E: SpoolLedger, K: Ledger, H: Ledger>(
+    rt: &R,
+    alloc: Global,
+    spool: &SharedSpool<E, K, H>,
+    seat: SessionSeat<E, K, H>,
+    posts: &Posts,
+    silence: u64,
+    ended: &AtomicBool,
+) -> SessionSeat<E, K, H> {
+    let Ok(mut buffer) = vec![in alloc; 0u8; LOOKED_AT] else {
+        warn!(rt; "memory was refused: peers that are gone aren't looked for");
+        return seat;
+    };
+    let watcher = Watcher {
+        rt,
+        alloc,
+        spool,
+        seat,
+        posts,
+        silence,
+        still: Still::new(alloc),
+    };
+    watcher.run(buffer.as_mut_slice(), ended)
+}

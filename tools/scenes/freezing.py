@@ -1,0 +1,394 @@
+#!/usr/bin/env python3
+"""Scenes in which a server that freezes would: freezing.py PROGRAM [SCENE..], where PROGRAM is the built lpd_server.
+
+Each scene is bounded in time and runs on loopback alone. A line says what was seen; the last line is 'N passed, M failed'."""
+import contextlib
+import fcntl
+import os
+import signal
+import socket
+import subprocess
+import sys
+import threading
+import time
+
+from client import Server, answer, ask, begin, connect, control, send, spool, state, together
+
+PROGRAM = os.path.abspath(sys.argv[1]) if len(sys.argv) > 1 else ""
+
+
+def check(holds, text):
+    if not holds:
+        raise AssertionError(text)
+
+
+def a_printer_that_takes_no_page():
+    """2,000 jobs: each is answered within 2 s, by 00 or by 02, and a state in between within a second."""
+    with Server(PROGRAM, spool(limit=4, account=400_000), "--keep-room", "--sessions", "16", device="fifo") as server:
+        slowest, answers, states = [0.0], {}, []
+
+        def client(number):
+            for job in range(number, 2000, 8):
+                start = time.monotonic()
+                octet = send(server.port, job % 1000, b"x" * 1000)
+                slowest[0] = max(slowest[0], time.monotonic() - start)
+                answers[octet] = answers.get(octet, 0) + 1
+                if number == 0 and job % 40 == 0:
+                    states.append(state(server.port)[1])
+
+        done = together(8, client)
+        check(not any(done), done)
+        check(set(answers) <= {0, 2} and sum(answers.values()) == 2000, answers)
+        check(slowest[0] < 2, slowest)
+        check(max(states) < 1, states)
+        return f"answers {answers}, the slowest {slowest[0]:.2f} s, states {max(states):.3f} s"
+
+
+def a_reader_that_leaves():
+    """Eight sessions, few pages, twenty jobs at once; the printer's reader leaves after three jobs and comes back."""
+    words = ("--sessions", "8", "--silence", "5", "--keep-room")
+    with Server(PROGRAM, spool(pages=32, limit=16, size=4096), *words, device="fifo") as server:
+        taken = [0]
+
+        def read(octets):
+            descriptor = os.open(server.path(), os.O_RDONLY)
+            while octets > 0:
+                octets -= len(os.read(descriptor, min(octets, 4096)))
+                taken[0] += 1
+            os.close(descriptor)
+
+        def reader():
+            read(3 * 60_000)
+            time.sleep(4)
+            read(17 * 60_000)
+
+        thread = threading.Thread(target=reader, daemon=True)
+        thread.start()
+        asked = []
+
+        def client(number):
+            if number == 20:
+                for _ in range(10):
+                    time.sleep(0.5)
+                    asked.append(state(server.port)[1])
+                return 0
+            return send(server.port, number + 1, b"y" * 60_000)
+
+        answers = together(21, client)
+        check(max(asked) < 1, asked)
+        check(all(octet in (0, 2, None) for octet in answers if not isinstance(octet, Exception)), answers)
+        good = sum(octet == 0 for octet in answers[:20])
+        return f"{good} of 20 printed, states {max(asked):.3f} s while its reader was away"
+
+
+def sessions_that_all_wait():
+    """64 sessions wait for pages: a state, a start and a removal within a second; a peer that is gone gives its pages back."""
+    config = spool(pages=64, size=512, jobs=512, limit=64, queues=("lp", "other"), account=10_000_000)
+    with Server(PROGRAM, config, "--sessions", "64", printers=2, device="fifo") as server:
+        first = begin(server.port, 1, 64 * 512, b"z" * 512, host="127.0.1.1")
+        waiting = [begin(server.port, number, 64 * 512, b"z" * 2048, host=f"127.0.2.{number}") for number in range(2, 65)]
+        time.sleep(1.5)
+        took = {}
+        for name, line in (("state", b"\x03lp\n"), ("start", b"\x01lp\n"), ("removal", b"\x05lp root 1\n")):
+            took[name] = ask(server.port, line, 10)[1]
+        check(max(took.values()) < 1, took)
+        for peer in waiting[1:]:
+            peer.close()
+        first.sendall(b"z" * (63 * 512) + b"\0")
+        check(answer(first) == 0, "the first job isn't stored")
+        first.close()
+        start = time.monotonic()
+        for _ in range(40):
+            text, _ = state(server.port)
+            if server.log().count("its peer is gone") + server.log().count("ended in the middle") >= 62:
+                break
+            time.sleep(0.1)
+        gone = time.monotonic() - start
+        check(gone < 3.5, f"peers that are gone are seen after {gone:.1f} s")
+        waiting[0].close()
+        return f"{ {name: round(seconds, 3) for name, seconds in took.items()} }, 62 gone peers seen within {gone:.1f} s"
+
+
+def a_peer_that_leaves_in_a_small_file():
+    """A peer that leaves in the middle of a file of 8 KB while it waits gives its pages back within 2 s; one that half-closed after
+    its whole job is printed."""
+    config = spool(pages=16, size=1024, limit=16, queues=("lp", "other"), account=10_000_000)
+    with Server(PROGRAM, config, printers=2, device=None) as server:
+        holder = begin(server.port, 1, 16 * 1024, b"h" * 1024, queue="other", host="127.0.1.1")
+        time.sleep(0.2)
+        leaver = begin(server.port, 2, 8192, b"l" * 4000, host="127.0.1.2")
+        half = connect(server.port, "127.0.1.3")
+        text = control(3)
+        half.sendall(b"\x02lp\n\x033000 dfA003h1\n" + b"w" * 3000 + b"\0" + f"\x02{len(text)} cfA003h1\n".encode() + text + b"\0")
+        half.shutdown(socket.SHUT_WR)
+        time.sleep(0.5)
+        start = time.monotonic()
+        leaver.close()
+        while "its peer is gone" not in server.log() and time.monotonic() - start < 5:
+            time.sleep(0.05)
+        gone = time.monotonic() - start
+        check(gone < 2.2, f"it is seen after {gone:.1f} s")
+        time.sleep(1.5)
+        check(server.log().count("its peer is gone") == 1, server.log())
+        holder.close()
+        for _ in range(60):
+            if os.path.getsize(server.path(1)) == 3000:
+                break
+            time.sleep(0.1)
+        check(os.path.getsize(server.path(1)) == 3000, "the whole job isn't printed")
+        return f"its pages are back after {gone:.1f} s, and the half-closed one's job is printed"
+
+
+def idle_connections():
+    """2,000 connections without a word, and 64 that send one octet: good jobs beside them, and no processor time."""
+    import resource
+    resource.setrlimit(resource.RLIMIT_NOFILE, (8192, resource.getrlimit(resource.RLIMIT_NOFILE)[1]))
+    told = []
+    for silent in (200, 2000):
+        with Server(PROGRAM, spool(), "--sessions", "8", "--keep-room") as server:
+            peers = [connect(server.port) for _ in range(silent)]
+            for _ in range(64):
+                peer = connect(server.port)
+                peer.sendall(b"\x02")
+                peers.append(peer)
+            took = []
+            for number in range(200):
+                start = time.monotonic()
+                check(send(server.port, number, b"j" * 1000) == 0, "a good job is refused")
+                took.append(time.monotonic() - start)
+            before = server.processor()
+            time.sleep(5)
+            used = server.processor() - before
+            check(max(took) < 1 and used < 0.15, (max(took), used))
+            told.append(f"beside {silent + 64}: the slowest of 200 jobs {max(took) * 1000:.1f} ms, processor in 5 s {used:.2f} s")
+            for peer in peers:
+                peer.close()
+    return "; ".join(told)
+
+
+def one_address_that_takes_all():
+    """64 peers of one address halt in a job; a job of another address is printed at once."""
+    config = spool(pages=4096, limit=4, jobs=256)
+    with Server(PROGRAM, config, "--sessions", "8", "--per-host", "4", "--keep-room") as server:
+        halting = []
+        for number in range(64):
+            peer = connect(server.port, "127.0.3.1")
+            peer.sendall(b"\x02lp\n")
+            halting.append(peer)
+        time.sleep(0.5)
+        start = time.monotonic()
+        check(send(server.port, 9, b"g" * 1000, host="127.0.3.2") == 0, "it is refused")
+        took = time.monotonic() - start
+        check(took < 1, took)
+        return f"printed after {took * 1000:.0f} ms"
+
+
+def a_refused_peer_that_drips():
+    """A refused peer that sends an octet now and then keeps its session for some five seconds at most."""
+    with Server(PROGRAM, spool(), "--sessions", "1") as server:
+        peer = connect(server.port)
+        peer.sendall(b"\x02nothing\n")
+        check(answer(peer) == 1, "an unknown queue is refused")
+        ended = [False]
+
+        def drip():
+            with contextlib.suppress(OSError):
+                while not ended[0]:
+                    peer.sendall(b"d")
+                    time.sleep(0.5)
+
+        thread = threading.Thread(target=drip, daemon=True)
+        thread.start()
+        start = time.monotonic()
+        check(send(server.port, 1, b"g" * 100) == 0, "it is refused")
+        took = time.monotonic() - start
+        ended[0] = True
+        check(took < 8, took)
+        return f"the next job is taken after {took:.1f} s"
+
+
+def a_peer_that_drips():
+    """With --slowest a peer that sends an octet now and then loses its session after a minute."""
+    with Server(PROGRAM, spool(), "--sessions", "1", "--slowest", "100") as server:
+        peer = begin(server.port, 1, 4000, b"")
+        start = time.monotonic()
+        with contextlib.suppress(OSError):
+            while time.monotonic() - start < 90:
+                peer.sendall(b"d")
+                time.sleep(1)
+                if "reading failed" in server.log():
+                    break
+        took = time.monotonic() - start
+        check(took < 75, took)
+        check(send(server.port, 2, b"g" * 100) == 0, "the next job is refused")
+        return f"it is left after {took:.0f} s"
+
+
+def a_log_that_nobody_reads():
+    """Standard error is a full pipe: jobs go on; at its end it waits 2 s at most."""
+    reader, writer = os.pipe()
+    fcntl.fcntl(writer, fcntl.F_SETPIPE_SZ, 4096)
+    with Server(PROGRAM, spool(), "--connections", "602", stderr=writer) as server:
+        for _ in range(600):
+            with contextlib.closing(connect(server.port)) as peer:
+                peer.sendall(b"\x7Fgarbage\n")
+                answer(peer)
+        start = time.monotonic()
+        check(send(server.port, 1, b"g" * 100) == 0, "it is refused")
+        took = time.monotonic() - start
+        check(took < 1, took)
+        server.process.wait(15)
+        ended = time.monotonic() - start
+        check(server.process.returncode == 0, server.process.returncode)
+        os.close(reader)
+        os.close(writer)
+        return f"a job beside it took {took * 1000:.0f} ms, the end {ended:.1f} s"
+
+
+def an_output_that_is_gone():
+    """Standard output's reader is gone: the server goes on, says so at once, and ends with status 4."""
+    reader, writer = os.pipe()
+    with Server(PROGRAM, spool(), "--connections", "4", "--rotate", "1", stdout=writer) as server:
+        os.close(writer)
+        os.close(reader)
+        for number in (1, 2, 3):
+            check(send(server.port, number, b"g" * 100) == 0, "it is refused")
+        told = "fault 73 WriteFile" in server.log()
+        server.process.wait(15)
+        check(told, "it isn't told at once")
+        check(server.process.returncode == 4, server.process.returncode)
+        return "told at once, three jobs taken, status 4"
+
+
+def closed_descriptors():
+    """Started with each standard descriptor closed, nothing of the log or the output comes into a printer's file."""
+    for closed in ((0,), (1,), (2,), (0, 1, 2)):
+        def close(closed=closed):
+            for descriptor in closed:
+                os.close(descriptor)
+        with Server(PROGRAM, spool(), "--connections", "3", device=None, preexec_fn=close) as server:
+            with contextlib.closing(connect(server.port)) as peer:
+                peer.sendall(b"\x7Fgarbage\n")
+                answer(peer)
+            check(send(server.port, 1, b"good") == 0, "it is refused")
+            server.process.wait(15)
+            printed = open(server.path(), "rb").read()
+            check(printed == b"good", (closed, printed))
+    return "the printer's file has the job's octets and nothing else"
+
+
+def a_filter_that_is_restarted():
+    """A filter reads the printer's pipe, ends and is started again, under load: no job is refused, and the printer isn't stopped."""
+    with Server(PROGRAM, spool(account=10_000_000), "--keep-room", device="fifo") as server:
+        ended, taken = [False], [0]
+
+        def filters():
+            while not ended[0]:
+                descriptor = os.open(server.path(), os.O_RDONLY)
+                for _ in range(20):
+                    taken[0] += len(os.read(descriptor, 4096))
+                os.close(descriptor)
+                time.sleep(0.02)
+
+        thread = threading.Thread(target=filters, daemon=True)
+        thread.start()
+        answers = together(8, lambda number: [send(server.port, job, b"f" * 1000) for job in range(number * 100, number * 100 + 50)])
+        for _ in range(100):
+            if taken[0] >= 400_000:
+                break
+            time.sleep(0.1)
+        ended[0] = True
+        text, _ = state(server.port)
+        check(all(not isinstance(one, Exception) and set(one) == {0} for one in answers), answers)
+        check(text.split(b"\n")[0].endswith(b"stopped 0"), text)
+        check(taken[0] >= 400_000, taken)
+        return f"400 jobs, {taken[0]} octets read by filters that came and went"
+
+
+def few_pages_and_a_printer_that_fails():
+    """64 clients for 60 s on 256 pages, a printer that fails each page and is started once a second: some client is answered at
+    least every 5 s; at the end all pages are free, since four jobs of 64 pages are taken side by side."""
+    config = spool(pages=256, limit=64, size=4096, jobs=256, account=16_000_000)
+    with Server(PROGRAM, config, "--sessions", "64", "--keep-room", device="/dev/full") as server:
+        end = time.monotonic() + 60
+        last, longest, ended, clients = [time.monotonic()], [0.0], [0], [0]
+
+        def one(number):
+            octet = send(server.port, number, b"f" * 200_000, host=f"127.0.6.{number + 1}", limit=150)
+            now = time.monotonic()
+            longest[0] = max(longest[0], now - last[0])
+            last[0] = now
+            ended[0] += 1
+            return octet
+
+        def client(number):
+            if number == 64:
+                while time.monotonic() < end + 120:
+                    ask(server.port, b"\x01lp\n")
+                    time.sleep(1 if time.monotonic() < end else 0.1)
+                    if time.monotonic() > end and b"jobs 0" in state(server.port)[0] and clients[0] == 64:
+                        return 0
+                return 1
+            while time.monotonic() < end:
+                one(number)
+            clients[0] += 1
+            return 0
+
+        done = together(65, client)
+        check(not any(done), done)
+        check(longest[0] < 5, longest)
+        held = together(4, lambda number: send(server.port, number, b"f" * (64 * 4096), host=f"127.0.7.{number + 1}"))
+        check(held == [0, 0, 0, 0], held)
+        return f"{ended[0]} jobs, at most {longest[0]:.1f} s between two, and all pages free at the end"
+
+
+def room_under_load():
+    """16 clients for 10 s as fast as they can, an account with room for 256 jobs and --keep-room: no refusal; beside it the rate with
+    an account that is never full."""
+    rates, refused = [], []
+    limit = 1
+    for account in (256 * (200 * limit + 112) + 1, 16_000_000):
+        with Server(PROGRAM, spool(limit=limit, account=account, jobs=1024), "--keep-room", "--sessions", "16") as server:
+            end = time.monotonic() + 10
+            counts = [0] * 16
+
+            def client(number):
+                bad = 0
+                while time.monotonic() < end:
+                    bad += send(server.port, counts[number] % 1000, b"k" * 1000, host=f"127.0.4.{number + 1}") != 0
+                    counts[number] += 1
+                return bad
+
+            refused.append(together(16, client))
+            rates.append(sum(counts) / 10)
+    check(not any(refused[0]), refused[0])
+    check(rates[0] >= 0.9 * rates[1], rates)
+    return f"{rates[0]:.0f} jobs a second, {rates[0] / rates[1]:.2f} of the rate with an account that is never full"
+
+
+SCENES = [value for value in list(globals().values()) if callable(value) and getattr(value, "__module__", "") == "__main__" and value is not check]
+
+
+def main():
+    wanted = sys.argv[2:]
+    passed = failed = 0
+    for scene in SCENES:
+        if scene is main or (wanted and scene.__name__ not in wanted):
+            continue
+        start = time.monotonic()
+        try:
+            told = scene()
+            passed += 1
+            print(f"{scene.__name__}: {told} ({time.monotonic() - start:.0f} s)", flush=True)
+        except Exception as error:
+            failed += 1
+            print(f"{scene.__name__}: FAILED: {type(error).__name__} {error}", flush=True)
+    print(f"{passed} passed, {failed} failed")
+    return 1 if failed else 0
+
+
+if __name__ == "__main__":
+    if not PROGRAM:
+        sys.exit(__doc__)
+    signal.signal(signal.SIGPIPE, signal.SIG_IGN)
+    sys.exit(main())
