@@ -82,7 +82,7 @@ impl Room {
         }
     }
 
-    /// Says once a minute for how long there has been no room.
+    /// Says for how long there has been no room, after a minute and once a minute from then on.
     fn tell_full<R: Clock + Log>(&mut self, rt: &R, counted: u64) {
         if counted <= self.full {
             self.full_since = None;
@@ -94,15 +94,13 @@ impl Room {
         };
         let since = self.full_since.unwrap_or(now);
         self.full_since = Some(since);
-        let is_due = match self.told {
-            Some(told) => milliseconds_since(rt, told) >= TELL.saturating_mul(1_000),
-            None => true,
-        };
-        if is_due {
-            self.told = Some(now);
-            let seconds = milliseconds_since(rt, since) / 1_000;
-            warn!(rt; "the account has had no room for {seconds} s: jobs are refused until no job is held");
+        let last = self.told.unwrap_or(since);
+        if milliseconds_since(rt, last) < TELL.saturating_mul(1_000) {
+            return;
         }
+        self.told = Some(now);
+        let seconds = milliseconds_since(rt, since) / 1_000;
+        warn!(rt; "the account has had no room for {seconds} s: jobs are refused until no job is held");
     }
 
     /// Whether new jobs are let in.
