@@ -38,7 +38,8 @@ struct Envelope {
 impl Envelope {
     /// Whether it can be sent. False where memory is refused.
     fn is_sendable(&self, alloc: Global) -> bool
-        ensures { IsTrue result → IsTrue (is_sendable self.now.queue self.now.name self.now.control self.now.files) }
+        ensures { IsTrue result → IsTrue (is_sendable
+            self.now.queue self.now.name self.now.control self.now.files) }
     {
         is_sendable(
             alloc,

@@ -246,7 +246,8 @@ fn lines<R: Wait, E: SpoolLedger, K: Ledger, H: Ledger>(
     requires kinds { (blanks.kinds.name ≡ K.name) × (blanks.kinds.parts ≡ K.parts) }
     requires handed { (blanks.handed.name ≡ H.name) × (blanks.handed.parts ≡ H.parts) }
     requires config { config ≡ E.config }
-    requires one_each { (E.parts ≡ 1 + printer_count config) × (K.parts ≡ E.parts) × (H.parts ≡ E.parts) }
+    requires one_each { (E.parts ≡ 1 + printer_count config) × (K.parts ≡ E.parts)
+        × (H.parts ≡ E.parts) }
 {
     let Blanks {
         entries,

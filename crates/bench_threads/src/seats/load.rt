@@ -106,7 +106,8 @@ impl<'a> Load<'a> {
         requires kinds { (blanks.kinds.name ≡ K.name) × (blanks.kinds.parts ≡ K.parts) }
         requires handed { (blanks.handed.name ≡ H.name) × (blanks.handed.parts ≡ H.parts) }
         requires config { config ≡ E.config }
-        requires one_each { (E.parts ≡ threads + printer_count config) × (K.parts ≡ E.parts) × (H.parts ≡ E.parts) }
+        requires one_each { (E.parts ≡ threads + printer_count config) × (K.parts ≡ E.parts)
+            × (H.parts ≡ E.parts) }
     {
         let Blanks {
             entries,
