@@ -38,10 +38,10 @@ enum Hold {
 /// Room in the account, where it is kept.
 #[derive(Drop)]
 pub(crate) struct Room {
-    // The most entries that may be counted for there to be room for a job of each queue in each connection that may bring one, or
-    // with which the account isn't rotated.
+    // Where more entries are counted than these, new jobs wait. With so many there is room for two jobs of the largest limit in
+    // each session; or the account isn't rotated yet, where that is more.
     most: u64,
-    // The most that may be counted for there to be room for a job of each queue.
+    // Where more are counted than these, there is no room for a job of the largest limit.
     full: u64,
     hold: Hold,
     // Since when there is no room, and when that was told last.

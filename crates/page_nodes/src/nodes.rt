@@ -1,3 +1,5 @@
+//! The chains: which pages each has, in order.
+
 ghost use Rattle.std.specs.Prelude.{◌≡◌, ◌+◌, ◌<◌, ◌≤◌, ◌++◌, ◌∷◌, [], Some, IfOk, length, drop, map, replicate};
 ghost use Rattle.page_nodes.specs.Chains.{Chains, chain_of, with_chain, total, AreOfSize};
 

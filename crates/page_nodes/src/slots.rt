@@ -1,3 +1,5 @@
+//! Slots for pages, one for each node.
+
 ghost use Rattle.std.specs.Prelude.{◌≡◌, ◌<◌, Some, None, IsSome, IfOk, length, slice_set, slice_index_or};
 
 use page_pool::FilledPage;
