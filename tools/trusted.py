@@ -32,8 +32,9 @@ PARTS = [
     (
         "What the lock keeps",
         "What `IsHeld` names beyond that: the invariant of `Locked` (`crates/locked_spool/src/locked.rt`), so it holds whenever the "
-        "lock is free.",
-        ["crates/locked_spool/specs/Held.antt"],
+        "lock is free; and what `finish` and `rotate` of a spool that threads share say of each segment of its account "
+        "(`IsLegalSegment`, `HasHeadline`).",
+        ["crates/locked_spool/specs/Held.antt", "crates/locked_spool/specs/Segments.antt"],
     ),
 ]
 
