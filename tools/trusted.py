@@ -46,8 +46,8 @@ HEAD = """\
 A proof says that code meets a definition. So whoever relies on the headline, or on what the lock keeps (`docs/PROVED.md` has
 both in words), has to believe three things besides, and can read the second one on this page:
 
-1. **The toolchain**: its logic and its prover, its compilers, the crates of its kit that README names, and the libraries that the
-   definitions name: {libraries}.
+1. **The toolchain**: its logic and its prover, its compilers, the crates of its kit that `docs/PROVED.md` names, and the libraries
+   that the definitions name: {libraries}.
 2. **The definitions listed here**: that they say what a spooler should do. They are {files} files with {lines} lines. Nothing
    else of the repository has to be read for that: no proof, no law, and of the code only the clauses that cite these files, and
    the types of the last list, which definitions name as they stand in code.
