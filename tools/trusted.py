@@ -183,16 +183,26 @@ def page():
     return "".join(text)
 
 
+def rows_of(text):
+    """The lines of its tables, without the numbers of files."""
+    return [re.sub(r"^\| \d+ \|", "|", line) for line in text.splitlines() if line.startswith("|")]
+
+
 def difference(old, new):
-    """The first line that differs, in a few words; None where all are alike."""
+    """What differs, in a few words: a row of a table, if any does, or else a line. None where all is alike."""
+    had, wanted = rows_of(old), rows_of(new)
+    for row in wanted:
+        if row not in had:
+            return f"there should be: {row}"
+    for row in had:
+        if row not in wanted:
+            return f"there should not be: {row}"
     old, new = old.splitlines(), new.splitlines()
-    for number, (was, wanted) in enumerate(zip(old, new), 1):
-        if was != wanted:
-            return f"line {number} should be: {wanted}"
-    if len(old) < len(new):
-        return f"after line {len(old)} there should be: {new[len(old)]}"
-    if len(old) > len(new):
-        return f"line {len(new) + 1} is too many: {old[len(new)]}"
+    for number, (was, line) in enumerate(zip(old, new), 1):
+        if was != line:
+            return f"line {number} should be: {line}"
+    if len(old) != len(new):
+        return f"it has {len(old)} lines, and should have {len(new)}"
     return None
 
 
