@@ -11,6 +11,7 @@ it uses. Its lines are counted without comments and blank ones, and its sentence
 import os
 import re
 import sys
+import textwrap
 
 TOP = os.path.dirname(os.path.dirname(os.path.abspath(__file__)))
 PAGE = "docs/TRUSTED.md"
@@ -171,7 +172,8 @@ def page():
     number = 0
     for title, says, files in parts:
         count = sum(lines_of(path) for path in files)
-        text.append(f"\n## {title}\n\n{says} {len(files)} files, {count:,} lines.\n\n")
+        says = textwrap.fill(f"{says} {len(files)} files, {count:,} lines.", 128, break_on_hyphens=False)
+        text.append(f"\n## {title}\n\n{says}\n\n")
         text.append("| | File | Lines | Holds |\n|---|---|---|---|\n")
         for path in files:
             number += 1
