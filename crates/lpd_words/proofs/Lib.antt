@@ -1,4 +1,5 @@
 mod AskedLemmas
+mod CommandLemmas
 mod EnvelopeLemmas
 mod OrderLemmas
 mod ServingLemmas

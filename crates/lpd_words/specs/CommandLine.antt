@@ -1,9 +1,15 @@
 -- The words that the program takes, as clap sees them.
-use Rattle.std.specs.Prelude.{Some, true, codes, pos, []}
+use Rattle.std.specs.Prelude.{◌≡◌, ◌∷◌, List, Some, codes, false, pos, true, []}
 use Rattle.clap.specs.Words.{App, Rule, Text, new_app, new_rule, with_rule, with_subcommand}
+use Rattle.clap.specs.declared.builder.arg.Arg.{Arg}
 use Rattle.clap.specs.declared.builder.action.ArgAction.TheVariants.{SetTrue}
 use Rattle.clap.specs.declared.builder.value_parser.ValueParser.{ValueParser}
 use Rattle.clap.specs.declared.builder.value_parser.ValueParser.TheVariants as parser
+
+-- none of these words is one of all commands
+abbrev pub AreLocal : List Arg → Type 0
+AreLocal [] = Unit {0}
+AreLocal (arg ∷ args) = (arg.global ≡ false) × AreLocal args
 
 -- a word that has to be there
 abbrev pub word : Text → Rule
@@ -41,40 +47,49 @@ listening_port =
 abbrev pub sessions : Rule
 sessions = number_option (codes "sessions") (parser.Signed (pos 1) (pos 64))
 
+-- a command with words more, in order
+abbrev pub with_rules : App → List Rule → App
+with_rules app [] = app
+with_rules app (rule ∷ rules) = with_rules (with_rule app rule) rules
+
+-- a command line with commands more, in order
+abbrev pub with_commands : App → List App → App
+with_commands app [] = app
+with_commands app (command ∷ commands) = with_commands (with_subcommand app command.top) commands
+
+-- the words and options of `check`
+abbrev pub check_words : List Rule
+check_words = word (codes "config") ∷ flag (codes "sizes") ∷ []
+
 abbrev pub check_app : App
-check_app = with_rule (with_rule (new_app (codes "check")) (word (codes "config"))) (flag (codes "sizes"))
+check_app = with_rules (new_app (codes "check")) check_words
+
+-- the words of `replay`
+abbrev pub replay_words : List Rule
+replay_words = word (codes "config") ∷ word (codes "script") ∷ []
 
 abbrev pub replay_app : App
-replay_app =
-    with_rule (with_rule (new_app (codes "replay")) (word (codes "config")))
-    (word (codes "script"))
+replay_app = with_rules (new_app (codes "replay")) replay_words
 
-abbrev pub send_to_app : App
-send_to_app =
-    with_rule (with_rule (with_rule (new_app (codes "send"))
-    (number (codes "port") (parser.Signed (pos 1) (pos 65535))))
-    (word (codes "queue")))
-    (number (codes "number") (parser.Signed (pos 0) (pos 999)))
+-- the words of `send`
+abbrev pub send_words : List Rule
+send_words =
+    number (codes "port") (parser.Signed (pos 1) (pos 65535)) ∷ word (codes "queue")
+    ∷ number (codes "number") (parser.Signed (pos 0) (pos 999)) ∷ word (codes "host")
+    ∷ word (codes "user") ∷ words (codes "file") ∷ []
 
 abbrev pub send_app : App
-send_app =
-    with_rule (with_rule (with_rule send_to_app (word (codes "host"))) (word (codes "user")))
-    (words (codes "file"))
+send_app = with_rules (new_app (codes "send")) send_words
 
-abbrev pub serve_at_app : App
-serve_at_app =
-    with_rule (with_rule (with_rule (with_rule (new_app (codes "serve")) (word (codes "config")))
-    listening_port) (option (codes "bind"))) (option (codes "out"))
-
-abbrev pub serve_until_app : App
-serve_until_app =
-    with_rule (with_rule (with_rule (with_rule serve_at_app sessions)
-    (count (codes "connections"))) (count (codes "rotate"))) (count (codes "silence"))
+-- the words and options of `serve`
+abbrev pub serve_words : List Rule
+serve_words =
+    word (codes "config") ∷ listening_port ∷ option (codes "bind") ∷ option (codes "out")
+    ∷ sessions ∷ count (codes "connections") ∷ count (codes "rotate") ∷ count (codes "silence")
+    ∷ count (codes "per-host") ∷ count (codes "slowest") ∷ flag (codes "keep-room") ∷ []
 
 abbrev pub serve_app : App
-serve_app =
-    with_rule (with_rule (with_rule serve_until_app (count (codes "per-host")))
-    (count (codes "slowest"))) (flag (codes "keep-room"))
+serve_app = with_rules (new_app (codes "serve")) serve_words
 
 abbrev pub program_app : App
 program_app = record {
@@ -85,10 +100,9 @@ program_app = record {
   subs = [];
 }
 
--- the commands on files
-abbrev pub files_app : App
-files_app = with_subcommand (with_subcommand program_app check_app.top) replay_app.top
+abbrev pub commands : List App
+commands = check_app ∷ replay_app ∷ send_app ∷ serve_app ∷ []
 
 -- the command line: nothing, or check, replay, send or serve with its words; help and the version
 abbrev pub command_line : App
-command_line = with_subcommand (with_subcommand files_app send_app.top) serve_app.top
+command_line = with_commands program_app commands

@@ -1,13 +1,13 @@
 //! The command line, as `clap` reads it.
 
-ghost use Rattle.std.specs.Prelude.{◌≡◌, IfOk, codes, false, pos};
-ghost use Rattle.clap.specs.Words.{app_of, new_app, rule_of, with_rule, with_subcommand};
+ghost use Rattle.std.specs.Prelude.{◌≡◌, IfOk, codes, false, map, pos};
+ghost use Rattle.clap.specs.Words.{app_of, new_app, rule_of};
 ghost use Rattle.clap.specs.declared.builder.command.Command.TheViews.{out-Command as fields_of};
 ghost use Rattle.clap.specs.declared.builder.value_parser.ValueParser.TheVariants as parser;
-ghost use Rattle.lpd_words.specs.CommandLine.{check_app, command_line, count, files_app, flag};
+ghost use Rattle.lpd_words.specs.CommandLine.{AreLocal, check_app, command_line, count, flag};
 ghost use Rattle.lpd_words.specs.CommandLine.{listening_port, number, number_option, option};
-ghost use Rattle.lpd_words.specs.CommandLine.{program_app, replay_app, send_app, send_to_app};
-ghost use Rattle.lpd_words.specs.CommandLine.{serve_app, serve_at_app, serve_until_app, sessions, word, words};
+ghost use Rattle.lpd_words.specs.CommandLine.{program_app, replay_app, send_app, serve_app, sessions};
+ghost use Rattle.lpd_words.specs.CommandLine.{with_rules, word, words};
 
 use clap::builder::ValueParser;
 use clap::{Arg, ArgAction, Command, value_parser};
@@ -96,7 +96,7 @@ fn option<'a>(alloc: Global, id: &'a str, name: &'a str, help: &'a str) -> Arg<'
     ensures rule { rule_of result ≡ option id.now }
     ensures local { result.global ≡ false }
 {
-    Arg::new(alloc, id).long(id).value_name(name).help(help)
+    Arg::new(alloc, id).value_name(name).help(help).long(id)
 }
 
 /// The ports that there are.
@@ -204,24 +204,15 @@ fn plain<'a>(alloc: Global, name: &'a str, about: &'a str, more: &'a str) -> Com
     Command::new(alloc, name).about(about).after_help(more)
 }
 
-/// A command with one word more.
-fn with_word<'a>(command: Command<'a>, word: Arg<'a>) -> Result<Command<'a>, AllocError>
-    requires local { word.global ≡ false }
+/// A command with these words more, in order.
+fn with_words<'a>(command: Command<'a>, words: Vec<Arg<'a>>) -> Result<Command<'a>, AllocError>
+    requires words { AreLocal words.items }
     requires before { (fields_of command).has_globals ≡ false }
     ensures app { IfOk result (λ r.
-        app_of r ≡ with_rule (app_of command.entry) (rule_of word.entry)) }
+        app_of r ≡ with_rules (app_of command.entry) (map rule_of words.entry.items)) }
     ensures local { IfOk result (λ r. (fields_of r).has_globals ≡ false) }
 {
-    command.arg(word)
-}
-
-/// A command with one command more.
-fn with_command<'a>(command: Command<'a>, more: Command<'a>) -> Result<Command<'a>, AllocError>
-    requires { (fields_of more).has_globals ≡ false }
-    ensures { IfOk result (λ r.
-        app_of r ≡ with_subcommand (app_of command.entry) (app_of more.entry).top) }
-{
-    command.subcommand(more)
+    command.args(words)
 }
 
 /// The command that reads a configuration.
@@ -231,9 +222,11 @@ fn check<'a>(alloc: Global) -> Result<Command<'a>, AllocError>
 {
     let about = "Reads a configuration, and says what spool it is for";
     let sizes = "Says how many jobs fit into the account";
-    let config = word(alloc, "config", "CONFIG", CONFIG);
-    let command = with_word(plain(alloc, "check", about, MORE_OF_CHECK), config)?;
-    with_word(command, flag(alloc, "sizes", sizes))
+    let words = vec![in alloc;
+        word(alloc, "config", "CONFIG", CONFIG),
+        flag(alloc, "sizes", sizes),
+    ]?;
+    with_words(plain(alloc, "check", about, MORE_OF_CHECK), words)
 }
 
 /// The command that runs a script.
@@ -242,22 +235,11 @@ fn replay<'a>(alloc: Global) -> Result<Command<'a>, AllocError>
     ensures local { IfOk result (λ command. (fields_of command).has_globals ≡ false) }
 {
     let about = "Runs the script of a file on the spool of a configuration";
-    let config = word(alloc, "config", "CONFIG", CONFIG);
-    let script = word(alloc, "script", "SCRIPT", "The file of the script");
-    let command = with_word(plain(alloc, "replay", about, MORE_OF_REPLAY), config)?;
-    with_word(command, script)
-}
-
-/// The command that sends a job, up to the job's number.
-fn send_to<'a>(alloc: Global) -> Result<Command<'a>, AllocError>
-    ensures app { IfOk result (λ command. app_of command ≡ send_to_app) }
-    ensures local { IfOk result (λ command. (fields_of command).has_globals ≡ false) }
-{
-    let about = "Sends a job to a server at 127.0.0.1";
-    let queue = "The name of a queue: 1 to 1022 octets, no white space";
-    let command = with_word(plain(alloc, "send", about, MORE_OF_SEND), port(alloc))?;
-    let command = with_word(command, word(alloc, "queue", "QUEUE", queue))?;
-    with_word(command, number(alloc))
+    let words = vec![in alloc;
+        word(alloc, "config", "CONFIG", CONFIG),
+        word(alloc, "script", "SCRIPT", "The file of the script"),
+    ]?;
+    with_words(plain(alloc, "replay", about, MORE_OF_REPLAY), words)
 }
 
 /// The command that sends a job.
@@ -265,42 +247,20 @@ fn send<'a>(alloc: Global) -> Result<Command<'a>, AllocError>
     ensures app { IfOk result (λ command. app_of command ≡ send_app) }
     ensures local { IfOk result (λ command. (fields_of command).has_globals ≡ false) }
 {
+    let about = "Sends a job to a server at 127.0.0.1";
+    let queue = "The name of a queue: 1 to 1022 octets, no white space";
     let host = "The host that sends the job: 1 to 120 octets, no white space";
     let user = "The user that sends the job: 1 to 255 octets in one line";
     let files = "The files to print: 1 to 52, none of them empty";
-    let command = with_word(send_to(alloc)?, word(alloc, "host", "HOST", host))?;
-    let command = with_word(command, word(alloc, "user", "USER", user))?;
-    with_word(command, words(alloc, "file", "FILE", files))
-}
-
-/// The command that serves, up to where it listens and writes.
-fn serve_at<'a>(alloc: Global) -> Result<Command<'a>, AllocError>
-    ensures app { IfOk result (λ command. app_of command ≡ serve_at_app) }
-    ensures local { IfOk result (λ command. (fields_of command).has_globals ≡ false) }
-{
-    let about = "Serves the queues of a configuration to the network";
-    let bind = "The IPv4 address to listen on [default: 127.0.0.1]";
-    let out = "The directory of the printers' files [default: .]";
-    let config = word(alloc, "config", "CONFIG", CONFIG);
-    let command = with_word(plain(alloc, "serve", about, MORE_OF_SERVE), config)?;
-    let command = with_word(command, listening_port(alloc))?;
-    let command = with_word(command, option(alloc, "bind", "BIND", bind))?;
-    with_word(command, option(alloc, "out", "DIR", out))
-}
-
-/// The command that serves, up to when it ends and whom it leaves.
-fn serve_until<'a>(alloc: Global) -> Result<Command<'a>, AllocError>
-    ensures app { IfOk result (λ command. app_of command ≡ serve_until_app) }
-    ensures local { IfOk result (λ command. (fields_of command).has_globals ≡ false) }
-{
-    let connections = "Ends after so many connections [default: none is the last]";
-    let rotate = "Rotates the account after each so many connections";
-    let silence = "Ends a session whose peer is silent for so many seconds";
-    let command = with_word(serve_at(alloc)?, sessions(alloc))?;
-    let last = count(alloc, "connections", "CONNECTIONS", connections);
-    let command = with_word(command, last)?;
-    let command = with_word(command, count(alloc, "rotate", "ROTATE", rotate))?;
-    with_word(command, count(alloc, "silence", "SECONDS", silence))
+    let words = vec![in alloc;
+        port(alloc),
+        word(alloc, "queue", "QUEUE", queue),
+        number(alloc),
+        word(alloc, "host", "HOST", host),
+        word(alloc, "user", "USER", user),
+        words(alloc, "file", "FILE", files),
+    ]?;
+    with_words(plain(alloc, "send", about, MORE_OF_SEND), words)
 }
 
 /// The command that serves.
@@ -308,15 +268,29 @@ fn serve<'a>(alloc: Global) -> Result<Command<'a>, AllocError>
     ensures app { IfOk result (λ command. app_of command ≡ serve_app) }
     ensures local { IfOk result (λ command. (fields_of command).has_globals ≡ false) }
 {
+    let about = "Serves the queues of a configuration to the network";
+    let bind = "The IPv4 address to listen on [default: 127.0.0.1]";
+    let out = "The directory of the printers' files [default: .]";
+    let connections = "Ends after so many connections [default: none is the last]";
+    let rotate = "Rotates the account after each so many connections";
+    let silence = "Ends a session whose peer is silent for so many seconds";
     let per_host = "Serves at most so many connections of one address at once";
     let slowest = "Ends a session whose peer sends less than so many octets a second for a minute";
     let keep_room = "Rotates the account as soon as no job is held, and has new jobs wait for that";
-    let command = with_word(
-        serve_until(alloc)?,
+    let words = vec![in alloc;
+        word(alloc, "config", "CONFIG", CONFIG),
+        listening_port(alloc),
+        option(alloc, "bind", "BIND", bind),
+        option(alloc, "out", "DIR", out),
+        sessions(alloc),
+        count(alloc, "connections", "CONNECTIONS", connections),
+        count(alloc, "rotate", "ROTATE", rotate),
+        count(alloc, "silence", "SECONDS", silence),
         count(alloc, "per-host", "SESSIONS", per_host),
-    )?;
-    let command = with_word(command, count(alloc, "slowest", "OCTETS", slowest))?;
-    with_word(command, flag(alloc, "keep-room", keep_room))
+        count(alloc, "slowest", "OCTETS", slowest),
+        flag(alloc, "keep-room", keep_room),
+    ]?;
+    with_words(plain(alloc, "serve", about, MORE_OF_SERVE), words)
 }
 
 /// The program without its commands.
@@ -329,18 +303,10 @@ fn program<'a>(alloc: Global) -> Command<'a>
         .disable_help_subcommand(true)
 }
 
-/// The program with its commands on files.
-fn with_files<'a>(alloc: Global) -> Result<Command<'a>, AllocError>
-    ensures { IfOk result (λ command. app_of command ≡ files_app) }
-{
-    let command = with_command(program(alloc), check(alloc)?)?;
-    with_command(command, replay(alloc)?)
-}
-
 /// The command line.
 pub(crate) fn command<'a>(alloc: Global) -> Result<Command<'a>, AllocError>
     ensures { IfOk result (λ command. app_of command ≡ command_line) }
 {
-    let command = with_command(with_files(alloc)?, send(alloc)?)?;
-    with_command(command, serve(alloc)?)
+    let commands = vec![in alloc; check(alloc)?, replay(alloc)?, send(alloc)?, serve(alloc)?]?;
+    program(alloc).subcommands(commands)
 }
