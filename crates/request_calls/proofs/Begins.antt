@@ -1,5 +1,5 @@
 -- A data file that a session begins has octets.
-use Rattle.std.proofs.Common.{◌==◌, ℕ, zero, suc, ◌+◌, ◌-◌, Bool, true, false, nat_le, nat_lt, cond, List, [], ◌∷◌, ◌++◌, length, take, drop, Option, Some, None, Result, Ok, Err, refl}
+use Rattle.std.proofs.Common.{◌==◌, ℕ, zero, suc, ◌+◌, Bool, true, false, nat_le, nat_lt, cond, List, [], ◌∷◌, ◌++◌, length, take, drop, Option, Some, None, Result, Ok, Err, refl}
 use Rattle.std.specs.Prelude.{◌||◌, MatchResult, slice_index}
 use Rattle.std.specs.List.{prefix_len}
 use Rattle.lpd_values.specs.declared.limits.TheConstants.{MAX_CONTROL_TEXT, MAX_LINE}
@@ -15,7 +15,7 @@ use Rattle.lpd_commands.specs.declared.sub.Sub.TheVariants as sub
 use Rattle.lpd_commands.proofs.SubLaws.{sub_layout}
 use Rattle.control_file.specs.Text.{control_of}
 use Rattle.receiver.specs.Script as script
-use Rattle.receiver.specs.Script.{Item, Asks, Acks, Refuses, FileOctets, PageOctets, ZeroOctet, ControlText, Over, Written, Ack, Fault, Request, after_line, block, data_file, first_block, opening}
+use Rattle.receiver.specs.Script.{Item, Asks, Acks, Refuses, FileOctets, PageOctets, ZeroOctet, ControlText, Over, after_line, block, first_block, opening}
 use Rattle.receiver.specs.Reading.{Progress, Due, Waits, Ends, Writes, Requests, Kind, Admission, Opening, Lending, Ending, Aborting, Plain, after_text, answered, at_line, due, due_at, is_inner, kind_of, with_ticket, with_yes}
 use Rattle.spool_requests.specs.declared.answer.Answer.{Answer}
 use Rattle.spool_requests.specs.declared.answer.Answer.TheVariants as answer
