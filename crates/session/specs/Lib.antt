@@ -1,4 +1,2 @@
-pub mod Course
 pub mod Added
 pub mod Served
-pub mod Turned

@@ -5,12 +5,8 @@
 //! No lock is held while octets are read or written.
 #![tactic(auto)]
 
-mod ending;
-mod requests;
 mod session;
-mod talk;
 
-pub use ending::SessionEnd;
-pub use lpd_commands::{OctetFault, OctetRead, OctetWrite};
-pub use session::{BUFFER_SIZE, MOST_READS, serve};
+pub use request_session::{BUFFER_SIZE, MOST_READS, OctetFault, OctetRead, OctetWrite, SessionEnd};
+pub use session::serve;
 pub use shared_spool::{SessionSeat, SharedSpool};

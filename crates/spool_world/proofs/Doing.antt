@@ -31,12 +31,14 @@ use Rattle.spool_trace.specs.Needs.{Advanced}
 use Rattle.spool_trace.proofs.Stages.{Fine, items_at}
 use Rattle.spool_trace.proofs.Wanted.{ack_is_due, ask_is_due, end_is_due, more_is_due, refusal_is_due, short_is_due}
 use Rattle.spool_trace.proofs.Steps.{ack_follows, ask_follows, end_follows, refusal_follows, short_follows, wait_follows}
+use Rattle.request_calls.specs.Pages.{first_page, is_lent}
 use Rattle.spool_world.specs.declared.connection.Connection.{Connection}
 use Rattle.spool_world.specs.Stands as stands
-use Rattle.spool_world.specs.Stands.{GoesOn, Stands, first_page, page_of}
-use Rattle.spool_world.specs.Turns.{AbortsIt, Answered, Does, IsEnded, IsOf, is_lent}
+use Rattle.spool_world.specs.Stands.{GoesOn, Stands, page_of}
+use Rattle.spool_world.specs.Turns.{AbortsIt, Answered, Does, IsEnded, IsOf}
 use Rattle.spool_world.proofs.Ends.{at, ended, fine, good, no_page, none_kept, quiet_held, stood, true_false}
-use Rattle.spool_world.proofs.Begins.{DueBegins, session_begins}
+use Rattle.request_calls.proofs.Begins.{DueBegins}
+use Rattle.spool_world.proofs.Begins.{session_begins}
 use Rattle.spool_world.proofs.Ties.{SizeOf, before_quiet, filled_size, filling_held, is_filled, none_has, request_tie}
 
 held_some : (page : Page) → Some page ≡ None → ⊥

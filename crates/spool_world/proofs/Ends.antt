@@ -23,8 +23,9 @@ use Rattle.spool_trace.proofs.Kept.{Good}
 use Rattle.spool_trace.proofs.Stages.{Fine, due_fine}
 use Rattle.spool_trace.proofs.Standing.{kept}
 use Rattle.spool_trace.proofs.Whole.{in_hand}
+use Rattle.request_calls.specs.Pages.{first_page}
 use Rattle.spool_world.specs.declared.connection.Connection.{Connection}
-use Rattle.spool_world.specs.Stands.{GoesOn, IsAt, first_page, page_of}
+use Rattle.spool_world.specs.Stands.{GoesOn, IsAt, page_of}
 use Rattle.spool_world.specs.Turns.{AbortsIt, IsOf}
 
 pub true_false : true ≡ false → ⊥

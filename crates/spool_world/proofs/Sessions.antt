@@ -20,9 +20,10 @@ use Rattle.spool_trace.specs.Reading as reading
 use Rattle.spool_trace.specs.Replies.{IsReply}
 use Rattle.spool_trace.proofs.Reader.{arrives}
 use Rattle.spool_trace.proofs.Steps.{break_follows}
+use Rattle.request_calls.specs.Pages.{first_page}
 use Rattle.spool_world.specs.declared.connection.Connection.{Connection}
 use Rattle.spool_world.specs.Stands as stands
-use Rattle.spool_world.specs.Stands.{GoesOn, Stands, first_page, page_of}
+use Rattle.spool_world.specs.Stands.{GoesOn, Stands, page_of}
 use Rattle.spool_world.specs.Turns.{AbortsIt, EndsIt, IsEnded, IsOf, TurnsRight}
 use Rattle.spool_world.specs.Worlds.{Leads, Steps, Worlds, entry}
 use Rattle.spool_world.proofs.Ends.{at, ended, stood, true_false}

@@ -16,9 +16,7 @@ use Rattle.spool_trace.specs.Sessions.{reply_of}
 use Rattle.spool_trace.specs.Hands.{ends_filled, page_in}
 use Rattle.spool_trace.proofs.Kept.{ends_push}
 use Rattle.spool_trace.proofs.Stages.{Stage, Fine, items_at}
-use Rattle.spool_world.specs.Carried.{blank, page_with}
-use Rattle.spool_world.specs.Stands.{first_page}
-use Rattle.spool_world.specs.Turns.{is_lent}
+use Rattle.request_calls.specs.Pages.{blank, first_page, is_lent, page_with}
 use Rattle.spool_world.proofs.Ends.{quiet_held, true_false}
 
 -- what the items are where it goes on as it was due

@@ -7,12 +7,8 @@ use Rattle.spool_calls.specs.Tickets.{HasLent}
 use Rattle.spool_trace.specs.Sessions.{Session}
 use Rattle.spool_trace.specs.Hands.{has_page}
 use Rattle.spool_trace.specs.Reading as reading
+use Rattle.request_calls.specs.Pages.{first_page}
 use Rattle.spool_world.specs.declared.connection.Connection.{Connection}
-
--- the first of two pages that is there
-abbrev pub first_page : Option Page → Option Page → Option Page
-first_page None page = page
-first_page (Some page) other = Some page
 
 -- the page of a connection, where its reader is so far: the one that was kept, or the one in its
 -- reader's hand

@@ -10,7 +10,6 @@ use Rattle.spool_calls.specs.Looks.Detail.{Octets}
 use Rattle.spool_calls.specs.Kept.{Kept, Leaves}
 use Rattle.spool_calls.specs.Calls.{IsRight, Aborts}
 use Rattle.spool_requests.specs.declared.answer.Answer.{Answer}
-use Rattle.spool_requests.specs.declared.answer.Answer.TheVariants.{Lent}
 use Rattle.spool_requests.specs.Kinds.{request_kind}
 use Rattle.spool_trace.specs.declared.reply.Deed.{Deed}
 use Rattle.spool_trace.specs.declared.reply.Deed.TheVariants as deed
@@ -24,17 +23,10 @@ use Rattle.spool_trace.specs.Shown.{events}
 use Rattle.spool_trace.specs.Replies.{IsSession, IsTrace}
 use Rattle.spool_trace.specs.Follows.{StepFollows}
 use Rattle.spool_world.specs.declared.connection.Connection.{Connection}
-use Rattle.spool_world.specs.Carried.{BeginsSome, Carries, blank}
-use Rattle.spool_world.specs.Stands.{Stands, first_page, page_of}
-
-abbrev pub is_lent : Answer → Bool
-is_lent (Lent page_size) = true
-is_lent _ = false
-
--- with a page that is lent comes the page
-abbrev pub IsLentPage : Answer → Option Page → Type 0
-IsLentPage (Lent page_size) page = page ≡ blank (Some page_size)
-IsLentPage _ page = Unit {0}
+use Rattle.request_calls.specs.Pages.{IsLentPage, first_page, is_lent}
+use Rattle.request_calls.specs.Carried.{BeginsSome}
+use Rattle.spool_world.specs.Carried.{Carries}
+use Rattle.spool_world.specs.Stands.{Stands, page_of}
 
 -- a request was carried out and answered to the reader: the last job is the one that was accepted,
 -- if one was, and a page that came with a refusal is kept

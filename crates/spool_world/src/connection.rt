@@ -7,6 +7,7 @@ ghost use Rattle.receiver.specs.Reading.{Progress};
 use bytes::BytesMut;
 use page_pool::PageTicket;
 use receiver::Receiver;
+use request_calls::spend;
 
 /// A host's connection. Its reader and its page have to be spent.
 pub struct Connection {
@@ -22,14 +23,6 @@ pub struct Connection {
     pub unread: BytesMut,
     // Between turns no request waits for its answer.
     ghost answered: { ForSome reader (λ (r : Progress). r.owed ≡ None) },
-}
-
-/// Spends a page.
-pub fn spend(page: Option<PageTicket>) {
-    match page {
-        Some(page) => page.surrender(),
-        None => {}
-    }
 }
 
 impl Connection {

@@ -1,68 +1,19 @@
 //! What a connection does when it is its turn, and its end.
 
-ghost use Rattle.std.specs.Prelude.{◌≡◌, ◌∷◌, [], None, IsSome, if◌then◌else◌};
+ghost use Rattle.std.specs.Prelude.{◌≡◌, ◌∷◌, [], None, IsSome};
 ghost use Rattle.receiver.specs.Script as script;
 ghost use Rattle.receiver.specs.Script.{Request};
-ghost use Rattle.receiver.specs.Reading.{IsFitting, after_reply};
 ghost use Rattle.receiver.specs.View.{asked, outputs};
-ghost use Rattle.spool_trace.specs.Sessions.{reply_of};
-ghost use Rattle.spool_world.specs.Stands.{first_page};
-ghost use Rattle.spool_world.specs.Turns.{Answered, EndsIt, IsEnded, IsLentPage, TurnsRight};
-ghost use Rattle.spool_world.specs.Turns.{is_lent};
+ghost use Rattle.spool_world.specs.Turns.{Answered, EndsIt, IsEnded, TurnsRight};
 
-use crate::connection::{Connection, spend};
-use crate::requests::{Outcome, carry_out, kind_of};
+use crate::connection::Connection;
+use crate::requests::kind_of;
 use bytes::Buf;
 use page_pool::PageTicket;
 use receiver::{Need, Receiver};
+use request_calls::{Outcome, carry_out, first, keep, reply, spend};
 use spool_core::Core;
 use spool_trace::{Answer, Deed};
-
-/// The first of two pages that is there. The other is spent.
-fn first(one: Option<PageTicket>, other: Option<PageTicket>) -> Option<PageTicket>
-    ensures { result ≡ first_page one other }
-{
-    match one {
-        Some(page) => {
-            spend(other);
-            Some(page)
-        }
-        None => other,
-    }
-}
-
-/// Keeps a page, if there is one, in place of what was kept.
-fn keep(kept: &mut Option<PageTicket>, page: Option<PageTicket>)
-    ensures { kept.new ≡ first_page page kept.old }
-{
-    if let Some(page) = page {
-        spend(kept.replace(page));
-    }
-}
-
-/// Answers the request that waits, and gives back a page that the reader doesn't take.
-fn reply(reader: &mut Receiver, answer: &Answer, page: Option<PageTicket>) -> Option<PageTicket>
-    requires fits { IsFitting reader.old.owed (reply_of answer.now) }
-    requires lent { IsLentPage answer.now page }
-    ensures answered { reader.new ≡ after_reply reader.old (reply_of answer.now) }
-    ensures page { result ≡ (if is_lent answer.now then None else page) }
-{
-    match answer {
-        Answer::Lent(_) => match page {
-            Some(page) => {
-                reader.reply(receiver::Answer::Ticket(page));
-                return None;
-            }
-            None => unreachable!(),
-        },
-        Answer::Yes | Answer::Accepted(_) | Answer::Told(_) => reader.reply(receiver::Answer::Yes),
-        Answer::Later => reader.reply(receiver::Answer::Later),
-        Answer::Stored => reader.reply(receiver::Answer::Stored),
-        Answer::Received => reader.reply(receiver::Answer::Received),
-        Answer::Refused(refusal) => reader.reply(receiver::Answer::Refused(*refusal)),
-    }
-    page
-}
 
 /// Carries out a request, and answers it to the reader.
 fn answer(

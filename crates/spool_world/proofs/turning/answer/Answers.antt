@@ -5,10 +5,12 @@ use Rattle.spool_requests.specs.declared.answer.Answer.TheVariants as answers
 use Rattle.spool_requests.specs.declared.answer.RequestKind.{RequestKind}
 use Rattle.spool_trace.specs.declared.reply.Deed.TheVariants as deed
 use Rattle.spool_trace.specs.Sessions.{job_after}
+use Rattle.receiver.specs.Reading.{IsFitting, Kind}
+use Rattle.receiver.specs.View.{asked}
+use Rattle.spool_trace.specs.Sessions.{reply_of}
 use Rattle.spool_world.specs.Carried.{Carries}
-use Rattle.spool_world.specs.Stands.{first_page}
-use Rattle.spool_world.specs.Turns.{IsLentPage}
-use Rattle.spool_world.proofs.Answers.{answer_fits}
+use Rattle.request_calls.specs.Pages.{IsLentPage, first_page}
+use Rattle.spool_world.proofs.Answers.{asked_request, carried}
 use Rattle.spool_world.proofs.turning.answer.Goals as goal
 use Rattle.spool_world.proofs.turning.answer.Goals.{in-Accepted, in_default}
 
@@ -26,7 +28,8 @@ kept_job job (answers.Refused n) other = refl
 pub reply-requires-clause-fits : goal.reply-requires-clause-fits
 reply-requires-clause-fits c =
     let same : c.match-answer.answer ≡ c.carry_out-answer.result.answer = elim c.match-answer.branch [ in-Accepted w ↦ w.answer-is ∙ sym w.in-Accepted.is | in_default w ↦ w.answer-is ] in
-    answer_fits c.args.request c.args.reader.now.owed c.carry_out-answer.result.answer c.match-answer.answer c.requires.asks c.requires.owed same c.carry_out-answer.ensures.fits
+    subst (λ (o : Option Kind). IsFitting o (reply_of c.match-answer.answer)) (sym c.requires.owed)
+    (subst (λ (a : Answer). IsFitting (asked c.args.request) (reply_of a)) (sym same) c.carry_out-answer.ensures.fits)
 
 pub returns-clause-done : goal.returns-clause-done
 returns-clause-done c r e =
@@ -39,9 +42,15 @@ returns-clause-done c r e =
       answer = c.match-answer.answer;
       page = c.carry_out-answer.result.page;
       is = ap (λ (k : RequestKind). deed.Asked k c.match-answer.answer) (c.kind_of-kind.ensures r e);
-      carries = λ s. subst (λ (a : Answer). Carries c.args.core.now c.carry_out-answer.new.core c.args.sender c.args.job.now r a c.carry_out-answer.result.page) (sym same) (c.carry_out-answer.ensures.answer r e s);
+      carries = λ s. subst (λ (a : Answer). Carries c.args.core.now c.carry_out-answer.new.spool c.args.sender c.args.job.now r a c.carry_out-answer.result.page) (sym same)
+          (carried c.args.core.now c.carry_out-answer.new.spool c.args.sender c.args.job.now r c.carry_out-answer.result.answer c.carry_out-answer.result.page (c.carry_out-answer.ensures.carries r e) (c.carry_out-answer.ensures.page r e) s);
       lent = subst (λ (a : Answer). IsLentPage a c.carry_out-answer.result.page) (sym same) c.carry_out-answer.ensures.lent;
       reader' = c.reply.ensures.answered;
       last' = last;
       keeps' = c.keep.ensures ∙ ap (λ (page : Option Page). first_page page c.args.kept.now) c.reply.ensures.page;
     }
+
+pub returns-clause-config : goal.returns-clause-config
+returns-clause-config c =
+    let r = asked_request c.args.request c.requires.asks in
+    (c.carry_out-answer.ensures.carries r.0 r.1).config

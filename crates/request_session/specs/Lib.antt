@@ -1,0 +1,5 @@
+pub mod Course
+pub mod Carried
+pub mod Served
+pub mod Turned
+pub mod Alone

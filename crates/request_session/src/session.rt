@@ -1,0 +1,118 @@
+//! Serving a session.
+
+ghost use Rattle.std.specs.Prelude.{◌≡◌, ◌<◌, length};
+ghost use Rattle.receiver.specs.Reading.{start};
+ghost use Rattle.request_session.specs.Carried.{here};
+ghost use Rattle.request_session.specs.Course.{Course};
+ghost use Rattle.request_session.specs.Served.{ServedBy, side};
+ghost use Rattle.request_session.specs.Turned.{EndsThere, IsEnding};
+
+use crate::ending::{SessionEnd, say_last};
+use crate::talk::Talk;
+use lpd_commands::{OctetFault, OctetRead, OctetWrite};
+use receiver::Receiver;
+use request_calls::Requests;
+use std::alloc::Global;
+use std::sync::Wait;
+
+/// How many octets are read at once, at most.
+pub const BUFFER_SIZE: usize = 65_536;
+
+/// How many reads a session makes, at most.
+pub const MOST_READS: u32 = u32::MAX;
+
+impl Talk {
+    /// At the beginning of a session.
+    fn new(sender: u32, receiver: Receiver) -> Talk
+        ensures sender { result.sender ≡ sender }
+        ensures receiver { result.receiver ≡ receiver }
+        ensures job { result.job ≡ 0 }
+    {
+        Talk {
+            sender,
+            receiver,
+            job: 0,
+            kept: None,
+        }
+    }
+
+    /// The end to which the peer brings the session, when it ends the connection.
+    fn end_here(&self) -> SessionEnd
+        ensures { EndsThere result self.now.receiver }
+    {
+        if self.receiver.is_idle() {
+            SessionEnd::Closed
+        } else {
+            SessionEnd::Broken
+        }
+    }
+
+    /// Reads octets and does what is due for them, until the session is over. The octet of a
+    /// refusal is still to be written then.
+    fn read_all<T: Requests, R: Wait, I: OctetRead, W: OctetWrite>(
+        &mut self,
+        rt: &R,
+        spool: &mut T,
+        reader: &mut I,
+        writer: &mut W,
+        buffer: &mut [u8],
+    ) -> SessionEnd
+        requires start { self.old.receiver ≡ start }
+        requires none { self.old.job ≡ 0 }
+        requires room { 0 < length buffer.old }
+        ensures over { (c : Course) × IsEnding T.carries result self.old.sender c
+            (side (I.left reader.old) (I.faults reader.old))
+            (side (I.left reader.new) (I.faults reader.new))
+            (side (W.written writer.old) (W.faults writer.old))
+            (side (W.written writer.new) (W.faults writer.new))
+            (here spool.old self.old.job) (here spool.new self.new.job) self.new.receiver }
+    {
+        'reads: for _i in 0..MOST_READS {
+            let count = match reader.read(buffer) {
+                Ok(0) => return self.end_here(),
+                Ok(count) => count,
+                Err(OctetFault) => return SessionEnd::ReadFault,
+            };
+            if let Some(end) = self.read_on(rt, spool, writer, &buffer[..count]) {
+                return end;
+            }
+        }
+        SessionEnd::ReadFault
+    }
+}
+
+/// Serves a session of a sender: reads octets, at most `BUFFER_SIZE` at once, has carried out what
+/// they ask for, and writes what is due, until the session is over (RFC 1179, sections 3 to 6). At
+/// its end the job in hand is aborted with the page in hand, before the octet of a refusal is
+/// written; where that page isn't taken it is surrendered.
+///
+/// It waits where what carries the requests out does. One that is asked for a page and answers
+/// Later is asked again at once. Memory for the buffer and the receiver is taken at first, and
+/// where it is refused the end is Memory.
+pub fn serve_by<T: Requests, R: Wait, I: OctetRead, W: OctetWrite>(
+    rt: &R,
+    alloc: Global,
+    spool: &mut T,
+    sender: u32,
+    reader: &mut I,
+    writer: &mut W,
+) -> SessionEnd
+    ensures { ServedBy T.carries T.ends result sender
+        (side (I.left reader.old) (I.faults reader.old))
+        (side (I.left reader.new) (I.faults reader.new))
+        (side (W.written writer.old) (W.faults writer.old))
+        (side (W.written writer.new) (W.faults writer.new)) spool.old spool.new }
+{
+    let Ok(mut buffer) = vec![in alloc; 0u8; BUFFER_SIZE] else {
+        return SessionEnd::Memory;
+    };
+    let Ok(receiver) = Receiver::new(alloc) else {
+        return SessionEnd::Memory;
+    };
+    let mut talk = Talk::new(sender, receiver);
+    let octets = buffer.as_mut_slice();
+    let end = talk.read_all(rt, spool, reader, writer, octets);
+    // The pages of the job go back before the peer is waited for.
+    talk.hang_up(spool);
+    say_last(writer, end)
+}
