@@ -6,8 +6,8 @@ use Rattle.spool_requests.specs.declared.answer.RequestKind.{RequestKind}
 use Rattle.spool_trace.specs.declared.reply.Deed.TheVariants as deed
 use Rattle.spool_trace.specs.Sessions.{due_in}
 use Rattle.spool_ledgers.specs.Sums.{Sums}
-use Rattle.seated_spool.specs.Added.{Adds, Carries, IsGiven}
-use Rattle.seated_spool.specs.Added as seats
+use Rattle.session.specs.Seated.{Adds, Carries, IsGiven}
+use Rattle.session.specs.Seated as seats
 use Rattle.request_session.specs.declared.ending.SessionEnd.{SessionEnd}
 use Rattle.request_session.specs.Carried.{AtEnd, CarriesAll, CarriesDue}
 use Rattle.request_session.specs.Course.{Course, Came, Did, IsDue, IsRight, session_after}

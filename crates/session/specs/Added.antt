@@ -4,7 +4,7 @@ use Rattle.account.specs.declared.kind.Kind.TheVariants as kind
 use Rattle.spool_trace.specs.declared.reply.Deed.TheVariants as deed
 use Rattle.spool_ledgers.specs.Sums.{Sums}
 use Rattle.locked_spool.specs.Shares.{OneOrNone}
-use Rattle.seated_spool.specs.Added.{Adds, IsGiven}
+use Rattle.session.specs.Seated.{Adds, IsGiven}
 use Rattle.request_session.specs.Course.{Course, Did}
 
 -- what all requests of a course add

@@ -5,8 +5,10 @@
 //! No lock is held while octets are read or written.
 #![tactic(auto)]
 
+mod seated;
 mod session;
 
 pub use request_session::{BUFFER_SIZE, MOST_READS, OctetFault, OctetRead, OctetWrite, SessionEnd};
+pub use seated::Seated;
 pub use session::serve;
 pub use shared_spool::{SessionSeat, SharedSpool};

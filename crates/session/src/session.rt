@@ -3,9 +3,9 @@
 ghost use Rattle.request_session.specs.Served.{side};
 ghost use Rattle.session.specs.Served.{Served};
 
+use crate::seated::Seated;
 use lpd_commands::{OctetRead, OctetWrite};
 use request_session::{SessionEnd, serve_by};
-use seated_spool::Seated;
 use shared_spool::{SessionSeat, SharedSpool, SpoolLedger};
 use std::alloc::Global;
 use std::sync::Wait;

@@ -1,4 +1,4 @@
--- By which entries the requests of a session grow the account.
+-- What a request that is carried out through a seat gets, and adds to the seat's shares.
 use Rattle.std.specs.Prelude.{◌≡◌, ℕ, Option, Ok}
 use Rattle.page_pool.specs.Page.{Page}
 use Rattle.account.specs.declared.kind.Kind.TheVariants as kind

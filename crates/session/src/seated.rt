@@ -54,7 +54,7 @@ impl<'a, R, E: SpoolLedger, K: Ledger, H: Ledger> Seated<'a, R, E, K, H> {
 }
 
 impl<R: Wait, E: SpoolLedger, K: Ledger, H: Ledger> Requests for Seated<'_, R, E, K, H> {
-    ghost use Rattle.seated_spool.specs.Added.{Carries, Ends};
+    ghost use Rattle.session.specs.Seated.{Carries, Ends};
 
     ghost carries = { Carries };
 
