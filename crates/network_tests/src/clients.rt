@@ -16,7 +16,7 @@ use std::process::Abort;
 use std::time::{Clock, Duration, Instant};
 
 /// How many seconds a client waits for an octet.
-const LIMIT_SECONDS: u64 = 30;
+pub const LIMIT_SECONDS: u64 = 30;
 
 /// Within how many seconds a server that isn't held up has answered. One that is held up doesn't answer at all.
 const SOON_SECONDS: u64 = 10;

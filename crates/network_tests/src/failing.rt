@@ -54,7 +54,7 @@ fn the_output_fails(rt: HostRuntime) -> Result<(), Fail> {
     let ended = run(&rt, &terminal, SMALL, settings(out, 0), 1);
     assert_eq!(rt; ended, Err(Fault::Output));
     assert!(rt; terminal.is_empty(&rt));
-    for connections in 1..3 {
+    for connections in [1, 3] {
         let terminal = Terminal::new(rt.alloc());
         let settings = Settings {
             rotate: Some(1),
@@ -75,7 +75,7 @@ fn the_output_fails(rt: HostRuntime) -> Result<(), Fail> {
     }
     assert_eq!(rt;
         printed(&rt, out, 1).as_slice(),
-        b"a joba joba job".as_slice()
+        b"a joba joba joba job".as_slice()
     );
     remove(&rt, out);
     Ok(())

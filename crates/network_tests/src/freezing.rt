@@ -1,7 +1,8 @@
 //! Peers and printers by which a server would stop to answer others.
 
 use crate::clients::{
-    ask, connect, connect_from, is_answered, is_ended, is_soon, octets_of, send, stop, write,
+    LIMIT_SECONDS, ask, connect, connect_from, is_answered, is_ended, is_soon, octets_of, send,
+    stop, write,
 };
 use crate::jobs::HELLO;
 use crate::pipe::Pipe;
@@ -73,9 +74,12 @@ fn a_printer_that_takes_no_page(rt: HostRuntime) -> Result<(), Fail> {
         || {
             let port = terminal.port(&rt);
             let taken = thread::map_indices(&rt, rt.alloc(), CLIENTS, &|_| send_some(&rt, port));
-            let taken = taken.expect(&rt, "memory").iter().sum::<usize>();
+            let taken = taken.expect(&rt, "memory");
+            let taken = taken
+                .iter()
+                .fold(0usize, |sum, jobs| sum.saturating_add(*jobs));
             assert_eq!(rt; taken, 14);
-            let octets = pipe.read(&rt, taken * HELLO.len());
+            let octets = pipe.read(&rt, 14 * HELLO.len());
             assert!(rt;
                 octets
                     .as_slice()
@@ -175,7 +179,7 @@ fn silent_connections(rt: HostRuntime) {
             let mut silent = Vec::new(rt.alloc());
             for number in 0..SILENT {
                 let stream = connect(&rt, port);
-                if number % 4 == 0 {
+                if number % 12 == 0 {
                     write(&rt, &stream, b"\x02");
                 }
                 silent.push(stream).expect(&rt, "memory");
@@ -232,7 +236,8 @@ fn a_host_has_its_share(rt: HostRuntime) {
             let mut reader = &third;
             assert!(rt; reader.read(&mut [0]).is_err());
             drop(first);
-            third.set_read_timeout(None).expect(&rt, "no limit");
+            let limit = Some(Duration::from_secs(LIMIT_SECONDS));
+            third.set_read_timeout(limit).expect(&rt, "a limit");
             is_answered(&rt, &third, &[0]);
             drop((second, third));
             terminal.await_end(&rt);
@@ -284,7 +289,8 @@ fn refused_peers_that_send_on(rt: HostRuntime) {
                     reader.read(&mut [0]).is_ok()
                 })
             );
-            next.set_read_timeout(None).expect(&rt, "no limit");
+            let limit = Some(Duration::from_secs(LIMIT_SECONDS));
+            next.set_read_timeout(limit).expect(&rt, "a limit");
             is_answered(&rt, &next, &[0; 4]);
             drop(next);
             terminal.await_end(&rt);
