@@ -3,18 +3,23 @@
 ghost use Rattle.std.specs.Prelude.{IsTrue, ◌≡◌};
 ghost use Rattle.lpr_client.specs.Sendable.{is_sendable};
 
+use libc::net::{AF_INET, SOCK_CLOEXEC, SOCK_STREAM, socket};
 use lpd_script::{StreamReader, StreamWriter};
 use lpr_client::{
     Control, DataFile, FileName, Octets, SendFault, is_sendable, job_bytes, send_job,
 };
+use os::FromRawFd;
 use std::alloc::Global;
 use std::io::{Read, Write};
 use std::net::{Ipv4Addr, Net, SocketAddr, TcpStream};
 use std::process::Abort;
-use std::time::Duration;
+use std::time::{Clock, Duration, Instant};
 
 /// How many seconds a client waits for an octet.
-const LIMIT_SECONDS: u64 = 30;
+pub const LIMIT_SECONDS: u64 = 30;
+
+/// Within how many seconds a server that isn't held up has answered. One that is held up doesn't answer at all.
+const SOON_SECONDS: u64 = 10;
 
 /// A connection to the port.
 pub fn connect<R: Abort + Net<Stream = TcpStream>>(rt: &R, port: u16) -> TcpStream {
@@ -25,6 +30,49 @@ pub fn connect<R: Abort + Net<Stream = TcpStream>>(rt: &R, port: u16) -> TcpStre
     stream.set_read_timeout(limit).expect(rt, "a limit");
     stream.set_write_timeout(limit).expect(rt, "a limit");
     stream
+}
+
+/// A connection to the port from another host: an address of loopback that ends in this number.
+pub fn connect_from<R: Abort + Net<Stream = TcpStream>>(rt: &R, host: u8, port: u16) -> TcpStream {
+    let address = |last: u8, port: u16| {
+        let [high, low] = port.to_be_bytes();
+        let mut octets = [0u8; 128];
+        octets[0] = AF_INET as u8;
+        octets[2] = high;
+        octets[3] = low;
+        octets[4] = 127;
+        octets[7] = last;
+        octets
+    };
+    let descriptor = unsafe { socket(AF_INET, SOCK_STREAM | SOCK_CLOEXEC, 0) };
+    assert!(rt; descriptor >= 0, "a socket");
+    let stream = unsafe { TcpStream::from_raw_fd(descriptor) };
+    let bound = unsafe { libc::net::bind(descriptor, &address(host, 0), 16) };
+    let connected = unsafe { libc::net::connect(descriptor, &address(1, port), 16) };
+    assert_eq!(rt;
+        (bound, connected),
+        (0, 0),
+        "a connection from another host"
+    );
+    let limit = Some(Duration::from_secs(LIMIT_SECONDS));
+    stream.set_read_timeout(limit).expect(rt, "a limit");
+    stream
+}
+
+/// What is answered to a line, soon.
+pub fn ask<R: Abort + AllocGlobal + Clock + Net<Stream = TcpStream>>(
+    rt: &R,
+    port: u16,
+    line: &[u8],
+) -> Vec<u8> {
+    let start = Instant::now(rt).expect(rt, "a clock");
+    let stream = connect(rt, port);
+    write(rt, &stream, line);
+    let mut text = Vec::new(rt.alloc());
+    let mut reader = &stream;
+    reader.read_to_end(&mut text).expect(rt, "an answer");
+    is_soon(rt, &start);
+    text
 }
 
 /// A job with all that it is sent with, for queue `lp`, by user ann at host h1.
@@ -131,6 +179,12 @@ pub fn send_more<R: Abort + AllocGlobal>(rt: &R, stream: &TcpStream, number: u32
 pub fn write<R: Abort>(rt: &R, stream: &TcpStream, octets: &[u8]) {
     let mut stream = stream;
     stream.write_all(octets).expect(rt, "octets are written");
+}
+
+/// No long time has passed since.
+pub fn is_soon<R: Abort + Clock>(rt: &R, start: &Instant) {
+    let elapsed = start.elapsed(rt).expect(rt, "a clock").as_secs();
+    assert!(rt; elapsed < SOON_SECONDS, "after {elapsed} s");
 }
 
 /// The server answers exactly this.

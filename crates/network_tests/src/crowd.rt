@@ -3,7 +3,7 @@
 use crate::clients::{connect, is_answered, is_ended, octets_of, send, send_more, stop, write};
 use crate::jobs::{are_in_order, job_text, jobs_in, pages_of};
 use crate::place::{make, printed, remove};
-use crate::server::{Spool, Terminal, run, settings};
+use crate::server::{SMALL, Spool, Terminal, run, settings};
 use lpd_daemon::Settings;
 use std::fs::Files;
 use std::net::{Net, Shutdown, TcpStream};
@@ -35,6 +35,7 @@ const SPOOL: Spool = Spool {
     account: 1_000_000,
     printers: 2,
     plots: true,
+    ..SMALL
 };
 
 /// For how many seconds a peer may be silent. Where all others wait for pages that the job of the one that stopped may

@@ -45,7 +45,7 @@ fn the_port_is_taken(rt: HostRuntime) -> Result<(), Fail> {
     Ok(())
 }
 
-/// The first line, or the last one, can't be written.
+/// The first line, or the last one, can't be written; or that of a rotation, after which another job is taken all the same.
 #[test]
 fn the_output_fails(rt: HostRuntime) -> Result<(), Fail> {
     let out = "the_output_fails";
@@ -54,18 +54,29 @@ fn the_output_fails(rt: HostRuntime) -> Result<(), Fail> {
     let ended = run(&rt, &terminal, SMALL, settings(out, 0), 1);
     assert_eq!(rt; ended, Err(Fault::Output));
     assert!(rt; terminal.is_empty(&rt));
-    let terminal = Terminal::new(rt.alloc());
-    let (ended, _) = thread::join(
-        &rt,
-        || run(&rt, &terminal, SMALL, settings(out, 1), 2),
-        || {
-            let port = terminal.port(&rt);
-            assert_eq!(rt; send(&rt, &connect(&rt, port), 1, b"a job"), Ok(()));
-            terminal.await_end(&rt);
-        },
+    for connections in [1, 3] {
+        let terminal = Terminal::new(rt.alloc());
+        let settings = Settings {
+            rotate: Some(1),
+            ..settings(out, connections)
+        };
+        let (ended, _) = thread::join(
+            &rt,
+            || run(&rt, &terminal, SMALL, settings, 2),
+            || {
+                let port = terminal.port(&rt);
+                for _ in 0..connections {
+                    assert_eq!(rt; send(&rt, &connect(&rt, port), 1, b"a job"), Ok(()));
+                }
+                terminal.await_end(&rt);
+            },
+        );
+        assert_eq!(rt; ended, Err(Fault::Output));
+    }
+    assert_eq!(rt;
+        printed(&rt, out, 1).as_slice(),
+        b"a joba joba joba job".as_slice()
     );
-    assert_eq!(rt; ended, Err(Fault::Output));
-    assert_eq!(rt; printed(&rt, out, 1).as_slice(), b"a job".as_slice());
     remove(&rt, out);
     Ok(())
 }

@@ -44,11 +44,8 @@ fn silent_peers_are_left(rt: HostRuntime) -> Result<(), Fail> {
 
 /// A spool of four pages, of which a job may hold three.
 const NARROW: Spool = Spool {
-    pages: 4,
-    jobs: 8,
-    account: 100_000,
-    printers: 1,
     plots: true,
+    ..SMALL
 };
 
 /// The lines that open job 1, whose file has 11 octets.

@@ -8,9 +8,13 @@ mod crowd;
 #[cfg(test)]
 mod failing;
 #[cfg(test)]
+mod freezing;
+#[cfg(test)]
 mod halting;
 #[cfg(test)]
 mod jobs;
+#[cfg(test)]
+mod pipe;
 #[cfg(test)]
 mod place;
 #[cfg(test)]

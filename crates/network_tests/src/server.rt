@@ -39,8 +39,10 @@ pub struct Spool {
     pub pages: u32,
     pub jobs: u32,
     pub account: u32,
+    /// The limit and the printers of `lp`.
+    pub limit: u32,
     pub printers: u32,
-    /// Whether there is a queue `plotter` too, with a printer.
+    /// Whether there is a queue `plotter` too, with a limit of 3 and a printer.
     pub plots: bool,
 }
 
@@ -49,6 +51,7 @@ pub const SMALL: Spool = Spool {
     pages: 4,
     jobs: 8,
     account: 100_000,
+    limit: 3,
     printers: 1,
     plots: false,
 };
@@ -63,13 +66,14 @@ impl Spool {
             pages,
             jobs,
             account,
+            limit,
             printers,
             plots,
         } = *self;
         let more = if plots { PLOTTER } else { "" };
         format!(in alloc;
             "pages = {pages}\npage_size = 8\nmax_jobs = {jobs}\naccount = {account}\n\
-             [[queue]]\nname = \"lp\"\nlimit = 3\nprinters = {printers}\n{more}"
+             [[queue]]\nname = \"lp\"\nlimit = {limit}\nprinters = {printers}\n{more}"
         )
         .expect(rt, "memory")
     }

@@ -121,7 +121,7 @@ impl<T: Drop> Hall<T> {
         handed
     }
 
-    /// A session is free again that served this. Whether whoever hands on has to be told.
+    /// A session has served this.
     fn leave(&mut self, served: Served, kind: Kind, host: u32) {
         if kind == Kind::Listing {
             self.listings = self.listings.saturating_sub(1);
@@ -163,6 +163,16 @@ impl<T: Drop> Desk<T> {
             came_for_questions: Condvar::new(),
             per_host,
         }
+    }
+
+    /// Whether any session is free that serves this kind. Where none is, the next session that is free says so.
+    pub fn has_free<R: Wait>(&self, rt: &R, kind: Kind) -> bool {
+        let mut hall = self.hall.lock(rt);
+        let has_free = hall.all.free > 0 || (kind != Kind::Job && hall.questions.free > 0);
+        if !has_free {
+            hall.wanted = true;
+        }
+        has_free
     }
 
     /// Whether a session is free that serves this kind for this host. Only whoever hands on takes that away. Where none is,

@@ -9,8 +9,6 @@
 //!
 //! One thread holds them, with no octet read: what came is looked at, and left for the session.
 
-ghost use Rattle.std.specs.Prelude.{◌<◌, IfSome, length};
-
 use crate::desk::Desk;
 use crate::first_line::{Kind, LONGEST, is_whole, kind_of};
 use crate::guests::{Guest, Stage, who_leaves};
@@ -19,6 +17,7 @@ use log::{Log, warn};
 use mio::unix::SourceFd;
 use mio::{Events, Interest, Poll, Token, Waker};
 use std::alloc::{AllocError, Global};
+use std::collections::VecDeque;
 use std::io;
 use std::io::ErrorKind;
 use std::net::{IpAddr, Net, SocketAddr, TcpListener, TcpStream};
@@ -82,8 +81,8 @@ pub struct Lobby {
     held: Vec<Option<Held>>,
     free: Vec<usize>,
     // The places of those that are ready, by when they were.
-    jobs: Vec<usize>,
-    questions: Vec<usize>,
+    jobs: VecDeque<usize>,
+    questions: VecDeque<usize>,
     pause: Option<u64>,
     closed: u64,
 }
@@ -124,8 +123,8 @@ impl Lobby {
             guests,
             held,
             free,
-            jobs: Vec::new(alloc),
-            questions: Vec::new(alloc),
+            jobs: VecDeque::new(alloc),
+            questions: VecDeque::new(alloc),
             // The first round accepts.
             pause: Some(0),
             closed: 0,
@@ -282,8 +281,8 @@ impl Lobby {
         guest.stage = Stage::Ready;
         held.visit.kind = kind_of(octets.first().copied());
         match held.visit.kind {
-            Kind::Job => self.jobs.push(at)?,
-            Kind::Question | Kind::Listing => self.questions.push(at)?,
+            Kind::Job => self.jobs.push_back(at)?,
+            Kind::Question | Kind::Listing => self.questions.push_back(at)?,
         }
         Ok(true)
     }
@@ -296,16 +295,19 @@ impl Lobby {
         }
     }
 
-    /// Where among these the first one stands for which a session is free.
-    fn first_of<R: Wait>(&self, rt: &R, desk: &Desk<Visit>, places: &[usize]) -> Option<usize>
-        ensures { IfSome result (λ at. at < length places.now) }
-    {
-        for at in 0..places.len() {
-            if self.may_go(rt, desk, places[at]) {
-                return Some(at);
-            }
+    /// Where among these, who come for this, the first one stands for which a session is free. Where no session is free that serves
+    /// them, none of them is looked at.
+    fn first_of<R: Wait>(
+        &self,
+        rt: &R,
+        desk: &Desk<Visit>,
+        kind: Kind,
+        places: &VecDeque<usize>,
+    ) -> Option<usize> {
+        if places.is_empty() || !desk.has_free(rt, kind) {
+            return None;
         }
-        None
+        places.iter().position(|at| self.may_go(rt, desk, *at))
     }
 
     /// The first guest whose first line isn't whole, once no other can come: its session's turn has come.
@@ -329,15 +331,15 @@ impl Lobby {
         desk: &Desk<Visit>,
         lets_jobs_in: bool,
     ) -> Option<Visit> {
-        if let Some(first) = self.first_of(rt, desk, self.questions.as_slice()) {
-            let at = self.questions.remove(first);
+        if let Some(first) = self.first_of(rt, desk, Kind::Question, &self.questions) {
+            let at = self.questions.remove(first)?;
             return self.release(at);
         }
         if !lets_jobs_in {
             return None;
         }
-        if let Some(first) = self.first_of(rt, desk, self.jobs.as_slice()) {
-            let at = self.jobs.remove(first);
+        if let Some(first) = self.first_of(rt, desk, Kind::Job, &self.jobs) {
+            let at = self.jobs.remove(first)?;
             return self.release(at);
         }
         let at = self.last_guest()?;

@@ -32,9 +32,12 @@ limit = 512
 printers = 2
 ";
 
-/// An account that takes no job of its queue.
-const FEW: &[u8] =
-    b"pages = 64\npage_size = 8\nmax_jobs = 8\naccount = 10000\n[[queue]]\nname = \"lp\"\nlimit = 64\nprinters = 1\n";
+/// An account with room for fifty jobs of the first queue; for fifty of the second but for the entry of the close, so for 49; and for
+/// none of the third.
+const FEW: &[u8] = b"pages = 2600\npage_size = 8\nmax_jobs = 8\naccount = 515600\n\
+      [[queue]]\nname = \"fifty\"\nlimit = 50\nprinters = 1\n\
+      [[queue]]\nname = \"few\"\nlimit = 51\nprinters = 1\n\
+      [[queue]]\nname = \"none\"\nlimit = 2600\nprinters = 1\n";
 
 /// The words of a line, one space between them.
 fn words_of(alloc: Global, line: &str) -> Result<Vec<&str>, AllocError> {
@@ -143,14 +146,11 @@ fn configurations(rt: HostRuntime) -> Result<(), Fail> {
         b"ok pages 1024 page_size 65536 queues 2 printers 3\nqueue lp jobs 622\nqueue plotter jobs 156\nstatus 0\n";
     expect(&rt, b"sizes of the example", answer.as_slice(), lines);
     let answer = told_of_file(&rt, &["check", "--sizes", "FILE"], FEW)?;
-    let lines =
-        b"ok pages 64 page_size 8 queues 1 printers 1\nqueue lp jobs 0, too few: a larger account or larger pages make room\nstatus 0\n";
-    expect(
-        &rt,
-        b"an account that takes no job",
-        answer.as_slice(),
-        lines,
-    );
+    let lines = b"ok pages 2600 page_size 8 queues 3 printers 3\n\
+          queue fifty jobs 50\n\
+          queue few jobs 49, too few: a larger account or larger pages make room\n\
+          queue none jobs 0, too few: a larger account or larger pages make room\nstatus 0\n";
+    expect(&rt, b"sizes of few jobs", answer.as_slice(), lines);
     let answer = told_of_file(&rt, &check, b"pages = 0\n")?;
     let line = b"fault 53 OutOfRange pages\nstatus 2\n";
     expect(&rt, b"check of pages = 0", answer.as_slice(), line);

@@ -1,0 +1,59 @@
+//! A pipe in the place of a printer's file.
+
+use libc::{O_CLOEXEC, pipe2};
+use os::FromRawFd;
+use std::alloc::Global;
+use std::fs::{File, Files};
+use std::io::Read;
+use std::os::fd::{AsRawFd, OwnedFd};
+use std::process::Abort;
+
+/// A pipe that takes nothing more until it is read, and that nobody has open for reading.
+#[derive(Drop)]
+pub struct Pipe {
+    writer: OwnedFd,
+    // How many octets are in it.
+    filled: usize,
+}
+
+impl Pipe {
+    /// One that is full.
+    pub fn full<R: Abort>(rt: &R) -> Pipe {
+        let mut ends = [-1; 2];
+        assert_eq!(rt; unsafe { pipe2(&mut ends, O_CLOEXEC) }, 0, "a pipe");
+        let reader = unsafe { OwnedFd::from_raw_fd(ends[0]) };
+        let writer = unsafe { OwnedFd::from_raw_fd(ends[1]) };
+        os::set_nonblocking(ends[1], true);
+        let mut filled = 0usize;
+        for _ in 0..u16::MAX {
+            match usize::try_from(libc::write(ends[1], &[0; 512])) {
+                Ok(count) => filled = filled.saturating_add(count),
+                Err(_) => break,
+            }
+        }
+        drop(reader);
+        Pipe { writer, filled }
+    }
+
+    /// The path by which it is opened.
+    pub fn path<R: Abort>(&self, rt: &R, alloc: Global) -> String {
+        format!(in alloc; "/proc/self/fd/{}", self.writer.as_raw_fd()).expect(rt, "memory")
+    }
+
+    /// Reads what was in it, and the so many octets that came after that.
+    pub fn read<R: Abort + AllocGlobal + Files<File = File>>(
+        &self,
+        rt: &R,
+        count: usize,
+    ) -> Vec<u8> {
+        let path = self.path(rt, rt.alloc());
+        let mut file = File::open(rt, path.as_str()).expect(rt, "a pipe");
+        let mut read = |count: usize| {
+            let mut octets = vec![in rt.alloc(); 0u8; count].expect(rt, "memory");
+            file.read_exact(octets.as_mut_slice()).expect(rt, "octets");
+            octets
+        };
+        read(self.filled);
+        read(count)
+    }
+}
