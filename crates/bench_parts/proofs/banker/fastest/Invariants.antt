@@ -1,5 +1,5 @@
 use Rattle.std.proofs.Common.{◌≡◌, ◌≤◌, length}
-use Rattle.bench_parts.proofs.banker.ladder.fastest.Given as goal
+use Rattle.bench_parts.proofs.banker.fastest.Given as goal
 
 abbrev pub invariant-loop : goal.invariant-loop
 invariant-loop g l = record {
