@@ -1,32 +1,22 @@
 //! A server that answers each line and each file, and keeps nothing.
 
+use crate::job::{Job, QUEUE_LINE};
 use lpd_commands::{Sub, parse_sub};
 use std::alloc::Global;
 use std::io::{BufRead, BufReader, Read, Write};
 use std::net::{Ipv4Addr, Net, SocketAddr, TcpListener, TcpStream};
 use std::thread::Threads;
-use std::{fmt, io, thread};
+use std::{io, thread};
 
 /// How many octets are read at once, at most.
 const PIECE: usize = 65_536;
 
 /// What was taken of a connection: its lines, its files, and the octets of those.
 #[derive(Clone, Copy)]
-pub struct Taken {
-    pub lines: u64,
-    pub files: u64,
-    pub octets: u64,
-}
-
-impl fmt::Display for Taken {
-    fn fmt<W: fmt::Write>(&self, f: &mut fmt::Formatter<W>) -> fmt::Result {
-        let Taken {
-            lines,
-            files,
-            octets,
-        } = *self;
-        write!(f, "{lines} lines, {files} files of {octets} octets")
-    }
+struct Taken {
+    lines: u64,
+    files: u64,
+    octets: u64,
 }
 
 /// How many octets the file has that follows this line, if one follows.
@@ -49,56 +39,58 @@ fn pass_over<R: Read>(reader: &mut R, piece: &mut [u8], count: u64) -> io::Resul
 }
 
 /// Reads a connection to its end, and writes an octet 00 for each line and for each file.
-pub fn take_all<R: BufRead, W: Write>(
-    alloc: Global,
+fn take_all<R: BufRead, W: Write>(
     reader: &mut R,
     writer: &mut W,
+    line: &mut Vec<u8>,
+    piece: &mut [u8],
 ) -> io::Result<Taken> {
-    let mut taken = Taken {
-        lines: 0,
-        files: 0,
-        octets: 0,
-    };
-    let mut piece = vec![in alloc; 0u8; PIECE]?;
-    let mut line = Vec::new(alloc);
+    let (mut lines, mut files, mut octets) = (0u64, 0u64, 0u64);
     for _ in 0..u64::MAX {
         line.clear();
-        if reader.read_until(b'\n', &mut line)? == 0 {
+        if reader.read_until(b'\n', line)? == 0 {
             break;
         }
         writer.write_all(&[0])?;
-        taken.lines = taken.lines.saturating_add(1);
+        lines = lines.saturating_add(1);
         if let Some(count) = file_size(line.as_slice()) {
             // An octet 00 ends a file.
-            pass_over(reader, piece.as_mut_slice(), count.saturating_add(1))?;
+            pass_over(reader, piece, count.saturating_add(1))?;
             writer.write_all(&[0])?;
-            taken.files = taken.files.saturating_add(1);
-            taken.octets = taken.octets.saturating_add(count);
+            files = files.saturating_add(1);
+            octets = octets.saturating_add(count);
         }
     }
-    Ok(taken)
+    Ok(Taken {
+        lines,
+        files,
+        octets,
+    })
 }
 
 /// Takes all of a connection.
-fn answer(alloc: Global, stream: &TcpStream) -> io::Result<Taken> {
+fn answer(alloc: Global, stream: &TcpStream, piece: &mut [u8]) -> io::Result<Taken> {
     stream.set_nodelay(true)?;
     let mut reader = BufReader::with_capacity(alloc, PIECE, stream)?;
     let mut writer = stream;
-    take_all(alloc, &mut reader, &mut writer)
+    take_all(&mut reader, &mut writer, &mut Vec::new(alloc), piece)
 }
 
 /// Takes connections, one after another, without end.
 fn answer_all(alloc: Global, listener: &TcpListener) {
+    let Ok(mut piece) = vec![in alloc; 0u8; PIECE] else {
+        return;
+    };
     for stream in listener.incoming() {
         if let Ok(stream) = stream {
             // One that breaks is of no interest.
-            let _ = answer(alloc, &stream);
+            let _ = answer(alloc, &stream, piece.as_mut_slice());
         }
     }
 }
 
 /// Listens at a port of 127.0.0.1, and takes so many connections at once, without end.
-pub fn discard<R: AllocGlobal + Net<Listener = TcpListener, Stream = TcpStream> + Threads + Sync>(
+pub fn run<R: AllocGlobal + Net<Listener = TcpListener, Stream = TcpStream> + Threads + Sync>(
     rt: &R,
     port: u16,
     connections: u32,
@@ -107,5 +99,35 @@ pub fn discard<R: AllocGlobal + Net<Listener = TcpListener, Stream = TcpStream> 
     let listener = TcpListener::bind(rt, SocketAddr::from((Ipv4Addr::LOCALHOST, port)))?;
     let threads = connections.max(1) as usize;
     thread::map_indices(rt, alloc, threads, &|_| answer_all(alloc, &listener))?;
+    Ok(())
+}
+
+/// Prints what is sent of a job of so many octets after the line that names the queue, and what is taken of it.
+fn show<R: AllocGlobal + Print>(rt: &R, sent: &[u8]) -> io::Result<()> {
+    let alloc = rt.alloc();
+    let mut reader = BufReader::new(alloc, sent)?;
+    let mut answers = [0u8; 8];
+    let mut writer = answers.as_mut_slice();
+    let taken = take_all(
+        &mut reader,
+        &mut writer,
+        &mut Vec::new(alloc),
+        &mut [0; 512],
+    )?;
+    println!(rt;
+        "{} octets sent: {} lines, {} files of {} octets",
+        sent.len(),
+        taken.lines,
+        taken.files,
+        taken.octets
+    )
+}
+
+/// Prints what is sent of a job of each size, and what a server that keeps nothing takes of it.
+pub fn count<R: AllocGlobal + Print>(rt: &R) -> io::Result<()> {
+    for octets in [1, 1_024, 100_000] {
+        let sent = Job::new(rt.alloc(), octets)?.octets(rt.alloc())?;
+        show(rt, sent.as_slice())?;
+    }
     Ok(())
 }
