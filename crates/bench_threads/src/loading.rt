@@ -58,7 +58,8 @@ pub fn run<R: AllocGlobal + Clock + Print + Threads + Sync, F: Fn(usize) -> u32 
         taken = taken.saturating_add(u128::from(*jobs));
     }
     let jobs_rate = taken.saturating_mul(1_000_000_000) / took;
-    let megabytes = jobs_rate.saturating_mul(u128::from(load.octets)) / 1_000_000;
+    let octets = taken.saturating_mul(u128::from(load.octets));
+    let megabytes = octets.saturating_mul(1_000) / took;
     println!(rt;
         "{} jobs of {} octets, {} at once, {taken} taken: {jobs_rate} jobs a second, {megabytes} MB/s",
         load.jobs, load.octets, load.connections

@@ -18,6 +18,9 @@ use std::{io, thread};
 /// How many jobs go through a spool in a run, over all threads.
 const JOBS: u32 = 40_000;
 
+/// The most threads.
+const MOST: u32 = 8;
+
 /// The control file of each job.
 const CONTROL: &[u8] = b"Hh1\nPann\nfdfA001h1\n";
 
@@ -60,14 +63,14 @@ fn send_file<R: Wait, E: SpoolLedger, K: Ledger, H: Ledger>(
     Some(())
 }
 
-/// Has a job received. None where a call was refused.
+/// Has a job of this sender received. None where a call was refused.
 fn send<R: AllocGlobal + Wait, E: SpoolLedger, K: Ledger, H: Ledger>(
     rt: &R,
     spool: &SharedSpool<E, K, H>,
     seat: &mut SessionSeat<E, K, H>,
+    sender: u32,
     octets: &[u8],
 ) -> Option<()> {
-    let sender = seat.number();
     let job = spool.open(rt, seat, sender, b"lp").ok()?;
     send_file(rt, spool, seat, job, octets)?;
     let name = FileName::read(b"cfA001h1").ok()?;
@@ -103,8 +106,10 @@ fn work<R: AllocGlobal + Wait, E: SpoolLedger, K: Ledger, H: Ledger>(
 ) -> u64 {
     let (mut session, mut printer) = seats;
     let mut done = 0u64;
-    for _ in 0..jobs {
-        let sent = send(rt, spool, &mut session, octets);
+    for job in 0..jobs {
+        // Each job has a sender of its own, so none waits for an earlier one that another thread has at its printer.
+        let sender = job.saturating_mul(MOST).saturating_add(session.number());
+        let sent = send(rt, spool, &mut session, sender, octets);
         if sent.is_none() || print(rt, spool, &mut printer).is_none() {
             break;
         }
@@ -158,7 +163,7 @@ pub fn run_all<
 pub fn run<R: AllocGlobal + Clock + Print + Threads + Wait + Sync>(rt: &R) -> io::Result<()> {
     for octets in [64, 4096] {
         let page = vec![in rt.alloc(); b'x'; octets as usize]?;
-        for threads in [1, 2, 4, 8] {
+        for threads in [1, 2, 4, MOST] {
             let load = Load {
                 way: Way::Calls(page.as_slice()),
                 threads,

@@ -133,12 +133,14 @@ impl Load<'_> {
             }
         }
         let jobs = u128::from(self.jobs).saturating_mul(u128::from(self.threads));
-        let rate = jobs.saturating_mul(1_000_000_000) / took.max(1);
+        let octets = jobs.saturating_mul(u128::from(self.octets));
+        let took = took.max(1);
         println!(rt;
-            "{jobs} jobs of {} octets, {} at once: {rate} jobs a second, {} MB/s",
+            "{jobs} jobs of {} octets, {} at once: {} jobs a second, {} MB/s",
             self.octets,
             self.threads,
-            rate.saturating_mul(u128::from(self.octets)) / 1_000_000
+            jobs.saturating_mul(1_000_000_000) / took,
+            octets.saturating_mul(1_000) / took
         )
     }
 }
