@@ -64,7 +64,7 @@ fn table_of(alloc: Global, ladder: Ladder, rows: u32) -> Result<Table, AllocErro
     set_pages(&mut claim, rows);
     let mut table = Table::new(alloc, &claim, rows)?;
     for row in 0..rows {
-        let later = rows - 1 - row;
+        let later = rows.saturating_sub(row).saturating_sub(1);
         let need = match ladder {
             Ladder::Flat => 0,
             Ladder::Step => u32::from(row == 0),

@@ -97,6 +97,14 @@ impl Times {
     }
 }
 
+/// Begins the file of a job. None where it has no octets, or the call was refused.
+fn begin_file(core: &mut Core, job: u64, name: FileName, count: u64) -> Option<()> {
+    if count == 0 {
+        return None;
+    }
+    core.begin_file(job, name, count).ok()
+}
+
 /// Sends a whole job of this sender to this queue. None where a call was refused.
 fn send<R: AllocGlobal + Clock>(
     rt: &R,
@@ -107,14 +115,11 @@ fn send<R: AllocGlobal + Clock>(
     queue: &str,
 ) -> Option<()> {
     let count = u64::from(load.pages).saturating_mul(load.page.len() as u64);
-    if count == 0 {
-        return None;
-    }
     let name = FileName::read(b"dfA001h1").ok()?;
     times.end(rt, Call::Beside);
     let job = core.open(sender, queue.as_bytes()).ok()?;
     times.end(rt, Call::Open);
-    core.begin_file(job, name, count).ok()?;
+    begin_file(core, job, name, count)?;
     times.end(rt, Call::BeginFile);
     for _ in 0..load.pages {
         send_page(rt, core, times, load.page, job)?;
