@@ -105,6 +105,27 @@ fn begin_file(core: &mut Core, job: u64, name: FileName, count: u64) -> Option<(
     core.begin_file(job, name, count).ok()
 }
 
+/// Sends the one file of a job. None where a call was refused.
+fn send_file<R: Clock>(
+    rt: &R,
+    core: &mut Core,
+    times: &mut Times,
+    load: Load,
+    job: u64,
+) -> Option<()> {
+    let count = u64::from(load.pages).saturating_mul(load.page.len() as u64);
+    let name = FileName::read(b"dfA001h1").ok()?;
+    times.end(rt, Call::Beside);
+    begin_file(core, job, name, count)?;
+    times.end(rt, Call::BeginFile);
+    for _ in 0..load.pages {
+        send_page(rt, core, times, load.page, job)?;
+    }
+    core.end_file(job).ok()?;
+    times.end(rt, Call::EndFile);
+    Some(())
+}
+
 /// Sends a whole job of this sender to this queue. None where a call was refused.
 fn send<R: AllocGlobal + Clock>(
     rt: &R,
@@ -114,18 +135,10 @@ fn send<R: AllocGlobal + Clock>(
     sender: u32,
     queue: &str,
 ) -> Option<()> {
-    let count = u64::from(load.pages).saturating_mul(load.page.len() as u64);
-    let name = FileName::read(b"dfA001h1").ok()?;
     times.end(rt, Call::Beside);
     let job = core.open(sender, queue.as_bytes()).ok()?;
     times.end(rt, Call::Open);
-    begin_file(core, job, name, count)?;
-    times.end(rt, Call::BeginFile);
-    for _ in 0..load.pages {
-        send_page(rt, core, times, load.page, job)?;
-    }
-    core.end_file(job).ok()?;
-    times.end(rt, Call::EndFile);
+    send_file(rt, core, times, load, job)?;
     let name = FileName::read(b"cfA001h1").ok()?;
     let control = Control::parse(rt.alloc(), &name, CONTROL).ok()?;
     times.end(rt, Call::Beside);
