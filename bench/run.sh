@@ -3,7 +3,7 @@
 # own, since what one asks of memory would change what the next one finds.
 set -eu
 cd "$(dirname "${BASH_SOURCE[0]}")/../crates/bench_parts"
-for word in receiver banker chains core; do
+for word in banker chains core; do
     rt run -- "$word"
 done
 cd ../bench_threads

@@ -62,7 +62,7 @@ milliseconds() {
 measure() {
     local before
     before=$(milliseconds "$1")
-    # (it says how many jobs were taken, and its status is 1 where one wasn't)
+    # (it says how many jobs were taken)
     line=$("$client" load "$2" "$3" "$4" "$5") || true
     used=$(awk -v before="$before" -v after="$(milliseconds "$1")" -v jobs="$4" \
         'BEGIN { printf "%.3f", (after - before) / jobs }')

@@ -1,25 +1,23 @@
--- What a page that is pushed or taken changes in the numbers of pages.
+-- What a page that is taken and pushed again changes in the numbers of pages.
 use Rattle.std.proofs.Common.{◌≡◌, ℕ, ◌+◌, ◌<◌, [], ◌∷◌, ◌++◌, length, drop, ◌∙◌, ap, arith}
 use Rattle.std.proofs.lemmas.List.{length-append}
 use Rattle.page_pool.specs.Page.{Page}
 use Rattle.page_nodes.specs.Chains.{Chains, chain_of, with_chain, total}
 use Rattle.page_nodes.proofs.Frames.{chain_same, chain_count, total_set}
 
-pub record IsPushed (c d : Chains) (key : ℕ) (page : Page) : Type 0 where
+pub record IsPushed (c d : Chains) (key : ℕ) : Type 0 where
   pub count : length d.chains ≡ length c.chains
-  pub chain : chain_of d key ≡ chain_of c key ++ page ∷ []
   pub longer : length (chain_of d key) ≡ length (chain_of c key) + 1
   pub more : total d.chains ≡ total c.chains + 1
   pub room : d.room ≡ c.room
 
-pub pushed : (c d : Chains) (key : ℕ) (page : Page) → key < length c.chains → d ≡ with_chain c key (chain_of c key ++ page ∷ []) → IsPushed c d key page
+pub pushed : (c d : Chains) (key : ℕ) (page : Page) → key < length c.chains → d ≡ with_chain c key (chain_of c key ++ page ∷ []) → IsPushed c d key
 pushed c d key page lt e =
     let pages = chain_of c key ++ page ∷ [] in
     let chain : chain_of d key ≡ pages = ap (λ (u : Chains). chain_of u key) e ∙ chain_same c key pages lt in
     let l = length-append (chain_of c key) (page ∷ []) in
     record {
       count = ap (λ (u : Chains). length u.chains) e ∙ chain_count c key pages;
-      chain = chain;
       longer = (let m = ap length chain in omega (arith, m, l));
       more = (let s = ap (λ (u : Chains). total u.chains) e in let t = total_set c.chains key pages lt in omega (arith, s, t, l));
       room = ap (λ (u : Chains). u.room) e;
@@ -27,7 +25,6 @@ pushed c d key page lt e =
 
 pub record IsTaken (c d : Chains) (key : ℕ) : Type 0 where
   pub count : length d.chains ≡ length c.chains
-  pub chain : chain_of d key ≡ drop 1 (chain_of c key)
   pub shorter : length (chain_of d key) + 1 ≡ length (chain_of c key)
   pub fewer : total d.chains + 1 ≡ total c.chains
   pub room : d.room ≡ c.room
@@ -40,7 +37,6 @@ taken c d key page lt p e =
     let l = ap length p in
     record {
       count = ap (λ (u : Chains). length u.chains) e ∙ chain_count c key rest;
-      chain = chain;
       shorter = (let m = ap length chain in omega (arith, m, l));
       fewer = (let s = ap (λ (u : Chains). total u.chains) e in let t = total_set c.chains key rest lt in omega (arith, s, t, l));
       room = ap (λ (u : Chains). u.room) e;

@@ -1,12 +1,11 @@
-//! How fast the parts of a spooler are in one thread: `bench_parts WORD..`, where each word chooses a measurement:
-//! `receiver`, `banker`, `chains`, `core` or `world`. `bench_parts count` sends a little to a world, and prints what was
-//! printed and no times.
+//! How fast the parts of a spooler are in one thread: `bench_parts WORD..`, where each word chooses a measurement: `banker`,
+//! `chains`, `core` or `world`. `bench_parts count` sends a little to a world, and prints what was printed and no times.
 #![tactic(auto)]
 
 mod banker;
 mod calls;
 mod chains;
-mod receiving;
+mod clock;
 mod worlds;
 
 use std::rt::{Clock, Files};
@@ -15,7 +14,6 @@ use std::{env, io};
 /// Measures what this word chooses.
 fn measure<R: AllocGlobal + Clock + Files + Print>(rt: &R, word: &str) -> io::Result<()> {
     match word {
-        "receiver" => receiving::run(rt),
         "banker" => banker::run(rt),
         "chains" => chains::run(rt),
         "core" => calls::run(rt),

@@ -3,74 +3,85 @@
 //! keeps nothing. `bench_threads count` does a little of the same, and prints what it came to and no times.
 #![tactic(auto)]
 
-mod network;
+mod clock;
+mod discarding;
+mod job;
+mod loading;
 mod seats;
 mod sessions;
+mod spool;
 
-use network::discarding::discard;
-use network::loading::Load;
-use network::{load_of, number_at, port_at};
-use std::env::Env;
+use job::Job;
+use loading::{Load, send_share};
 use std::io::{Error, ErrorKind};
-use std::process::ExitCode;
+use std::net::{Net, TcpListener, TcpStream};
 use std::rt::Clock;
 use std::sync::Wait;
 use std::thread::Threads;
 use std::{env, io};
 
-/// What the words ask for.
-#[derive(Drop)]
-enum Asked {
-    /// Nothing: there are none.
-    Nothing,
-    /// To measure a spool that threads share.
-    Shared,
-    /// To measure sessions and printers.
-    Session,
-    /// To count what is printed and sent.
-    Count,
-    /// To send jobs.
-    Load(Load),
-    /// To serve, and keep nothing.
-    Discard { port: u16, connections: u32 },
+/// The number that stands at this place of the words.
+fn number_at(words: &[String], place: usize) -> io::Result<u32> {
+    if let Some(word) = words.get(place) {
+        if let Ok(number) = word.as_str().parse::<u32>() {
+            return Ok(number);
+        }
+    }
+    Err(Error::from(ErrorKind::InvalidInput))
 }
 
-/// What the words ask for.
-fn read_words<R: AllocGlobal + Env>(rt: &R) -> io::Result<Asked> {
-    let words: Vec<String> = env::args(rt)?.collect(rt.alloc())?;
-    let words = words.as_slice();
-    match words.get(1).map(|word| word.as_str()) {
-        None => Ok(Asked::Nothing),
-        Some("shared") => Ok(Asked::Shared),
-        Some("session") => Ok(Asked::Session),
-        Some("count") => Ok(Asked::Count),
-        Some("load") => Ok(Asked::Load(load_of(rt.alloc(), words)?)),
-        Some("discard") => Ok(Asked::Discard {
-            port: port_at(words, 2)?,
-            connections: number_at(words, 3)?,
-        }),
-        Some(_) => Err(Error::from(ErrorKind::InvalidInput)),
+/// The port that stands at this place of the words.
+fn port_at(words: &[String], place: usize) -> io::Result<u16> {
+    match u16::try_from(number_at(words, place)?) {
+        Ok(port) => Ok(port),
+        Err(_) => Err(Error::from(ErrorKind::InvalidInput)),
     }
 }
 
-/// Prints what is printed of a little load, and what is sent of some jobs.
-fn count<R: AllocGlobal + Clock + Print + Threads + Wait + Sync>(rt: &R) -> io::Result<()> {
-    sessions::count(rt)?;
-    network::count(rt)
+/// The jobs that these words ask to be sent. None where they ask for something else.
+fn load_of(words: &[String]) -> io::Result<Option<Load>> {
+    match words.get(1) {
+        Some(word) if word.as_str() == "load" => {}
+        _ => return Ok(None),
+    }
+    Ok(Some(Load {
+        port: port_at(words, 2)?,
+        connections: number_at(words, 3)?,
+        jobs: number_at(words, 4)?,
+        octets: number_at(words, 5)?,
+    }))
 }
 
-fn main(rt: HostRuntime) -> ExitCode {
-    let ended = match read_words(&rt) {
-        Ok(Asked::Nothing) => Ok(0),
-        Ok(Asked::Shared) => seats::run(&rt).map(|()| 0),
-        Ok(Asked::Session) => sessions::run(&rt).map(|()| 0),
-        Ok(Asked::Count) => count(&rt).map(|()| 0),
-        Ok(Asked::Load(load)) => {
-            let speed = load.run(&rt, &|client| load.send_share(&rt, client));
-            network::show(&rt, speed)
-        }
-        Ok(Asked::Discard { port, connections }) => discard(&rt, port, connections).map(|()| 0),
-        Err(error) => Err(error),
+/// Does what these words ask for, but for sending jobs.
+fn run<
+    R: AllocGlobal
+        + Clock
+        + Print
+        + Net<Listener = TcpListener, Stream = TcpStream>
+        + Threads
+        + Wait
+        + Sync,
+>(rt: &R, words: &[String]) -> io::Result<()> {
+    let Some(word) = words.get(1) else {
+        return Ok(());
     };
-    ExitCode::from(ended.unwrap_or(2))
+    match word.as_str() {
+        "shared" => seats::run(rt),
+        "session" => sessions::run(rt),
+        "discard" => discarding::run(rt, port_at(words, 2)?, number_at(words, 3)?),
+        "count" => {
+            sessions::count(rt)?;
+            discarding::count(rt)
+        }
+        _ => Err(Error::from(ErrorKind::InvalidInput)),
+    }
+}
+
+fn main(rt: HostRuntime) -> io::Result<()> {
+    let words: Vec<String> = env::args(&rt)?.collect(rt.alloc())?;
+    let Some(load) = load_of(words.as_slice())? else {
+        return run(&rt, words.as_slice());
+    };
+    let job = Job::new(rt.alloc(), load.octets as usize)?;
+    loading::run(&rt, load, &|index| send_share(&rt, load, &job, index))
 }
