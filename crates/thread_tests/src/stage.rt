@@ -30,7 +30,7 @@ pub const PAGE_SIZE: usize = 8;
 pub const PAGES: usize = 4;
 
 /// A spool of one queue with so many printers. None where memory is refused.
-fn config_of(alloc: Global, printers: usize) -> Option<Config> {
+pub fn config_of(alloc: Global, printers: usize) -> Option<Config> {
     let text = format!(in alloc;
         "pages = {PAGES}\npage_size = {PAGE_SIZE}\nmax_jobs = 8\naccount = 100000\n\
          [[queue]]\nname = \"lp\"\nlimit = 3\nprinters = {printers}\n"
