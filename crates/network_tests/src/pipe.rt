@@ -21,12 +21,14 @@ impl Pipe {
     pub fn full<R: Abort>(rt: &R) -> Pipe {
         let mut ends = [-1; 2];
         assert_eq!(rt; unsafe { pipe2(&mut ends, O_CLOEXEC) }, 0, "a pipe");
-        let reader = unsafe { OwnedFd::from_raw_fd(ends[0]) };
-        let writer = unsafe { OwnedFd::from_raw_fd(ends[1]) };
-        os::set_nonblocking(ends[1], true);
+        let (reading, writing) = (ends[0], ends[1]);
+        assert!(rt; reading >= 0 && writing >= 0, "two ends");
+        let reader = unsafe { OwnedFd::from_raw_fd(reading) };
+        let writer = unsafe { OwnedFd::from_raw_fd(writing) };
+        os::set_nonblocking(writing, true);
         let mut filled = 0usize;
         for _ in 0..u16::MAX {
-            match usize::try_from(libc::write(ends[1], &[0; 512])) {
+            match usize::try_from(libc::write(writing, &[0; 512])) {
                 Ok(count) => filled = filled.saturating_add(count),
                 Err(_) => break,
             }
