@@ -13,23 +13,26 @@
 //! `other CALL` is a call of a second core, for which a line `other spool ..` has a configuration, and `trade` exchanges all
 //! pages that are kept at the two.
 
-use crate::calls::{self, SPOOL, config_of, number, told};
-use crate::desk::{BAD_ROW, Desk};
-use crate::rows::{word, words};
+use crate::calls::{BAD_ROW, SPOOL, config_of, push_answer};
+use crate::desk::Desk;
+use crate::rows::{number, push_numbers, word, words};
 use lpd_commands::Refusal;
+use request_calls::Answer;
 use spool_core::Core;
 use std::alloc::{AllocError, Global};
 
 /// A desk of a core on the configuration that these words tell, or None where they tell none.
 pub fn desk_of(alloc: Global, told: &str) -> Result<Option<Desk<Core>>, AllocError> {
-    match config_of(alloc, told)? {
-        Some(config) => Ok(Some(Desk::new(alloc, Core::new(alloc, config)?))),
-        None => Ok(None),
-    }
+    let Some(config) = config_of(alloc, told)? else {
+        return Ok(None);
+    };
+    let (page_size, printers) = (config.page_size(), config.printer_count());
+    let core = Core::new(alloc, config)?;
+    Ok(Some(Desk::new(alloc, core, page_size, printers)))
 }
 
 /// Puts the history away, where no job is held.
-pub fn rotate(core: &mut Core) -> &'static str {
+fn rotate(core: &mut Core) -> &'static str {
     if core.held() != 0 {
         return BAD_ROW;
     }
@@ -37,140 +40,126 @@ pub fn rotate(core: &mut Core) -> &'static str {
     "yes"
 }
 
-/// How many printers of a queue are stopped.
-fn stopped(alloc: Global, core: &Core, queue: &str) -> Result<String, AllocError> {
-    match core.queue_number(queue.as_bytes()) {
-        Some(queue) => format!(in alloc; "stopped {}", core.stopped_in(queue)),
-        None => told(alloc, Err(Refusal::UnknownQueue)),
-    }
-}
-
-/// The open file of a job, and how many pages of it were put.
-fn file(alloc: Global, core: &Core, job: u64) -> Result<String, AllocError> {
-    match core.open_file(job) {
-        Some((file, pages)) => format!(in alloc; "file {file} page {pages}"),
-        None => String::from_str(alloc, "no file"),
-    }
-}
-
-/// The jobs that a removal would take.
-fn chosen(alloc: Global, core: &Core, rest: &str) -> Result<String, AllocError> {
+/// Appends the jobs that a removal would take.
+fn push_chosen(told: &mut String, alloc: Global, core: &Core, rest: &str) -> Result<(), Refusal> {
     let (queue, rest) = word(rest);
     let (agent, list) = word(rest);
     let list = words(alloc, list)?;
-    match core.chosen(queue.as_bytes(), agent.as_bytes(), list.as_slice()) {
-        Ok(numbers) => {
-            let mut jobs = String::from_str(alloc, "jobs")?;
-            for number in numbers.iter() {
-                write!(jobs, " {number}")?;
-            }
-            Ok(jobs)
-        }
-        Err(refusal) => told(alloc, Err(refusal)),
+    let numbers = core.chosen(queue.as_bytes(), agent.as_bytes(), list.as_slice())?;
+    told.push_str("jobs")?;
+    for number in numbers.iter() {
+        write!(told, " {number}")?;
     }
+    Ok(())
 }
 
-/// Yes, where nothing is refused.
-fn yes(alloc: Global, refusal: Option<Refusal>) -> Result<String, AllocError> {
+/// Appends yes where nothing is refused.
+fn push_yes(told: &mut String, refusal: Option<Refusal>) -> Result<(), Refusal> {
     match refusal {
-        Some(refusal) => told(alloc, Err(refusal)),
-        None => String::from_str(alloc, "yes"),
+        Some(refusal) => Err(refusal),
+        None => Ok(told.push_str("yes")?),
     }
 }
 
-/// What a core answers to a call.
-fn answer(alloc: Global, desk: &mut Desk<Core>, call: &str) -> Result<String, AllocError> {
-    let (name, rest) = word(call);
-    match name {
-        "file" => file(alloc, &desk.spool, number(rest)),
-        "stopped" => stopped(alloc, &desk.spool, rest),
-        "chosen" => chosen(alloc, &desk.spool, rest),
-        "free" => format!(in alloc; "free {}", desk.spool.free()),
-        "reserve" => format!(in alloc; "reserve {}", desk.spool.counted_reserve()),
-        "opens" => yes(alloc, desk.spool.open_refusal(rest.as_bytes())),
-        "controls" => yes(alloc, desk.spool.control_refusal(number(rest))),
-        "rotate" => String::from_str(alloc, rotate(&mut desk.spool)),
-        _ => calls::answer(alloc, desk, call),
-    }
-}
-
-/// A call of a core with what is answered.
-fn told_call(alloc: Global, desk: &mut Desk<Core>, call: &str) -> Result<String, AllocError> {
-    let answer = answer(alloc, desk, call)?;
-    format!(in alloc; "{call} => {answer}")
-}
-
-/// The line of a configuration, with which a core begins anew.
-fn told_spool(alloc: Global, desk: &mut Desk<Core>, told: &str) -> Result<String, AllocError> {
-    match desk_of(alloc, told)? {
-        Some(new) => {
-            *desk = new;
-            format!(in alloc; "spool {told}")
+/// Appends what a core alone is asked. Answers false where the call is none of these.
+fn is_told(told: &mut String, alloc: Global, core: &mut Core, call: &str) -> Result<bool, Refusal> {
+    let (call, rest) = word(call);
+    match call {
+        "file" => match core.open_file(number(rest)) {
+            Some((file, page)) => push_numbers(told, &[("file", file), ("page", page)])?,
+            None => told.push_str("no file")?,
+        },
+        "stopped" => {
+            let Some(queue) = core.queue_number(rest.as_bytes()) else {
+                return Err(Refusal::UnknownQueue);
+            };
+            push_numbers(told, &[("stopped", u64::from(core.stopped_in(queue)))])?;
         }
-        None => format!(in alloc; "spool {told} => {BAD_ROW}"),
+        "free" => push_numbers(told, &[("free", core.free() as u64)])?,
+        "reserve" => push_numbers(told, &[("reserve", core.counted_reserve())])?,
+        "chosen" => push_chosen(told, alloc, core, rest)?,
+        "opens" => push_yes(told, core.open_refusal(rest.as_bytes()))?,
+        "controls" => push_yes(told, core.control_refusal(number(rest)))?,
+        "rotate" => told.push_str(rotate(core))?,
+        _ => return Ok(false),
     }
+    Ok(true)
 }
 
-/// A line of a core as it is wanted: its configuration as it stands, and a call with what is answered.
-fn told_line(alloc: Global, desk: &mut Desk<Core>, call: &str) -> Result<String, AllocError> {
-    match call.strip_prefix("spool ") {
-        Some(told) => told_spool(alloc, desk, told),
-        None => told_call(alloc, desk, call),
-    }
-}
-
-/// The two cores of a block.
-#[derive(Drop)]
-struct Desks {
-    first: Desk<Core>,
-    other: Desk<Core>,
-}
-
-impl Desks {
-    /// Two cores in which nothing happened yet, or None where the configuration of a block without one is none.
-    fn new(alloc: Global) -> Result<Option<Desks>, AllocError> {
-        let Some(first) = desk_of(alloc, SPOOL)? else {
-            return Ok(None);
-        };
-        Ok(desk_of(alloc, SPOOL)?.map(|other| Desks { first, other }))
-    }
-
-    /// A line of a block as it is wanted.
-    fn line(&mut self, alloc: Global, line: &str) -> Result<String, AllocError> {
-        let (call, _) = line.split_once(" => ").unwrap_or((line, ""));
-        if call == "trade" {
-            self.first.trade(&mut self.other);
-            return String::from_str(alloc, "trade => yes");
+/// Appends a call of a core, with what is answered; or the configuration with which the core begins anew.
+fn push_line(
+    told: &mut String,
+    alloc: Global,
+    desk: &mut Desk<Core>,
+    call: &str,
+) -> Result<(), AllocError> {
+    if let Some(spool) = call.strip_prefix("spool ") {
+        told.push_str(call)?;
+        match desk_of(alloc, spool)? {
+            Some(new) => *desk = new,
+            None => write!(told, " => {BAD_ROW}")?,
         }
-        match call.strip_prefix("other ") {
-            Some(call) => format!(in alloc; "other {}", told_line(alloc, &mut self.other, call)?),
-            None => told_line(alloc, &mut self.first, call),
-        }
+        return Ok(());
+    }
+    write!(told, "{call} => ")?;
+    match is_told(told, alloc, &mut desk.spool, call) {
+        Ok(true) => Ok(()),
+        Ok(false) => desk.push_answer(told, call),
+        Err(refusal) => push_answer(told, &Answer::Refused(refusal)),
     }
 }
 
-/// A line of a block as it is wanted, which may be a comment.
-fn row(alloc: Global, desks: &mut Desks, line: &str) -> Result<String, AllocError> {
-    if line.starts_with("# ") {
-        String::from_str(alloc, line)
-    } else {
-        desks.line(alloc, line)
-    }
-}
-
-/// The lines of a block, each call with what these cores answer.
-fn rows(alloc: Global, desks: &mut Desks, block: &str) -> Result<String, AllocError> {
-    let mut told = String::new(alloc);
+/// Appends the lines of a block, each call with what these cores answer.
+fn push_lines(
+    told: &mut String,
+    alloc: Global,
+    first: &mut Desk<Core>,
+    other: &mut Desk<Core>,
+    block: &str,
+) -> Result<(), AllocError> {
     for line in block.lines() {
-        writeln!(told, "{}", row(alloc, desks, line)?)?;
+        let (call, _) = line.split_once(" => ").unwrap_or((line, ""));
+        if line.starts_with("# ") {
+            told.push_str(line)?;
+        } else if call == "trade" {
+            first.trade(other);
+            told.push_str("trade => yes")?;
+        } else if let Some(call) = call.strip_prefix("other ") {
+            told.push_str("other ")?;
+            push_line(told, alloc, other, call)?;
+        } else {
+            push_line(told, alloc, first, call)?;
+        }
+        told.push_str("\n")?;
     }
-    Ok(told)
+    Ok(())
+}
+
+/// Appends the lines of a block, with a second core beside this one.
+fn push_beside(
+    told: &mut String,
+    alloc: Global,
+    first: &mut Desk<Core>,
+    block: &str,
+) -> Result<(), AllocError> {
+    match desk_of(alloc, SPOOL)? {
+        Some(mut other) => push_lines(told, alloc, first, &mut other, block),
+        None => Ok(()),
+    }
+}
+
+/// Appends the lines of a block. Each core is made in a function of its own, since its drop at every early return of another is
+/// dear to prove.
+fn push_block(told: &mut String, alloc: Global, block: &str) -> Result<(), AllocError> {
+    match desk_of(alloc, SPOOL)? {
+        Some(mut first) => push_beside(told, alloc, &mut first, block),
+        None => Ok(()),
+    }
 }
 
 /// The lines of a block, each call with what it answers.
 pub fn calls(alloc: Global, block: &str) -> Result<Vec<u8>, AllocError> {
-    match Desks::new(alloc)? {
-        Some(mut desks) => Ok(rows(alloc, &mut desks, block)?.into_bytes()),
-        None => Ok(Vec::new(alloc)),
-    }
+    let mut told = String::new(alloc);
+    push_block(&mut told, alloc, block)?;
+    Ok(told.into_bytes())
 }

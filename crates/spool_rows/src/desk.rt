@@ -1,227 +1,258 @@
-//! A spool, with the pages that the sessions of its jobs and its printers keep.
+//! A spool, with the pages that the sessions of its jobs and its printers keep, and what it answers to the calls of `calls`.
 
+ghost use Rattle.std.specs.Prelude.{IsSome};
+ghost use Rattle.receiver.specs.View.{asked};
+
+use crate::calls::{self, BAD_ROW};
 use crate::kept::Kept;
+use crate::rows::{number, octets, push_numbers, short_number, word};
 use crate::spool::Spool;
-use control_file::Control;
 use lpd_commands::{FileName, Refusal};
-use spool_core::{
-    Asked, Foreign, HandedPage, Next, Progress, Receipt, ReturnedPage, ReturnedTicket,
-};
-use std::alloc::Global;
+use page_pool::PageTicket;
+use receiver::Need;
+use request_calls::{Answer, Outcome, ReturnedTicket};
+use spool_core::{Asked, Foreign, HandedPage, Next, Progress};
+use std::alloc::{AllocError, Global};
 use std::mem;
-
-/// What is answered to a call that a spool may not be asked.
-pub const BAD_ROW: &str = "bad row";
 
 /// A spool, and the pages that its jobs and printers keep.
 #[derive(Drop)]
 pub struct Desk<S: Spool> {
+    alloc: Global,
     pub spool: S,
-    kept: Kept,
+    /// How many octets a page has at most.
+    pub page_size: u32,
+    /// How many printers there are.
+    pub printers: u32,
+    tickets: Kept<PageTicket>,
+    pages: Kept<HandedPage>,
 }
 
-/// The word for what is said of a job whose page was printed.
-fn progress_word(progress: Progress) -> &'static str {
-    match progress {
-        Progress::Going => "going",
-        Progress::Done => "done",
-        Progress::Ended => "ended",
-    }
-}
-
-/// The word for whether a job is whole.
-fn receipt_word(receipt: Receipt) -> &'static str {
-    match receipt {
-        Receipt::Stored => "stored",
-        Receipt::Received => "received",
-    }
+/// Appends a page at a printer: its job, its place, its file, its number in that and its octets.
+fn push_page(told: &mut String, page: &HandedPage) -> Result<(), AllocError> {
+    let numbers = [
+        ("job", page.job),
+        ("place", page.place),
+        ("file", page.file),
+        ("page", page.number),
+    ];
+    push_numbers(told, &numbers)?;
+    write!(told, " {}", page.bytes().escape_ascii())
 }
 
 impl<S: Spool> Desk<S> {
     /// A spool of which no page is kept.
-    pub fn new(alloc: Global, spool: S) -> Desk<S> {
+    pub fn new(alloc: Global, spool: S, page_size: u32, printers: u32) -> Desk<S> {
         Desk {
+            alloc,
             spool,
-            kept: Kept::new(alloc),
+            page_size,
+            printers,
+            tickets: Kept::new(alloc),
+            pages: Kept::new(alloc),
         }
     }
 
     /// The spool alone. The pages that are kept are spent.
     pub fn into_spool(self) -> S {
-        let Desk { spool, kept: _ } = self;
-        spool
+        self.spool
+    }
+
+    /// Exchanges all pages that are kept with those of another desk.
+    pub fn trade(&mut self, other: &mut Desk<S>) {
+        mem::swap(&mut self.tickets, &mut other.tickets);
+        mem::swap(&mut self.pages, &mut other.pages);
     }
 
     /// Asks for a page for a job, and keeps it. Answers whether there was one.
     fn is_lent(&mut self, job: u64) -> Result<bool, Refusal> {
         match self.spool.ask(job)? {
             Asked::Page(ticket) => {
-                self.kept.keep_ticket(job, ticket)?;
+                self.tickets.keep(job, ticket)?;
                 Ok(true)
             }
             Asked::Later => Ok(false),
         }
     }
 
-    /// Asks for a page for a job, and keeps it.
-    pub fn ask(&mut self, job: u64) -> Result<&'static str, Refusal> {
-        Ok(if self.is_lent(job)? { "page" } else { "later" })
-    }
-
-    /// Begins a file of so many octets.
-    pub fn begin(&mut self, job: u64, name: &[u8], count: u64) -> Result<&'static str, Refusal> {
-        if count == 0 {
-            return Ok(BAD_ROW);
+    /// Carries out a request of a session, and answers what isn't refused. A page that comes back is kept again.
+    fn carry_out(&mut self, sender: u32, job: u64, request: Need) -> Result<Answer, Refusal>
+        requires { IsSome (asked request) }
+    {
+        let Outcome { answer, page } = self.spool.carry_out(sender, job, request);
+        if let Some(ticket) = page {
+            self.tickets.keep(job, ticket)?;
         }
-        self.spool.begin_file(job, FileName::read(name)?, count)?;
-        Ok("yes")
+        match answer {
+            Answer::Refused(refusal) => Err(refusal),
+            answer => Ok(answer),
+        }
     }
 
-    /// Writes these octets on the page that is kept for a job, and puts it. A page that is refused is kept again.
-    pub fn put(&mut self, job: u64, octets: &[u8]) -> Result<&'static str, Refusal> {
-        let Some(mut ticket) = self.kept.take_ticket(job) else {
+    /// Writes these octets on the page that is kept for a job, and puts it.
+    fn put(&mut self, job: u64, octets: &[u8]) -> Result<&'static str, Refusal> {
+        let Some(mut ticket) = self.tickets.take(job) else {
             return Ok("no ticket");
         };
         ticket.push(octets);
         if ticket.is_empty() {
-            self.kept.keep_ticket(job, ticket)?;
+            self.tickets.keep(job, ticket)?;
             return Ok(BAD_ROW);
         }
-        match self.spool.put(job, ticket.seal()) {
-            Ok(()) => Ok("yes"),
-            Err(ReturnedPage { page }) => {
-                self.kept.keep_ticket(job, page.unseal())?;
-                Err(Refusal::NotOpen)
-            }
-        }
+        self.carry_out(0, job, Need::Filled(ticket.seal()))?;
+        Ok("yes")
     }
 
-    /// Ends the open file of a job.
-    pub fn end(&mut self, job: u64) -> Result<&'static str, Refusal> {
-        Ok(receipt_word(self.spool.end_file(job)?))
-    }
-
-    /// Sends a whole file of a job, page by page.
-    pub fn send(&mut self, job: u64, name: &[u8], octets: &[u8]) -> Result<&'static str, Refusal> {
+    /// Sends a whole file of a job, page by page, and appends what is answered at its end.
+    fn send(
+        &mut self,
+        told: &mut String,
+        job: u64,
+        name: &str,
+        octets: &[u8],
+    ) -> Result<(), Refusal> {
         if octets.is_empty() {
-            return Ok(BAD_ROW);
+            return Ok(told.push_str(BAD_ROW)?);
         }
-        self.begin(job, name, octets.len() as u64)?;
-        let page_size = self.spool.page_size().max(1);
-        for piece in octets.chunks(page_size) {
+        let name = FileName::read(name.as_bytes())?;
+        let count = octets.len() as u64;
+        self.carry_out(0, job, Need::BeginFile { name, count })?;
+        for piece in octets.chunks(self.page_size.max(1) as usize) {
             if !self.is_lent(job)? {
-                return Ok("later");
+                return Ok(told.push_str("later")?);
             }
             self.put(job, piece)?;
         }
-        self.end(job)
-    }
-
-    /// Brings the control file of a job, of this text and under this name.
-    pub fn control(
-        &mut self,
-        alloc: Global,
-        job: u64,
-        name: &[u8],
-        text: &[u8],
-    ) -> Result<&'static str, Refusal> {
-        let control = Control::parse(alloc, &FileName::read(name)?, text)?;
-        Ok(receipt_word(self.spool.control(job, control)?))
+        let answer = self.carry_out(0, job, Need::EndFile)?;
+        Ok(calls::push_answer(told, &answer)?)
     }
 
     /// Aborts a job, with the page that is kept for it if there is one. A page that is refused is kept again.
-    pub fn abort(&mut self, job: u64) -> Result<&'static str, Refusal> {
-        let ticket = self.kept.take_ticket(job);
-        match self.spool.abort(job, ticket) {
-            Ok(()) => Ok("yes"),
-            Err(ReturnedTicket { ticket: None }) => Err(Refusal::NotOpen),
-            Err(
-                ReturnedTicket {
-                    ticket: Some(ticket),
-                },
-            ) => {
-                self.kept.keep_ticket(job, ticket)?;
-                Err(Refusal::NotOpen)
-            }
+    fn abort(&mut self, job: u64) -> Result<&'static str, Refusal> {
+        let ticket = self.tickets.take(job);
+        let Err(ReturnedTicket { ticket }) = self.spool.abort(job, ticket) else {
+            return Ok("yes");
+        };
+        if let Some(ticket) = ticket {
+            self.tickets.keep(job, ticket)?;
         }
+        Err(Refusal::NotOpen)
     }
 
-    /// Gives a printer its next page, which is kept at it.
-    pub fn next(&mut self, printer: u32) -> Result<&'static str, Refusal> {
-        if !self.spool.is_printer(printer) {
-            return Ok(BAD_ROW);
+    /// Gives a printer its next page, which is kept at it, and appends what is answered.
+    fn next(&mut self, told: &mut String, printer: u32) -> Result<(), Refusal> {
+        if printer == 0 || printer > self.printers {
+            return Ok(told.push_str(BAD_ROW)?);
         }
-        match self.spool.next(printer) {
+        let word = match self.spool.next(printer) {
             Next::Handed(page) => {
-                self.kept.keep_page(printer, page)?;
-                Ok("handed")
+                let shown = push_page(told, &page);
+                self.pages.keep(u64::from(printer), page)?;
+                return Ok(shown?);
             }
-            Next::Nothing => Ok("nothing"),
-            Next::Stopped => Ok("stopped"),
-            Next::Busy => Ok("busy"),
-            Next::Closed => Ok("closed"),
-        }
+            Next::Nothing => "nothing",
+            Next::Stopped => "stopped",
+            Next::Busy => "busy",
+            Next::Closed => "closed",
+        };
+        Ok(told.push_str(word)?)
     }
 
-    /// The page that is kept at a printer, the newest if there are more.
-    pub fn page_at(&self, printer: u32) -> Option<&HandedPage> {
-        self.kept.page_at(printer)
-    }
-
-    /// Gives back the page that is kept at a printer as printed. A page that is refused is kept again.
-    pub fn printed(&mut self, printer: u32) -> Result<&'static str, Refusal> {
-        if !self.spool.is_printer(printer) {
+    /// Gives back the page that is kept at a printer as printed or failed. A page that is refused is kept again.
+    fn give_back(&mut self, printer: u32, is_printed: bool) -> Result<&'static str, Refusal> {
+        if printer == 0 || printer > self.printers {
             return Ok(BAD_ROW);
         }
-        let Some(page) = self.kept.take_page(printer) else {
+        let Some(page) = self.pages.take(u64::from(printer)) else {
             return Ok("no page");
         };
-        match self.spool.printed(printer, page) {
-            Ok(progress) => Ok(progress_word(progress)),
+        match self.spool.take_back(printer, page, is_printed) {
+            Ok(Progress::Going) => Ok("going"),
+            Ok(Progress::Done) => Ok("done"),
+            Ok(Progress::Ended) => Ok("ended"),
             Err(Foreign { page }) => {
-                self.kept.keep_page(printer, page)?;
+                self.pages.keep(u64::from(printer), page)?;
                 Ok("foreign")
             }
         }
     }
 
-    /// Gives back the page that is kept at a printer as failed. A page that is refused is kept again.
-    pub fn failed(&mut self, printer: u32) -> Result<&'static str, Refusal> {
-        if !self.spool.is_printer(printer) {
-            return Ok(BAD_ROW);
-        }
-        let Some(page) = self.kept.take_page(printer) else {
-            return Ok("no page");
+    /// Appends what is answered to a request of a session, or that the row is none.
+    fn push_request(&mut self, told: &mut String, call: &str, rest: &str) -> Result<(), Refusal> {
+        let Some(need) = calls::request(self.alloc, call, rest)? else {
+            return Ok(told.push_str(BAD_ROW)?);
         };
-        match self.spool.failed(printer, page) {
-            Ok(()) => Ok("ended"),
-            Err(Foreign { page }) => {
-                self.kept.keep_page(printer, page)?;
-                Ok("foreign")
+        let (first, _) = word(rest);
+        let (sender, job) = (short_number(first), number(first));
+        let answer = self.carry_out(sender, job, need)?;
+        Ok(calls::push_answer(told, &answer)?)
+    }
+
+    /// Appends the counts of a spool that a call asks for.
+    fn push_counts(&mut self, told: &mut String, call: &str) -> Result<(), AllocError> {
+        let (held, pages) = self.spool.counts();
+        match call {
+            "held" => push_numbers(told, &[("held", held as u64)]),
+            "free" => push_numbers(told, &[("free", pages.free as u64)]),
+            _ => {
+                let numbers = [
+                    ("pages free", pages.free as u64),
+                    ("chained", pages.chained as u64),
+                    ("lent", pages.lent as u64),
+                    ("out", pages.out as u64),
+                ];
+                push_numbers(told, &numbers)
             }
         }
     }
 
-    /// Closes the spool.
-    pub fn close(&mut self) -> &'static str {
-        self.spool.close();
-        "yes"
+    /// Appends what is answered to a call.
+    fn push_call(&mut self, told: &mut String, call: &str) -> Result<(), Refusal> {
+        let (call, rest) = word(call);
+        let (first, text) = word(rest);
+        let (job, printer) = (number(first), short_number(first));
+        match call {
+            "ask" => {
+                let is_lent = self.is_lent(job)?;
+                told.push_str(if is_lent { "page" } else { "later" })?;
+            }
+            "put" => told.push_str(self.put(job, octets(self.alloc, text)?.as_slice())?)?,
+            "send" => {
+                let (name, text) = word(text);
+                self.send(told, job, name, octets(self.alloc, text)?.as_slice())?;
+            }
+            "abort" => told.push_str(self.abort(job)?)?,
+            "next" => self.next(told, printer)?,
+            "print" => {
+                self.next(told, printer)?;
+                told.push_str(", ")?;
+                told.push_str(self.give_back(printer, true)?)?;
+            }
+            "printed" => told.push_str(self.give_back(printer, true)?)?,
+            "failed" => told.push_str(self.give_back(printer, false)?)?,
+            "swap" => {
+                self.pages.exchange(job, number(text));
+                told.push_str("yes")?;
+            }
+            "switch" => {
+                self.tickets.exchange(job, number(text));
+                told.push_str("yes")?;
+            }
+            "close" => {
+                self.spool.close();
+                told.push_str("yes")?;
+            }
+            "free" | "held" | "pages" => self.push_counts(told, call)?,
+            _ => self.push_request(told, call, rest)?,
+        }
+        Ok(())
     }
 
-    /// Exchanges the pages that are kept at two printers.
-    pub fn swap_pages(&mut self, one: u32, other: u32) -> &'static str {
-        self.kept.swap_pages(one, other);
-        "yes"
-    }
-
-    /// Exchanges the pages that are kept for two jobs.
-    pub fn swap_tickets(&mut self, one: u64, other: u64) -> &'static str {
-        self.kept.swap_tickets(one, other);
-        "yes"
-    }
-
-    /// Exchanges all pages that are kept with those of another desk.
-    pub fn trade(&mut self, other: &mut Desk<S>) {
-        mem::swap(&mut self.kept, &mut other.kept);
+    /// Appends what is answered to a call, or the number of its refusal.
+    pub fn push_answer(&mut self, told: &mut String, call: &str) -> Result<(), AllocError> {
+        match self.push_call(told, call) {
+            Ok(()) => Ok(()),
+            Err(refusal) => write!(told, "refused {}", refusal.number()),
+        }
     }
 }

@@ -2,19 +2,15 @@
 //!
 //! A page is told by its length alone. A control file is told by its number, and where it is written by the letter A.
 
-use crate::rows::{value, word};
+use crate::rows::{number, push_numbers, short_number, value, word};
 use account::{Act, Entry, Outline, Progress, Sheet, Turn};
 use control_file::Control;
 use lpd_values::FileName;
 use std::alloc::{AllocError, Global};
 
-/// The number that a word spells, or 0.
-pub fn number(word: &str) -> u32 {
-    word.parse::<u32>().unwrap_or(0)
-}
-
 /// A page of so many octets.
-fn page(length: u32) -> Outline {
+fn page(length: &str) -> Outline {
+    let length = short_number(length);
     Outline {
         length,
         digest: [(length & 0xff) as u8; 32],
@@ -28,27 +24,24 @@ fn control(alloc: Global, name: &str, prints: &str) -> Result<Option<Control>, A
     };
     let mut text = String::from_str(alloc, "Hh1\nPann\n")?;
     for print in prints.split(',') {
-        text.push_str("f")?;
-        text.push_str(print)?;
-        text.push_str("\n")?;
+        writeln!(text, "f{print}")?;
     }
     Ok(Control::parse(alloc, &name, text.as_bytes()).ok())
 }
 
 /// What the session of a job did.
 fn act(alloc: Global, verb: &str, values: [&str; 5]) -> Result<Option<Act>, AllocError> {
-    let [name, prints, _, _, _] = values;
-    let (first, second, third) = (number(values[0]), number(values[1]), number(values[2]));
+    let [first, second, third, _, _] = values;
     Ok(match verb {
-        "began" => match FileName::read(name.as_bytes()) {
-            Ok(name) => Some(Act::Began(name, u64::from(second))),
+        "began" => match FileName::read(first.as_bytes()) {
+            Ok(name) => Some(Act::Began(name, number(second))),
             Err(_) => None,
         },
         "granted" => Some(Act::Granted),
-        "put" => Some(Act::Put(u64::from(first), u64::from(second), page(third))),
-        "ended" => Some(Act::FileEnded(u64::from(first), second == 1)),
-        "controlled" => match control(alloc, name, prints)? {
-            Some(control) => Some(Act::Controlled(control, third == 1)),
+        "put" => Some(Act::Put(number(first), number(second), page(third))),
+        "ended" => Some(Act::FileEnded(number(first), number(second) == 1)),
+        "controlled" => match control(alloc, first, second)? {
+            Some(control) => Some(Act::Controlled(control, number(third) == 1)),
             None => None,
         },
         "aborted" => Some(Act::Aborted),
@@ -56,34 +49,27 @@ fn act(alloc: Global, verb: &str, values: [&str; 5]) -> Result<Option<Act>, Allo
     })
 }
 
-/// What became of a page at a printer: it was handed to it, failed, or was printed and this is said of its job.
-fn turn(verb: &str) -> Option<Turn> {
-    match verb {
-        "handed" => Some(Turn::Handed),
-        "going" => Some(Turn::Printed(Progress::Going)),
-        "done" => Some(Turn::Printed(Progress::Done)),
-        "ended" => Some(Turn::Printed(Progress::Ended)),
-        "failed" => Some(Turn::Failed),
-        _ => None,
-    }
-}
-
-/// The page of this job and place, of so many octets. Where no file and page number stand behind these, it is the page
-/// of its place's number in the first file.
-fn sheet(values: [&str; 5]) -> Sheet {
-    let [job, place, length, file, page_number] = values;
-    let of_place = if page_number.is_empty() {
-        place
-    } else {
-        page_number
+/// What became of a page at a printer, of this job and place, of so many octets: it was handed to it, failed, or was printed
+/// and this is said of its job. Where no file and page number stand behind these, it is the page of its place's number in the
+/// first file.
+fn at_printer(printer: u32, verb: &str, values: [&str; 5]) -> Option<Entry> {
+    let turn = match verb {
+        "handed" => Turn::Handed,
+        "going" => Turn::Printed(Progress::Going),
+        "done" => Turn::Printed(Progress::Done),
+        "ended" => Turn::Printed(Progress::Ended),
+        "failed" => Turn::Failed,
+        _ => return None,
     };
-    Sheet {
-        job: u64::from(number(job)),
-        place: u64::from(number(place)),
-        file: u64::from(number(file)),
-        number: u64::from(number(of_place)),
-        page: page(number(length)),
-    }
+    let [job, place, length, file, of_file] = values;
+    let sheet = Sheet {
+        job: number(job),
+        place: number(place),
+        file: number(file),
+        number: number(if of_file.is_empty() { place } else { of_file }),
+        page: page(length),
+    };
+    Some(Entry::AtPrinter(printer, sheet, turn))
 }
 
 /// Jobs of a queue were removed: their numbers with a comma between two, and none where that is 0.
@@ -91,7 +77,7 @@ fn removed(alloc: Global, queue: u32, numbers: &str) -> Result<Entry, AllocError
     let mut jobs = Vec::new(alloc);
     for job in numbers.split(',') {
         if number(job) != 0 {
-            jobs.push(u64::from(number(job)))?;
+            jobs.push(number(job))?;
         }
     }
     Ok(Entry::Removed(queue, jobs))
@@ -101,105 +87,118 @@ fn removed(alloc: Global, queue: u32, numbers: &str) -> Result<Entry, AllocError
 pub fn entry(alloc: Global, line: &str) -> Result<Option<Entry>, AllocError> {
     let (who, rest) = word(line);
     let (which, rest) = word(rest);
-    let (verb, rest) = word(rest);
-    let (first, rest) = value(rest);
-    let (second, rest) = value(rest);
-    let (third, rest) = value(rest);
-    let (fourth, rest) = value(rest);
-    let (fifth, _) = value(rest);
-    let values = [first, second, third, fourth, fifth];
-    let which = number(which);
-    let job = u64::from(which);
+    let (verb, mut rest) = word(rest);
+    let mut values = [""; 5];
+    for i in 0..values.len() {
+        let (told, others) = value(rest);
+        values[i] = told;
+        rest = others;
+    }
     Ok(match (who, verb) {
-        ("job", "opened") => Some(Entry::Opened(job, number(first), number(second))),
+        ("job", "opened") => {
+            let (sender, queue) = (short_number(values[0]), short_number(values[1]));
+            Some(Entry::Opened(number(which), sender, queue))
+        }
         ("job", _) => match act(alloc, verb, values)? {
-            Some(act) => Some(Entry::OfJob(job, act)),
+            Some(act) => Some(Entry::OfJob(number(which), act)),
             None => None,
         },
-        ("printer", _) => match turn(verb) {
-            Some(turn) => Some(Entry::AtPrinter(which, sheet(values), turn)),
-            None => None,
-        },
-        ("queue", "removed") => Some(removed(alloc, which, first)?),
-        ("queue", "started") => Some(Entry::Started(which)),
+        ("printer", _) => at_printer(short_number(which), verb, values),
+        ("queue", "removed") => Some(removed(alloc, short_number(which), values[0])?),
+        ("queue", "started") => Some(Entry::Started(short_number(which))),
         ("spool", "closed") => Some(Entry::Closed),
         _ => None,
     })
 }
 
-/// A control file came, as a line tells it: its name, the files that it prints, and whether the job is whole by that.
-fn controlled(alloc: Global, control: &Control, whole: bool) -> Result<String, AllocError> {
-    let mut line = format!(in alloc; "controlled by cfA{:03} of ", control.number)?;
-    for (i, name) in control.prints.as_slice().iter().enumerate() {
-        let comma = if i == 0 { "" } else { "," };
-        write!(line, "{comma}{}", name.octets().escape_ascii())?;
+/// Appends that a control file came: its name, the files that it prints, and whether the job is whole by that.
+fn push_control(line: &mut String, control: &Control, whole: bool) -> Result<(), AllocError> {
+    write!(line, "controlled by cfA{:03} of ", control.number)?;
+    let mut before = "";
+    for name in control.prints.as_slice() {
+        write!(line, "{before}{}", name.octets().escape_ascii())?;
+        before = ",";
     }
-    write!(line, " whole {}", u8::from(whole))?;
-    Ok(line)
+    write!(line, " whole {}", u8::from(whole))
 }
 
-/// What the session of a job did, as a line tells it.
-fn act_words(alloc: Global, act: &Act) -> Result<String, AllocError> {
+/// Appends what the session of a job did.
+fn push_act(line: &mut String, act: &Act) -> Result<(), AllocError> {
     match act {
-        Act::Granted => String::from_str(alloc, "granted"),
+        Act::Granted => line.push_str("granted"),
         Act::Began(name, count) => {
-            format!(in alloc; "began file {} of {count}", name.octets().escape_ascii())
+            write!(
+                line,
+                "began file {} of {count}",
+                name.octets().escape_ascii()
+            )
         }
         Act::Put(file, number, page) => {
-            format!(in alloc; "put file {file} page {number} of {}", page.length)
+            let length = u64::from(page.length);
+            push_numbers(
+                line,
+                &[("put file", *file), ("page", *number), ("of", length)],
+            )
         }
         Act::FileEnded(file, whole) => {
-            format!(in alloc; "ended file {file} whole {}", u8::from(*whole))
+            push_numbers(line, &[("ended file", *file), ("whole", u64::from(*whole))])
         }
-        Act::Controlled(control, whole) => controlled(alloc, control, *whole),
-        Act::Aborted => String::from_str(alloc, "aborted"),
+        Act::Controlled(control, whole) => push_control(line, control, *whole),
+        Act::Aborted => line.push_str("aborted"),
     }
 }
 
-/// The word for what became of a page at a printer.
-fn turn_word(turn: Turn) -> &'static str {
-    match turn {
-        Turn::Handed => "handed",
-        Turn::Printed(Progress::Going) => "going",
-        Turn::Printed(Progress::Done) => "done",
-        Turn::Printed(Progress::Ended) => "ended",
-        Turn::Failed => "failed",
-    }
+/// Appends what became of a page at a printer, and the page.
+fn push_turn(line: &mut String, sheet: &Sheet, turn: Turn) -> Result<(), AllocError> {
+    line.push_str(match turn {
+        Turn::Handed => "handed ",
+        Turn::Printed(Progress::Going) => "going ",
+        Turn::Printed(Progress::Done) => "done ",
+        Turn::Printed(Progress::Ended) => "ended ",
+        Turn::Failed => "failed ",
+    })?;
+    let numbers = [
+        ("job", sheet.job),
+        ("place", sheet.place),
+        ("of", u64::from(sheet.page.length)),
+        ("file", sheet.file),
+        ("page", sheet.number),
+    ];
+    push_numbers(line, &numbers)
 }
 
-/// The numbers of jobs, with a comma between two, and 0 where there is none.
-fn job_numbers(alloc: Global, jobs: &[u64]) -> Result<String, AllocError> {
-    let Some((first, others)) = jobs.split_first() else {
-        return String::from_str(alloc, "0");
-    };
-    let mut numbers = format!(in alloc; "{first}")?;
-    for job in others {
-        write!(numbers, ",{job}")?;
+/// Appends the numbers of jobs, with a comma between two, and 0 where there is none.
+fn push_jobs(line: &mut String, jobs: &[u64]) -> Result<(), AllocError> {
+    if jobs.is_empty() {
+        return line.push_str("0");
     }
-    Ok(numbers)
+    let mut before = "";
+    for job in jobs {
+        write!(line, "{before}{job}")?;
+        before = ",";
+    }
+    Ok(())
 }
 
-/// The line that tells an entry.
-pub fn line_of(alloc: Global, entry: &Entry) -> Result<String, AllocError> {
+/// Appends the line that tells an entry.
+pub fn push_entry(line: &mut String, entry: &Entry) -> Result<(), AllocError> {
     match entry {
         Entry::Opened(job, sender, queue) => {
-            format!(in alloc; "job {job} opened by {sender} in {queue}")
+            write!(line, "job {job} opened by {sender} in {queue}")
         }
-        Entry::OfJob(job, act) => format!(in alloc; "job {job} {}", act_words(alloc, act)?),
-        Entry::AtPrinter(printer, sheet, turn) => format!(in alloc;
-            "printer {printer} {} job {} place {} of {} file {} page {}",
-            turn_word(*turn),
-            sheet.job,
-            sheet.place,
-            sheet.page.length,
-            sheet.file,
-            sheet.number
-        ),
+        Entry::OfJob(job, act) => {
+            write!(line, "job {job} ")?;
+            push_act(line, act)
+        }
+        Entry::AtPrinter(printer, sheet, turn) => {
+            write!(line, "printer {printer} ")?;
+            push_turn(line, sheet, *turn)
+        }
         Entry::Removed(queue, jobs) => {
-            let jobs = job_numbers(alloc, jobs.as_slice())?;
-            format!(in alloc; "queue {queue} removed job {jobs}")
+            write!(line, "queue {queue} removed job ")?;
+            push_jobs(line, jobs.as_slice())
         }
-        Entry::Started(queue) => format!(in alloc; "queue {queue} started"),
-        Entry::Closed => String::from_str(alloc, "spool is closed"),
+        Entry::Started(queue) => write!(line, "queue {queue} started"),
+        Entry::Closed => line.push_str("spool is closed"),
     }
 }

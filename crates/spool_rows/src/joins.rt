@@ -8,31 +8,31 @@ use account::Entry;
 use history_legality::leaves_joined;
 use std::alloc::{AllocError, Global};
 
-/// The lines of a history, each with what the reader says.
-pub fn joins(alloc: Global, rows: &str) -> Result<Vec<u8>, AllocError> {
-    let mut told = Vec::new(alloc);
-    let mut entries = Vec::new(alloc);
-    for row in rows.lines() {
-        let row = told_row(alloc, &mut entries, row)?;
-        told.extend_from_slice(row.as_bytes())?;
-        told.push(b'\n')?;
-    }
-    Ok(told)
-}
-
-/// A line, with what the reader says behind its bar. The newest entry stands first.
-fn told_row(alloc: Global, entries: &mut Vec<Entry>, row: &str) -> Result<String, AllocError> {
-    let Some((asked, _)) = row.split_once("| ") else {
-        return String::from_str(alloc, row);
-    };
+/// What the reader says once the entry of a line came. The newest entry stands first.
+fn said(alloc: Global, entries: &mut Vec<Entry>, asked: &str) -> Result<&'static str, AllocError> {
     let Some(entry) = entry(alloc, asked)? else {
-        return format!(in alloc; "{asked}| no entry");
+        return Ok("no entry");
     };
     entries.insert(0, entry)?;
-    let said = if leaves_joined(alloc, entries.as_slice())? {
+    Ok(if leaves_joined(alloc, entries.as_slice())? {
         "joined"
     } else {
         "not joined"
-    };
-    format!(in alloc; "{asked}| {said}")
+    })
+}
+
+/// The lines of a history, each with what the reader says.
+pub fn joins(alloc: Global, rows: &str) -> Result<Vec<u8>, AllocError> {
+    let mut told = String::new(alloc);
+    let mut entries = Vec::new(alloc);
+    for row in rows.lines() {
+        match row.split_once("| ") {
+            Some((asked, _)) => {
+                let said = said(alloc, &mut entries, asked)?;
+                writeln!(told, "{asked}| {said}")?;
+            }
+            None => writeln!(told, "{row}")?,
+        }
+    }
+    Ok(told.into_bytes())
 }

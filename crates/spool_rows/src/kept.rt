@@ -1,119 +1,76 @@
-//! The pages that the sessions of a spool's jobs and its printers keep.
+//! The pages that the sessions of a spool's jobs keep, or its printers.
 
 use page_pool::PageTicket;
 use spool_core::HandedPage;
 use std::alloc::{AllocError, AllocFailed, Global};
 
-/// Takes out what is kept under a number, the oldest first.
-fn take<T>(kept: &mut Vec<(u64, T)>, number: u64) -> Option<T> {
-    let i = kept.iter().position(|entry| entry.0 == number)?;
-    let (_, what) = kept.remove(i);
-    Some(what)
+/// A page that has to be spent.
+pub trait Page {
+    /// Spends it.
+    fn spend(self);
 }
 
-/// Keeps something under a number, and gives it back where memory for it is refused.
-fn keep<T>(kept: &mut Vec<(u64, T)>, number: u64, what: T) -> Result<(), T> {
-    match kept.push((number, what)) {
-        Ok(()) => Ok(()),
-        Err(AllocFailed { value }) => {
-            let (_, what) = value;
-            Err(what)
-        }
+impl Page for PageTicket {
+    fn spend(self) {
+        self.surrender();
     }
 }
 
-/// What is kept under one of two numbers is kept under the other.
-fn exchange<T>(kept: &mut [(u64, T)], one: u64, other: u64) {
-    for entry in kept.iter_mut() {
-        if entry.0 == one {
-            entry.0 = other;
-        } else if entry.0 == other {
-            entry.0 = one;
-        }
+impl Page for HandedPage {
+    fn spend(self) {
+        self.surrender();
     }
 }
 
-/// The page that is lent to each job, and the page that is at each printer. They are spent where this is dropped.
-pub struct Kept {
-    tickets: Vec<(u64, PageTicket)>,
-    pages: Vec<(u64, HandedPage)>,
+/// Pages, each under the number of who keeps it. They are spent where this is dropped.
+pub struct Kept<P: Page> {
+    pages: Vec<(u64, P)>,
 }
 
-impl Drop for Kept {
+impl<P: Page> Drop for Kept<P> {
     fn drop(self) {
-        let Kept {
-            mut tickets,
-            mut pages,
-        } = self;
-        while let Some((_, ticket)) = tickets.pop() {
-            ticket.surrender();
-        }
-        tickets.destroy_empty();
+        let Kept { mut pages } = self;
         while let Some((_, page)) = pages.pop() {
-            page.surrender();
+            page.spend();
         }
         pages.destroy_empty();
     }
 }
 
-impl Kept {
+impl<P: Page> Kept<P> {
     /// No page is kept.
-    pub fn new(alloc: Global) -> Kept {
+    pub fn new(alloc: Global) -> Kept<P> {
         Kept {
-            tickets: Vec::new(alloc),
             pages: Vec::new(alloc),
         }
     }
 
-    /// Keeps a page that was lent to a job.
-    pub fn keep_ticket(&mut self, job: u64, ticket: PageTicket) -> Result<(), AllocError> {
-        match keep(&mut self.tickets, job, ticket) {
+    /// Keeps a page under a number. It is spent where memory for it is refused.
+    pub fn keep(&mut self, number: u64, page: P) -> Result<(), AllocError> {
+        match self.pages.push((number, page)) {
             Ok(()) => Ok(()),
-            Err(ticket) => {
-                ticket.surrender();
+            Err(AllocFailed { value }) => {
+                value.1.spend();
                 Err(AllocError)
             }
         }
     }
 
-    /// Takes out the page that is kept for a job.
-    pub fn take_ticket(&mut self, job: u64) -> Option<PageTicket> {
-        take(&mut self.tickets, job)
+    /// Takes out what is kept under a number, the oldest first.
+    pub fn take(&mut self, number: u64) -> Option<P> {
+        let i = self.pages.iter().position(|kept| kept.0 == number)?;
+        let (_, page) = self.pages.remove(i);
+        Some(page)
     }
 
-    /// Exchanges the pages that are kept for two jobs.
-    pub fn swap_tickets(&mut self, one: u64, other: u64) {
-        exchange(self.tickets.as_mut_slice(), one, other);
-    }
-
-    /// Keeps a page that is at a printer.
-    pub fn keep_page(&mut self, printer: u32, page: HandedPage) -> Result<(), AllocError> {
-        match keep(&mut self.pages, u64::from(printer), page) {
-            Ok(()) => Ok(()),
-            Err(page) => {
-                page.surrender();
-                Err(AllocError)
+    /// What is kept under one of two numbers is kept under the other.
+    pub fn exchange(&mut self, one: u64, other: u64) {
+        for kept in self.pages.iter_mut() {
+            if kept.0 == one {
+                kept.0 = other;
+            } else if kept.0 == other {
+                kept.0 = one;
             }
         }
-    }
-
-    /// Takes out the page that is kept at a printer.
-    pub fn take_page(&mut self, printer: u32) -> Option<HandedPage> {
-        take(&mut self.pages, u64::from(printer))
-    }
-
-    /// The page that is kept at a printer, the newest if there are more.
-    pub fn page_at(&self, printer: u32) -> Option<&HandedPage> {
-        let entry = self
-            .pages
-            .iter()
-            .rev()
-            .find(|entry| entry.0 == u64::from(printer))?;
-        Some(&entry.1)
-    }
-
-    /// Exchanges the pages that are kept at two printers.
-    pub fn swap_pages(&mut self, one: u32, other: u32) {
-        exchange(self.pages.as_mut_slice(), u64::from(one), u64::from(other));
     }
 }

@@ -3,7 +3,7 @@
 //! In the octets of a row `\n`, `\r`, `\t` and `\x7f` are escapes, and `ab and 3 times c` is `abccc`.
 
 use lpd_commands::Refusal;
-use lpd_values::Octets;
+use lpd_values::{Octets, Words};
 use std::alloc::{AllocError, Global};
 
 /// The first word, and what follows it.
@@ -17,6 +17,16 @@ pub fn word(text: &str) -> (&str, &str) {
 /// The second word, which is the value behind its name, and what follows it.
 pub fn value(text: &str) -> (&str, &str) {
     word(word(text).1)
+}
+
+/// The number that a word spells, or 0.
+pub fn number(word: &str) -> u64 {
+    word.parse::<u64>().unwrap_or(0)
+}
+
+/// The number of 32 bits that a word spells, or 0.
+pub fn short_number(word: &str) -> u32 {
+    word.parse::<u32>().unwrap_or(0)
 }
 
 /// How much of an escape was read.
@@ -58,7 +68,7 @@ fn read(escape: Escape, octet: u8) -> (Escape, Option<u8>) {
 }
 
 /// Appends the octets of a text with escapes.
-pub fn push_octets(octets: &mut Vec<u8>, text: &str) -> Result<(), AllocError> {
+fn push_octets(octets: &mut Vec<u8>, text: &str) -> Result<(), AllocError> {
     let mut escape = Escape::Nothing;
     for &octet in text.as_bytes() {
         let (next, whole) = read(escape, octet);
@@ -70,20 +80,14 @@ pub fn push_octets(octets: &mut Vec<u8>, text: &str) -> Result<(), AllocError> {
     Ok(())
 }
 
-/// Appends so many times the octets of a text with escapes.
-fn push_times(octets: &mut Vec<u8>, times: &str, text: &str) -> Result<(), AllocError> {
-    for _ in 0..times.parse::<usize>().unwrap_or(0) {
-        push_octets(octets, text)?;
-    }
-    Ok(())
-}
-
 /// The octets of one side of a row.
 pub fn octets(alloc: Global, side: &str) -> Result<Vec<u8>, AllocError> {
     let mut octets = Vec::new(alloc);
     for part in side.split(" and ") {
         let (times, text) = part.split_once(" times ").unwrap_or(("1", part));
-        push_times(&mut octets, times, text)?;
+        for _ in 0..number(times) {
+            push_octets(&mut octets, text)?;
+        }
     }
     Ok(octets)
 }
@@ -98,15 +102,20 @@ pub fn refused(alloc: Global, refusal: Refusal) -> Result<Vec<u8>, AllocError> {
 }
 
 /// The words of a list.
-pub fn words(alloc: Global, text: &str) -> Result<Vec<Octets>, AllocError> {
-    let mut list = Vec::new(alloc);
+pub fn words(alloc: Global, text: &str) -> Result<Words, AllocError> {
+    let mut list = Words::new(alloc);
     for word in text.split_whitespace() {
         list.push(Octets::copy_of(alloc, word.as_bytes())?)?;
     }
     Ok(list)
 }
 
-/// A text, with its line feeds as escapes.
-pub fn escaped(alloc: Global, text: &[u8]) -> Result<String, AllocError> {
-    format!(in alloc; "{}", text.escape_ascii())
+/// Appends names with their numbers, with a space between two.
+pub fn push_numbers(text: &mut String, numbers: &[(&str, u64)]) -> Result<(), AllocError> {
+    let mut before = "";
+    for (name, number) in numbers {
+        write!(text, "{before}{name} {number}")?;
+        before = " ";
+    }
+    Ok(())
 }

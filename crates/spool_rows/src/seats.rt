@@ -13,196 +13,202 @@
 ghost use Rattle.std.specs.Prelude.{◌≡◌, ◌+◌};
 ghost use Rattle.config_values.specs.Config.{printer_count};
 
-use crate::calls::{SPOOL, answer, config_of};
-use crate::cores::{self, desk_of};
+use crate::calls::{SPOOL, config_of};
+use crate::cores::desk_of;
 use crate::desk::Desk;
-use crate::entries::line_of;
-use crate::seated::Seated;
+use crate::entries::push_entry;
+use crate::rows::push_numbers;
+use crate::seated::Seats;
 use crate::spool::Spool;
 use config_values::Config;
 use history_legality::is_legal;
-use shared_spool::{Opened, PrinterSeat, Segment, SessionSeat, SharedSpool, SpoolLedger};
+use session::{Seated, SessionSeat, SharedSpool};
+use shared_spool::{Opened, PrinterSeat, Segment, SpoolLedger};
 use spool_core::Core;
 use std::alloc::{AllocError, Global};
 use std::marker::Brand;
 use std::sync::Wait;
 use std::sync::ledger::{Blank, Ledger};
 
-/// What is answered where a block has no configuration that can be read.
-const NO_CONFIG: &[u8] = b"no configuration\n";
+/// How many seats there are for sessions: that of the requests, and that of all else.
+const SEATS: u32 = 2;
 
-/// A segment of the account, its entries, and whether they are legal.
-fn segment(alloc: Global, config: &Config, segment: Segment) -> Result<String, AllocError> {
-    let Segment {
-        number,
-        before,
-        kinds_before: _,
-        handed_before: _,
-        base,
-        mut entries,
-    } = segment;
-    let mut told = format!(in alloc;
-        "segment {number} entries {} before {before}\n",
-        entries.len()
-    )?;
+/// What is answered where a block has no configuration that can be read.
+const NO_CONFIG: &str = "no configuration\n";
+
+/// Appends a segment of the account, its entries, and whether they are legal.
+fn push_segment(
+    told: &mut String,
+    alloc: Global,
+    config: &Config,
+    segment: Segment,
+) -> Result<(), AllocError> {
+    let mut entries = segment.entries;
+    let numbers = [
+        ("segment", segment.number),
+        ("entries", entries.len() as u64),
+        ("before", segment.before),
+    ];
+    push_numbers(told, &numbers)?;
     for entry in entries.iter() {
-        writeln!(told, "  {}", line_of(alloc, entry)?)?;
+        told.push_str("\n  ")?;
+        push_entry(told, entry)?;
     }
     entries.reverse();
-    let legal = is_legal(alloc, config, &base, entries.as_slice())?;
-    told.push_str(if legal { "  legal" } else { "  not legal" })?;
-    Ok(told)
+    let legal = is_legal(alloc, config, &segment.base, entries.as_slice())?;
+    told.push_str(if legal { "\n  legal" } else { "\n  not legal" })
 }
 
-/// A call with what the seats answer, and with what a core answers where that is something else.
-fn both<S: Spool>(
+/// What the seats and a core answered to a call.
+#[derive(Drop)]
+struct Answers {
+    by_seats: String,
+    by_core: String,
+}
+
+impl Answers {
+    /// Asks both.
+    fn ask<S: Spool>(
+        &mut self,
+        seats: &mut Desk<S>,
+        core: &mut Desk<Core>,
+        call: &str,
+    ) -> Result<(), AllocError> {
+        seats.push_answer(&mut self.by_seats, call)?;
+        core.push_answer(&mut self.by_core, call)
+    }
+
+    /// Appends a call with what the seats answered, and with what a core did where that is something else.
+    fn push(&self, told: &mut String, call: &str) -> Result<(), AllocError> {
+        let (by_seats, by_core) = (self.by_seats.as_str(), self.by_core.as_str());
+        write!(told, "{call} => {by_seats}")?;
+        if by_seats != by_core {
+            write!(told, ", and of a core {by_core}")?;
+        }
+        Ok(())
+    }
+}
+
+/// Appends a call with what both answer.
+fn push_call<S: Spool>(
+    told: &mut String,
     alloc: Global,
     seats: &mut Desk<S>,
     core: &mut Desk<Core>,
     call: &str,
-) -> Result<String, AllocError> {
-    let by_seats = answer(alloc, seats, call)?;
-    let by_core = answer(alloc, core, call)?;
-    if by_seats.as_str() == by_core.as_str() {
-        format!(in alloc; "{call} => {by_seats}")
-    } else {
-        format!(in alloc; "{call} => {by_seats}, and of a core {by_core}")
-    }
-}
-
-/// The segment that a rotation hands out, or its refusal. Where there is one the core puts its history away.
-fn rotate<'a, R: Wait, E: SpoolLedger, K: Ledger, H: Ledger>(
-    alloc: Global,
-    seats: &mut Seated<'a, R, E, K, H>,
-    core: &mut Core,
-) -> Result<String, AllocError> {
-    match seats.rotate() {
-        Ok(part) => {
-            let by_core = cores::rotate(core);
-            let part = segment(alloc, core.config(), part)?;
-            format!(in alloc;
-                "rotate => {part}{}",
-                if by_core == "yes" { "" } else { by_core }
-            )
-        }
-        Err(error) => format!(in alloc; "rotate => refused {}", error.number()),
-    }
-}
-
-/// A line as it is wanted, or None for one that is told with another.
-fn line<'a, R: Wait, E: SpoolLedger, K: Ledger, H: Ledger>(
-    alloc: Global,
-    seats: &mut Desk<Seated<'a, R, E, K, H>>,
-    core: &mut Desk<Core>,
-    line: &str,
-) -> Result<Option<String>, AllocError> {
-    let (call, _) = line.split_once(" => ").unwrap_or((line, ""));
-    if line.starts_with("  ") || call == "finish" {
-        return Ok(None);
-    }
-    Ok(Some(if line.starts_with("# ") || line.starts_with("spool ") {
-        String::from_str(alloc, line)?
-    } else if call == "rotate" {
-        rotate(alloc, &mut seats.spool, &mut core.spool)?
-    } else {
-        both(alloc, seats, core, call)?
-    }))
-}
-
-/// The calls of a block, each with what it answers.
-fn told_calls<'a, R: Wait, E: SpoolLedger, K: Ledger, H: Ledger>(
-    alloc: Global,
-    seats: &mut Desk<Seated<'a, R, E, K, H>>,
-    core: &mut Desk<Core>,
-    block: &str,
-) -> Result<String, AllocError> {
-    let mut told = String::new(alloc);
-    for row in block.lines() {
-        if let Some(row) = line(alloc, seats, core, row)? {
-            writeln!(told, "{row}")?;
-        }
-    }
-    Ok(told)
-}
-
-/// What came of the calls of a block, and the seats that made them.
-#[derive(Drop)]
-struct Called<E: SpoolLedger, K: Ledger, H: Ledger> {
-    told: String,
-    session: SessionSeat<E, K, H>,
-    printers: Vec<PrinterSeat<E, K, H>>,
-}
-
-/// The calls of a block through these seats, each with what it answers.
-fn call_all<R: Wait, E: SpoolLedger, K: Ledger, H: Ledger>(
-    rt: &R,
-    alloc: Global,
-    spool: &SharedSpool<E, K, H>,
-    session: SessionSeat<E, K, H>,
-    printers: Vec<PrinterSeat<E, K, H>>,
-    core: &mut Desk<Core>,
-    block: &str,
-) -> Result<Called<E, K, H>, AllocError> {
-    let seated = Seated {
-        rt,
-        spool,
-        session,
-        printers,
-        page_size: core.spool.config().page_size() as usize,
+) -> Result<(), AllocError> {
+    let mut answers = Answers {
+        by_seats: String::new(alloc),
+        by_core: String::new(alloc),
     };
-    let mut seats = Desk::new(alloc, seated);
-    let told = told_calls(alloc, &mut seats, core, block)?;
-    let (session, printers) = seats.into_spool().into_seats();
-    Ok(Called {
-        told,
-        session,
-        printers,
-    })
+    answers.ask(seats, core, call)?;
+    answers.push(told, call)
 }
 
-/// The last line of a block: what the spool's end answers.
-fn told_finish<E: SpoolLedger, K: Ledger, H: Ledger>(
+/// Appends the segment that a rotation hands out, or its refusal. Where there is one the core puts its history away.
+fn push_rotation<R: Wait, E: SpoolLedger, K: Ledger, H: Ledger>(
+    told: &mut String,
+    alloc: Global,
+    seats: &mut Seats<'_, R, E, K, H>,
+    core: &mut Core,
+) -> Result<(), AllocError> {
+    told.push_str("rotate => ")?;
+    match seats.spool.rotate(seats.rt, &mut seats.operator) {
+        Ok(segment) => push_segment(told, alloc, core.config(), segment)?,
+        Err(error) => return write!(told, "refused {}", error.number()),
+    }
+    if core.held() != 0 {
+        return told.push_str(", and of a core: a job is held");
+    }
+    core.rotated();
+    Ok(())
+}
+
+/// Appends the calls of a block, each with what it answers.
+fn push_lines<R: Wait, E: SpoolLedger, K: Ledger, H: Ledger>(
+    told: &mut String,
+    alloc: Global,
+    seats: &mut Desk<Seats<'_, R, E, K, H>>,
+    core: &mut Desk<Core>,
+    block: &str,
+) -> Result<(), AllocError> {
+    for line in block.lines() {
+        let (call, _) = line.split_once(" => ").unwrap_or((line, ""));
+        // A segment's lines are told with the call that hands it out.
+        if line.starts_with("  ") || call == "finish" {
+            continue;
+        }
+        if line.starts_with("# ") || line.starts_with("spool ") {
+            told.push_str(line)?;
+        } else if call == "rotate" {
+            push_rotation(told, alloc, &mut seats.spool, &mut core.spool)?;
+        } else {
+            push_call(told, alloc, seats, core, call)?;
+        }
+        told.push_str("\n")?;
+    }
+    Ok(())
+}
+
+/// Appends a block's last line: what the spool's end answers.
+fn push_finish<E: SpoolLedger, K: Ledger, H: Ledger>(
+    told: &mut String,
     alloc: Global,
     spool: SharedSpool<E, K, H>,
     sessions: Vec<SessionSeat<E, K, H>>,
     printers: Vec<PrinterSeat<E, K, H>>,
     config: &Config,
-) -> Result<String, AllocError> {
+) -> Result<(), AllocError> {
     match spool.finish(sessions, printers) {
-        Ok(part) => {
-            let part = segment(alloc, config, part)?;
-            format!(in alloc; "finish => {part}\n")
+        Ok(segment) => {
+            told.push_str("finish => ")?;
+            push_segment(told, alloc, config, segment)?;
         }
-        Err(unfinished) => format!(in alloc; "finish => {unfinished}\n"),
+        Err(unfinished) => write!(told, "finish => {unfinished}")?,
     }
+    told.push_str("\n")
 }
 
-/// The calls of a block through the seats of a spool, which is then finished, each with what it answers.
-fn finished_calls<R: Wait, E: SpoolLedger, K: Ledger, H: Ledger>(
+/// Appends the calls of a block through the seats of a spool, which is then finished, each with what it answers.
+fn push_block<R: Wait, E: SpoolLedger, K: Ledger, H: Ledger>(
+    told: &mut String,
     rt: &R,
     alloc: Global,
     opened: Opened<E, K, H>,
     core: &mut Desk<Core>,
     block: &str,
-) -> Result<String, AllocError> {
+) -> Result<(), AllocError> {
     let Opened {
         spool,
         mut sessions,
         printers,
     } = opened;
-    let Some(session) = sessions.pop() else {
-        return Ok(String::new(alloc));
+    let Some(operator) = sessions.pop() else {
+        return Ok(());
     };
-    let called = call_all(rt, alloc, &spool, session, printers, core, block)?;
-    let Called {
-        mut told,
-        session,
+    let Some(seat) = sessions.pop() else {
+        return Ok(());
+    };
+    let seats = Seats {
+        rt,
+        spool: &spool,
+        calls: Seated::new(rt, &spool, seat),
+        operator,
         printers,
-    } = called;
-    sessions.push(session)?;
-    let last = told_finish(alloc, spool, sessions, printers, core.spool.config())?;
-    told.push_str(last.as_str())?;
-    Ok(told)
+    };
+    let mut seats = Desk::new(alloc, seats, core.page_size, core.printers);
+    let pushed = push_lines(told, alloc, &mut seats, core, block);
+    let Seats {
+        rt: _,
+        spool: _,
+        calls,
+        operator,
+        printers,
+    } = seats.into_spool();
+    sessions.push(operator)?;
+    sessions.push(calls.into_seat())?;
+    push_finish(told, alloc, spool, sessions, printers, core.spool.config())?;
+    pushed
 }
 
 /// A block, and the words that tell its spool.
@@ -212,21 +218,6 @@ struct Block<'a> {
     rows: &'a str,
 }
 
-/// The same, beside a core of the same spool.
-fn beside<R: Wait, E: SpoolLedger, K: Ledger, H: Ledger>(
-    rt: &R,
-    alloc: Global,
-    opened: Opened<E, K, H>,
-    block: Block<'_>,
-) -> Result<Vec<u8>, AllocError> {
-    match desk_of(alloc, block.spool)? {
-        Some(mut core) => {
-            Ok(finished_calls(rt, alloc, opened, &mut core, block.rows)?.into_bytes())
-        }
-        None => Vec::from_slice(alloc, NO_CONFIG),
-    }
-}
-
 /// The ledgers of a spool, before they are opened.
 struct Blanks {
     entries: Blank,
@@ -234,19 +225,34 @@ struct Blanks {
     handed: Blank,
 }
 
-/// The lines of a block, each call with what it answers.
-fn lines<R: Wait, E: SpoolLedger, K: Ledger, H: Ledger>(
+/// Appends the lines of a block at a spool that is open, beside a core of the same configuration.
+fn push_beside<R: Wait, E: SpoolLedger, K: Ledger, H: Ledger>(
+    told: &mut String,
+    rt: &R,
+    alloc: Global,
+    opened: Opened<E, K, H>,
+    block: Block<'_>,
+) -> Result<(), AllocError> {
+    match desk_of(alloc, block.spool)? {
+        Some(mut core) => push_block(told, rt, alloc, opened, &mut core, block.rows),
+        None => told.push_str(NO_CONFIG),
+    }
+}
+
+/// Appends the lines of a block, each call with what it answers.
+fn push_opened<R: Wait, E: SpoolLedger, K: Ledger, H: Ledger>(
+    told: &mut String,
     rt: &R,
     alloc: Global,
     config: Config,
     blanks: Blanks,
     block: Block<'_>,
-) -> Result<Vec<u8>, AllocError>
+) -> Result<(), AllocError>
     requires entries { (blanks.entries.name ≡ E.name) × (blanks.entries.parts ≡ E.parts) }
     requires kinds { (blanks.kinds.name ≡ K.name) × (blanks.kinds.parts ≡ K.parts) }
     requires handed { (blanks.handed.name ≡ H.name) × (blanks.handed.parts ≡ H.parts) }
     requires config { config ≡ E.config }
-    requires one_each { (E.parts ≡ 1 + printer_count config) × (K.parts ≡ E.parts)
+    requires one_each { (E.parts ≡ 2 + printer_count config) × (K.parts ≡ E.parts)
         × (H.parts ≡ E.parts) }
 {
     let Blanks {
@@ -254,8 +260,8 @@ fn lines<R: Wait, E: SpoolLedger, K: Ledger, H: Ledger>(
         kinds,
         handed,
     } = blanks;
-    let opened = SharedSpool::<E, K, H>::new(alloc, entries, kinds, handed, config, 1)?;
-    beside(rt, alloc, opened, block)
+    let opened = SharedSpool::<E, K, H>::new(alloc, entries, kinds, handed, config, SEATS)?;
+    push_beside(told, rt, alloc, opened, block)
 }
 
 /// A block with what it tells of its spool.
@@ -267,17 +273,28 @@ fn block_of(rows: &str) -> Block<'_> {
     }
 }
 
-/// The lines of a block, each call with what it answers.
-pub fn seats<R: Wait>(rt: &R, alloc: Global, block: &str) -> Result<Vec<u8>, AllocError> {
-    let block = block_of(block);
+/// Appends the lines of a block, each call with what it answers.
+fn push_seats<R: Wait>(
+    told: &mut String,
+    rt: &R,
+    alloc: Global,
+    block: Block<'_>,
+) -> Result<(), AllocError> {
     let Some(config) = config_of(alloc, block.spool)? else {
-        return Vec::from_slice(alloc, NO_CONFIG);
+        return told.push_str(NO_CONFIG);
     };
-    let parts = 1 + u64::from(config.printer_count());
+    let parts = 2 + u64::from(config.printer_count());
     let blanks = Blanks {
         entries: Blank::new(parts),
         kinds: Blank::new(parts),
         handed: Blank::new(parts),
     };
-    lines::<R, Brand, Brand, Brand>(rt, alloc, config, blanks, block)
+    push_opened::<R, Brand, Brand, Brand>(told, rt, alloc, config, blanks, block)
+}
+
+/// The lines of a block, each call with what it answers.
+pub fn seats<R: Wait>(rt: &R, alloc: Global, block: &str) -> Result<Vec<u8>, AllocError> {
+    let mut told = String::new(alloc);
+    push_seats(&mut told, rt, alloc, block_of(block))?;
+    Ok(told.into_bytes())
 }

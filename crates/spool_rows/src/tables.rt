@@ -1,6 +1,6 @@
 //! Tables of claims, and whether all jobs can finish.
 
-ghost use Rattle.std.specs.Prelude.{◌≡◌, ◌≤◌, length};
+ghost use Rattle.std.specs.Prelude.{◌≡◌};
 
 use claims::{OpenError, Table};
 use counts::Counts;
@@ -104,49 +104,48 @@ fn add_claims(alloc: Global, table: &mut Table, text: &str) -> Result<(), AllocE
     Ok(())
 }
 
+/// Appends whether a table is safe, and the comparisons that it took.
+fn push_verdict(told: &mut String, verdict: Verdict) -> Result<(), AllocError> {
+    let Verdict { safe, tests } = verdict;
+    write!(told, "{safe} after {tests}")
+}
+
 /// Whether a table is safe, and a finishing order of its rows, each with the comparisons that it took.
 pub fn order(alloc: Global, asked: &str) -> Result<Vec<u8>, AllocError> {
     let table = read_table(alloc, asked)?;
+    let mut told = String::new(alloc);
+    push_order(&mut told, alloc, &table)?;
+    Ok(told.into_bytes())
+}
+
+fn push_order(told: &mut String, alloc: Global, table: &Table) -> Result<(), AllocError> {
     let mut scratch = Scratch::with_room(alloc, table.len(), table.capacity().kinds())?;
-    show_order(alloc, &mut scratch, &table)
-}
-
-fn show_order(alloc: Global, scratch: &mut Scratch, table: &Table) -> Result<Vec<u8>, AllocError>
-    requires rows { length table.now.rows ≤ scratch.old.rows }
-    requires kinds { length table.now.capacity ≡ scratch.old.kinds }
-{
-    let verdict = is_safe(scratch, table);
-    let (order, tests) = find_order(alloc, scratch, table)?;
+    push_verdict(told, is_safe(&mut scratch, table))?;
+    let (order, tests) = find_order(alloc, &mut scratch, table)?;
     match order {
-        Some(order) => show_numbers(alloc, verdict, order.as_slice(), tests),
-        None => show_verdict(alloc, verdict),
+        Some(order) => write!(told, ", {:?} after {tests}", order.as_slice()),
+        None => Ok(()),
     }
-}
-
-fn show_numbers(
-    alloc: Global,
-    verdict: Verdict,
-    numbers: &[u64],
-    found: u64,
-) -> Result<Vec<u8>, AllocError> {
-    let Verdict { safe, tests } = verdict;
-    let text = format!(in alloc; "{safe} after {tests}, {numbers:?} after {found}")?;
-    Ok(text.into_bytes())
-}
-
-fn show_verdict(alloc: Global, verdict: Verdict) -> Result<Vec<u8>, AllocError> {
-    let Verdict { safe, tests } = verdict;
-    let text = format!(in alloc; "{safe} after {tests}")?;
-    Ok(text.into_bytes())
 }
 
 /// Whether the rows of a table finish in the order that stands after it and a `;`.
 pub fn check(alloc: Global, asked: &str) -> Result<Vec<u8>, AllocError> {
     let (table, order) = asked.split_once("; ").unwrap_or((asked, ""));
     let table = read_table(alloc, table)?;
+    let mut told = String::new(alloc);
+    push_check(&mut told, alloc, &table, order)?;
+    Ok(told.into_bytes())
+}
+
+fn push_check(
+    told: &mut String,
+    alloc: Global,
+    table: &Table,
+    order: &str,
+) -> Result<(), AllocError> {
     let order = read_order(alloc, order)?;
     let mut scratch = Scratch::with_room(alloc, table.len(), table.capacity().kinds())?;
-    show_verdict(alloc, check_order(&mut scratch, &table, &order))
+    push_verdict(told, check_order(&mut scratch, table, &order))
 }
 
 fn read_order(alloc: Global, text: &str) -> Result<Order, AllocError> {
@@ -192,23 +191,28 @@ impl Pages {
 /// with one scratch for all.
 pub fn page(alloc: Global, asked: &str) -> Result<Vec<u8>, AllocError> {
     let mut pages = Pages::new(alloc)?;
-    let mut shown = Vec::new(alloc);
-    for text in asked.split("; ") {
-        if !shown.is_empty() {
-            shown.extend_from_slice(b"; ")?;
-        }
-        let table = read_table(alloc, text)?;
-        let answer = show_page(alloc, pages.decide(&table))?;
-        shown.extend_from_slice(answer.as_slice())?;
-    }
-    Ok(shown)
+    let mut told = String::new(alloc);
+    push_pages(&mut told, alloc, &mut pages, asked)?;
+    Ok(told.into_bytes())
 }
 
-fn show_page(alloc: Global, decided: Option<Verdict>) -> Result<Vec<u8>, AllocError> {
-    match decided {
-        Some(verdict) => show_verdict(alloc, verdict),
-        None => Vec::from_slice(alloc, b"no page"),
+fn push_pages(
+    told: &mut String,
+    alloc: Global,
+    pages: &mut Pages,
+    asked: &str,
+) -> Result<(), AllocError> {
+    for text in asked.split("; ") {
+        if !told.is_empty() {
+            told.push_str("; ")?;
+        }
+        let table = read_table(alloc, text)?;
+        match pages.decide(&table) {
+            Some(verdict) => push_verdict(told, verdict)?,
+            None => told.push_str("no page")?,
+        }
     }
+    Ok(())
 }
 
 /// Asks for a sum of two amounts, and shows what comes of it.
