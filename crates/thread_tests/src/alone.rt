@@ -23,7 +23,7 @@ fn a_core_alone_receives_one_job(rt: HostRuntime) -> Result<(), Fail> {
         calls: 0,
         faults: 0,
     };
-    let mut writer = Writer::new(alloc, 0);
+    let mut writer = Writer::new(&rt, alloc, &board, 0, served(1, STREAM));
     let end = serve_alone(&rt, alloc, &mut core, 1, &mut reader, &mut writer);
     assert!(rt; end == SessionEnd::Closed);
     assert!(rt; writer.octets.as_slice() == [0u8; 5].as_slice());
