@@ -260,6 +260,18 @@ fn found(alloc: Global, table: &Table) -> Result<(Option<Order>, u64), AllocErro
     find_order(alloc, &mut scratch, table)
 }
 
+/// What is taken away of amounts is gone, and the other kind stays.
+#[test]
+fn amounts_are_taken_away(rt: HostRuntime) -> Result<(), Fail> {
+    let mut amounts = counts(rt.alloc(), [5, 3])?;
+    let less = counts(rt.alloc(), [2, 0])?;
+    if less.le(&amounts) {
+        amounts.sub(&less);
+    }
+    assert!(rt; amounts.as_slice() == [3u32, 3].as_slice());
+    Ok(())
+}
+
 /// Two jobs of which the second has to finish first.
 const CROSSED: &str = "4 1 | 2 1 0 2 1 | 1 3 0 0 1";
 
@@ -513,11 +525,15 @@ fn all_agree(
 fn the_scan_agrees_with_all_orders(rt: HostRuntime) -> Result<(), Fail> {
     let alloc = rt.alloc();
     let mut memory = Memory::new(alloc)?;
-    all_agree(&rt, alloc, &mut memory, 0, 3, 1)?;
-    all_agree(&rt, alloc, &mut memory, 1, 36, 1)?;
-    all_agree(&rt, alloc, &mut memory, 2, 432, 1)?;
-    all_agree(&rt, alloc, &mut memory, 3, 1728, 1)?;
-    all_agree(&rt, alloc, &mut memory, 4, 2962, 7)?;
+    for (rows, tables, step) in [
+        (0, 3, 1),
+        (1, 36, 1),
+        (2, 432, 1),
+        (3, 1728, 1),
+        (4, 2962, 7),
+    ] {
+        all_agree(&rt, alloc, &mut memory, rows, tables, step)?;
+    }
     Ok(())
 }
 

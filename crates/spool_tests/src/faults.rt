@@ -5,6 +5,8 @@ ghost use Rattle.std.specs.Prelude.{None};
 use lpd_commands::{OctetFault, OctetRead, OctetWrite};
 use lpd_script::{StreamReader, StreamWriter, run_input};
 use std::alloc::Global;
+use std::io;
+use std::io::{Error, ErrorKind, Read, Write};
 use std::process::Abort;
 use std::test::Fail;
 
@@ -155,5 +157,69 @@ fn a_fault_that_cant_be_told(rt: HostRuntime) -> Result<(), Fail> {
         faults.written.as_slice() == b"fa".as_slice(),
         "two octets are written"
     );
+    Ok(())
+}
+
+/// A stream that takes or gives three octets at a time, and is interrupted before each.
+#[derive(Drop)]
+struct Halting<'a> {
+    rest: &'a [u8],
+    taken: Vec<u8>,
+    is_interrupted: bool,
+}
+
+impl<'a> Halting<'a> {
+    /// A stream that has these octets to give, and took none.
+    fn new(alloc: Global, rest: &'a [u8]) -> Halting<'a> {
+        Halting {
+            rest,
+            taken: Vec::new(alloc),
+            is_interrupted: false,
+        }
+    }
+
+    /// Whether this call is interrupted: every other one is.
+    fn is_cut(&mut self) -> bool {
+        self.is_interrupted = !self.is_interrupted;
+        self.is_interrupted
+    }
+}
+
+impl Read for Halting<'_> {
+    fn read(&mut self, into: &mut [u8]) -> io::Result<usize> {
+        if self.is_cut() {
+            return Err(Error::from(ErrorKind::Interrupted));
+        }
+        let count = self.rest.len().min(into.len()).min(3);
+        into[..count].copy_from_slice(&self.rest[..count]);
+        self.rest = &self.rest[count..];
+        Ok(count)
+    }
+}
+
+impl Write for Halting<'_> {
+    fn write(&mut self, octets: &[u8]) -> io::Result<usize> {
+        let count = octets.len().min(3);
+        if self.is_cut() || self.taken.extend_from_slice(&octets[..count]).is_err() {
+            return Err(Error::from(ErrorKind::Interrupted));
+        }
+        Ok(count)
+    }
+
+    fn flush(&mut self) -> io::Result<()> {
+        Ok(())
+    }
+}
+
+/// All is read and written where streams take and give few octets at a time and are interrupted.
+#[test]
+fn streams_that_halt(rt: HostRuntime) -> Result<(), Fail> {
+    let alloc = rt.alloc();
+    let mut input = StreamReader::new(Halting::new(alloc, INPUT));
+    let mut output = StreamWriter::new(Halting::new(alloc, b""));
+    let mut faults = StreamWriter::new(Halting::new(alloc, b""));
+    let status = run_input(alloc, &mut input, &mut output, &mut faults);
+    assert_eq!(rt; status, 0);
+    assert!(rt; output.into_stream().taken.as_slice() == PRINTED);
     Ok(())
 }

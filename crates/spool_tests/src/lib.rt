@@ -4,6 +4,8 @@
 #[cfg(test)]
 mod banker;
 #[cfg(test)]
+mod book;
+#[cfg(test)]
 mod chain;
 #[cfg(test)]
 mod client;

@@ -14,10 +14,12 @@ mod tests {
 
     #[test]
     fn digest_of_abc(rt: HostRuntime) -> Result<(), Fail> {
-        let mut pool = Pool::new(rt.alloc(), 1, 8)?;
+        let mut pool = Pool::new(rt.alloc(), 1, 3)?;
+        let mut is_full = false;
         match pool.take() {
             Some(mut ticket) => {
                 let _ = ticket.push(b"abc");
+                is_full = ticket.is_full();
                 if ticket.is_empty() {
                     ticket.surrender();
                     assert!(rt; false);
@@ -30,6 +32,7 @@ mod tests {
             }
             None => assert!(rt; false),
         }
+        assert!(rt; is_full);
         assert_eq!(rt; pool.free(), 0);
         Ok(())
     }

@@ -129,6 +129,8 @@ fn without_words(rt: HostRuntime) -> Result<(), Fail> {
     input.extend_from_slice(b"%%\nfree\n")?;
     let answer = told(&rt, &[], input.as_slice())?;
     expect(&rt, b"no words", answer.as_slice(), b"free 4\nstatus 0\n");
+    let answer = told(&rt, &[], CONFIG)?;
+    expect(&rt, b"no script", answer.as_slice(), b"status 0\n");
     Ok(())
 }
 

@@ -1,4 +1,4 @@
-//! A world of sessions and printers, told step by step.
+//! A world of sessions and printers, told by single steps and by runs of steps.
 
 use crate::scripts::{CONFIG, STREAM};
 use lpd_values::Octets;
@@ -27,10 +27,10 @@ impl Told {
         tell(&mut self.text, &reply)
     }
 
-    /// Does these steps, and tells the replies.
+    /// Does these steps in one run, and tells the replies.
     fn steps(&mut self, steps: &[Step]) -> Result<(), AllocError> {
-        for step in steps {
-            self.step(step)?;
+        for reply in self.world.run(steps)?.iter() {
+            tell(&mut self.text, reply)?;
         }
         Ok(())
     }

@@ -23,6 +23,8 @@ pub enum Answer {
 pub enum Mark {
     /// All is done for so many octets of a session, and it reads on.
     Came { session: usize, octets: usize },
+    /// A session that wrote so many octets writes the next one.
+    Answers { session: usize, before: usize },
     /// A session has ended.
     Ended { session: usize },
     /// After a session had ended, no job was held or a printer was stopped.

@@ -77,8 +77,20 @@ pub fn send<R: Wait, E: SpoolLedger, K: Ledger, H: Ledger>(
     Some(job)
 }
 
+/// The next page of a printer, once it is there.
+pub fn take<R: Wait, E: SpoolLedger, K: Ledger, H: Ledger>(
+    rt: &R,
+    spool: &SharedSpool<E, K, H>,
+    seat: &mut PrinterSeat<E, K, H>,
+) -> Option<HandedPage> {
+    match spool.next_wait(rt, seat) {
+        Next::Handed(page) => Some(page),
+        Next::Nothing | Next::Stopped | Next::Busy | Next::Closed => None,
+    }
+}
+
 /// Gives a page back, and says whether the spool took it.
-fn give_back<R: Wait, E: SpoolLedger, K: Ledger, H: Ledger>(
+pub fn give_back<R: Wait, E: SpoolLedger, K: Ledger, H: Ledger>(
     rt: &R,
     spool: &SharedSpool<E, K, H>,
     seat: &mut PrinterSeat<E, K, H>,
@@ -108,9 +120,8 @@ pub fn print<R: Clock + Wait, E: SpoolLedger, K: Ledger, H: Ledger>(
 ) {
     for _ in rt.forever() {
         sink.rest();
-        let page = match spool.next_wait(rt, seat) {
-            Next::Handed(page) => page,
-            Next::Nothing | Next::Stopped | Next::Busy | Next::Closed => return,
+        let Some(page) = take(rt, spool, seat) else {
+            return;
         };
         let wrote = sink.write_page(&page).is_ok();
         if !give_back(rt, spool, seat, page, wrote) {

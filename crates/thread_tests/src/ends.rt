@@ -43,6 +43,8 @@ pub struct Client<'a> {
     pub read_fails: u64,
     /// The number of the write that fails, from 1, or 0.
     pub write_fails: u64,
+    /// Before the writing of which octets it waits.
+    pub answers: &'a [Hold],
 }
 
 /// What a printer does.
@@ -50,6 +52,8 @@ pub struct Client<'a> {
 pub struct Device<'a> {
     /// Whether a worker feeds it, and not calls through its seat.
     pub works: bool,
+    /// Whether a page is taken through its seat before its worker begins, and given back after that.
+    pub has_page: bool,
     /// Before the writing of which pages it waits. The first page is at 0.
     pub holds: &'a [Hold],
     /// After how many pages it waits before it takes the next one, where calls feed it.
@@ -107,36 +111,51 @@ impl<R: Wait + Clock> OctetRead for Reader<'_, R> {
 
 /// Takes the octets that a session writes, one at a time.
 #[derive(Drop)]
-pub struct Writer {
+pub struct Writer<'a, R: Wait + Clock> {
+    pub rt: &'a R,
+    pub board: &'a Board,
+    pub session: usize,
+    pub client: Client<'a>,
     pub octets: Vec<u8>,
-    pub fails: u64,
     pub calls: u64,
     pub faults: u64,
 }
 
-impl Writer {
-    /// A writer of which the call of this number fails.
-    pub fn new(alloc: Global, fails: u64) -> Writer {
+impl<'a, R: Wait + Clock> Writer<'a, R> {
+    /// A writer of a session, to which nothing was written.
+    pub fn new(
+        rt: &'a R,
+        alloc: Global,
+        board: &'a Board,
+        session: usize,
+        client: Client<'a>,
+    ) -> Writer<'a, R> {
         Writer {
+            rt,
+            board,
+            session,
+            client,
             octets: Vec::new(alloc),
-            fails,
             calls: 0,
             faults: 0,
         }
     }
 }
 
-impl OctetWrite for Writer {
+impl<R: Wait + Clock> OctetWrite for Writer<'_, R> {
     ghost written = { λ _. None };
 
     ghost faults = { λ writer. writer.faults };
 
     fn write(&mut self, octets: &[u8]) -> Result<usize, OctetFault> {
+        let (session, before) = (self.session, self.octets.len());
+        self.board.tell(self.rt, Mark::Answers { session, before });
+        hold_here(self.rt, self.board, self.client.answers, before);
         self.calls = self.calls.saturating_add(1);
         let Some(octet) = octets.first() else {
             return Ok(0);
         };
-        if self.calls == self.fails || self.octets.push(*octet).is_err() {
+        if self.calls == self.client.write_fails || self.octets.push(*octet).is_err() {
             self.faults = self.faults.saturating_add(1);
             return Err(OctetFault);
         }

@@ -5,6 +5,8 @@
 #[cfg(test)]
 mod alone;
 #[cfg(test)]
+mod answering;
+#[cfg(test)]
 mod board;
 #[cfg(test)]
 mod called;

@@ -3,7 +3,7 @@
 ghost use Rattle.std.specs.Thread.{IsSend};
 
 use crate::board::{Board, Mark};
-use crate::called::{print, send};
+use crate::called::{give_back, print, send, take};
 use crate::ends::{Client, Device, Reader, Sink, Way, Writer};
 use crate::report::{PrinterReport, SessionReport};
 use crate::turns::Pair;
@@ -133,7 +133,7 @@ impl<R: AllocGlobal + Clock + Wait, E: SpoolLedger, K: Ledger, H: Ledger> Stage<
             calls: 0,
             faults: 0,
         };
-        let mut writer = Writer::new(alloc, client.write_fails);
+        let mut writer = Writer::new(rt, alloc, self.board, session, client);
         let (seat, end) = serve(
             rt,
             alloc,
@@ -189,8 +189,16 @@ impl<R: AllocGlobal + Clock + Wait, E: SpoolLedger, K: Ledger, H: Ledger> Stage<
         let (rt, mut seat) = (self.rt, seat);
         let mut sink = Sink::new(rt, rt.alloc(), self.board, printer, device);
         let report = if device.works {
+            let out = if device.has_page {
+                take(rt, self.spool, &mut seat)
+            } else {
+                None
+            };
             let (back, report) = work(rt, self.spool, seat, &mut sink);
             seat = back;
+            if let Some(page) = out {
+                give_back(rt, self.spool, &mut seat, page, true);
+            }
             Some(report)
         } else {
             print(rt, self.spool, &mut seat, &mut sink);

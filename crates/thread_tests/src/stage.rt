@@ -12,7 +12,7 @@ use crate::turns::Pair;
 use crate::waiters::{sessions_in, wait_through};
 use config_values::Config;
 use shared_spool::{
-    Opened, PrinterSeat, Segment, SessionSeat, SharedSpool, SpoolLedger, Unfinished,
+    Opened, Pages, PrinterSeat, Segment, SessionSeat, SharedSpool, SpoolLedger, Unfinished,
 };
 use std::alloc::Global;
 use std::marker::Brand;
@@ -108,7 +108,60 @@ fn finish<E: SpoolLedger, K: Ledger, H: Ledger>(
     Some((segment, Some(told)))
 }
 
-/// Has it happen at a spool of these ledgers.
+/// What came of a scene's threads, with all seats, before the spool is finished.
+#[derive(Drop)]
+struct Seen<E: SpoolLedger, K: Ledger, H: Ledger> {
+    outcome: Outcome<E, K, H>,
+    is_late: bool,
+    is_early: bool,
+    pages: Pages,
+    held: usize,
+}
+
+/// Has it happen at this spool.
+fn see<
+    R: AllocGlobal + Clock + Threads + Wait + Sync,
+    E: SpoolLedger + Send + Sync,
+    K: Ledger + Send + Sync,
+    H: Ledger + Send + Sync,
+>(
+    rt: &R,
+    what: Script<'_>,
+    spool: &SharedSpool<E, K, H>,
+    mut sessions: Vec<SessionSeat<E, K, H>>,
+    printers: Vec<PrinterSeat<E, K, H>>,
+) -> Option<Seen<E, K, H>> {
+    let director = sessions.pop()?;
+    let seats = Seats {
+        director,
+        sessions,
+        printers,
+    };
+    let (board, pair) = (Board::new(rt.alloc()), Pair::new());
+    let stage = Stage {
+        rt,
+        board: &board,
+        pair: &pair,
+        spool,
+    };
+    let mut outcome = match what {
+        Script::Scene(scene) => act(&stage, scene, seats)?,
+        Script::Steps(steps) => wait_through(&stage, steps, seats)?,
+    };
+    let seat = outcome.session_seats.last_mut()?;
+    let pages = spool.pages_by_place(rt, seat);
+    let held = spool.held(rt, seat);
+    Some(Seen {
+        outcome,
+        is_late: board.has(rt, Mark::Late),
+        is_early: board.has(rt, Mark::Early),
+        pages,
+        held,
+    })
+}
+
+/// Has it happen at a spool of these ledgers. What lives at an early return here is little: each of
+/// them drops it, and each drop is proved.
 fn perform_at<
     R: AllocGlobal + Clock + Threads + Wait + Sync,
     E: SpoolLedger + Send + Sync,
@@ -130,45 +183,36 @@ fn perform_at<
     } = blanks;
     let Opened {
         spool,
-        mut sessions,
-        printers,
-    } = SharedSpool::<E, K, H>::new(alloc, entries, kinds, handed, config, count).ok()?;
-    let board = Board::new(alloc);
-    let pair = Pair::new();
-    let stage = Stage {
-        rt,
-        board: &board,
-        pair: &pair,
-        spool: &spool,
-    };
-    let seats = Seats {
-        director: sessions.pop()?,
         sessions,
         printers,
-    };
-    let outcome = match what {
-        Script::Scene(scene) => act(&stage, scene, seats)?,
-        Script::Steps(steps) => wait_through(&stage, steps, seats)?,
-    };
+    } = SharedSpool::<E, K, H>::new(alloc, entries, kinds, handed, config, count).ok()?;
+    let seen = see(rt, what, &spool, sessions, printers)?;
+    report(alloc, what, spool, seen)
+}
+
+/// Finishes the spool, and tells what came of all.
+fn report<E: SpoolLedger, K: Ledger, H: Ledger>(
+    alloc: Global,
+    what: Script<'_>,
+    spool: SharedSpool<E, K, H>,
+    seen: Seen<E, K, H>,
+) -> Option<Report> {
     let Outcome {
-        mut session_seats,
+        session_seats,
         printer_seats,
         sessions,
         printers,
         looks,
-    } = outcome;
-    let seat = session_seats.last_mut()?;
-    let pages = spool.pages_by_place(rt, seat);
-    let held = spool.held(rt, seat);
+    } = seen.outcome;
     let (account, missed) = finish(alloc, spool, what.missing(), session_seats, printer_seats)?;
     Some(Report {
         sessions,
         printers,
         looks,
-        is_late: board.has(rt, Mark::Late),
-        is_early: board.has(rt, Mark::Early),
-        pages,
-        held,
+        is_late: seen.is_late,
+        is_early: seen.is_early,
+        pages: seen.pages,
+        held: seen.held,
         missed,
         account,
     })

@@ -26,6 +26,7 @@ const FIRST: Client<'static> = Client {
     stops: None,
     read_fails: 0,
     write_fails: 0,
+    answers: &[],
 };
 
 /// The octets of that job.
@@ -61,6 +62,7 @@ const SECOND: Client<'static> = Client {
     stops: None,
     read_fails: 0,
     write_fails: 0,
+    answers: &[],
 };
 
 /// The kinds of the entries until the first job waits for its second page.

@@ -41,6 +41,7 @@ pub fn reached(places: &[usize], octets: usize) -> usize {
 /// A printer that calls feed.
 pub const CALLED: Device<'static> = Device {
     works: false,
+    has_page: false,
     holds: &[],
     rests: &[],
     fails: 0,
@@ -49,6 +50,7 @@ pub const CALLED: Device<'static> = Device {
 /// A printer that a worker feeds.
 pub const WORKS: Device<'static> = Device {
     works: true,
+    has_page: false,
     holds: &[],
     rests: &[],
     fails: 0,
@@ -64,6 +66,7 @@ pub fn called(way: Way, sender: u32, octets: &[u8]) -> Client<'_> {
         stops: None,
         read_fails: 0,
         write_fails: 0,
+        answers: &[],
     }
 }
 
