@@ -29,11 +29,12 @@ WritesRotations-append was then_ now a b = (
       (Writes-append was then_ now (rotation_octets a.0) (rotation_octets b.0) a.1 b.1),
 )
 
--- rotations after rotations, where all was printed until now
-pub WritesRotations-after : {A B : Type 0} (told : Result (Unit {0}) A) (result : Result (Unit {0}) B) (was then_ now : Option (List ℕ)) → OnOk told (WritesRotations was then_) → OnOk result (told ≡ Ok tt) → OnOk result (WritesRotations then_ now) → OnOk result (WritesRotations was now)
-WritesRotations-after {A} told (Ok v) was then_ now before is after =
-    WritesRotations-append was then_ now (subst (λ (t : Result (Unit {0}) A). OnOk t (WritesRotations was then_)) is before) after
-WritesRotations-after told (Err e) was then_ now before is after = tt
+-- one rotation more, where all was printed until now
+pub WritesRotations-then : {A B : Type 0} (told : Result (Unit {0}) A) (printed : Result (Unit {0}) B) (was then_ now : Option (List ℕ)) (number entries : ℕ) (u : Unit {0}) → OnOk told (WritesRotations was then_) → told ≡ Ok u → OnOk printed (Writes then_ now (line_octets (Rotated number entries))) → OnOk printed (WritesRotations was now)
+WritesRotations-then {A} told (Ok v) was then_ now number entries u before is one =
+    WritesRotations-append was then_ now (subst (λ (t : Result (Unit {0}) A). OnOk t (WritesRotations was then_)) is before)
+    (WritesRotations-one then_ now number entries one)
+WritesRotations-then told (Err e) was then_ now number entries u before is one = tt
 
 -- rotations between the first line and the last one
 pub WritesAll-of : (was listening rotated now : Option (List ℕ)) (port entries : ℕ) → Writes was listening (line_octets (Listening port)) → WritesRotations listening rotated → Writes rotated now (line_octets (Closed entries)) → WritesAll was now
@@ -46,6 +47,8 @@ WritesAll-of was listening rotated now port entries first between last = (
 )
 
 -- where all went well
-pub WritesAll-ok : {A E : Type 0} (result : Result A E) (was listening rotated now : Option (List ℕ)) (port : ℕ) → Writes was listening (line_octets (Listening port)) → WritesRotations listening rotated → OnOk result ((entries : ℕ) × Writes rotated now (line_octets (Closed entries))) → OnOk result (WritesAll was now)
-WritesAll-ok (Ok v) was listening rotated now port first between last = WritesAll-of was listening rotated now port last.0 first between last.1
-WritesAll-ok (Err e) was listening rotated now port first between last = tt
+pub WritesAll-ok : {A B E : Type 0} (told : Result (Unit {0}) B) (result : Result A E) (was listening rotated now : Option (List ℕ)) (port : ℕ) → Writes was listening (line_octets (Listening port)) → OnOk told (WritesRotations listening rotated) → OnOk result (told ≡ Ok tt) → OnOk result ((entries : ℕ) × Writes rotated now (line_octets (Closed entries))) → OnOk result (WritesAll was now)
+WritesAll-ok {A} {B} told (Ok v) was listening rotated now port first between is last =
+    WritesAll-of was listening rotated now port last.0 first
+    (subst (λ (t : Result (Unit {0}) B). OnOk t (WritesRotations listening rotated)) is between) last.1
+WritesAll-ok told (Err e) was listening rotated now port first between is last = tt

@@ -8,6 +8,7 @@ use server_edge::{Desk, Kind, Served, Visit, keep_asking};
 use session::{SessionEnd, SessionSeat, SharedSpool};
 use shared_spool::SpoolLedger;
 use std::alloc::Global;
+use std::fmt::Display;
 use std::io;
 use std::io::Read;
 use std::net::{Shutdown, SocketAddr, TcpStream};
@@ -62,12 +63,23 @@ impl Front<'_> {
     }
 
     /// Has octets sent at once and peers asked whether they are there, and limits how long a peer may be silent or not read.
-    fn prepare(&self, stream: &TcpStream) -> io::Result<()> {
+    fn set_up(&self, stream: &TcpStream) -> io::Result<()> {
         stream.set_nodelay(true)?;
         keep_asking(stream, KEEPALIVE);
         let limit = self.patience();
         stream.set_read_timeout(limit)?;
         stream.set_write_timeout(limit)
+    }
+
+    /// Sets a connection up. Where that can't be it is logged. Whether it could be.
+    fn prepare<R: Log>(&self, rt: &R, visit: &Visit) -> bool {
+        match self.set_up(&visit.stream) {
+            Ok(()) => true,
+            Err(error) => {
+                complain(rt, visit.peer, &error);
+                false
+            }
+        }
     }
 }
 
@@ -90,18 +102,22 @@ fn take_leave<R: Clock>(rt: &R, stream: &TcpStream) -> io::Result<()> {
     Ok(())
 }
 
+/// Logs what went wrong with a peer's connection.
+fn complain<R: Log, W: Display>(rt: &R, peer: SocketAddr, why: &W) {
+    warn!(rt; "{peer}: {why}");
+}
+
 /// Logs a session that didn't end as its peer would have it.
 fn tell<R: Log>(rt: &R, peer: SocketAddr, end: SessionEnd) {
-    match end {
-        SessionEnd::Finished | SessionEnd::Closed => {}
-        SessionEnd::Refused(refusal) => {
-            warn!(rt; "{peer}: {} {refusal:?}", refusal.number());
-        }
-        SessionEnd::Broken => warn!(rt; "{peer}: the connection ended in the middle"),
-        SessionEnd::ReadFault => warn!(rt; "{peer}: reading failed, or the peer was silent"),
-        SessionEnd::WriteFault => warn!(rt; "{peer}: writing failed"),
-        SessionEnd::Memory => warn!(rt; "{peer}: memory was refused"),
-    }
+    let why = match end {
+        SessionEnd::Finished | SessionEnd::Closed => return,
+        SessionEnd::Refused(refusal) => return complain(rt, peer, &refusal),
+        SessionEnd::Broken => "the connection ended in the middle",
+        SessionEnd::ReadFault => "reading failed, or the peer was silent",
+        SessionEnd::WriteFault => "writing failed",
+        SessionEnd::Memory => "memory was refused",
+    };
+    complain(rt, peer, &why);
 }
 
 /// Serves a connection.
@@ -113,11 +129,10 @@ fn answer<E: SpoolLedger, K: Ledger, H: Ledger, R: Clock + Wait + Log>(
     visit: &Visit,
     front: Front<'_>,
 ) -> SessionSeat<E, K, H> {
-    let (stream, peer) = (&visit.stream, visit.peer);
-    if let Err(error) = front.prepare(stream) {
-        warn!(rt; "{peer}: {error}");
+    if !front.prepare(rt, visit) {
         return seat;
     }
+    let stream = &visit.stream;
     let number = seat.number();
     front.posts.begin(rt, number, stream);
     let meter = Meter::new(rt, stream, front.posts, number, front.slowest);
@@ -133,7 +148,7 @@ fn answer<E: SpoolLedger, K: Ledger, H: Ledger, R: Clock + Wait + Log>(
         &mut writer,
     );
     front.posts.end(rt, number);
-    tell(rt, peer, end);
+    tell(rt, visit.peer, end);
     if matches!(end, SessionEnd::Finished | SessionEnd::Refused(_)) {
         // A peer that is gone already has lost nothing.
         let _ = take_leave(rt, stream);

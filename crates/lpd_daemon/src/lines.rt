@@ -11,7 +11,7 @@ use std::alloc::Global;
 use std::fmt;
 
 /// A line that a server prints.
-#[derive(Clone, Copy, Debug, PartialEq, Eq)]
+#[derive(Clone, Copy)]
 pub(crate) enum Line {
     /// It listens at this port.
     Listening { port: u16 },

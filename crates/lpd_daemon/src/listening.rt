@@ -1,6 +1,6 @@
 //! The listener, and the thread that hands its connections on.
 
-ghost use Rattle.std.specs.Prelude.{◌≡◌, ℕ, OnOk, IfErr, Ok};
+ghost use Rattle.std.specs.Prelude.{◌≡◌, ℕ, List, Option, OnOk, IfErr, Ok};
 ghost use Rattle.lpd_daemon.specs.Faults.{IsRunningFault, write_faults};
 ghost use Rattle.lpd_daemon.specs.Lines.{WritesRotations};
 ghost use Rattle.lpd_daemon.specs.declared.faults.Fault.TheVariants.{Network};
@@ -51,9 +51,9 @@ fn announce<R: Log, W: OctetWrite>(
     told: Result<(), Fault>,
     rotated: Rotated,
 ) -> Result<(), Fault>
+    ensures written { (was : Option (List ℕ)) → OnOk told (WritesRotations was (W.written output.old))
+        → OnOk result (WritesRotations was (W.written output.new)) }
     ensures before { OnOk result (told ≡ Ok tt) }
-    ensures written { OnOk result
-        (WritesRotations (W.written output.old) (W.written output.new)) }
     ensures write_fault { (n : ℕ) → W.faults output.old ≡ write_faults n told
         → W.faults output.new ≡ write_faults n result }
     ensures fault { IfErr told IsRunningFault → IfErr result IsRunningFault }
@@ -70,13 +70,34 @@ fn announce<R: Log, W: OctetWrite>(
     printed
 }
 
+/// Prints all rotations that aren't printed yet, as `announce` does each.
+pub(crate) fn announce_all<R: Log + Wait, W: OctetWrite>(
+    rt: &R,
+    alloc: Global,
+    output: &mut W,
+    told: Result<(), Fault>,
+    rotations: &Rotations,
+) -> Result<(), Fault>
+    ensures written { (was : Option (List ℕ)) → OnOk told (WritesRotations was (W.written output.old))
+        → OnOk result (WritesRotations was (W.written output.new)) }
+    ensures before { OnOk result (told ≡ Ok tt) }
+    ensures write_fault { (n : ℕ) → W.faults output.old ≡ write_faults n told
+        → W.faults output.new ≡ write_faults n result }
+    ensures fault { IfErr told IsRunningFault → IfErr result IsRunningFault }
+{
+    let mut printed = told;
+    for rotated in rotations.take(rt, alloc) {
+        printed = announce(rt, alloc, output, printed, rotated);
+    }
+    printed
+}
+
 /// The thread that holds connections and hands them on, and rotates the account in between.
 #[derive(Drop)]
 pub(crate) struct Porter<'a, R, E: SpoolLedger, K: Ledger, H: Ledger> {
     pub(crate) rt: &'a R,
     pub(crate) alloc: Global,
     pub(crate) spool: &'a SharedSpool<E, K, H>,
-    pub(crate) seat: SessionSeat<E, K, H>,
     pub(crate) lobby: Lobby,
     /// After how many connections the account is rotated.
     pub(crate) every: Option<u64>,
@@ -86,12 +107,12 @@ pub(crate) struct Porter<'a, R, E: SpoolLedger, K: Ledger, H: Ledger> {
 
 impl<'a, R: Clock + Log + Wait, E: SpoolLedger, K: Ledger, H: Ledger> Porter<'a, R, E, K, H> {
     /// Whether new jobs are let in.
-    fn lets_jobs_in(&mut self) -> bool {
+    fn lets_jobs_in(&mut self, seat: &mut SessionSeat<E, K, H>) -> bool {
         if !self.lobby.has_job() {
             return true;
         }
         match &mut self.room {
-            Some(room) => room.lets_jobs_in(self.rt, self.spool, &mut self.seat),
+            Some(room) => room.lets_jobs_in(self.rt, self.spool, seat),
             None => true,
         }
     }
@@ -99,33 +120,26 @@ impl<'a, R: Clock + Log + Wait, E: SpoolLedger, K: Ledger, H: Ledger> Porter<'a,
     /// Waits for something to happen, or for a moment where jobs have to wait.
     fn wait(&mut self, lets_jobs_in: bool) {
         let limit = if lets_jobs_in { None } else { Some(LOOK) };
-        if let Err(error) = self.lobby.round(self.rt, self.alloc, limit) {
+        if let Err(error) = self.lobby.round(self.rt, limit) {
             warn!(self.rt; "connections can't be looked at: {error}");
             thread::sleep(self.rt, Duration::from_millis(PAUSE));
         }
     }
 
-    /// Hands a connection on, after so many others. What is answered is the rotation that was due before.
-    fn hand_on(&mut self, desk: &Desk<Visit>, visit: Visit, handed_on: u64) -> Option<Rotated> {
-        let rotated = if has_turn(self.every, handed_on) {
-            rotate(self.rt, self.spool, &mut self.seat)
-        } else {
-            None
-        };
+    /// Hands a connection on.
+    fn hand_on(&self, desk: &Desk<Visit>, visit: Visit) {
         let (kind, host, peer) = (visit.kind, visit.host(), visit.peer);
-        if desk.hand(self.rt, kind, host, visit).is_err() {
+        if !desk.hand(self.rt, kind, host, visit) {
             warn!(self.rt; "{peer}: memory was refused");
         }
-        rotated
     }
 
     /// Holds connections and hands each on, until all that are to come have come. Says in lines when the account was rotated.
     ///
-    /// A rotation after that isn't printed.
-    ///
     /// Output where such a line couldn't be written, Memory where memory for it was refused: all have been handed on.
     pub(crate) fn admit<W: OctetWrite>(
         &mut self,
+        seat: &mut SessionSeat<E, K, H>,
         desk: &Desk<Visit>,
         rotations: &Rotations,
         output: &mut W,
@@ -138,20 +152,18 @@ impl<'a, R: Clock + Log + Wait, E: SpoolLedger, K: Ledger, H: Ledger> Porter<'a,
         let mut told = Ok(());
         let mut handed_on = 0u64;
         'rounds: for _ in self.rt.forever() {
-            let mut rotated = rotations.next(self.rt);
-            if rotated.is_none() {
-                let lets_jobs_in = self.lets_jobs_in();
-                match self.lobby.next(self.rt, desk, lets_jobs_in) {
-                    Some(visit) => {
-                        rotated = self.hand_on(desk, visit, handed_on);
-                        handed_on = handed_on.saturating_add(1);
+            told = announce_all(self.rt, self.alloc, output, told, rotations);
+            let lets_jobs_in = self.lets_jobs_in(seat);
+            match self.lobby.next(self.rt, desk, lets_jobs_in) {
+                Some(visit) => {
+                    if has_turn(self.every, handed_on) {
+                        rotate(self.rt, self.spool, seat, rotations);
                     }
-                    None if self.lobby.is_over() => break,
-                    None => self.wait(lets_jobs_in),
+                    self.hand_on(desk, visit);
+                    handed_on = handed_on.saturating_add(1);
                 }
-            }
-            if let Some(rotated) = rotated {
-                told = announce(self.rt, self.alloc, output, told, rotated);
+                None if self.lobby.is_over() => break,
+                None => self.wait(lets_jobs_in),
             }
         }
         told
@@ -161,6 +173,7 @@ impl<'a, R: Clock + Log + Wait, E: SpoolLedger, K: Ledger, H: Ledger> Porter<'a,
     pub(crate) fn admit_if<W: OctetWrite>(
         &mut self,
         started: bool,
+        seat: &mut SessionSeat<E, K, H>,
         desk: &Desk<Visit>,
         rotations: &Rotations,
         output: &mut W,
@@ -173,11 +186,6 @@ impl<'a, R: Clock + Log + Wait, E: SpoolLedger, K: Ledger, H: Ledger> Porter<'a,
         if !started {
             return Ok(());
         }
-        self.admit(desk, rotations, output)
-    }
-
-    /// Closes the spool.
-    pub(crate) fn close(&mut self) {
-        self.spool.close(self.rt, &mut self.seat);
+        self.admit(seat, desk, rotations, output)
     }
 }

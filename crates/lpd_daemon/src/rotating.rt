@@ -10,8 +10,8 @@ use std::alloc::Global;
 use std::rt::Clock;
 use std::sync::ledger::Ledger;
 use std::sync::{Mutex, Wait};
-use std::thread;
 use std::time::Duration;
+use std::{mem, thread};
 
 /// For how many seconds it is waited after a rotation that was refused.
 const PAUSE: u64 = 1;
@@ -33,35 +33,23 @@ pub(crate) struct Rotated {
     pub(crate) entries: u64,
 }
 
-impl Rotated {
-    /// What is told of a segment.
-    fn of(segment: &Segment) -> Rotated {
-        Rotated {
-            number: segment.number,
-            entries: segment.entries.len() as u64,
-        }
-    }
-}
-
 /// Says in a line why the account wasn't rotated. The server goes on.
 fn tell<R: Log>(rt: &R, error: RotateError) {
     error!(rt; "fault {error}");
 }
 
-/// Waits until no job is held or a printer is stopped, and rotates the account. None where that is refused: it is told, and nothing
+/// Waits until no job is held or a printer is stopped, and rotates the account. Where that is refused it is told, and nothing
 /// has changed.
 pub(crate) fn rotate<E: SpoolLedger, K: Ledger, H: Ledger, R: Wait + Log>(
     rt: &R,
     spool: &SharedSpool<E, K, H>,
     seat: &mut SessionSeat<E, K, H>,
-) -> Option<Rotated> {
+    rotations: &Rotations,
+) {
     spool.idle_wait(rt);
     match spool.rotate(rt, seat) {
-        Ok(segment) => Some(Rotated::of(&segment)),
-        Err(error) => {
-            tell(rt, error);
-            None
-        }
+        Ok(segment) => rotations.add(rt, &segment),
+        Err(error) => tell(rt, error),
     }
 }
 
@@ -79,18 +67,20 @@ impl Rotations {
         }
     }
 
-    /// The first that isn't printed yet.
-    pub(crate) fn next<R: Wait>(&self, rt: &R) -> Option<Rotated> {
-        let mut rotated = self.rotated.lock(rt);
-        if rotated.is_empty() {
-            return None;
-        }
-        Some(rotated.remove(0))
+    /// Those that aren't printed yet, which are taken out.
+    pub(crate) fn take<R: Wait>(&self, rt: &R, alloc: Global) -> Vec<Rotated> {
+        mem::replace(&mut *self.rotated.lock(rt), Vec::new(alloc))
     }
 
-    /// One more. False where memory for it is refused.
-    fn add<R: Wait>(&self, rt: &R, rotated: Rotated) -> bool {
-        self.rotated.lock(rt).push(rotated).is_ok()
+    /// One more.
+    fn add<R: Log + Wait>(&self, rt: &R, segment: &Segment) {
+        let rotated = Rotated {
+            number: segment.number,
+            entries: segment.entries.len() as u64,
+        };
+        if self.rotated.lock(rt).push(rotated).is_err() {
+            warn!(rt; "memory was refused: a rotation isn't printed");
+        }
     }
 }
 
@@ -112,9 +102,7 @@ pub(crate) fn keep_rotating<E: SpoolLedger, K: Ledger, H: Ledger, R: Clock + Wai
         match spool.rotate_wait(rt, &mut seat, least) {
             None => break,
             Some(Ok(segment)) => {
-                if !rotations.add(rt, Rotated::of(&segment)) {
-                    warn!(rt; "memory was refused: a rotation isn't printed");
-                }
+                rotations.add(rt, &segment);
                 let _ = waker.wake();
             }
             Some(Err(error)) => {

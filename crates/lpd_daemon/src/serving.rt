@@ -1,6 +1,6 @@
 //! A server, from its start to its end.
 
-ghost use Rattle.std.specs.Prelude.{◌≡◌, ◌+◌, ℕ, OnOk, IfErr};
+ghost use Rattle.std.specs.Prelude.{◌≡◌, ◌+◌, ℕ, Ok, OnOk, IfErr};
 ghost use Rattle.config_values.specs.Config.{printer_count};
 ghost use Rattle.lpd_daemon.specs.Faults.{IsOpeningFault, IsRunningFault, write_faults};
 ghost use Rattle.lpd_daemon.specs.Lines.{IsQuiet, WritesAll, line_octets};
@@ -11,6 +11,7 @@ ghost use Rattle.lpd_commands.specs.Ends.{Writes};
 use crate::faults::Fault;
 use crate::lines::{Line, print};
 use crate::listening::{Porter, listen};
+use crate::posts::Posts;
 use crate::room::Room;
 use crate::settings::{MOST_SESSIONS, Settings};
 use crate::sink::FileSink;
@@ -70,20 +71,24 @@ fn open_sinks<R: Files<File = File>>(
     Ok(sinks)
 }
 
-/// Takes all seats back, and prints how many entries all segments of the account have.
+/// Takes all seats back, and prints how many entries all segments of the account have, where all was well until now.
 ///
 /// Output where the line can't be written; Memory where a seat or memory for the line is missing.
 fn finish<E: SpoolLedger, K: Ledger, H: Ledger, W: OctetWrite>(
     alloc: Global,
     spool: SharedSpool<E, K, H>,
     seats: Seats<E, K, H>,
+    told: Result<(), Fault>,
     output: &mut W,
 ) -> Result<(), Fault>
+    ensures before { OnOk result (told ≡ Ok tt) }
     ensures written { OnOk result ((entries : ℕ)
         × Writes (W.written output.old) (W.written output.new) (line_octets (Closed entries))) }
-    ensures write_fault { W.faults output.new ≡ write_faults (W.faults output.old) result }
-    ensures fault { IfErr result IsRunningFault }
+    ensures write_fault { (n : ℕ) → W.faults output.old ≡ write_faults n told
+        → W.faults output.new ≡ write_faults n result }
+    ensures fault { IfErr told IsRunningFault → IfErr result IsRunningFault }
 {
+    told?;
     let Ok(segment) = spool.finish(seats.sessions, seats.printers) else {
         return Err(Fault::Memory);
     };
@@ -118,12 +123,14 @@ fn open_lobby<R: Net>(
 }
 
 /// A server before its spool is opened.
+#[derive(Drop)]
 struct Server<'a, R> {
     rt: &'a R,
     alloc: Global,
     settings: Settings<'a>,
     lobby: Lobby,
     waker: Waker,
+    posts: Posts,
     port: u16,
     sinks: Vec<FileSink<File>>,
 }
@@ -163,9 +170,10 @@ pub fn serve<
     ensures quiet { IfErr result (IsQuiet (W.written output.old) (W.written output.new)) }
     ensures write_fault { W.faults output.new ≡ write_faults (W.faults output.old) result }
 {
+    let sessions = settings.sessions.clamp(1, MOST_SESSIONS) + QUESTIONS;
+    let posts = Posts::new(alloc, sessions as usize)?;
     let sinks = open_sinks(rt, alloc, settings.out, config.printer_count())?;
     let (listener, port) = listen(rt, settings)?;
-    let sessions = settings.sessions.clamp(1, MOST_SESSIONS) + QUESTIONS;
     let printers = u64::from(config.printer_count());
     let kept = KEPT + printers + 2 * u64::from(sessions);
     let (lobby, waker) = open_lobby(rt, alloc, listener, settings.connections, kept)?;
@@ -181,6 +189,7 @@ pub fn serve<
         settings: *settings,
         lobby,
         waker,
+        posts,
         port,
         sinks,
     };
@@ -208,54 +217,45 @@ impl<'a, R: Clock + Log + Threads + Wait + Sync> Server<'a, R> {
         ensures write_fault { W.faults output.new ≡ write_faults (W.faults output.old) result }
         ensures fault { IfErr result IsRunningFault }
     {
-        let Server {
-            rt,
-            alloc,
-            settings,
-            lobby,
-            waker,
-            port,
-            sinks,
-        } = self;
-        let (room, least) = if settings.keep_room {
-            let least = u64::from(config.account() / 4).max(1);
-            (Some(Room::new(&config, sessions, least)), Some(least))
-        } else {
-            (None, None)
-        };
+        let alloc = self.alloc;
+        let least = u64::from(config.account() / 4).max(1);
+        let room = Room::new(&config, sessions, least);
         let (entries, kinds, handed) = (blanks.entries, blanks.kinds, blanks.handed);
         let Opened {
             spool,
             mut sessions,
             printers,
         } = SharedSpool::<E, K, H>::new(alloc, entries, kinds, handed, config, sessions)?;
-        let (Some(seat), Some(watcher), Some(keeper)) = (
-            sessions.pop(),
-            sessions.pop(),
-            sessions.pop(),
-        ) else {
+        let Some(seat) = sessions.pop() else {
             return Err(Fault::Memory);
         };
-        print(alloc, output, Line::Listening { port })?;
+        print(alloc, output, Line::Listening { port: self.port })?;
+        let Server {
+            rt,
+            settings,
+            lobby,
+            waker,
+            posts,
+            sinks,
+            ..
+        } = self;
         let porter = Porter {
             rt,
             alloc,
             spool: &spool,
-            seat,
             lobby,
             every: settings.rotate,
-            room,
+            room: settings.keep_room.then_some(room),
         };
         let crew = Crew {
             settings,
             waker,
+            posts,
             sinks,
             seats: Seats { sessions, printers },
-            watcher,
-            keeper,
-            least,
+            least: settings.keep_room.then_some(least),
         };
-        let seats = crew.run(porter, output)?;
-        finish(alloc, spool, seats, output)
+        let (told, seats) = crew.run(porter, seat, output);
+        finish(alloc, spool, seats, told, output)
     }
 }

@@ -1,13 +1,28 @@
 //! The threads of a server.
 
-ghost use Rattle.std.specs.Prelude.{◌≡◌, ℕ, Ok, OnOk, IfErr};
+ghost use Rattle.std.specs.Prelude.{
+  ◌≡◌,
+  ◌⊎◌,
+  ◌↔◌,
+  ◌<◌,
+  ◌^◌,
+  ◌-◌,
+  ℕ,
+  min,
+  None,
+  Ok,
+  OnOk,
+  IfErr,
+  Some,
+};
+ghost use Rattle.server_edge.specs.declared.desk.Served.TheVariants.{Questions};
 ghost use Rattle.std.specs.Thread.{IsSend};
 ghost use Rattle.lpd_daemon.specs.Faults.{IsRunningFault, write_faults};
 ghost use Rattle.lpd_daemon.specs.Lines.{WritesRotations};
 
 use crate::answering::{Front, answer_all};
 use crate::faults::Fault;
-use crate::listening::Porter;
+use crate::listening::{Porter, announce_all};
 use crate::posts::Posts;
 use crate::rotating::{Rotations, keep_rotating};
 use crate::settings::Settings;
@@ -19,7 +34,7 @@ use mio::Waker;
 use printer_worker::work;
 use server_edge::{Desk, Served};
 use shared_spool::{PrinterSeat, SessionSeat, SharedSpool, SpoolLedger};
-use std::alloc::{AllocError, Global};
+use std::alloc::Global;
 use std::fs::File;
 use std::rt::Clock;
 use std::sync::Wait;
@@ -46,17 +61,18 @@ pub(crate) struct Seats<E: SpoolLedger, K: Ledger, H: Ledger> {
 pub(crate) struct Crew<'a, E: SpoolLedger, K: Ledger, H: Ledger> {
     pub(crate) settings: Settings<'a>,
     pub(crate) waker: Waker,
+    pub(crate) posts: Posts,
     pub(crate) sinks: Vec<FileSink<File>>,
+    /// The last two of the sessions' seats are of who looks for peers that are gone, and of who rotates the account.
     pub(crate) seats: Seats<E, K, H>,
-    /// The seat of who looks for peers that are gone, and of who rotates the account.
-    pub(crate) watcher: SessionSeat<E, K, H>,
-    pub(crate) keeper: SessionSeat<E, K, H>,
     /// From how many counted entries on the account is rotated, where room is kept in it.
     pub(crate) least: Option<u64>,
 }
 
 /// Which connections the session of this seat serves.
-fn served_at(seat: u32) -> Served {
+fn served_at(seat: u32) -> Served
+    ensures { (result ≡ Questions) ↔ seat < 2 }
+{
     if seat < QUESTIONS {
         Served::Questions
     } else {
@@ -65,7 +81,11 @@ fn served_at(seat: u32) -> Served {
 }
 
 /// How many sessions one host may have: at 0, or without a number, as many as there are.
-fn most_of(per_host: Option<u64>) -> u32 {
+fn most_of(per_host: Option<u64>) -> u32
+    ensures any { (per_host ≡ None) ⊎ (per_host ≡ Some 0) → result ≡ 2 ^ 32 - 1 }
+    ensures most { (most : ℕ) → per_host ≡ Some most → 0 < most
+        → result ≡ min most (2 ^ 32 - 1) }
+{
     match per_host {
         None | Some(0) => u32::MAX,
         Some(most) => u32::try_from(most).unwrap_or(u32::MAX),
@@ -84,18 +104,11 @@ fn print_all<R: Wait, E: SpoolLedger, K: Ledger, H: Ledger>(
     seat
 }
 
-/// Joins all threads. Answers what they returned, or AllocError where memory for that is refused.
-fn join_all<R: Threads, T: Drop>(
-    rt: &R,
-    alloc: Global,
-    threads: Vec<JoinHandle<T>>,
-) -> Result<Vec<T>, AllocError> {
-    let mut returned = Vec::new(alloc);
-    let mut kept = true;
+/// Joins all threads, and keeps what they returned. What there is no memory for is let go.
+fn join_all<R: Threads, T: Drop>(rt: &R, threads: Vec<JoinHandle<T>>, returned: &mut Vec<T>) {
     for thread in threads {
-        kept &= returned.push(thread.join(rt)).is_ok();
+        let _ = returned.push(thread.join(rt));
     }
-    if kept { Ok(returned) } else { Err(AllocError) }
 }
 
 /// Keeps a thread to be joined. False where it wasn't started, or memory for its handle is refused.
@@ -109,66 +122,37 @@ fn keep<T: Drop, F: Drop>(
     }
 }
 
-/// All seats, once the threads have returned theirs and none is left out. Otherwise the fault that came while connections were
-/// admitted; Memory where a thread wasn't started, or memory is refused.
-fn seats_of<E: SpoolLedger, K: Ledger, H: Ledger>(
-    admitted: Result<(), Fault>,
-    started: bool,
-    sessions: Result<Vec<SessionSeat<E, K, H>>, AllocError>,
-    looking: Result<Vec<SessionSeat<E, K, H>>, AllocError>,
-    seat: SessionSeat<E, K, H>,
-    printers: Result<Vec<PrinterSeat<E, K, H>>, AllocError>,
-) -> Result<Seats<E, K, H>, Fault>
-    ensures admitted { OnOk result (admitted ≡ Ok tt) }
-    ensures write_fault { (n : ℕ) → write_faults n result ≡ write_faults n admitted }
-    ensures fault { IfErr admitted IsRunningFault → IfErr result IsRunningFault }
-{
-    admitted?;
-    if !started {
-        return Err(Fault::Memory);
-    }
-    let mut sessions = sessions?;
-    for seat in looking? {
-        sessions.push(seat)?;
-    }
-    sessions.push(seat)?;
-    Ok(Seats {
-        sessions,
-        printers: printers?,
-    })
-}
-
 impl<'a, E: SpoolLedger + Send + Sync, K: Ledger + Send + Sync, H: Ledger + Send + Sync> Crew<
     'a,
     E,
     K,
     H,
 > {
-    /// Starts a thread for each seat, has connections accepted and served, and joins all threads. Answers the seats.
+    /// Starts a thread for each seat, has connections accepted and served, and joins all threads. Answers how that went, and the
+    /// seats. One is missing where a thread wasn't started, or memory for it was refused.
     ///
-    /// Output where a line can't be written; Memory where memory or a thread is refused.
+    /// Output where a line can't be written; Memory where memory for one is refused.
     pub(crate) fn run<R: Clock + Log + Threads + Wait + Sync, W: OctetWrite>(
         self,
         porter: Porter<'_, R, E, K, H>,
+        seat: SessionSeat<E, K, H>,
         output: &mut W,
-    ) -> Result<Seats<E, K, H>, Fault>
-        ensures written { OnOk result
+    ) -> (Result<(), Fault>, Seats<E, K, H>)
+        ensures written { OnOk result.0
             (WritesRotations (W.written output.old) (W.written output.new)) }
-        ensures write_fault { W.faults output.new ≡ write_faults (W.faults output.old) result }
-        ensures fault { IfErr result IsRunningFault }
+        ensures write_fault { W.faults output.new ≡ write_faults (W.faults output.old) result.0 }
+        ensures fault { IfErr result.0 IsRunningFault }
     {
         let Crew {
             settings,
             waker,
+            posts,
             sinks,
             seats,
-            watcher,
-            keeper,
             least,
         } = self;
         let (rt, alloc, spool) = (porter.rt, porter.alloc, porter.spool);
         let desk = Desk::new(alloc, most_of(settings.per_host));
-        let posts = Posts::new(alloc, seats.sessions.len())?;
         let rotations = Rotations::new(alloc);
         let ended = AtomicBool::new(false);
         let (desk, waker, posts) = (&desk, &waker, &posts);
@@ -176,15 +160,15 @@ impl<'a, E: SpoolLedger + Send + Sync, K: Ledger + Send + Sync, H: Ledger + Send
         let silence = settings.silence.unwrap_or(0);
         let slowest = settings.slowest.unwrap_or(0);
         // The output comes back with the seats, so that it is known what was written.
-        let (seats, _output) = thread::scope(
+        let (told, seats, _output) = thread::scope(
             thread::scope_env(),
             rt,
-            |scope| -> (Result<Seats<E, K, H>, Fault>, &mut W)
+            |scope| -> (Result<(), Fault>, Seats<E, K, H>, &mut W)
                 requires { IsSend E.row × IsSend K.row × IsSend H.row }
-                ensures same { result.1.ghost_name ≡ output.entry.ghost_name }
+                ensures same { result.2.ghost_name ≡ output.entry.ghost_name }
                 ensures written { OnOk result.0 (WritesRotations
-                    (W.written output.entry.now) (W.written result.1.now)) }
-                ensures write_fault { W.faults result.1.now
+                    (W.written output.entry.now) (W.written result.2.now)) }
+                ensures write_fault { W.faults result.2.now
                     ≡ write_faults (W.faults output.entry.now) result.0 }
                 ensures fault { IfErr result.0 IsRunningFault }
             {
@@ -192,11 +176,16 @@ impl<'a, E: SpoolLedger + Send + Sync, K: Ledger + Send + Sync, H: Ledger + Send
                 let mut answering = Vec::new(alloc);
                 let mut looking = Vec::new(alloc);
                 let mut started = true;
-                for (seat, sink) in seats.printers.into_iter().zip(sinks) {
+                let Seats {
+                    mut sessions,
+                    printers,
+                } = seats;
+                let (keeper, watcher) = (sessions.pop(), sessions.pop());
+                for (seat, sink) in printers.into_iter().zip(sinks) {
                     let thread = scope.spawn(move || print_all(rt, spool, seat, sink));
                     started &= keep(&mut printing, thread);
                 }
-                for seat in seats.sessions {
+                for seat in sessions {
                     let front = Front {
                         desk,
                         waker,
@@ -208,29 +197,35 @@ impl<'a, E: SpoolLedger + Send + Sync, K: Ledger + Send + Sync, H: Ledger + Send
                     let thread = scope.spawn(move || answer_all(rt, alloc, spool, seat, front));
                     started &= keep(&mut answering, thread);
                 }
-                let thread = scope.spawn(move || watch(
-                    rt, alloc, spool, watcher, posts, silence, ended,
-                ));
-                started &= keep(&mut looking, thread);
-                let thread = scope.spawn(move || keep_rotating(
-                    rt, spool, keeper, least, rotations, waker,
-                ));
-                started &= keep(&mut looking, thread);
-                let mut porter = porter;
-                let admitted = porter.admit_if(started, desk, rotations, output);
+                if let Some(seat) = watcher {
+                    let thread = scope.spawn(move || watch(
+                        rt, alloc, spool, seat, posts, silence, ended,
+                    ));
+                    started &= keep(&mut looking, thread);
+                }
+                if let Some(seat) = keeper {
+                    let thread = scope.spawn(move || keep_rotating(
+                        rt, spool, seat, least, rotations, waker,
+                    ));
+                    started &= keep(&mut looking, thread);
+                }
+                let (mut porter, mut seat) = (porter, seat);
+                let admitted = porter.admit_if(started, &mut seat, desk, rotations, output);
                 // However it went, all threads are joined before the seats are looked at.
                 desk.end(rt);
-                let sessions = join_all(rt, alloc, answering);
+                let (mut sessions, mut printers) = (Vec::new(alloc), Vec::new(alloc));
+                join_all(rt, answering, &mut sessions);
                 spool.idle_wait(rt);
-                porter.close();
+                spool.close(rt, &mut seat);
                 ended.store(true, Ordering::SeqCst);
-                let looking = join_all(rt, alloc, looking);
-                let printers = join_all(rt, alloc, printing);
-                let Porter { seat, .. } = porter;
-                let seats = seats_of(admitted, started, sessions, looking, seat, printers);
-                (seats, output)
+                join_all(rt, looking, &mut sessions);
+                join_all(rt, printing, &mut printers);
+                let _ = sessions.push(seat);
+                // What was rotated while sessions ended.
+                let told = announce_all(rt, alloc, output, admitted, rotations);
+                (told, Seats { sessions, printers }, output)
             },
         );
-        seats
+        (told, seats)
     }
 }

@@ -58,13 +58,12 @@ impl Still {
     }
 
     /// A second has passed, and the spool is at this now. For how many seconds nothing has happened.
-    fn pass(&mut self, sample: Sample) -> u64 {
-        self.seconds = if self.sample.is_same(&sample) {
+    fn pass(&mut self, sample: &Sample) -> u64 {
+        self.seconds = if self.sample.is_same(sample) {
             self.seconds.saturating_add(1)
         } else {
             0
         };
-        self.sample = sample;
         self.seconds
     }
 }
@@ -108,30 +107,26 @@ impl<'a, R: Clock + Log + Wait, E: SpoolLedger, K: Ledger, H: Ledger> Watcher<'a
     /// Looks at those that wait, once a second.
     fn look(&mut self, buffer: &mut [u8]) -> Result<(), AllocError> {
         let sample = self.sample()?;
-        let mut gone = Vec::new(self.alloc);
         for waiting in sample.waiting.iter() {
             if self.posts.is_gone(self.rt, *waiting, buffer) {
-                gone.push(*waiting)?;
+                self.give_up(*waiting, "its peer is gone");
             }
         }
-        for waiting in gone {
-            self.give_up(waiting, "its peer is gone");
-        }
-        let waits = sample.waiting.to_vec(self.alloc)?;
-        let seconds = self.still.pass(sample);
+        let seconds = self.still.pass(&sample);
         if self.silence != 0 && self.silence <= seconds {
-            for waiting in waits {
+            for waiting in sample.waiting.iter() {
                 self.give_up(
-                    waiting,
+                    *waiting,
                     "nothing has happened for as long as a peer may be silent",
                 );
             }
         }
+        self.still.sample = sample;
         Ok(())
     }
 
-    /// Looks at those that wait, until the server ends. Answers its seat.
-    fn run(mut self, buffer: &mut [u8], ended: &AtomicBool) -> SessionSeat<E, K, H> {
+    /// Looks at those that wait, until the server ends.
+    fn run(&mut self, buffer: &mut [u8], ended: &AtomicBool) {
         let mut step = 0u64;
         for _ in self.rt.forever() {
             if ended.load(Ordering::SeqCst) {
@@ -143,7 +138,6 @@ impl<'a, R: Clock + Log + Wait, E: SpoolLedger, K: Ledger, H: Ledger> Watcher<'a
                 warn!(self.rt; "memory was refused to look for peers that are gone");
             }
         }
-        self.seat
     }
 }
 
@@ -162,7 +156,7 @@ pub(crate) fn watch<R: Clock + Log + Wait, E: SpoolLedger, K: Ledger, H: Ledger>
         warn!(rt; "memory was refused: peers that are gone aren't looked for");
         return seat;
     };
-    let watcher = Watcher {
+    let mut watcher = Watcher {
         rt,
         alloc,
         spool,
@@ -171,5 +165,7 @@ pub(crate) fn watch<R: Clock + Log + Wait, E: SpoolLedger, K: Ledger, H: Ledger>
         silence,
         still: Still::new(alloc),
     };
-    watcher.run(buffer.as_mut_slice(), ended)
+    watcher.run(buffer.as_mut_slice(), ended);
+    let Watcher { seat, .. } = watcher;
+    seat
 }

@@ -1,6 +1,7 @@
 //! Handing connections on to sessions that are free.
 
 use crate::first_line::Kind;
+use crate::waiting_room::Turn;
 use std::alloc::Global;
 use std::collections::VecDeque;
 use std::sync::{Condvar, Mutex, Wait};
@@ -33,18 +34,13 @@ impl<T: Drop> Window<T> {
         }
     }
 
-    /// Hands on where a session is free; else gives it back.
-    fn hand(&mut self, visit: T) -> Result<(), T> {
-        if self.free == 0 {
-            return Err(visit);
+    /// Hands on where a session is free. Whether it has.
+    fn hand(&mut self, visit: T) -> bool {
+        if self.free == 0 || self.handed.push_back(visit).is_err() {
+            return false;
         }
-        match self.handed.push_back(visit) {
-            Ok(()) => {
-                self.free -= 1;
-                Ok(())
-            }
-            Err(failed) => Err(failed.value),
-        }
+        self.free -= 1;
+        true
     }
 }
 
@@ -81,44 +77,51 @@ impl<T: Drop> Hall<T> {
         self.all.free > 0 && left > 0
     }
 
-    fn is_free(&self, kind: Kind, host: u32, most: u32) -> bool {
-        match kind {
-            Kind::Job => self.has_place(host, most),
-            Kind::Question => self.questions.free > 0 || self.has_place(host, most),
-            Kind::Listing => {
-                self.listings < MOST_LISTINGS
-                    && (self.questions.free > 0 || self.has_place(host, most))
+    fn is_free(&self, turn: Turn, most: u32) -> bool {
+        match turn.kind {
+            Kind::Job => self.has_place(turn.host, most),
+            Kind::Listing if self.listings >= MOST_LISTINGS => false,
+            Kind::Question | Kind::Listing => {
+                self.questions.free > 0 || self.has_place(turn.host, most)
             }
         }
     }
 
-    /// Hands on to a session for all.
-    fn hand_to_all(&mut self, host: u32, visit: T) -> Result<Served, T> {
-        if self.hosts.push(host).is_err() {
-            return Err(visit);
-        }
-        match self.all.hand(visit) {
-            Ok(()) => Ok(Served::All),
-            Err(visit) => {
-                self.hosts.pop();
-                Err(visit)
+    /// Where among these the first one stands for which a session is free. Where no session is free that serves them, none of them is
+    /// looked at.
+    fn first_free(&self, turns: &VecDeque<Turn>, most: u32) -> Option<usize> {
+        let mut place = 0usize;
+        for turn in turns.iter() {
+            if self.all.free == 0 && (turn.kind == Kind::Job || self.questions.free == 0) {
+                return None;
             }
+            if self.is_free(*turn, most) {
+                return Some(place);
+            }
+            place = place.saturating_add(1);
         }
+        None
     }
 
-    /// A question goes to a session for questions first, so that the others stay free for jobs.
-    fn hand(&mut self, kind: Kind, host: u32, visit: T) -> Result<Served, T> {
-        if kind == Kind::Job {
-            return self.hand_to_all(host, visit);
-        }
-        let handed = match self.questions.hand(visit) {
-            Ok(()) => Ok(Served::Questions),
-            Err(visit) => self.hand_to_all(host, visit),
+    /// Hands on where a session is free: a question to one for questions first, so that the others stay free for jobs. What is
+    /// answered is to which; None where none is free, or memory is refused.
+    fn hand(&mut self, kind: Kind, host: u32, visit: T) -> Option<Served> {
+        let served = if kind != Kind::Job && self.questions.free > 0 {
+            Served::Questions
+        } else {
+            Served::All
         };
-        if handed.is_ok() && kind == Kind::Listing {
+        if served == Served::All && self.hosts.push(host).is_err() {
+            return None;
+        }
+        if !self.window(served).hand(visit) {
+            self.leave(served, Kind::Question, host);
+            return None;
+        }
+        if kind == Kind::Listing {
             self.listings = self.listings.saturating_add(1);
         }
-        handed
+        Some(served)
     }
 
     /// A session has served this.
@@ -165,40 +168,45 @@ impl<T: Drop> Desk<T> {
         }
     }
 
-    /// Whether any session is free that serves this kind. Where none is, the next session that is free says so.
-    pub fn has_free<R: Wait>(&self, rt: &R, kind: Kind) -> bool {
-        let mut hall = self.hall.lock(rt);
-        let has_free = hall.all.free > 0 || (kind != Kind::Job && hall.questions.free > 0);
-        if !has_free {
-            hall.wanted = true;
+    /// Where among these the first one stands for which a session is free. Only whoever hands on takes that away. Where there is none,
+    /// the next session that is free says so.
+    pub fn first_free<R: Wait>(&self, rt: &R, turns: &VecDeque<Turn>) -> Option<usize> {
+        if turns.is_empty() {
+            return None;
         }
-        has_free
+        let mut hall = self.hall.lock(rt);
+        let first = hall.first_free(turns, self.per_host);
+        hall.wanted |= first.is_none();
+        first
     }
 
-    /// Whether a session is free that serves this kind for this host. Only whoever hands on takes that away. Where none is,
-    /// the next session that is free says so.
-    pub fn is_free<R: Wait>(&self, rt: &R, kind: Kind, host: u32) -> bool {
+    /// Whether a session is free for this one. Only whoever hands on takes that away. Where none is, the next session that is
+    /// free says so.
+    pub fn is_free<R: Wait>(&self, rt: &R, turn: Turn) -> bool {
         let mut hall = self.hall.lock(rt);
-        let is_free = hall.is_free(kind, host, self.per_host);
-        if !is_free {
-            hall.wanted = true;
-        }
+        let is_free = hall.is_free(turn, self.per_host);
+        hall.wanted |= !is_free;
         is_free
     }
 
-    /// Hands on where a session is free that serves this kind; else gives it back. It never waits for a session.
-    pub fn hand<R: Wait>(&self, rt: &R, kind: Kind, host: u32, visit: T) -> Result<(), T> {
+    /// What tells the sessions that serve these that something was handed on.
+    fn came(&self, served: Served) -> &Condvar {
+        match served {
+            Served::All => &self.came_for_all,
+            Served::Questions => &self.came_for_questions,
+        }
+    }
+
+    /// Hands on where a session is free that serves this kind. Whether it has; where it hasn't, the connection is closed. It never
+    /// waits for a session.
+    pub fn hand<R: Wait>(&self, rt: &R, kind: Kind, host: u32, visit: T) -> bool {
         let handed = self.hall.lock(rt).hand(kind, host, visit);
         match handed {
-            Ok(Served::All) => {
-                self.came_for_all.notify_one();
-                Ok(())
+            Some(served) => {
+                self.came(served).notify_one();
+                true
             }
-            Ok(Served::Questions) => {
-                self.came_for_questions.notify_one();
-                Ok(())
-            }
-            Err(visit) => Err(visit),
+            None => false,
         }
     }
 
@@ -225,14 +233,11 @@ impl<T: Drop> Desk<T> {
         if self.come(rt, served) {
             tell();
         }
-        let came = match served {
-            Served::All => &self.came_for_all,
-            Served::Questions => &self.came_for_questions,
-        };
-        let mut hall = came.wait_while(rt, self.hall.lock(rt), |hall| match served {
-            Served::All => hall.all.handed.is_empty() && !hall.ended,
-            Served::Questions => hall.questions.handed.is_empty() && !hall.ended,
-        });
+        let mut hall = self
+            .came(served)
+            .wait_while(rt, self.hall.lock(rt), |hall| {
+                !hall.ended && hall.window(served).handed.is_empty()
+            });
         hall.window(served).handed.pop_front()
     }
 

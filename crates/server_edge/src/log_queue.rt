@@ -124,7 +124,7 @@ impl LineQueue {
 }
 
 /// A logger into a queue.
-#[derive(Clone, Copy, Drop)]
+#[derive(Drop)]
 pub struct LineLog<'a, R: Wait> {
     rt: &'a R,
     alloc: Global,

@@ -1,7 +1,6 @@
-use Rattle.std.proofs.lemmas.Result.{on_ok_weaker}
-use Rattle.lpd_daemon.proofs.Rotations.{WritesRotations-one}
+use Rattle.lpd_daemon.proofs.Rotations.{WritesRotations-then}
 use Rattle.lpd_daemon.proofs.listening.announce.Goals as goal
 
 pub returns-in_default-clause-written : goal.returns-in_default-clause-written
-returns-in_default-clause-written g c =
-    on_ok_weaker c.print-printed.result (λ written. WritesRotations-one _ _ _ _ written) c.print-printed.ensures.written
+returns-in_default-clause-written g c was before =
+    WritesRotations-then _ c.print-printed.result was _ _ _ _ _ before (c.in_ok-told.was {u = tt}) c.print-printed.ensures.written
