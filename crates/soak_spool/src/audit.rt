@@ -1,6 +1,6 @@
 //! The account of a spool, held against the plain reader and against what its printers were given.
 
-use crate::figures::Events;
+use crate::figures::Figures;
 use crate::sink::{Print, Sink};
 use crate::violation::Violation;
 use account::{Base, Entry, Outline, Segment, Turn};
@@ -24,7 +24,8 @@ pub struct Audit {
     kinds: u64,
     /// How many of the entries tell of a page that was handed to a printer.
     handed: u64,
-    events: Events,
+    /// What the entries tell of.
+    pub figures: Figures,
     prints: Vec<Print>,
 }
 
@@ -75,14 +76,9 @@ impl Audit {
             entries: 0,
             kinds: 0,
             handed: 0,
-            events: Events::none(),
+            figures: Figures::none(),
             prints: Vec::new(alloc),
         }
-    }
-
-    /// What the entries tell of.
-    pub fn events(&self) -> Events {
-        self.events
     }
 
     /// How many pages the spool has.
@@ -106,7 +102,7 @@ impl Audit {
             if is_handed(entry) {
                 self.handed = self.handed.saturating_add(1);
             }
-            self.events.count(entry);
+            self.figures.count_entry(entry);
             if let Some(print) = print_of(entry) {
                 self.prints.push(print)?;
             }

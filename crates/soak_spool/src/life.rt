@@ -5,13 +5,13 @@ ghost use Rattle.config_values.specs.Config.{printer_count};
 
 use crate::audit::Audit;
 use crate::draws::Draws;
-use crate::figures::Figures;
+use crate::figures::{Figure, Figures};
 use crate::hosts::{Host, Printer};
 use crate::rounds::{Front, Plan};
 use crate::sink::Sink;
 use crate::violation::Violation;
 use config_values::Config;
-use printer_worker::PrinterSeat;
+use printer_worker::{Ending, PrinterSeat};
 use session::SessionSeat;
 use shared_spool::{Opened, SharedSpool, SpoolLedger};
 use std::alloc::{AllocError, Global};
@@ -52,7 +52,11 @@ fn hosts_at<E: SpoolLedger, K: Ledger, H: Ledger>(
 ) -> Result<Vec<Host<E, K, H>>, AllocError> {
     let mut hosts = Vec::new(alloc);
     for seat in seats {
-        hosts.push(Host::new(seat, draws.split()))?;
+        hosts.push(Host {
+            seat,
+            draws: draws.split(),
+            figures: Figures::none(),
+        })?;
     }
     Ok(hosts)
 }
@@ -74,7 +78,7 @@ fn front_at<E: SpoolLedger, K: Ledger, H: Ledger>(
         watch,
         hosts: hosts_at(alloc, &mut plan.draws, seats)?,
         audit,
-        figures: Figures::of_spools(1),
+        figures: Figures::none(),
         plan,
     })
 }
@@ -87,7 +91,12 @@ fn printers_at<E: SpoolLedger, K: Ledger, H: Ledger>(
 ) -> Result<Vec<Printer<E, K, H>>, AllocError> {
     let mut printers = Vec::new(alloc);
     for seat in seats {
-        printers.push(Printer::new(alloc, seat, draws.split()))?;
+        let sink = Sink::new(alloc, draws.split(), seat.printer());
+        printers.push(Printer {
+            seat,
+            sink,
+            ending: Ending::Busy,
+        })?;
     }
     Ok(printers)
 }
@@ -162,10 +171,12 @@ fn finish<E: SpoolLedger, K: Ledger, H: Ledger>(
     front: Front<E, K, H>,
     printers: Vec<Printer<E, K, H>>,
 ) -> Result<Figures, Violation> {
-    for printer in printers.iter() {
-        printer.is_well()?;
+    for Printer { sink, ending, .. } in printers.iter() {
+        if *ending != Ending::Closed {
+            let (printer, ending) = (sink.printer(), *ending);
+            return Err(Violation::WorkerEnded { printer, ending });
+        }
     }
-    let ends = front.ends();
     let Front {
         operator,
         watch,
@@ -174,6 +185,10 @@ fn finish<E: SpoolLedger, K: Ledger, H: Ledger>(
         mut figures,
         plan: _,
     } = front;
+    figures.count(Figure::Spools, 1);
+    for host in hosts.iter() {
+        figures.add(&host.figures);
+    }
     let sessions = session_seats(alloc, operator, watch, hosts)?;
     let (printers, sinks) = printer_seats(alloc, printers)?;
     match spool.finish(sessions, printers) {
@@ -183,8 +198,7 @@ fn finish<E: SpoolLedger, K: Ledger, H: Ledger>(
     for sink in sinks.iter() {
         audit.compare(sink)?;
     }
-    figures.ends = ends;
-    figures.events = audit.events();
+    figures.add(&audit.figures);
     Ok(figures)
 }
 

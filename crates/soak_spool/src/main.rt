@@ -108,12 +108,12 @@ impl Soak {
     ) -> Result<Figures, Violation> {
         let start = Instant::now(rt).map_err(|_| Violation::NoTime)?;
         let mut draws = Draws::new(self.seed);
-        let mut figures = Figures::of_spools(0);
+        let mut figures = Figures::none();
         for spools in 0..u32::MAX {
             if !self.goes_on(rt, start, spools)? {
                 break;
             }
-            figures.add(live(rt, self.plan(&mut draws))?);
+            figures.add(&live(rt, self.plan(&mut draws))?);
         }
         Ok(figures)
     }

@@ -4,7 +4,7 @@ ghost use Rattle.std.specs.Thread.{IsSend, IsSync};
 
 use crate::audit::Audit;
 use crate::draws::Draws;
-use crate::figures::{Ends, Figures};
+use crate::figures::{Figure, Figures};
 use crate::hosts::Host;
 use crate::violation::Violation;
 use crate::watch::{Round, watch};
@@ -74,17 +74,6 @@ fn operate<R: Wait + Clock, E: SpoolLedger, K: Ledger, H: Ledger>(
     }
 }
 
-impl<E: SpoolLedger, K: Ledger, H: Ledger> Front<E, K, H> {
-    /// How the sessions ended.
-    pub fn ends(&self) -> Ends {
-        let mut ends = Ends::none();
-        for host in self.hosts.iter() {
-            ends.add(host.ends);
-        }
-        ends
-    }
-}
-
 impl<E: SpoolLedger + Send + Sync, K: Ledger + Send + Sync, H: Ledger + Send + Sync> Front<
     E,
     K,
@@ -131,23 +120,6 @@ impl<E: SpoolLedger + Send + Sync, K: Ledger + Send + Sync, H: Ledger + Send + S
         watched
     }
 
-    /// Checks that all pages are free.
-    ///
-    /// PageMissing.
-    fn check_pages<R: Wait>(
-        &mut self,
-        rt: &R,
-        spool: &SharedSpool<E, K, H>,
-    ) -> Result<(), Violation> {
-        let pages = self.audit.pages();
-        let free = spool.pages_by_place(rt, &mut self.operator).free;
-        if free == pages as usize {
-            Ok(())
-        } else {
-            Err(Violation::PageMissing { free, pages })
-        }
-    }
-
     /// Rotates the account, and checks the segment.
     ///
     /// NotRotated; what is wrong with the segment; Memory.
@@ -156,7 +128,7 @@ impl<E: SpoolLedger + Send + Sync, K: Ledger + Send + Sync, H: Ledger + Send + S
             Ok(segment) => self.audit.add(segment)?,
             Err(_) => return Err(Violation::NotRotated),
         }
-        self.figures.rotations = self.figures.rotations.saturating_add(1);
+        self.figures.count(Figure::Rotations, 1);
         Ok(())
     }
 
@@ -180,8 +152,12 @@ impl<E: SpoolLedger + Send + Sync, K: Ledger + Send + Sync, H: Ledger + Send + S
                 None
             };
             self.serve(rt, spool, close_after)?;
-            self.figures.rounds = self.figures.rounds.saturating_add(1);
-            self.check_pages(rt, spool)?;
+            self.figures.count(Figure::Rounds, 1);
+            let pages = self.audit.pages();
+            let free = spool.pages_by_place(rt, &mut self.operator).free;
+            if free != pages as usize {
+                return Err(Violation::PageMissing { free, pages });
+            }
         }
         Ok(())
     }

@@ -26,10 +26,12 @@ const CUT: u32 = 8;
 /// What a peer sends in a session.
 #[derive(Drop)]
 pub struct Talk {
-    alloc: Global,
-    octets: Vec<u8>,
+    pub octets: Vec<u8>,
     /// Whether the connection breaks, in place of being ended.
     pub breaks: bool,
+    /// The line that is put next behind the octets, and the text of a control file.
+    line: String,
+    text: String,
 }
 
 /// The octet that stands behind another in a data file.
@@ -53,36 +55,32 @@ fn user(draws: &mut Draws) -> &'static str {
     USERS[draws.below(3) as usize]
 }
 
-/// The text of a control file that prints so many files, each so often.
-fn control(
-    alloc: Global,
+/// Appends the text of a control file that prints so many files, each so often.
+fn push_control(
+    text: &mut String,
     draws: &mut Draws,
     number: u32,
     files: u32,
-) -> Result<String, AllocError> {
-    let mut text = format!(in alloc; "Hh1\nP{}\n", user(draws))?;
+) -> Result<(), AllocError> {
+    write!(text, "Hh1\nP{}\n", user(draws))?;
     for letter in LETTERS.iter().take(files as usize) {
         for _ in 0..=draws.below(MOST) {
             writeln!(text, "fdf{letter}{number:03}h1")?;
         }
     }
-    Ok(text)
+    Ok(())
 }
 
 impl Talk {
-    /// What some peer sends: a question for a state, a removal, a start of printers, or jobs.
+    /// What some peer sends, which may be cut off.
     pub fn draw(alloc: Global, draws: &mut Draws) -> Result<Talk, AllocError> {
         let mut talk = Talk {
-            alloc,
             octets: Vec::new(alloc),
             breaks: false,
+            line: String::new(alloc),
+            text: String::new(alloc),
         };
-        match draws.below(12) {
-            0 => talk.question(draws)?,
-            1 | 2 => talk.removal(draws)?,
-            3 => talk.start(draws)?,
-            _ => talk.jobs(draws)?,
-        }
+        talk.fill(draws)?;
         if draws.one_in(CUT) {
             let left = draws.below(talk.octets.len().min(100_000) as u32);
             talk.octets.truncate(left as usize);
@@ -91,49 +89,35 @@ impl Talk {
         Ok(talk)
     }
 
-    /// The octets.
-    pub fn octets(&self) -> &[u8] {
-        self.octets.as_slice()
+    /// Puts the line at the end, which is empty then.
+    fn put(&mut self) -> Result<(), AllocError> {
+        self.octets.extend_from_slice(self.line.as_bytes())?;
+        self.line.clear();
+        Ok(())
     }
 
-    /// Puts a text at the end.
-    fn put(&mut self, text: &str) -> Result<(), AllocError> {
-        self.octets.extend_from_slice(text.as_bytes())
-    }
-
-    /// Asks for the state of a queue, short or long.
-    fn question(&mut self, draws: &mut Draws) -> Result<(), AllocError> {
-        let queue = queue(draws);
-        let line = if draws.one_in(2) {
-            format!(in self.alloc; "\x03{queue}\n")?
-        } else {
-            format!(in self.alloc; "\x04{queue} {}\n", user(draws))?
-        };
-        self.put(line.as_str())
-    }
-
-    /// Removes the active job of a queue, the jobs of a user, or one of a number.
-    fn removal(&mut self, draws: &mut Draws) -> Result<(), AllocError> {
-        let queue = queue(draws);
-        let user = user(draws);
-        let line = match draws.below(3) {
-            0 => format!(in self.alloc; "\x05{queue} {user}\n")?,
-            1 => format!(in self.alloc; "\x05{queue} root {user}\n")?,
-            _ => format!(in self.alloc; "\x05{queue} root {}\n", draws.below(10))?,
-        };
-        self.put(line.as_str())
-    }
-
-    /// Starts the stopped printers of a queue.
-    fn start(&mut self, draws: &mut Draws) -> Result<(), AllocError> {
-        let line = format!(in self.alloc; "\x01{}\n", queue(draws))?;
-        self.put(line.as_str())
+    /// A question for a state, short or long; a removal of the active job of a queue, of the jobs of a user, or of one of a
+    /// number; a start of printers; or jobs.
+    fn fill(&mut self, draws: &mut Draws) -> Result<(), AllocError> {
+        let (queue, user) = (queue(draws), user(draws));
+        match draws.below(12) {
+            0 if draws.one_in(2) => writeln!(self.line, "\x03{queue}")?,
+            0 => writeln!(self.line, "\x04{queue} {user}")?,
+            1 | 2 => match draws.below(3) {
+                0 => writeln!(self.line, "\x05{queue} {user}")?,
+                1 => writeln!(self.line, "\x05{queue} root {user}")?,
+                _ => writeln!(self.line, "\x05{queue} root {}", draws.below(10))?,
+            },
+            3 => writeln!(self.line, "\x01{queue}")?,
+            _ => return self.jobs(draws, queue),
+        }
+        self.put()
     }
 
     /// Sends jobs to a queue.
-    fn jobs(&mut self, draws: &mut Draws) -> Result<(), AllocError> {
-        let line = format!(in self.alloc; "\x02{}\n", queue(draws))?;
-        self.put(line.as_str())?;
+    fn jobs(&mut self, draws: &mut Draws, queue: &str) -> Result<(), AllocError> {
+        writeln!(self.line, "\x02{queue}")?;
+        self.put()?;
         for _ in 0..=draws.below(MOST) {
             self.job(draws)?;
         }
@@ -153,7 +137,7 @@ impl Talk {
             self.data_file(draws, number, letter)?;
         }
         if draws.one_in(CUT) {
-            self.put("\x01\n")
+            self.octets.extend_from_slice(b"\x01\n")
         } else if control_first {
             Ok(())
         } else {
@@ -168,10 +152,11 @@ impl Talk {
         number: u32,
         files: u32,
     ) -> Result<(), AllocError> {
-        let text = control(self.alloc, draws, number, files)?;
-        let line = format!(in self.alloc; "\x02{} cfA{number:03}h1\n", text.len())?;
-        self.put(line.as_str())?;
-        self.put(text.as_str())?;
+        push_control(&mut self.text, draws, number, files)?;
+        writeln!(self.line, "\x02{} cfA{number:03}h1", self.text.len())?;
+        self.put()?;
+        self.octets.extend_from_slice(self.text.as_bytes())?;
+        self.text.clear();
         self.octets.push(0)?;
         Ok(())
     }
@@ -188,8 +173,8 @@ impl Talk {
         } else {
             draws.below(MOST_OCTETS) + 1
         };
-        let line = format!(in self.alloc; "\x03{count} df{letter}{number:03}h1\n")?;
-        self.put(line.as_str())?;
+        writeln!(self.line, "\x03{count} df{letter}{number:03}h1")?;
+        self.put()?;
         let mut octet = draws.below(256) as u8;
         for _ in 0..count {
             self.octets.push(octet)?;
