@@ -51,7 +51,8 @@ fn announce<R: Log, W: OctetWrite>(
     told: Result<(), Fault>,
     rotated: Rotated,
 ) -> Result<(), Fault>
-    ensures written { (was : Option (List ℕ)) → OnOk told (WritesRotations was (W.written output.old))
+    ensures written { (was : Option (List ℕ))
+        → OnOk told (WritesRotations was (W.written output.old))
         → OnOk result (WritesRotations was (W.written output.new)) }
     ensures before { OnOk result (told ≡ Ok tt) }
     ensures write_fault { (n : ℕ) → W.faults output.old ≡ write_faults n told
@@ -78,7 +79,8 @@ pub(crate) fn announce_all<R: Log + Wait, W: OctetWrite>(
     told: Result<(), Fault>,
     rotations: &Rotations,
 ) -> Result<(), Fault>
-    ensures written { (was : Option (List ℕ)) → OnOk told (WritesRotations was (W.written output.old))
+    ensures written { (was : Option (List ℕ))
+        → OnOk told (WritesRotations was (W.written output.old))
         → OnOk result (WritesRotations was (W.written output.new)) }
     ensures before { OnOk result (told ≡ Ok tt) }
     ensures write_fault { (n : ℕ) → W.faults output.old ≡ write_faults n told
