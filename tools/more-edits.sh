@@ -8,7 +8,7 @@
 # kept in the file EDITS_KEPT names, or in ~/.cache/hurgwaye/more-edits.
 #
 # The first edit of a crate takes as long as the whole proof of the crate, and each further one 10 to 100 seconds. So all
-# 600 would take some eight hours of one processor, as reckoned from those that were tried: name the crates that changed. Several
+# 700 would take some eight hours of one processor, as reckoned from those that were tried: name the crates that changed. Several
 # runs may stand beside each other, with other names each.
 #
 # Most edits are refused by the check of their own crate. One with a line `check: OTHER` turns a definition that its own
@@ -105,14 +105,15 @@ keep() {
 # Tries an edit whose refusal is for another crate's check.
 try_other() {
     local sum=$1 crate=$2 edit=$3 other=$4
-    cp -a "$crate/specs" "$copy/kept-specs"
+    mkdir "$copy/kept" && cp -a "$crate/specs" "$crate/src" "$copy/kept/"
     if apply "$crate" "$edit" && ! (cd "crates/$other" && rt check > "$copy/log" 2>&1); then
         keep "$sum"
     else
         echo "not refused: ${edit#crates/}"
     fi
-    rm -rf "$crate/specs"
-    mv "$copy/kept-specs" "$crate/specs"
+    rm -rf "$crate/specs" "$crate/src"
+    mv "$copy/kept"/* "$crate/"
+    rmdir "$copy/kept"
 }
 
 # Tries the edits that stand in must-fail/ of a crate, and takes them out.

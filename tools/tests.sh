@@ -57,6 +57,16 @@ programs=$(for file in crates/*/stdout; do basename "$(dirname "$file")"; done)
 for crate in $with_tests; do
     start "$crate tests" "$crate" --test
 done
+# The calls of the whole surface are tried in a copy of their own.
+if [ "$running" -ge "$lanes" ]; then
+    wait -n
+    running=$((running - 1))
+fi
+(
+    bash tools/surface.sh > "$folder/surface tests.out" 2> "$folder/surface tests.err" < /dev/null
+    echo $? > "$folder/surface tests.status"
+) &
+running=$((running + 1))
 for crate in $programs; do
     words=()
     for file in "crates/$crate"/data/*; do
@@ -67,7 +77,7 @@ for crate in $programs; do
 done
 wait
 
-for crate in $with_tests; do
+for crate in $with_tests surface; do
     label="$crate tests"
     cat "$folder/$label.out" "$folder/$label.err" > "$folder/said"
     grep '^test .* \.\.\. ' "$folder/said" | grep -v ' ok$'

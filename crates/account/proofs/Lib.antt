@@ -1,4 +1,3 @@
-pub mod Accepted
 mod Histories
 mod Mapped
 mod Printers

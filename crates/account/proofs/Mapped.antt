@@ -7,14 +7,6 @@ use Rattle.std.proofs.lemmas.List.Edits.{map_over_more}
 pub record IsMapped {X : Type 0} (f : X → X) (xs ys : List X) (i : ℕ) : Type 0 where
   pub is : ys ≡ map f (take i xs) ++ drop i xs
 
-pub mapped_none : {X : Type 0} (f : X → X) (xs : List X) → IsMapped f xs xs 0
-mapped_none f xs = record { is = refl }
-
-pub mapped_all : {X : Type 0} (f : X → X) (xs ys : List X) (n : ℕ) → IsMapped f xs ys n → length xs ≤ n → ys ≡ map f xs
-mapped_all {X} f xs ys n m le =
-    m.is ∙ (ap (λ (l : List X). map f l ++ drop n xs) (take_all n xs le)
-    ∙ (ap (λ (l : List X). map f xs ++ l) (drop_all n xs le) ∙ append-nil (map f xs)))
-
 pub mapped_more : {X : Type 0} (f : X → X) (xs ys zs : List X) (i : ℕ) (d : X) → IsMapped f xs ys i → i < length xs → i < length ys → zs ≡ set ys i (f (get_or ys i d)) → IsMapped f xs zs (i + 1)
 mapped_more {X} f xs ys zs i d m lt there set' = record {
   is = set' ∙ map_over_more f xs ys i (get_or ys i d) lt m.is (get_or_default ys i d (get_or ys i d) there);

@@ -27,6 +27,7 @@ struct Reader<'a> {
     left: u32,
     /// Never more.
     faults: u64,
+    reads: u64,
 }
 
 impl OctetRead for Reader<'_> {
@@ -34,7 +35,10 @@ impl OctetRead for Reader<'_> {
 
     ghost faults = { λ reader. reader.faults };
 
+    ghost reads = { λ reader. reader.reads };
+
     fn read(&mut self, into: &mut [u8]) -> Result<usize, OctetFault> {
+        self.reads = self.reads.saturating_add(1);
         if self.rest.is_empty() && self.left > 0 {
             self.rest = self.job;
             self.left -= 1;
@@ -99,6 +103,7 @@ fn receive<R: Wait, E: SpoolLedger, K: Ledger, H: Ledger>(
         job: sent,
         left: jobs,
         faults: 0,
+        reads: 0,
     };
     let mut writer = Writer { faults: 0 };
     let (_, end) = serve(rt, alloc, spool, seat, sender, &mut reader, &mut writer);

@@ -1,17 +1,16 @@
 //! A spool of one queue that threads share, and jobs that they have received and printed.
 
-ghost use Rattle.std.specs.Prelude.{◌≡◌, ◌+◌};
-ghost use Rattle.config_values.specs.Config.{printer_count};
+ghost use Rattle.spool_ledgers.specs.Blanks.{AreFor, mark};
 
 use crate::{seats, sessions};
 use config_values::Config;
-use shared_spool::{Opened, SharedSpool, SpoolLedger};
+use shared_spool::{Blanks, Opened, SharedSpool, SpoolLedger};
 use std::alloc::Global;
 use std::io;
 use std::marker::Brand;
 use std::rt::Clock;
 use std::sync::Wait;
-use std::sync::ledger::{Blank, Ledger};
+use std::sync::ledger::Ledger;
 use std::thread::Threads;
 
 /// How often a load is measured; the fastest run counts.
@@ -68,15 +67,8 @@ impl Load<'_> {
         let config = self.config(rt.alloc())?;
         // One seat is the operator's.
         let seats = self.threads.saturating_add(1);
-        let parts = u64::from(seats) + u64::from(config.printer_count());
-        self.run_at::<R, Brand, Brand, Brand>(
-            rt,
-            Blank::new(parts),
-            Blank::new(parts),
-            Blank::new(parts),
-            config,
-            seats,
-        )
+        let blanks = Blanks::new(&config, seats);
+        self.run_at::<R, Brand, Brand, Brand>(rt, blanks, config, seats)
     }
 
     /// The same, at any ledgers.
@@ -85,23 +77,11 @@ impl Load<'_> {
         E: SpoolLedger + Send + Sync,
         K: Ledger + Send + Sync,
         H: Ledger + Send + Sync,
-    >(
-        self,
-        rt: &R,
-        entries: Blank,
-        kinds: Blank,
-        handed: Blank,
-        config: Config,
-        seats: u32,
-    ) -> Option<Run>
-        requires entries { (entries.name ≡ E.name) × (entries.parts ≡ E.parts) }
-        requires kinds { (kinds.name ≡ K.name) × (kinds.parts ≡ K.parts) }
-        requires handed { (handed.name ≡ H.name) × (handed.parts ≡ H.parts) }
-        requires config { config ≡ E.config }
-        requires one_each { (E.parts ≡ seats + printer_count config) × (K.parts ≡ E.parts)
-            × (H.parts ≡ E.parts) }
+    >(self, rt: &R, blanks: Blanks, config: Config, seats: u32) -> Option<Run>
+        requires { AreFor blanks config seats E.config (mark E.name E.parts)
+            (mark K.name K.parts) (mark H.name H.parts) }
     {
-        let opened = SharedSpool::<E, K, H>::new(rt.alloc(), entries, kinds, handed, config, seats);
+        let opened = SharedSpool::<E, K, H>::new(rt.alloc(), blanks, config, seats);
         let Ok(
             Opened {
                 spool,

@@ -94,7 +94,7 @@ pub holds_append : (k : ℕ) (a b : List Row) → holds k (a ++ b) ≡ holds k a
 holds_append k [] b = omega arith
 holds_append k (x ∷ a) b = let ih = holds_append k a b in omega arith
 
-holds_order : (k : ℕ) (rows order : List Row) → IsOrderOf rows order → holds k rows ≡ holds k order
+pub holds_order : (k : ℕ) (rows order : List Row) → IsOrderOf rows order → holds k rows ≡ holds k order
 holds_order k rows [] o = ap (holds k) o
 holds_order k rows (y ∷ order) o =
     let e1 = ap (holds k) o.2 in
@@ -107,7 +107,7 @@ finish_last : (f : ℕ → ℕ) (order : List Row) (x : Row) → ((k : ℕ) → 
 finish_last f [] x fits h = (λ k. omega (arith, fits k), tt)
 finish_last f (z ∷ order) x fits h = (h.0, finish_last (freed f z) order x (λ k. omega (arith, fits k)) h.1)
 
-line_last : (order : List Row) (x : Row) → AllByRecursion (λ z. KeepsLine z x) order → Pairwise KeepsLine order → Pairwise KeepsLine (order ++ x ∷ [])
+pub line_last : (order : List Row) (x : Row) → AllByRecursion (λ z. KeepsLine z x) order → Pairwise KeepsLine order → Pairwise KeepsLine (order ++ x ∷ [])
 line_last [] x a p = (tt, tt)
 line_last (z ∷ order) x a p = (push z order a.0 p.0, line_last order x a.1 p.1)
   where

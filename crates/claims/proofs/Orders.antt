@@ -4,12 +4,8 @@ use Rattle.std.specs.List.{AllByRecursion}
 use Rattle.counts.specs.Amounts.{Fits}
 use Rattle.claims.specs.declared.row.Row.{Row}
 use Rattle.claims.specs.Claims.{Pairwise, IsLower}
-use Rattle.claims.proofs.Tables.{pairwise_without}
+use Rattle.claims.proofs.Tables.{pairwise_without, all_without}
 use Rattle.claims.specs.Safety.{freed, CanFinish, KeepsLine, IsOrderOf, HasFinishingOrder, AreFinishing}
-
-pub all_without : (P : Row → Type 0) (a : List Row) (x : Row) (b : List Row) → AllByRecursion P (a ++ x ∷ b) → AllByRecursion P (a ++ b)
-all_without P [] x b h = h.1
-all_without P (y ∷ a) x b h = (h.0, all_without P a x b h.1)
 
 pub all_at : (P : Row → Type 0) (a : List Row) (x : Row) (b : List Row) → AllByRecursion P (a ++ x ∷ b) → P x
 all_at P [] x b h = h.0
@@ -202,11 +198,5 @@ none_ordered f rows h = from h.0 h.1.each_once h.2
     from [] o e = o
     from (y ∷ order) o e = absurd cc
 
-pub no_rows : (f : ℕ → ℕ) → AreFinishing f [] []
-no_rows f = ([], record { each_once = refl; in_line = tt; fits = tt }, refl)
-
 pub numbers_more : (f g : ℕ → ℕ) (rows : List Row) (numbers : List ℕ) → ((k : ℕ) → f k ≤ g k) → AreFinishing f rows numbers → AreFinishing g rows numbers
 numbers_more f g rows numbers le h = (h.0, record { each_once = h.1.each_once; in_line = h.1.in_line; fits = finish_more f g h.0 le h.1.fits }, h.2)
-
-pub some_order : (f : ℕ → ℕ) (rows : List Row) (numbers : List ℕ) → AreFinishing f rows numbers → HasFinishingOrder f rows
-some_order f rows numbers h = (h.0, h.1)

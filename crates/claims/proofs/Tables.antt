@@ -13,9 +13,6 @@ use Rattle.counts.proofs.Sums.{amount-sum_of, length-sum_of}
 use Rattle.claims.specs.Claims.{Claims, IsTable, AddsUp, HaveKinds, Pairwise, IsLower, held_of, row_at, no_row}
 use Rattle.claims.specs.Changes.{row_with, with_amounts, granted, need_ended, closed}
 
-numbers : List Row → List ℕ
-numbers rows = map (λ row. row.number) rows
-
 all_same : (x y : ℕ) (xs ys : List Row) → x ≡ y → map (λ (r : Row). r.number) xs ≡ map (λ (r : Row). r.number) ys → AllByRecursion (λ r. x < r.number) xs → AllByRecursion (λ r. y < r.number) ys
 all_same x y [] [] e n a = tt
 all_same x y [] (v ∷ ys) e n a = absurd cc
@@ -105,7 +102,7 @@ open_table t y h room lower none kh kn = record {
   same_kinds = h.same_kinds;
 }
 
-all_without : (P : Row → Type 0) (a : List Row) (x : Row) (b : List Row) → AllByRecursion P (a ++ x ∷ b) → AllByRecursion P (a ++ b)
+pub all_without : (P : Row → Type 0) (a : List Row) (x : Row) (b : List Row) → AllByRecursion P (a ++ x ∷ b) → AllByRecursion P (a ++ b)
 all_without P [] x b h = h.1
 all_without P (y ∷ a) x b h = (h.0, all_without P a x b h.1)
 

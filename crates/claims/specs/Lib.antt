@@ -1,3 +1,4 @@
 pub mod Claims
 pub mod Changes
 pub mod Safety
+pub mod Words

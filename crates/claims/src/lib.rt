@@ -4,5 +4,6 @@
 mod row;
 mod table;
 
+pub use counts::Counts;
 pub use row::Row;
 pub use table::{OpenError, Table};

@@ -23,7 +23,13 @@ pub enum OpenError {
     Memory,
 }
 
+/// Writes the number and the name, as `21 OverCapacity`.
 impl fmt::Display for OpenError {
+    ghost use Rattle.std.specs.Prelude.{Some};
+    ghost use Rattle.claims.specs.Words.{error_words};
+
+    ghost output = { λ error. Some (error_words error) };
+
     fn fmt<W: fmt::Write>(&self, f: &mut fmt::Formatter<W>) -> fmt::Result {
         f.write_str(match self {
             OpenError::OverCapacity => "21 OverCapacity",
@@ -79,7 +85,6 @@ impl Table {
           room = rows;
         }) }
     {
-        let _kinds = capacity.kinds();
         let room = rows as usize;
         Ok(Table {
             alloc,

@@ -1,5 +1,6 @@
 -- What a spool is made for. Queues have the numbers 1, 2 and so on, and printers are numbered from 1 over all queues.
 use Rattle.std.specs.Prelude.{ℕ, ◌+◌, ◌-◌, ◌*◌, ◌==◌, ◌≤◌, nat_le, List, [], ◌∷◌, if◌then◌else◌, length, sum_by, slice_index_or}
+use Rattle.std.specs.Str.{bytes_eq}
 
 pub record Queue : Type 0 where
   pub name : List ℕ
@@ -30,6 +31,14 @@ queue_at c q = slice_index_or (no_queue ∷ c.queues) q no_queue
 
 abbrev pub limit_of : Config → ℕ → ℕ
 limit_of c q = (queue_at c q).limit
+
+-- the number of the queue of a name, where the first of these queues has the number n; 0 where there is none
+abbrev pub named_from : ℕ → List Queue → List ℕ → ℕ
+named_from n [] name = 0
+named_from n (q ∷ qs) name = if bytes_eq q.name name then n else named_from (n + 1) qs name
+
+abbrev pub queue_named : Config → List ℕ → ℕ
+queue_named c name = named_from 1 c.queues name
 
 -- how many printers there are
 abbrev pub printer_count : Config → ℕ

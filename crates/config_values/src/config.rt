@@ -1,10 +1,16 @@
 //! A spool's configuration.
 
-ghost use Rattle.std.specs.Prelude.{◌≡◌, ◌≢◌, ◌↔◌, ◌≤◌, ◌<◌, ◌+◌, ◌*◌, ◌^◌, ◌-◌, All, IfSome, IfNone, IsTrue, length, slice_index_or};
+ghost use Rattle.std.specs.Prelude.{◌≡◌, ◌≢◌, ◌↔◌, ◌≤◌, ◌<◌, ◌+◌, ◌*◌, ◌^◌, ◌-◌, All, IfSome, IfNone, IsTrue, MatchOption, length, slice_index_or};
 ghost use Rattle.config_values.specs.Config as C;
 
-use crate::queue::{Queue, limit_at, name_at, printers_at, printers_of, served_from};
+use crate::queue::{Queue, printers_of, served_from};
 use std::marker::Model;
+
+/// How often each page of its limit may stand in the account for a job: granted, put, and 99 times handed out and come back.
+const ENTRIES_A_PAGE: u64 = 200;
+
+/// How many entries a job may have beside those of its pages: 109, as `reserve_of` of `specs/Config.antt` tells, and three of slack.
+const ENTRIES_A_JOB: u64 = 112;
 
 /// What a spool is made for. Queues have the numbers 1, 2 and so on, and printers are numbered from 1 over all queues,
 /// in the queues' order. It is in its ranges, always: 1 to 65,536 pages of 1 to 65,536 octets, 1 to 1,024 jobs held at
@@ -131,16 +137,30 @@ impl Config {
         ensures found { IfSome result (λ q. C.IsQueue self.now q × ((C.queue_at self.now q).name
             ≡ name.now)) }
         ensures absent { IfNone result (All (λ (q : C.Queue). q.name ≢ name.now) self.now.queues) }
+        ensures named { MatchOption result (C.queue_named self.now name.now ≡ 0)
+            (λ q. C.queue_named self.now name.now ≡ q) }
     {
-        let at = place_of(self.queues.as_slice(), name)?;
+        let Some(at) = place_of(self.queues.as_slice(), name) else {
+            return None;
+        };
         Some(at as u32 + 1)
+    }
+
+    /// The queue of a number.
+    pub fn queue(&self, number: u32) -> Option<&Queue>
+        ensures found { IfSome result (λ q. C.IsQueue self.now number
+            × (q.now ≡ C.queue_at self.now number)) }
+        ensures absent { IfNone result (C.IsQueue self.now number → ⊥) }
+    {
+        let before = number.checked_sub(1)?;
+        self.queues.get(before as usize)
     }
 
     /// Whether a queue has this number.
     pub fn is_queue(&self, queue: u32) -> bool
         ensures { IsTrue result ↔ C.IsQueue self.now queue }
     {
-        1 <= queue && queue as usize <= self.queues.len()
+        self.queue(queue).is_some()
     }
 
     /// How many printers there are over all queues.
@@ -172,30 +192,21 @@ impl Config {
     pub fn limit_of(&self, queue: u32) -> u32
         ensures { result ≡ C.limit_of self.now queue }
     {
-        if queue == 0 {
-            return 0;
-        }
-        limit_at(self.queues.as_slice(), queue as usize - 1)
+        self.queue(queue).map_or(0, |found| found.limit())
     }
 
     /// The name of a queue, or nothing where no queue has this number.
     pub fn name_of(&self, queue: u32) -> &[u8]
         ensures { result.now ≡ (C.queue_at self.now queue).name }
     {
-        if queue == 0 {
-            return &[];
-        }
-        name_at(self.queues.as_slice(), queue as usize - 1)
+        self.queue(queue).map_or(&[], |found| found.name())
     }
 
     /// How many printers serve a queue, or 0 where no queue has this number.
     pub fn printers_of(&self, queue: u32) -> u32
         ensures { result ≡ (C.queue_at self.now queue).printers }
     {
-        if queue == 0 {
-            return 0;
-        }
-        printers_at(self.queues.as_slice(), queue as usize - 1)
+        self.queue(queue).map_or(0, |found| found.printers())
     }
 
     /// The most entries of the account that are about a job of a queue.
@@ -203,6 +214,6 @@ impl Config {
         ensures value { result ≡ C.reserve_of self.now queue }
         ensures within { result < 2 ^ 40 }
     {
-        200 * u64::from(self.limit_of(queue)) + 112
+        ENTRIES_A_PAGE * u64::from(self.limit_of(queue)) + ENTRIES_A_JOB
     }
 }

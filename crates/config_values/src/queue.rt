@@ -1,6 +1,6 @@
 //! A queue and its printers.
 
-ghost use Rattle.std.specs.Prelude.{◌≡◌, ◌≤◌, ◌+◌, ◌*◌, ◌^◌, length, string_bytes, sum_by, slice_index_or};
+ghost use Rattle.std.specs.Prelude.{◌≡◌, ◌≤◌, ◌+◌, ◌*◌, ◌^◌, length, string_bytes, sum_by};
 ghost use Rattle.config_values.specs.Config as C;
 
 use std::marker::Model;
@@ -85,43 +85,4 @@ pub(crate) fn served_from(number: u32, queues: &[Queue], printer: u32) -> u32
         return number;
     }
     served_from(number + 1, rest, printer - printers)
-}
-
-/// The limit of the queue at this place, or 0 where there is none.
-pub(crate) fn limit_at(queues: &[Queue], place: usize) -> u32
-    ensures { result ≡ (slice_index_or queues.now place C.no_queue).limit }
-{
-    let Some((first, rest)) = queues.split_first() else {
-        return 0;
-    };
-    if place == 0 {
-        return first.limit();
-    }
-    limit_at(rest, place - 1)
-}
-
-/// The name of the queue at this place, or nothing where there is none.
-pub(crate) fn name_at(queues: &[Queue], place: usize) -> &[u8]
-    ensures { result.now ≡ (slice_index_or queues.now place C.no_queue).name }
-{
-    let Some((first, rest)) = queues.split_first() else {
-        return &[];
-    };
-    if place == 0 {
-        return first.name();
-    }
-    name_at(rest, place - 1)
-}
-
-/// The printers of the queue at this place, or 0 where there is none.
-pub(crate) fn printers_at(queues: &[Queue], place: usize) -> u32
-    ensures { result ≡ (slice_index_or queues.now place C.no_queue).printers }
-{
-    let Some((first, rest)) = queues.split_first() else {
-        return 0;
-    };
-    if place == 0 {
-        return first.printers();
-    }
-    printers_at(rest, place - 1)
 }

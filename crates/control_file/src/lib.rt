@@ -8,4 +8,4 @@ mod write;
 
 pub use control::Control;
 pub use laws::{control_is_decided, control_is_exact, control_is_read_back};
-pub use lpd_values::FileNames;
+pub use lpd_values::{FileName, FileNames, Octets, Refusal};

@@ -68,13 +68,6 @@ kind_of c p q m is =
     let t : (suc (q - 1) == q) ≡ true = grind (arith, nat_tests) in
     ap (amount (amounts c p q m)) (sym e) ∙ (get_up_to (λ (r : ℕ). cond (r == q) m 0) (length c.queues) (q - 1) (omega arith) ∙ ap (λ (b : Bool). cond b m 0) t)
 
--- there are as many amounts as kinds
-pub amounts_len : (c : Config) (p q m : ℕ) → length (amounts c p q m) ≡ length (capacity c)
-amounts_len c p q m =
-    let a : length (one_queue q m (length c.queues)) ≡ length c.queues = length_up_to (λ (r : ℕ). cond (r == q) m 0) (length c.queues) in
-    let b = length-map c.queues (λ (r : Queue). r.printers) in
-    omega arith
-
 -- pages are a kind
 pub pages_kind : (c : Config) → 0 < length (capacity c)
 pages_kind c = omega arith
@@ -89,17 +82,6 @@ queue_kind c q is =
 -- and not the first, which are the pages
 pub queue_later : (c : Config) (q : ℕ) → IsQueue c q → 0 < q
 queue_later c q is = (let a = is.0 in omega arith)
-
--- so many zeros as there are amounts hold nothing of any kind
-pub zeros : (c : Config) (p q m : ℕ) → replicate (length (amounts c p q m)) 0 ≡ amounts c 0 q 0
-zeros c p q m =
-    let l : length (one_queue q m (length c.queues)) ≡ length (up_to (length c.queues)) = length-map (up_to (length c.queues)) (λ (r : ℕ). cond (r == q) m 0) in
-    let e : length (amounts c p q m) ≡ suc (length (up_to (length c.queues))) = ap suc l in
-    ap (λ (i : ℕ). replicate i 0) e ∙ ap (λ (r : List ℕ). 0 ∷ r) (sym (zeros_up_to (up_to (length c.queues))))
-  where
-    zeros_up_to : (rs : List ℕ) → map {A = ℕ} {B = ℕ} (λ (r : ℕ). cond (r == q) 0 0) rs ≡ replicate (length rs) 0
-    zeros_up_to [] = refl
-    zeros_up_to (r ∷ rs) = elim (test r q) [ inl s ↦ rw s.1 (ap (λ (l : List ℕ). 0 ∷ l) (zeros_up_to rs)) | inr s ↦ rw s.1 (ap (λ (l : List ℕ). 0 ∷ l) (zeros_up_to rs)) ]
 
 -- a row of a job that holds and needs so many pages and printers of its queue
 abbrev pub row_with_amounts : {C : Type 0} → Config → Job C → (pages printers pages' printers' : ℕ) → Row
@@ -130,14 +112,6 @@ row_same {C} c x y n s q a b d e =
       held = amounts c (pages_held x) m (printers_held x);
       need = amounts c (pages_needed c x) m (printers_needed x);
     }) q))
-
--- a row that gives back pages holds so many less
-pub given_pages : {C : Type 0} (c : Config) (x : Job C) (n p m p' m' : ℕ) → given_row 0 n (row_with_amounts c x p m p' m') ≡ row_with_amounts c x (p - n) m p' m'
-given_pages c x n p m p' m' = refl
-
--- a row that needs no more pages
-pub ended_pages : {C : Type 0} (c : Config) (x : Job C) (p m p' m' : ℕ) → ended_row 0 (row_with_amounts c x p m p' m') ≡ row_with_amounts c x p m 0 m'
-ended_pages c x p m p' m' = refl
 
 -- a row that needs no more printers
 pub ended_printers : {C : Type 0} (c : Config) (x : Job C) (p m p' m' : ℕ) → IsQueue c x.queue → ended_row x.queue (row_with_amounts c x p m p' m') ≡ row_with_amounts c x p m p' 0

@@ -11,6 +11,7 @@ use Rattle.spool_history.specs.Acts.{File, Page, numbered, pages_named, all_page
 use Rattle.spool_laws.proofs.Known.{Has, test, and_false, or_true}
 use Rattle.spool_laws.proofs.Adding.{has_left}
 use Rattle.spool_laws.proofs.Apart.{one_for}
+use Rattle.spool_laws.proofs.Copies.{has_either, has_right, if_has, named_there, places_there, same_page}
 
 -- how many of a list a test says yes to
 abbrev pub how_many : {X : Type 0} → (X → Bool) → List X → ℕ
@@ -126,47 +127,6 @@ one_at_most {C} f k n (g ∷ gs) =
     ]
 
 -- each place is a page of a file
-
--- what stands in the second of two lists stands in both together
-has_right : {X : Type 0} (x : X) (xs ys : List X) → Has x ys → Has x (xs ++ ys)
-has_right x [] ys has = has
-has_right x (z ∷ zs) ys has = inr (has_right x zs ys has)
-
--- what stands in two lists together stands in one of them
-has_either : {X : Type 0} (x : X) (xs ys : List X) → Has x (xs ++ ys) → Has x xs ⊎ Has x ys
-has_either x [] ys has = inr has
-has_either x (z ∷ zs) ys has = elim has [
-  | inl e ↦ inl (inl e)
-  | inr t ↦ elim (has_either x zs ys t) [ inl a ↦ inl (inr a) | inr b ↦ inr b ]
-]
-
--- what stands in a list that is there under a condition stands in the list
-if_has : {X : Type 0} (x : X) (b : Bool) (xs : List X) → Has x (cond b xs []) → Has x xs
-if_has x true xs has = has
-if_has x false xs has = absurd has
-
--- a page of the files of a name is a page of the files
-named_there : {C : Type 0} (name : List ℕ) (x : Page C) (n : ℕ) (fs : List (File C)) → Has x (pages_named name n fs) → Has x (all_pages n fs)
-named_there name x n [] has = absurd has
-named_there name x n (f ∷ fs) has = elim (has_either x (cond (bytes_eq f.name name) (numbered n 0 f.pages) []) (pages_named name (n + 1) fs) has) [
-  | inl a ↦ has_left x (numbered n 0 f.pages) (all_pages (n + 1) fs) (if_has x (bytes_eq f.name name) (numbered n 0 f.pages) a)
-  | inr b ↦ has_right x (numbered n 0 f.pages) (all_pages (n + 1) fs) (named_there name x (n + 1) fs b)
-]
-
--- a page that a place of these names is stands among the pages of the files
-pub places_there : {C : Type 0} (x : Page C) (fs : List (File C)) (names : List (List ℕ)) → Has x (flat_map (λ name. pages_named name 0 fs) names) → Has x (all_pages 0 fs)
-places_there x fs [] has = absurd has
-places_there x fs (name ∷ names) has = elim (has_either x (pages_named name 0 fs) (flat_map (λ name. pages_named name 0 fs) names) has) [
-  | inl a ↦ named_there name x 0 fs a
-  | inr b ↦ places_there x fs names b
-]
-
--- each page is the same page as itself
-same_page : {C : Type 0} (x : Page C) → is_same_page x x ≡ true
-same_page x = elim (test x.file x.file) [
-  | inl s ↦ elim (test x.number x.number) [ inl t ↦ rw (s.1, t.1) refl | inr t ↦ absurd (t.0 refl) ]
-  | inr s ↦ absurd (s.0 refl)
-]
 
 -- a page of the files stands among them once
 pub page_once : {C : Type 0} (x : Page C) (fs : List (File C)) → Has x (all_pages 0 fs) → how_many (λ (page : Page C). is_same_page page x) (all_pages 0 fs) ≡ 1

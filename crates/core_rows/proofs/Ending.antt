@@ -26,10 +26,6 @@ HeldAddsUp x = pages_held x ≡ chained_of x + pages_out x
 pub job_adds_up : {C : Type 0} (size : C → ℕ) (c : Config) (b : Base) (h : List (Event C)) (x : Job C) → IsLegal size c b h → Has x (now c b h).jobs → HeldAddsUp x
 job_adds_up size c b h x l has = held_counts size c b h x l has
 
--- so those that it gives back where it ends are those in its chain
-pub held_but_out : {C : Type 0} (x : Job C) → HeldAddsUp x → pages_held x - pages_out x ≡ chained_of x
-held_but_out x a = omega arith
-
 -- the row of an ended job
 pub row_ended : {C : Type 0} (c : Config) (x : Job C) → row_of c (record x { ended = true }) ≡ row_with_amounts c x (pages_out x) (printers_held x) 0 0
 row_ended {C} c x = row_is c (record x { ended = true }) (pages_out x) (printers_held x) 0 0 refl refl refl refl
@@ -71,42 +67,6 @@ ended_leaves c t i x h cap is a =
     let all : WithRow u (given_back u i 0 n) i y (amount t.free 0 + n) = given_leaves u i n row y (needs_ended_here c t i x h cap is) (chained_held c x a) (ended_row_is c x is a) in
     after_ended t (given_back u i 0 n) i 0 (amount t.free 0 + n) y (after_ended (need_ended t i 0) (given_back u i 0 n) i x.queue (amount t.free 0 + n) y all)
 
--- a job of which a page was handed out needs no printer
-pub begun_unneeded : {C : Type 0} (x : Job C) → 0 < x.handed → printers_needed x ≡ 0
-begun_unneeded x pos = by x.ended refl
-  where
-    handed : (x.handed == 0) ≡ false
-    handed = grind (arith, nat_tests)
-
-    by : (b : Bool) → x.ended ≡ b → printers_needed x ≡ 0
-    by true e = rw e refl
-    by false e = (let h = handed in rw (e, h) refl)
-
--- where it needs no printer already, its row is that of the ended job with only the need of pages ended
-pub ended_row_begun : {C : Type 0} (c : Config) (x : Job C) → printers_needed x ≡ 0 → HeldAddsUp x → given_row 0 (chained_of x) (ended_row 0 (row_of c x)) ≡ row_of c (record x { ended = true })
-ended_row_begun c x none a = ap (λ (n : ℕ). given_row 0 (chained_of x) (row_with_amounts c x (pages_held x) (printers_held x) 0 n)) none ∙ given_ended c x a
-
--- and so is the table
-pub ended_leaves_begun : {C : Type 0} (c : Config) (t : Claims) (i : ℕ) (x : Job C) → Here t i (row_of c x) → printers_needed x ≡ 0 → HeldAddsUp x
-    → WithRow t (given_back (need_ended t i 0) i 0 (chained_of x)) i (row_of c (record x { ended = true })) (amount t.free 0 + chained_of x)
-ended_leaves_begun c t i x h none a =
-    let n = chained_of x in
-    let y : Row = row_of c (record x { ended = true }) in
-    after_ended t (given_back (need_ended t i 0) i 0 n) i 0 (amount t.free 0 + n) y
-    (given_leaves (need_ended t i 0) i n (ended_row 0 (row_of c x)) y (ended_here t i 0 (row_of c x) h h.pages) (omega arith) (ended_row_begun c x none a))
-
--- an ended job has nothing in its chain
-pub ended_chain : {C : Type 0} (x : Job C) → chained_of (record x { ended = true }) ≡ 0
-ended_chain x = refl
-
--- and so where it has ended before
-pub chained_ended : {C : Type 0} (x : Job C) → x.ended ≡ true → chained_of x ≡ 0
-chained_ended x e = rw e refl
-
--- what it holds then is out
-pub held_ended : {C : Type 0} (x : Job C) → x.ended ≡ true → pages_held x ≡ pages_out x
-held_ended x e = rw e refl
-
 -- a job that is held no more: the table without its row, where all that it held is free
 pub gone_leaves : {C : Type 0} (c : Config) (t : Claims) (i : ℕ) (x : Job C) → Here t i (row_of c x) → WithoutRow t (closed t i) i (amount t.free 0 + pages_held x)
 gone_leaves c t i x h = closed_drops t i (row_of c x) h
@@ -117,10 +77,6 @@ gone_leaves c t i x h = closed_drops t i (row_of c x) h
 even_by : (n m : ℕ) → n ≡ m → not (n == m) ≡ false
 even_by n m e = elim (test n m) [ inl s ↦ rw s.1 refl | inr s ↦ absurd (s.0 e) ]
 
--- an ended one to which no page is lent and of which none is at a printer
-pub ended_gone : {C : Type 0} (x : Job C) → x.lent ≡ false → x.handed ≡ x.back → is_held (record x { ended = true }) ≡ false
-ended_gone x u e = (let n = even_by x.handed x.back e in rw (u, n) refl)
-
 -- one of which the last page that was out came back and ended it
 pub back_gone : {C : Type 0} (x : Job C) → x.lent ≡ false → x.handed ≡ x.back + 1 → is_held (record x { back = x.back + 1; ended = true }) ≡ false
 back_gone x u e = (let n = even_by x.handed (x.back + 1) e in rw (u, n) refl)
@@ -128,7 +84,3 @@ back_gone x u e = (let n = even_by x.handed (x.back + 1) e in rw (u, n) refl)
 -- one that had ended before that
 pub back_ended_gone : {C : Type 0} (x : Job C) → x.ended ≡ true → x.lent ≡ false → x.handed ≡ x.back + 1 → is_held (record x { back = x.back + 1 }) ≡ false
 back_ended_gone x d u e = (let n = even_by x.handed (x.back + 1) e in rw (d, u, n) refl)
-
--- one that is aborted, of which no page is at a printer
-pub aborted_gone : {C : Type 0} (x : Job C) → x.handed ≡ x.back → is_held (acted Aborted x) ≡ false
-aborted_gone x e = (let n = even_by x.handed x.back e in rw n refl)

@@ -187,14 +187,3 @@ printer_free {C} size c b h t p i sheet l table ip next s none =
     let rs : held_of q t.rows ≡ held_of q (map (row_of c) v.jobs) = ap (held_of q) table.rows in
     let cap : amount t.capacity q ≡ amount (capacity c) q = ap (λ (m : List ℕ). amount m q) table.capacity in
     omega arith
-
--- the place of a page that is handed is how many were handed before
-pub handed_place : {C : Type 0} (sheet : Sheet C) (x : Job C) → Gets sheet x → sheet.place ≡ x.handed
-handed_place {C} sheet x g = ap (λ (s : Sheet C). s.place) g.is
-
--- so for the first place of a job a printer of its queue is free
-pub printer_free_first : {C : Type 0} (size : C → ℕ) (c : Config) (b : Base) (h : List (Event C)) (t : Claims) (p i : ℕ) (sheet : Sheet C) → IsLegal size c b h → IsTableOf t (now c b h) → IsPrinter c p → next_page (now c b h) p ≡ Hands sheet → Stands (now c b h).jobs i sheet.job
-    → sheet.place ≡ 0 → 0 < amount t.free (get_or (now c b h).jobs i no_job).queue
-printer_free_first size c b h t p i sheet l table ip next s e =
-    let k = hands_job size c b h p i sheet l ip next s in
-    printer_free size c b h t p i sheet l table ip next s (sym (handed_place sheet (get_or (now c b h).jobs i no_job) k.gets) ∙ e)

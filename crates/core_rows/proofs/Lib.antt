@@ -6,4 +6,3 @@ pub mod Handing
 pub mod EachPage
 pub mod Printing
 pub mod Ending
-pub mod Opening

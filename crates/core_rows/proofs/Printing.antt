@@ -13,7 +13,8 @@ use Rattle.config_values.specs.Config.{Config}
 use Rattle.spool_history.specs.Events.{Sheet}
 use Rattle.spool_history.specs.Events.Progress.{Going}
 use Rattle.spool_history.specs.Events.Turn.{Printed}
-use Rattle.spool_history.specs.Acts.{Page, all_pages, is_same_page, pages_among, prints_in}
+use Rattle.lpd_values.specs.Told.{prints_in}
+use Rattle.spool_history.specs.Acts.{Page, all_pages, is_same_page, pages_among}
 use Rattle.spool_history.specs.Now.{Job, is_held, places, pages_kept, pages_held, row_of}
 use Rattle.spool_history.specs.Steps.{turned}
 use Rattle.spool_laws.specs.Sums.{chained_of}
@@ -25,7 +26,8 @@ use Rattle.core_rows.proofs.Tables.{Here, WithRow, given_row, given_leaves, same
 use Rattle.core_rows.proofs.Amounts.{row_with_amounts}
 use Rattle.core_rows.proofs.Received.{held_received, chained_received}
 use Rattle.core_rows.proofs.Handing.{Goes, row_begun}
-use Rattle.core_rows.proofs.EachPage.{places_there, among_again, among_last}
+use Rattle.core_rows.proofs.EachPage.{among_again, among_last}
+use Rattle.spool_laws.proofs.Copies.{places_there}
 
 -- the page of the place that is out comes again: a place that wasn't handed out is of the same page
 abbrev pub again : {C : Type 0} → Job C → Bool
@@ -161,43 +163,3 @@ last_chain {C} x o e =
 -- the job is held after that
 pub going_held : {C : Type 0} (x : Job C) → Goes x → is_held (turned (Printed Going) x) ≡ true
 going_held x g = (let e = g.1 in rw e refl)
-
--- a list with no length is empty
-none_later : {X : Type 0} (xs : List X) → length xs ≡ 0 → xs ≡ []
-none_later [] e = refl
-none_later (x ∷ xs) e = absurd (omega arith)
-
--- the page of the last place doesn't come again
-pub last_alone : {C : Type 0} (x : Job C) → IsOut x → x.back + 1 ≡ length (places x) → again x ≡ false
-last_alone {C} x o e =
-    let f = first_of x.back (places x) o.within in
-    let n = ap length f.next in
-    let l = length-drop (x.back + 1) (places x) in
-    let none : f.later ≡ [] = none_later f.later (omega arith) in
-    again_is x o f ∙ ap (list_any (is_same_page f.first)) none
-
--- it is all that the job still holds
-pub last_held : {C : Type 0} (x : Job C) → IsOut x → x.back + 1 ≡ length (places x) → pages_held x ≡ 1
-last_held {C} x o e =
-    let f = first_of x.back (places x) o.within in
-    let n = ap length f.next in
-    let l = length-drop (x.back + 1) (places x) in
-    let none : f.later ≡ [] = none_later f.later (omega arith) in
-    let empty : length (pages_among f.later (all_pages 0 x.files)) ≡ 0 = ap (λ (ps : List (Page C)). length (pages_among ps (all_pages 0 x.files))) none ∙ no_places (all_pages 0 x.files) in
-    let k = last_kept x o (last_alone x o e) in
-    let d = kept_after x f in
-    let h = held_received x o.goes.1 o.goes.0 in
-    omega arith
-  where
-    no_places : (pages : List (Page C)) → length (pages_among [] pages) ≡ 0
-    no_places [] = refl
-    no_places (page ∷ pages) = no_places pages
-
--- and its chain is empty
-pub last_place_chain : {C : Type 0} (x : Job C) → IsOut x → x.back + 1 ≡ length (places x) → chained_of x ≡ 0
-last_place_chain x o e =
-    let h = last_held x o e in
-    let k = held_received x o.goes.1 o.goes.0 in
-    let a = chained_received x o.goes.1 o.goes.0 in
-    let one = o.one in
-    omega arith

@@ -5,12 +5,13 @@ use Rattle.std.specs.List.{list_all}
 use Rattle.std.proofs.lemmas.List.{length_push}
 use Rattle.lpd_values.specs.Contents.{Contents}
 use Rattle.lpd_values.specs.Kept.{is_among}
+use Rattle.lpd_values.specs.Told.{prints_in}
 use Rattle.counts.specs.Amounts.{amount}
 use Rattle.claims.specs.Claims.{Claims}
 use Rattle.claims.specs.Changes.{granted}
 use Rattle.config_values.specs.Config.{Config, limit_of}
 use Rattle.spool_history.specs.Events.Act.{Granted, Began, Put, FileEnded, Controlled}
-use Rattle.spool_history.specs.Acts.{File, at_last, is_open_in, names_in, prints_in}
+use Rattle.spool_history.specs.Acts.{File, at_last, is_open_in, names_in}
 use Rattle.spool_history.specs.Now.{Job, is_held, is_received, pages_held, pages_needed, printers_held, printers_needed, row_of}
 use Rattle.spool_history.specs.Steps.{acted}
 use Rattle.spool_history.specs.Legal.{IsReceiving, IsBelowLimit, HasOpen}
@@ -22,8 +23,9 @@ use Rattle.spool_laws.proofs.Held.{pages_push, pages_ended, open_push}
 use Rattle.spool_laws.proofs.Apart.{pages_sum}
 use Rattle.spool_moves.proofs.Claimed.{row_granted}
 use Rattle.spool_moves.proofs.Holding.{file_pages}
-use Rattle.core_rows.proofs.Tables.{Here, WithRow, granted_leaves}
+use Rattle.core_rows.proofs.Tables.{Here, WithRow}
 use Rattle.core_rows.proofs.Amounts.{row_same}
+use Rattle.spool_laws.proofs.PutOff.{open_last as last_open}
 
 -- what a job that is being received holds: what was lent to it
 pub held_receiving : {C : Type 0} (x : Job C) → IsReceiving x → pages_held x ≡ x.granted
@@ -37,14 +39,6 @@ needed_receiving c x r = (let e = r.0 in let i = r.1 in rw (e, i) refl)
 pub chained_receiving : {C : Type 0} (x : Job C) → IsReceiving x → chained_of x ≡ file_pages x
 chained_receiving x r = (let e = r.0 in let i = r.1 in rw (e, i) refl)
 
--- below its limit it may need another page
-pub page_needed : {C : Type 0} (c : Config) (x : Job C) → IsReceiving x → IsBelowLimit c x → 0 < amount (row_of c x).need 0
-page_needed c x r lt = (let n = needed_receiving c x r in omega arith)
-
--- a job that hasn't ended is held, whatever an act or a turn that doesn't end it made of it
-pub unended_held : {C : Type 0} (x : Job C) → x.ended ≡ false → is_held x ≡ true
-unended_held x e = rw e refl
-
 -- what any job holds of pages stands in its row
 pub held_in_row : {C : Type 0} (c : Config) (x : Job C) → amount (row_of c x).held 0 ≡ pages_held x
 held_in_row c x = refl
@@ -54,11 +48,6 @@ pub open_unreceived : {C : Type 0} (x : Job C) → is_open_in x.files ≡ true �
 open_unreceived x e =
     ap (λ (b : Bool). is_some x.control && (not b && list_all (λ name. is_among name (names_in x.files)) (prints_in x.control))) e
     ∙ and_false (is_some x.control)
-
--- of files of which the last hasn't ended one is open
-pub last_open : {C : Type 0} (before : List (File C)) (last : File C) → last.ended ≡ false → is_open_in (before ++ last ∷ []) ≡ true
-last_open [] last e = rw e refl
-last_open (f ∷ fs) last e = rw (last_open fs last e) (or_true (not f.ended))
 
 -- as long as a job isn't received, its row is that of what was lent to it and how much was handed out
 pub row_receiving : {C : Type 0} (c : Config) (x y : Job C) → IsReceiving x → IsReceiving y → y.number ≡ x.number → y.sender ≡ x.sender → y.queue ≡ x.queue → y.granted ≡ x.granted → y.handed ≡ x.handed
@@ -74,14 +63,6 @@ row_receiving {C} c x y r r' n s q g h =
     row_same c x y n s q (held_receiving y r' ∙ (g ∙ sym (held_receiving x r))) ph (omega arith) pn
 
 -- a page is granted
-
--- the row is that of the job to which it was granted, and one page less is free
-pub granted_row_leaves : {C : Type 0} (c : Config) (t : Claims) (i : ℕ) (x : Job C) → Here t i (row_of c x) → IsReceiving x → 0 < amount t.free 0 → WithRow t (granted t i 0) i (row_of c (acted Granted x)) (amount t.free 0 - 1)
-granted_row_leaves c t i x h r some = granted_leaves t i (row_of c x) (row_of c (acted Granted x)) h some (row_granted c x r)
-
--- and its chain is as it was
-pub granted_chain : {C : Type 0} (x : Job C) → IsReceiving x → chained_of (acted Granted x) ≡ chained_of x
-granted_chain x r = chained_receiving (acted Granted x) r ∙ sym (chained_receiving x r)
 
 -- a page is put
 

@@ -64,10 +64,6 @@ pub record Here (t : Claims) (i : ℕ) (row : Row) : Type 0 where
 pub here_held : (t : Claims) (i : ℕ) (row : Row) (k : ℕ) → Here t i row → amount (row_at t.rows i).held k ≡ amount row.held k
 here_held t i row k h = ap (λ (r : Row). amount r.held k) h.is
 
--- and what it needs
-pub here_need : (t : Claims) (i : ℕ) (row : Row) (k : ℕ) → Here t i row → amount (row_at t.rows i).need k ≡ amount row.need k
-here_need t i row k h = ap (λ (r : Row). amount r.need k) h.is
-
 -- what it holds is not free: given back, it is no more than there is
 pub room_for : (t : Claims) (i : ℕ) (row : Row) (k n : ℕ) → Here t i row → n ≤ amount row.held k → amount t.free k + n ≤ amount t.capacity k
 room_for t i row k n h le =
@@ -89,19 +85,6 @@ same_leaves t i row row' h same = record {
   room = refl;
   free = refl;
 }
-
--- a page granted
-pub granted_leaves : (t : Claims) (i : ℕ) (row row' : Row) → Here t i row → 0 < amount t.free 0 → granted_row 0 row ≡ row' → WithRow t (granted t i 0) i row' (amount t.free 0 - 1)
-granted_leaves t i row row' h some e =
-    let s = h.table.same_kinds in
-    let p = h.pages in
-    record {
-      table = granted_table t i 0 h.table h.there h.pages some;
-      rows = ap (set t.rows i) (ap (granted_row 0) h.is ∙ e);
-      capacity = refl;
-      room = refl;
-      free = set_first t.free (amount t.free 0 - 1) (omega arith);
-    }
 
 -- another kind granted: as many pages are free as before
 pub other_leaves : (t : Claims) (i kind : ℕ) (row row' : Row) → Here t i row → 0 < kind → kind < length t.capacity → 0 < amount t.free kind → granted_row kind row ≡ row' → WithRow t (granted t i kind) i row' (amount t.free 0)

@@ -1,10 +1,9 @@
 -- A job is aborted, or gives back the page that was lent to it.
-use Rattle.std.proofs.Common.{inl, inr, ◌≡◌, ◌≢◌, ◌==◌, ℕ, ◌+◌, ◌-◌, ◌<◌, ◌≤◌, Bool, true, false, List, [], ◌∷◌, length, get_or, set, map, refl, sym, ◌∙◌, ap, subst, arith}
-use Rattle.std.specs.Prelude.{All, Result, Ok, Err, Option, Some, None, IfSome, ◌⊎◌, cond, remove}
+use Rattle.std.proofs.Common.{inl, inr, ◌≡◌, ◌≢◌, ◌==◌, ℕ, ◌+◌, ◌-◌, ◌≤◌, Bool, true, false, List, get_or, refl, sym, ◌∙◌, ap, subst, arith}
+use Rattle.std.specs.Prelude.{All, Ok, Err, Option, Some, None, IfSome, cond, remove}
 use Rattle.std.proofs.lemmas.Bool.Decides.{nat_tests}
 use Rattle.claims.specs.Changes.{closed}
 use Rattle.page_pool.specs.Page.{Page, Pages}
-use Rattle.held_jobs.specs.declared.phase.Phase.TheVariants.{Receiving, Ended}
 use Rattle.held_jobs.specs.Jobs.{HeldJob, Facts}
 use Rattle.held_jobs.specs.Books.{job_at}
 use Rattle.held_jobs.specs.Shown.{see_job}
@@ -13,10 +12,10 @@ use Rattle.spool_history.specs.Events.{Event}
 use Rattle.spool_history.specs.Events.Act.{Aborted}
 use Rattle.spool_history.specs.Events.Event.{OfJob}
 use Rattle.spool_history.specs.Now.{Job, State, is_held, is_received, pages_held}
-use Rattle.spool_history.specs.Steps.{acted, after}
-use Rattle.spool_history.specs.Legal.{HasJob, IsReceiving, JobMay}
+use Rattle.spool_history.specs.Steps.{acted}
+use Rattle.spool_history.specs.Legal.{JobMay}
 use Rattle.spool_laws.specs.Sums.{chained_of}
-use Rattle.spool_laws.proofs.Known.{Has, clash}
+use Rattle.spool_laws.proofs.Known.{Has}
 use Rattle.spool_moves.specs.Standing.{no_job}
 use Rattle.spool_moves.proofs.Standing.{Stands, has_get, has_here, has_job}
 use Rattle.spool_moves.proofs.Moving.{act_gone}
@@ -38,7 +37,7 @@ lent_count lent page_size None e = rw e refl
 lent_count lent page_size (Some page) e = rw e.0 refl
 
 pub abort_none : (d : Detail) (b : Base) (h : List (Event (What d))) (k : Kept) (job : ℕ) (ticket : Option Page) (back : ReturnedTicket) → Leaves d b h k → All (λ (j : HeldJob). j.facts.number ≢ job) k.book.jobs → back.ticket ≡ ticket → Aborts d b h k job ticket k (Err back)
-abort_none d b h k job ticket back l none e = ((λ m. none_has d b h k job (CanAbort d b h k ticket) l none m), refl, e)
+abort_none d b h k job ticket back l none e = ((λ m. none_has d b h k job (CanAbort d (left_by d b h k) ticket) l none m), refl, e)
 
 -- what is kept once the job at a place is aborted, where so many pages were in its chain
 abbrev pub aborted_core : Kept → ℕ → ℕ → Option Page → Kept
@@ -73,15 +72,15 @@ module _ (d : Detail) (b : Base) (h : List (Event (What d))) (k : Kept) (l : Lea
   ft : j.facts ≡ facts_of k.config x
   ft = facts_tie (look d) k.config j x t
 
-  lent_to : (o : Option Page) (a c : Bool) → a ≡ c → HasLent a z o → IsLent d b h k c z o
+  lent_to : (o : Option Page) (a c : Bool) → a ≡ c → HasLent a z o → IsLent c z o
   lent_to None a c e m = sym e ∙ m
   lent_to (Some page) a c e m = (sym e ∙ m.0, m.1)
 
-  lent_from : (o : Option Page) (a c : Bool) → a ≡ c → IsLent d b h k c z o → HasLent a z o
+  lent_from : (o : Option Page) (a c : Bool) → a ≡ c → IsLent c z o → HasLent a z o
   lent_from None a c e m = e ∙ m
   lent_from (Some page) a c e m = (e ∙ m.0, m.1)
 
-  to : MayAbort j.facts z ticket → CanAbort d b h k ticket x
+  to : MayAbort j.facts z ticket → CanAbort d (left_by d b h k) ticket x
   to m = (
     elim m.0 [
       | inl p ↦ inl (receiving x (sym (phase_tie (look d) k.config j x t) ∙ p))
@@ -90,7 +89,7 @@ module _ (d : Detail) (b : Base) (h : List (Event (What d))) (k : Kept) (l : Lea
     lent_to ticket j.facts.lent x.lent (ap (λ (g : Facts). g.lent) ft) m.1,
   )
 
-  from : CanAbort d b h k ticket x → MayAbort j.facts z ticket
+  from : CanAbort d (left_by d b h k) ticket x → MayAbort j.facts z ticket
   from m = (
     elim m.0 [
       | inl r ↦ inl (phase_tie (look d) k.config j x t ∙ phase_receiving x r)
@@ -100,9 +99,9 @@ module _ (d : Detail) (b : Base) (h : List (Event (What d))) (k : Kept) (l : Lea
   )
 
   pub abort_refused : (back : ReturnedTicket) → (MayAbort j.facts z ticket → ⊥) → back.ticket ≡ ticket → Aborts d b h k job ticket k (Err back)
-  abort_refused back never e = ((λ m. never (from (has_here (size d) k.config b h i job (CanAbort d b h k ticket) l.legal s m))), refl, e)
+  abort_refused back never e = ((λ m. never (from (has_here (size d) k.config b h i job (CanAbort d (left_by d b h k) ticket) l.legal s m))), refl, e)
 
-  unreceived : CanAbort d b h k ticket x → is_received x ≡ false
+  unreceived : CanAbort d (left_by d b h k) ticket x → is_received x ≡ false
   unreceived m = elim m.0 [ inl r ↦ r.1 | inr q ↦ lent_unreceived (size d) k.config b h x l.legal has q.1 ]
 
   -- so many pages of it are held: those of its chain, and the one that is lent
@@ -120,7 +119,7 @@ module _ (d : Detail) (b : Base) (h : List (Event (What d))) (k : Kept) (l : Lea
   pub abort_done : (n : ℕ) → MayAbort j.facts z ticket → n ≡ chained_of x → Aborts d b h k job ticket (aborted_core k i n ticket) (Ok tt)
   abort_done n m en =
       let can = to m in
-      let may = has_job v i job (CanAbort d b h k ticket) s can in
+      let may = has_job v i job (CanAbort d (left_by d b h k) ticket) s can in
       let u = unreceived_unhanded (size d) k.config b h x l.legal has (unreceived can) in
       let jobs = jobs_left v (OfJob job Aborted) (remove v.jobs i) (act_gone (size d) k.config b h i job Aborted l.legal s (gone_by x (x.handed == x.back) (u.0 ∙ sym u.1) refl)) refl in
       let within = one_stored d b h k i l s.there in
@@ -134,10 +133,3 @@ module _ (d : Detail) (b : Base) (h : List (Event (What d))) (k : Kept) (l : Lea
   -- what comes back has room in the pool
   pub aborted_room : MayAbort j.facts z ticket → k.pool.free + chained_of x + count_of ticket ≤ k.pool.pages
   aborted_room m = (let r = held_room d b h k i l s.there in let p = aborted_pages m in omega (arith, r, p))
-
-  pub aborted_size : MayAbort j.facts z ticket → IfSome ticket (λ page. page.page_size ≡ k.pool.page_size)
-  aborted_size m = sized ticket j.facts.lent m.1
-    where
-      sized : (o : Option Page) (lent : Bool) → HasLent lent z o → IfSome o (λ page. page.page_size ≡ k.pool.page_size)
-      sized None lent e = tt
-      sized (Some page) lent e = e.1 ∙ sym (ap (λ (p : Pages). p.page_size) l.kept.pool)

@@ -1,10 +1,9 @@
 -- A page is lent to a job.
-use Rattle.std.proofs.Common.{◌≡◌, ◌≢◌, ℕ, suc, ◌+◌, ◌-◌, ◌<◌, ◌≤◌, Bool, true, false, List, [], ◌∷◌, length, get_or, set, map, refl, sym, ◌∙◌, ap, subst, arith}
-use Rattle.std.specs.Prelude.{All, Result, Ok, Err}
-use Rattle.std.proofs.lemmas.List.{length-map}
+use Rattle.std.proofs.Common.{◌≡◌, ◌≢◌, ℕ, ◌+◌, ◌-◌, ◌<◌, ◌≤◌, true, List, [], ◌∷◌, length, get_or, set, refl, sym, ◌∙◌, ap, subst, arith}
+use Rattle.std.specs.Prelude.{All, Ok, Err}
 use Rattle.counts.specs.Amounts.{amount}
 use Rattle.claims.specs.declared.row.Row.{Row}
-use Rattle.claims.specs.Claims.{Claims, IsTable, row_at}
+use Rattle.claims.specs.Claims.{IsTable, row_at}
 use Rattle.claims.specs.Changes.{granted, granted_row}
 use Rattle.claims.specs.Safety.{IsSafe}
 use Rattle.claims.proofs.Tables.{granted_table}
@@ -13,12 +12,12 @@ use Rattle.held_jobs.specs.Jobs.{HeldJob, Facts}
 use Rattle.held_jobs.specs.Moves.{MayAsk, lent_facts, told}
 use Rattle.held_jobs.specs.Books.{job_at, with_job}
 use Rattle.held_jobs.specs.Shown.{ShownJob, see_job}
-use Rattle.config_values.specs.Config.{Config, Queue, limit_of}
+use Rattle.config_values.specs.Config.{limit_of}
 use Rattle.spool_history.specs.Base.{Base}
 use Rattle.spool_history.specs.Events.{Event}
 use Rattle.spool_history.specs.Events.Act.{Granted}
 use Rattle.spool_history.specs.Events.Event.{OfJob}
-use Rattle.spool_history.specs.Now.{Job, State, is_held, row_of, IsSafeNow}
+use Rattle.spool_history.specs.Now.{Job, State, is_held, row_of}
 use Rattle.spool_history.specs.Steps.{acted, after}
 use Rattle.spool_history.specs.Legal.{HasJob, IsReceiving, IsBelowLimit, CanAsk, JobMay, MayGrant}
 use Rattle.spool_laws.specs.Sums.{chained_of}
@@ -37,9 +36,6 @@ use Rattle.core_steps.proofs.Phases.{facts_tie, can_ask, ask_can}
 
 held_granted : {C : Type 0} (x : Job C) → IsReceiving x → is_held (acted Granted x) ≡ true
 held_granted x r = (let e = r.0 in rw e refl)
-
-chained_granted : {C : Type 0} (x : Job C) → chained_of (acted Granted x) ≡ chained_of x
-chained_granted x = refl
 
 free_after : (free : List ℕ) → 0 < length free → amount (set free 0 (amount free 0 - 1)) 0 ≡ amount free 0 - 1
 free_after [] lt = absurd (omega arith)

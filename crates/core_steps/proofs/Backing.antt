@@ -1,5 +1,5 @@
 -- A page comes back from a printer.
-use Rattle.std.proofs.Common.{◌≡◌, ◌==◌, ◌≢◌, ℕ, zero, suc, ◌+◌, ◌-◌, ◌<◌, ◌≤◌, Bool, true, false, List, [], ◌∷◌, length, drop, get_or, set, map, refl, sym, ◌∙◌, ap, subst, arith}
+use Rattle.std.proofs.Common.{◌≡◌, ◌==◌, ◌≢◌, ℕ, zero, suc, ◌+◌, ◌-◌, ◌<◌, ◌≤◌, ◌^◌, Bool, true, false, List, [], ◌∷◌, length, drop, get_or, set, map, refl, sym, ◌∙◌, ap, subst, arith}
 use Rattle.std.specs.Prelude.{All, Option, Some, None, Ok, cond, is_some, remove, slice_get}
 use Rattle.std.proofs.lemmas.List.{length-map}
 use Rattle.counts.specs.Amounts.{amount}
@@ -236,7 +236,7 @@ module _ (d : Detail) (b : Base) (h : List (Event (What d))) (k : Kept) (l : Lea
         let m : k.pool.pages ≡ k.config.pages = ap (λ (q : Pages). q.pages) l.kept.pool in
         omega (arith, all, one, within, c, e, n, m)
 
-    pub back_few : IsConfig k.config → j.facts.back + 1 < 18446744073709551616
+    pub back_few : IsConfig k.config → j.facts.back + 1 < 2 ^ 64
     back_few ranges =
         let n = handed_few d b h k x ranges l has in
         let e : j.facts.back ≡ x.back = ap (λ (g : Facts). g.back) (facts_tie (look d) k.config j x ties) in

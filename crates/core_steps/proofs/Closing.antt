@@ -34,9 +34,6 @@ abbrev pub with_stock : Kept → Stock → Kept
 with_stock k t = record k { pool = t.pool; book = t.book; table = t.table }
 
 module _ (d : Detail) (b : Base) (h : List (Event (What d))) (k : Kept) (l : Leaves d b h k) where
-  pub close_twice : k.closed ≡ true → Closes d b h k k
-  close_twice e = inr (sym l.kept.closed ∙ e, refl)
-
   pub close_leaves : (t : Stock) → k.closed ≡ false → EndsTo all_end (stock_of k) t → Leaves d b (Closed ∷ h) (record (with_stock k t) { closed = true })
   close_leaves t e to = leaves_ended d b h k Closed all_end t k.printers true l (sym l.kept.closed ∙ e) refl (λ x. refl) l.kept.printers refl to
 

@@ -1,12 +1,11 @@
 -- A data file of a job begins, and a page of it is put.
-use Rattle.std.proofs.Common.{inl, inr, ◌≡◌, ◌≢◌, ℕ, suc, ◌+◌, ◌-◌, ◌*◌, ◌<◌, ◌≤◌, Bool, true, false, List, [], ◌∷◌, ◌++◌, length, get_or, set, map, refl, sym, ◌∙◌, ap, subst, arith}
-use Rattle.std.specs.Prelude.{All, Result, Ok, Err, min, sum_by, cond, not}
+use Rattle.std.proofs.Common.{◌≡◌, ◌≢◌, ℕ, ◌+◌, ◌-◌, ◌*◌, ◌<◌, ◌≤◌, ◌^◌, Bool, true, false, List, [], ◌∷◌, ◌++◌, length, get_or, set, map, refl, sym, ◌∙◌, ap, subst, arith}
+use Rattle.std.specs.Prelude.{All, Ok, Err, min, sum_by, cond, not}
 use Rattle.std.proofs.lemmas.List.{length-append, length-map}
 use Rattle.std.proofs.lemmas.List.Sums.{sum_by-append, sum_by-cons}
 use Rattle.page_pool.specs.Page.{Page}
 use Rattle.page_chain.specs.Files.{names_of}
 use Rattle.page_chain.specs.Changes.{CanBegin, RefusedFor}
-use Rattle.page_chain.specs.declared.error.ChainError.{ChainError}
 use Rattle.page_chain.specs.declared.error.ChainError.TheVariants as chain
 use Rattle.lpd_values.specs.Kept.{is_among}
 use Rattle.lpd_values.specs.declared.refusal.Refusal.TheVariants.{NotOpen, FileOpen, NameTaken, FilesFull, OverClaim}
@@ -16,7 +15,7 @@ use Rattle.held_jobs.specs.Jobs.{HeldJob, Facts, last_size}
 use Rattle.held_jobs.specs.Moves.{Awaits, begun_job, put_job}
 use Rattle.held_jobs.specs.Books.{IsIdle, job_at, with_job}
 use Rattle.held_jobs.specs.Shown.{see_job}
-use Rattle.config_values.specs.Config.{Config, limit_of}
+use Rattle.config_values.specs.Config.{limit_of}
 use Rattle.config_values.specs.Ranges.{IsConfig}
 use Rattle.spool_history.specs.Base.{Base}
 use Rattle.spool_history.specs.Events.{Event}
@@ -24,15 +23,15 @@ use Rattle.spool_history.specs.Events.Act.{Began, Put}
 use Rattle.spool_history.specs.Events.Event.{OfJob}
 use Rattle.spool_history.specs.Acts.{File, is_open_in, names_in}
 use Rattle.spool_history.specs.Now.{Job, State, is_held}
-use Rattle.spool_history.specs.Steps.{acted, after}
+use Rattle.spool_history.specs.Steps.{acted}
 use Rattle.spool_history.specs.Legal.{HasJob, HasOpen, IsNextPage, IsReceiving, HasNoOpen, HasNoFile, HasFileRoom, IsWithinLimit, JobMay, pages_for}
 use Rattle.spool_laws.proofs.Known.{clash, or_true}
 use Rattle.spool_moves.specs.Standing.{no_job}
 use Rattle.spool_moves.proofs.Standing.{Stands, has_get, has_here, has_job}
 use Rattle.spool_moves.proofs.Moving.{act_set}
-use Rattle.spool_moves.proofs.Opens.{LastOf, job_opens, last_of}
+use Rattle.spool_moves.proofs.Opens.{job_opens, last_of}
 use Rattle.spool_moves.proofs.Holding.{file_pages, granted_counts, granted_within}
-use Rattle.job_moves.proofs.Ties.{Fills, fills}
+use Rattle.job_moves.proofs.Ties.{fills}
 use Rattle.job_moves.proofs.Shelving.{whole_names}
 use Rattle.job_moves.proofs.Receiving.{ties_begun, ties_put}
 use Rattle.core_rows.proofs.Receiving.{began_chain, began_receiving, began_row, put_chain, put_receiving, put_row}
@@ -40,7 +39,7 @@ use Rattle.spool_calls.specs.declared.answers.ReturnedPage.{ReturnedPage}
 use Rattle.spool_calls.specs.Looks.{Detail, What, see, size}
 use Rattle.spool_calls.specs.Looks.Detail.{Octets, Outlines}
 use Rattle.spool_calls.specs.Kept.{Kept, Leaves, left_by, look, shown_job, facts_of, size_of}
-use Rattle.spool_calls.specs.Calls.{Begins, MayTake, Puts}
+use Rattle.spool_calls.specs.Calls.{Begins, Puts}
 use Rattle.core_steps.proofs.Leaving.{Found, standing, tie, none_has, jobs_left, leaves_job}
 use Rattle.core_steps.proofs.Ranges.{limit_within, stored_room}
 use Rattle.core_steps.proofs.Phases.{facts_tie, phase_tie, phase_receiving, open_tie, receiving}
@@ -191,10 +190,10 @@ some_last : {C : Type 0} (fs : List (File C)) (y : File C) → 0 < length (fs ++
 some_last fs y = let a = length-append fs (y ∷ []) in omega (arith, a)
 
 pub put_none : (d : Detail) (b : Base) (h : List (Event (What d))) (k : Kept) (job : ℕ) (page : Page) (back : ReturnedPage) → Leaves d b h k → All (λ (j : HeldJob). j.facts.number ≢ job) k.book.jobs → back.page ≡ page → Puts d b h k job page k (Err back)
-put_none d b h k job page back l none e = ((λ file number m. none_has d b h k job (JobMay (size d) k.config (Put file number (see d page.octets))) l none m.0), refl, e)
+put_none d b h k job page back l none e = ((λ m. none_has d b h k job (JobMay (size d) k.config (Put m.0 m.1 (see d page.octets))) l none m.2.0), refl, e)
 
 pub put_size : (d : Detail) (b : Base) (h : List (Event (What d))) (k : Kept) (job : ℕ) (page : Page) (back : ReturnedPage) → (page.page_size ≡ k.config.page_size → ⊥) → back.page ≡ page → Puts d b h k job page k (Err back)
-put_size d b h k job page back never e = ((λ file number m. never m.1), refl, e)
+put_size d b h k job page back never e = ((λ m. never m.2.1), refl, e)
 
 module _ (d : Detail) (b : Base) (h : List (Event (What d))) (k : Kept) (l : Leaves d b h k) (job i : ℕ) (f : Found k job i) (page : Page) where
   abbrev z : ℕ
@@ -260,7 +259,7 @@ module _ (d : Detail) (b : Base) (h : List (Event (What d))) (k : Kept) (l : Lea
 
   pub put_refused : (back : ReturnedPage) → (Awaits held (length page.octets) z → ⊥) → back.page ≡ page → Puts d b h k job page k (Err back)
   put_refused back never e = (
-    (λ file number m. never (awaits_if file number (subst (λ (n : ℕ). Takes z n file number y) (size_see d page.octets) (has_here (size d) k.config b h i job (JobMay (size d) k.config (Put file number (see d page.octets))) l.legal sy m.0)))),
+    (λ m. never (awaits_if m.0 m.1 (subst (λ (n : ℕ). Takes z n m.0 m.1 y) (size_see d page.octets) (has_here (size d) k.config b h i job (JobMay (size d) k.config (Put m.0 m.1 (see d page.octets))) l.legal sy m.2.0)))),
     refl,
     e,
   )
@@ -289,7 +288,7 @@ module _ (d : Detail) (b : Base) (h : List (Event (What d))) (k : Kept) (l : Lea
     pub opened : held.chain.is_open ≡ true
     pub some : 0 < length held.facts.files
     pub fits : length page.octets ≤ (last_size held.facts.files).left
-    pub few : (last_size held.facts.files).pages + 1 < 18446744073709551616
+    pub few : (last_size held.facts.files).pages + 1 < 2 ^ 64
     pub room : k.book.stored < k.book.pages
 
   pub can_put : IsConfig k.config → Awaits held (length page.octets) z → CanPut

@@ -1,5 +1,5 @@
 -- A printer gets a page.
-use Rattle.std.proofs.Common.{inl, inr, ◌≡◌, ◌==◌, ℕ, suc, ◌+◌, ◌-◌, ◌*◌, ◌<◌, ◌≤◌, Bool, true, false, List, [], ◌∷◌, length, drop, get_or, set, map, refl, sym, ◌∙◌, ap, subst, arith}
+use Rattle.std.proofs.Common.{inl, inr, ◌≡◌, ◌==◌, ℕ, suc, ◌+◌, ◌-◌, ◌*◌, ◌<◌, ◌≤◌, ◌^◌, Bool, true, false, List, [], ◌∷◌, length, drop, get_or, set, map, refl, sym, ◌∙◌, ap, subst, arith}
 use Rattle.std.specs.Prelude.{cond, Option, Some, None, is_some, slice_get}
 use Rattle.std.proofs.lemmas.Bool.{cases_lt}
 use Rattle.std.proofs.lemmas.List.{drop_all}
@@ -16,7 +16,6 @@ use Rattle.held_jobs.specs.Moves.{handed_job}
 use Rattle.held_jobs.specs.Books.{job_at, with_job}
 use Rattle.held_jobs.specs.Turns.{TurnAt, facts_in}
 use Rattle.held_jobs.specs.Shown.{see_job}
-use Rattle.account.specs.declared.entry.Sheet.{Sheet as SheetOut}
 use Rattle.config_values.specs.Config.{IsPrinter}
 use Rattle.config_values.specs.Ranges.{IsConfig}
 use Rattle.spool_history.specs.Base.{Base}
@@ -45,17 +44,13 @@ use Rattle.spool_calls.specs.declared.handed.HandedPage.{HandedPage}
 use Rattle.spool_calls.specs.declared.answers.Next.TheVariants as next
 use Rattle.spool_calls.specs.Looks.{Detail, What, outline_in, outline_of, see, size}
 use Rattle.spool_calls.specs.Looks.Detail.{Octets, Outlines}
-use Rattle.spool_calls.specs.Kept.{Kept, Leaves, facts_of, kept_printer, left_by, look, place_of, shown_job, spots}
+use Rattle.spool_calls.specs.Kept.{Kept, Leaves, facts_of, kept_printer, left_by, look, place_of, sheet_out, shown_job, spots}
 use Rattle.spool_calls.specs.Calls.{Hands, sheet_of}
 use Rattle.core_steps.proofs.Leaving.{jobs_left, jobs_len, leaves_set, one_stored, pool_even, row_stands, tie}
 use Rattle.core_steps.proofs.Phases.{facts_tie}
-use Rattle.core_steps.proofs.Printers.{next_busy, next_over, next_stopped, next_turn, printer_seen, printers_set}
+use Rattle.core_steps.proofs.Printers.{next_busy, next_stopped, next_turn, printer_seen, printers_set}
 use Rattle.core_steps.proofs.Ranges.{limit_within}
 use Rattle.core_steps.proofs.Turning.{Turns, at_place, turn_here, turns}
-
--- what is kept of a page that goes to a printer
-abbrev pub out_sheet : HandedPage → SheetOut
-out_sheet page = record { job = page.job; place = page.place; file = page.file; number = page.number; page = outline_of page.page.octets }
 
 outline_see : (d : Detail) (octets : List ℕ) → outline_in d (see d octets) ≡ outline_of octets
 outline_see Octets octets = refl
@@ -84,12 +79,8 @@ abbrev pub handed_core : Kept → (p i : ℕ) → Printer → HandedPage → Kep
 handed_core k p i at page = record k {
   book = record (with_job k.book i (handed_job (job_at k.book i))) { stored = k.book.stored - 1 };
   table = cond ((job_at k.book i).facts.handed == 0) (granted k.table i (job_at k.book i).facts.queue) k.table;
-  printers = set k.printers (p - 1) (record { queue = at.queue; out = Some (out_sheet page); began = Some page.job; stopped = false });
+  printers = set k.printers (p - 1) (record { queue = at.queue; out = Some (sheet_out page); began = Some page.job; stopped = false });
 }
-
--- a closed spool hands out nothing
-pub hands_over : (d : Detail) (b : Base) (h : List (Event (What d))) (k : Kept) (p : ℕ) → Leaves d b h k → k.closed ≡ true → Hands d b h k p k next.Closed
-hands_over d b h k p l e = (next_over d (left_by d b h k) p (sym l.kept.closed ∙ e), refl)
 
 -- the printer may get a page
 pub record Waits (k : Kept) (at : Printer) : Type 0 where
@@ -98,7 +89,7 @@ pub record Waits (k : Kept) (at : Printer) : Type 0 where
   pub idle : is_some at.out ≡ false
 
 -- how many places are handed out of a job is a number that fits
-pub handed_few : (d : Detail) (b : Base) (h : List (Event (What d))) (k : Kept) (x : Job (What d)) → IsConfig k.config → Leaves d b h k → Has x (left_by d b h k).jobs → x.handed + 1 < 18446744073709551616
+pub handed_few : (d : Detail) (b : Base) (h : List (Event (What d))) (k : Kept) (x : Job (What d)) → IsConfig k.config → Leaves d b h k → Has x (left_by d b h k).jobs → x.handed + 1 < 2 ^ 64
 handed_few d b h k x ranges l has =
     let s = job_sound (size d) k.config b h x l.legal has in
     let a = s.handed in
@@ -194,7 +185,7 @@ module _ (d : Detail) (b : Base) (h : List (Event (What d))) (k : Kept) (l : Lea
       pub hand_ready : IsReady j.chain
       hand_ready = can_hand (look d) k.config j x can ties
 
-      pub hand_few : IsConfig k.config → j.facts.handed + 1 < 18446744073709551616
+      pub hand_few : IsConfig k.config → j.facts.handed + 1 < 2 ^ 64
       hand_few ranges =
           let n = handed_few d b h k x ranges l (has_get v.jobs i no_job ts.there) in
           let e : j.facts.handed ≡ x.handed = ap (λ (g : Facts). g.handed) facts' in
@@ -262,10 +253,10 @@ module _ (d : Detail) (b : Base) (h : List (Event (What d))) (k : Kept) (l : Lea
           ∙ ap (λ (s : Sheet (What d)). HandsOut s) (same_sheet (record { job = x.number; place = x.handed; file = n.next.file; number = n.next.number; page = n.next.page }) (sheet_of d b h k page)
           (number_same page tk) (sym (tk.place' ∙ handed_same)) (sym (tk.file ∙ ap (λ (q : Place). q.file) here)) (sym (tk.number ∙ ap (λ (q : Place). q.number) here)) (sym n.page')))
 
-      printer_is : (page : HandedPage) → record { queue = at.queue; out = Some (out_sheet page); began = Some page.job; stopped = false } ≡ kept_printer d (printer_turned (sheet_of d b h k page) Handed (printer_at v p))
+      printer_is : (page : HandedPage) → record { queue = at.queue; out = Some (sheet_out page); began = Some page.job; stopped = false } ≡ kept_printer d (printer_turned (sheet_of d b h k page) Handed (printer_at v p))
       printer_is page =
-          ap (λ (a : Printer). record { queue = a.queue; out = Some (out_sheet page); began = Some page.job; stopped = false }) seen
-          ∙ (ap (λ (o : Rattle.account.specs.declared.entry.Outline.Outline). record { queue = (printer_at v p).queue; out = Some (record (out_sheet page) { page = o }); began = Some page.job; stopped = false }) (sym (outline_see d page.page.octets))
+          ap (λ (a : Printer). record { queue = a.queue; out = Some (sheet_out page); began = Some page.job; stopped = false }) seen
+          ∙ (ap (λ (o : Rattle.account.specs.declared.entry.Outline.Outline). record { queue = (printer_at v p).queue; out = Some (record (sheet_out page) { page = o }); began = Some page.job; stopped = false }) (sym (outline_see d page.page.octets))
           ∙ ap (λ (s : Bool). record (kept_printer d (printer_turned (sheet_of d b h k page) Handed (printer_at v p))) { stopped = s }) (sym w.runs ∙ ap (λ (a : Printer). a.stopped) seen))
 
       leaves : (page : HandedPage) → Taken page → Leaves d b (AtPrinter p (sheet_of d b h k page) Handed ∷ h) (handed_core k p i at page)
@@ -278,7 +269,7 @@ module _ (d : Detail) (b : Base) (h : List (Event (What d))) (k : Kept) (l : Lea
           let within = one_stored d b h k i l ts.there in
           let row = with_row in
           leaves_set d b h k e i (k.book.stored - 1) (turned Handed x) (handed_job j) k.pool (cond (j.facts.handed == 0) (granted k.table i j.facts.queue) k.table)
-          (set k.printers (p - 1) (record { queue = at.queue; out = Some (out_sheet page); began = Some page.job; stopped = false })) l (ip, hands page tk)
+          (set k.printers (p - 1) (record { queue = at.queue; out = Some (sheet_out page); began = Some page.job; stopped = false })) l (ip, hands page tk)
           (jobs_left v e (set v.jobs i (turned Handed x)) (turn_set (size d) k.config b h i p sheet Handed l.legal s (handed_held x g)) refl) ts.there refl refl
           (ties_handed (look d) k.config j x can ties) (omega (arith, chain, within)) row.table row.rows row.capacity row.room
           (ap (λ (m : ℕ). record k.pool { free = m }) (pool_even d b h k l ∙ sym row.free))

@@ -1,5 +1,5 @@
 -- Where one more event leaves a core.
-use Rattle.std.proofs.Common.{inl, inr, ◌≡◌, ◌==◌, ◌≢◌, ℕ, zero, suc, ◌+◌, ◌-◌, ◌<◌, ◌≤◌, Bool, true, false, List, [], ◌∷◌, ◌++◌, length, get_or, set, map, refl, sym, ◌∙◌, ap, subst, arith}
+use Rattle.std.proofs.Common.{inl, inr, ◌≡◌, ◌≢◌, ℕ, zero, suc, ◌+◌, ◌<◌, ◌≤◌, Bool, List, [], ◌∷◌, ◌++◌, length, get_or, set, map, refl, sym, ◌∙◌, ap, subst, arith}
 use Rattle.std.specs.Prelude.{All, filter, remove, sum_by}
 use Rattle.std.specs.List.{AllByRecursion}
 use Rattle.std.proofs.lemmas.List.{append-nil, map-set, get_or-map, length-map}
@@ -7,8 +7,8 @@ use Rattle.std.proofs.lemmas.List.Elements.{recursion_from_All}
 use Rattle.std.proofs.lemmas.List.Sums.{sum_by-set, sum_by-remove, get_or-le-sum_by}
 use Rattle.counts.specs.Amounts.{amount}
 use Rattle.claims.specs.declared.row.Row.{Row}
-use Rattle.claims.specs.Claims.{Claims, IsTable, row_at}
-use Rattle.page_pool.specs.Page.{Page, Pages}
+use Rattle.claims.specs.Claims.{Claims, IsTable}
+use Rattle.page_pool.specs.Page.{Pages}
 use Rattle.held_jobs.specs.Jobs.{HeldJob}
 use Rattle.held_jobs.specs.Jobs as J
 use Rattle.held_jobs.specs.Books.{Books, job_at, with_job}
@@ -16,9 +16,9 @@ use Rattle.held_jobs.specs.Shown.{ShownJob, see_job}
 use Rattle.config_values.specs.Config.{Config, reserve_of}
 use Rattle.spool_history.specs.Base.{Base}
 use Rattle.spool_history.specs.Events.{Event}
-use Rattle.spool_history.specs.Now.{Job, State, now, is_held, row_of, free_pages, pages_held}
+use Rattle.spool_history.specs.Now.{Job, State, is_held, row_of, pages_held}
 use Rattle.spool_history.specs.Steps.{change, after, accepted_by, printers_after, closed_after}
-use Rattle.spool_history.specs.Legal.{HasJob, May, IsLegal}
+use Rattle.spool_history.specs.Legal.{HasJob, May}
 use Rattle.spool_laws.specs.Sums.{chained, chained_of}
 use Rattle.spool_laws.proofs.Known.{Has}
 use Rattle.spool_laws.proofs.Moves.{moved}
@@ -28,7 +28,7 @@ use Rattle.page_chain.specs.Files.{every_page}
 use Rattle.spool_moves.proofs.Standing.{Stands, has_get, has_none}
 use Rattle.spool_moves.proofs.Holding.{back_within, handed_within, one_is_out}
 use Rattle.job_moves.proofs.Stored.{stored}
-use Rattle.spool_moves.proofs.Claimed.{table_free, row_here, rows_len}
+use Rattle.spool_moves.proofs.Claimed.{table_free}
 use Rattle.claims.specs.Changes.{closed}
 use Rattle.core_rows.proofs.Tables.{Here, WithRow, WithoutRow, closed_drops, same_leaves}
 use Rattle.core_rows.proofs.Receiving.{held_in_row}

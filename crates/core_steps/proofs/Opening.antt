@@ -1,27 +1,26 @@
 -- A job is accepted.
-use Rattle.std.proofs.Common.{inl, inr, ◌≡◌, ◌==◌, ◌≢◌, ℕ, zero, suc, ◌+◌, ◌-◌, ◌<◌, ◌≤◌, Bool, true, false, List, [], ◌∷◌, ◌++◌, length, get_or, set, map, replicate, refl, sym, ◌∙◌, ap, subst, arith}
-use Rattle.std.specs.Prelude.{All, Result, Ok, Err, ◌⊎◌, cond, nat_lt, sum_by, slice_index_or}
+use Rattle.std.proofs.Common.{inl, inr, ◌≡◌, ◌==◌, ◌≢◌, ℕ, zero, suc, ◌+◌, ◌-◌, ◌<◌, ◌≤◌, ◌^◌, Bool, true, false, List, [], ◌∷◌, ◌++◌, length, get_or, map, replicate, refl, sym, ◌∙◌, ap, subst, arith}
+use Rattle.std.specs.Prelude.{All, Ok, ◌⊎◌, cond, nat_lt, sum_by}
 use Rattle.std.proofs.lemmas.Bool.Decides.{nat_tests}
 use Rattle.std.proofs.lemmas.List.{length-map, length-replicate, map-append, get_or-map, get_or_default, get_or_past}
 use Rattle.std.proofs.lemmas.List.Sums.{sum_by-cons, sum_by-append}
 use Rattle.counts.specs.Amounts.{amount, Fits}
 use Rattle.claims.specs.declared.row.Row.{Row}
-use Rattle.claims.specs.Claims.{Claims, IsTable, row_at, no_row}
 use Rattle.claims.specs.Changes.{opened, new_row_of, HasPlace}
 use Rattle.claims.proofs.Tables.{open_table}
 use Rattle.held_jobs.specs.Jobs.{HeldJob, new_job as new_held}
 use Rattle.held_jobs.specs.Jobs as J
-use Rattle.held_jobs.specs.Books.{Books, job_at}
+use Rattle.held_jobs.specs.Books.{job_at}
 use Rattle.held_jobs.specs.Shown.{ShownJob, see_job}
-use Rattle.config_values.specs.Config.{Config, Queue, IsQueue, limit_of, no_queue, reserve_of}
+use Rattle.config_values.specs.Config.{Config, Queue, IsQueue, limit_of, no_queue, queue_named, reserve_of}
 use Rattle.config_values.specs.Ranges.{IsConfig}
 use Rattle.spool_history.specs.Base.{Base}
 use Rattle.spool_history.specs.Events.{Event}
 use Rattle.spool_history.specs.Events.Event.{Opened}
-use Rattle.spool_history.specs.Said.{openings}
-use Rattle.spool_history.specs.Now.{Job, State, now, row_of, amounts, capacity, up_to}
+use Rattle.spool_history.specs.Now.{Job, now, row_of, amounts, capacity, up_to}
 use Rattle.spool_history.specs.Steps.{after, change, new_job}
-use Rattle.spool_history.specs.Legal.{IsLegal, HasRoom, MayOpen}
+use Rattle.spool_history.specs.Legal.{IsLegal, MayOpen}
+use Rattle.spool_history.specs.Refusals.{HasEntries, RefusesJob}
 use Rattle.spool_laws.specs.Sums.{chained, chained_of}
 use Rattle.spool_laws.proofs.Known.{Has, known, test}
 use Rattle.spool_laws.proofs.Facts.{facts}
@@ -31,11 +30,12 @@ use Rattle.spool_moves.specs.Standing.{no_job}
 use Rattle.spool_history.specs.Claimed.{IsTableOf}
 use Rattle.spool_moves.proofs.Standing.{all_held, has_get, none_changed}
 use Rattle.spool_moves.proofs.Claimed.{rows_len}
-use Rattle.lpd_values.specs.declared.refusal.Refusal.TheVariants.{UnknownQueue, TableFull, AccountFull, Closed, Memory}
+use Rattle.lpd_values.specs.declared.refusal.Refusal.TheVariants.{TableFull, AccountFull}
 use Rattle.spool_calls.specs.Looks.{Detail, What, size}
 use Rattle.spool_calls.specs.Kept.{Kept, IsBookOf, Leaves, left_by, look, shown_job}
-use Rattle.spool_calls.specs.Calls.{InQueue, IsNamed, IsUnknown, Opens}
+use Rattle.spool_calls.specs.Calls.{Opens}
 use Rattle.core_steps.proofs.Leaving.{jobs_len, leaves_with, pool_even, tie}
+use Rattle.core_steps.proofs.Queues.{takes}
 use Rattle.core_steps.proofs.Ranges.{limit_pages}
 
 -- the new job's number is above all others
@@ -74,9 +74,6 @@ none_held : (n k : ℕ) → amount (replicate n 0) k ≡ 0
 none_held zero k = refl
 none_held (suc n) zero = refl
 none_held (suc n) (suc k) = none_held n k
-
-opens_none : {C : Type 0} (number sender queue : ℕ) (z : Job C) → change (Opened number sender queue) z ≡ z
-opens_none number sender queue z = refl
 
 -- what is kept once the job is accepted
 abbrev pub opened_core : Kept → (number sender queue : ℕ) → List ℕ → Kept
@@ -151,12 +148,9 @@ module _ (d : Detail) (b : Base) (h : List (Event (What d))) (k : Kept) (l : Lea
       leaves_with d b h k ev k.pool (record k.book { jobs = k.book.jobs ++ new_held number sender queue ∷ [] }) t number (k.reserved + reserve_of c queue) k.printers k.closed l may book table
       (ap (λ (n : ℕ). record k.pool { free = n }) (pool_even d b h k l)) a r l.kept.printers l.kept.closed
 
-  named : (name : List ℕ) (q : ℕ) (P : ℕ → Type 0) → k.closed ≡ false → IsNamed k.config name q → P q → InQueue d b h k name P
-  named name q P c n p = (sym l.kept.closed ∙ c, q, n, p)
-
   -- the account has room, as it is kept
   abbrev pub Room : ℕ → Type 0
-  Room q = (k.reserved + reserve_of k.config q + 1 ≤ k.config.account) × (k.accepted + 1 < 18446744073709551616)
+  Room q = (k.reserved + reserve_of k.config q + 1 ≤ k.config.account) × (k.accepted + 1 < 2 ^ 64)
 
   may_open : (q : ℕ) → k.closed ≡ false → IsQueue k.config q → length k.book.jobs < k.config.max_jobs → Room q → MayOpen (left_by d b h k) (k.accepted + 1) q
   may_open q c is few room =
@@ -167,32 +161,13 @@ module _ (d : Detail) (b : Base) (h : List (Event (What d))) (k : Kept) (l : Lea
       let r1 = room.1 in
       (sym l.kept.closed ∙ c, is, omega (arith, n, few), omega (arith, r, r0), omega (arith, a), r1)
 
-  pub open_done : (sender q : ℕ) (name need : List ℕ) → k.closed ≡ false → IsNamed k.config name q → length k.book.jobs < k.config.max_jobs → Room q → HasPlace k.table need → need ≡ amounts k.config (limit_of k.config q) q 1
-      → Opens d b h k sender name (opened_core k (k.accepted + 1) sender q need) (Ok (k.accepted + 1))
-  open_done sender q name need c n few room place e =
-      let may = may_open q c n.0 few room in
-      named name q _ c n (may, opened_leaves (k.accepted + 1) sender q need may place e)
-
-  pub open_closed : (sender : ℕ) (name : List ℕ) → k.closed ≡ true → Opens d b h k sender name k (Err Closed)
-  open_closed sender name c = (sym l.kept.closed ∙ c, refl)
-
-  pub open_unknown : (sender : ℕ) (name : List ℕ) → k.closed ≡ false → IsUnknown k.config name → Opens d b h k sender name k (Err UnknownQueue)
-  open_unknown sender name c u = ((sym l.kept.closed ∙ c, u), refl)
-
-  pub open_full : (sender q : ℕ) (name : List ℕ) → k.closed ≡ false → IsNamed k.config name q → k.config.max_jobs ≤ length k.book.jobs → Opens d b h k sender name k (Err TableFull)
-  open_full sender q name c n many = (let m = jobs_len d b h k l in (named name q _ c n (omega (arith, m, many)), refl))
-
-  pub open_no_room : (sender q : ℕ) (name : List ℕ) → k.closed ≡ false → IsNamed k.config name q → length k.book.jobs < k.config.max_jobs → (Room q → ⊥) → Opens d b h k sender name k (Err AccountFull)
-  open_no_room sender q name c n few never =
-      let m = jobs_len d b h k l in
-      let a = l.kept.accepted in
-      let r = l.kept.reserved in
-      (named name q _ c n (omega (arith, m, few), λ room. never (let r0 = room.0 in let r1 = room.1 in (omega (arith, r, r0), omega (arith, a, r1)))), refl)
-
-  pub open_no_memory : (sender q : ℕ) (name : List ℕ) → k.closed ≡ false → IsNamed k.config name q → length k.book.jobs < k.config.max_jobs → Room q → Opens d b h k sender name k (Err Memory)
-  open_no_memory sender q name c n few room =
-      let a = l.kept.accepted in
-      (named name q _ c n (subst (λ (m : ℕ). MayOpen (left_by d b h k) (m + 1) q) a (may_open q c n.0 few room)), refl)
+  module _ (name : List ℕ) (q : ℕ) (e : queue_named k.config name ≡ q) (c : k.closed ≡ false) (is : IsQueue k.config q) where
+    pub open_done : (sender : ℕ) (need : List ℕ) → length k.book.jobs < k.config.max_jobs → Room q → HasPlace k.table need → need ≡ amounts k.config (limit_of k.config q) q 1
+        → Opens d b h k sender name (opened_core k (k.accepted + 1) sender q need) (Ok (k.accepted + 1))
+    open_done sender need few room place n =
+        let may = may_open q c is few room in
+        subst (λ (m : ℕ). MayOpen (left_by d b h k) (k.accepted + 1) m × Leaves d b (Opened (k.accepted + 1) sender m ∷ h) (opened_core k (k.accepted + 1) sender q need)) (sym e)
+        (may, opened_leaves (k.accepted + 1) sender q need may place n)
 
 -- a job's claim is within what there is
 
@@ -245,6 +220,3 @@ module _ (d : Detail) (b : Base) (h : List (Event (What d))) (k : Kept) (l : Lea
       let r = rows_len k.table (left_by d b h k) l.kept.table in
       let m = l.kept.table.room in
       omega (arith, few, n, r, m)
-
-  pub book_room : length k.book.jobs < k.config.max_jobs → length k.book.jobs < k.book.max_jobs
-  book_room few = (let m = l.kept.book.max_jobs in omega (arith, few, m))

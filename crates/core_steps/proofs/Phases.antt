@@ -1,5 +1,5 @@
 -- How far a job is, in the words of its history and of the book.
-use Rattle.std.proofs.Common.{◌≡◌, ℕ, Bool, true, false, List, length, get_or, map, refl, sym, ◌∙◌, ap, subst}
+use Rattle.std.proofs.Common.{◌≡◌, Bool, true, false, refl, sym, ◌∙◌, ap}
 use Rattle.held_jobs.specs.declared.phase.Phase.{Phase}
 use Rattle.held_jobs.specs.declared.phase.Phase.TheVariants.{Receiving, Received, Ended}
 use Rattle.held_jobs.specs.Jobs.{HeldJob, Facts}
@@ -22,17 +22,6 @@ receiving x s = receiving_by x x.ended (is_received x) refl refl s
 
 pub phase_receiving : {C : Type 0} (x : Job C) → IsReceiving x → phase_of x ≡ Receiving
 phase_receiving x r = (let e = r.0 in let i = r.1 in rw (e, i) refl)
-
-received_by : {C : Type 0} (x : Job C) (e r : Bool) → x.ended ≡ e → is_received x ≡ r → phase_of x ≡ Received → (x.ended ≡ false) × (is_received x ≡ true)
-received_by x true r ee er s = (let t : Ended ≡ Received = rw ee at s in absurd cc)
-received_by x false false ee er s = (let t : Receiving ≡ Received = rw (ee, er) at s in absurd cc)
-received_by x false true ee er s = (ee, er)
-
-pub received : {C : Type 0} (x : Job C) → phase_of x ≡ Received → (x.ended ≡ false) × (is_received x ≡ true)
-received x s = received_by x x.ended (is_received x) refl refl s
-
-pub phase_received : {C : Type 0} (x : Job C) → x.ended ≡ false → is_received x ≡ true → phase_of x ≡ Received
-phase_received x e r = rw (e, r) refl
 
 ended_by : {C : Type 0} (x : Job C) (e r : Bool) → x.ended ≡ e → is_received x ≡ r → phase_of x ≡ Ended → x.ended ≡ true
 ended_by x true r ee er s = ee

@@ -1,20 +1,19 @@
 -- What a core keeps of its printers.
-use Rattle.std.proofs.Common.{◌≡◌, ℕ, zero, suc, ◌+◌, ◌-◌, ◌<◌, ◌≤◌, Bool, true, false, List, [], ◌∷◌, length, get_or, set, map, refl, sym, ◌∙◌, ap, subst, arith}
+use Rattle.std.proofs.Common.{◌≡◌, ℕ, zero, suc, ◌-◌, ◌<◌, ◌≤◌, true, false, List, ◌∷◌, length, get_or, set, map, refl, sym, ◌∙◌, ap, arith}
 use Rattle.std.specs.Prelude.{Option, Some, None, is_some}
 use Rattle.std.proofs.lemmas.List.{length-map, get_or-map, map-set}
-use Rattle.account.specs.declared.entry.Sheet.{Sheet as SheetOut}
-use Rattle.config_values.specs.Config.{Config, IsPrinter, printer_count}
+use Rattle.config_values.specs.Config.{IsPrinter, printer_count}
 use Rattle.spool_history.specs.Base.{Base}
 use Rattle.spool_history.specs.Events.{Event, Sheet}
 use Rattle.spool_history.specs.Now as N
 use Rattle.spool_history.specs.Now.{Job, State}
-use Rattle.spool_history.specs.Next.{Next, next_page, printer_at, turn_of, hand_of, with_out, no_printer}
+use Rattle.spool_history.specs.Next.{next_page, printer_at, turn_of, hand_of, with_out, no_printer}
 use Rattle.spool_history.specs.Next.Next.{Stops, Busy, Over}
 use Rattle.spool_laws.proofs.Known.{clash}
 use Rattle.spool_laws.proofs.Adding.{length_up_to}
 use Rattle.spool_calls.specs.declared.printer.Printer.{Printer}
 use Rattle.spool_calls.specs.Looks.{Detail, What}
-use Rattle.spool_calls.specs.Kept.{Kept, Leaves, left_by, kept_printer, kept_out, kept_sheet}
+use Rattle.spool_calls.specs.Kept.{Kept, Leaves, left_by, kept_printer, kept_out}
 
 module _ (d : Detail) (b : Base) (h : List (Event (What d))) (k : Kept) (l : Leaves d b h k) where
   pub printers_len : length k.printers ≡ printer_count k.config
@@ -45,9 +44,6 @@ module _ (d : Detail) (b : Base) (h : List (Event (What d))) (k : Kept) (l : Lea
 -- what is next, case by case
 
 module _ (d : Detail) (v : State (What d)) (p : ℕ) where
-  pub next_over : v.closed ≡ true → next_page v p ≡ Over
-  next_over e = rw e refl
-
   pub next_stopped : (at : Printer) → v.closed ≡ false → at ≡ kept_printer d (printer_at v p) → at.stopped ≡ true → next_page v p ≡ Stops
   next_stopped at c e s = (let st : (printer_at v p).stopped ≡ true = ap (λ (x : Printer). x.stopped) (sym e) ∙ s in rw (c, st) refl)
 

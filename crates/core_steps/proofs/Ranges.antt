@@ -1,15 +1,12 @@
 -- Bounds on what a core counts.
-use Rattle.std.proofs.Common.{inl, inr, ◌≡◌, ℕ, zero, suc, ◌+◌, ◌-◌, ◌<◌, ◌≤◌, Bool, true, false, List, [], ◌∷◌, length, get_or, map, refl, sym, ◌∙◌, ap, subst, arith}
+use Rattle.std.proofs.Common.{◌≡◌, ℕ, zero, suc, ◌<◌, ◌≤◌, Bool, true, false, List, [], ◌∷◌, length, get_or, arith}
 use Rattle.std.specs.Prelude.{cond, filter, count_by}
-use Rattle.std.proofs.lemmas.List.{get_or_past}
 use Rattle.std.proofs.lemmas.List.Sums.{length-filter}
 use Rattle.config_values.specs.Config.{Config, Queue, limit_of, no_queue}
 use Rattle.config_values.specs.Ranges.{IsConfig}
 use Rattle.spool_history.specs.Base.{Base}
 use Rattle.spool_history.specs.Events.{Event}
-use Rattle.spool_history.specs.Now.{Job, now, free_pages}
-use Rattle.spool_laws.specs.Sums.{at_printers, chained, lent}
-use Rattle.spool_laws.proofs.Known.{clash}
+use Rattle.spool_history.specs.Now.{Job}
 use Rattle.spool_laws.proofs.Apart.{each_has_a_place}
 use Rattle.spool_moves.specs.Standing.{no_job}
 use Rattle.spool_calls.specs.Looks.{Detail, What, size}

@@ -1,6 +1,6 @@
 -- What the readers of a core say.
-use Rattle.std.proofs.Common.{◌≡◌, ◌≢◌, ℕ, ◌+◌, ◌-◌, ◌<◌, ◌≤◌, Bool, true, false, cond, List, [], ◌∷◌, ◌++◌, length, get_or, map, refl, sym, ◌∙◌, ap, arith}
-use Rattle.std.specs.Prelude.{All, Option, None, Some, count_by, is_some}
+use Rattle.std.proofs.Common.{◌≡◌, ◌≢◌, ◌==◌, ℕ, suc, ◌+◌, ◌-◌, ◌<◌, ◌≤◌, Bool, true, false, cond, List, [], ◌∷◌, ◌++◌, length, filter, get_or, map, refl, sym, ◌∙◌, ap, arith}
+use Rattle.std.specs.Prelude.{◌&&◌, All, Option, None, Some, count_by, is_some}
 use Rattle.std.proofs.lemmas.List.{length-append, length-map}
 use Rattle.std.proofs.lemmas.List.Sums.{count_by-le-length, sum_by-cons}
 use Rattle.lpd_values.specs.declared.refusal.Refusal.TheVariants.{ControlTwice, NotOpen}
@@ -19,6 +19,7 @@ use Rattle.spool_history.specs.Acts.{File, is_open_in}
 use Rattle.spool_history.specs.Now as N
 use Rattle.spool_history.specs.Now.{Job, State, free_pages}
 use Rattle.spool_history.specs.Legal.{HasOpen, IsReceiving}
+use Rattle.spool_history.specs.Refusals.{MayControl, RefusesControl}
 use Rattle.spool_laws.specs.Sums.{at_printers}
 use Rattle.spool_laws.proofs.Known.{clash}
 use Rattle.spool_laws.proofs.Adding.{sum_map}
@@ -29,7 +30,8 @@ use Rattle.spool_moves.proofs.Opens.{job_opens, last_of}
 use Rattle.spool_calls.specs.declared.printer.Printer.{Printer}
 use Rattle.spool_calls.specs.Looks.{Detail, What, size}
 use Rattle.spool_calls.specs.Kept.{Kept, Leaves, left_by, look, shown_job, kept_out, kept_printer, size_of}
-use Rattle.spool_calls.specs.Readers.{ArePlaced, HasOpenFile, IsOpenFile, MayControl, RefusesControl, stopped_for}
+use Rattle.spool_calls.specs.Readers.{ArePlaced, HasOpenFile, IsOpenFile, stopped_for}
+use Rattle.spool_calls.specs.Telling.{stopped_in}
 use Rattle.core_steps.proofs.Leaving.{Found, none_has, standing, tie}
 use Rattle.core_steps.proofs.Phases.{facts_tie, open_tie}
 use Rattle.core_steps.proofs.Filing.{is_receiving, not_receiving}
@@ -39,10 +41,6 @@ use Rattle.core_steps.proofs.Starting.{is_stopped_for}
 -- how many of these printers have a page out
 abbrev pub out_among : List Printer → ℕ
 out_among printers = count_by (λ (p : Printer). is_some p.out) printers
-
--- how many printers of a queue are stopped, as it is kept
-abbrev pub stopped_in_queue : ℕ → List Printer → ℕ
-stopped_in_queue q printers = count_by (is_stopped_for q) printers
 
 -- to how many of these jobs a page is lent
 abbrev pub lent_among : List HeldJob → ℕ
@@ -68,10 +66,41 @@ count_agree p q (x ∷ xs) e =
     let here : one (p x) ≡ one (q x) = ap one (e x) in
     omega (arith, a, b, ih, here)
 
+-- the elements that pass both of two tests, one test after the other
+two_tests : {X : Type 0} (p q : X → Bool) (xs : List X) → length (filter p (filter q xs)) ≡ count_by (λ x. q x && p x) xs
+two_tests p q [] = refl
+two_tests {X} p q (x ∷ xs) = by (q x) (p x) refl refl (two_tests p q xs) (sum_by-cons (λ y. cond (q y && p y) 1 0) x xs)
+  where
+    both : List X → ℕ
+    both ys = length (filter p (filter q ys))
+
+    one : Bool → ℕ
+    one t = cond t 1 0
+
+    all : List X → ℕ
+    all ys = count_by (λ y. q y && p y) ys
+
+    by : (a b : Bool) → q x ≡ a → p x ≡ b → both xs ≡ all xs → all (x ∷ xs) ≡ one (q x && p x) + all xs → both (x ∷ xs) ≡ all (x ∷ xs)
+    by true true e f ih sum =
+        let l : both (x ∷ xs) ≡ suc (both xs) = rw (e, f) refl in
+        let one : one (q x && p x) ≡ 1 = rw (e, f) refl in
+        omega (arith, l, one, ih, sum)
+    by true false e f ih sum =
+        let l : both (x ∷ xs) ≡ both xs = rw (e, f) refl in
+        let none : one (q x && p x) ≡ 0 = rw (e, f) refl in
+        omega (arith, l, none, ih, sum)
+    by false b e f ih sum =
+        let l : both (x ∷ xs) ≡ both xs = rw e refl in
+        let none : one (q x && p x) ≡ 0 = rw e refl in
+        omega (arith, l, none, ih, sum)
+
 lents : (d : Detail) (c : Config) (js : List HeldJob) (xs : List (Job (What d))) → map (see_job (look d)) js ≡ map (shown_job c) xs → lent_among js ≡ count_by (λ (x : Job (What d)). x.lent) xs
 lents d c js xs e =
     sym (count_map (λ (s : ShownJob (What d)). s.facts.lent) (see_job (look d)) js)
     ∙ (ap (count_by (λ (s : ShownJob (What d)). s.facts.lent)) e ∙ count_map (λ (s : ShownJob (What d)). s.facts.lent) (shown_job c) xs)
+
+stopped_counted : (q : ℕ) (printers : List Printer) → length (stopped_in q printers) ≡ count_by (is_stopped_for q) printers
+stopped_counted q printers = two_tests (λ (p : Printer). p.stopped) (λ (p : Printer). p.queue == q) printers
 
 last_mapped : {C : Type 0} (z : ℕ) (fs : List (File C)) (y : File C) → length (map {A = File C} {B = DataFile} (size_of z) (fs ++ y ∷ [])) ≡ length fs + 1
 last_mapped {C} z fs y =
@@ -86,8 +115,9 @@ module _ (d : Detail) (b : Base) (h : List (Event (What d))) (k : Kept) (l : Lea
   pub reads_free : k.pool.free ≡ free_pages v
   reads_free = ap (λ (p : Pages). p.free) l.kept.pool
 
-  pub reads_stopped : (q : ℕ) → stopped_in_queue q k.printers ≡ stopped_for d b h k q
-  reads_stopped q = ap (stopped_in_queue q) l.kept.printers ∙ count_map (is_stopped_for q) (kept_printer d) v.printers
+  pub reads_stopped : (q : ℕ) → length (stopped_in q k.printers) ≡ stopped_for d b h k q
+  reads_stopped q =
+      stopped_counted q k.printers ∙ (ap (count_by (is_stopped_for q)) l.kept.printers ∙ count_map (is_stopped_for q) (kept_printer d) v.printers)
 
   reads_out : out_among k.printers ≡ at_printers v
   reads_out =
@@ -103,7 +133,7 @@ module _ (d : Detail) (b : Base) (h : List (Event (What d))) (k : Kept) (l : Lea
       let all = each_has_a_place (size d) k.config b h l.legal in
       record { free_is = f; chain_is = c; session_is = s; printer_is = p; all = omega (arith, f, c, s, p, all) }
 
-  pub refuses_none : (job : ℕ) → All (λ (j : HeldJob). j.facts.number ≢ job) k.book.jobs → RefusesControl d b h k job NotOpen
+  pub refuses_none : (job : ℕ) → All (λ (j : HeldJob). j.facts.number ≢ job) k.book.jobs → RefusesControl (left_by d b h k) job NotOpen
   refuses_none job none m = none_has d b h k job IsReceiving l none m
 
   pub no_file_of : (job : ℕ) → All (λ (j : HeldJob). j.facts.number ≢ job) k.book.jobs → HasOpenFile d b h k job → ⊥
@@ -125,14 +155,14 @@ module _ (d : Detail) (b : Base) (h : List (Event (What d))) (k : Kept) (l : Lea
   t : see_job (look d) j ≡ shown_job k.config x
   t = tie d b h k i l f.there
 
-  pub may_control : j.facts.phase ≡ Receiving → j.facts.control ≡ None → MayControl d b h k job
+  pub may_control : j.facts.phase ≡ Receiving → j.facts.control ≡ None → MayControl (left_by d b h k) job
   may_control p n =
       has_job w i job (λ y. IsReceiving y × (y.control ≡ None)) s (is_receiving d b h k l job i f p, sym (ap (λ (g : Facts). g.control) (facts_tie (look d) k.config j x t)) ∙ n)
 
-  pub refuses_unreceived : (j.facts.phase ≡ Receiving → ⊥) → RefusesControl d b h k job NotOpen
+  pub refuses_unreceived : (j.facts.phase ≡ Receiving → ⊥) → RefusesControl (left_by d b h k) job NotOpen
   refuses_unreceived never m = not_receiving d b h k l job i f never (has_here (size d) k.config b h i job IsReceiving l.legal s m)
 
-  pub refuses_twice : j.facts.phase ≡ Receiving → (j.facts.control ≡ None → ⊥) → RefusesControl d b h k job ControlTwice
+  pub refuses_twice : j.facts.phase ≡ Receiving → (j.facts.control ≡ None → ⊥) → RefusesControl (left_by d b h k) job ControlTwice
   refuses_twice p some =
       has_job w i job (λ y. IsReceiving y × (y.control ≡ None → ⊥)) s (is_receiving d b h k l job i f p, λ n. some (ap (λ (g : Facts). g.control) (facts_tie (look d) k.config j x t) ∙ n))
 
@@ -175,9 +205,10 @@ module _ (d : Detail) (b : Base) (h : List (Event (What d))) (k : Kept) (l : Lea
       sized (a ∷ e ∷ fs) y = sized (e ∷ fs) y
 
 -- there aren't many printers
-pub few_stopped : (d : Detail) (b : Base) (h : List (Event (What d))) (k : Kept) → Leaves d b h k → IsConfig k.config → (q : ℕ) → stopped_in_queue q k.printers ≤ 1024
+pub few_stopped : (d : Detail) (b : Base) (h : List (Event (What d))) (k : Kept) → Leaves d b h k → IsConfig k.config → (q : ℕ) → length (stopped_in q k.printers) ≤ 1024
 few_stopped d b h k l ranges q =
     let n = printers_len d b h k l in
     let m = few_printers k.config.pages k.config.queues k.config.queues (printer_count k.config) ranges.queues ranges.few_queues refl refl in
+    let e = stopped_counted q k.printers in
     let le = count_by-le-length (is_stopped_for q) k.printers in
-    omega (arith, n, m, le)
+    omega (arith, n, m, e, le)

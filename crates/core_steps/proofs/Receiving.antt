@@ -1,32 +1,31 @@
 -- A data file of a job ends, and its control file comes: with the last of these it is received.
-use Rattle.std.proofs.Common.{inl, inr, ◌≡◌, ◌≢◌, ℕ, suc, ◌+◌, ◌-◌, ◌*◌, ◌<◌, ◌≤◌, Bool, true, false, List, [], ◌∷◌, ◌++◌, length, get_or, set, map, refl, sym, ◌∙◌, ap, subst, arith}
-use Rattle.std.specs.Prelude.{All, Result, Ok, Err, Option, Some, None, IsSome, ◌&&◌, not, sum_by, is_some}
+use Rattle.std.proofs.Common.{◌≡◌, ◌≢◌, ℕ, ◌+◌, ◌-◌, ◌≤◌, Bool, true, false, List, [], ◌∷◌, length, get_or, set, map, refl, sym, ◌∙◌, ap, subst, arith}
+use Rattle.std.specs.Prelude.{All, Ok, Err, Option, Some, None, IsSome, ◌&&◌, not, is_some}
 use Rattle.std.specs.List.{list_all}
 use Rattle.counts.specs.Amounts.{amount}
 use Rattle.claims.specs.declared.row.Row.{Row}
-use Rattle.claims.specs.Claims.{Claims, row_at}
+use Rattle.claims.specs.Claims.{row_at}
 use Rattle.claims.specs.Changes.{given_back, need_ended}
-use Rattle.page_pool.specs.Page.{Page, Pages}
-use Rattle.page_chain.specs.Files.{Files}
+use Rattle.page_pool.specs.Page.{Pages}
 use Rattle.page_chain.specs.Changes.{unnamed_pages}
 use Rattle.lpd_values.specs.Contents.{Contents}
 use Rattle.lpd_values.specs.Kept.{is_among}
-use Rattle.lpd_values.specs.declared.refusal.Refusal.TheVariants.{NotOpen, ControlTwice}
+use Rattle.lpd_values.specs.declared.refusal.Refusal.TheVariants.{NotOpen}
 use Rattle.held_jobs.specs.declared.file.DataFile.{DataFile}
 use Rattle.held_jobs.specs.declared.phase.Phase.TheVariants.{Receiving}
-use Rattle.held_jobs.specs.Jobs.{HeldJob, Facts, file_names, has_all, has_prints, last_size}
+use Rattle.held_jobs.specs.Jobs.{HeldJob, Facts, file_names, has_all, has_prints}
 use Rattle.held_jobs.specs.Moves.{CanEnd, closed_file, controlled_facts, received_job, told}
 use Rattle.held_jobs.specs.Books.{IsIdle, job_at, prints_of, with_job}
 use Rattle.held_jobs.specs.Shown.{see_job}
-use Rattle.config_values.specs.Config.{Config}
 use Rattle.config_values.specs.Ranges.{IsConfig}
 use Rattle.spool_history.specs.Base.{Base}
 use Rattle.spool_history.specs.Events.{Act, Event}
 use Rattle.spool_history.specs.Events.Act.{FileEnded, Controlled}
 use Rattle.spool_history.specs.Events.Event.{OfJob}
-use Rattle.spool_history.specs.Acts.{File, at_last, is_open_in, is_whole, names_in, prints_in}
+use Rattle.lpd_values.specs.Told.{prints_in}
+use Rattle.spool_history.specs.Acts.{File, at_last, is_open_in, is_whole, names_in}
 use Rattle.spool_history.specs.Now.{Job, State, is_held, is_received, pages_kept, row_of}
-use Rattle.spool_history.specs.Steps.{acted, after}
+use Rattle.spool_history.specs.Steps.{acted}
 use Rattle.spool_history.specs.Legal.{HasJob, HasOpen, HasPages, IsControl, IsReceiving, JobMay, pages_for}
 use Rattle.spool_laws.specs.Sums.{chained_of}
 use Rattle.spool_laws.proofs.Known.{Has, clash}
@@ -35,9 +34,9 @@ use Rattle.spool_moves.specs.Standing.{no_job}
 use Rattle.spool_moves.proofs.Standing.{Stands, has_get, has_here, has_job}
 use Rattle.spool_moves.proofs.Moving.{act_set}
 use Rattle.spool_moves.proofs.Opens.{LastOpen, job_opens, last_of}
-use Rattle.spool_moves.proofs.Files.{Differ, Needed, job_names_differ, job_pages_needed, needed_of_last, none_left_is_all, all_is_none_left}
+use Rattle.spool_moves.proofs.Files.{Differ, job_names_differ, job_pages_needed, needed_of_last, none_left_is_all, all_is_none_left}
 use Rattle.spool_moves.proofs.Holding.{closed_unlent, file_pages, granted_filed, granted_within, unreceived_unhanded}
-use Rattle.job_moves.proofs.Ties.{Fills, fills}
+use Rattle.job_moves.proofs.Ties.{fills}
 use Rattle.job_moves.proofs.Received.{names_ended, received_by_control, received_by_file}
 use Rattle.job_moves.proofs.Receiving.{closed_ended, ties_closed, ties_controlled}
 use Rattle.job_moves.proofs.Counting.{counts_by_control, counts_by_file}
@@ -50,8 +49,8 @@ use Rattle.spool_calls.specs.Kept.{Kept, Leaves, left_by, look, shown_job, facts
 use Rattle.spool_calls.specs.Calls.{Ends, Controls}
 use Rattle.core_steps.proofs.Leaving.{Found, standing, tie, none_has, jobs_left, leaves_job, leaves_row, one_stored, pool_even, row_stands}
 use Rattle.core_steps.proofs.Ranges.{limit_within}
-use Rattle.core_steps.proofs.Phases.{facts_tie, phase_tie, phase_receiving, open_tie, receiving}
-use Rattle.core_steps.proofs.Filing.{is_receiving, left_of, not_receiving}
+use Rattle.core_steps.proofs.Phases.{facts_tie, phase_tie, phase_receiving, open_tie}
+use Rattle.core_steps.proofs.Filing.{is_receiving, left_of}
 
 -- whether all that is awaited is there
 
@@ -67,18 +66,11 @@ names_sized : {C : Type 0} (z : ℕ) (fs : List (File C)) → map {A = DataFile}
 names_sized z [] = refl
 names_sized z (g ∷ fs) = ap (λ (ns : List (List ℕ)). g.name ∷ ns) (names_sized z fs)
 
-some_control : (names : List (List ℕ)) (control : Option Contents) → has_all names control ≡ true → IsSome control
-some_control names None e = absurd (clash false e refl)
-some_control names (Some control) e = refl
-
 held_unended : {C : Type 0} (x : Job C) → x.ended ≡ false → is_held x ≡ true
 held_unended x e = rw e refl
 
 pub end_none : (d : Detail) (b : Base) (h : List (Event (What d))) (k : Kept) (job : ℕ) → Leaves d b h k → All (λ (j : HeldJob). j.facts.number ≢ job) k.book.jobs → Ends d b h k job k (Err NotOpen)
-end_none d b h k job l none = ((λ file whole m. none_has d b h k job (JobMay (size d) k.config (FileEnded file whole)) l none m), refl)
-
-pub control_none : (d : Detail) (b : Base) (h : List (Event (What d))) (k : Kept) (job : ℕ) (control : Contents) → Leaves d b h k → All (λ (j : HeldJob). j.facts.number ≢ job) k.book.jobs → Controls d b h k job control k (Err NotOpen)
-control_none d b h k job control l none = ((λ m. none_has d b h k job IsReceiving l none m), refl)
+end_none d b h k job l none = ((λ m. none_has d b h k job (JobMay (size d) k.config (FileEnded m.0 m.1)) l none m.2), refl)
 
 -- so many pages fit into the pool beside those that are free, if they are stored
 pub pool_room : (d : Detail) (b : Base) (h : List (Event (What d))) (k : Kept) → Leaves d b h k → (n : ℕ) → n ≤ k.book.stored → k.pool.free + n ≤ k.pool.pages
@@ -176,7 +168,7 @@ module _ (d : Detail) (b : Base) (h : List (Event (What d))) (k : Kept) (l : Lea
 
   pub end_refused : IsConfig k.config → (CanEnd j → ⊥) → Ends d b h k job k (Err NotOpen)
   end_refused ranges never = (
-    (λ file whole m. never (can (here (MayEnd file whole) m))),
+    (λ m. never (can (here (MayEnd m.0 m.1) m.2))),
     refl,
   )
     where
@@ -188,7 +180,7 @@ module _ (d : Detail) (b : Base) (h : List (Event (What d))) (k : Kept) (l : Lea
           let left = ap (λ (g : DataFile). g.left) (left_of d b h k l job i f (record { octets = []; page_size = 0 }) before last m.2.2) in (
             phase_tie (look d) k.config j x t ∙ phase_receiving x m.0,
             ap (λ (g : Facts). g.lent) ft ∙ m.1,
-            open_tie (look d) k.config j x t m.0 ∙ (ap is_open_in m.2.2 ∙ Rattle.core_rows.proofs.Receiving.last_open before last m.2.4),
+            open_tie (look d) k.config j x t m.0 ∙ (ap is_open_in m.2.2 ∙ Rattle.spool_laws.proofs.PutOff.open_last before last m.2.4),
             omega (arith, left, all),
           )
 
@@ -254,20 +246,7 @@ module _ (d : Detail) (b : Base) (h : List (Event (What d))) (k : Kept) (l : Lea
   pub end_idle : CanEnd j → IsIdle (closed_file j).chain
   end_idle c = (let g = fills (look d) k.config j x (is_receiving d b h k l job i f c.0) t in record { closed = refl; placed = g.places; fresh = g.last })
 
-  pub end_control : has_prints j.facts ≡ true → IsSome j.facts.control
-  end_control e = some_control (file_names j.facts) j.facts.control e
-
   -- the control file comes
-
-  pub control_refused : (control : Contents) → (j.facts.phase ≡ Receiving → ⊥) → Controls d b h k job control k (Err NotOpen)
-  control_refused control never = ((λ m. not_receiving d b h k l job i f never (here IsReceiving m)), refl)
-
-  pub control_twice : (control : Contents) → j.facts.phase ≡ Receiving → (j.facts.control ≡ None → ⊥) → Controls d b h k job control k (Err ControlTwice)
-  control_twice control p never = (
-    has_job v i job (λ y. IsReceiving y × (y.control ≡ None → ⊥)) s
-        (is_receiving d b h k l job i f p, λ none. never (ap (λ (g : Facts). g.control) ft ∙ none)),
-    refl,
-  )
 
   may_control : (control : Contents) (whole : Bool) → j.facts.phase ≡ Receiving → j.facts.control ≡ None → whole ≡ is_received (acted (Controlled control whole) x) → HasJob v.jobs job (JobMay (size d) k.config (Controlled control whole))
   may_control control whole p none e = has_job v i job (JobMay (size d) k.config (Controlled control whole)) s (is_receiving d b h k l job i f p, sym (ap (λ (g : Facts). g.control) ft) ∙ none, e)

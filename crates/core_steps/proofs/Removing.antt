@@ -1,27 +1,32 @@
 -- Jobs are removed.
 use Rattle.std.proofs.Common.{inl, inr, ◌⊎◌, ◌≡◌, ◌≢◌, ◌==◌, ℕ, zero, suc, ◌+◌, ◌<◌, Bool, true, false, cond, List, [], ◌∷◌, length, map, filter, take, refl, sym, ◌∙◌, ap, subst, arith}
-use Rattle.std.specs.Prelude.{◌&&◌, not, Ok, Err}
+use Rattle.std.specs.Prelude.{◌&&◌, not, Ok}
 use Rattle.std.specs.List.{AllByRecursion, list_any}
 use Rattle.std.specs.List.Sorted.{IsStrictlyIncreasing}
+use Rattle.std.proofs.lemmas.Bool.{and_parts}
 use Rattle.std.proofs.lemmas.Bool.Decides.{nat_tests}
+use Rattle.lpd_values.specs.Choice as K
+use Rattle.lpd_values.specs.Texts.{removal_text}
 use Rattle.held_jobs.specs.Jobs.{Facts}
 use Rattle.held_jobs.specs.Turns.{facts_in}
-use Rattle.held_jobs.specs.Choice as K
-use Rattle.held_jobs.specs.Texts as W
-use Rattle.lpd_values.specs.declared.refusal.Refusal.TheVariants.{UnknownQueue, Closed, Memory}
+use Rattle.held_jobs.specs.Told.{told_in}
+use Rattle.config_values.specs.Config.{IsQueue, queue_named}
 use Rattle.spool_history.specs.Base.{Base}
 use Rattle.spool_history.specs.Events.{Event}
 use Rattle.spool_history.specs.Events.Event.{Removed}
 use Rattle.spool_history.specs.Now.{Job, State, is_received}
 use Rattle.spool_history.specs.Choice as H
+use Rattle.spool_history.specs.Texts as X
+use Rattle.spool_history.specs.Told.{told_of}
 use Rattle.spool_history.specs.Legal.{HasJob, May, MayBeRemoved}
 use Rattle.spool_laws.proofs.Known.{Has, clash}
 use Rattle.spool_laws.proofs.Pigeons.{Rises}
 use Rattle.spool_laws.proofs.Busy.{rising_jobs}
-use Rattle.spool_moves.proofs.Standing.{contains_has}
+use Rattle.spool_laws.proofs.Joined.{contained as contains_has}
 use Rattle.spool_calls.specs.Looks.{Detail, What, size}
 use Rattle.spool_calls.specs.Kept.{Kept, Leaves, left_by}
-use Rattle.spool_calls.specs.Calls.{IsNamed, IsUnknown, Removes, removed_by}
+use Rattle.spool_calls.specs.Calls.{Removes, removed_by}
+use Rattle.core_steps.proofs.Queues.{takes}
 use Rattle.core_steps.proofs.Stocks.{Stock}
 use Rattle.core_steps.proofs.EndingMany.{EndsTo, stock_of}
 use Rattle.core_steps.proofs.Closing.{listed, removed_leaves, with_stock}
@@ -75,13 +80,13 @@ increasing name (x ∷ y ∷ xs) r (suc k) lt =
 -- some of the jobs of a state that are listed for a queue, in their order
 record Chosen {C : Type 0} (q : ℕ) (jobs some : List (Job C)) : Type 0 where
   rises : Rises (λ (x : Job C). x.number) some
-  each : (x : Job C) → Has x some → Has x jobs × (H.is_listed q x ≡ true)
+  each : (x : Job C) → Has x some → Has x jobs × (K.is_listed q (told_of x) ≡ true)
 
--- those that are listed
-some_listed : {C : Type 0} (q : ℕ) (jobs : List (Job C)) → Rises (λ (x : Job C). x.number) jobs → Chosen q jobs (filter (H.is_listed q) jobs)
-some_listed {C} q jobs r = record {
-  rises = rises_filter (λ (x : Job C). x.number) (H.is_listed q) jobs r;
-  each = λ x has. has_filter (H.is_listed q) x jobs has;
+-- those that pass a test which the listed ones alone pass
+some_of : {C : Type 0} (q : ℕ) (jobs : List (Job C)) (p : Job C → Bool) → ((x : Job C) → p x ≡ true → K.is_listed q (told_of x) ≡ true) → Rises (λ (x : Job C). x.number) jobs → Chosen q jobs (filter p jobs)
+some_of {C} q jobs p passes r = record {
+  rises = rises_filter (λ (x : Job C). x.number) p jobs r;
+  each = λ x has. let h = has_filter p x jobs has in (h.0, passes x h.1);
 }
 
 -- some of such jobs
@@ -101,21 +106,22 @@ some_take {C} q n jobs some s = record {
 -- those that a removal takes are such
 some_chosen : {C : Type 0} (v : State C) (q : ℕ) (agent : List ℕ) (list : List (List ℕ)) → Rises (λ (x : Job C). x.number) v.jobs → Chosen q v.jobs (H.chosen v q agent list)
 some_chosen {C} v q agent [] r =
-    let begun : Job C → Bool = λ x. not (x.handed == 0) in
-    some_filter q v.jobs (H.active v q) (H.may_remove agent)
-    (some_take q 1 v.jobs (filter begun (H.listed v q)) (some_filter q v.jobs (H.listed v q) begun (some_listed q v.jobs r)))
+    let active : Job C → Bool = λ x. K.is_active q (told_of x) in
+    some_filter q v.jobs (K.active told_of q v.jobs) (λ x. K.may_remove agent (told_of x))
+    (some_take q 1 v.jobs (filter active v.jobs) (some_of q v.jobs active (λ x e. (and_parts (K.is_listed q (told_of x)) (not (x.handed == 0)) e).0) r))
 some_chosen {C} v q agent (word ∷ words) r =
-    some_filter q v.jobs (H.listed v q) (λ x. H.may_remove agent x && list_any (H.picks agent x) (word ∷ words)) (some_listed q v.jobs r)
+    let picked : Job C → Bool = λ x. K.is_picked q agent (word ∷ words) (told_of x) in
+    some_of q v.jobs picked (λ x e. (and_parts (K.is_listed q (told_of x)) (K.may_remove agent (told_of x) && list_any (K.picks agent (told_of x)) (word ∷ words)) e).0) r
 
 -- a listed job may be removed
-removable_by : {C : Type 0} (q : ℕ) (x : Job C) (a b c : Bool) → (x.queue == q) ≡ a → is_received x ≡ b → x.ended ≡ c → H.is_listed q x ≡ true → MayBeRemoved q x
+removable_by : {C : Type 0} (q : ℕ) (x : Job C) (a b c : Bool) → (x.queue == q) ≡ a → is_received x ≡ b → x.ended ≡ c → K.is_listed q (told_of x) ≡ true → MayBeRemoved q x
 removable_by q x true true false ea eb ec e = (let same : x.queue ≡ q = grind (arith, nat_tests) in same, eb, ec)
-removable_by q x false b c ea eb ec e = absurd (clash (H.is_listed q x) e (rw ea refl))
-removable_by q x true false c ea eb ec e = absurd (clash (H.is_listed q x) e (rw (ea, eb) refl))
-removable_by q x true true true ea eb ec e = absurd (clash (H.is_listed q x) e (rw (ea, eb, ec) refl))
+removable_by q x false b c ea eb ec e = absurd (clash (K.is_listed q (told_of x)) e (rw ea refl))
+removable_by q x true false c ea eb ec e = absurd (clash (K.is_listed q (told_of x)) e (rw (ea, eb) refl))
+removable_by q x true true true ea eb ec e = absurd (clash (K.is_listed q (told_of x)) e (rw (ea, eb, ec) refl))
 
 -- each of them may be removed
-each_removable : {C : Type 0} (q : ℕ) (jobs some : List (Job C)) → ((x : Job C) → Has x some → Has x jobs × (H.is_listed q x ≡ true)) → AllByRecursion (λ j. HasJob jobs j (MayBeRemoved q)) (map {A = Job C} {B = ℕ} (λ x. x.number) some)
+each_removable : {C : Type 0} (q : ℕ) (jobs some : List (Job C)) → ((x : Job C) → Has x some → Has x jobs × (K.is_listed q (told_of x) ≡ true)) → AllByRecursion (λ j. HasJob jobs j (MayBeRemoved q)) (map {A = Job C} {B = ℕ} (λ x. x.number) some)
 each_removable q jobs [] each = tt
 each_removable {C} q jobs (x ∷ some) each =
     let e = each x (inl refl) in (
@@ -141,52 +147,47 @@ module _ (d : Detail) (b : Base) (h : List (Event (What d))) (k : Kept) (l : Lea
   open_now c = sym l.kept.closed ∙ c
 
   -- what a removal takes may be removed
-  may_remove : (name agent : List ℕ) (list : List (List ℕ)) (q : ℕ) → k.closed ≡ false → IsNamed k.config name q → removed_by d b h k q agent list ≢ []
+  may_remove : (agent : List ℕ) (list : List (List ℕ)) (q : ℕ) → k.closed ≡ false → IsQueue k.config q → removed_by d b h k q agent list ≢ []
       → May (size d) v (Removed q (removed_by d b h k q agent list))
-  may_remove name agent list q c n ne =
+  may_remove agent list q c is ne =
       let s = some_chosen v q agent list (rising_jobs (size d) k.config b h l.legal) in (
         open_now c,
-        n.0,
+        is,
         some_numbers (removed_by d b h k q agent list) ne,
         increasing (λ (x : Job (What d)). x.number) (H.chosen v q agent list) s.rises,
         each_removable q v.jobs (H.chosen v q agent list) s.each,
       )
 
-  -- why nothing is removed
-
-  pub remove_closed : (name agent : List ℕ) (list : List (List ℕ)) → k.closed ≡ true → Removes d b h k name agent list k (Err Closed)
-  remove_closed name agent list c = (sym l.kept.closed ∙ c, refl)
-
-  pub remove_unknown : (name agent : List ℕ) (list : List (List ℕ)) → k.closed ≡ false → IsUnknown k.config name → Removes d b h k name agent list k (Err UnknownQueue)
-  remove_unknown name agent list c u = ((open_now c, u), refl)
-
-  module _ (name agent : List ℕ) (list : List (List ℕ)) (q : ℕ) (c : k.closed ≡ false) (n : IsNamed k.config name q) where
-    pub remove_memory : Removes d b h k name agent list k (Err Memory)
-    remove_memory = ((open_now c, q, n, tt), refl)
-
-    module _ (text numbers : List ℕ) (et : text ≡ W.removal_text q agent list (facts_in k.book.jobs))
-        (en : numbers ≡ map {A = Facts} {B = ℕ} (λ j. j.number) (K.chosen q agent list (facts_in k.book.jobs))) where
+  module _ (name agent : List ℕ) (list : List (List ℕ)) (q : ℕ) (c : k.closed ≡ false) (e : queue_named k.config name ≡ q) (is : IsQueue k.config q) where
+    module _ (text numbers : List ℕ) (et : text ≡ removal_text told_in q agent list (facts_in k.book.jobs))
+        (en : numbers ≡ map {A = Facts} {B = ℕ} (λ j. j.number) (K.chosen told_in q agent list (facts_in k.book.jobs))) where
       taken : numbers ≡ removed_by d b h k q agent list
       taken = en ∙ numbers_left d b h k l q agent list
 
+      -- what a removal leaves, by the number of its queue
+      abbrev Outcome : Kept → ℕ → Type 0
+      Outcome new n =
+          ((removed_by d b h k n agent list ≡ []) × (new ≡ k))
+          ⊎ ((removed_by d b h k n agent list ≢ []) × Leaves d b (Removed n (removed_by d b h k n agent list) ∷ h) new)
+
+      removed : {new : Kept} → Outcome new q → Removes d b h k name agent list new (Ok text)
+      removed {new} o = (
+        takes d b h k l name q c e is,
+        subst (λ (n : ℕ). text ≡ X.removal_text v n agent list) (sym e) (et ∙ removal_left d b h k l q agent list),
+        subst (Outcome new) (sym e) o,
+      )
+
       -- no job is chosen
       pub remove_none : numbers ≡ [] → Removes d b h k name agent list k (Ok text)
-      remove_none none = (open_now c, q, n, (et ∙ removal_left d b h k l q agent list, inl (sym taken ∙ none, refl)))
+      remove_none none = removed (inl (sym taken ∙ none, refl))
 
       module _ (t : Stock) (ne : numbers ≢ []) (to : EndsTo (listed numbers) (stock_of k) t) where
         -- the chosen jobs have ended
         pub remove_leaves : Leaves d b (Removed q numbers ∷ h) (with_stock k t)
         remove_leaves =
             removed_leaves d b h k l q numbers t
-            (subst (λ (m : List ℕ). May (size d) v (Removed q m)) (sym taken) (may_remove name agent list q c n (λ z. ne (taken ∙ z)))) to
+            (subst (λ (m : List ℕ). May (size d) v (Removed q m)) (sym taken) (may_remove agent list q c is (λ z. ne (taken ∙ z)))) to
 
         pub remove_done : Removes d b h k name agent list (with_stock k t) (Ok text)
-        remove_done = (
-          open_now c,
-          q,
-          n,
-          (
-            et ∙ removal_left d b h k l q agent list,
-            inr (λ z. ne (taken ∙ z), subst (λ (m : List ℕ). Leaves d b (Removed q m ∷ h) (with_stock k t)) taken remove_leaves),
-          ),
-        )
+        remove_done =
+            removed (inr (λ z. ne (taken ∙ z), subst (λ (m : List ℕ). Leaves d b (Removed q m ∷ h) (with_stock k t)) taken remove_leaves))

@@ -1,11 +1,10 @@
 -- Sessions are admitted to a queue, and its stopped printers are started.
 use Rattle.std.proofs.Common.{inl, inr, ◌≡◌, ◌≢◌, ◌==◌, ℕ, zero, suc, ◌+◌, ◌<◌, ◌≤◌, Bool, true, false, cond, List, [], ◌∷◌, ◌++◌, length, get_or, set, take, drop, map, refl, sym, ◌∙◌, ap, subst, arith}
-use Rattle.std.specs.Prelude.{◌&&◌, ◌||◌, ◌⊎◌, Ok, Err, None}
+use Rattle.std.specs.Prelude.{◌&&◌, ◌||◌, ◌⊎◌, Ok, None}
 use Rattle.std.specs.List.{list_any}
 use Rattle.std.proofs.lemmas.List.{append-nil, append_assoc, drop_all, drop_more, get_or-map, get_or_at, length-append, length-drop, length-map, length-take-le, map_more, set_at, take_all}
 use Rattle.std.proofs.lemmas.Bool.Decides.{nat_tests}
-use Rattle.lpd_values.specs.declared.refusal.Refusal.TheVariants.{UnknownQueue, Closed}
-use Rattle.config_values.specs.Config.{IsPrinter, IsQueue, printer_count}
+use Rattle.config_values.specs.Config.{IsPrinter, IsQueue, printer_count, queue_named}
 use Rattle.spool_history.specs.Base.{Base}
 use Rattle.spool_history.specs.Events.{Event}
 use Rattle.spool_history.specs.Events.Event.{Started}
@@ -18,25 +17,15 @@ use Rattle.spool_laws.proofs.Adding.{length_up_to}
 use Rattle.spool_calls.specs.declared.printer.Printer.{Printer}
 use Rattle.spool_calls.specs.Looks.{Detail, What, size}
 use Rattle.spool_calls.specs.Kept.{Kept, Leaves, left_by, kept_printer}
-use Rattle.spool_calls.specs.Calls.{Admits, IsNamed, IsUnknown, Starts}
+use Rattle.spool_calls.specs.Calls.{Starts}
+use Rattle.core_steps.proofs.Queues.{takes}
 use Rattle.core_steps.proofs.EndingMany.{leaves_same}
+use Rattle.core_steps.proofs.Turning.{and_true as both_true}
 
 -- the first elements of a list changed, so many
 
 pub record IsMapped {X : Type 0} (f : X → X) (xs ys : List X) (i : ℕ) : Type 0 where
   pub is : ys ≡ map f (take i xs) ++ drop i xs
-
-pub mapped_none : {X : Type 0} (f : X → X) (xs : List X) → IsMapped f xs xs 0
-mapped_none f xs = record { is = refl }
-
-mapped_len : {X : Type 0} (f : X → X) (xs ys : List X) (i : ℕ) → IsMapped f xs ys i → i ≤ length xs → length ys ≡ length xs
-mapped_len f xs ys i m le =
-    let a = ap length m.is in
-    let b = length-append (map f (take i xs)) (drop i xs) in
-    let c = length-map (take i xs) f in
-    let e = length-take-le i xs le in
-    let g = length-drop i xs in
-    omega (arith, a, b, c, e, g)
 
 pub mapped_more : {X : Type 0} (f : X → X) (xs ys zs : List X) (i : ℕ) (d : X) → IsMapped f xs ys i → i < length xs → zs ≡ set ys i (f (get_or ys i d)) → IsMapped f xs zs (i + 1)
 mapped_more {X} f xs ys zs i d m there set' =
@@ -53,11 +42,6 @@ mapped_more {X} f xs ys zs i d m there set' =
           ∙ (ap (λ (l : List X). set l i (f x)) split
           ∙ (set_at first x rest (f x) i len ∙ push)));
     }
-
-pub mapped_all : {X : Type 0} (f : X → X) (xs ys : List X) (n : ℕ) → IsMapped f xs ys n → length xs ≤ n → ys ≡ map f xs
-mapped_all {X} f xs ys n m le =
-    m.is ∙ (ap (λ (l : List X). map f l ++ drop n xs) (take_all n xs le)
-    ∙ (ap (λ (l : List X). map f xs ++ l) (drop_all n xs le) ∙ append-nil (map f xs)))
 
 -- a printer of this queue, started
 abbrev pub started : ℕ → Printer → Printer
@@ -146,31 +130,12 @@ some_stopped q [] i p lt e = absurd (omega arith)
 some_stopped q (x ∷ xs) zero p lt e = ap (λ (b : Bool). b || has_stopped q xs) e
 some_stopped q (x ∷ xs) (suc i) p lt e = rw (some_stopped q xs i p (omega (arith, lt)) e) (or_true (is_stopped_for q x))
 
-both_true : (a b : Bool) → (a && b) ≡ true → (a ≡ true) × (b ≡ true)
-both_true true b e = (refl, e)
-both_true false b e = absurd (clash false e refl)
-
 module _ (d : Detail) (b : Base) (h : List (Event (What d))) (k : Kept) (l : Leaves d b h k) where
   abbrev v : State (What d)
   v = left_by d b h k
 
   open' : k.closed ≡ false → v.closed ≡ false
   open' c = sym l.kept.closed ∙ c
-
-  pub admit_closed : (name : List ℕ) → k.closed ≡ true → Admits d b h k name (Err Closed)
-  admit_closed name c = sym l.kept.closed ∙ c
-
-  pub admit_unknown : (name : List ℕ) → k.closed ≡ false → IsUnknown k.config name → Admits d b h k name (Err UnknownQueue)
-  admit_unknown name c u = (open' c, u)
-
-  pub admit_done : (name : List ℕ) (q : ℕ) → k.closed ≡ false → IsNamed k.config name q → Admits d b h k name (Ok tt)
-  admit_done name q c n = (open' c, q, n, tt)
-
-  pub start_closed : (name : List ℕ) → k.closed ≡ true → Starts d b h k name k (Err Closed)
-  start_closed name c = (sym l.kept.closed ∙ c, refl)
-
-  pub start_unknown : (name : List ℕ) → k.closed ≡ false → IsUnknown k.config name → Starts d b h k name k (Err UnknownQueue)
-  start_unknown name c u = ((open' c, u), refl)
 
   many : length v.printers ≡ printer_count k.config
   many = length_up_to (N.printer_of k.config b h) (printer_count k.config)
@@ -219,11 +184,14 @@ module _ (d : Detail) (b : Base) (h : List (Event (What d))) (k : Kept) (l : Lea
   pub start_same : (q : ℕ) → has_stopped q k.printers ≡ false → started_core k q ≡ k
   start_same q none = ap (λ (ps : List Printer). record k { printers = ps }) (all_same' q k.printers none)
 
-  pub start_done : (name : List ℕ) (q : ℕ) → k.closed ≡ false → IsNamed k.config name q → Starts d b h k name (started_core k q) (Ok tt)
-  start_done name q c n = (open' c, q, n, by (has_stopped q k.printers) refl)
+  pub start_done : (name : List ℕ) (q : ℕ) → k.closed ≡ false → queue_named k.config name ≡ q → IsQueue k.config q → Starts d b h k name (started_core k q) (Ok tt)
+  start_done name q c e is = (takes d b h k l name q c e is, subst Outcome (sym e) (by (has_stopped q k.printers) refl))
     where
-      by : (s : Bool) → has_stopped q k.printers ≡ s → (May (size d) v (Started q) × Leaves d b (Started q ∷ h) (started_core k q)) ⊎ ((May (size d) v (Started q) → ⊥) × (started_core k q ≡ k))
-      by true e = inl (may q c n.0 e, start_leaves q c n.0 e)
+      Outcome : ℕ → Type 0
+      Outcome n = (May (size d) v (Started n) × Leaves d b (Started n ∷ h) (started_core k q)) ⊎ ((May (size d) v (Started n) → ⊥) × (started_core k q ≡ k))
+
+      by : (s : Bool) → has_stopped q k.printers ≡ s → Outcome q
+      by true e = inl (may q c is e, start_leaves q c is e)
       by false e = inr (never q e, start_same q e)
 
   -- some history leaves the core there

@@ -1,5 +1,5 @@
 -- A job ends in the book, the pool and the table of a core.
-use Rattle.std.proofs.Common.{◌≡◌, ◌==◌, ℕ, ◌+◌, ◌-◌, ◌<◌, ◌≤◌, Bool, true, false, List, length, get_or, set, map, refl, sym, ◌∙◌, ap, subst, arith}
+use Rattle.std.proofs.Common.{◌≡◌, ◌==◌, ℕ, ◌+◌, ◌-◌, ◌<◌, ◌≤◌, ◌^◌, Bool, true, false, List, length, get_or, set, map, refl, sym, ◌∙◌, ap, subst, arith}
 use Rattle.std.specs.Prelude.{◌||◌, not, cond, remove}
 use Rattle.std.proofs.lemmas.List.{map-set, get_or-map, length-map, set-get_or}
 use Rattle.std.proofs.lemmas.List.Sums.{sum_by-set, sum_by-remove, get_or-le-sum_by}
@@ -121,7 +121,7 @@ pub record CanEnd (s : Stock) (i : ℕ) : Type 0 where
   pub kind : 0 < length s.table.capacity
   pub queue : (job_at s.book i).facts.queue < length s.table.capacity
   pub held : pages_at s.book i ≤ amount (row_at s.table.rows i).held 0
-  pub small : pages_at s.book i < 4294967296
+  pub small : pages_at s.book i < 2 ^ 32
 
 -- what the job becomes among these
 abbrev pub end_place : {C : Type 0} → List (Job C) → ℕ → List (Job C)

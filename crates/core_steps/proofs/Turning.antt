@@ -1,10 +1,9 @@
 -- Whose page a printer gets.
-use Rattle.std.proofs.Common.{inl, inr, ◌≡◌, ◌==◌, ℕ, zero, suc, ◌+◌, ◌-◌, ◌<◌, ◌≤◌, Bool, true, false, List, [], ◌∷◌, length, get_or, map, refl, sym, ◌∙◌, ap, subst, arith}
-use Rattle.std.specs.Prelude.{◌||◌, ◌&&◌, ◌⊎◌, not, find, Option, Some, None}
+use Rattle.std.proofs.Common.{inl, inr, ◌≡◌, ◌==◌, ℕ, zero, suc, ◌<◌, Bool, true, false, List, [], ◌∷◌, length, get_or, map, refl, sym, ◌∙◌, ap, subst, arith}
+use Rattle.std.specs.Prelude.{◌||◌, ◌&&◌, not, find, Option, Some, None}
 use Rattle.std.specs.List.{list_any}
 use Rattle.std.proofs.lemmas.List.{length-map, get_or-map}
 use Rattle.std.proofs.lemmas.Bool.Decides.{nat_tests}
-use Rattle.held_jobs.specs.declared.phase.Phase.TheVariants.{Receiving, Received, Ended}
 use Rattle.held_jobs.specs.Jobs.{Facts, HeldJob}
 use Rattle.held_jobs.specs.Shown.{ShownJob, see_job}
 use Rattle.held_jobs.specs.Turns as T
@@ -14,7 +13,7 @@ use Rattle.spool_history.specs.Base.{Base}
 use Rattle.spool_history.specs.Events.{Event}
 use Rattle.spool_history.specs.Said.{began_at}
 use Rattle.spool_history.specs.Now.{Job, Printer, now, is_received}
-use Rattle.spool_history.specs.Next.{is_preceded_by, is_ready, first_ready, turn_of, or_first, printer_at}
+use Rattle.spool_history.specs.Next.{is_preceded_by, is_ready, turn_of, or_first, printer_at}
 use Rattle.spool_history.specs.Legal.{IsLegal}
 use Rattle.spool_laws.proofs.Known.{known}
 use Rattle.std.proofs.lemmas.Bool.{not-true}
@@ -28,7 +27,7 @@ use Rattle.spool_calls.specs.Looks.{Detail, What, size}
 use Rattle.spool_calls.specs.Kept.{Kept, Leaves, left_by, look, shown_job, facts_of, phase_of}
 use Rattle.core_steps.proofs.Leaving.{jobs_len}
 
-and_true : (a b : Bool) → (a && b) ≡ true → (a ≡ true) × (b ≡ true)
+pub and_true : (a b : Bool) → (a && b) ≡ true → (a ≡ true) × (b ≡ true)
 and_true true true e = (refl, refl)
 and_true true false e = absurd cc
 and_true false b e = absurd cc

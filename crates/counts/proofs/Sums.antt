@@ -27,16 +27,6 @@ length-rest_of [] ys = refl
 length-rest_of (x ∷ xs) [] = refl
 length-rest_of (x ∷ xs) (y ∷ ys) = ap suc (length-rest_of xs ys)
 
--- lists of one length with the same amounts of each kind are equal
-pub same_amounts : (xs ys : List ℕ) → length xs ≡ length ys → ((kind : ℕ) → amount xs kind ≡ amount ys kind) → xs ≡ ys
-same_amounts [] [] n e = refl
-same_amounts [] (y ∷ ys) n e = absurd (omega arith)
-same_amounts (x ∷ xs) [] n e = absurd (omega arith)
-same_amounts (x ∷ xs) (y ∷ ys) n e =
-    let first : x ≡ y = e 0 in
-    let rest : xs ≡ ys = same_amounts xs ys (omega arith) (λ kind. e (suc kind)) in
-    cc
-
 pub sum_of_each : (xs ys zs : List ℕ) → length zs ≡ length xs → length ys ≡ length xs → ((k : ℕ) → k < length ys → amount zs k ≡ amount xs k + amount ys k) → zs ≡ sum_of xs ys
 sum_of_each xs ys zs n m each =
     ext_get_or 0 zs (sum_of xs ys) (let l = length-sum_of xs ys in omega arith) (λ k lt. each k (omega arith) ∙ sym (amount-sum_of xs ys k m))

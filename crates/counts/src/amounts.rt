@@ -26,7 +26,12 @@ impl Model for Counts {
 #[derive(Clone, Copy, Debug, PartialEq, Eq)]
 pub struct TooLarge;
 
+/// Writes the number and the name.
 impl fmt::Display for TooLarge {
+    ghost use Rattle.std.specs.Prelude.{Some, codes};
+
+    ghost output = { λ _. Some (codes "23 TooLarge") };
+
     fn fmt<W: fmt::Write>(&self, f: &mut fmt::Formatter<W>) -> fmt::Result {
         f.write_str("23 TooLarge")
     }
@@ -130,7 +135,8 @@ impl Counts {
 
     /// Equal amounts of their own.
     pub fn copy(&self, alloc: Global) -> Result<Counts, AllocError>
-        ensures { IfOk result (λ c. c ≡ self.now) }
+        ensures same { IfOk result (λ c. c ≡ self.now) }
+        ensures small { IfOk result (λ _. (kind : ℕ) → amount self.now kind < 2 ^ 32) }
     {
         let mut copied = Counts::zero(alloc, self.kinds())?;
         copied.copy_from(self);

@@ -1,7 +1,7 @@
 -- What contracts see of a book of held jobs.
-use Rattle.std.specs.Prelude.{◌≡◌, ℕ, false, List, Option, Some, None, [], slice_index_or, slice_set}
+use Rattle.std.specs.Prelude.{◌≡◌, ℕ, false, List, None, [], slice_index_or, slice_set}
 use Rattle.page_chain.specs.Files.{Files}
-use Rattle.lpd_values.specs.Contents.{Contents}
+use Rattle.lpd_values.specs.Told.{prints_in}
 use Rattle.held_jobs.specs.Jobs.{HeldJob, no_job}
 
 -- the held jobs in order of acceptance; how many pages are in the chains of all of them; how many jobs and pages there is
@@ -26,10 +26,6 @@ pub record IsIdle (v : Files) : Type 0 where
   pub closed : v.is_open ≡ false
   pub placed : v.places ≡ []
   pub fresh : v.last ≡ None
-
-abbrev pub prints_in : Option Contents → List (List ℕ)
-prints_in None = []
-prints_in (Some control) = control.prints
 
 -- the names that a job prints, as its control file has them
 abbrev pub prints_of : HeldJob → List (List ℕ)

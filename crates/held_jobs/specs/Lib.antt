@@ -3,5 +3,4 @@ pub mod Moves
 pub mod Books
 pub mod Shown
 pub mod Turns
-pub mod Choice
-pub mod Texts
+pub mod Told

@@ -3,11 +3,12 @@
 ghost use Rattle.std.specs.Prelude.{◌≡◌, ◌+◌, ◌<◌, ◌≤◌, ◌^◌, IfOk, length, map, option_copied};
 ghost use Rattle.control_file.specs.View.{contents};
 ghost use Rattle.lpd_values.specs.Kept.{is_among};
+ghost use Rattle.lpd_values.specs.Told.{number_in, user_in, host_in};
+ghost use Rattle.lpd_values.specs.declared.limits.TheConstants.{MAX_FILES};
 ghost use Rattle.held_jobs.specs.declared.file.DataFile.{DataFile};
 ghost use Rattle.std.specs.List.{list_all};
 ghost use Rattle.held_jobs.specs.Jobs.{new_facts, contents_of, has_prints, last_size};
-ghost use Rattle.held_jobs.specs.Choice.{number_of, user_of, host_of};
-ghost use Rattle.held_jobs.specs.Texts.{places_left};
+ghost use Rattle.held_jobs.specs.Told.{places_left};
 ghost use Rattle.held_jobs.specs.Moves.{lent_facts, unlent_facts, begun_facts, put_facts, controlled_facts, received_facts, handed_facts, back_facts, ended_facts};
 
 use crate::file::DataFile;
@@ -35,6 +36,7 @@ pub struct Job {
 }
 
 impl Model for Job {
+    ghost use Rattle.lpd_values.specs.declared.limits.TheConstants.{MAX_FILES};
     ghost use Rattle.std.specs.Prelude.{◌≤◌, vec_capacity, vec_len};
     ghost use Rattle.held_jobs.specs.Jobs.{Facts, contents_of};
 
@@ -53,7 +55,8 @@ impl Model for Job {
       back = j.back;
     } };
 
-    ghost invariant = { λ j. (52 ≤ vec_capacity j.files) × (vec_len j.files ≤ 52) };
+    ghost invariant = { λ j. (MAX_FILES ≤ vec_capacity j.files)
+        × (vec_len j.files ≤ MAX_FILES) };
 }
 
 impl Job {
@@ -155,7 +158,7 @@ impl Job {
 
     /// Its job number, as its control file has it, or 0 where there is none.
     pub fn told_number(&self) -> u16
-        ensures value { result ≡ number_of self.now }
+        ensures value { result ≡ number_in self.now.control }
         ensures within { result ≤ 999 }
     {
         match &self.control {
@@ -166,7 +169,7 @@ impl Job {
 
     /// Its user, as its control file has it, or nothing where there is none.
     pub fn told_user(&self) -> &[u8]
-        ensures { result.now ≡ user_of self.now }
+        ensures { result.now ≡ user_in self.now.control }
     {
         match &self.control {
             Some(control) => control.user.as_slice(),
@@ -176,7 +179,7 @@ impl Job {
 
     /// Its host, as its control file has it, or nothing where there is none.
     pub fn told_host(&self) -> &[u8]
-        ensures { result.now ≡ host_of self.now }
+        ensures { result.now ≡ host_in self.now.control }
     {
         match &self.control {
             Some(control) => control.host.as_slice(),
@@ -236,7 +239,7 @@ impl Job {
 
     /// A data file began.
     pub fn begin(&mut self, name: FileName, count: u64)
-        requires { length self.old.files < 52 }
+        requires { length self.old.files < MAX_FILES }
         ensures { self.new ≡ begun_facts name count self.old }
     {
         self.files

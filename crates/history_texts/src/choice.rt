@@ -1,11 +1,11 @@
 //! What a control file tells of its job, and which jobs a list of words chooses (RFC 1179, sections 5.3 to 5.5).
 
-ghost use Rattle.std.specs.Prelude.{◌≡◌, ◌≤◌, ◌==◌, ◌&&◌, ◌-◌, ◌∷◌, [], MatchOption, codes, filter, length, map, not, take};
+ghost use Rattle.std.specs.Prelude.{◌≡◌, ◌≤◌, ◌-◌, ◌∷◌, [], MatchOption, length, map};
 ghost use Rattle.std.specs.List.{list_any};
 ghost use Rattle.lpd_values.specs.Kinds.{is_digit};
 ghost use Rattle.lpd_values.specs.Digits.{count_of};
-ghost use Rattle.spool_history.specs.Choice as C;
-ghost use Rattle.spool_history.specs.Told as O;
+ghost use Rattle.lpd_values.specs.Choice as C;
+ghost use Rattle.spool_history.specs.Told.{told_of};
 ghost use Rattle.history_reader.specs.Seen.{job_seen};
 
 use history_reader::Job;
@@ -78,14 +78,14 @@ fn is_root(agent: &[u8]) -> bool
 
 /// Whether a job is received, has not ended, and is of this queue.
 pub fn is_listed(queue: u32, job: &Job) -> bool
-    ensures { result ≡ C.is_listed queue (job_seen job.now) }
+    ensures { result ≡ C.is_listed queue (told_of (job_seen job.now)) }
 {
     job.queue == queue && job.is_received() && !job.ended
 }
 
 /// Whether a word chooses a job, by its number or by its user.
 pub fn chooses(job: &Job, word: &[u8]) -> bool
-    ensures { result ≡ C.chooses (job_seen job.now) word.now }
+    ensures { result ≡ C.chooses (told_of (job_seen job.now)) word.now }
 {
     if is_number_word(word) {
         names_number(word, job.told_number())
@@ -96,7 +96,7 @@ pub fn chooses(job: &Job, word: &[u8]) -> bool
 
 /// Whether one of these words chooses a job.
 pub(crate) fn is_chosen(job: &Job, words: &[Octets]) -> bool
-    ensures { result ≡ list_any (C.chooses (job_seen job.now)) words.now }
+    ensures { result ≡ list_any (C.chooses (told_of (job_seen job.now))) words.now }
 {
     let Some((first, rest)) = words.split_first() else {
         return false;
@@ -106,21 +106,21 @@ pub(crate) fn is_chosen(job: &Job, words: &[Octets]) -> bool
 
 /// Whether an agent may remove a job: its own ones, and root may remove all.
 pub fn may_remove(agent: &[u8], job: &Job) -> bool
-    ensures { result ≡ C.may_remove agent.now (job_seen job.now) }
+    ensures { result ≡ C.may_remove agent.now (told_of (job_seen job.now)) }
 {
     is_root(agent) || job.told_user() == agent
 }
 
 /// Whether a word picks a job for a removal: a user's name counts only where the agent is root.
 pub fn picks(agent: &[u8], job: &Job, word: &[u8]) -> bool
-    ensures { result ≡ C.picks agent.now (job_seen job.now) word.now }
+    ensures { result ≡ C.picks agent.now (told_of (job_seen job.now)) word.now }
 {
     chooses(job, word) && (is_number_word(word) || is_root(agent))
 }
 
 /// Whether one of these words picks a job for a removal.
 pub(crate) fn is_picked(agent: &[u8], job: &Job, words: &[Octets]) -> bool
-    ensures { result ≡ list_any (C.picks agent.now (job_seen job.now)) words.now }
+    ensures { result ≡ list_any (C.picks agent.now (told_of (job_seen job.now))) words.now }
 {
     let Some((first, rest)) = words.split_first() else {
         return false;
@@ -130,10 +130,8 @@ pub(crate) fn is_picked(agent: &[u8], job: &Job, words: &[Octets]) -> bool
 
 /// The job of a queue that is being printed and was accepted first.
 pub(crate) fn first_active(queue: u32, jobs: &[Job]) -> Option<&Job>
-    ensures { MatchOption result (take 1 (filter (λ job. not (job.handed == 0)) (filter
-        (C.is_listed queue) (map job_seen jobs.now)))
-        ≡ []) (λ v. take 1 (filter (λ job. not (job.handed == 0)) (filter (C.is_listed queue)
-        (map job_seen jobs.now))) ≡ job_seen v.now ∷ []) }
+    ensures { MatchOption result (C.active told_of queue (map job_seen jobs.now) ≡ [])
+        (λ v. C.active told_of queue (map job_seen jobs.now) ≡ job_seen v.now ∷ []) }
 {
     let Some((first, rest)) = jobs.split_first() else {
         return None;

@@ -1,13 +1,15 @@
 //! The texts that answer a question for a queue's state and a removal.
 
-ghost use Rattle.std.specs.Prelude.{◌≡◌, ◌≤◌, ◌==◌, ◌&&◌, ◌-◌, ◌++◌, ◌∷◌, [], IfOk, OnOk, codes, filter, if◌then◌else◌, length, map, not, slice_index_or, take};
+ghost use Rattle.std.specs.Prelude.{◌≡◌, ◌≤◌, ◌&&◌, ◌-◌, ◌++◌, [], IfOk, OnOk, filter, if◌then◌else◌, length, map};
 ghost use Rattle.std.specs.Fmt.{decimal};
 ghost use Rattle.std.specs.List.{flat_map, list_any};
-ghost use Rattle.std.specs.Str.{bytes_eq};
-ghost use Rattle.spool_history.specs.Choice as C;
+ghost use Rattle.lpd_values.specs.Choice as C;
+ghost use Rattle.lpd_values.specs.Texts as T;
+ghost use Rattle.config_values.specs.Config.{queue_at};
+ghost use Rattle.spool_history.specs.Choice.{chosen};
 ghost use Rattle.spool_history.specs.Now.{places};
-ghost use Rattle.config_values.specs.Config as S;
-ghost use Rattle.spool_history.specs.Texts as T;
+ghost use Rattle.spool_history.specs.Texts.{printers_in, removal_text, state_text, stopped_in};
+ghost use Rattle.spool_history.specs.Told.{told_file, told_of};
 ghost use Rattle.history_reader.specs.Seen.{file_seen, job_seen, printer_seen, state_seen};
 
 use crate::choice::{first_active, is_chosen, is_listed, is_picked, may_remove};
@@ -64,7 +66,7 @@ fn places_left(alloc: Global, job: &Job) -> Result<u64, AllocError>
 /// Puts whether a job is begun behind a text.
 fn put_stage(text: &mut Vec<u8>, job: &Job) -> Result<(), AllocError>
     ensures { OnOk result (text.new.items ≡ text.old.items
-        ++ (if job.now.handed == 0 then codes "waiting " else codes "active ")) }
+        ++ T.stage_word job.now.handed) }
 {
     if job.handed == 0 {
         text.extend_from_slice(b"waiting ".as_slice())?;
@@ -76,7 +78,8 @@ fn put_stage(text: &mut Vec<u8>, job: &Job) -> Result<(), AllocError>
 
 /// Puts the line of a job behind a text.
 fn put_job_line(alloc: Global, text: &mut Vec<u8>, job: &Job) -> Result<(), AllocError>
-    ensures { OnOk result (text.new.items ≡ text.old.items ++ T.job_line (job_seen job.now)) }
+    ensures { OnOk result (text.new.items ≡ text.old.items
+        ++ T.job_line (told_of (job_seen job.now))) }
 {
     put_stage(text, job)?;
     put_three_digits(text, job.told_number())?;
@@ -95,8 +98,7 @@ fn put_where_named(
     file: &File,
 ) -> Result<(), AllocError>
     ensures { OnOk result (text.new.items ≡ text.old.items
-        ++ (if bytes_eq file.now.name name.now then codes "  " ++ file.now.name ++ codes " "
-        ++ decimal file.now.count ++ 10 ∷ [] else [])) }
+        ++ T.file_line name.now (told_file (file_seen file.now))) }
 {
     if file.name == *name {
         put_word(text, b"  ".as_slice(), file.name.octets())?;
@@ -114,7 +116,7 @@ fn put_file_lines(
     files: &[File],
 ) -> Result<(), AllocError>
     ensures { OnOk result (text.new.items ≡ text.old.items
-        ++ T.file_lines name.now (map file_seen files.now)) }
+        ++ T.file_lines name.now (map told_file (map file_seen files.now))) }
 {
     let Some((first, rest)) = files.split_first() else {
         return Ok(());
@@ -131,7 +133,8 @@ fn put_print_lines(
     files: &[File],
 ) -> Result<(), AllocError>
     ensures { OnOk result (text.new.items ≡ text.old.items
-        ++ flat_map (λ name. T.file_lines name (map file_seen files.now)) names.now) }
+        ++ flat_map (λ name. T.file_lines name (map told_file (map file_seen files.now)))
+        names.now) }
 {
     let Some((first, rest)) = names.split_first() else {
         return Ok(());
@@ -142,7 +145,8 @@ fn put_print_lines(
 
 /// Puts the lines of a job behind a text.
 fn put_job_lines(alloc: Global, text: &mut Vec<u8>, long: bool, job: &Job) -> Result<(), AllocError>
-    ensures { OnOk result (text.new.items ≡ text.old.items ++ T.job_lines long (job_seen job.now)) }
+    ensures { OnOk result (text.new.items ≡ text.old.items
+        ++ T.job_lines long (told_of (job_seen job.now))) }
 {
     put_job_line(alloc, text, job)?;
     if long {
@@ -162,7 +166,7 @@ fn put_listed(
     jobs: &[Job],
 ) -> Result<(), AllocError>
     ensures { OnOk result (text.new.items ≡ text.old.items
-        ++ flat_map (T.job_lines long) (filter (C.is_listed queue) (map job_seen jobs.now))) }
+        ++ T.listing told_of queue [] long (map job_seen jobs.now)) }
 {
     let Some((first, rest)) = jobs.split_first() else {
         return Ok(());
@@ -183,8 +187,9 @@ fn put_chosen(
     jobs: &[Job],
 ) -> Result<(), AllocError>
     ensures { OnOk result (text.new.items ≡ text.old.items
-        ++ flat_map (T.job_lines long) (filter (λ job. list_any (C.chooses job) words.now) (filter
-        (C.is_listed queue) (map job_seen jobs.now)))) }
+        ++ flat_map (λ job. T.job_lines long (told_of job))
+        (filter (λ job. C.is_listed queue (told_of job)
+        && list_any (C.chooses (told_of job)) words.now) (map job_seen jobs.now))) }
 {
     let Some((first, rest)) = jobs.split_first() else {
         return Ok(());
@@ -206,7 +211,7 @@ fn put_shown(
     long: bool,
 ) -> Result<(), AllocError>
     ensures { OnOk result (text.new.items ≡ text.old.items
-        ++ flat_map (T.job_lines long) (C.shown (state_seen config.now state.now) queue list.now)) }
+        ++ T.listing told_of queue list.now long (map job_seen state.now.jobs.items)) }
 {
     let jobs = state.jobs.as_slice();
     match list {
@@ -217,7 +222,7 @@ fn put_shown(
 
 /// How many of these jobs are listed.
 fn count_listed(queue: u32, jobs: &[Job]) -> usize
-    ensures value { result ≡ length (filter (C.is_listed queue) (map job_seen jobs.now)) }
+    ensures value { result ≡ length (C.listed told_of queue (map job_seen jobs.now)) }
     ensures within { result ≤ length jobs.now }
 {
     let Some((first, rest)) = jobs.split_first() else {
@@ -228,7 +233,7 @@ fn count_listed(queue: u32, jobs: &[Job]) -> usize
 
 /// How many of these printers serve a queue.
 fn count_printers(queue: u32, printers: &[Printer]) -> usize
-    ensures value { result ≡ length (T.printers_in queue (map printer_seen printers.now)) }
+    ensures value { result ≡ length (printers_in queue (map printer_seen printers.now)) }
     ensures within { result ≤ length printers.now }
 {
     let Some((first, rest)) = printers.split_first() else {
@@ -240,7 +245,7 @@ fn count_printers(queue: u32, printers: &[Printer]) -> usize
 /// How many of these printers serve a queue and are stopped.
 fn count_stopped(queue: u32, printers: &[Printer]) -> usize
     ensures value { result
-        ≡ length (filter (λ p. p.stopped) (T.printers_in queue (map printer_seen printers.now))) }
+        ≡ length (stopped_in queue (map printer_seen printers.now)) }
     ensures within { result ≤ length printers.now }
 {
     let Some((first, rest)) = printers.split_first() else {
@@ -257,14 +262,11 @@ fn put_head(
     state: &State,
     queue: u32,
 ) -> Result<(), AllocError>
-    ensures { OnOk result (text.new.items ≡ text.old.items ++ (codes "queue "
-        ++ (S.queue_at (state_seen config.now state.now).config queue).name ++ codes " jobs "
-        ++ decimal (length (C.listed (state_seen config.now state.now) queue))
-        ++ codes " printers "
-        ++ decimal (length (T.printers_in queue (state_seen config.now state.now).printers))
-        ++ codes " stopped "
-        ++ decimal (length (filter (λ p. p.stopped) (T.printers_in queue
-        (state_seen config.now state.now).printers))) ++ 10 ∷ [])) }
+    ensures { OnOk result (text.new.items ≡ text.old.items
+        ++ T.queue_line (queue_at config.now queue).name
+        (length (C.listed told_of queue (map job_seen state.now.jobs.items)))
+        (length (printers_in queue (map printer_seen state.now.printers.items)))
+        (length (stopped_in queue (map printer_seen state.now.printers.items)))) }
 {
     let printers = state.printers.as_slice();
     let name = config.name_of(queue);
@@ -298,7 +300,7 @@ pub fn state_text(
     long: bool,
 ) -> Result<Vec<u8>, AllocError>
     ensures { IfOk result (λ text. text.items
-        ≡ T.state_text (state_seen config.now state.now) queue list.now long) }
+        ≡ state_text (state_seen config.now state.now) queue list.now long) }
 {
     let mut text = Vec::new(alloc);
     put_head(alloc, &mut text, config, state, queue)?;
@@ -308,7 +310,8 @@ pub fn state_text(
 
 /// Puts the line of a removed job behind a text.
 fn put_removed_line(text: &mut Vec<u8>, job: &Job) -> Result<(), AllocError>
-    ensures { OnOk result (text.new.items ≡ text.old.items ++ T.removed_line (job_seen job.now)) }
+    ensures { OnOk result (text.new.items ≡ text.old.items
+        ++ T.removed_line (told_of (job_seen job.now))) }
 {
     text.extend_from_slice(b"removed ".as_slice())?;
     put_three_digits(text, job.told_number())?;
@@ -326,9 +329,8 @@ fn put_where_picked(
     job: &Job,
 ) -> Result<(), AllocError>
     ensures { OnOk result (text.new.items ≡ text.old.items
-        ++ (if C.is_listed queue (job_seen job.now) && (C.may_remove agent.now (job_seen job.now)
-        && list_any (C.picks agent.now (job_seen job.now)) words.now) then T.removed_line
-        (job_seen job.now) else [])) }
+        ++ (if C.is_picked queue agent.now words.now (told_of (job_seen job.now))
+        then T.removed_line (told_of (job_seen job.now)) else [])) }
 {
     if is_listed(queue, job) && (may_remove(agent, job) && is_picked(agent, job, words)) {
         put_removed_line(text, job)?;
@@ -345,9 +347,8 @@ fn put_picked(
     jobs: &[Job],
 ) -> Result<(), AllocError>
     ensures { OnOk result (text.new.items ≡ text.old.items
-        ++ flat_map T.removed_line (filter (λ job. C.may_remove agent.now job
-        && list_any (C.picks agent.now job) words.now) (filter (C.is_listed queue)
-        (map job_seen jobs.now)))) }
+        ++ T.removed_lines told_of
+        (C.picked told_of queue agent.now words.now (map job_seen jobs.now))) }
 {
     let Some((first, rest)) = jobs.split_first() else {
         return Ok(());
@@ -359,8 +360,8 @@ fn put_picked(
 /// Puts the line of the active job of a queue behind a text, where an agent may remove it.
 fn put_active(text: &mut Vec<u8>, queue: u32, agent: &[u8], jobs: &[Job]) -> Result<(), AllocError>
     ensures { OnOk result (text.new.items ≡ text.old.items
-        ++ flat_map T.removed_line (filter (C.may_remove agent.now) (take 1 (filter (λ job. not
-        (job.handed == 0)) (filter (C.is_listed queue) (map job_seen jobs.now)))))) }
+        ++ T.removed_lines told_of
+        (C.chosen told_of queue agent.now [] (map job_seen jobs.now))) }
 {
     if let Some(job) = first_active(queue, jobs) {
         if may_remove(agent, job) {
@@ -380,8 +381,8 @@ fn removed_lines(
     list: &[Octets],
 ) -> Result<Vec<u8>, AllocError>
     ensures { IfOk result (λ text. text.items
-        ≡ flat_map T.removed_line (C.chosen
-        (state_seen config.now state.now) queue agent.now list.now)) }
+        ≡ T.removed_lines told_of
+        (chosen (state_seen config.now state.now) queue agent.now list.now)) }
 {
     let mut text = Vec::new(alloc);
     let jobs = state.jobs.as_slice();
@@ -403,7 +404,7 @@ pub fn removal_text(
     list: &[Octets],
 ) -> Result<Vec<u8>, AllocError>
     ensures { IfOk result (λ text. text.items
-        ≡ T.removal_text (state_seen config.now state.now) queue agent.now list.now) }
+        ≡ removal_text (state_seen config.now state.now) queue agent.now list.now) }
 {
     let mut text = removed_lines(alloc, config, state, queue, agent, list)?;
     if text.is_empty() {

@@ -3,6 +3,7 @@ use Rattle.std.proofs.Common.{◌≡◌, ◌<◌, ℕ, zero, suc, ◌+◌, Bool,
 use Rattle.std.specs.Prelude.{Option, Some, None, IsSome, slice_get}
 use Rattle.std.specs.List.{list_any}
 use Rattle.page_pool.specs.Page.{Page}
+use Rattle.lpd_values.specs.Told.{prints_in}
 use Rattle.page_chain.specs.declared.place.Place.{Place}
 use Rattle.page_chain.specs.Files.{file_at, page_at}
 use Rattle.page_chain.specs.Changes.{AwaitsLast, IsOnlyGap, comes_again, is_same_place, numbers_of, or_no_place}
@@ -23,8 +24,8 @@ use Rattle.job_moves.proofs.Spots.{PlaceAt, place_at, place_differs, same_place}
 use Rattle.job_moves.proofs.Printing.{Goes, again_is, again_within, alike, last_is, see_place, there_before, there_printed, unlike}
 
 -- the places of a job are passes over its files
-pub spots_pass : {C : Type 0} (v : Job C) → Differ (names_in v.files) → spots v ≡ passes (len_of v.files) (numbers_of (names_in v.files) (A.prints_in v.control))
-spots_pass v d = placed_is (len_of v.files) (A.prints_in v.control) v.files d (sizes_of v.files)
+pub spots_pass : {C : Type 0} (v : Job C) → Differ (names_in v.files) → spots v ≡ passes (len_of v.files) (numbers_of (names_in v.files) (prints_in v.control))
+spots_pass v d = placed_is (len_of v.files) (prints_in v.control) v.files d (sizes_of v.files)
 
 -- a page of a file is there
 record Content {C : Type 0} (fs : List (A.File C)) (i n : ℕ) : Type 0 where
@@ -70,9 +71,9 @@ page_in {C} f c j v at e d again a n lt ne =
     let most = len_shelved (is_printed s) (is_there s v.handed v.back) 0 p.file v.files in
     let within : n < len_of v.files p.file = omega (arith, lt, seen, shown, most) in
     let x = content v.files p.file n within in
-    let pass : drop v.back (passes (len_of v.files) (numbers_of (names_in v.files) (A.prints_in v.control))) ≡ p ∷ rest = ap (drop v.back) (sym (spots_pass v d)) ∙ at.spots_left in
+    let pass : drop v.back (passes (len_of v.files) (numbers_of (names_in v.files) (prints_in v.control))) ≡ p ∷ rest = ap (drop v.back) (sym (spots_pass v d)) ∙ at.spots_left in
     let later : list_any (is_same_place q) rest ≡ true =
-    all_again (len_of v.files) (numbers_of (names_in v.files) (A.prints_in v.control)) v.back p q rest pass (sym (again_is f c j v at e a) ∙ again) refl within in
+    all_again (len_of v.files) (numbers_of (names_in v.files) (prints_in v.control)) v.back p q rest pass (sym (again_is f c j v at e a) ∙ again) refl within in
     let there : is_there s v.handed v.back q ≡ true =
     there_before v at q e ∙ (unlike (is_same_place q p) (list_any (is_same_place q) rest) (place_differs q p (λ m. ne m.1)) ∙ later) in
     seen_some f (page_at j.chain.files q) x.page

@@ -4,6 +4,7 @@ use Rattle.std.specs.Prelude.{◌||◌, filter, sum_by, Option, Some, None}
 use Rattle.std.specs.List.{list_any}
 use Rattle.std.proofs.lemmas.List.Elements.{filter-append}
 use Rattle.lpd_values.specs.Contents.{Contents}
+use Rattle.lpd_values.specs.Told.{prints_in}
 use Rattle.page_pool.specs.Page.{Page}
 use Rattle.page_chain.specs.declared.place.Place.{Place}
 use Rattle.page_chain.specs.Files as F
@@ -103,7 +104,7 @@ counted {C} f t numbers all n m (x ∷ xs) (y ∷ ys) nm r w keeps =
     omega (arith, ih, one, p, q, s)
 
 -- the pages that go back and those that are kept are all pages of the files
-pub counts_placed : {C : Type 0} (f : Page → C) (xs : List F.File) (v : Job C) (names : List (List ℕ)) → Whole f xs v.files → Differ (names_in v.files) → names ≡ A.prints_in v.control → v.back ≡ 0
+pub counts_placed : {C : Type 0} (f : Page → C) (xs : List F.File) (v : Job C) (names : List (List ℕ)) → Whole f xs v.files → Differ (names_in v.files) → names ≡ prints_in v.control → v.back ≡ 0
     → length (unnamed_pages xs names) + length (pages_kept v) ≡ sum_by (λ (g : A.File C). length g.pages) v.files
 counts_placed {C} f xs v names w d e b =
     let numbers = numbers_of (F.names_of xs) names in

@@ -14,4 +14,3 @@ pub mod Awaiting
 pub mod Stored
 pub mod Facts
 pub mod Asking
-pub mod Outs

@@ -10,25 +10,11 @@ use Rattle.page_chain.specs.Changes.{is_among, is_same_place}
 use Rattle.page_chain.specs.Files.{numbered}
 use Rattle.spool_calls.specs.Kept.{is_printed}
 use Rattle.spool_laws.proofs.Known.{clash}
+use Rattle.page_chain.proofs.Places.{in_range, length-numbered}
 
 -- the places of these files, each of which has so many pages
 abbrev pub passes : (ℕ → ℕ) → List ℕ → List Place
 passes len numbers = flat_map (λ (i : ℕ). numbered i 0 (len i)) numbers
-
--- as many places as pages
-pub length-numbered : (file n m : ℕ) → length (numbered file n m) ≡ m
-length-numbered file n zero = refl
-length-numbered file n (suc m) = ap suc (length-numbered file (suc n) m)
-
--- whether a place is one of some in a row
-pub in_range : (n m : ℕ) (place : Place) → n ≤ place.number → place.number < n + m → list_any (is_same_place place) (numbered place.file n m) ≡ true
-in_range n zero place le lt = absurd (omega arith)
-in_range n (suc m) place le lt = elim (cases_eq place.number n) [
-  | inl e ↦ or_left (is_same_place place (record { file = place.file; number = n })) (list_any (is_same_place place) (numbered place.file (suc n) m))
-      (and_from (place.file == place.file) (place.number == n) (eq-eqb place.file place.file refl) (eq-eqb place.number n e))
-  | inr ne ↦ or_right (is_same_place place (record { file = place.file; number = n })) (list_any (is_same_place place) (numbered place.file (suc n) m))
-      (in_range (suc n) m place (omega (arith, le, ne)) (omega (arith, lt)))
-]
 
 -- a number below the first is that of none
 pub before_range : (file n m : ℕ) (place : Place) → place.number < n → list_any (is_same_place place) (numbered file n m) ≡ false

@@ -1,10 +1,11 @@
 -- A job becomes received.
 use Rattle.std.proofs.Common.{◌≡◌, ℕ, true, false, List, [], ◌∷◌, drop, map, refl, sym, ◌∙◌, ap, subst}
-use Rattle.std.specs.Prelude.{◌&&◌, not, is_some, Option, Some, None}
+use Rattle.std.specs.Prelude.{◌&&◌, not, is_some}
 use Rattle.std.proofs.lemmas.Bool.{and_parts, not-true}
 use Rattle.std.specs.List.{list_all}
 use Rattle.lpd_values.specs.Contents.{Contents}
 use Rattle.lpd_values.specs.Kept.{is_among}
+use Rattle.lpd_values.specs.Told.{prints_in}
 use Rattle.page_pool.specs.Page.{Page}
 use Rattle.page_chain.specs.declared.place.Place.{Place}
 use Rattle.page_chain.specs.Files as F
@@ -13,7 +14,6 @@ use Rattle.page_chain.specs.Changes.{kept_from, numbers_of, placed}
 use Rattle.held_jobs.specs.declared.file.DataFile.{DataFile}
 use Rattle.held_jobs.specs.declared.phase.Phase.TheVariants.{Received}
 use Rattle.held_jobs.specs.Jobs.{Facts, HeldJob}
-use Rattle.held_jobs.specs.Books as H
 use Rattle.held_jobs.specs.Books.{prints_of}
 use Rattle.held_jobs.specs.Moves.{closed_file, controlled_facts, received_facts, received_job, told}
 use Rattle.held_jobs.specs.Shown as S
@@ -34,15 +34,15 @@ use Rattle.job_moves.proofs.Placing.{placed_is}
 use Rattle.job_moves.proofs.Shelving.{Whole, kept_is, len_in, whole_names, whole_sizes}
 
 -- the places of a job whose files a chain has whole
-pub spots_placed : {C : Type 0} (f : Page → C) (xs : List F.File) (v : Job C) (names : List (List ℕ)) → Whole f xs v.files → Differ (names_in v.files) → names ≡ A.prints_in v.control
+pub spots_placed : {C : Type 0} (f : Page → C) (xs : List F.File) (v : Job C) (names : List (List ℕ)) → Whole f xs v.files → Differ (names_in v.files) → names ≡ prints_in v.control
     → passes (len_in xs) (numbers_of (F.names_of xs) names) ≡ spots v
 spots_placed {C} f xs v names w d e =
     ap (λ (l : List (List ℕ)). passes (len_in xs) (numbers_of l names)) (whole_names f xs v.files w)
     ∙ (ap (λ (l : List (List ℕ)). passes (len_in xs) (numbers_of (names_in v.files) l)) e
-    ∙ sym (placed_is (len_in xs) (A.prints_in v.control) v.files d (whole_sizes f xs v.files w)))
+    ∙ sym (placed_is (len_in xs) (prints_in v.control) v.files d (whole_sizes f xs v.files w)))
 
 -- a chain whose files are placed is what a received job has
-pub shelf_placed : {C : Type 0} (f : Page → C) (x : Files) (v : Job C) (names : List (List ℕ)) → Whole f x.files v.files → x.is_open ≡ false → Differ (names_in v.files) → names ≡ A.prints_in v.control
+pub shelf_placed : {C : Type 0} (f : Page → C) (x : Files) (v : Job C) (names : List (List ℕ)) → Whole f x.files v.files → x.is_open ≡ false → Differ (names_in v.files) → names ≡ prints_in v.control
     → v.handed ≡ 0 → v.back ≡ 0 → see_files f (placed names x) ≡ shelf_of Received v.files v.handed v.back (spots v)
 shelf_placed {C} f x v names w closed d e h b =
     let numbers = numbers_of (F.names_of x.files) names in
@@ -54,14 +54,9 @@ shelf_placed {C} f x v names w closed d e h b =
     (sp ∙ ap (λ (n : ℕ). drop n (spots v)) (sym h))
     (ap (last_of (spots v)) (sym h))
 
--- the names that a held job prints are those of its control file
-same_prints : (o : Option Contents) → H.prints_in o ≡ A.prints_in o
-same_prints None = refl
-same_prints (Some control) = refl
-
--- so the names are those that the history's job prints
-pub prints_same : {C : Type 0} (f : Page → C) (c : Config) (j : HeldJob) (v : Job C) → Fills f c j v → prints_of j ≡ A.prints_in v.control
-prints_same f c j v a = ap (λ (x : Facts). H.prints_in x.control) a.facts ∙ same_prints v.control
+-- the names that a held job prints are those that the history's job prints
+pub prints_same : {C : Type 0} (f : Page → C) (c : Config) (j : HeldJob) (v : Job C) → Fills f c j v → prints_of j ≡ prints_in v.control
+prints_same f c j v a = ap (λ (x : Facts). prints_in x.control) a.facts
 
 -- what the end of a file leaves as it was
 
@@ -86,9 +81,9 @@ names_ended (f ∷ g ∷ fs) = ap (λ (l : List (List ℕ)). f.name ∷ l) (name
 -- a received job has no open file
 pub received_closed : {C : Type 0} (v : Job C) → is_received v ≡ true → is_open_in v.files ≡ false
 received_closed v r =
-    let rest = not (is_open_in v.files) && list_all (λ name. is_among name (names_in v.files)) (A.prints_in v.control) in
+    let rest = not (is_open_in v.files) && list_all (λ name. is_among name (names_in v.files)) (prints_in v.control) in
     let a = and_parts (is_some v.control) rest r in
-    not-true (is_open_in v.files) (and_parts (not (is_open_in v.files)) (list_all (λ name. is_among name (names_in v.files)) (A.prints_in v.control)) a.1).0
+    not-true (is_open_in v.files) (and_parts (not (is_open_in v.files)) (list_all (λ name. is_among name (names_in v.files)) (prints_in v.control)) a.1).0
 
 -- the last file that was awaited has ended: the job is received
 pub received_by_file : {C : Type 0} (f : Page → C) (c : Config) (j : HeldJob) (v : Job C) (file : ℕ) → IsReceiving v → v.handed ≡ 0 → v.back ≡ 0 → is_received (acted (FileEnded file true) v) ≡ true → Differ (names_in v.files)

@@ -6,6 +6,7 @@ use Rattle.std.proofs.lemmas.Bool.{and_right, or_right}
 use Rattle.std.proofs.lemmas.List.{length_push, map-append}
 use Rattle.lpd_values.specs.Contents.{Contents}
 use Rattle.lpd_values.specs.Kept.{is_among}
+use Rattle.lpd_values.specs.Told.{prints_in}
 use Rattle.page_pool.specs.Page.{Page}
 use Rattle.page_chain.specs.Files as F
 use Rattle.page_chain.specs.Changes.{with_page}
@@ -31,16 +32,6 @@ use Rattle.spool_moves.proofs.Opens.{LastOpen}
 use Rattle.job_moves.proofs.Ties.{Ties, facts_at, fills, ties_filling}
 use Rattle.job_moves.proofs.Shelving.{Whole, whole_first}
 use Rattle.job_moves.proofs.Received.{sizes_ended, whole_ended}
-
--- a new job
-pub ties_new : {C : Type 0} (f : Page → C) (c : Config) (number sender queue : ℕ) → Ties f c (J.new_job number sender queue) (N.new_job number sender queue)
-ties_new f c number sender queue = refl
-
--- a page is lent to it
-pub ties_lent : {C : Type 0} (f : Page → C) (c : Config) (j : HeldJob) (v : Job C) → IsReceiving v → Ties f c j v → Ties f c (told lent_facts j) (acted Granted v)
-ties_lent {C} f c j v r t =
-    let a = fills f c j v r t in
-    ties_filling f c (told lent_facts j) (acted Granted v) r (record { facts = ap lent_facts a.facts; files = a.files; is_open = a.is_open; places = a.places; last = a.last })
 
 -- its control file came, and something is still awaited
 pub ties_controlled : {C : Type 0} (f : Page → C) (c : Config) (j : HeldJob) (v : Job C) (control : Contents) → IsReceiving v → is_received (acted (Controlled control false) v) ≡ false → Ties f c j v
@@ -72,7 +63,7 @@ ties_closed {C} f c j v file r l is t =
 -- while a file is open a job isn't received
 pub open_receiving : {C : Type 0} (control : Option Contents) (fs : List (A.File C)) → is_open_in fs ≡ true → is_whole control fs ≡ false
 open_receiving control fs e =
-    let all = list_all (λ name. is_among name (names_in fs)) (A.prints_in control) in
+    let all = list_all (λ name. is_among name (names_in fs)) (prints_in control) in
     ap (λ (b : Bool). is_some control && (not b && all)) e ∙ and_right (is_some control) false refl
 
 -- a file begins

@@ -6,6 +6,7 @@ use Rattle.std.specs.Str.{bytes_eq}
 use Rattle.std.proofs.lemmas.Bool.{and_from, and_left, and_parts, and_right, cases_eq, eq-eqb, eqb-true, ne_eqb, or_right}
 use Rattle.std.proofs.lemmas.List.{drop-map, length-map}
 use Rattle.std.proofs.lemmas.Option.{slice_get-map}
+use Rattle.lpd_values.specs.Told.{prints_in}
 use Rattle.page_chain.specs.declared.place.Place.{Place}
 use Rattle.page_chain.specs.Changes.{is_same_place}
 use Rattle.spool_history.specs.Acts as A
@@ -14,6 +15,7 @@ use Rattle.spool_history.specs.Now.{Job, places}
 use Rattle.spool_calls.specs.Kept.{is_at, is_there, place_of, spots}
 use Rattle.spool_laws.proofs.Known.{Has, clash}
 use Rattle.job_moves.proofs.Shelves.{content_at}
+use Rattle.spool_laws.proofs.Copies.{has_either, if_has}
 
 -- an element of a list, and what follows it
 pub record Nth {X : Type 0} (xs : List X) (i : ℕ) : Type 0 where
@@ -32,19 +34,6 @@ nth {X} (x ∷ xs) (suc i) lt =
     record { here = n.here; left = n.left ∙ ap (λ (m : ℕ). n.here ∷ drop m (x ∷ xs)) e; is = n.is; has = inr n.has }
 
 -- the page at a place is that of its file and number
-
--- what is in two lists is in one of them
-has_either : {X : Type 0} (x : X) (xs ys : List X) → Has x (xs ++ ys) → Has x xs ⊎ Has x ys
-has_either x [] ys has = inr has
-has_either x (z ∷ zs) ys has = elim has [
-  | inl e ↦ inl (inl e)
-  | inr t ↦ elim (has_either x zs ys t) [ inl a ↦ inl (inr a) | inr b ↦ inr b ]
-]
-
--- what is there under a test is there
-if_has : {X : Type 0} (x : X) (b : Bool) (xs : List X) → Has x (cond b xs []) → Has x xs
-if_has x true xs has = has
-if_has x false xs has = absurd has
 
 -- a page of this file, its number counted from n
 record OfFile {C : Type 0} (x : A.Page C) (number n : ℕ) (pages : List C) : Type 0 where
@@ -102,13 +91,7 @@ of_places x (name ∷ names) fs has = elim (has_either x (A.pages_named name 0 f
 
 -- each place of a job has the page of its file and number
 pub content_of : {C : Type 0} (v : Job C) (x : A.Page C) → Has x (places v) → content_at v.files x.file x.number ≡ Some x.page
-content_of v x has = of_places x (A.prints_in v.control) v.files has
-
--- so two places of one page have the same page
-pub same_content : {C : Type 0} (v : Job C) (x y : A.Page C) → Has x (places v) → Has y (places v) → x.file ≡ y.file → x.number ≡ y.number → x.page ≡ y.page
-same_content {C} v x y hx hy ef en =
-    let both : Some x.page ≡ Some y.page = sym (content_of v x hx) ∙ (ap (λ (i : ℕ). content_at v.files i x.number) ef ∙ (ap (content_at v.files y.file) en ∙ content_of v y hy)) in
-    cc
+content_of v x has = of_places x (prints_in v.control) v.files has
 
 -- places
 

@@ -1,7 +1,6 @@
 -- What a call leaves open in its own words, its answer decides: the file and the page of an entry, and its queue.
 use Rattle.std.proofs.Common.{◌≡◌, ℕ, Bool, List, length, refl, sym, ◌∙◌}
 use Rattle.config_values.specs.Config.{Config}
-use Rattle.config_values.specs.Ranges.{IsConfig}
 use Rattle.spool_history.specs.Base.{Base}
 use Rattle.spool_history.specs.Events.{Event}
 use Rattle.spool_history.specs.Events.Act.{FileEnded, Put}
@@ -9,14 +8,11 @@ use Rattle.spool_history.specs.Now.{now}
 use Rattle.spool_history.specs.Legal.{HasJob, HasOpen, IsReceiving, JobMay}
 use Rattle.spool_laws.proofs.Known.{has_at}
 use Rattle.spool_requests.specs.Shows.{file_now, page_now}
-use Rattle.spool_requests.proofs.Named.{named}
 use Rattle.spool_requests.proofs.Puts.{end_decided, files_found, last_file, put_decided}
 use Rattle.spool_calls.specs.declared.answers.Receipt.{Receipt}
 use Rattle.spool_calls.specs.declared.answers.Receipt.TheVariants as receipt
 use Rattle.spool_calls.specs.contracts.answers.Receipt.{the_type}
-use Rattle.spool_calls.specs.Looks.{Detail, What}
-use Rattle.spool_calls.specs.Kept.{Kept}
-use Rattle.spool_calls.specs.Calls.{IsNamed, is_whole}
+use Rattle.spool_calls.specs.Calls.{is_whole}
 use denote.Enum.Bare.{sameb}
 
 module _ {C : Type 0} (size : C → ℕ) (c : Config) (b : Base) (h : List (Event C)) (job : ℕ) (file pages : ℕ)
@@ -40,10 +36,6 @@ module _ {C : Type 0} (size : C → ℕ) (c : Config) (b : Base) (h : List (Even
       (d.0 ∙ sym open_now.0, d.1 ∙ sym open_now.1)
 
 -- a job is whole where "received" is told
-pub whole_is : (d : Detail) (b : Base) (h : List (Event (What d))) (k : Kept) (got : Receipt) → sameb the_type got receipt.Received ≡ is_whole d b h k got
-whole_is d b h k receipt.Stored = refl
-whole_is d b h k receipt.Received = refl
-
--- one queue has a name
-pub one_queue : (c : Config) (name : List ℕ) (p q : ℕ) → IsConfig c → IsNamed c name p → IsNamed c name q → p ≡ q
-one_queue c name p q ranges is has = sym (named c name p ranges.names is) ∙ named c name q ranges.names has
+pub whole_is : (got : Receipt) → sameb the_type got receipt.Received ≡ is_whole got
+whole_is receipt.Stored = refl
+whole_is receipt.Received = refl

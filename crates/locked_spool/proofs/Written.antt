@@ -16,10 +16,6 @@ use Rattle.spool_ledgers.specs.Sums.{Sums, with_entry}
 use Rattle.locked_spool.specs.Held.{Held, IsHeld}
 use Rattle.locked_spool.specs.Entries.{Writes}
 
--- an entry was written, and the core did a step
-pub writes : (h : Held) (k : Kept) (e : Event Outline) (events : List (Event Outline)) → events ≡ e ∷ h.events → Writes h (record h { core = k; events = events }) e
-writes h k e events one = ap (λ (es : List (Event Outline)). record h { core = k; events = es }) one
-
 module _ {config : Config} {h : Held} {room : ℕ} {totals : Sums} (is : IsHeld config h room totals) where
   -- the configuration of the core is in its ranges
   pub in_ranges : IsConfig h.core.config

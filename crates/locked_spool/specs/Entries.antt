@@ -1,12 +1,13 @@
 -- By which entry each call grows the account, and by none where it answers so.
-use Rattle.std.specs.Prelude.{◌≡◌, ◌≢◌, ℕ, ◌⊎◌, Bool, true, false, List, [], ◌∷◌, Result, Ok, Err}
+use Rattle.std.specs.Prelude.{◌≡◌, ◌≢◌, ℕ, ◌⊎◌, true, false, List, [], ◌∷◌, Result, Ok, Err}
 use Rattle.page_pool.specs.Page.{Page}
 use Rattle.lpd_values.specs.Contents.{Contents}
 use Rattle.lpd_values.specs.declared.refusal.Refusal.{Refusal}
-use Rattle.lpd_values.specs.declared.refusal.Refusal.TheVariants.{Memory}
+use Rattle.control_file.specs.View.{contents}
 use Rattle.account.specs.Seen.{progress_seen}
 use Rattle.account.specs.declared.entry.Outline.{Outline}
 use Rattle.account.specs.declared.entry.Progress.{Progress}
+use Rattle.config_values.specs.Config.{queue_named}
 use Rattle.spool_history.specs.Base.{Base}
 use Rattle.spool_history.specs.Events as E
 use Rattle.spool_history.specs.Events.{Event, Sheet}
@@ -15,21 +16,22 @@ use Rattle.spool_history.specs.Events.Turn.{Handed, Printed, Failed}
 use Rattle.spool_history.specs.Events.Event.{Opened, OfJob, AtPrinter, Removed, Started}
 use Rattle.spool_history.specs.Now.{State}
 use Rattle.spool_history.specs.Legal.{HasJob, JobMay, May}
+use Rattle.spool_history.specs.Refusals.{MayControl, OrMemory, RefusesControl}
 use Rattle.spool_calls.specs.declared.answers.Asked.{Asked}
 use Rattle.spool_calls.specs.declared.answers.Asked.TheVariants as asked
 use Rattle.spool_calls.specs.declared.answers.Receipt.{Receipt}
 use Rattle.spool_calls.specs.declared.answers.Next.{Next}
 use Rattle.spool_calls.specs.declared.answers.Next.TheVariants as next
 use Rattle.spool_calls.specs.declared.answers.Foreign.{Foreign}
+use Rattle.spool_calls.specs.declared.answers.ReturnedControl.{ReturnedControl}
 use Rattle.spool_calls.specs.declared.answers.ReturnedPage.{ReturnedPage}
 use Rattle.spool_calls.specs.declared.answers.ReturnedTicket.{ReturnedTicket}
 use Rattle.spool_calls.specs.declared.handed.HandedPage.{HandedPage}
 use Rattle.spool_calls.specs.Looks.{Detail, What, outline_of, size}
 use Rattle.spool_calls.specs.Looks.Detail.{Outlines}
 use Rattle.spool_calls.specs.Kept.{Kept}
-use Rattle.spool_calls.specs.Readers.{MayControl}
 use Rattle.spool_calls.specs.Calls as calls
-use Rattle.spool_calls.specs.Calls.{IsNamed}
+use Rattle.spool_calls.specs.Calls.{is_whole}
 use Rattle.locked_spool.specs.Held.{Held}
 
 module _ (old new : Held) where
@@ -41,8 +43,12 @@ module _ (old new : Held) where
   abbrev pub here : State (What Outlines)
   here = calls.before Outlines old.base old.events old.core
 
+  -- the number of the queue of a name
+  abbrev pub queue : List ℕ → ℕ
+  queue name = queue_named old.core.config name
+
   abbrev pub WritesOpened : (sender : ℕ) → List ℕ → Result ℕ Refusal → Type 0
-  WritesOpened sender name (Ok job) = (q : ℕ) × IsNamed old.core.config name q × Writes (Opened job sender q)
+  WritesOpened sender name (Ok job) = Writes (Opened job sender (queue name))
   WritesOpened sender name (Err refusal) = new ≡ old
 
   abbrev pub WritesGranted : (job : ℕ) → Result Asked Refusal → Type 0
@@ -57,13 +63,9 @@ module _ (old new : Held) where
   -- the page stands in the entry by its length and digest, at the one place where it may be put
   abbrev pub WritesPut : (job : ℕ) → Page → Result (Unit {0}) ReturnedPage → Type 0
   WritesPut job page (Ok done) =
-      (file : ℕ) × (number : ℕ) × calls.MayTake Outlines old.base old.events old.core job page file number
+      (file : ℕ) × (number : ℕ) × calls.MayTake Outlines here job page file number
       × Writes (OfJob job (Put file number (outline_of page.octets)))
   WritesPut job page (Err back) = new ≡ old
-
-  -- whether the answer tells that the job is whole
-  abbrev pub is_whole : Receipt → Bool
-  is_whole = calls.is_whole Outlines old.base old.events old.core
 
   abbrev pub WritesFileEnded : (job : ℕ) → Result Receipt Refusal → Type 0
   WritesFileEnded job (Ok got) =
@@ -71,10 +73,10 @@ module _ (old new : Held) where
       × Writes (OfJob job (FileEnded file (is_whole got)))
   WritesFileEnded job (Err refusal) = new ≡ old
 
-  abbrev pub WritesControlled : (job : ℕ) → Contents → Result Receipt Refusal → Type 0
+  abbrev pub WritesControlled : (job : ℕ) → Contents → Result Receipt ReturnedControl → Type 0
   WritesControlled job control (Ok got) =
       Writes (OfJob job (Controlled control (is_whole got)))
-  WritesControlled job control (Err refusal) = new ≡ old
+  WritesControlled job control (Err back) = new ≡ old
 
   abbrev pub WritesAborted : (job : ℕ) → Result (Unit {0}) ReturnedTicket → Type 0
   WritesAborted job (Ok done) = Writes (OfJob job Aborted)
@@ -102,9 +104,8 @@ module _ (old new : Held) where
   -- one entry where a printer of the queue was stopped, and none where none was
   abbrev pub WritesStarted : List ℕ → Result (Unit {0}) Refusal → Type 0
   WritesStarted name (Ok done) =
-      (q : ℕ) × IsNamed old.core.config name q
-      × ((May (size Outlines) here (Started q) × Writes (Started q))
-      ⊎ ((May (size Outlines) here (Started q) → ⊥) × (new ≡ old)))
+      (May (size Outlines) here (Started (queue name)) × Writes (Started (queue name)))
+      ⊎ ((May (size Outlines) here (Started (queue name)) → ⊥) × (new ≡ old))
   WritesStarted name (Err refusal) = new ≡ old
 
   -- the numbers of the jobs that a removal takes
@@ -114,9 +115,8 @@ module _ (old new : Held) where
   -- one entry with the chosen jobs, and none where none was chosen
   abbrev pub WritesRemoved : List ℕ → List ℕ → List (List ℕ) → Result (List ℕ) Refusal → Type 0
   WritesRemoved name agent list (Ok text) =
-      (q : ℕ) × IsNamed old.core.config name q
-      × (((chosen q agent list ≡ []) × (new ≡ old))
-      ⊎ ((chosen q agent list ≢ []) × Writes (Removed q (chosen q agent list))))
+      ((chosen (queue name) agent list ≡ []) × (new ≡ old))
+      ⊎ ((chosen (queue name) agent list ≢ []) × Writes (Removed (queue name) (chosen (queue name) agent list)))
   WritesRemoved name agent list (Err refusal) = new ≡ old
 
   -- one entry for the first close, and none for a later one
@@ -125,6 +125,8 @@ module _ (old new : Held) where
 
 -- the control file came; memory may be refused for the account's copy where nothing else is
 abbrev pub Controls : (d : Detail) → (b : Base) → (h : List (Event (What d))) → (old : Kept) → (job : ℕ) → Contents
-    → (new : Kept) → Result Receipt Refusal → Type 0
-Controls d b h old job control new (Err Memory) = MayControl d b h old job × (new ≡ old)
-Controls d b h old job control new answer = calls.Controls d b h old job control new answer
+    → (new : Kept) → Result Receipt ReturnedControl → Type 0
+Controls d b h old job control new (Ok got) = calls.Controls d b h old job control new (Ok got)
+Controls d b h old job control new (Err back) =
+    OrMemory (MayControl (calls.before d b h old) job) (RefusesControl (calls.before d b h old) job) back.refusal
+    × (new ≡ old) × (contents back.control ≡ control)

@@ -1,5 +1,5 @@
 -- What a rotation hands out, and what it leaves.
-use Rattle.std.specs.Prelude.{◌≡◌, ℕ, ◌+◌, ◌*◌, ◌<◌, ◌^◌, [], Result, Ok, Err, length, reverse}
+use Rattle.std.specs.Prelude.{◌≡◌, ℕ, ◌+◌, ◌*◌, ◌<◌, ◌^◌, List, [], Result, Ok, Err, length, reverse, codes}
 use Rattle.account.specs.Seen.{base_seen, history}
 use Rattle.account.specs.Kinds.{kinds_in, handed_in}
 use Rattle.account.specs.declared.segment.Segment.{Segment}
@@ -15,6 +15,12 @@ abbrev pub number_of : RotateError → ℕ
 number_of JobsHeld = 14
 number_of AccountFull = 3
 number_of Memory = 12
+
+-- how it is told: its number and its name
+abbrev pub error_words : RotateError → List ℕ
+error_words JobsHeld = codes "14 JobsHeld"
+error_words AccountFull = codes "3 AccountFull"
+error_words Memory = codes "12 Memory"
 
 -- the segment is this account with its base and its number, and what all earlier segments came to
 pub record IsSegmentOf (h : Held) (s : Segment) : Type 0 where

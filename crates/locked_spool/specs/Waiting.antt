@@ -1,6 +1,6 @@
 -- Which printers are stopped, and which have to wait.
 use Rattle.std.specs.Prelude.{◌≡◌, ◌<◌, ℕ, List}
-use Rattle.config_values.specs.Config.{Config, IsPrinter, IsQueue}
+use Rattle.config_values.specs.Config.{Config, IsPrinter, IsQueue, queue_named}
 use Rattle.spool_history.specs.Base.{Base}
 use Rattle.spool_history.specs.Events.{Event}
 use Rattle.spool_calls.specs.declared.answers.Next.{Next}
@@ -8,7 +8,6 @@ use Rattle.spool_calls.specs.declared.answers.Next.TheVariants as next
 use Rattle.spool_calls.specs.Looks.{Detail, What}
 use Rattle.spool_calls.specs.Looks.Detail.{Outlines}
 use Rattle.spool_calls.specs.Kept.{Kept}
-use Rattle.spool_calls.specs.Calls.{IsNamed}
 use Rattle.spool_calls.specs.Readers.{stopped_for}
 use Rattle.spool_core.specs.Printers.{MustWait}
 use Rattle.locked_spool.specs.Held.{Held}
@@ -24,7 +23,7 @@ module _ (d : Detail) (b : Base) (h : List (Event (What d))) (k : Kept) where
 
   -- no printer of a queue of this name is stopped
   abbrev pub HasNoStopped : List ℕ → Type 0
-  HasNoStopped name = (q : ℕ) → IsNamed k.config name q → stopped_for d b h k q ≡ 0
+  HasNoStopped name = IsQueue k.config (queue_named k.config name) → stopped_for d b h k (queue_named k.config name) ≡ 0
 
 -- a printer of this configuration has to wait
 abbrev pub Waits : Config → Held → (printer : ℕ) → Type 0

@@ -12,13 +12,14 @@ mod queue_calls;
 mod reading;
 mod receiving;
 mod rotating;
-mod sheets;
+mod unopened;
 
 pub use account::{Account, Base, Entry, Kind, Segment};
 pub use laws::accounts_are_outlines;
 pub use locked::Locked;
 pub use rotating::RotateError;
 pub use spool_core::{
-    Asked, Config, Foreign, HandedPage, Next, Pages, Progress, Receipt, ReturnedPage,
-    ReturnedTicket,
+    Asked, Config, Foreign, HandedPage, Next, Pages, Progress, Receipt, ReturnedControl,
+    ReturnedPage, ReturnedTicket,
 };
+pub use unopened::Unopened;

@@ -1,17 +1,19 @@
 //! What the lock keeps.
 
-ghost use Rattle.std.specs.Prelude.{◌≡◌, ◌<◌, [], ◌∷◌, length, IfOk};
+ghost use Rattle.std.specs.Prelude.{◌≡◌, ◌<◌, [], ◌∷◌, length, IfErr, IfOk};
 ghost use Rattle.account.specs.Kinds.{kind_of};
 ghost use Rattle.account.specs.Seen.{event_seen};
 ghost use Rattle.spool_history.specs.Base.{first_base};
+ghost use Rattle.spool_ledgers.specs.Blanks.{AreOf, mark};
 ghost use Rattle.spool_ledgers.specs.Sums.{no_sums, with_entry};
 ghost use Rattle.locked_spool.specs.Rotation.{IsSegmentOf};
 ghost use Rattle.locked_spool.specs.Segments.{HasHeadline, IsLegalSegment, all_entries, all_handed, all_kinds};
 
+use crate::unopened::Unopened;
 use account::{Account, Base, Entry, Segment};
-use spool_core::{Config, Core};
-use spool_ledgers::{Books, Shares, SpoolLedger};
-use std::alloc::{AllocError, Global};
+use spool_core::{Config, Core, Unmade};
+use spool_ledgers::{Blanks, Books, Shares, SpoolLedger};
+use std::alloc::Global;
 use std::marker::Model;
 use std::sync::ledger::Ledger;
 
@@ -75,25 +77,33 @@ pub(crate) fn write<E: Ledger, K: Ledger, H: Ledger>(
 }
 
 impl<E: SpoolLedger, K: Ledger, H: Ledger> Locked<E, K, H> {
-    /// A spool in which nothing happened yet, with an account of no entries.
+    /// A spool in which nothing happened yet, with an account of no entries; and the shares of all parts of its ledgers.
     ///
-    /// AllocError where memory for it is refused.
+    /// Where memory for it is refused all that it was given comes back.
     pub fn new(
         alloc: Global,
+        blanks: Blanks,
         config: Config,
-        books: Books<E, K, H>,
-    ) -> Result<Locked<E, K, H>, AllocError>
+    ) -> Result<(Locked<E, K, H>, Shares<E, K, H>), Unopened>
+        requires blanks { AreOf blanks (mark E.name E.parts) (mark K.name K.parts)
+            (mark H.name H.parts) }
         requires config { config ≡ E.config }
-        requires books { books ≡ no_sums 0 }
-        ensures first { IfOk result (λ s. (s.base ≡ first_base) × (s.events ≡ []) × (s.number ≡ 1)
-            × (s.before ≡ 0) × (s.kinds_before ≡ 0) × (s.handed_before ≡ 0)) }
+        ensures first { IfOk result (λ made. let s = made.0 in
+            (s.base ≡ first_base) × (s.events ≡ []) × (s.number ≡ 1) × (s.before ≡ 0)
+            × (s.kinds_before ≡ 0) × (s.handed_before ≡ 0)) }
+        ensures shares { IfOk result (λ made. made.1 ≡ no_sums E.parts) }
+        ensures back { IfErr result (λ u. (u.blanks ≡ blanks) × (u.config ≡ config)) }
     {
-        // It is in its ranges.
-        let _pages = config.pages();
-        let core = Core::new(alloc, config)?;
         let mut account = Account::new(alloc);
-        account.reserve(1)?;
-        Ok(Locked {
+        let Ok(()) = account.reserve(1) else {
+            return Err(Unopened { blanks, config });
+        };
+        let core = match Core::new(alloc, config) {
+            Ok(core) => core,
+            Err(Unmade { config }) => return Err(Unopened { blanks, config }),
+        };
+        let (books, all) = Books::open(blanks);
+        let locked = Locked {
             alloc,
             core,
             base: Base::first(alloc),
@@ -103,7 +113,8 @@ impl<E: SpoolLedger, K: Ledger, H: Ledger> Locked<E, K, H> {
             kinds_before: 0,
             handed_before: 0,
             books,
-        })
+        };
+        Ok((locked, all))
     }
 
     /// A share of no part.

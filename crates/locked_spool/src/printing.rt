@@ -10,7 +10,6 @@ ghost use Rattle.locked_spool.specs.Shares.{when_done, when_handed};
 ghost use Rattle.locked_spool.specs.Waiting.{Waits, WhereNothing};
 
 use crate::locked::{Locked, write};
-use crate::sheets::sheet_of;
 use account::{Entry, Turn};
 use spool_core::{Foreign, HandedPage, Next, Progress};
 use spool_ledgers::{Shares, SpoolLedger};
@@ -34,7 +33,7 @@ impl<E: SpoolLedger, K: Ledger, H: Ledger> Locked<E, K, H> {
         }
         match self.core.next(printer) {
             Next::Handed(page) => {
-                let entry = Entry::AtPrinter(printer, sheet_of(&page), Turn::Handed);
+                let entry = Entry::AtPrinter(printer, page.sheet(), Turn::Handed);
                 write(&mut self.account, &mut self.books, mine, entry);
                 Next::Handed(page)
             }

@@ -2,7 +2,8 @@
 
 ghost use Rattle.std.specs.Prelude.{◌≡◌, ◌<◌, MatchOption};
 ghost use Rattle.account.specs.declared.kind.Kind.TheVariants as kind;
-ghost use Rattle.spool_calls.specs.Calls.{IsNamed, IsRight, Closes, Removes, Starts, Tells};
+ghost use Rattle.config_values.specs.Config.{IsQueue, queue_named};
+ghost use Rattle.spool_calls.specs.Calls.{IsRight, Closes, Removes, Starts, Tells};
 ghost use Rattle.locked_spool.specs.Entries.{WritesClosed, WritesRemoved, WritesStarted};
 ghost use Rattle.locked_spool.specs.Shares.{OneOrNone, WhenStarted, when_removed};
 ghost use Rattle.locked_spool.specs.Waiting.{HasNoStopped, IsStopped};
@@ -18,7 +19,8 @@ impl<E: SpoolLedger, K: Ledger, H: Ledger> Locked<E, K, H> {
     fn stopped_queue(&self, name: &[u8]) -> Option<u32>
         ensures { IsRight self.now.core (λ d b h.
             MatchOption result (HasNoStopped d b h self.now.core name.now)
-            (λ q. IsNamed self.now.core.config name.now q × IsStopped d b h self.now.core q)) }
+            (λ q. (queue_named self.now.core.config name.now ≡ q)
+            × IsQueue self.now.core.config q × IsStopped d b h self.now.core q)) }
     {
         let number = self.core.queue_number(name)?;
         if self.core.stopped_in(number) == 0 {

@@ -9,12 +9,12 @@ ghost use Rattle.locked_spool.specs.Entries.{Controls, WritesAborted, WritesBega
 ghost use Rattle.locked_spool.specs.Shares.{when_done, when_lent};
 
 use crate::locked::{Locked, write};
-use crate::sheets::outline_of;
 use account::{Act, Entry};
 use control_file::Control;
 use lpd_values::{FileName, Refusal};
 use page_pool::{FilledPage, PageTicket};
-use spool_core::{Asked, Receipt, ReturnedPage, ReturnedTicket};
+use spool_calls::outline_of;
+use spool_core::{Asked, Receipt, ReturnedControl, ReturnedPage, ReturnedTicket};
 use spool_ledgers::{Shares, SpoolLedger};
 use std::sync::ledger::Ledger;
 
@@ -158,24 +158,28 @@ impl<E: SpoolLedger, K: Ledger, H: Ledger> Locked<E, K, H> {
 
     /// Takes the control file of a job, and says whether the job is whole by that.
     ///
-    /// NotOpen where the job isn't being received; ControlTwice where it has one; Memory where memory for the account's copy is
-    /// refused.
+    /// Refused, with the control file: NotOpen where the job isn't being received; ControlTwice where it has one; Memory where
+    /// memory for the account's copy is refused.
     pub fn control(
         &mut self,
         mine: &mut Shares<E, K, H>,
         job: u64,
         control: Control,
-    ) -> Result<Receipt, Refusal>
+    ) -> Result<Receipt, ReturnedControl>
         requires { 0 < mine.old.parts }
         ensures answer { IsRight self.old.core (λ d b h.
             Controls d b h self.old.core job (contents control) self.new.core result) }
+        ensures back { IfErr result (λ e. e.control ≡ control) }
         ensures account { WritesControlled self.old self.new job (contents control) result }
         ensures shares { mine.new ≡ when_done kind.Controlled result mine.old }
     {
         if let Some(refusal) = self.core.control_refusal(job) {
-            return Err(refusal);
+            return Err(ReturnedControl { control, refusal });
         }
-        let copy = control.copy(self.alloc)?;
+        let Ok(copy) = control.copy(self.alloc) else {
+            let refusal = Refusal::Memory;
+            return Err(ReturnedControl { control, refusal });
+        };
         let receipt = self.core.control(job, control)?;
         let whole = receipt == Receipt::Received;
         let entry = Entry::OfJob(job, Act::Controlled(copy, whole));

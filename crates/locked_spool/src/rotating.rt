@@ -43,8 +43,17 @@ impl RotateError {
 
 /// Writes the number and the name, as `14 JobsHeld`.
 impl fmt::Display for RotateError {
+    ghost use Rattle.std.specs.Prelude.{Some};
+    ghost use Rattle.locked_spool.specs.Rotation.{error_words};
+
+    ghost output = { λ error. Some (error_words error) };
+
     fn fmt<W: fmt::Write>(&self, f: &mut fmt::Formatter<W>) -> fmt::Result {
-        write!(f, "{} {:?}", self.number(), self)
+        f.write_str(match self {
+            RotateError::JobsHeld => "14 JobsHeld",
+            RotateError::AccountFull => "3 AccountFull",
+            RotateError::Memory => "12 Memory",
+        })
     }
 }
 

@@ -19,7 +19,7 @@ use Rattle.spool_history.specs.Events.Event.{Opened, OfJob}
 use Rattle.spool_history.specs.Acts.{File, is_open_in, names_in}
 use Rattle.spool_history.specs.Now.{State, now, is_received, IsSafeNow}
 use Rattle.spool_history.specs.Steps.{acted, after}
-use Rattle.spool_history.specs.Legal.{CanAsk, IsLegal, IsReceiving, JobMay, May, pages_for}
+use Rattle.spool_history.specs.Legal.{CanAsk, IsLegal, IsReceiving, JobMay, May, MayOpen, pages_for}
 use Rattle.spool_laws.proofs.Counts.{last_push}
 use Rattle.spool_laws.proofs.Known.{clash}
 use Rattle.spool_laws.proofs.Moves.{moved}
@@ -27,7 +27,8 @@ use Rattle.spool_calls.specs.Looks.Detail.{Octets}
 use Rattle.spool_requests.specs.declared.answer.Answer.TheVariants.{Yes, Accepted, Lent, Later, Stored, Received, Refused}
 use Rattle.spool_requests.specs.Agree.{is_short}
 use Rattle.spool_requests.specs.Shows.{file_now, page_now}
-use Rattle.spool_requests.specs.Due.{RefusesQueue, RefusesJob, RefusesFile, RefusesPage, RefusesControl, RefusesUnless, MayPut, MayEnd}
+use Rattle.spool_history.specs.Refusals.{OrMemory, RefusesQueue, RefusesJob, RefusesFile, RefusesPage, RefusesControl, RefusesUnless}
+use Rattle.spool_calls.specs.Calls.{MayPut, MayEnd}
 use Rattle.spool_trace.specs.Sessions.{Session}
 use Rattle.lone_jobs.specs.Lone.{Sent, file_names}
 use Rattle.lone_jobs.proofs.Dues.{body, file_begun, file_end, in_hand, paged}
@@ -60,7 +61,7 @@ module _ (c : Config) (job : Sent) (k : IsKnown c job) (h : History) (l : IsLega
   queue_answered here x e answer a m ample = absurd a
 
   -- a job
-  no_room : (n : Refusal) → w0.closed ≡ false → NoJob c job w0 → is_short (Refused n) ≡ false → RefusesJob w0 (q c job) n → ⊥
+  no_room : (n : Refusal) → w0.closed ≡ false → NoJob c job w0 → is_short (Refused n) ≡ false → OrMemory (MayOpen w0 (w0.accepted + 1) (q c job)) (RefusesJob w0 (q c job)) n → ⊥
   no_room TableFull open' none ample a = (let low = k.ranges.max_jobs_low in let full = a.1 in let e = ap length none.0 in omega (arith, low, full, e))
   no_room AccountFull open' none ample a = a.2 none.1
   no_room Memory open' none ample a = clash true refl ample
@@ -176,9 +177,8 @@ module _ (c : Config) (job : Sent) (k : IsKnown c job) (h : History) (l : IsLega
           (
             has_only w0.jobs busy (JobMay length c (Put (length done) (length pages) (take taken octets))) one
                 ((refl, refl), refl, (done, open_file file pages, refl, refl, refl, (refl, omega (arith, so_far, some), size))),
-            tt,
+            refl,
           ),
-          refl,
         )
 
     no_put : 0 < length octets → Within c job g done file left octets pages → w0.jobs ≡ busy ∷ [] → (n : Refusal) → RefusesUnless (MayPut Octets w0 s.job page) n → ⊥
@@ -241,11 +241,8 @@ module _ (c : Config) (job : Sent) (k : IsKnown c job) (h : History) (l : IsLega
         let count : length pages ≡ pages_for (z c job) (length file.octets) = omega (arith, none, so_far) in (
           length done,
           is_received (acted (FileEnded (length done) true) all),
-          (
-            has_only w0.jobs all (JobMay length c (FileEnded (length done) (is_received (acted (FileEnded (length done) true) all)))) one
-                ((refl, refl), refl, (done, open_file file pages, refl, refl, refl, count), refl),
-            tt,
-          ),
+          has_only w0.jobs all (JobMay length c (FileEnded (length done) (is_received (acted (FileEnded (length done) true) all)))) one
+              ((refl, refl), refl, (done, open_file file pages, refl, refl, refl, count), refl),
         )
 
     no_end : Within c job g done file left [] pages → w0.jobs ≡ all ∷ [] → (n : Refusal) → RefusesUnless (MayEnd Octets w0 s.job) n → ⊥

@@ -19,7 +19,8 @@ use Rattle.spool_laws.proofs.Turns.{given}
 use Rattle.spool_moves.proofs.Moving.{jobs_left}
 use Rattle.spool_calls.specs.Looks.Detail.{Octets}
 use Rattle.spool_requests.specs.Shows.{with_event}
-use Rattle.spool_requests.specs.Due.{HasEntries, MayCome}
+use Rattle.spool_history.specs.Refusals.{HasEntries}
+use Rattle.spool_requests.specs.Due.{MayCome}
 use Rattle.lone_jobs.specs.Lone.{Sent, LeavesAlone}
 use Rattle.lone_jobs.proofs.Held.{History, Held, held_job, only_has}
 use Rattle.lone_jobs.proofs.Owned.{IsNotOf}

@@ -14,10 +14,11 @@ use Rattle.lpd_commands.specs.declared.sub.Sub.TheVariants as sub
 use Rattle.control_file.specs.Text.{control_of}
 use Rattle.lpr_client.specs.declared.file.DataFile.{DataFile}
 use Rattle.lpr_client.specs.Parts.{zeroed, data_parts, control_parts}
-use Rattle.lpr_client.proofs.Clear.{due_line}
+use Rattle.receiver.proofs.BlockLaws.{due_line}
 use Rattle.receiver.specs.Blocks.{IsLine, between}
 use Rattle.receiver.specs.Script.{Request, Queue, Open, BeginFile, AskPage, Filled, EndFile, Control, Ack, Item, Asks, Acks, FileOctets, PageOctets, ZeroOctet, ControlText, block, first_block, after_line}
 use Rattle.receiver.specs.Reading.{Progress, Waits, Writes, Requests, due, due_at, start}
+use Rattle.lpr_client.proofs.Granting.{due_first as first_due}
 
 -- the files and the control file that are left of a job
 abbrev pub body : (name text : List ℕ) → List DataFile → List ℕ
@@ -29,10 +30,6 @@ control_left text = text ++ 0 ∷ []
 
 sent : (line octets : List ℕ) (parts : List (List ℕ)) → concat ((line ++ 10 ∷ []) ∷ zeroed octets ∷ parts) ≡ line ++ 10 ∷ (octets ++ 0 ∷ concat parts)
 sent line octets parts = simp append_assoc
-
-pub first_due : (queue line rest : List ℕ) → IsLine line → command_of line ≡ Ok (Receive queue) → due start (line ++ 10 ∷ rest) ≡ Requests (Queue queue) (Acks ∷ []) rest
-first_due queue line rest l e =
-    due_line (λ x. due_at (λ _. Waits) (after_line None false x)) line rest l ∙ ap (λ m. due_at (λ _. Waits) (first_block m) rest) e
 
 -- the items of a data file once it has begun
 abbrev pub file_end : List Item

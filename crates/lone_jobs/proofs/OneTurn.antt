@@ -16,7 +16,8 @@ use Rattle.spool_history.specs.Now.{now, IsSafeNow}
 use Rattle.spool_history.specs.Legal.{IsLegal}
 use Rattle.spool_trace.specs.Sessions.{Session, due_in}
 use Rattle.lone_jobs.specs.Lone.{Sent, file_names, pages_of_files}
-use Rattle.lone_jobs.proofs.Dues.{body, control_left, control_begun, file_begun, file_end, first_due, file_opens, file_begins, control_opens, control_begins, text_due, octets_due, end_due, page_due}
+use Rattle.lone_jobs.proofs.Dues.{body, control_left, control_begun, file_begun, file_end, file_opens, file_begins, control_opens, control_begins, text_due, octets_due, end_due, page_due}
+use Rattle.lpr_client.proofs.Granting.{due_first as first_due}
 use Rattle.lone_jobs.proofs.Held.{History}
 use Rattle.lone_jobs.proofs.Places.{Place, First, Asking, Ready, Begins, Began, Inside, Told, Last, AllFresh, Facts, IsKnown, Rest, Here, progress_at, text_at, q, text, z}
 use Rattle.lone_jobs.proofs.Turning.{Goal, on_request, on_ack, on_wait}

@@ -11,7 +11,7 @@ use Rattle.spool_history.specs.Next.{printer_at}
 use Rattle.spool_calls.specs.Looks.Detail.{Octets}
 use Rattle.spool_requests.specs.declared.answer.Answer.{Answer}
 use Rattle.spool_requests.specs.declared.answer.Answer.TheVariants.{Yes, Accepted, Lent, Stored, Received, Told}
-use Rattle.spool_requests.specs.Named.{queue_named}
+use Rattle.config_values.specs.Config.{queue_named}
 use Rattle.spool_requests.specs.Shows.{event_of, has_stopped, numbers_chosen, removal_of, start_of}
 use Rattle.spool_trace.specs.declared.step.Step.{Step}
 use Rattle.spool_trace.specs.declared.step.Step.TheVariants as step
@@ -27,16 +27,8 @@ use Rattle.spool_trace.specs.Replies.{IsReply, IsSession, IsTrace}
 use Rattle.spool_trace.proofs.Stages.{Stage, Fine, due_fine}
 use Rattle.spool_trace.proofs.Kept.{Owned}
 use Rattle.spool_trace.proofs.Standing.{kept}
-use Rattle.spool_trace.proofs.Turned.{ends_owned}
+use Rattle.spool_trace.proofs.Turned.{ends_owned, removal_owned, start_owned}
 use Rattle.lone_jobs.specs.Lone.{IsOfOthers}
-
-start_owned : (s : Session) (b : Bool) (q : ℕ) → Owned s (start_of b q)
-start_owned s true q = tt
-start_owned s false q = tt
-
-removal_owned : (s : Session) (q : ℕ) (numbers : List ℕ) → Owned s (removal_of q numbers)
-removal_owned s q [] = tt
-removal_owned s q (n ∷ ns) = tt
 
 module _ (v : State (List ℕ)) (s : Session) (g : Stage) where
   asked_owned : (r : Request) (answer : Answer) (items : List Item) (text : List ℕ) → Fine s.progress.job g s.unread (Requests r items text) → Owned s (event_of Octets v s.sender s.job r answer)

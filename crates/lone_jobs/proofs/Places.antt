@@ -25,8 +25,8 @@ use Rattle.spool_laws.proofs.Known.{Has}
 use Rattle.spool_history.specs.Acts.{File, is_open_in, names_in}
 use Rattle.spool_history.specs.Now.{State, now}
 use Rattle.spool_history.specs.Legal.{pages_for}
-use Rattle.spool_requests.specs.Due.{HasEntries}
-use Rattle.spool_requests.specs.Named.{queue_named}
+use Rattle.spool_history.specs.Refusals.{HasEntries}
+use Rattle.config_values.specs.Config.{queue_named}
 use Rattle.spool_trace.specs.Sessions.{Session}
 use Rattle.lone_jobs.specs.Lone.{Sent, file_names, pages_of_files}
 use Rattle.lone_jobs.proofs.Dues.{body, control_left, file_begun, file_end, in_hand, paged}

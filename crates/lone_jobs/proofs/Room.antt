@@ -19,15 +19,13 @@ use Rattle.lpr_client.proofs.JobReading.{IsSendable, sendable}
 use Rattle.lpr_client.proofs.LineLemmas.{receive_line, control_line}
 use Rattle.spool_history.specs.Legal.{pages_for}
 use Rattle.spool_moves.proofs.Files.{all_is_none_left}
-use Rattle.spool_requests.specs.Named.{queue_named}
+use Rattle.config_values.specs.Config.{queue_named}
 use Rattle.spool_trace.specs.Trace.{Trace}
 use Rattle.lone_jobs.specs.Lone.{Sent, HasRoomFor, HaveOwnNames, file_names, pages_of_files}
 use Rattle.lone_jobs.proofs.Files.{pages_more}
 use Rattle.lone_jobs.proofs.Places.{AllFresh, IsKnown, text}
-
-limit_pages : (c : Config) (q : ℕ) → IsConfig c → IsQueue c q → limit_of c q ≤ c.pages
-limit_pages c zero ranges is = absurd (let low = is.0 in omega (arith, low))
-limit_pages c (suc n) ranges is = (let high = is.1 in (ranges.queues n no_queue (omega (arith, high))).limit_high)
+use Rattle.spool_trace.proofs.Whole.{limit_pages}
+use Rattle.spool_laws.proofs.Behind.{bool_cases as not_so}
 
 -- files that take few pages have few octets
 counted : (c : Config) (files : List DataFile) → IsConfig c → pages_of_files c.page_size files ≤ 65536 → AreCounted files
@@ -49,10 +47,6 @@ NoneIn names (file ∷ files) = (is_among file.name names ≡ false) × NoneIn n
 none_in_none : (files : List DataFile) → NoneIn [] files
 none_in_none [] = tt
 none_in_none (file ∷ files) = (refl, none_in_none files)
-
-not_so : (b : Bool) → (b ≡ true → ⊥) → b ≡ false
-not_so true f = absurd (f refl)
-not_so false f = refl
 
 one_more_name : (names : List (List ℕ)) (name other : List ℕ) → is_among other names ≡ false → other ≢ name → is_among other (names ++ name ∷ []) ≡ false
 one_more_name names name other none ne =

@@ -128,7 +128,6 @@ module _ (c : Config) (job : Sent) (k : IsKnown c job) (n : ℕ) where
           arrived = ap (λ (x : Session). x.arrived) now' ∙ (turned_arrived (due_in s) done s ∙ unmoved);
           granted = λ coming e. (turned_so done ample r coming (ap (λ (x : Session). x.arrived ++ coming) (sym now') ∙ e)).2;
         }
-    turns_on reply.Memory ample r = record { stands = stood; more = []; arrived = unmoved; granted = λ coming e. tt }
     turns_on reply.NoSuch ample r = record { stands = stood; more = []; arrived = unmoved; granted = λ coming e. tt }
     turns_on reply.Gone ample r = record { stands = stood; more = []; arrived = unmoved; granted = λ coming e. tt }
     turns_on re ample r = absurd r.due.2

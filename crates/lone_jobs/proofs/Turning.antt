@@ -28,9 +28,7 @@ use Rattle.lone_jobs.specs.Lone.{Sent, IsGranted}
 use Rattle.lone_jobs.proofs.Seen.{HasNoEnd, request_seen, write_seen, wait_seen}
 use Rattle.lone_jobs.proofs.Held.{History}
 use Rattle.lone_jobs.proofs.Places.{Place, progress_at, text_at, count_at, Facts, Here}
-
-short_memory : (n : Refusal) → n ≡ Memory → is_short_deed (deed.Refused n) ≡ false → ⊥
-short_memory n e s = clash true refl (subst (λ (m : Refusal). is_short_deed (deed.Refused m) ≡ false) e s)
+use Rattle.spool_trace.proofs.OneReply.{short_memory}
 
 module _ (c : Config) (job : Sent) (h : History) (coming : List ℕ) (s : Session) where
   abbrev pub v : State (List ℕ)

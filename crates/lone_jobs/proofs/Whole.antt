@@ -14,7 +14,7 @@ use Rattle.spool_trace.specs.Sessions.{Session, session_at, sessions, new_sessio
 use Rattle.spool_trace.specs.Shown.{events}
 use Rattle.spool_trace.specs.Replies.{IsTrace}
 use Rattle.spool_trace.proofs.Legal.{legal}
-use Rattle.spool_trace.proofs.Places.{contained}
+use Rattle.spool_laws.proofs.Joined.{contained}
 use Rattle.spool_trace.proofs.Whole.{holds}
 use Rattle.control_file.specs.View.{contents}
 use Rattle.spool_history.specs.Events.Act.{Controlled}

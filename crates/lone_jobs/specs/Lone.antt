@@ -17,8 +17,8 @@ use Rattle.spool_history.specs.Events.Act.{Controlled}
 use Rattle.spool_history.specs.Events.Event.{Opened, OfJob, Closed}
 use Rattle.spool_history.specs.Legal.{pages_for}
 use Rattle.spool_requests.specs.declared.answer.Answer.TheVariants.{Later, Refused}
-use Rattle.spool_requests.specs.Due.{HasEntries}
-use Rattle.spool_requests.specs.Named.{queue_named}
+use Rattle.spool_history.specs.Refusals.{HasEntries}
+use Rattle.config_values.specs.Config.{queue_named}
 use Rattle.spool_trace.specs.declared.step.Step.{Step}
 use Rattle.spool_trace.specs.declared.step.Step.TheVariants as step
 use Rattle.spool_trace.specs.declared.reply.Deed.TheVariants as deed

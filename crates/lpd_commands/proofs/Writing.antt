@@ -1,9 +1,9 @@
 -- One write after another, and one read after another.
-use Rattle.std.proofs.Common.{◌≡◌, ◌≤◌, ℕ, List, [], ◌++◌, Option, Some, None, refl, sym, subst, ap, ◌∙◌, append_assoc, ◌+◌, ◌-◌, min, length, take, drop, arith}
+use Rattle.std.proofs.Common.{◌≡◌, ◌≤◌, ℕ, suc, List, [], ◌++◌, Option, Some, None, refl, sym, subst, ap, ◌∙◌, append_assoc, ◌+◌, ◌-◌, min, length, take, drop, arith}
 use Rattle.std.proofs.lemmas.Grind.{common_steps}
 use Rattle.std.proofs.lemmas.List.{append-nil, take-append-le, take_min}
 use Rattle.std.proofs.Math.Seq.{take-add, take-append-add}
-use Rattle.lpd_commands.specs.Ends.{Took, Writes, WritesSome}
+use Rattle.lpd_commands.specs.Ends.{Took, Writes, WritesSome, many_more, one_more}
 
 -- one write after another
 pub Writes-append : (a b c : Option (List ℕ)) (xs ys : List ℕ) → Writes a b xs → Writes b c ys → Writes a c (xs ++ ys)
@@ -44,6 +44,14 @@ Took-append (Some old) then_ rest xs ys h k =
 pub Took-none : (left : Option (List ℕ)) → Took left left []
 Took-none None = refl
 Took-none (Some old) = (old, refl, refl)
+
+-- one more after so many
+pub more_by_one : (k n : ℕ) → many_more (k + 1) n ≡ one_more (many_more k n)
+more_by_one k n = let e : suc k ≡ k + 1 = omega arith in subst (λ (m : ℕ). many_more m n ≡ one_more (many_more k n)) e refl
+
+-- a counter that told so many more tells one more
+pub counts_one : (k old before now : ℕ) → before ≡ many_more k old → now ≡ one_more before → now ≡ many_more (k + 1) old
+counts_one k old before now b e = e ∙ (ap one_more b ∙ sym (more_by_one k old))
 
 -- nothing was written
 pub Writes-none : (was : Option (List ℕ)) → Writes was was []

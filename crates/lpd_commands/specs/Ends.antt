@@ -1,9 +1,22 @@
 -- What readers and writers tell of their octets.
-use Rattle.std.specs.Prelude.{◌≡◌, ◌<◌, ◌+◌, ◌-◌, ◌^◌, ◌++◌, ℕ, List, [], Option, Some, None, length, take, drop, min}
+use Rattle.std.specs.Prelude.{◌≡◌, ◌<◌, ◌≤◌, ◌+◌, ◌-◌, ◌^◌, ◌++◌, ℕ, zero, suc, List, [], Option, Some, None, length, take, drop, min}
 
 -- one more, up to the last value of a u64
 abbrev pub one_more : ℕ → ℕ
 one_more n = min (n + 1) (2 ^ 64 - 1)
+
+-- so many more, one after another
+abbrev pub many_more : ℕ → ℕ → ℕ
+many_more zero n = n
+many_more (suc k) n = one_more (many_more k n)
+
+-- how often an end is read at most for one session or one script
+abbrev pub most_reads : ℕ
+most_reads = 4294967295
+
+-- at most so many reads were made, by what a reader told of them before and after
+abbrev pub MakesAtMost : (most before after : ℕ) → Type 0
+MakesAtMost most before after = (n : ℕ) × (n ≤ most) × (after ≡ many_more n before)
 
 -- a read of these octets: they are the next ones; though there is room, there are none only where nothing is left
 abbrev pub Reads : Option (List ℕ) → Option (List ℕ) → List ℕ → ℕ → Type 0

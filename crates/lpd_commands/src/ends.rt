@@ -15,8 +15,12 @@ pub trait OctetRead {
     /// How often it failed, up to the last value of a `u64`.
     ghost faults: { Self → ℕ };
 
+    /// How often it was read, also where that failed, up to the last value of a `u64`.
+    ghost reads: { Self → ℕ };
+
     /// Reads some octets into the head of the buffer, and answers how many. For a buffer that isn't empty, 0 is the end.
     fn read(&mut self, into: &mut [u8]) -> Result<usize, OctetFault>
+        ensures counts { reads self.new ≡ one_more (reads self.old) }
         ensures within { IfOk result (λ n. n ≤ length into.old) }
         ensures octets { IfOk result
             (λ n. Reads (left self.old) (left self.new) (take n into.new) (length into.old)) }

@@ -1,9 +1,11 @@
 -- Lines of rotations, one after another.
-use Rattle.std.proofs.Common.{◌≡◌, ◌++◌, ◌∷◌, ◌∙◌, ℕ, List, [], Ok, OnOk, Err, Option, Result, refl, ap, sym, subst, append_assoc}
+use Rattle.std.proofs.Common.{◌≡◌, ◌++◌, ◌∷◌, ◌∙◌, ℕ, List, [], Ok, OnOk, IfErr, Err, Option, Result, refl, ap, sym, subst, append_assoc}
 use Rattle.std.proofs.lemmas.List.{append-nil}
 use Rattle.lpd_commands.specs.Ends.{Writes}
 use Rattle.lpd_commands.proofs.Writing.{Writes-append, Writes-none}
-use Rattle.lpd_daemon.specs.Lines.{WritesAll, WritesRotations, line_octets, rotation_octets}
+use Rattle.lpd_daemon.specs.Faults.{IsRunningFault, write_faults}
+use Rattle.lpd_daemon.specs.Lines.{TellsRotations, WritesAll, WritesRotations, line_octets, rotation_octets}
+use Rattle.lpd_daemon.specs.declared.faults.Fault.{Fault}
 use Rattle.lpd_daemon.specs.declared.lines.Line.TheVariants.{Closed, Listening, Rotated}
 
 pub rotation_octets-append : (a b : List (ℕ × ℕ)) → rotation_octets (a ++ b) ≡ rotation_octets a ++ rotation_octets b
@@ -29,12 +31,37 @@ WritesRotations-append was then_ now a b = (
       (Writes-append was then_ now (rotation_octets a.0) (rotation_octets b.0) a.1 b.1),
 )
 
+-- nothing is told yet
+pub TellsRotations-none : (was : Option (List ℕ)) (faults : ℕ) → TellsRotations was faults was faults (Ok tt)
+unfolding TellsRotations
+TellsRotations-none was faults = (WritesRotations-none was, refl, tt)
+
+-- what was written, and how often writing failed
+pub TellsRotations-written : (was : Option (List ℕ)) (faults : ℕ) (now : Option (List ℕ)) (now_faults : ℕ) (told : Result (Unit {0}) Fault) → TellsRotations was faults now now_faults told → OnOk told (WritesRotations was now)
+unfolding TellsRotations
+TellsRotations-written was faults now now_faults told tells = tells.0
+
+pub TellsRotations-counts : (was : Option (List ℕ)) (faults : ℕ) (now : Option (List ℕ)) (now_faults : ℕ) (told : Result (Unit {0}) Fault) → TellsRotations was faults now now_faults told → now_faults ≡ write_faults faults told
+unfolding TellsRotations
+TellsRotations-counts was faults now now_faults told tells = tells.1
+
+pub TellsRotations-fault : (was : Option (List ℕ)) (faults : ℕ) (now : Option (List ℕ)) (now_faults : ℕ) (told : Result (Unit {0}) Fault) → TellsRotations was faults now now_faults told → IfErr told IsRunningFault
+unfolding TellsRotations
+TellsRotations-fault was faults now now_faults told tells = tells.2
+
 -- one rotation more, where all was printed until now
-pub WritesRotations-then : {A B : Type 0} (told : Result (Unit {0}) A) (printed : Result (Unit {0}) B) (was then_ now : Option (List ℕ)) (number entries : ℕ) (u : Unit {0}) → OnOk told (WritesRotations was then_) → told ≡ Ok u → OnOk printed (Writes then_ now (line_octets (Rotated number entries))) → OnOk printed (WritesRotations was now)
-WritesRotations-then {A} told (Ok v) was then_ now number entries u before is one =
-    WritesRotations-append was then_ now (subst (λ (t : Result (Unit {0}) A). OnOk t (WritesRotations was then_)) is before)
-    (WritesRotations-one then_ now number entries one)
-WritesRotations-then told (Err e) was then_ now number entries u before is one = tt
+TellsRotations-more : (printed : Result (Unit {0}) Fault) (was then_ : Option (List ℕ)) (faults then_faults : ℕ) (now : Option (List ℕ)) (now_faults : ℕ) (number entries : ℕ) → WritesRotations was then_ → then_faults ≡ faults → OnOk printed (Writes then_ now (line_octets (Rotated number entries))) → now_faults ≡ write_faults then_faults printed → IfErr printed IsRunningFault → TellsRotations was faults now now_faults printed
+unfolding TellsRotations
+TellsRotations-more (Ok v) was then_ faults then_faults now now_faults number entries all same w c f =
+    (WritesRotations-append was then_ now all (WritesRotations-one then_ now number entries w), c ∙ same, f)
+TellsRotations-more (Err e) was then_ faults then_faults now now_faults number entries all same w c f =
+    (tt, c ∙ ap (λ n. write_faults {A = Unit {0}} n (Err e)) same, f)
+
+pub TellsRotations-then : (told printed : Result (Unit {0}) Fault) (was then_ : Option (List ℕ)) (faults then_faults : ℕ) (now : Option (List ℕ)) (now_faults : ℕ) (number entries : ℕ) → TellsRotations was faults then_ then_faults told → told ≡ Ok tt → OnOk printed (Writes then_ now (line_octets (Rotated number entries))) → now_faults ≡ write_faults then_faults printed → IfErr printed IsRunningFault → TellsRotations was faults now now_faults printed
+unfolding TellsRotations
+TellsRotations-then told printed was then_ faults then_faults now now_faults number entries before is w c f =
+    let all : TellsRotations was faults then_ then_faults (Ok tt) = subst (λ t. TellsRotations was faults then_ then_faults t) is before in
+    TellsRotations-more printed was then_ faults then_faults now now_faults number entries all.0 all.1 w c f
 
 -- rotations between the first line and the last one
 pub WritesAll-of : (was listening rotated now : Option (List ℕ)) (port entries : ℕ) → Writes was listening (line_octets (Listening port)) → WritesRotations listening rotated → Writes rotated now (line_octets (Closed entries)) → WritesAll was now

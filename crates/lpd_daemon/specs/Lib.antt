@@ -1,4 +1,5 @@
 -- The words of this crate's contracts.
+pub mod Ends
 pub mod Faults
 pub mod Lines
 pub mod Rotating

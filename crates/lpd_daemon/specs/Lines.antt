@@ -1,7 +1,8 @@
 -- The lines that a server prints.
-use Rattle.std.specs.Prelude.{◌≡◌, ◌++◌, ◌∷◌, ℕ, List, [], Option, codes}
+use Rattle.std.specs.Prelude.{◌≡◌, ◌++◌, ◌∷◌, ℕ, List, [], Option, Result, OnOk, IfErr, codes}
 use Rattle.std.specs.Fmt.{decimal}
 use Rattle.lpd_commands.specs.Ends.{Writes}
+use Rattle.lpd_daemon.specs.Faults.{IsRunningFault, write_faults}
 use Rattle.lpd_daemon.specs.declared.faults.Fault.{Fault}
 use Rattle.lpd_daemon.specs.declared.faults.Fault.TheVariants.{Network, PrinterFile}
 use Rattle.lpd_daemon.specs.declared.lines.Line.{Line}
@@ -23,6 +24,11 @@ rotation_octets (segment ∷ more) = line_octets (Rotated segment.0 segment.1) +
 -- nothing was written but lines of rotations
 abbrev pub WritesRotations : Option (List ℕ) → Option (List ℕ) → Type 0
 WritesRotations was now = (segments : List (ℕ × ℕ)) × Writes was now (rotation_octets segments)
+
+-- from an output with these octets and faults to one with those it was told of rotations: where that went well nothing else was written, and else it is told what failed
+unfoldable pub TellsRotations : Option (List ℕ) → ℕ → Option (List ℕ) → ℕ → Result (Unit {0}) Fault → Type 0
+TellsRotations was faults now now_faults told =
+    OnOk told (WritesRotations was now) × (now_faults ≡ write_faults faults told) × IfErr told IsRunningFault
 
 -- a server that ended well has written the port that it listens at, its rotations, and the entries of its whole account
 abbrev pub WritesAll : Option (List ℕ) → Option (List ℕ) → Type 0

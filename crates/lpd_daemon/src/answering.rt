@@ -1,5 +1,8 @@
 //! Connections, each served through a session's seat.
 
+ghost use Rattle.std.specs.Prelude.{◌≡◌, option_map};
+ghost use Rattle.lpd_daemon.specs.Ends.{failure_text};
+
 use crate::posts::{Meter, Posts};
 use log::{Log, warn};
 use lpd_script::{StreamReader, StreamWriter};
@@ -29,8 +32,8 @@ const LEAVE: u64 = 5;
 /// How many seconds the peer is waited for at each of these reads.
 const PATIENCE: u64 = 1;
 
-/// For how many seconds the peer of a connection that brings no job may be silent, or not read, where a session serves such
-/// ones alone.
+/// For how many seconds the peer of a connection that brings no job may be silent, or not read,
+/// where a session serves such ones alone.
 const QUESTION: u64 = 5;
 
 /// After how many seconds of silence the system asks a peer whether it is there.
@@ -62,7 +65,8 @@ impl Front<'_> {
         Some(Duration::from_secs(seconds))
     }
 
-    /// Has octets sent at once and peers asked whether they are there, and limits how long a peer may be silent or not read.
+    /// Has octets sent at once and peers asked whether they are there, and limits how long a peer
+    /// may be silent or not read.
     fn set_up(&self, stream: &TcpStream) -> io::Result<()> {
         stream.set_nodelay(true)?;
         keep_asking(stream, KEEPALIVE);
@@ -83,8 +87,8 @@ impl Front<'_> {
     }
 }
 
-/// Ends what is sent, and passes over what the peer still sends, for a while: a connection that is closed with octets unread
-/// may take the last answer away from its peer.
+/// Ends what is sent, and passes over what the peer still sends, for a while: a connection that is
+/// closed with octets unread may take the last answer away from its peer.
 fn take_leave<R: Clock>(rt: &R, stream: &TcpStream) -> io::Result<()> {
     stream.shutdown(Shutdown::Write)?;
     stream.set_read_timeout(Some(Duration::from_secs(PATIENCE)))?;
@@ -107,17 +111,27 @@ fn complain<R: Log, W: Display>(rt: &R, peer: SocketAddr, why: &W) {
     warn!(rt; "{peer}: {why}");
 }
 
+/// Why a session failed, if it did.
+fn failure_of(end: SessionEnd) -> Option<&'static str>
+    ensures { option_map (λ text. text.now) result ≡ failure_text end }
+{
+    match end {
+        SessionEnd::Finished | SessionEnd::Closed | SessionEnd::Refused(_) => None,
+        SessionEnd::Broken => Some("the connection ended in the middle"),
+        SessionEnd::ReadFault => Some("reading failed, or the peer was silent"),
+        SessionEnd::WriteFault => Some("writing failed"),
+        SessionEnd::Memory => Some("memory was refused"),
+    }
+}
+
 /// Logs a session that didn't end as its peer would have it.
 fn tell<R: Log>(rt: &R, peer: SocketAddr, end: SessionEnd) {
-    let why = match end {
-        SessionEnd::Finished | SessionEnd::Closed => return,
-        SessionEnd::Refused(refusal) => return complain(rt, peer, &refusal),
-        SessionEnd::Broken => "the connection ended in the middle",
-        SessionEnd::ReadFault => "reading failed, or the peer was silent",
-        SessionEnd::WriteFault => "writing failed",
-        SessionEnd::Memory => "memory was refused",
-    };
-    complain(rt, peer, &why);
+    if let SessionEnd::Refused(refusal) = end {
+        complain(rt, peer, &refusal);
+    }
+    if let Some(why) = failure_of(end) {
+        complain(rt, peer, &why);
+    }
 }
 
 /// Serves a connection.

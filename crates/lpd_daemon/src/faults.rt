@@ -3,6 +3,7 @@
 ghost use Rattle.std.specs.Prelude.{◌≡◌};
 ghost use Rattle.lpd_daemon.specs.declared.faults.Fault.TheVariants.{Memory};
 
+use lpd_script::FaultName;
 use std::alloc::{AllocError, AllocFailed};
 use thiserror::Error;
 
@@ -10,16 +11,16 @@ use thiserror::Error;
 #[derive(Debug, PartialEq, Eq, Drop, Error)]
 pub enum Fault {
     /// Memory was refused, or a thread.
-    #[error("fault 12 Memory")]
+    #[error("{}", FaultName::Memory)]
     Memory,
     /// The address can't be listened on.
-    #[error("fault 72 Network")]
+    #[error("{}", FaultName::Network)]
     Network,
     /// The printer's file at this path can't be opened for writing.
-    #[error("fault 73 WriteFile {0}")]
+    #[error("{name} {0}", name = FaultName::WriteFile)]
     PrinterFile(String),
     /// The output can't be written.
-    #[error("fault 73 WriteFile")]
+    #[error("{}", FaultName::WriteFile)]
     Output,
 }
 

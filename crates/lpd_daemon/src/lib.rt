@@ -1,6 +1,7 @@
-//! The server: a spool behind a listener on IPv4 (RFC 1179, section 3.1). One thread holds connections until their first line is
-//! there and hands them on to threads that serve them, one thread a printer writes the printer's pages to a file, one looks for
-//! peers that are gone, and one rotates the account where room is kept in it.
+//! The server: a spool behind a listener on IPv4 (RFC 1179, section 3.1). One thread holds
+//! connections until their first line is there and hands them on to threads that serve them, one
+//! thread a printer writes the printer's pages to a file, one looks for peers that are gone, and
+//! one rotates the account where room is kept in it.
 #![tactic(auto)]
 
 mod answering;
@@ -11,13 +12,12 @@ mod posts;
 mod room;
 mod rotating;
 mod serving;
-mod settings;
 mod sink;
 mod threads;
 mod watching;
 
 pub use faults::Fault;
 pub use printer_worker::{PrintSink, SinkFault};
+pub use server_settings::{MOST_SESSIONS, Settings};
 pub use serving::serve;
-pub use settings::{MOST_SESSIONS, Settings};
 pub use sink::FileSink;

@@ -33,7 +33,8 @@ impl fmt::Display for Line {
     }
 }
 
-/// Writes a line to the output. Output where it can't be written; Memory where memory for it is refused.
+/// Writes a line to the output. Output where it can't be written; Memory where memory for it is
+/// refused.
 pub(crate) fn print<W: OctetWrite>(alloc: Global, output: &mut W, line: Line) -> Result<(), Fault>
     ensures written { OnOk result
         (Writes (W.written output.old) (W.written output.new) (line_octets line)) }

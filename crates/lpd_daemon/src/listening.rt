@@ -1,18 +1,17 @@
 //! The listener, and the thread that hands its connections on.
 
 ghost use Rattle.std.specs.Prelude.{◌≡◌, ℕ, List, Option, OnOk, IfErr, Ok};
-ghost use Rattle.lpd_daemon.specs.Faults.{IsRunningFault, write_faults};
-ghost use Rattle.lpd_daemon.specs.Lines.{WritesRotations};
+ghost use Rattle.lpd_daemon.specs.Lines.{TellsRotations};
 ghost use Rattle.lpd_daemon.specs.declared.faults.Fault.TheVariants.{Network};
 
 use crate::faults::Fault;
 use crate::lines::{Line, print};
 use crate::room::Room;
 use crate::rotating::{Rotated, Rotations, has_turn, rotate};
-use crate::settings::Settings;
 use log::{Log, error, warn};
 use lpd_commands::OctetWrite;
 use server_edge::{Desk, Lobby, Visit};
+use server_settings::Settings;
 use shared_spool::{SessionSeat, SharedSpool, SpoolLedger};
 use std::alloc::Global;
 use std::net::{Net, OpenListener, SocketAddr, TcpListener};
@@ -42,8 +41,8 @@ pub(crate) fn listen<R: Net>(rt: &R, settings: &Settings<'_>) -> Result<(R::List
     }
 }
 
-/// Prints that the account was rotated, where all was printed until now. Where it can't be printed that is logged at once, and
-/// nothing more is printed.
+/// Prints that the account was rotated, where all was printed until now. Where it can't be printed
+/// that is logged at once, and nothing more is printed.
 fn announce<R: Log, W: OctetWrite>(
     rt: &R,
     alloc: Global,
@@ -51,13 +50,10 @@ fn announce<R: Log, W: OctetWrite>(
     told: Result<(), Fault>,
     rotated: Rotated,
 ) -> Result<(), Fault>
-    ensures written { (was : Option (List ℕ))
-        → OnOk told (WritesRotations was (W.written output.old))
-        → OnOk result (WritesRotations was (W.written output.new)) }
+    ensures tells { (was : Option (List ℕ)) (n : ℕ)
+        → TellsRotations was n (W.written output.old) (W.faults output.old) told
+        → TellsRotations was n (W.written output.new) (W.faults output.new) result }
     ensures before { OnOk result (told ≡ Ok tt) }
-    ensures write_fault { (n : ℕ) → W.faults output.old ≡ write_faults n told
-        → W.faults output.new ≡ write_faults n result }
-    ensures fault { IfErr told IsRunningFault → IfErr result IsRunningFault }
 {
     told?;
     let line = Line::Rotated {
@@ -79,13 +75,10 @@ pub(crate) fn announce_all<R: Log + Wait, W: OctetWrite>(
     told: Result<(), Fault>,
     rotations: &Rotations,
 ) -> Result<(), Fault>
-    ensures written { (was : Option (List ℕ))
-        → OnOk told (WritesRotations was (W.written output.old))
-        → OnOk result (WritesRotations was (W.written output.new)) }
+    ensures tells { (was : Option (List ℕ)) (n : ℕ)
+        → TellsRotations was n (W.written output.old) (W.faults output.old) told
+        → TellsRotations was n (W.written output.new) (W.faults output.new) result }
     ensures before { OnOk result (told ≡ Ok tt) }
-    ensures write_fault { (n : ℕ) → W.faults output.old ≡ write_faults n told
-        → W.faults output.new ≡ write_faults n result }
-    ensures fault { IfErr told IsRunningFault → IfErr result IsRunningFault }
 {
     let mut printed = told;
     for rotated in rotations.take(rt, alloc) {
@@ -136,9 +129,11 @@ impl<'a, R: Clock + Log + Wait, E: SpoolLedger, K: Ledger, H: Ledger> Porter<'a,
         }
     }
 
-    /// Holds connections and hands each on, until all that are to come have come. Says in lines when the account was rotated.
+    /// Holds connections and hands each on, until all that are to come have come. Says in lines
+    /// when the account was rotated.
     ///
-    /// Output where such a line couldn't be written, Memory where memory for it was refused: all have been handed on.
+    /// Output where such a line couldn't be written, Memory where memory for it was refused: all
+    /// have been handed on.
     pub(crate) fn admit<W: OctetWrite>(
         &mut self,
         seat: &mut SessionSeat<E, K, H>,
@@ -146,10 +141,8 @@ impl<'a, R: Clock + Log + Wait, E: SpoolLedger, K: Ledger, H: Ledger> Porter<'a,
         rotations: &Rotations,
         output: &mut W,
     ) -> Result<(), Fault>
-        ensures written { OnOk result
-            (WritesRotations (W.written output.old) (W.written output.new)) }
-        ensures write_fault { W.faults output.new ≡ write_faults (W.faults output.old) result }
-        ensures fault { IfErr result IsRunningFault }
+        ensures { TellsRotations (W.written output.old) (W.faults output.old)
+            (W.written output.new) (W.faults output.new) result }
     {
         let mut told = Ok(());
         let mut handed_on = 0u64;
@@ -180,10 +173,8 @@ impl<'a, R: Clock + Log + Wait, E: SpoolLedger, K: Ledger, H: Ledger> Porter<'a,
         rotations: &Rotations,
         output: &mut W,
     ) -> Result<(), Fault>
-        ensures written { OnOk result
-            (WritesRotations (W.written output.old) (W.written output.new)) }
-        ensures write_fault { W.faults output.new ≡ write_faults (W.faults output.old) result }
-        ensures fault { IfErr result IsRunningFault }
+        ensures { TellsRotations (W.written output.old) (W.faults output.old)
+            (W.written output.new) (W.faults output.new) result }
     {
         if !started {
             return Ok(());

@@ -44,7 +44,8 @@ impl Posts {
         Ok(Posts { posts })
     }
 
-    /// A session serves this connection. Where the system gives no second number for it, its peer isn't looked at.
+    /// A session serves this connection. Where the system gives no second number for it, its peer
+    /// isn't looked at.
     pub(crate) fn begin<R: Wait>(&self, rt: &R, seat: u32, stream: &TcpStream) {
         if let Some(post) = self.posts.get(seat as usize) {
             post.received.store(0, Ordering::SeqCst);
@@ -70,8 +71,9 @@ impl Posts {
         }
     }
 
-    /// Whether the peer of a session that waits for a page is gone: the connection is broken, or it sends no more, and what came
-    /// and isn't used can't end the open file. `buffer` is room for octets that are looked at.
+    /// Whether the peer of a session that waits for a page is gone: the connection is broken, or it
+    /// sends no more, and what came and isn't used can't end the open file. `buffer` is room for
+    /// octets that are looked at.
     pub(crate) fn is_gone<R: Wait>(&self, rt: &R, waiting: Waiting, buffer: &mut [u8]) -> bool {
         let Some(post) = self.posts.get(waiting.seat as usize) else {
             return false;
@@ -94,7 +96,8 @@ impl Posts {
     }
 }
 
-/// The connection of a session, which counts what is read of it, and fails where its peer is too slow.
+/// The connection of a session, which counts what is read of it, and fails where its peer is too
+/// slow.
 #[derive(Drop)]
 pub(crate) struct Meter<'a, R> {
     rt: &'a R,

@@ -38,8 +38,9 @@ enum Hold {
 /// Room in the account, where it is kept.
 #[derive(Drop)]
 pub(crate) struct Room {
-    // Where more entries are counted than these, new jobs wait. With so many there is room for two jobs of the largest limit in
-    // each session; or the account isn't rotated yet, where that is more.
+    // Where more entries are counted than these, new jobs wait. With so many there is room for two
+    // jobs of the largest limit in each session; or the account isn't rotated yet, where that is
+    // more.
     most: u64,
     // Where more are counted than these, there is no room for a job of the largest limit.
     full: u64,
@@ -58,8 +59,8 @@ fn milliseconds_since<R: Clock>(rt: &R, start: Instant) -> u64 {
 }
 
 impl Room {
-    /// In an account of this configuration, which is rotated from so many counted entries on, where so many threads serve
-    /// connections that may bring a job.
+    /// In an account of this configuration, which is rotated from so many counted entries on, where
+    /// so many threads serve connections that may bring a job.
     pub(crate) fn new(config: &Config, sessions: u32, least: u64) -> Room
         ensures room { (queue : ℕ) → IsQueue config.now queue
             → result.full ≤ config.now.account - (reserve_of config.now queue + 1) }
@@ -69,7 +70,8 @@ impl Room {
         for queue in 0..queues {
             largest = config.reserve_of(queue + 1).max(largest);
         }
-        // Each connection that is served, or waits for that, may bring a job that isn't counted yet.
+        // Each connection that is served, or waits for that, may bring a job that isn't counted
+        // yet.
         let jobs = u64::from(sessions).saturating_mul(2);
         let account = u64::from(config.account());
         let most = account.saturating_sub((largest + 1).saturating_mul(jobs));

@@ -16,7 +16,8 @@ use std::{mem, thread};
 /// For how many seconds it is waited after a rotation that was refused.
 const PAUSE: u64 = 1;
 
-/// Whether the account has its turn after so many connections: after each `every` of them, if there is such a number.
+/// Whether the account has its turn after so many connections: after each `every` of them, if there
+/// is such a number.
 pub(crate) fn has_turn(every: Option<u64>, handed_on: u64) -> bool
     ensures { IsTrue result ↔ HasTurn every handed_on }
 {
@@ -38,8 +39,8 @@ fn tell<R: Log>(rt: &R, error: RotateError) {
     error!(rt; "fault {error}");
 }
 
-/// Waits until no job is held or a printer is stopped, and rotates the account. Where that is refused it is told, and nothing
-/// has changed.
+/// Waits until no job is held or a printer is stopped, and rotates the account. Where that is
+/// refused it is told, and nothing has changed.
 pub(crate) fn rotate<E: SpoolLedger, K: Ledger, H: Ledger, R: Wait + Log>(
     rt: &R,
     spool: &SharedSpool<E, K, H>,
@@ -84,8 +85,8 @@ impl Rotations {
     }
 }
 
-/// Rotates the account as soon as no job is held and so many entries are counted, again and again until the spool is closed; never
-/// where there is no such number. Answers its seat.
+/// Rotates the account as soon as no job is held and so many entries are counted, again and again
+/// until the spool is closed; never where there is no such number. Answers its seat.
 pub(crate) fn keep_rotating<E: SpoolLedger, K: Ledger, H: Ledger, R: Clock + Wait + Log>(
     rt: &R,
     spool: &SharedSpool<E, K, H>,

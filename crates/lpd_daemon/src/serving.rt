@@ -1,19 +1,18 @@
 //! A server, from its start to its end.
 
-ghost use Rattle.std.specs.Prelude.{◌≡◌, ◌+◌, ℕ, Ok, OnOk, IfErr};
-ghost use Rattle.config_values.specs.Config.{printer_count};
+ghost use Rattle.std.specs.Prelude.{◌≡◌, ℕ, Ok, OnOk, IfErr};
 ghost use Rattle.lpd_daemon.specs.Faults.{IsOpeningFault, IsRunningFault, write_faults};
 ghost use Rattle.lpd_daemon.specs.Lines.{IsQuiet, WritesAll, line_octets};
 ghost use Rattle.lpd_daemon.specs.declared.faults.Fault.TheVariants.{Network};
 ghost use Rattle.lpd_daemon.specs.declared.lines.Line.TheVariants.{Closed};
 ghost use Rattle.lpd_commands.specs.Ends.{Writes};
+ghost use Rattle.spool_ledgers.specs.Blanks.{AreFor, mark};
 
 use crate::faults::Fault;
 use crate::lines::{Line, print};
 use crate::listening::{Porter, listen};
 use crate::posts::Posts;
 use crate::room::Room;
-use crate::settings::{MOST_SESSIONS, Settings};
 use crate::sink::FileSink;
 use crate::threads::{Crew, OTHERS, QUESTIONS, Seats};
 use config_values::Config;
@@ -21,23 +20,24 @@ use log::Log;
 use lpd_commands::OctetWrite;
 use mio::Waker;
 use server_edge::{Lobby, descriptor_limit, places};
-use shared_spool::{Opened, SharedSpool, SpoolLedger};
-use std::alloc::Global;
+use server_settings::{MOST_SESSIONS, Settings};
+use shared_spool::{Blanks, Opened, SharedSpool, SpoolLedger};
+use std::alloc::{AllocError, Global};
 use std::fs::{File, Files, OpenOptions};
 use std::marker::Brand;
 use std::net::{Net, TcpListener, TcpStream};
 use std::os::unix::fs::FileTypeExt;
 use std::rt::Clock;
 use std::sync::Wait;
-use std::sync::ledger::{Blank, Ledger};
+use std::sync::ledger::Ledger;
 use std::thread::Threads;
 use std::{fs, io};
 
 /// How many descriptors are kept for more than connections that wait.
 const KEPT: u64 = 64;
 
-/// Opens a printer's file at its end. A pipe is opened for reading too: so it doesn't wait for a reader, and one that ends and is
-/// started again stops no printer.
+/// Opens a printer's file at its end. A pipe is opened for reading too: so it doesn't wait for a
+/// reader, and one that ends and is started again stops no printer.
 fn open_sink<R: Files<File = File>>(rt: &R, path: &str) -> io::Result<File> {
     let is_pipe = match fs::metadata(rt, path) {
         Ok(metadata) => metadata.file_type().is_fifo(),
@@ -71,7 +71,8 @@ fn open_sinks<R: Files<File = File>>(
     Ok(sinks)
 }
 
-/// Takes all seats back, and prints how many entries all segments of the account have, where all was well until now.
+/// Takes all seats back, and prints how many entries all segments of the account have, where all
+/// was well until now.
 ///
 /// Output where the line can't be written; Memory where a seat or memory for the line is missing.
 fn finish<E: SpoolLedger, K: Ledger, H: Ledger, W: OctetWrite>(
@@ -96,16 +97,8 @@ fn finish<E: SpoolLedger, K: Ledger, H: Ledger, W: OctetWrite>(
     print(alloc, output, Line::Closed { entries })
 }
 
-/// The ledgers of a spool, before they are opened.
-#[derive(Drop)]
-struct Blanks {
-    entries: Blank,
-    kinds: Blank,
-    handed: Blank,
-}
-
-/// A lobby behind a listener, for so many connections, and what wakes its thread. So many descriptors are kept for others.
-/// Network where the system doesn't give what it takes.
+/// A lobby behind a listener, for so many connections, and what wakes its thread. So many
+/// descriptors are kept for others. Network where the system doesn't give what it takes.
 fn open_lobby<R: Net>(
     rt: &R,
     alloc: Global,
@@ -135,21 +128,25 @@ struct Server<'a, R> {
     sinks: Vec<FileSink<File>>,
 }
 
-/// Runs a server: opens the printers' files in the directory of the settings, `printer-1` and so on, at their ends; listens,
-/// and prints `listening N` with the port; holds connections until their first line is there and a session is free; serves them by
-/// `session::serve`, and has pages printed by `printer_worker::work`. Sessions that end neither as finished nor as closed are
-/// logged, with the peer's address. Once a second jobs are ended that wait for a page and whose peers are gone.
+/// Runs a server: opens the printers' files in the directory of the settings, `printer-1` and so
+/// on, at their ends; listens, and prints `listening N` with the port; holds connections until
+/// their first line is there and a session is free; serves them by `session::serve`, and has pages
+/// printed by `printer_worker::work`. Sessions that end neither as finished nor as closed are
+/// logged, with the peer's address. Once a second jobs are ended that wait for a page and whose
+/// peers are gone.
 ///
-/// After each `rotate` connections it waits until no job is held or a printer is stopped, rotates the account, and prints
-/// `rotated K entries E` with the number and the entries of the segment. With `keep_room` it does so too as soon as no job is held,
-/// once a quarter of the account is counted. A rotation that is refused is logged.
+/// After each `rotate` connections it waits until no job is held or a printer is stopped, rotates
+/// the account, and prints `rotated K entries E` with the number and the entries of the segment.
+/// With `keep_room` it does so too as soon as no job is held, once a quarter of the account is
+/// counted. A rotation that is refused is logged.
 ///
-/// After `connections` connections it waits until their sessions have ended and no job is held or a printer is stopped, closes
-/// the spool, and prints `closed entries E` with the entries of all segments.
+/// After `connections` connections it waits until their sessions have ended and no job is held or a
+/// printer is stopped, closes the spool, and prints `closed entries E` with the entries of all
+/// segments.
 ///
-/// PrinterFile where a printer's file can't be opened, before it listens; Network where it can't listen; Output where a line
-/// couldn't be written: after the first one it goes on to its end; Memory where memory or a thread is refused. A printer's file that
-/// fails later stops its printer.
+/// PrinterFile where a printer's file can't be opened, before it listens; Network where it can't
+/// listen; Output where a line couldn't be written: after the first one it goes on to its end;
+/// Memory where memory or a thread is refused. A printer's file that fails later stops its printer.
 pub fn serve<
     R: Files<File = File>
         + Net<Listener = TcpListener, Stream = TcpStream>
@@ -177,12 +174,7 @@ pub fn serve<
     let printers = u64::from(config.printer_count());
     let kept = KEPT + printers + 2 * u64::from(sessions);
     let (lobby, waker) = open_lobby(rt, alloc, listener, settings.connections, kept)?;
-    let seats = u64::from(sessions + OTHERS) + printers;
-    let blanks = Blanks {
-        entries: Blank::new(seats),
-        kinds: Blank::new(seats),
-        handed: Blank::new(seats),
-    };
+    let blanks = Blanks::new(&config, sessions + OTHERS);
     let server = Server {
         rt,
         alloc,
@@ -197,7 +189,8 @@ pub fn serve<
 }
 
 impl<'a, R: Clock + Log + Threads + Wait + Sync> Server<'a, R> {
-    /// Runs with a spool that has so many sessions' seats: those of the sessions, and of the other threads.
+    /// Runs with a spool that has so many sessions' seats: those of the sessions, and of the other
+    /// threads.
     ///
     /// Output where a line can't be written; Memory where memory or a thread is refused.
     fn run<
@@ -206,12 +199,8 @@ impl<'a, R: Clock + Log + Threads + Wait + Sync> Server<'a, R> {
         H: Ledger + Send + Sync,
         W: OctetWrite,
     >(self, config: Config, sessions: u32, blanks: Blanks, output: &mut W) -> Result<(), Fault>
-        requires entries { (blanks.entries.name ≡ E.name) × (blanks.entries.parts ≡ E.parts) }
-        requires kinds { (blanks.kinds.name ≡ K.name) × (blanks.kinds.parts ≡ K.parts) }
-        requires handed { (blanks.handed.name ≡ H.name) × (blanks.handed.parts ≡ H.parts) }
-        requires config { config ≡ E.config }
-        requires one_each { (E.parts ≡ sessions + printer_count config) × (K.parts ≡ E.parts)
-            × (H.parts ≡ E.parts) }
+        requires { AreFor blanks config sessions E.config (mark E.name E.parts)
+            (mark K.name K.parts) (mark H.name H.parts) }
         ensures printed { OnOk result
             (WritesAll (W.written output.old) (W.written output.new)) }
         ensures write_fault { W.faults output.new ≡ write_faults (W.faults output.old) result }
@@ -220,12 +209,12 @@ impl<'a, R: Clock + Log + Threads + Wait + Sync> Server<'a, R> {
         let alloc = self.alloc;
         let least = u64::from(config.account() / 4).max(1);
         let room = Room::new(&config, sessions, least);
-        let (entries, kinds, handed) = (blanks.entries, blanks.kinds, blanks.handed);
+        let opened = SharedSpool::<E, K, H>::new(alloc, blanks, config, sessions);
         let Opened {
             spool,
             mut sessions,
             printers,
-        } = SharedSpool::<E, K, H>::new(alloc, entries, kinds, handed, config, sessions)?;
+        } = opened.map_err(AllocError::from)?;
         let Some(seat) = sessions.pop() else {
             return Err(Fault::Memory);
         };

@@ -10,22 +10,17 @@ ghost use Rattle.std.specs.Prelude.{
   ℕ,
   min,
   None,
-  Ok,
-  OnOk,
-  IfErr,
   Some,
 };
 ghost use Rattle.server_edge.specs.declared.desk.Served.TheVariants.{Questions};
 ghost use Rattle.std.specs.Thread.{IsSend};
-ghost use Rattle.lpd_daemon.specs.Faults.{IsRunningFault, write_faults};
-ghost use Rattle.lpd_daemon.specs.Lines.{WritesRotations};
+ghost use Rattle.lpd_daemon.specs.Lines.{TellsRotations};
 
 use crate::answering::{Front, answer_all};
 use crate::faults::Fault;
 use crate::listening::{Porter, announce_all};
 use crate::posts::Posts;
 use crate::rotating::{Rotations, keep_rotating};
-use crate::settings::Settings;
 use crate::sink::FileSink;
 use crate::watching::watch;
 use log::Log;
@@ -33,6 +28,7 @@ use lpd_commands::OctetWrite;
 use mio::Waker;
 use printer_worker::work;
 use server_edge::{Desk, Served};
+use server_settings::Settings;
 use shared_spool::{PrinterSeat, SessionSeat, SharedSpool, SpoolLedger};
 use std::alloc::Global;
 use std::fs::File;
@@ -46,8 +42,8 @@ use std::thread::{JoinHandle, SpawnError, Threads};
 /// How many sessions serve connections that bring no job, and those alone.
 pub(crate) const QUESTIONS: u32 = 2;
 
-/// How many seats are for other threads: the one that hands connections on, the one that looks for peers that are gone, and the one
-/// that rotates the account.
+/// How many seats are for other threads: the one that hands connections on, the one that looks for
+/// peers that are gone, and the one that rotates the account.
 pub(crate) const OTHERS: u32 = 3;
 
 /// Seats at a spool.
@@ -63,7 +59,8 @@ pub(crate) struct Crew<'a, E: SpoolLedger, K: Ledger, H: Ledger> {
     pub(crate) waker: Waker,
     pub(crate) posts: Posts,
     pub(crate) sinks: Vec<FileSink<File>>,
-    /// The last two of the sessions' seats are of who looks for peers that are gone, and of who rotates the account.
+    /// The last two of the sessions' seats are of who looks for peers that are gone, and of who
+    /// rotates the account.
     pub(crate) seats: Seats<E, K, H>,
     /// From how many counted entries on the account is rotated, where room is kept in it.
     pub(crate) least: Option<u64>,
@@ -128,8 +125,9 @@ impl<'a, E: SpoolLedger + Send + Sync, K: Ledger + Send + Sync, H: Ledger + Send
     K,
     H,
 > {
-    /// Starts a thread for each seat, has connections accepted and served, and joins all threads. Answers how that went, and the
-    /// seats. One is missing where a thread wasn't started, or memory for it was refused.
+    /// Starts a thread for each seat, has connections accepted and served, and joins all threads.
+    /// Answers how that went, and the seats. One is missing where a thread wasn't started, or
+    /// memory for it was refused.
     ///
     /// Output where a line can't be written; Memory where memory for one is refused.
     pub(crate) fn run<R: Clock + Log + Threads + Wait + Sync, W: OctetWrite>(
@@ -138,10 +136,8 @@ impl<'a, E: SpoolLedger + Send + Sync, K: Ledger + Send + Sync, H: Ledger + Send
         seat: SessionSeat<E, K, H>,
         output: &mut W,
     ) -> (Result<(), Fault>, Seats<E, K, H>)
-        ensures written { OnOk result.0
-            (WritesRotations (W.written output.old) (W.written output.new)) }
-        ensures write_fault { W.faults output.new ≡ write_faults (W.faults output.old) result.0 }
-        ensures fault { IfErr result.0 IsRunningFault }
+        ensures { TellsRotations (W.written output.old) (W.faults output.old)
+            (W.written output.new) (W.faults output.new) result.0 }
     {
         let Crew {
             settings,
@@ -166,11 +162,9 @@ impl<'a, E: SpoolLedger + Send + Sync, K: Ledger + Send + Sync, H: Ledger + Send
             |scope| -> (Result<(), Fault>, Seats<E, K, H>, &mut W)
                 requires { IsSend E.row × IsSend K.row × IsSend H.row }
                 ensures same { result.2.ghost_name ≡ output.entry.ghost_name }
-                ensures written { OnOk result.0 (WritesRotations
-                    (W.written output.entry.now) (W.written result.2.now)) }
-                ensures write_fault { W.faults result.2.now
-                    ≡ write_faults (W.faults output.entry.now) result.0 }
-                ensures fault { IfErr result.0 IsRunningFault }
+                ensures tells { TellsRotations (W.written output.entry.now)
+                    (W.faults output.entry.now) (W.written result.2.now)
+                    (W.faults result.2.now) result.0 }
             {
                 let mut printing = Vec::new(alloc);
                 let mut answering = Vec::new(alloc);

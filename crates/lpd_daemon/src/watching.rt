@@ -20,7 +20,8 @@ const STEPS: u64 = 4;
 /// How many octets that a peer has sent are looked at, at most.
 const LOOKED_AT: usize = 1 << 20;
 
-/// What a spool is at while sessions wait: whoever compares two of these sees whether anything happened in between.
+/// What a spool is at while sessions wait: whoever compares two of these sees whether anything
+/// happened in between.
 #[derive(Drop)]
 struct Sample {
     waiting: Vec<Waiting>,
@@ -57,7 +58,8 @@ impl Still {
         }
     }
 
-    /// A second has passed, and the spool is at this now. For how many seconds nothing has happened.
+    /// A second has passed, and the spool is at this now. For how many seconds nothing has
+    /// happened.
     fn pass(&mut self, sample: &Sample) -> u64 {
         self.seconds = if self.sample.is_same(sample) {
             self.seconds.saturating_add(1)
@@ -141,8 +143,8 @@ impl<'a, R: Clock + Log + Wait, E: SpoolLedger, K: Ledger, H: Ledger> Watcher<'a
     }
 }
 
-/// Ends jobs that wait for a page and whose peers are gone, until the server ends; and where nothing at all happens for so many
-/// seconds, all that wait, unless that is 0. Answers its seat.
+/// Ends jobs that wait for a page and whose peers are gone, until the server ends; and where
+/// nothing at all happens for so many seconds, all that wait, unless that is 0. Answers its seat.
 pub(crate) fn watch<R: Clock + Log + Wait, E: SpoolLedger, K: Ledger, H: Ledger>(
     rt: &R,
     alloc: Global,

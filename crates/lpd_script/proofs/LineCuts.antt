@@ -41,10 +41,6 @@ cut_lines text line rest some cut = elim cut.1 [
   | inr e ↦ ap lines_of e.0 ∙ line_last line cut.0 (subst (λ x. 0 < length x) e.0 some) ∙ ap (λ x. line ∷ lines_of x) (sym e.1)
 ]
 
--- the lines of whole lines and what follows
-before_more : (b : ℕ) (first : List ℕ) (lines more : List (List ℕ)) → before_first b ((first ∷ lines) ++ more) ≡ before_first b (first ∷ lines) ++ more
-before_more b first lines more = refl
-
 record HasFirst (lines : List (List ℕ)) : Type 0 where
   first : List ℕ
   others : List (List ℕ)

@@ -41,18 +41,6 @@ pub record SoFar (c : Config) (script : List ℕ) (n : ℕ) (runner : Runner) (r
       → RunsLines c (n + 1) runner.hosts trace (lines_of rest) more result
       → RunsScript c script ((wrote ++ collected) ++ more) result
 
-pub at_start :
-    (runner : Runner) (script : List ℕ) (out : Option (List ℕ)) → Leads [] runner.world → runner.hosts ≡ []
-    → SoFar runner.world.core.config script 0 runner script out out []
-at_start runner script out leads none = record {
-  config = refl;
-  trace = [];
-  leads = leads;
-  wrote = [];
-  writes = writes_none out;
-  onwards = λ more result r. subst (λ x. RunsLines runner.world.core.config 1 x [] (lines_of script) more result) none r;
-}
-
 -- the line that was run, in the words of scripts
 runs_line :
     (c : Config) (old new : Runner) (t : Trace) (line : ScriptLine) (text : List ℕ) → old.world.core.config ≡ c

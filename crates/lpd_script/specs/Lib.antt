@@ -8,3 +8,4 @@ pub mod Scripts
 pub mod Status
 pub mod Steps
 pub mod Streams
+pub mod Told

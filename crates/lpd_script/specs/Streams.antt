@@ -1,6 +1,6 @@
 -- What a run leaves of its reader and its writers.
 use Rattle.std.specs.Prelude.{◌≡◌, ◌⊎◌, ◌++◌, ◌≤◌, ℕ, List, [], Option, Some, None, Result, Err, length}
-use Rattle.lpd_commands.specs.Ends.{one_more}
+use Rattle.lpd_commands.specs.Ends.{many_more, most_reads, one_more}
 use Rattle.lpd_script.specs.declared.fault.Fault.{Fault}
 use Rattle.lpd_script.specs.declared.fault.Fault.TheVariants.{Memory, ReadFile, WriteFile}
 
@@ -42,4 +42,9 @@ write_faults n _ = n
 abbrev pub IsUnread : (old_faults new_faults : ℕ) → (old new : Option (List ℕ)) → Type 0
 IsUnread old_faults new_faults old new =
     (new_faults ≡ one_more old_faults)
-    ⊎ ((octets : List ℕ) × HasGiven old new octets × (4294967295 ≤ length octets))
+    ⊎ ((octets : List ℕ) × HasGiven old new octets × (most_reads ≤ length octets))
+
+-- a read failed, or as many reads were made as are made at most
+abbrev pub HasGivenUp : (faults faults' reads reads' : ℕ) → Type 0
+HasGivenUp faults faults' reads reads' =
+    (faults' ≡ one_more faults) ⊎ ((n : ℕ) × (n ≡ most_reads) × (reads' ≡ many_more n reads))

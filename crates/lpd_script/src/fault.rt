@@ -4,6 +4,7 @@ ghost use Rattle.std.specs.Prelude.{◌≡◌};
 ghost use Rattle.lpd_script.specs.Status.{status_of};
 ghost use Rattle.lpd_script.specs.declared.fault.Fault.TheVariants.{Config, Memory};
 
+use crate::fault_name::FaultName;
 use spool_config::ConfigFault;
 use std::alloc::AllocError;
 use thiserror::Error;
@@ -15,16 +16,16 @@ pub enum Fault {
     #[error("{0}")]
     Config(ConfigFault),
     /// The script's line of this number, from 1, can't be run.
-    #[error("fault 70 BadScript {0}")]
+    #[error("{name} {0}", name = FaultName::BadScript)]
     BadScript(u64),
     /// Memory was refused.
-    #[error("fault 12 Memory")]
+    #[error("{}", FaultName::Memory)]
     Memory,
     /// The input can't be read.
-    #[error("fault 71 ReadFile")]
+    #[error("{}", FaultName::ReadFile)]
     ReadFile,
     /// The output can't be written.
-    #[error("fault 73 WriteFile")]
+    #[error("{}", FaultName::WriteFile)]
     WriteFile,
 }
 

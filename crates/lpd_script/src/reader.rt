@@ -1,4 +1,4 @@
-//! A stream as an end that octets are read from, which counts its failures.
+//! A stream as an end that octets are read from, which counts its reads and its failures.
 
 ghost use Rattle.std.specs.Prelude.{◌≡◌, None};
 
@@ -13,14 +13,20 @@ const TRIES: u32 = 1_000;
 pub struct StreamReader<R: Read + Drop> {
     stream: R,
     faults: u64,
+    reads: u64,
 }
 
 impl<R: Read + Drop> StreamReader<R> {
-    /// A reader of the stream, which hasn't failed.
+    /// A reader of the stream, which wasn't read and hasn't failed.
     pub fn new(stream: R) -> StreamReader<R>
-        ensures { result.faults ≡ 0 }
+        ensures faults { result.faults ≡ 0 }
+        ensures reads { result.reads ≡ 0 }
     {
-        StreamReader { stream, faults: 0 }
+        StreamReader {
+            stream,
+            faults: 0,
+            reads: 0,
+        }
     }
 }
 
@@ -29,7 +35,10 @@ impl<R: Read + Drop> OctetRead for StreamReader<R> {
 
     ghost faults = { λ reader. reader.faults };
 
+    ghost reads = { λ reader. reader.reads };
+
     fn read(&mut self, into: &mut [u8]) -> Result<usize, OctetFault> {
+        self.reads = self.reads.saturating_add(1);
         for _ in 0..TRIES {
             match self.stream.read(into) {
                 Ok(count) => return Ok(count),

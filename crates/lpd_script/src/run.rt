@@ -1,7 +1,7 @@
 //! The main job: a configuration and a script in, acknowledgements and pages out.
 
 ghost use Rattle.std.specs.Prelude.{◌≡◌, ◌≢◌, ◌≤◌, ◌<◌, ◌⊎◌, ℕ, List, length, IfOk, IfErr, OnOk, OnErr, Err, Some, [], string_bytes};
-ghost use Rattle.lpd_commands.specs.Ends.{Writes};
+ghost use Rattle.lpd_commands.specs.Ends.{MakesAtMost, Writes, most_reads};
 ghost use Rattle.spool_world.specs.Worlds.{Leads};
 ghost use Rattle.lpd_script.specs.declared.fault.Fault.TheVariants.{BadScript, Config, Memory, ReadFile, WriteFile};
 ghost use Rattle.lpd_script.specs.Config.{TellsConfig};
@@ -13,13 +13,15 @@ ghost use Rattle.lpd_script.specs.Status.{IsScriptFault, IsStatus};
 ghost use Rattle.spool_config.specs.Answers.{fault_of};
 ghost use Rattle.spool_config.specs.declared.settings.ConfigFault.{ConfigFault};
 ghost use Rattle.spool_config.specs.declared.settings.ConfigFault.TheVariants.{Memory as ConfigMemory};
-ghost use Rattle.lpd_script.specs.Streams.{HasGivenAll, IsReadOut, IsReadOutAfter, IsUnread, IsUntouched, IsReadingFault, write_faults};
+ghost use Rattle.lpd_script.specs.Streams.{HasGivenAll, HasGivenUp, IsReadOut, IsReadOutAfter, IsUnread};
+ghost use Rattle.lpd_script.specs.Streams.{IsUntouched, IsReadingFault, write_faults};
 
 use crate::fault::Fault;
 use crate::runner::{NotRun, Runner};
+use crate::telling::tell;
 use lpd_commands::{OctetRead, OctetWrite, write_all};
 use script_lines::{LineFault, parse_line};
-use std::alloc::{AllocError, Global};
+use std::alloc::Global;
 
 /// How often the input is read at most.
 const READS: u32 = u32::MAX;
@@ -52,6 +54,8 @@ pub fn run_input<R: OctetRead, W: OctetWrite, E: OctetWrite>(
         → W.written output.new ≡ W.written output.old }
     ensures quiet { result ≡ 0 → IsUntouched (E.written faults.old) (E.faults faults.old)
         (E.written faults.new) (E.faults faults.new) }
+    // The input is read at most 4,294,967,295 times.
+    ensures reads { MakesAtMost most_reads (R.reads input.old) (R.reads input.new) }
     // What is written is what the lines of the script print, and the status says how it ended.
     ensures ran { (text : List ℕ) → R.left input.old ≡ Some text →
         RunsTo text (W.written output.old) (W.written output.new) (W.faults output.old) (W.faults output.new)
@@ -60,20 +64,11 @@ pub fn run_input<R: OctetRead, W: OctetWrite, E: OctetWrite>(
     match run_all(alloc, input, output) {
         Ok(()) => 0,
         Err(fault) => {
-            tell(alloc, faults, fault);
+            // There is nowhere else to tell of a fault here: the exit status says that there was one.
+            let _ = tell(alloc, &fault, faults);
             fault.status()
         }
     }
-}
-
-/// Tells a fault in a line of its own. Where memory is short for that line, it says that.
-fn tell<E: OctetWrite>(alloc: Global, faults: &mut E, fault: Fault) {
-    let told = match format!(in alloc; "{fault}\n") {
-        Ok(line) => write_all(faults, line.as_bytes()),
-        Err(AllocError) => write_all(faults, b"fault 12 Memory\n"),
-    };
-    // There is nowhere else to tell of a fault here: the exit status says that there was one.
-    let _ = told;
 }
 
 /// Reads all of the input, and runs it.
@@ -90,6 +85,7 @@ fn run_all<R: OctetRead, W: OctetWrite>(
         RunsAll text (W.written output.old) (W.written output.new) result }
     ensures cause { result ≡ Err ReadFile →
         IsUnread (R.faults input.old) (R.faults input.new) (R.left input.old) (R.left input.new) }
+    ensures reads { MakesAtMost most_reads (R.reads input.old) (R.reads input.new) }
 {
     let all = read_all(alloc, input)?;
     run_text(alloc, all.as_slice(), output)
@@ -103,6 +99,9 @@ pub fn read_all<R: OctetRead>(alloc: Global, input: &mut R) -> Result<Vec<u8>, F
     ensures read_fault { R.faults input.new ≢ R.faults input.old → result ≡ Err ReadFile }
     ensures cause { result ≡ Err ReadFile →
         IsUnread (R.faults input.old) (R.faults input.new) (R.left input.old) (R.left input.new) }
+    ensures given_up { result ≡ Err ReadFile →
+        HasGivenUp (R.faults input.old) (R.faults input.new) (R.reads input.old) (R.reads input.new) }
+    ensures reads { MakesAtMost most_reads (R.reads input.old) (R.reads input.new) }
 {
     let mut all = Vec::new(alloc);
     let mut piece = [0u8; PIECE];

@@ -6,9 +6,8 @@ ghost use Rattle.std.specs.Process.{exit_status};
 ghost use Rattle.lpd_words.specs.Outcome.{IfEnded};
 
 use log::{Level, Log, Logged, error};
-use lpd_daemon::Settings;
-use lpd_script::{StreamReader, StreamWriter};
-use lpd_words::{FileReader, Outcome, Serving};
+use lpd_script::{FaultName, StreamReader, StreamWriter};
+use lpd_words::{FileReader, Outcome, Settings};
 use server_edge::{LineLog, LineQueue, fill_standard_descriptors};
 use std::alloc::Global;
 use std::fs::{File, Files};
@@ -37,8 +36,8 @@ fn run<'a>(rt: &HostRuntime, words: &'a [String]) -> Outcome<'a>
     lpd_words::run(rt.alloc(), rt, words, &mut input, &mut output, &mut faults)
 }
 
-/// Starts the thread that writes what is logged, so that no other waits for whoever reads that. It isn't joined: its last write
-/// may wait for ever.
+/// Starts the thread that writes what is logged, so that no other waits for whoever reads that. It
+/// isn't joined: its last write may wait for ever.
 fn start_log<R: Threads + Wait + Copy + Send + 'static, W: Write + Drop + Send + 'static>(
     rt: &R,
     alloc: Global,
@@ -55,7 +54,8 @@ fn start_log<R: Threads + Wait + Copy + Send + 'static, W: Write + Drop + Send +
     Ok(queue)
 }
 
-/// Serves the queues of the configuration at this path. Faults are told in the log. What is answered is the exit status.
+/// Serves the queues of the configuration at this path. Faults are told in the log. What is
+/// answered is the exit status.
 fn serve<
     R: Files<File = File>
         + Net<Listener = TcpListener, Stream = TcpStream>
@@ -65,7 +65,7 @@ fn serve<
         + Wait
         + Sync,
     O: Write + Drop,
->(rt: &R, alloc: Global, config: &str, serving: Serving, output: O) -> u8
+>(rt: &R, alloc: Global, config: &str, settings: Settings, output: O) -> u8
     ensures { result ≤ 5 }
 {
     let mut output = StreamWriter::new(output);
@@ -75,18 +75,6 @@ fn serve<
             error!(rt; "{fault}");
             return fault.status();
         }
-    };
-    let settings = Settings {
-        bind: serving.bind,
-        port: serving.port,
-        out: serving.out,
-        sessions: serving.sessions,
-        connections: serving.connections,
-        rotate: serving.rotate,
-        silence: serving.silence,
-        per_host: serving.per_host,
-        slowest: serving.slowest,
-        keep_room: serving.keep_room,
     };
     match lpd_daemon::serve(rt, alloc, config, &settings, &mut output) {
         Ok(()) => 0,
@@ -106,7 +94,8 @@ fn code(status: u8) -> ExitCode
 }
 
 fn main(rt: HostRuntime) -> ExitCode {
-    // Before anything else is opened: a file takes the lowest number that is free, and a printer's isn't to be written to by the log.
+    // Before anything else is opened: a file takes the lowest number that is free, and a printer's
+    // isn't to be written to by the log.
     let filled = fill_standard_descriptors();
     let alloc = rt.alloc();
     let words = match lpd_words::words_of(&rt) {
@@ -119,15 +108,15 @@ fn main(rt: HostRuntime) -> ExitCode {
     };
     match run(&rt, words.as_slice()) {
         Outcome::Ended(status) => code(status),
-        Outcome::Serve { config, serving } => {
+        Outcome::Serve { config, settings } => {
             let Ok(queue) = start_log(&rt, alloc, rt.stderr()) else {
                 return code(4);
             };
             let logged = Logged::new(rt, Level::Info, LineLog::new(&rt, alloc, &queue));
             let status = if filled {
-                serve(&logged, alloc, config, serving, rt.stdout())
+                serve(&logged, alloc, config, settings, rt.stdout())
             } else {
-                error!(logged; "fault 71 ReadFile /dev/null");
+                error!(logged; "{} /dev/null", FaultName::ReadFile);
                 4
             };
             queue.end(&rt, Duration::from_secs(PATIENCE));

@@ -7,3 +7,6 @@ pub mod Kinds
 pub mod Name
 pub mod Pieces
 pub mod Refusals
+pub mod Told
+pub mod Choice
+pub mod Texts

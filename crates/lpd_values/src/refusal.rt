@@ -1,7 +1,7 @@
 //! The refusals that a peer can be given.
 
 ghost use Rattle.std.specs.Prelude.{◌≡◌};
-ghost use Rattle.lpd_values.specs.Refusals.{number_of, octet_of};
+ghost use Rattle.lpd_values.specs.Refusals.{name_of, number_of, octet_of};
 
 use std::alloc::AllocError;
 use std::error::Error;
@@ -88,6 +88,36 @@ impl Refusal {
         }
     }
 
+    /// Its name, as it is printed.
+    fn name(self) -> &'static str
+        ensures { result.now ≡ name_of self }
+    {
+        match self {
+            Refusal::UnknownQueue => "UnknownQueue",
+            Refusal::TableFull => "TableFull",
+            Refusal::AccountFull => "AccountFull",
+            Refusal::Closed => "Closed",
+            Refusal::OverClaim => "OverClaim",
+            Refusal::ControlTwice => "ControlTwice",
+            Refusal::NameTaken => "NameTaken",
+            Refusal::FilesFull => "FilesFull",
+            Refusal::FileOpen => "FileOpen",
+            Refusal::NotOpen => "NotOpen",
+            Refusal::Memory => "Memory",
+            Refusal::BadCode => "BadCode",
+            Refusal::BadLine => "BadLine",
+            Refusal::LineTooLong => "LineTooLong",
+            Refusal::BadCount => "BadCount",
+            Refusal::BadName => "BadName",
+            Refusal::NoZero => "NoZero",
+            Refusal::NoHost => "NoHost",
+            Refusal::NoUser => "NoUser",
+            Refusal::NoPrintLine => "NoPrintLine",
+            Refusal::TooManyPrints => "TooManyPrints",
+            Refusal::BadLength => "BadLength",
+        }
+    }
+
     /// The acknowledgement octet that a session writes: 1 where the request is refused for good, 2 where it may be
     /// granted later.
     pub fn octet(self) -> u8
@@ -106,8 +136,13 @@ impl Refusal {
 
 /// Writes the number and the name, as `1 UnknownQueue`.
 impl fmt::Display for Refusal {
+    ghost use Rattle.std.specs.Prelude.{Some};
+    ghost use Rattle.lpd_values.specs.Refusals.{refusal_words};
+
+    ghost output = { λ refusal. Some (refusal_words refusal) };
+
     fn fmt<W: fmt::Write>(&self, f: &mut fmt::Formatter<W>) -> fmt::Result {
-        write!(f, "{} {:?}", self.number(), self)
+        write!(f, "{} {}", self.number(), self.name())
     }
 }
 

@@ -21,23 +21,6 @@ use Rattle.lpd_words.specs.declared.envelope.EnvelopeFault.TheVariants.{Files, H
 use Rattle.lpd_words.specs.declared.envelope.EnvelopeFault.TheVariants as envelope
 use Rattle.lpd_words.specs.declared.words.Sending.{Sending}
 
--- a command that was met, by its name and its rows
-joined : (o : Option (Text × List Row)) (name : Text) (rows : List Row) → option_map (λ p. p.0) o ≡ Some name → option_map (λ p. p.1) o ≡ Some rows → o ≡ Some (name, rows)
-joined None name rows e f = cc e
-joined (Some (a, b)) name rows e f =
-    let x : a ≡ name = cc e in
-    let y : b ≡ rows = cc f in
-    cc (x, y)
-
-names_of_rows : {Z : Type 0} (s : Option (Box SubCommand Z)) → option_map (λ p. p.0) (subcommand_rows s) ≡ option_map (λ b. (out-SubCommand (box_value b)).name.now) s
-names_of_rows None = refl
-names_of_rows (Some b) = refl
-
--- the command that a parse met
-pub met_rows : (m : ArgMatches) (name : Text) (f : Found) → subcommand_name_of m ≡ Some name → option_map (λ p. p.1) (subcommand_rows_of m) ≡ Some (rows_of f)
-    → subcommand_rows_of m ≡ Some (name, rows_of f)
-met_rows m name f named rows = joined (subcommand_rows_of m) name (rows_of f) (names_of_rows _ ∙ named) rows
-
 -- what is read of a word, or that it isn't there
 pub text_read : (o : Option (Bor Text)) (first : Option Text) → option_map (λ s. s.now) o ≡ first → IfOk (ok_or o Missing) (λ text. first ≡ Some text.now)
 text_read None first h = tt

@@ -63,7 +63,7 @@ no_server name rows is lacks (Replay config script) h =
     below 112 (omega arith) (third name (codes "replay") is h.0)
 no_server name rows is lacks (Send sending envelope) h =
     below 110 (omega arith) (third name (codes "send") is h.0)
-no_server name rows is lacks (Serve config serving) h = lacks serving h.2
+no_server name rows is lacks (Serve config settings) h = lacks settings h.2
 
 pub asks_no_server : (name : Text) (rows : List Row) (fault : EnvelopeFault) → name ≡ codes "serve" → LacksServing rows fault → AsksNothing (Some (name, rows)) fault
 asks_no_server name rows envelope.Address is lacks = (is, lacks)

@@ -6,9 +6,9 @@ use Rattle.std.specs.Str.Parse.{IsNumeral, digits_value, without_leading_plus}
 use Rattle.clap.specs.Words.{Row, Text, all_of, first_of, one_of}
 use Rattle.lpd_words.specs.Naming.{IsEnvelope}
 use Rattle.lpd_words.specs.declared.words.Asked.{Asked}
-use Rattle.lpd_words.specs.declared.serving.Serving.{Serving}
 use Rattle.lpd_words.specs.declared.words.Asked.TheVariants.{Input, Check, Replay, Send, Serve}
 use Rattle.lpd_words.specs.declared.words.Sending.{Sending}
+use Rattle.server_settings.specs.declared.settings.Settings.{Settings}
 
 -- a word that was read is this number of so many bits, in decimal digits
 abbrev pub IsNumberOf : ℕ → List Row → Text → ℕ → Type 0
@@ -55,17 +55,17 @@ IsAddress rows address =
     IsIpv4Text (unwrap_or (first_of (codes "bind") rows) (codes "127.0.0.1")) address
 
 -- a server runs as these rows say: with 8 sessions at once, in the directory . where they don't say it
-pub record IsServing (rows : List Row) (serving : Serving) : Type 0 where
-  pub port : IsNumber rows (codes "port") serving.port
-  pub bind : IsAddress rows serving.bind
-  pub out : serving.out.now ≡ unwrap_or (first_of (codes "out") rows) (codes ".")
-  pub sessions : IsGivenOr 8 rows (codes "sessions") serving.sessions
-  pub connections : IsGiven 64 rows (codes "connections") serving.connections
-  pub rotate : IsGiven 64 rows (codes "rotate") serving.rotate
-  pub silence : IsGiven 64 rows (codes "silence") serving.silence
-  pub per_host : IsGiven 64 rows (codes "per-host") serving.per_host
-  pub slowest : IsGiven 64 rows (codes "slowest") serving.slowest
-  pub keep_room : IsFlag rows (codes "keep-room") serving.keep_room
+pub record IsServing (rows : List Row) (settings : Settings) : Type 0 where
+  pub port : IsNumber rows (codes "port") settings.port
+  pub bind : IsAddress rows settings.bind
+  pub out : settings.out.now ≡ unwrap_or (first_of (codes "out") rows) (codes ".")
+  pub sessions : IsGivenOr 8 rows (codes "sessions") settings.sessions
+  pub connections : IsGiven 64 rows (codes "connections") settings.connections
+  pub rotate : IsGiven 64 rows (codes "rotate") settings.rotate
+  pub silence : IsGiven 64 rows (codes "silence") settings.silence
+  pub per_host : IsGiven 64 rows (codes "per-host") settings.per_host
+  pub slowest : IsGiven 64 rows (codes "slowest") settings.slowest
+  pub keep_room : IsFlag rows (codes "keep-room") settings.keep_room
 
 -- what the command of this name with the words of these rows asks for
 abbrev pub IsAskedBy : Text → List Row → Asked → Type 0
@@ -78,9 +78,9 @@ IsAskedBy name rows (Replay config script) =
     × (first_of (codes "script") rows ≡ Some script.now)
 IsAskedBy name rows (Send sending envelope) =
     (name ≡ codes "send") × IsSending rows sending × IsEnvelope sending envelope
-IsAskedBy name rows (Serve config serving) =
+IsAskedBy name rows (Serve config settings) =
     (name ≡ codes "serve") × (first_of (codes "config") rows ≡ Some config.now)
-    × IsServing rows serving
+    × IsServing rows settings
 
 -- what words ask for: what their command asks for, and without one what the input asks
 abbrev pub IsAsked : Option (Text × List Row) → Asked → Type 0

@@ -6,6 +6,7 @@ pub mod Naming
 pub mod Order
 pub mod Outcome
 pub mod Refused
+pub mod Sizes
 pub mod Status
 pub mod Summary
 pub mod Unread

@@ -3,14 +3,14 @@ use Rattle.std.specs.Prelude.{ℕ, List}
 use Rattle.std.specs.Borrow.{Bor}
 use Rattle.lpd_words.specs.declared.running.Outcome.{Outcome}
 use Rattle.lpd_words.specs.declared.running.Outcome.TheVariants.{Ended, Serve}
-use Rattle.lpd_words.specs.declared.serving.Serving.{Serving}
+use Rattle.server_settings.specs.declared.settings.Settings.{Settings}
 
 -- a fact of the exit status, if the program ends
 abbrev pub IfEnded : Outcome → (ℕ → Type 0) → Type 0
 IfEnded (Ended status) P = P status
-IfEnded (Serve config serving) P = Unit {0}
+IfEnded (Serve config settings) P = Unit {0}
 
 -- a fact of what is to be served and how, if the program serves
-abbrev pub IfServes : Outcome → (Bor (List ℕ) → Serving → Type 0) → Type 0
+abbrev pub IfServes : Outcome → (Bor (List ℕ) → Settings → Type 0) → Type 0
 IfServes (Ended status) P = Unit {0}
-IfServes (Serve config serving) P = P config serving
+IfServes (Serve config settings) P = P config settings

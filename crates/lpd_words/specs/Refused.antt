@@ -16,11 +16,11 @@ use Rattle.lpd_words.specs.Asked.{IsAddress, IsAsked, IsGiven, IsGivenOr, IsSend
 use Rattle.lpd_words.specs.CommandLine.{command_line}
 use Rattle.lpd_words.specs.declared.envelope.EnvelopeFault.{EnvelopeFault}
 use Rattle.lpd_words.specs.declared.envelope.EnvelopeFault.TheVariants as envelope
-use Rattle.lpd_words.specs.declared.serving.Serving.{Serving}
 use Rattle.lpd_words.specs.declared.words.Asked.{Asked}
 use Rattle.lpd_words.specs.declared.words.Sending.{Sending}
 use Rattle.lpd_words.specs.declared.words.Unread.{Unread}
 use Rattle.lpd_words.specs.declared.words.Unread.TheVariants.{Shown, Refused, Memory}
+use Rattle.server_settings.specs.declared.settings.Settings.{Settings}
 
 -- a host that can stand in the names of files: 1 to 120 octets of words
 abbrev pub is_host : List ℕ → Bool
@@ -65,7 +65,7 @@ HasNoSessions rows = (sessions : ℕ) → IsGivenOr 8 rows (codes "sessions") se
 -- the words of a server aren't all there, or its address isn't one
 abbrev pub LacksServing : List Row → EnvelopeFault → Type 0
 LacksServing rows envelope.Address = HasNoAddress rows
-LacksServing rows envelope.Missing = (s : Serving) → IsServing rows s → ⊥
+LacksServing rows envelope.Missing = (s : Settings) → IsServing rows s → ⊥
 LacksServing rows fault = ⊥
 
 -- words ask to serve, and give no address

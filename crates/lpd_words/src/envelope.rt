@@ -5,11 +5,13 @@ ghost use Rattle.lpd_values.specs.declared.limits.TheConstants.{MAX_FILES};
 ghost use Rattle.lpd_words.specs.declared.envelope.EnvelopeFault.TheVariants as envelope;
 ghost use Rattle.lpr_client.specs.Sendable.{is_sendable};
 
+use lpd_script::FaultName;
 use lpr_client::{Control, FileName, Octets};
 use std::alloc::{AllocError, AllocFailed};
 use thiserror::Error;
 
-/// What is known of a job before its files are read: it can be sent, with files under the names of its print list.
+/// What is known of a job before its files are read: it can be sent, with files under the names of
+/// its print list.
 #[derive(Debug, Drop)]
 pub struct Envelope {
     /// The queue.
@@ -47,7 +49,7 @@ pub enum EnvelopeFault {
     #[error("a word is missing")]
     Missing,
     /// Memory was refused.
-    #[error("fault 12 Memory")]
+    #[error("{}", FaultName::Memory)]
     Memory,
 }
 

@@ -4,6 +4,7 @@ ghost use Rattle.std.specs.Prelude.{◌≡◌};
 ghost use Rattle.lpd_words.specs.Status.{status_of};
 ghost use Rattle.lpd_words.specs.declared.fault.Fault.TheVariants.{Memory, Run, Send};
 
+use lpd_script::FaultName;
 use lpr_client::SendFault;
 use std::alloc::{AllocError, AllocFailed};
 use thiserror::Error;
@@ -12,13 +13,13 @@ use thiserror::Error;
 #[derive(Clone, Copy, Debug, PartialEq, Eq, Error)]
 pub enum Fault {
     /// Memory was refused.
-    #[error("fault 12 Memory")]
+    #[error("{}", FaultName::Memory)]
     Memory,
     /// A file can't be read or written, a configuration can't be used, or a script can't be run.
     #[error("{0}")]
     Run(lpd_script::Fault),
     /// The server can't be reached.
-    #[error("fault 72 Network")]
+    #[error("{}", FaultName::Network)]
     Network,
     /// The server didn't take the job.
     #[error("{0}")]
@@ -58,7 +59,8 @@ impl From<SendFault> for Fault {
 }
 
 impl Fault {
-    /// The exit status: 2 for the configuration, 3 for the script, 5 for a job that wasn't taken, 4 for the rest.
+    /// The exit status: 2 for the configuration, 3 for the script, 5 for a job that wasn't taken, 4
+    /// for the rest.
     pub fn status(self) -> u8
         ensures { result ≡ status_of self }
     {

@@ -12,18 +12,24 @@ use std::io::Read;
 pub struct FileReader<F: Read + Drop> {
     file: Option<StreamReader<F>>,
     faults: u64,
+    reads: u64,
 }
 
 impl<F: Read + Drop> FileReader<F> {
-    /// The file at this path, from its beginning.
+    /// The file at this path, from its beginning. It wasn't read and hasn't failed.
     pub fn open<R: Files<File = F>>(files: &R, path: &str) -> FileReader<F>
-        ensures { result.faults ≡ 0 }
+        ensures faults { result.faults ≡ 0 }
+        ensures reads { result.reads ≡ 0 }
     {
         let file = match OpenOptions::new().read(true).open(files, path) {
             Ok(file) => Some(StreamReader::new(file)),
             Err(_) => None,
         };
-        FileReader { file, faults: 0 }
+        FileReader {
+            file,
+            faults: 0,
+            reads: 0,
+        }
     }
 }
 
@@ -32,7 +38,10 @@ impl<F: Read + Drop> OctetRead for FileReader<F> {
 
     ghost faults = { λ reader. reader.faults };
 
+    ghost reads = { λ reader. reader.reads };
+
     fn read(&mut self, into: &mut [u8]) -> Result<usize, OctetFault> {
+        self.reads = self.reads.saturating_add(1);
         let read = match &mut self.file {
             Some(file) => file.read(into),
             None => Err(OctetFault),

@@ -4,17 +4,18 @@ ghost use Rattle.std.specs.Prelude.{◌≡◌, ◌≢◌, ◌++◌, ◌∷◌, [
 ghost use Rattle.lpd_commands.specs.Ends.{Writes, one_more};
 ghost use Rattle.lpd_script.specs.declared.fault.Fault.TheVariants.{ReadFile, WriteFile};
 ghost use Rattle.lpd_words.specs.declared.fault.Fault.TheVariants.{Run};
-ghost use Rattle.lpd_words.specs.Order.{Checked, IsConfigFault, ReadsConfig, StopsAt};
+ghost use Rattle.lpd_words.specs.Order.{Checked, CheckedSizes, IsConfigFault, ReadsConfig, StopsAt};
 ghost use Rattle.lpd_words.specs.Order.{write_faults};
 ghost use Rattle.spool_config.specs.Answers.{fault_of};
 ghost use Rattle.spool_config.specs.declared.settings.ConfigFault.{ConfigFault};
 
 use crate::fault::Fault;
+use crate::sizes::sizes_text;
 use crate::summary::summary_of;
 use config_values::Config;
 use lpd_commands::{OctetRead, OctetWrite, write_all};
 use lpd_script::{read_all, run_parts};
-use std::alloc::{AllocError, Global};
+use std::alloc::Global;
 
 /// Writes a text to the output.
 pub(crate) fn print<W: OctetWrite>(output: &mut W, text: &[u8]) -> Result<(), Fault>
@@ -28,7 +29,8 @@ pub(crate) fn print<W: OctetWrite>(output: &mut W, text: &[u8]) -> Result<(), Fa
     }
 }
 
-/// Reads a configuration to its end. Answers the first fault: `ReadFile`, a fault of the configuration, and `Memory`.
+/// Reads a configuration to its end. Answers the first fault: `ReadFile`, a fault of the
+/// configuration, and `Memory`.
 pub fn read_config<I: OctetRead>(alloc: Global, input: &mut I) -> Result<Config, Fault>
     ensures config { IfOk result (ReadsConfig (I.left input.old) (I.left input.new)) }
     ensures read_fault { I.faults input.new ≢ I.faults input.old → result ≡ Err (Run ReadFile) }
@@ -43,8 +45,8 @@ pub fn read_config<I: OctetRead>(alloc: Global, input: &mut I) -> Result<Config,
     }
 }
 
-/// Reads a configuration to its end, and prints what spool it is for. Answers the first fault: `ReadFile`, a fault of
-/// the configuration, `WriteFile`, and `Memory`.
+/// Reads a configuration to its end, and prints what spool it is for. Answers the first fault:
+/// `ReadFile`, a fault of the configuration, `WriteFile`, and `Memory`.
 pub fn check<I: OctetRead, W: OctetWrite>(
     alloc: Global,
     config: &mut I,
@@ -63,54 +65,28 @@ pub fn check<I: OctetRead, W: OctetWrite>(
     print(output, format!(in alloc; "{summary}\n")?.as_bytes())
 }
 
-/// Below so many jobs that fit into the account it is said that they are few.
-const FEW: u64 = 50;
-
-/// How many jobs of a queue fit into the account between two moments without held jobs, each as large as the queue allows.
-fn jobs_that_fit(config: &Config, queue: u32) -> u64 {
-    let entries = u64::from(config.account()).saturating_sub(1);
-    entries
-        .checked_div(config.reserve_of(queue))
-        .unwrap_or(entries)
-}
-
-/// A line for each queue: how many jobs of it fit into the account.
-fn sizes_text(alloc: Global, config: &Config) -> Result<String, AllocError> {
-    let mut text = String::new(alloc);
-    let queues = config.queues();
-    for place in 0..queues.len() {
-        let name = str::from_utf8(queues[place].name()).unwrap_or("");
-        let jobs = jobs_that_fit(config, place as u32 + 1);
-        let few = if jobs < FEW {
-            ", too few: a larger account or larger pages make room"
-        } else {
-            ""
-        };
-        text.push_str(format!(in alloc; "queue {name} jobs {jobs}{few}\n")?.as_str())?;
-    }
-    Ok(text)
-}
-
-/// Reads a configuration to its end, and prints what spool it is for, and how many jobs of each queue fit into the account.
-/// Answers the first fault, as `check` does.
+/// Reads a configuration to its end, and prints what spool it is for, and how many jobs of each
+/// queue fit into the account. Answers the first fault, as `check` does.
 pub fn check_sizes<I: OctetRead, W: OctetWrite>(
     alloc: Global,
     config: &mut I,
     output: &mut W,
 ) -> Result<(), Fault>
+    ensures checked { OnOk result (CheckedSizes (I.left config.old) (I.left config.new)
+        (W.written output.old) (W.written output.new)) }
     ensures read_fault { I.faults config.new ≢ I.faults config.old → result ≡ Err (Run ReadFile) }
     ensures write_fault { W.faults output.new ≡ write_faults (W.faults output.old) result }
+    ensures faulty { (text : List ℕ) → I.left config.old ≡ Some text → (due : ConfigFault) →
+        fault_of text ≡ Some due →
+        StopsAt due result × (W.written output.new ≡ W.written output.old) }
 {
     let config = read_config(alloc, config)?;
-    let sizes = sizes_text(alloc, &config)?;
-    print(
-        output,
-        format!(in alloc; "{}\n{sizes}", summary_of(&config))?.as_bytes(),
-    )
+    print(output, sizes_text(alloc, &config)?.as_slice())
 }
 
-/// Reads a configuration and a script to their ends, and runs the script on the spool that the configuration gives.
-/// Answers the first fault: `ReadFile` of either, before anything is printed, then the faults of `run_parts`.
+/// Reads a configuration and a script to their ends, and runs the script on the spool that the
+/// configuration gives. Answers the first fault: `ReadFile` of either, before anything is printed,
+/// then the faults of `run_parts`.
 pub fn replay<I: OctetRead, J: OctetRead, W: OctetWrite>(
     alloc: Global,
     config: &mut I,

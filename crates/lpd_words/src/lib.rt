@@ -10,6 +10,7 @@ mod naming;
 mod running;
 mod sending;
 mod serving;
+mod sizes;
 mod summary;
 mod words;
 
@@ -17,8 +18,8 @@ pub use envelope::{Envelope, EnvelopeFault};
 pub use fault::Fault;
 pub use file::FileReader;
 pub use files::{check, check_sizes, read_config, replay};
-pub use running::{Outcome, run, tell, tell_unread};
+pub use running::{Outcome, run, tell_unread};
 pub use sending::{data_file, send};
-pub use serving::Serving;
+pub use server_settings::Settings;
 pub use summary::{Summary, summary_of};
 pub use words::{Asked, Sending, Unread, read_words, words_of};

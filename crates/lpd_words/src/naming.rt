@@ -153,11 +153,12 @@ fn control_of(alloc: Global, sending: &Sending) -> Result<Control, EnvelopeFault
 }
 
 impl Envelope {
-    /// What is known of a job before its files are read, from its words. Its files have the names `dfA` to `dfZ` and
-    /// `dfa` to `dfz`, each with the number in three digits and the host behind it, its control file `cfA` in the
-    /// same way (RFC 1179, sections 6.2 and 6.3). Answers `Number` for one over 999, `Files` for none or over 52 of
-    /// them, `Host` for one that isn't 1 to 120 octets of words, `User` for one that isn't 1 to 255 octets without
-    /// LF, `Queue` for one that isn't 1 to 1,022 octets of words, and `Memory`.
+    /// What is known of a job before its files are read, from its words. Its files have the names
+    /// `dfA` to `dfZ` and `dfa` to `dfz`, each with the number in three digits and the host behind
+    /// it, its control file `cfA` in the same way (RFC 1179, sections 6.2 and 6.3). Answers
+    /// `Number` for one over 999, `Files` for none or over 52 of them, `Host` for one that isn't 1
+    /// to 120 octets of words, `User` for one that isn't 1 to 255 octets without LF, `Queue` for
+    /// one that isn't 1 to 1,022 octets of words, and `Memory`.
     pub fn new(alloc: Global, sending: &Sending) -> Result<Envelope, EnvelopeFault>
         ensures envelope { IfOk result (λ envelope. IsEnvelope sending.now envelope) }
         ensures fault { IfErr result (IsWrong sending.now) }

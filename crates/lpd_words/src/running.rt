@@ -21,12 +21,11 @@ use crate::file::FileReader;
 use crate::files::{check, check_sizes, print, replay};
 use crate::naming::three_digits;
 use crate::sending::{data_files, send};
-use crate::serving::Serving;
 use crate::words::{Asked, Sending, Unread, read_words};
 use lpd_commands::{OctetRead, OctetWrite, write_all};
-use lpd_script::run_input;
+use lpd_script::{run_input, tell};
+use server_settings::Settings;
 use std::alloc::{AllocError, Global};
-use std::fmt;
 use std::fs::Files;
 use std::net::Net;
 
@@ -41,7 +40,7 @@ pub enum Outcome<'a> {
     /// They ask to serve the queues of the configuration at this path.
     Serve {
         config: &'a str,
-        serving: Serving<'a>,
+        settings: Settings<'a>,
     },
 }
 
@@ -106,16 +105,6 @@ fn run_asked<R: Files + Net, W: OctetWrite>(
     }
 }
 
-/// Tells of a fault in a line of its own; where memory is short for that line, it says that.
-pub fn tell<F: fmt::Display, E: OctetWrite>(alloc: Global, fault: &F, faults: &mut E) {
-    let told = match format!(in alloc; "{fault}\n") {
-        Ok(line) => write_all(faults, line.as_bytes()),
-        Err(AllocError) => write_all(faults, b"fault 12 Memory\n"),
-    };
-    // There is nowhere else to tell of a fault here: the exit status says that there was one.
-    let _ = told;
-}
-
 /// The exit status of an end. A fault is told.
 fn ended<E: OctetWrite>(alloc: Global, end: Result<(), Fault>, faults: &mut E) -> u8
     ensures status { result ≡ end_status end }
@@ -125,15 +114,17 @@ fn ended<E: OctetWrite>(alloc: Global, end: Result<(), Fault>, faults: &mut E) -
     let Err(fault) = end else {
         return 0;
     };
-    tell(alloc, &fault, faults);
+    // There is nowhere else to tell of a fault here: the exit status says that there was one.
+    let _ = tell(alloc, &fault, faults);
     fault.status()
 }
 
-/// Does what the words ask for, of which the first is the program's name: without others, what the input asks (see
-/// `lpd_script::run_input`). Where they ask to serve, `Serve` says how, and nothing is done yet. Otherwise `Ended` has the
-/// exit status: 0 where it was done, or help or the version was asked for and printed; 1 where the words can't be read,
-/// which `faults` is told; otherwise that of the fault, which is told there in one line. Faults are looked for in this
-/// order: the words, files read, the configuration, the network.
+/// Does what the words ask for, of which the first is the program's name: without others, what the
+/// input asks (see `lpd_script::run_input`). Where they ask to serve, `Serve` says how, and nothing
+/// is done yet. Otherwise `Ended` has the exit status: 0 where it was done, or help or the version
+/// was asked for and printed; 1 where the words can't be read, which `faults` is told; otherwise
+/// that of the fault, which is told there in one line. Faults are looked for in this order: the
+/// words, files read, the configuration, the network.
 pub fn run<'a, R: Files + Net, I: OctetRead, W: OctetWrite, E: OctetWrite>(
     alloc: Global,
     rt: &R,
@@ -153,9 +144,9 @@ pub fn run<'a, R: Files + Net, I: OctetRead, W: OctetWrite, E: OctetWrite>(
     ensures unread { result ≡ Ended 1 → (W.written output.new ≡ W.written output.old)
         × (I.left input.new ≡ I.left input.old) }
     // Words that ask to serve are taken, and nothing is read, printed or told.
-    ensures serve { IfServes result (λ config serving.
+    ensures serve { IfServes result (λ config settings.
         IsAsked (subcommand_of command_line (map string_bytes words.entry.now))
-        (Serve config serving)
+        (Serve config settings)
         × (fault_of command_line (map string_bytes words.entry.now) ≡ [])) }
     ensures serve_output { IfServes result (λ _ _. IsUntouched
         (W.written output.old) (W.faults output.old) (W.written output.new) (W.faults output.new)) }
@@ -166,7 +157,7 @@ pub fn run<'a, R: Files + Net, I: OctetRead, W: OctetWrite, E: OctetWrite>(
 {
     match read_words(alloc, words) {
         Ok(Asked::Input) => Outcome::Ended(run_input(alloc, input, output, faults)),
-        Ok(Asked::Serve { config, serving }) => Outcome::Serve { config, serving },
+        Ok(Asked::Serve { config, settings }) => Outcome::Serve { config, settings },
         Ok(asked) => {
             let end = run_asked(alloc, rt, asked, output);
             Outcome::Ended(ended(alloc, end, faults))
@@ -175,8 +166,8 @@ pub fn run<'a, R: Files + Net, I: OctetRead, W: OctetWrite, E: OctetWrite>(
     }
 }
 
-/// Prints the text that words asked for, or tells why they can't be read. What is answered is the exit status: 0, 1,
-/// or 4 for memory and where the text can't be written.
+/// Prints the text that words asked for, or tells why they can't be read. What is answered is the
+/// exit status: 0, 1, or 4 for memory and where the text can't be written.
 pub fn tell_unread<W: OctetWrite, E: OctetWrite>(
     alloc: Global,
     unread: Unread,

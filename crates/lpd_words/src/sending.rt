@@ -1,13 +1,14 @@
 //! A job is sent to a server at 127.0.0.1.
 
 ghost use Rattle.std.specs.Prelude.{◌≡◌, ◌≢◌, ◌≤◌, ◌<◌, ◌⊎◌, [], IsTrue, IfOk, IfErr, IsErr, Err};
-ghost use Rattle.std.specs.Prelude.{Some, length};
+ghost use Rattle.std.specs.Prelude.{Some, length, map, take};
 ghost use Rattle.std.specs.List.{list_all};
 ghost use Rattle.lpd_script.specs.Streams.{HasGivenAll, IsUnread};
 ghost use Rattle.lpd_script.specs.declared.fault.Fault.TheVariants.{ReadFile};
 ghost use Rattle.lpd_values.specs.Name.{is_data_name};
 ghost use Rattle.lpd_words.specs.declared.fault.Fault.TheVariants.{Network, Run};
 ghost use Rattle.lpd_words.specs.Causes.{IsFileFault, IsNetworkFault};
+ghost use Rattle.lpr_client.specs.declared.file.DataFile.{DataFile};
 ghost use Rattle.lpr_client.specs.Sendable.{is_sendable, is_sendable_file};
 
 use crate::envelope::Envelope;
@@ -23,8 +24,8 @@ use std::net::{Ipv4Addr, Net, OpenStream, SocketAddr, TcpStream};
 /// A file can't be read.
 const UNREAD: Fault = Fault::Run(lpd_script::Fault::ReadFile);
 
-/// Reads a data file of this name to its end. Answers `ReadFile` where it can't be read or has no octets, and
-/// `Memory`.
+/// Reads a data file of this name to its end. Answers `ReadFile` where it can't be read or has no
+/// octets, and `Memory`.
 pub fn data_file<F: OctetRead>(
     alloc: Global,
     name: FileName,
@@ -50,7 +51,8 @@ pub fn data_file<F: OctetRead>(
     })
 }
 
-/// The data files of these names, read from the files at these paths, in order. Answers as `data_file` does.
+/// The data files of these names, read from the files at these paths, in order. Answers as
+/// `data_file` does.
 pub(crate) fn data_files<R: Files>(
     alloc: Global,
     files: &R,
@@ -60,6 +62,8 @@ pub(crate) fn data_files<R: Files>(
     requires { IsTrue (list_all is_data_name names.now) }
     ensures ok { IfOk result (λ read. IsTrue (list_all is_sendable_file read.items)
         × (length read.items ≤ length names.now)) }
+    ensures named { IfOk result (λ read. map (λ (file : DataFile). file.name) read.items
+        ≡ take (length paths.now) names.now) }
     ensures fault { IfErr result IsFileFault }
 {
     let mut read = Vec::new(alloc);
@@ -83,8 +87,8 @@ fn connect<R: Net>(net: &R, port: u16) -> Result<(R::Stream, R::Stream), Fault>
     }
 }
 
-/// Sends a job to the server at this port of 127.0.0.1. Answers `Network` where it can't be reached, and the faults of
-/// `send_job`.
+/// Sends a job to the server at this port of 127.0.0.1. Answers `Network` where it can't be
+/// reached, and the faults of `send_job`.
 pub fn send<R: Net>(
     alloc: Global,
     net: &R,
@@ -107,7 +111,7 @@ pub fn send<R: Net>(
         alloc,
         &mut reader,
         &mut writer,
-        queue,
+        &queue,
         &name,
         &control,
         files,

@@ -9,6 +9,7 @@ ghost use Rattle.lpd_words.specs.declared.envelope.EnvelopeFault.TheVariants.{Ad
 use crate::envelope::EnvelopeFault;
 use crate::words::number_of;
 use clap::ArgMatches;
+use server_settings::Settings;
 use std::net::Ipv4Addr;
 
 /// How many connections are served at once where the words don't say it.
@@ -19,31 +20,6 @@ const BIND: &str = "127.0.0.1";
 
 /// The directory of the printers' files where the words don't say it.
 const OUT: &str = ".";
-
-/// How a server is to run.
-#[derive(Clone, Copy, Debug)]
-pub struct Serving<'a> {
-    /// The port to listen on, 1 to 65,535.
-    pub port: u16,
-    /// The address to listen on.
-    pub bind: Ipv4Addr,
-    /// The path of the directory of the printers' files.
-    pub out: &'a str,
-    /// How many connections are served at once, 1 to 64.
-    pub sessions: u32,
-    /// After how many connections it ends, if it does.
-    pub connections: Option<u64>,
-    /// After how many connections the account is rotated, again and again.
-    pub rotate: Option<u64>,
-    /// For how many seconds a peer may be silent.
-    pub silence: Option<u64>,
-    /// How many connections of one address are served at once.
-    pub per_host: Option<u64>,
-    /// How many octets a second a peer has to send.
-    pub slowest: Option<u64>,
-    /// Whether room is kept in the account.
-    pub keep_room: bool,
-}
 
 /// Whether an option without a value is there.
 pub(crate) fn flag_of(matches: &ArgMatches, id: &str) -> bool
@@ -105,11 +81,11 @@ fn sessions_of(matches: &ArgMatches) -> Result<u32, EnvelopeFault>
 }
 
 /// What words say of a server that is to run.
-pub(crate) fn serving_of<'a>(matches: &ArgMatches<'a>) -> Result<Serving<'a>, EnvelopeFault>
+pub(crate) fn serving_of<'a>(matches: &ArgMatches<'a>) -> Result<Settings<'a>, EnvelopeFault>
     ensures read { IfOk result (IsServing (rows_of (found_of matches.now))) }
     ensures fault { IfErr result (LacksServing (rows_of (found_of matches.now))) }
 {
-    Ok(Serving {
+    Ok(Settings {
         port: number_of(matches, "port")?,
         bind: address_of(matches)?,
         out: out_of(matches),

@@ -12,9 +12,10 @@ ghost use Rattle.lpd_words.specs.Refused.{HasNoWords, LacksWords};
 
 use crate::command::command;
 use crate::envelope::{Envelope, EnvelopeFault};
-use crate::serving::{Serving, flag_of, serving_of};
+use crate::serving::{flag_of, serving_of};
 use clap::error::ErrorKind;
 use clap::{ArgMatches, Command, Error};
+use server_settings::Settings;
 use std::alloc::{AllocError, Global};
 use std::env::Env;
 use std::io;
@@ -60,7 +61,7 @@ pub enum Asked<'a> {
     /// To serve the queues of the configuration at this path.
     Serve {
         config: &'a str,
-        serving: Serving<'a>,
+        settings: Settings<'a>,
     },
 }
 
@@ -174,8 +175,8 @@ fn asked_by<'a>(
         }
         "serve" => {
             let config = text_of(matches, "config")?;
-            let serving = serving_of(matches)?;
-            Ok(Asked::Serve { config, serving })
+            let settings = serving_of(matches)?;
+            Ok(Asked::Serve { config, settings })
         }
         _ => Err(EnvelopeFault::Missing),
     }
@@ -208,8 +209,8 @@ fn why_nothing(
     Ok(why_unread(alloc, &error))
 }
 
-/// Reads the words, of which the first is the program's name. `Shown` has the text of `--help` or `--version` where
-/// they ask for that, `Refused` what is wrong and how the program is used.
+/// Reads the words, of which the first is the program's name. `Shown` has the text of `--help` or
+/// `--version` where they ask for that, `Refused` what is wrong and how the program is used.
 pub fn read_words<'a>(alloc: Global, words: &'a [String]) -> Result<Asked<'a>, Unread>
     ensures asked { IfOk result (IsAsked
         (subcommand_of command_line (map string_bytes words.entry.now))) }
@@ -228,8 +229,8 @@ pub fn read_words<'a>(alloc: Global, words: &'a [String]) -> Result<Asked<'a>, U
     }
 }
 
-/// The words that the program was started with, of which the first is its name. Answers `Refused` where one isn't
-/// UTF-8, and `Memory`.
+/// The words that the program was started with, of which the first is its name. Answers `Refused`
+/// where one isn't UTF-8, and `Memory`.
 pub fn words_of<R: Env + Alloc<A = Global>>(rt: &R) -> Result<Vec<String>, Unread>
     ensures { IfErr result HasNoWords }
 {

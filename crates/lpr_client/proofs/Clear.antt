@@ -16,6 +16,7 @@ use Rattle.receiver.specs.Script.{Ack, Item, Asks, Acks, Refuses, FileOctets, Pa
 use Rattle.receiver.specs.Reading.{Progress, Kind, Admission, Opening, Lending, Ending, Aborting, Plain, Due, Waits, Ends, Writes, Requests, due, due_at, at_line, at_page, at_text, after_text, answered, is_inner, with_ticket}
 use Rattle.receiver.specs.Blocks.{IsLine}
 use Rattle.lpr_client.specs.Granted.{IsGrant}
+use Rattle.receiver.proofs.BlockLaws.{due_line, taken_len, text_whole as due_text}
 
 -- a file as it is sent: its subcommand and its contents
 pub record Block : Type 0 where
@@ -57,20 +58,6 @@ IsClearDue Ends = Unit {0}
 IsClearDue (Writes w items t) = (w ≡ Ack) × IsClear items t
 IsClearDue (Requests r items t) = IsClear items t
 
--- a whole line
-pub due_line : (next : List ℕ → List ℕ → Due) (line r : List ℕ) → IsLine line → at_line next (line ++ 10 ∷ r) ≡ next line r
-due_line next line r h =
-    let n : prefix_len is_inner (line ++ 10 ∷ r) ≡ length line = prefix_len-append is_inner line (10 ∷ r) ∙ rw (eq-eqb _ _ h.0) (add-zero (length line)) in
-    let k = length-append line (10 ∷ r) in
-    rw (n, le-ltb MAX_LINE (length line) h.1, lt-ltb (length line) (length (line ++ 10 ∷ r)) (omega arith), take-append_seam line (10 ∷ r), drop-append-add line (10 ∷ r) 1) refl
-
--- a control text and its octet 00
-due_text : (name : List ℕ) (items : List Item) (text rest : List ℕ) → at_text name (length text) items (text ++ 0 ∷ rest) ≡ after_text (control_of name text) items rest
-due_text name items text rest =
-    let k = length-append text (0 ∷ rest) in
-    let g : get_or (text ++ 0 ∷ rest) (length text) 0 ≡ 0 = ap (λ n. get_or (text ++ 0 ∷ rest) n 0) (sym (add-zero (length text))) ∙ get_or-append-add text (0 ∷ rest) 0 0 in
-    rw (lt-ltb (length text) (length (text ++ 0 ∷ rest)) (omega arith), g, take-append_seam text (0 ∷ rest), drop-append-add text (0 ∷ rest) 1) refl
-
 -- a page's octets
 due_page : (size : ℕ) (items : List Item) (octets rest : List ℕ) → IsClear items rest → IsClearDue (at_page (length octets) size items (octets ++ rest))
 due_page size items octets rest h =
@@ -103,10 +90,6 @@ due_clear next f (ControlText name n ∷ items) t h =
     (subst (λ m. IsClearDue (at_text name m items (h.0 ++ 0 ∷ h.1))) h.3
     (subst IsClearDue (sym (due_text name items h.0 h.1 ∙ ap (λ r. after_text r items h.1) h.5)) h.6))
 due_clear next f (Over ∷ items) t h = absurd h
-
--- a control file's length that is taken
-taken_len : (n : ℕ) → 1 ≤ n → n ≤ MAX_CONTROL_TEXT → (n == 0 || nat_lt MAX_CONTROL_TEXT n) ≡ false
-taken_len n h k = rw (ne_eqb n 0 (λ e. omega arith), le-ltb MAX_CONTROL_TEXT n k) refl
 
 -- what follows a file's line is clear
 block_clear : (job : Bool) (queue : List ℕ) (sub : Sub) (contents rest : List ℕ) (files : List Block) → AreContents sub contents → AreBlocks files rest → IsClear (block job queue (Ok sub)) (contents ++ 0 ∷ rest)

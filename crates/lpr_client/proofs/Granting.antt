@@ -23,7 +23,8 @@ use Rattle.lpr_client.specs.declared.file.DataFile.{DataFile}
 use Rattle.lpr_client.specs.Granted.{AreGranted, IsAcknowledged}
 use Rattle.lpr_client.specs.Sendable.{is_sendable}
 use Rattle.lpr_client.specs.Parts.{AreCounted, zeroed, data_parts, control_parts, job_octets}
-use Rattle.lpr_client.proofs.Clear.{Block, AreBlocks, IsClear, IsClearDue, IsReading, reading_due, granted_reading, due_line}
+use Rattle.lpr_client.proofs.Clear.{Block, AreBlocks, IsClear, IsClearDue, IsReading, reading_due, granted_reading}
+use Rattle.receiver.proofs.BlockLaws.{due_line}
 use Rattle.lpr_client.proofs.JobReading.{AreFiles, sendable}
 use Rattle.lpr_client.proofs.LineLemmas.{receive_line, control_line, data_line}
 
@@ -83,7 +84,7 @@ job_blocks name text said (file ∷ files) h n some few c =
     )
 
 -- what is due at the first line
-due_first : (queue line rest : List ℕ) → IsLine line → command_of line ≡ Ok (Receive queue) → due start (line ++ 10 ∷ rest) ≡ Requests (Queue queue) (Acks ∷ []) rest
+pub due_first : (queue line rest : List ℕ) → IsLine line → command_of line ≡ Ok (Receive queue) → due start (line ++ 10 ∷ rest) ≡ Requests (Queue queue) (Acks ∷ []) rest
 due_first queue line rest l e =
     due_line (λ x. due_at (λ _. Waits) (after_line None false x)) line rest l ∙ ap (λ m. due_at (λ _. Waits) (first_block m) rest) e
 

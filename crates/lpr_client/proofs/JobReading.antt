@@ -118,11 +118,6 @@ job_read queue name control files h z whole short rest a os k g =
     subst (λ t. Reads short (job_outputs z queue (contents control) files ++ os) start t (job_told z whole files ++ a)) (first_sent (command_line (Receive queue)) rest (data_parts files ++ control_parts name text))
     (first_line_read queue (command_line (Receive queue)) short (concat (data_parts files ++ control_parts name text) ++ rest) (files_told z false whole files ++ a) (files_outputs z queue false (contents control) files ++ os) line.0 line.1 inner)
 
-octets_written-append : (os others : List Output) → octets_written (os ++ others) ≡ octets_written os ++ octets_written others
-octets_written-append [] others = refl
-octets_written-append (Wrote w ∷ os) others = ap (λ t. octet w ∷ t) (octets_written-append os others)
-octets_written-append (Asked r ∷ os) others = octets_written-append os others
-
 opened_silent : (job : Bool) (queue : List ℕ) (os : List Output) → octets_written (opened job queue ++ os) ≡ octets_written os
 opened_silent true queue os = refl
 opened_silent false queue os = refl

@@ -64,3 +64,8 @@ reader_faults _ n = n
 abbrev pub writer_faults : Result (Unit {0}) SendFault → ℕ → ℕ
 writer_faults (Err WriteFault) n = one_more n
 writer_faults _ n = n
+
+-- how often a reader was read after sending a part came to this: once more, unless writing the part failed
+abbrev pub part_reads : Result (Unit {0}) SendFault → ℕ → ℕ
+part_reads (Err WriteFault) n = n
+part_reads _ n = one_more n

@@ -48,19 +48,19 @@ fn joined(alloc: Global, parts: &[Part]) -> Result<Octets, AllocError>
 }
 
 /// The octets that send a job to a queue: the line that asks for it, the data files in order, and last the control file
-/// under this name (RFC 1179, sections 5.2, 6.2 and 6.3).
+/// under this name (RFC 1179, sections 5.2, 6.2 and 6.3). AllocError where memory for them is refused.
 pub fn job_bytes(
     alloc: Global,
-    queue: Octets,
+    queue: &Octets,
     name: &FileName,
     control: &Control,
     files: &[DataFile],
 ) -> Result<Octets, AllocError>
-    requires { IsTrue (is_sendable queue name.now control.now files.now) }
+    requires { IsTrue (is_sendable queue.now name.now control.now files.now) }
     ensures octets { IfOk result (λ octets.
-        octets ≡ job_octets queue name.now (control_text (contents control.now)) files.now) }
+        octets ≡ job_octets queue.now name.now (control_text (contents control.now)) files.now) }
     ensures one_job { IfOk result (λ octets.
-        ReadsAsOneJob queue (contents control.now) files.now octets) }
+        ReadsAsOneJob queue.now (contents control.now) files.now octets) }
     ensures granted { IfOk result (λ octets. IsAcknowledged octets) }
 {
     let parts = parts_of(alloc, queue, name, control, files)?;

@@ -12,7 +12,7 @@ mod sendable;
 pub use control_file::Control;
 pub use file::DataFile;
 pub use job::job_bytes;
-pub use lpd_commands::{FileName, OctetRead, OctetWrite, Octets, Words};
+pub use lpd_commands::{FileName, OctetFault, OctetRead, OctetWrite, Octets, Words};
 pub use questions::{remove_bytes, state_bytes};
 pub use send::{SendFault, send_job};
 pub use sendable::is_sendable;

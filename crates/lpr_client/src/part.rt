@@ -85,16 +85,17 @@ fn put_control_file(
 /// The parts of a job: the line that asks to send it, its data files in order, and last its control file of this name.
 pub(crate) fn parts_of<'a>(
     alloc: Global,
-    queue: Octets,
+    queue: &Octets,
     name: &FileName,
     control: &Control,
     files: &'a [DataFile],
 ) -> Result<Vec<Part<'a>>, AllocError>
     ensures parts { IfOk result (λ parts.
         map part_octets parts.items
-        ≡ job_parts queue name.now (control_text (contents control.now)) files.now) }
+        ≡ job_parts queue.now name.now (control_text (contents control.now)) files.now) }
     ensures counted { OnOk result (AreCounted files.now) }
 {
+    let queue = Octets::copy_of(alloc, queue.as_slice())?;
     let mut parts = Vec::new(alloc);
     parts.push(Part::Line(write_command(alloc, &Command::Receive { queue })?))?;
     put_data_files(alloc, &mut parts, files)?;

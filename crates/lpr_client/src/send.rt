@@ -1,13 +1,14 @@
 //! Sending a job, acknowledgement by acknowledgement.
 
-ghost use Rattle.std.specs.Prelude.{IsTrue, ◌≡◌, ◌∷◌, [], map, OnOk, OnErr, IfErr};
-ghost use Rattle.lpd_commands.specs.Ends.{one_more, Took, Writes, WritesSome};
+ghost use Rattle.std.specs.Prelude.{IsTrue, ◌≡◌, ◌∷◌, [], length, map, OnOk, OnErr, IfErr};
+ghost use Rattle.lpd_commands.specs.Ends.{MakesAtMost, one_more, Took, Writes, WritesSome};
 ghost use Rattle.control_file.specs.Written.{control_text};
 ghost use Rattle.control_file.specs.View.{contents};
 ghost use Rattle.lpr_client.specs.Parts.{job_parts, zeroed};
 ghost use Rattle.lpr_client.specs.Shown.{part_octets};
 ghost use Rattle.lpr_client.specs.Sendable.{is_sendable};
-ghost use Rattle.lpr_client.specs.Sending.{AllSent, LacksOne, PartStops, Stops, StopsOrNot, reader_faults, writer_faults};
+ghost use Rattle.lpr_client.specs.Sending.{AllSent, LacksOne, PartStops, Stops, StopsOrNot};
+ghost use Rattle.lpr_client.specs.Sending.{part_reads, reader_faults, writer_faults};
 ghost use Rattle.lpr_client.specs.declared.send.SendFault.TheVariants.{Memory};
 
 use crate::file::DataFile;
@@ -79,6 +80,7 @@ fn read_acknowledgement<R: OctetRead>(reader: &mut R) -> Result<(), SendFault>
     ensures err { IfErr result
         (λ fault. LacksOne fault (R.left reader.old) (R.left reader.new)) }
     ensures faults { R.faults reader.new ≡ reader_faults result (R.faults reader.old) }
+    ensures reads { R.reads reader.new ≡ one_more (R.reads reader.old) }
 {
     let mut octet = [0u8];
     match reader.read(&mut octet) {
@@ -103,6 +105,7 @@ fn send_part<R: OctetRead, W: OctetWrite>(
         (W.written writer.old) (W.written writer.new)) }
     ensures reader_faults { R.faults reader.new ≡ reader_faults result (R.faults reader.old) }
     ensures writer_faults { W.faults writer.new ≡ writer_faults result (W.faults writer.old) }
+    ensures reads { R.reads reader.new ≡ part_reads result (R.reads reader.old) }
 {
     if write_part(writer, part).is_err() {
         return Err(SendFault::WriteFault);
@@ -124,6 +127,8 @@ fn send_parts<R: OctetRead, W: OctetWrite>(
         (W.written writer.old) (W.written writer.new)) }
     ensures reader_faults { R.faults reader.new ≡ reader_faults result (R.faults reader.old) }
     ensures writer_faults { W.faults writer.new ≡ writer_faults result (W.faults writer.old) }
+    ensures reads { MakesAtMost (length (map part_octets parts.now))
+        (R.reads reader.old) (R.reads reader.new) }
 {
     for part in parts {
         send_part(reader, writer, part)?;
@@ -138,20 +143,24 @@ pub fn send_job<R: OctetRead, W: OctetWrite>(
     alloc: Global,
     reader: &mut R,
     writer: &mut W,
-    queue: Octets,
+    queue: &Octets,
     name: &FileName,
     control: &Control,
     files: &[DataFile],
 ) -> Result<(), SendFault>
-    requires { IsTrue (is_sendable queue name.now control.now files.now) }
+    requires { IsTrue (is_sendable queue.now name.now control.now files.now) }
     ensures ok { OnOk result
-        (AllSent (job_parts queue name.now (control_text (contents control.now)) files.now)
+        (AllSent (job_parts queue.now name.now (control_text (contents control.now)) files.now)
         (R.left reader.old) (R.left reader.new) (W.written writer.old) (W.written writer.new)) }
     ensures err { IfErr result (λ fault. StopsOrNot fault
-        (job_parts queue name.now (control_text (contents control.now)) files.now)
+        (job_parts queue.now name.now (control_text (contents control.now)) files.now)
         (R.left reader.old) (R.left reader.new) (W.written writer.old) (W.written writer.new)) }
     ensures reader_faults { R.faults reader.new ≡ reader_faults result (R.faults reader.old) }
     ensures writer_faults { W.faults writer.new ≡ writer_faults result (W.faults writer.old) }
+    // It reads once for each part, at most.
+    ensures reads { MakesAtMost
+        (length (job_parts queue.now name.now (control_text (contents control.now)) files.now))
+        (R.reads reader.old) (R.reads reader.new) }
 {
     let parts = parts_of(alloc, queue, name, control, files)?;
     send_parts(reader, writer, parts.as_slice())

@@ -3,7 +3,7 @@
 ghost use Rattle.std.specs.Prelude.{IsTrue, ◌≡◌};
 ghost use Rattle.lpr_client.specs.Sendable.{is_sendable};
 
-use libc::net::{AF_INET, SOCK_CLOEXEC, SOCK_STREAM, socket};
+use libc::net::{AF_INET, SO_RCVBUF, SOCK_CLOEXEC, SOCK_STREAM, SOL_SOCKET, setsockopt, socket};
 use lpd_script::{StreamReader, StreamWriter};
 use lpr_client::{
     Control, DataFile, FileName, Octets, SendFault, is_sendable, job_bytes, send_job,
@@ -18,7 +18,8 @@ use std::time::{Clock, Duration, Instant};
 /// How many seconds a client waits for an octet.
 pub const LIMIT_SECONDS: u64 = 30;
 
-/// Within how many seconds a server that isn't held up has answered. One that is held up doesn't answer at all.
+/// Within how many seconds a server that isn't held up has answered. One that is held up doesn't
+/// answer at all.
 const SOON_SECONDS: u64 = 10;
 
 /// A connection to the port.
@@ -32,30 +33,38 @@ pub fn connect<R: Abort + Net<Stream = TcpStream>>(rt: &R, port: u16) -> TcpStre
     stream
 }
 
-/// A connection to the port from another host: an address of loopback that ends in this number.
-pub fn connect_from<R: Abort + Net<Stream = TcpStream>>(rt: &R, host: u8, port: u16) -> TcpStream {
-    let address = |last: u8, port: u16| {
-        let [high, low] = port.to_be_bytes();
-        let mut octets = [0u8; 128];
-        octets[0] = AF_INET as u8;
-        octets[2] = high;
-        octets[3] = low;
-        octets[4] = 127;
-        octets[7] = last;
-        octets
-    };
+/// A connection to the port from a host, an address of loopback that ends in this number, which
+/// says this. The system keeps little for it that it hasn't read.
+pub fn ask_from<R: Abort + Net<Stream = TcpStream>>(
+    rt: &R,
+    host: u8,
+    port: u16,
+    line: &[u8],
+) -> TcpStream {
+    let mut address = [0u8; 128];
+    address[0] = AF_INET as u8;
+    address[4] = 127;
+    address[7] = host;
     let descriptor = unsafe { socket(AF_INET, SOCK_STREAM | SOCK_CLOEXEC, 0) };
     assert!(rt; descriptor >= 0, "a socket");
     let stream = unsafe { TcpStream::from_raw_fd(descriptor) };
-    let bound = unsafe { libc::net::bind(descriptor, &address(host, 0), 16) };
-    let connected = unsafe { libc::net::connect(descriptor, &address(1, port), 16) };
+    let mut one = [0u8; 16];
+    one[0] = 1;
+    let set = unsafe { setsockopt(descriptor, SOL_SOCKET, SO_RCVBUF, &one, 4) };
+    let bound = unsafe { libc::net::bind(descriptor, &address, 16) };
+    let [high, low] = port.to_be_bytes();
+    address[2] = high;
+    address[3] = low;
+    address[7] = 1;
+    let connected = unsafe { libc::net::connect(descriptor, &address, 16) };
     assert_eq!(rt;
-        (bound, connected),
-        (0, 0),
-        "a connection from another host"
+        (set, bound, connected),
+        (0, 0, 0),
+        "a connection from a host"
     );
     let limit = Some(Duration::from_secs(LIMIT_SECONDS));
     stream.set_read_timeout(limit).expect(rt, "a limit");
+    write(rt, &stream, line);
     stream
 }
 
@@ -83,48 +92,28 @@ struct Envelope {
     files: [DataFile; 1],
 }
 
-impl Envelope {
-    /// Whether it can be sent. False where memory is refused.
-    fn is_sendable(&self, alloc: Global) -> bool
-        ensures { IsTrue result → IsTrue (is_sendable
-            self.now.queue self.now.name self.now.control self.now.files) }
-    {
-        is_sendable(
-            alloc,
-            &self.queue,
-            &self.name,
-            &self.control,
-            self.files.as_slice(),
-        ) == Ok(true)
-    }
-
-    /// Of the job of this number, with these octets.
-    fn new(alloc: Global, number: u32, octets: &[u8]) -> Option<Envelope> {
-        let of_control = format!(in alloc; "cfA{number:03}h1").ok()?;
-        let of_data = format!(in alloc; "dfA{number:03}h1").ok()?;
-        let text = format!(in alloc; "Hh1\nPann\nf{of_data}\n").ok()?;
-        let name = FileName::read(of_control.as_bytes()).ok()?;
-        Some(Envelope {
-            queue: Octets::copy_of(alloc, b"lp").ok()?,
-            control: Control::parse(alloc, &name, text.as_bytes()).ok()?,
-            name,
-            files: [DataFile {
-                name: FileName::read(of_data.as_bytes()).ok()?,
-                octets: Octets::copy_of(alloc, octets).ok()?,
-            }],
-        })
-    }
-}
-
 /// What the job of this number is sent with.
 fn envelope_of<R: Abort>(rt: &R, alloc: Global, number: u32, octets: &[u8]) -> Envelope
     ensures { IsTrue (is_sendable result.queue result.name result.control result.files) }
 {
-    let Some(envelope) = Envelope::new(alloc, number, octets) else {
-        panic!(rt; "no job {number}");
-    };
-    assert!(rt; envelope.is_sendable(alloc));
-    envelope
+    let of_control = format!(in alloc; "cfA{number:03}h1").expect(rt, "memory");
+    let of_data = format!(in alloc; "dfA{number:03}h1").expect(rt, "memory");
+    let text = format!(in alloc; "Hh1\nPann\nf{of_data}\n").expect(rt, "memory");
+    let name = FileName::read(of_control.as_bytes()).expect(rt, "a name");
+    let queue = Octets::copy_of(alloc, b"lp").expect(rt, "memory");
+    let control = Control::parse(alloc, &name, text.as_bytes()).expect(rt, "a control file");
+    let files = [DataFile {
+        name: FileName::read(of_data.as_bytes()).expect(rt, "a name"),
+        octets: Octets::copy_of(alloc, octets).expect(rt, "memory"),
+    }];
+    let sendable = is_sendable(alloc, &queue, &name, &control, files.as_slice());
+    assert!(rt; sendable == Ok(true), "a job that can be sent");
+    Envelope {
+        queue,
+        name,
+        control,
+        files,
+    }
 }
 
 /// Sends the job of this number, with these octets.
@@ -145,7 +134,7 @@ pub fn send<R: Abort + AllocGlobal>(
         alloc,
         &mut StreamReader::new(stream),
         &mut StreamWriter::new(stream),
-        queue,
+        &queue,
         &name,
         &control,
         files.as_slice(),
@@ -161,13 +150,14 @@ pub fn octets_of<R: Abort + AllocGlobal>(rt: &R, number: u32, octets: &[u8]) -> 
         control,
         files,
     } = envelope_of(rt, alloc, number, octets);
-    job_bytes(alloc, queue, &name, &control, files.as_slice()).expect(rt, "memory")
+    job_bytes(alloc, &queue, &name, &control, files.as_slice()).expect(rt, "memory")
 }
 
 /// The line that asks for the queue.
 const FIRST_LINE: usize = b"\x02lp\n".len();
 
-/// Sends one job more over a connection over which one was sent, at once: the line that asks for the queue stands once.
+/// Sends one job more over a connection over which one was sent, at once: the line that asks for
+/// the queue stands once.
 pub fn send_more<R: Abort + AllocGlobal>(rt: &R, stream: &TcpStream, number: u32, octets: &[u8]) {
     let octets = octets_of(rt, number, octets);
     let job = octets.as_slice().get(FIRST_LINE..).expect(rt, "a job");
@@ -204,7 +194,29 @@ pub fn is_ended<R: Abort>(rt: &R, stream: &TcpStream) {
     assert_eq!(rt; stream.read(&mut answer).expect(rt, "the end"), 0);
 }
 
-/// A client that stops in the middle of a job of the queue `plotter`, whose page is lent, and stays.
+/// The server says nothing for a moment.
+pub fn waits<R: Abort>(rt: &R, stream: &TcpStream) {
+    let moment = Some(Duration::from_millis(300));
+    stream.set_read_timeout(moment).expect(rt, "a limit");
+    let mut reader = stream;
+    assert!(rt; reader.read(&mut [0]).is_err(), "it is answered");
+    let limit = Some(Duration::from_secs(LIMIT_SECONDS));
+    stream.set_read_timeout(limit).expect(rt, "a limit");
+}
+
+/// A connection that was refused by its first line, behind which it has sent more than a session
+/// reads at once, and at which the server has said its last.
+pub fn refused<R: Abort + Net<Stream = TcpStream>>(rt: &R, port: u16) -> TcpStream {
+    let stream = connect(rt, port);
+    write(rt, &stream, b"\x02nothing\n");
+    write(rt, &stream, &[0; 131_072]);
+    is_answered(rt, &stream, &[1]);
+    is_ended(rt, &stream);
+    stream
+}
+
+/// A client that stops in the middle of a job of the queue `plotter`, whose page is lent, and
+/// stays.
 pub fn stop<R: Abort + Net<Stream = TcpStream>>(rt: &R, port: u16) -> TcpStream {
     let stream = connect(rt, port);
     write(rt, &stream, b"\x02plotter\n\x0311 dfA001h1\nhello");

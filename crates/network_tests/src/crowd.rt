@@ -3,12 +3,11 @@
 use crate::clients::{connect, is_answered, is_ended, octets_of, send, send_more, stop, write};
 use crate::jobs::{are_in_order, job_text, jobs_in, pages_of};
 use crate::place::{make, printed, remove};
-use crate::server::{SMALL, Spool, Terminal, run, settings};
+use crate::server::{SMALL, Spool, ends_well, settings};
 use lpd_daemon::Settings;
-use std::fs::Files;
+use std::alloc::Global;
 use std::net::{Net, Shutdown, TcpStream};
 use std::process::Abort;
-use std::test::Fail;
 use std::thread;
 
 /// How many clients send jobs by the rules.
@@ -23,12 +22,13 @@ const PASSERS: u64 = 1_000;
 /// How many of them are opened at once, at most.
 const ROW: u64 = 20;
 
-/// How many connections there are: one of each even client, one for each job of the odd ones, of those that pass by,
-/// and of three that break the rules.
+/// How many connections there are: one of each even client, one for each job of the odd ones, of
+/// those that pass by, and of three that break the rules.
 const CONNECTIONS: u64 = 16 + 16 * 4 + PASSERS + 3;
 
-/// A spool with few pages, so that sessions wait for them. All clients are one sender, whose jobs in a queue are printed
-/// in order of acceptance, so the one that stops in the middle has a queue of its own.
+/// A spool with few pages, so that sessions wait for them. All clients are one sender, whose jobs
+/// in a queue are printed in order of acceptance, so the one that stops in the middle has a queue
+/// of its own.
 const SPOOL: Spool = Spool {
     pages: 16,
     jobs: 64,
@@ -38,11 +38,12 @@ const SPOOL: Spool = Spool {
     ..SMALL
 };
 
-/// For how many seconds a peer may be silent. Where all others wait for pages that the job of the one that stopped may
-/// still need, they wait for no longer.
+/// For how many seconds a peer may be silent. Where all others wait for pages that the job of the
+/// one that stopped may still need, they wait for no longer.
 const SILENCE: u64 = 10;
 
-/// Sends a client's jobs, one after another: an even one over one connection, an odd one each over its own.
+/// Sends a client's jobs, one after another: an even one over one connection, an odd one each over
+/// its own.
 fn send_all<R: Abort + AllocGlobal + Net<Stream = TcpStream>>(rt: &R, port: u16, client: u32) {
     let mut stream = connect(rt, port);
     for number in 0..JOBS {
@@ -59,7 +60,8 @@ fn send_all<R: Abort + AllocGlobal + Net<Stream = TcpStream>>(rt: &R, port: u16,
     }
 }
 
-/// Sends the job of a client who leaves before the last acknowledgement. All octets have come then, so it is printed.
+/// Sends the job of a client who leaves before the last acknowledgement. All octets have come then,
+/// so it is printed.
 fn send_and_leave<R: Abort + AllocGlobal + Net<Stream = TcpStream>>(
     rt: &R,
     port: u16,
@@ -82,8 +84,8 @@ fn send_garbage<R: Abort + Net<Stream = TcpStream>>(rt: &R, port: u16) {
     is_ended(rt, &stream);
 }
 
-/// Opens connections and closes them, without a word. One of each row waits until the server has closed it too, so
-/// that no more than a row of them stand before the other clients.
+/// Opens connections and closes them, without a word. One of each row waits until the server has
+/// closed it too, so that no more than a row of them stand before the other clients.
 fn pass_by<R: Abort + Net<Stream = TcpStream>>(rt: &R, port: u16) {
     for passer in 0..PASSERS {
         let stream = connect(rt, port);
@@ -106,68 +108,54 @@ fn come_and_go<R: Abort + AllocGlobal + Net<Stream = TcpStream>>(rt: &R, port: u
     }
 }
 
-/// How many entries the account has: 4 of each job and 4 of each of its pages, 4 of the job that is aborted, and the close.
-fn entries() -> u64 {
-    let mut entries: u64 = 4 + 4 * pages_of(CLIENTS, 0) + 4 + 1;
+/// The jobs that should be printed, by clients and numbers: all of those that send by the rules,
+/// and that of the one who leaves.
+fn good_jobs<R: Abort>(rt: &R, alloc: Global) -> Vec<(u32, u32)> {
+    let mut jobs = Vec::new(alloc);
     for client in 0..CLIENTS {
         for number in 0..JOBS {
-            entries = entries.saturating_add(4 + 4 * pages_of(client, number));
+            jobs.push((client, number)).expect(rt, "memory");
         }
     }
-    entries
+    jobs.push((CLIENTS, 0)).expect(rt, "memory");
+    jobs
 }
 
-/// Each job that should be printed is, once.
-fn each_is_printed<R: Abort>(rt: &R, jobs: &[(u32, u32)]) {
-    let count = |job: (u32, u32)| jobs.iter().filter(|printed| **printed == job).count();
-    for client in 0..CLIENTS {
-        for number in 0..JOBS {
-            assert_eq!(rt; count((client, number)), 1, "job {number} of {client}");
-        }
-    }
-    assert_eq!(rt; count((CLIENTS, 0)), 1);
-    assert_eq!(rt; jobs.len(), (CLIENTS * JOBS + 1) as usize);
-}
-
-/// The two printers' files have what they should.
-fn are_printed<R: Abort + AllocGlobal + Files>(rt: &R, out: &str) {
-    let mut all = Vec::new(rt.alloc());
-    for printer in 1..=2 {
-        let jobs = jobs_in(rt, printed(rt, out, printer).as_slice());
-        assert!(rt; are_in_order(jobs.as_slice()), "printer {printer}");
-        all.extend_from_slice(jobs.as_slice()).expect(rt, "memory");
-    }
-    each_is_printed(rt, all.as_slice());
-}
-
-/// Jobs of 32 clients are printed whole, in each client's order and once, beside a client that stops in the middle, one
-/// that sends garbage, one that leaves too early, and 1,000 connections that say nothing.
+/// Jobs of 32 clients are printed whole, in each client's order and once, beside a client that
+/// stops in the middle, one that sends garbage, one that leaves too early, and 1,000 connections
+/// that say nothing.
 #[test]
-fn good_jobs_are_printed_beside_bad_clients(rt: HostRuntime) -> Result<(), Fail> {
+fn good_jobs_are_printed_beside_bad_clients(rt: HostRuntime) {
     let out = "good_jobs_are_printed_beside_bad_clients";
     make(&rt, out);
-    let terminal = Terminal::new(rt.alloc());
     let settings = Settings {
         silence: Some(SILENCE),
         ..settings(out, CONNECTIONS)
     };
-    let (ended, _) = thread::join(
-        &rt,
-        || run(&rt, &terminal, SPOOL, settings, 0),
-        || {
-            let port = terminal.port(&rt);
-            let stopped = stop(&rt, port);
-            let come_and_go = |thread: usize| come_and_go(&rt, port, thread);
-            let gone = thread::map_indices(&rt, rt.alloc(), CLIENTS as usize + 1, &come_and_go);
-            assert!(rt; gone.is_ok());
-            drop(stopped);
-            terminal.await_end(&rt);
-        },
-    );
-    assert_eq!(rt; ended, Ok(()));
-    let line = format!(in rt.alloc(); "closed entries {}\n", entries())?;
-    terminal.has_printed(&rt, line.as_str());
-    are_printed(&rt, out);
+    let text = ends_well(&rt, SPOOL, settings, |port| {
+        let stopped = stop(&rt, port);
+        let come_and_go = |thread: usize| come_and_go(&rt, port, thread);
+        let gone = thread::map_indices(&rt, rt.alloc(), CLIENTS as usize + 1, &come_and_go);
+        assert!(rt; gone.is_ok());
+        drop(stopped);
+    });
+    let wanted = good_jobs(&rt, rt.alloc());
+    // 4 entries of each job and 4 of each of its pages, 4 of the job that is aborted, and the
+    // close.
+    let mut entries: u64 = 4 + 1;
+    for (client, number) in wanted.as_slice() {
+        entries = entries.saturating_add(4 + 4 * pages_of(*client, *number));
+    }
+    let line = format!(in rt.alloc(); "closed entries {entries}\n").expect(&rt, "memory");
+    assert_eq!(rt; text.as_str(), line.as_str());
+    let mut jobs = Vec::new(rt.alloc());
+    for printer in 1..=2 {
+        let printed = jobs_in(&rt, printed(&rt, out, printer).as_slice());
+        assert!(rt; are_in_order(printed.as_slice()), "printer {printer}");
+        jobs.extend_from_slice(printed.as_slice())
+            .expect(&rt, "memory");
+    }
+    jobs.as_mut_slice().sort_unstable();
+    assert_eq!(rt; jobs.as_slice(), wanted.as_slice());
     remove(&rt, out);
-    Ok(())
 }

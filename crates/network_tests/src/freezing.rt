@@ -1,20 +1,18 @@
 //! Peers and printers by which a server would stop to answer others.
 
 use crate::clients::{
-    LIMIT_SECONDS, ask, connect, connect_from, is_answered, is_ended, is_soon, octets_of, send,
-    stop, write,
+    LIMIT_SECONDS, ask, ask_from, connect, is_answered, is_ended, is_soon, octets_of, refused,
+    send, stop, waits, write,
 };
 use crate::jobs::HELLO;
 use crate::pipe::Pipe;
-use crate::place::{make, path, printed, remove};
-use crate::server::{SMALL, Spool, Terminal, run, settings};
+use crate::place::{is_printed, make, remove};
+use crate::server::{SMALL, Spool, ends_well, settings};
 use lpd_daemon::Settings;
 use lpr_client::SendFault;
 use std::io::{Read, Write};
 use std::net::{Net, Shutdown, TcpStream};
-use std::os::unix::fs::symlink;
 use std::process::Abort;
-use std::test::Fail;
 use std::thread;
 use std::time::{Clock, Duration, Instant};
 
@@ -29,12 +27,14 @@ const FOURTEEN: Spool = Spool {
 /// How many clients send jobs at once to a printer that takes none.
 const CLIENTS: usize = 4;
 
-/// How many jobs each of them sends, and after how many it asks for the state of the queue.
+/// How many jobs each of them sends, and after how many it asks for the long listing of the queue:
+/// twelve times in all, where eight are in hand at most.
 const JOBS: u32 = 75;
 
 const ASKS: u32 = 25;
 
-/// Sends jobs, each of which is taken or refused for now, and soon; and asks in between. How many were taken.
+/// Sends jobs, each of which is taken or refused for now, and soon; and asks in between. How many
+/// were taken.
 fn send_some<R: Abort + AllocGlobal + Clock + Net<Stream = TcpStream>>(rt: &R, port: u16) -> usize {
     let mut taken = 0usize;
     for number in 0..JOBS {
@@ -45,53 +45,39 @@ fn send_some<R: Abort + AllocGlobal + Clock + Net<Stream = TcpStream>>(rt: &R, p
         }
         is_soon(rt, &start);
         if number % ASKS == 0 {
-            assert!(rt; ask(rt, port, b"\x03lp\n").starts_with(b"queue lp jobs "));
+            assert!(rt; ask(rt, port, b"\x04lp\n").starts_with(b"queue lp jobs "));
         }
     }
     taken
 }
 
-/// A printer takes no page, since nobody reads its pipe: jobs are taken until there is no room for one more, and then refused for now.
-/// Once a filter reads the pipe all that were taken are printed.
+/// A printer takes no page, since nobody reads its pipe: jobs are taken until there is no room for
+/// one more, and then refused for now. Once a filter reads the pipe all that were taken are
+/// printed.
 #[test]
-fn a_printer_that_takes_no_page(rt: HostRuntime) -> Result<(), Fail> {
+fn a_printer_that_takes_no_page(rt: HostRuntime) {
     let out = "a_printer_that_takes_no_page";
     make(&rt, out);
     let pipe = Pipe::full(&rt);
-    symlink(
-        &rt,
-        pipe.path(&rt, rt.alloc()).as_str(),
-        path(&rt, rt.alloc(), out, 1).as_str(),
-    )?;
-    let terminal = Terminal::new(rt.alloc());
+    pipe.stand_for_printer(&rt, out);
     let settings = Settings {
         keep_room: true,
         ..settings(out, CLIENTS as u64 * u64::from(JOBS + JOBS / ASKS))
     };
-    let (ended, _) = thread::join(
-        &rt,
-        || run(&rt, &terminal, FOURTEEN, settings, 0),
-        || {
-            let port = terminal.port(&rt);
-            let taken = thread::map_indices(&rt, rt.alloc(), CLIENTS, &|_| send_some(&rt, port));
-            let taken = taken.expect(&rt, "memory");
-            let taken = taken
-                .iter()
-                .fold(0usize, |sum, jobs| sum.saturating_add(*jobs));
-            assert_eq!(rt; taken, 14);
-            let octets = pipe.read(&rt, 14 * HELLO.len());
-            assert!(rt;
-                octets
-                    .as_slice()
-                    .chunks(HELLO.len())
-                    .all(|job| job == HELLO)
-            );
-            terminal.await_end(&rt);
-        },
-    );
-    assert_eq!(rt; ended, Ok(()));
+    ends_well(&rt, FOURTEEN, settings, |port| {
+        let taken = thread::map_indices(&rt, rt.alloc(), CLIENTS, &|_| send_some(&rt, port));
+        let mut sum = 0usize;
+        for jobs in taken.expect(&rt, "memory") {
+            sum = sum.saturating_add(jobs);
+        }
+        assert_eq!(rt; sum, 14);
+        pipe.empty(&rt);
+        let octets = pipe.read(&rt, 14 * HELLO.len());
+        for job in octets.as_slice().chunks(HELLO.len()) {
+            assert_eq!(rt; job, HELLO);
+        }
+    });
     remove(&rt, out);
-    Ok(())
 }
 
 /// A spool of six pages, all of which a job of `lp` may hold.
@@ -102,201 +88,155 @@ const SIX_PAGES: Spool = Spool {
     ..SMALL
 };
 
-/// One session reads a job that halts, and the two others wait for pages that this job may still need. All the same the state is told,
-/// printers are started and nothing is removed. The one that has three pages gives them back when its peer goes in the middle of its
-/// file; the other one's peer has ended its sending after its whole job, which is printed.
+/// One session reads a job that halts, and the two others wait for pages that this job may still
+/// need. All the same the state is told, printers are started and nothing is removed. The one that
+/// has three pages gives them back when its peer goes in the middle of its file; the other one's
+/// peer has ended its sending after its whole job, which is printed.
 #[test]
 fn sessions_that_all_wait(rt: HostRuntime) {
     let out = "sessions_that_all_wait";
     make(&rt, out);
-    let terminal = Terminal::new(rt.alloc());
     let settings = Settings {
         sessions: 3,
         ..settings(out, 6)
     };
-    let (ended, _) = thread::join(
-        &rt,
-        || run(&rt, &terminal, SIX_PAGES, settings, 0),
-        || {
-            let port = terminal.port(&rt);
-            let halting = stop(&rt, port);
-            let leaving = connect(&rt, port);
-            write(
-                &rt,
-                &leaving,
-                b"\x02lp\n\x0348 dfA002h1\n0123456701234567012345670123",
-            );
-            is_answered(&rt, &leaving, &[0, 0]);
-            let ended = connect(&rt, port);
-            write(&rt, &ended, octets_of(&rt, 3, HELLO).as_slice());
-            ended.shutdown(Shutdown::Write).expect(&rt, "the end");
-            is_answered(&rt, &ended, &[0, 0]);
-            for (line, text) in [
-                (
-                    b"\x03lp\n".as_slice(),
-                    "queue lp jobs 0 printers 1 stopped 0\n",
-                ),
-                (b"\x01lp\n".as_slice(), ""),
-                (b"\x05lp root 1\n".as_slice(), "nothing removed\n"),
-            ] {
-                let answer = ask(&rt, port, line);
-                assert_eq!(rt; str::from_utf8(answer.as_slice()), Ok(text));
-            }
-            // In this time it is looked twice for peers that are gone, and none is.
-            thread::sleep(&rt, Duration::from_millis(2_500));
-            let start = Instant::now(&rt).expect(&rt, "a clock");
-            drop(leaving);
-            is_answered(&rt, &ended, &[0; 3]);
-            is_soon(&rt, &start);
-            is_ended(&rt, &ended);
-            drop(halting);
-            terminal.await_end(&rt);
-        },
-    );
-    assert_eq!(rt; ended, Ok(()));
-    assert_eq!(rt; printed(&rt, out, 1).as_slice(), HELLO);
-    remove(&rt, out);
+    ends_well(&rt, SIX_PAGES, settings, |port| {
+        let halting = stop(&rt, port);
+        let leaving = connect(&rt, port);
+        let begun = b"\x02lp\n\x0348 dfA002h1\n0123456701234567012345670123";
+        write(&rt, &leaving, begun);
+        is_answered(&rt, &leaving, &[0, 0]);
+        let ended = connect(&rt, port);
+        write(&rt, &ended, octets_of(&rt, 3, HELLO).as_slice());
+        ended.shutdown(Shutdown::Write).expect(&rt, "the end");
+        is_answered(&rt, &ended, &[0, 0]);
+        for (line, text) in [
+            (
+                b"\x03lp\n".as_slice(),
+                "queue lp jobs 0 printers 1 stopped 0\n",
+            ),
+            (b"\x01lp\n".as_slice(), ""),
+            (b"\x05lp root 1\n".as_slice(), "nothing removed\n"),
+        ] {
+            let answer = ask(&rt, port, line);
+            assert_eq!(rt; str::from_utf8(answer.as_slice()), Ok(text));
+        }
+        // In this time it is looked twice for peers that are gone, and none is.
+        thread::sleep(&rt, Duration::from_millis(2_500));
+        let start = Instant::now(&rt).expect(&rt, "a clock");
+        drop(leaving);
+        is_answered(&rt, &ended, &[0; 3]);
+        is_soon(&rt, &start);
+        is_ended(&rt, &ended);
+        drop(halting);
+    });
+    is_printed(&rt, out, HELLO);
 }
 
 /// How many connections say nothing, or an octet.
 const SILENT: u64 = 60;
 
-/// Many connections say nothing, or an octet, and stay; jobs are printed and questions answered beside them by a single session.
+/// Many connections say nothing, or an octet, and stay; jobs are printed and questions answered
+/// beside them by a single session. The first one asks at last, and is answered.
 #[test]
 fn silent_connections(rt: HostRuntime) {
     let out = "silent_connections";
     make(&rt, out);
-    let terminal = Terminal::new(rt.alloc());
     let settings = Settings {
         sessions: 1,
-        ..settings(out, SILENT + 4)
+        ..settings(out, SILENT + 5)
     };
-    let (ended, _) = thread::join(
-        &rt,
-        || run(&rt, &terminal, SMALL, settings, 0),
-        || {
-            let port = terminal.port(&rt);
-            let mut silent = Vec::new(rt.alloc());
-            for number in 0..SILENT {
-                let stream = connect(&rt, port);
-                if number % 6 == 0 {
-                    write(&rt, &stream, b"\x02");
-                }
-                silent.push(stream).expect(&rt, "memory");
+    ends_well(&rt, SMALL, settings, |port| {
+        let first = connect(&rt, port);
+        let mut silent = Vec::new(rt.alloc());
+        for number in 0..SILENT {
+            let stream = connect(&rt, port);
+            if number % 6 == 0 {
+                write(&rt, &stream, b"\x02");
             }
-            let start = Instant::now(&rt).expect(&rt, "a clock");
-            for number in 1..3 {
-                assert_eq!(rt; send(&rt, &connect(&rt, port), number, HELLO), Ok(()));
-            }
-            assert!(rt; ask(&rt, port, b"\x03lp\n").starts_with(b"queue lp jobs "));
-            is_soon(&rt, &start);
-            drop(silent);
-            // The last one, so that no silent one has its turn before.
-            assert_eq!(rt; send(&rt, &connect(&rt, port), 3, b"!"), Ok(()));
-            terminal.await_end(&rt);
-        },
-    );
-    assert_eq!(rt; ended, Ok(()));
-    assert_eq!(rt;
-        printed(&rt, out, 1).as_slice(),
-        b"hello worldhello world!".as_slice()
-    );
-    remove(&rt, out);
+            silent.push(stream).expect(&rt, "memory");
+        }
+        let start = Instant::now(&rt).expect(&rt, "a clock");
+        for number in 1..3 {
+            assert_eq!(rt; send(&rt, &connect(&rt, port), number, HELLO), Ok(()));
+        }
+        assert!(rt; ask(&rt, port, b"\x03lp\n").starts_with(b"queue lp jobs "));
+        is_soon(&rt, &start);
+        write(&rt, &first, b"\x03lp\n");
+        is_answered(&rt, &first, b"queue lp jobs ");
+        drop(silent);
+        // The last one, so that no silent one has its turn before.
+        assert_eq!(rt; send(&rt, &connect(&rt, port), 3, b"!"), Ok(()));
+    });
+    is_printed(&rt, out, b"hello worldhello world!");
 }
 
-/// One host may have two of three sessions: its third connection waits, and another host's job is printed. When one of the two goes
-/// the third has its turn.
+/// One host may have two of three sessions: its third connection waits, and another host's job is
+/// printed. When one of the two goes the third has its turn.
 #[test]
 fn a_host_has_its_share(rt: HostRuntime) {
     let out = "a_host_has_its_share";
     make(&rt, out);
-    let terminal = Terminal::new(rt.alloc());
     let settings = Settings {
         sessions: 3,
         per_host: Some(2),
         ..settings(out, 4)
     };
-    let (ended, _) = thread::join(
-        &rt,
-        || run(&rt, &terminal, SMALL, settings, 0),
-        || {
-            let port = terminal.port(&rt);
-            let come = || {
-                let stream = connect_from(&rt, 2, port);
-                write(&rt, &stream, b"\x02lp\n");
-                stream
-            };
-            let (first, second) = (come(), come());
-            is_answered(&rt, &first, &[0]);
-            is_answered(&rt, &second, &[0]);
-            let third = come();
-            assert_eq!(rt; send(&rt, &connect(&rt, port), 1, HELLO), Ok(()));
-            let moment = Some(Duration::from_millis(300));
-            third.set_read_timeout(moment).expect(&rt, "a limit");
-            let mut reader = &third;
-            assert!(rt; reader.read(&mut [0]).is_err());
-            drop(first);
-            let limit = Some(Duration::from_secs(LIMIT_SECONDS));
-            third.set_read_timeout(limit).expect(&rt, "a limit");
-            is_answered(&rt, &third, &[0]);
-            drop((second, third));
-            terminal.await_end(&rt);
-        },
-    );
-    assert_eq!(rt; ended, Ok(()));
-    assert_eq!(rt; printed(&rt, out, 1).as_slice(), HELLO);
-    remove(&rt, out);
+    ends_well(&rt, SMALL, settings, |port| {
+        let line = b"\x02lp\n";
+        let first = ask_from(&rt, 2, port, line);
+        let second = ask_from(&rt, 2, port, line);
+        is_answered(&rt, &first, &[0]);
+        is_answered(&rt, &second, &[0]);
+        let third = ask_from(&rt, 2, port, line);
+        assert_eq!(rt; send(&rt, &connect(&rt, port), 1, HELLO), Ok(()));
+        waits(&rt, &third);
+        drop(first);
+        is_answered(&rt, &third, &[0]);
+        drop(second);
+    });
+    is_printed(&rt, out, HELLO);
 }
 
-/// A peer that was refused and sends on, much at once or an octet now and then, loses the only session, and the next one's job is
-/// printed.
+/// A peer that was refused and sends on, much at once or an octet now and then, loses the only
+/// session, and the next one's job is printed.
 #[test]
 fn refused_peers_that_send_on(rt: HostRuntime) {
     let out = "refused_peers_that_send_on";
     make(&rt, out);
-    let terminal = Terminal::new(rt.alloc());
     let settings = Settings {
         sessions: 1,
         ..settings(out, 3)
     };
-    let (ended, _) = thread::join(
-        &rt,
-        || run(&rt, &terminal, SMALL, settings, 0),
-        || {
-            let port = terminal.port(&rt);
-            let refused = || {
-                let stream = connect(&rt, port);
-                write(&rt, &stream, b"\x02nothing\n");
-                is_answered(&rt, &stream, &[1]);
-                is_ended(&rt, &stream);
-                stream
-            };
-            let flooding = refused();
-            let mut writer = &flooding;
-            // The system keeps up to ten megabytes for the server; twenty are taken only where it doesn't leave.
-            assert!(rt; (0..320).any(|_| writer.write_all(&[0; 65_536]).is_err()));
-            let dripping = refused();
-            let mut writer = &dripping;
-            let next = connect(&rt, port);
-            write(&rt, &next, octets_of(&rt, 1, HELLO).as_slice());
-            let moment = Some(Duration::from_millis(500));
-            next.set_read_timeout(moment).expect(&rt, "a limit");
-            let mut reader = &next;
-            // It has ten seconds, of which the server waits five.
-            assert!(rt;
-                (0..20).any(|_| {
-                    let _ = writer.write(b"d");
-                    reader.read(&mut [0]).is_ok()
-                })
-            );
-            let limit = Some(Duration::from_secs(LIMIT_SECONDS));
-            next.set_read_timeout(limit).expect(&rt, "a limit");
-            is_answered(&rt, &next, &[0; 4]);
-            drop(next);
-            terminal.await_end(&rt);
-        },
-    );
-    assert_eq!(rt; ended, Ok(()));
-    assert_eq!(rt; printed(&rt, out, 1).as_slice(), HELLO);
-    remove(&rt, out);
+    ends_well(&rt, SMALL, settings, |port| {
+        let flooding = refused(&rt, port);
+        let mut writer = &flooding;
+        let mut is_left = false;
+        // The system keeps up to ten megabytes for the server; twenty are taken only where it
+        // doesn't leave.
+        for _ in 0..320 {
+            is_left = is_left || writer.write_all(&[0; 65_536]).is_err();
+        }
+        assert!(rt; is_left);
+        let dripping = refused(&rt, port);
+        let mut writer = &dripping;
+        let next = connect(&rt, port);
+        write(&rt, &next, octets_of(&rt, 1, HELLO).as_slice());
+        let moment = Some(Duration::from_millis(500));
+        next.set_read_timeout(moment).expect(&rt, "a limit");
+        let mut reader = &next;
+        let mut is_served = false;
+        // It has ten seconds, of which the server waits five.
+        for _ in 0..20 {
+            if !is_served {
+                let _ = writer.write(b"d");
+                is_served = reader.read(&mut [0]).is_ok();
+            }
+        }
+        assert!(rt; is_served);
+        let limit = Some(Duration::from_secs(LIMIT_SECONDS));
+        next.set_read_timeout(limit).expect(&rt, "a limit");
+        is_answered(&rt, &next, &[0; 4]);
+    });
+    is_printed(&rt, out, HELLO);
 }

@@ -8,7 +8,8 @@ use std::process::Abort;
 /// What a client's only job has.
 pub const HELLO: &[u8] = b"hello world";
 
-/// The octets of a client's job, a line that no other job has: 7, 16 or 21 octets, of one page, two or three.
+/// The octets of a client's job, a line that no other job has: 7, 16 or 21 octets, of one page, two
+/// or three.
 pub fn job_text<R: Abort>(rt: &R, alloc: Global, client: u32, number: u32) -> String {
     let more = match pages_of(client, number) {
         1 => "",
@@ -48,8 +49,13 @@ pub fn jobs_in<R: Abort + AllocGlobal>(rt: &R, file: &[u8]) -> Vec<(u32, u32)> {
 
 /// Whether each client's jobs stand in the order of their numbers.
 pub fn are_in_order(jobs: &[(u32, u32)]) -> bool {
-    jobs.iter().enumerate().all(|(place, job)| {
-        let mut before = jobs.iter().take(place);
-        before.all(|earlier| earlier.0 != job.0 || earlier.1 < job.1)
-    })
+    for place in 0..jobs.len() {
+        for earlier in 0..place {
+            let (before, job) = (jobs[earlier], jobs[place]);
+            if before.0 == job.0 && before.1 >= job.1 {
+                return false;
+            }
+        }
+    }
+    true
 }

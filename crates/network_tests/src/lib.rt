@@ -14,6 +14,8 @@ mod halting;
 #[cfg(test)]
 mod jobs;
 #[cfg(test)]
+mod logging;
+#[cfg(test)]
 mod pipe;
 #[cfg(test)]
 mod place;

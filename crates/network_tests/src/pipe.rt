@@ -1,11 +1,13 @@
 //! A pipe in the place of a printer's file.
 
+use crate::place::path;
 use libc::{O_CLOEXEC, pipe2};
 use os::FromRawFd;
 use std::alloc::Global;
 use std::fs::{File, Files};
 use std::io::Read;
 use std::os::fd::{AsRawFd, OwnedFd};
+use std::os::unix::fs::symlink;
 use std::process::Abort;
 
 /// A pipe that takes nothing more until it is read, and that nobody has open for reading.
@@ -38,11 +40,11 @@ impl Pipe {
     }
 
     /// The path by which it is opened.
-    pub fn path<R: Abort>(&self, rt: &R, alloc: Global) -> String {
+    fn path<R: Abort>(&self, rt: &R, alloc: Global) -> String {
         format!(in alloc; "/proc/self/fd/{}", self.writer.as_raw_fd()).expect(rt, "memory")
     }
 
-    /// Reads what was in it, and the so many octets that came after that.
+    /// Reads so many octets.
     pub fn read<R: Abort + AllocGlobal + Files<File = File>>(
         &self,
         rt: &R,
@@ -50,12 +52,23 @@ impl Pipe {
     ) -> Vec<u8> {
         let path = self.path(rt, rt.alloc());
         let mut file = File::open(rt, path.as_str()).expect(rt, "a pipe");
-        let mut read = |count: usize| {
-            let mut octets = vec![in rt.alloc(); 0u8; count].expect(rt, "memory");
-            file.read_exact(octets.as_mut_slice()).expect(rt, "octets");
-            octets
-        };
-        read(self.filled);
-        read(count)
+        let mut octets = vec![in rt.alloc(); 0u8; count].expect(rt, "memory");
+        file.read_exact(octets.as_mut_slice()).expect(rt, "octets");
+        octets
+    }
+
+    /// Reads what it was filled with, so that it takes what is written to it.
+    pub fn empty<R: Abort + AllocGlobal + Files<File = File>>(&self, rt: &R) {
+        self.read(rt, self.filled);
+    }
+
+    /// Has a printer of this directory write to it.
+    pub fn stand_for_printer<R: Abort + AllocGlobal + Files<File = File>>(
+        &self,
+        rt: &R,
+        out: &str,
+    ) {
+        let (from, to) = (self.path(rt, rt.alloc()), path(rt, rt.alloc(), out, 1));
+        symlink(rt, from.as_str(), to.as_str()).expect(rt, "a link");
     }
 }

@@ -27,3 +27,9 @@ pub fn printed<R: Abort + AllocGlobal + Files>(rt: &R, directory: &str, printer:
     let path = path(rt, rt.alloc(), directory, printer);
     fs::read(rt, path.as_str()).expect(rt, "a printer's file")
 }
+
+/// The first printer's file has this. The directory is removed.
+pub fn is_printed<R: Abort + AllocGlobal + Files>(rt: &R, directory: &str, wanted: &[u8]) {
+    assert_eq!(rt; printed(rt, directory, 1).as_slice(), wanted);
+    remove(rt, directory);
+}

@@ -1,200 +1,152 @@
 //! Jobs of one client, one after another.
 
-use crate::clients::{connect, is_answered, is_ended, send, write};
+use crate::clients::{connect, is_answered, is_ended, octets_of, send, waits, write};
 use crate::jobs::HELLO;
-use crate::place::{make, path, printed, remove};
-use crate::server::{SMALL, Spool, Terminal, run, settings};
+use crate::pipe::Pipe;
+use crate::place::{is_printed, make, path, remove};
+use crate::server::{SMALL, Spool, ends_well, settings};
 use lpd_daemon::Settings;
 use lpr_client::SendFault;
-use std::fs::Files;
 use std::net::{Net, TcpStream};
 use std::process::Abort;
-use std::sync::Wait;
-use std::test::Fail;
-use std::time::Clock;
+use std::time::Duration;
 use std::{fs, thread};
 
-/// One job: its octets come out at the printer, behind what its file has, and the account has its 13 entries.
+/// One job: its octets come out at the printer, behind what its file has, and the account has its
+/// 13 entries.
 #[test]
-fn one_job(rt: HostRuntime) -> Result<(), Fail> {
+fn one_job(rt: HostRuntime) {
     let out = "one_job";
     make(&rt, out);
-    fs::write(&rt, path(&rt, rt.alloc(), out, 1).as_str(), "title ")?;
-    let terminal = Terminal::new(rt.alloc());
-    let (ended, _) = thread::join(
-        &rt,
-        || run(&rt, &terminal, SMALL, settings(out, 1), 0),
-        || {
-            let stream = connect(&rt, terminal.port(&rt));
-            assert_eq!(rt; send(&rt, &stream, 1, HELLO), Ok(()));
-            drop(stream);
-            terminal.await_end(&rt);
-        },
-    );
-    assert_eq!(rt; ended, Ok(()));
-    terminal.has_printed(&rt, "closed entries 13\n");
-    assert_eq!(rt;
-        printed(&rt, out, 1).as_slice(),
-        b"title hello world".as_slice()
-    );
-    remove(&rt, out);
-    Ok(())
+    let file = path(&rt, rt.alloc(), out, 1);
+    fs::write(&rt, file.as_str(), "title ").expect(&rt, "a file");
+    let text = ends_well(&rt, SMALL, settings(out, 1), |port| {
+        assert_eq!(rt; send(&rt, &connect(&rt, port), 1, HELLO), Ok(()));
+    });
+    assert_eq!(rt; text.as_str(), "closed entries 13\n");
+    is_printed(&rt, out, b"title hello world");
 }
 
-/// The account of a spool that has room for one job alone: 712 entries for a job of lp, and one for the close.
+/// The account of a spool that has room for one job alone: 712 entries for a job of lp, and one for
+/// the close.
 const ONE_JOB: Spool = Spool {
     account: 713,
     ..SMALL
 };
 
-/// Settings of a server that ends after two connections, and rotates the account after so many.
-fn rotating(out: &str, rotate: Option<u64>) -> Settings<'_> {
-    Settings {
-        rotate,
-        ..settings(out, 2)
-    }
-}
-
-/// Sends two jobs, each over a connection of its own.
-fn send_two<R: Abort + AllocGlobal + Clock + Net<Stream = TcpStream> + Wait>(
+/// Sends two jobs, each over a connection of its own. How the second one was sent.
+fn send_two<R: Abort + AllocGlobal + Net<Stream = TcpStream>>(
     rt: &R,
-    terminal: &Terminal,
-) {
-    let port = terminal.port(rt);
+    port: u16,
+) -> Result<(), SendFault> {
     assert_eq!(rt; send(rt, &connect(rt, port), 1, HELLO), Ok(()));
-    assert_eq!(rt; send(rt, &connect(rt, port), 2, HELLO), Ok(()));
-    terminal.await_end(rt);
+    send(rt, &connect(rt, port), 2, HELLO)
 }
 
-/// The two jobs are printed, and the directory is removed.
-fn are_printed<R: Abort + AllocGlobal + Files>(rt: &R, out: &str) {
-    assert_eq!(rt;
-        printed(rt, out, 1).as_slice(),
-        b"hello worldhello world".as_slice()
-    );
-    remove(rt, out);
-}
-
-/// What is printed where the account is rotated before the second connection is served, and where it isn't.
-const ROTATED: &str = "rotated 1 entries 12\nclosed entries 25\n";
-
-const WHOLE: &str = "closed entries 25\n";
-
-/// Each connection is followed by a rotation.
+/// Each connection is followed by a rotation; or each second one, which is the last here; at 0
+/// none, as without a number. Where there is no room for one job more the second one is refused for
+/// now.
 #[test]
 fn the_account_has_its_turn(rt: HostRuntime) {
     let out = "the_account_has_its_turn";
-    make(&rt, out);
-    let terminal = Terminal::new(rt.alloc());
-    let (ended, _) = thread::join(
-        &rt,
-        || run(&rt, &terminal, SMALL, rotating(out, Some(1)), 0),
-        || send_two(&rt, &terminal),
-    );
-    assert_eq!(rt; ended, Ok(()));
-    terminal.has_printed(&rt, ROTATED);
-    are_printed(&rt, out);
+    let both = b"hello worldhello world".as_slice();
+    let full = Err(SendFault::Refused(2));
+    for (spool, rotate, sent, lines, printed) in [
+        (
+            SMALL,
+            Some(1),
+            Ok(()),
+            "rotated 1 entries 12\nclosed entries 25\n",
+            both,
+        ),
+        (SMALL, Some(2), Ok(()), "closed entries 25\n", both),
+        (SMALL, Some(0), Ok(()), "closed entries 25\n", both),
+        (ONE_JOB, None, full, "closed entries 13\n", HELLO),
+    ] {
+        make(&rt, out);
+        let settings = Settings {
+            rotate,
+            ..settings(out, 2)
+        };
+        let text = ends_well(&rt, spool, settings, |port| {
+            assert_eq!(rt; send_two(&rt, port), sent, "rotated {rotate:?}");
+        });
+        assert_eq!(rt; text.as_str(), lines, "rotated {rotate:?}");
+        is_printed(&rt, out, printed);
+    }
 }
 
-/// There is no room for one job more: the second one is refused for now.
+/// While a page is held, since the pipe in the place of its printer's file is full, the end waits,
+/// and a rotation that is due does: both jobs are printed whole.
 #[test]
-fn the_account_has_no_room(rt: HostRuntime) {
-    let out = "the_account_has_no_room";
-    make(&rt, out);
-    let terminal = Terminal::new(rt.alloc());
-    let (ended, _) = thread::join(
-        &rt,
-        || run(&rt, &terminal, ONE_JOB, rotating(out, None), 0),
-        || {
-            let port = terminal.port(&rt);
+fn a_page_is_held(rt: HostRuntime) {
+    let out = "a_page_is_held";
+    for (rotate, lines) in [
+        (None, "closed entries 25\n"),
+        (Some(1), "rotated 1 entries 12\nclosed entries 25\n"),
+    ] {
+        make(&rt, out);
+        let pipe = Pipe::full(&rt);
+        pipe.stand_for_printer(&rt, out);
+        let settings = Settings {
+            rotate,
+            ..settings(out, 2)
+        };
+        let text = ends_well(&rt, SMALL, settings, |port| {
             assert_eq!(rt; send(&rt, &connect(&rt, port), 1, HELLO), Ok(()));
-            let sent = send(&rt, &connect(&rt, port), 2, HELLO);
-            assert_eq!(rt; sent, Err(SendFault::Refused(2)));
-            terminal.await_end(&rt);
-        },
-    );
-    assert_eq!(rt; ended, Ok(()));
-    terminal.has_printed(&rt, "closed entries 13\n");
-    assert_eq!(rt; printed(&rt, out, 1).as_slice(), HELLO);
-    remove(&rt, out);
+            let second = connect(&rt, port);
+            write(&rt, &second, octets_of(&rt, 2, HELLO).as_slice());
+            if rotate.is_some() {
+                waits(&rt, &second);
+                pipe.empty(&rt);
+            }
+            is_answered(&rt, &second, &[0; 5]);
+            drop(second);
+            if rotate.is_none() {
+                // In this time a server that doesn't wait would close its spool.
+                thread::sleep(&rt, Duration::from_millis(300));
+                pipe.empty(&rt);
+            }
+        });
+        assert_eq!(rt; text.as_str(), lines, "rotated {rotate:?}");
+        let printed = pipe.read(&rt, 2 * HELLO.len());
+        assert_eq!(rt; printed.as_slice(), b"hello worldhello world".as_slice());
+        remove(&rt, out);
+    }
 }
 
-/// There is no room for one job more, and room is kept: the second job waits until the first one has gone and the account is
-/// rotated.
+/// There is no room for one job more, and room is kept: the second job waits until the first one
+/// has gone and the account is rotated.
 #[test]
 fn room_is_kept(rt: HostRuntime) {
     let out = "room_is_kept";
     make(&rt, out);
-    let terminal = Terminal::new(rt.alloc());
     let settings = Settings {
         keep_room: true,
         ..settings(out, 2)
     };
-    let (ended, _) = thread::join(
-        &rt,
-        || run(&rt, &terminal, ONE_JOB, settings, 0),
-        || send_two(&rt, &terminal),
-    );
-    assert_eq!(rt; ended, Ok(()));
-    terminal.has_printed_around(&rt, "rotated 1 entries 12\n", "closed entries 25\n");
-    are_printed(&rt, out);
+    let text = ends_well(&rt, ONE_JOB, settings, |port| {
+        assert_eq!(rt; send_two(&rt, port), Ok(()));
+    });
+    let text = text.as_str();
+    let begins = text.starts_with("rotated 1 entries 12\n");
+    assert!(rt; begins && text.ends_with("closed entries 25\n"), "{text}");
+    is_printed(&rt, out, b"hello worldhello world");
 }
 
-/// The second connection is the last one, and no rotation follows it.
+/// A connection's second job is refused for now where the account has no room for it, since the
+/// account is rotated between connections alone.
 #[test]
-fn the_account_has_no_turn_yet(rt: HostRuntime) {
-    let out = "the_account_has_no_turn_yet";
-    make(&rt, out);
-    let terminal = Terminal::new(rt.alloc());
-    let (ended, _) = thread::join(
-        &rt,
-        || run(&rt, &terminal, SMALL, rotating(out, Some(2)), 0),
-        || send_two(&rt, &terminal),
-    );
-    assert_eq!(rt; ended, Ok(()));
-    terminal.has_printed(&rt, WHOLE);
-    are_printed(&rt, out);
-}
-
-/// At 0 it is as without a number.
-#[test]
-fn the_account_has_never_its_turn(rt: HostRuntime) {
-    let out = "the_account_has_never_its_turn";
-    make(&rt, out);
-    let terminal = Terminal::new(rt.alloc());
-    let (ended, _) = thread::join(
-        &rt,
-        || run(&rt, &terminal, SMALL, rotating(out, Some(0)), 0),
-        || send_two(&rt, &terminal),
-    );
-    assert_eq!(rt; ended, Ok(()));
-    terminal.has_printed(&rt, WHOLE);
-    are_printed(&rt, out);
-}
-
-/// A connection's second job is refused for now where the account has no room for it, since the account is rotated
-/// between connections alone.
-#[test]
-fn a_job_finds_no_room(rt: HostRuntime) -> Result<(), Fail> {
+fn a_job_finds_no_room(rt: HostRuntime) {
     let out = "a_job_finds_no_room";
     make(&rt, out);
-    let terminal = Terminal::new(rt.alloc());
-    let (ended, _) = thread::join(
-        &rt,
-        || run(&rt, &terminal, ONE_JOB, settings(out, 1), 0),
-        || {
-            let stream = connect(&rt, terminal.port(&rt));
-            assert_eq!(rt; send(&rt, &stream, 1, HELLO), Ok(()));
-            write(&rt, &stream, b"\x0311 dfA002h1\n");
-            is_answered(&rt, &stream, &[2]);
-            is_ended(&rt, &stream);
-            drop(stream);
-            terminal.await_end(&rt);
-        },
-    );
-    assert_eq!(rt; ended, Ok(()));
-    terminal.has_printed(&rt, "closed entries 13\n");
-    assert_eq!(rt; printed(&rt, out, 1).as_slice(), HELLO);
-    remove(&rt, out);
-    Ok(())
+    let text = ends_well(&rt, ONE_JOB, settings(out, 1), |port| {
+        let stream = connect(&rt, port);
+        assert_eq!(rt; send(&rt, &stream, 1, HELLO), Ok(()));
+        write(&rt, &stream, b"\x0311 dfA002h1\n");
+        is_answered(&rt, &stream, &[2]);
+        is_ended(&rt, &stream);
+    });
+    assert_eq!(rt; text.as_str(), "closed entries 13\n");
+    is_printed(&rt, out, HELLO);
 }

@@ -1,6 +1,7 @@
 //! A server in a thread of its own, and what it prints.
 
 ghost use Rattle.std.specs.Prelude.{None};
+ghost use Rattle.std.specs.Thread.{IsSend, IsSync};
 
 use config_values::Config;
 use log::Log;
@@ -11,6 +12,7 @@ use std::fs::{File, Files};
 use std::net::{Ipv4Addr, Net, TcpListener, TcpStream};
 use std::process::Abort;
 use std::sync::{Condvar, Mutex, Wait};
+use std::thread;
 use std::thread::Threads;
 use std::time::{Clock, Duration};
 
@@ -78,7 +80,8 @@ impl Spool {
         .expect(rt, "memory")
     }
 
-    fn config<R: Abort>(&self, rt: &R, alloc: Global) -> Config {
+    /// Its configuration.
+    pub fn config<R: Abort>(&self, rt: &R, alloc: Global) -> Config {
         let text = self.text(rt, alloc);
         spool_config::read(alloc, text.as_bytes()).expect(rt, "a configuration")
     }
@@ -98,13 +101,13 @@ pub struct Terminal {
     changed: Condvar,
 }
 
-/// The end of a terminal that a server writes to. The write of this number fails, from 1, and those after it.
+/// The end of a terminal that a server writes to, which takes so many lines more; then each write
+/// fails.
 #[derive(Drop)]
-pub struct Output<'a, R: Wait> {
+struct Output<'a, R: Wait> {
     rt: &'a R,
     terminal: &'a Terminal,
-    fails: u64,
-    calls: u64,
+    left: u64,
     faults: u64,
 }
 
@@ -114,26 +117,12 @@ impl<R: Wait> OctetWrite for Output<'_, R> {
     ghost faults = { λ output. output.faults };
 
     fn write(&mut self, octets: &[u8]) -> Result<usize, OctetFault> {
-        self.calls = self.calls.saturating_add(1);
-        let fails = self.fails != 0 && self.fails <= self.calls;
-        if fails || !self.terminal.add(self.rt, octets) {
+        if self.left == 0 || !self.terminal.add(self.rt, octets) {
             self.faults = self.faults.saturating_add(1);
             return Err(OctetFault);
         }
+        self.left -= 1;
         Ok(octets.len())
-    }
-}
-
-impl<'a, R: Wait> Output<'a, R> {
-    /// An end to which writes fail from the one of this number on; at 0 none does.
-    pub fn new(rt: &'a R, terminal: &'a Terminal, fails: u64) -> Output<'a, R> {
-        Output {
-            rt,
-            terminal,
-            fails,
-            calls: 0,
-            faults: 0,
-        }
     }
 }
 
@@ -163,68 +152,31 @@ impl Terminal {
         self.changed.notify_all();
     }
 
-    /// The port that the server says it listens at.
-    pub fn port<R: Abort + Clock + Wait>(&self, rt: &R) -> u16 {
+    /// What is printed, once the first line is or the server has ended; or, where its end is
+    /// wanted, once it has ended. It isn't waited forever.
+    pub fn text<R: Abort + AllocGlobal + Clock + Wait>(&self, rt: &R, until_end: bool) -> String {
         let limit = Duration::from_secs(LIMIT_SECONDS);
         let said = self.said.lock(rt);
         let (said, _) = self.changed.wait_timeout_while(rt, said, limit, |said| {
-            !said.has_ended && said.octets.is_empty()
+            !said.has_ended && (until_end || said.octets.is_empty())
         });
-        port_of(said.octets.as_slice()).expect(rt, "the server listens")
-    }
-
-    /// Waits until the server has ended, so that no test waits forever for it.
-    pub fn await_end<R: Abort + Clock + Wait>(&self, rt: &R) {
-        let limit = Duration::from_secs(LIMIT_SECONDS);
-        let said = self.said.lock(rt);
-        let (said, _) = self
-            .changed
-            .wait_timeout_while(rt, said, limit, |said| !said.has_ended);
-        assert!(rt; said.has_ended, "the server goes on");
-    }
-
-    /// The server has printed this after its first line, which tells the port.
-    pub fn has_printed<R: Abort + AllocGlobal + Wait>(&self, rt: &R, wanted: &str) {
-        let said = self.said.lock(rt);
+        assert!(rt; said.has_ended || !until_end, "the server goes on");
         let text = str::from_utf8(said.octets.as_slice()).expect(rt, "text");
-        let rest = text.split_once('\n').map_or(text, |lines| lines.1);
-        assert_eq!(rt; rest, wanted);
-    }
-
-    /// The server has printed this first after its first line, and this at last.
-    pub fn has_printed_around<R: Abort + AllocGlobal + Wait>(
-        &self,
-        rt: &R,
-        first: &str,
-        last: &str,
-    ) {
-        let said = self.said.lock(rt);
-        let text = str::from_utf8(said.octets.as_slice()).expect(rt, "text");
-        let rest = text.split_once('\n').map_or(text, |lines| lines.1);
-        assert!(rt; rest.starts_with(first) && rest.ends_with(last));
-    }
-
-    /// This was printed, and nothing else.
-    pub fn has_said<R: Abort + Wait>(&self, rt: &R, wanted: &str) {
-        let said = self.said.lock(rt);
-        assert_eq!(rt; str::from_utf8(said.octets.as_slice()), Ok(wanted));
-    }
-
-    /// The server has printed nothing.
-    pub fn is_empty<R: Wait>(&self, rt: &R) -> bool {
-        self.said.lock(rt).octets.is_empty()
+        String::from_str(rt.alloc(), text).expect(rt, "memory")
     }
 }
 
 /// The port in the line `listening N`.
-fn port_of(octets: &[u8]) -> Option<u16> {
-    let line = str::from_utf8(octets).ok()?.strip_suffix('\n')?;
-    line.strip_prefix("listening ")?.parse::<u16>().ok()
+fn port_of(line: &str) -> Option<u16> {
+    let number = line.strip_prefix("listening ")?.strip_suffix('\n')?;
+    number.parse::<u16>().ok()
 }
 
-/// Runs a server of this configuration whose output is the terminal. The write of this number fails there, and those
-/// after it.
-pub fn run_config<
+/// All lines that a server prints.
+pub const ALL: u64 = u64::MAX;
+
+/// Runs a server whose output is the terminal, which takes so many lines.
+pub fn run<
     R: Abort
         + AllocGlobal
         + Clock
@@ -239,16 +191,22 @@ pub fn run_config<
     terminal: &Terminal,
     config: Config,
     settings: Settings<'_>,
-    fails: u64,
+    lines: u64,
 ) -> Result<(), Fault> {
-    let mut output = Output::new(rt, terminal, fails);
+    let mut output = Output {
+        rt,
+        terminal,
+        left: lines,
+        faults: 0,
+    };
     let ended = serve(rt, rt.alloc(), config, &settings, &mut output);
     terminal.end(rt);
     ended
 }
 
-/// Runs a server of this spool, as `run_config` does.
-pub fn run<
+/// Runs a server beside its clients, who are told its port; so many of its lines can be written.
+/// How it ended, and what it printed after its first line, `listening PORT`.
+pub fn beside<
     R: Abort
         + AllocGlobal
         + Clock
@@ -258,12 +216,52 @@ pub fn run<
         + Threads
         + Wait
         + Sync,
+    F: FnOnce(u16) + Send,
 >(
     rt: &R,
-    terminal: &Terminal,
-    spool: Spool,
+    config: Config,
     settings: Settings<'_>,
-    fails: u64,
-) -> Result<(), Fault> {
-    run_config(rt, terminal, spool.config(rt, rt.alloc()), settings, fails)
+    lines: u64,
+    clients: F,
+) -> (Result<(), Fault>, String)
+    requires { F.IsAlwaysCallable clients }
+{
+    let terminal = Terminal::new(rt.alloc());
+    let (text, ended) = thread::join(
+        rt,
+        || -> String
+            requires { IsSync R.row × IsSend F.row × F.IsAlwaysCallable clients }
+        {
+            let first = terminal.text(rt, false);
+            let port = port_of(first.as_str()).expect(rt, "the server listens");
+            clients(port);
+            let text = terminal.text(rt, true);
+            let rest = text.as_str().strip_prefix(first.as_str());
+            String::from_str(rt.alloc(), rest.expect(rt, "the first line")).expect(rt, "memory")
+        },
+        || run(rt, &terminal, config, settings, lines),
+    );
+    (ended, text)
+}
+
+/// Runs a server of this spool beside its clients, as `beside` does. It ends well. What it printed
+/// after its first line.
+pub fn ends_well<
+    R: Abort
+        + AllocGlobal
+        + Clock
+        + Files<File = File>
+        + Log
+        + Net<Listener = TcpListener, Stream = TcpStream>
+        + Threads
+        + Wait
+        + Sync,
+    F: FnOnce(u16) + Send,
+>(rt: &R, spool: Spool, settings: Settings<'_>, clients: F) -> String
+    requires { F.IsAlwaysCallable clients }
+{
+    let config = spool.config(rt, rt.alloc());
+    let (ended, text) = beside(rt, config, settings, ALL, clients);
+    assert_eq!(rt; ended, Ok(()));
+    text
 }

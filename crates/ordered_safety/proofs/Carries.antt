@@ -17,6 +17,7 @@ use Rattle.ordered_safety.specs.Carried.{StandsAt, has_row, is_among, is_lacked,
 use Rattle.ordered_safety.specs.Kept.{kept_numbers, KeepsLines}
 use Rattle.ordered_safety.proofs.Keeps.{Differ, others_differ}
 use Rattle.ordered_safety.proofs.OneNumber.{lower_at}
+use Rattle.claims.proofs.Lowered.{line_last as pairwise_last}
 
 abbrev pub no_kept : Kept
 no_kept = record { number = 0; sender = 0; queue = 0; place = 0 }
@@ -163,14 +164,6 @@ among_none kept i x lt lines e =
     let here : get_or ns k d ≡ (get_or kept k no_kept).number = get_or-map (λ (row : Kept). row.number) (take i kept) k no_kept d (omega arith) ∙ ap (λ (row : Kept). row.number) (get_or-take i kept k no_kept (omega arith)) in
     let apart = (lines k i no_kept (omega arith) lt).apart in
     other_number (get_or ns k d) x.number (λ f. apart (sym here ∙ (f ∙ e))))
-
-pairwise_last : (order : List Row) (x : Row) → AllByRecursion (λ z. KeepsLine z x) order → Pairwise KeepsLine order → Pairwise KeepsLine (order ++ x ∷ [])
-pairwise_last [] x a p = (tt, tt)
-pairwise_last (z ∷ order) x a p = (push z order a.0 p.0, pairwise_last order x a.1 p.1)
-  where
-    push : (z : Row) (order : List Row) → KeepsLine z x → AllByRecursion (KeepsLine z) order → AllByRecursion (KeepsLine z) (order ++ x ∷ [])
-    push z [] k h = (k, tt)
-    push z (w ∷ order) k h = (h.0, push z order k h.1)
 
 -- kept rows keep their line
 kept_line : (kept : List Kept) (i j : ℕ) (x y : Row) → i < j → j < length kept → KeepsLines kept → IsKept (slice_index_or kept i no_kept) x → IsKept (slice_index_or kept j no_kept) y → KeepsLine x y

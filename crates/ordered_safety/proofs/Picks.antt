@@ -114,16 +114,6 @@ rising_removed rows left at lt low =
 abbrev pub Gives : List ℕ → Row → List ℕ → Type 0
 Gives free x more = (kind : ℕ) → amount more kind ≡ amount free kind + amount x.held kind
 
-pub safe_before : (rows : List Row) (left free more : List ℕ) (at : ℕ) → Pairwise IsLower (rows_at rows left) → MayGoAt rows left free at → Gives free (row_of rows left at) more
-    → HasFinishingOrder (amount more) (rows_at rows (remove left at)) → HasFinishingOrder (amount free) (rows_at rows left)
-safe_before rows left free more at low m gives h =
-    let a = front rows left at in
-    let b = back rows left at in
-    let x = row_of rows left at in
-    subst (HasFinishingOrder (amount free)) (sym (rows_split rows left at m.there))
-    (safe_first (amount free) a x b (may_go rows left free at low m)
-    (safe_more (amount more) (freed (amount free) x) (a ++ b) (λ k. omega (arith, gives k)) (subst (HasFinishingOrder (amount more)) (rows_removed rows left at) h)))
-
 pub safe_after : (rows : List Row) (left free more : List ℕ) (at : ℕ) → at < length left → Gives free (row_of rows left at) more
     → HasFinishingOrder (amount free) (rows_at rows left) → HasFinishingOrder (amount more) (rows_at rows (remove left at))
 safe_after rows left free more at lt gives h =

@@ -17,6 +17,7 @@ mod scratch;
 mod trial;
 mod walk;
 
+pub use claims::Table;
 pub use laws::tests_are_determined;
 pub use order::Order;
 pub use safety::{PAGES, check_order, find_order, is_safe, safe_after_page};

@@ -1,8 +1,8 @@
 mod Inside
-mod Turning
-mod Seen
+pub mod Turning
+pub mod Seen
 mod Rows
-mod Places
+pub mod Places
 mod Calls
 mod Taking
 mod Draining

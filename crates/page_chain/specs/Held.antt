@@ -1,6 +1,7 @@
 -- How a chain and the nodes together hold a job's files.
 use Rattle.std.specs.Prelude.{◌≡◌, ◌==◌, ◌-◌, ◌*◌, ℕ, zero, suc, ◌+◌, ◌<◌, ◌≤◌, ◌⊎◌, Bool, true, false, Option, Some, None, List, [], ◌∷◌, ◌++◌, length, take, drop, map, slice_index_or, if◌then◌else◌}
 use Rattle.std.specs.List.{flat_map}
+use Rattle.lpd_values.specs.declared.limits.TheConstants.{MAX_FILES}
 use Rattle.page_pool.specs.Page.{Page}
 use Rattle.page_nodes.specs.Chains.{Chains, chain_of}
 use Rattle.page_chain.specs.declared.place.Place.{Place}
@@ -48,9 +49,9 @@ by_number turned pages = drop (length pages - turned) pages ++ take (length page
 abbrev pub file_shown : List Page → ℕ → Run → File
 file_shown pages turned run = record { name = run.name; pages = by_number turned (padded run.pages pages) }
 
--- the pages of the file of this number of a row: the nodes have 52 chains for each row
+-- the pages of the file of this number of a row: the nodes have so many chains for each row
 abbrev pub pages_in : Chains → ℕ → ℕ → List Page
-pages_in nodes row i = chain_of nodes (52 * row + i)
+pages_in nodes row i = chain_of nodes (MAX_FILES * row + i)
 
 -- the files of a row, the first of which has the number i
 abbrev pub files_from : Chains → ℕ → List ℕ → ℕ → ℕ → List Run → List File
@@ -91,21 +92,21 @@ shown c nodes = record {
 
 -- the nodes have this row
 abbrev pub HasRow : Chains → ℕ → Type 0
-HasRow nodes row = 52 * row + 52 ≤ length nodes.chains
+HasRow nodes row = MAX_FILES * row + MAX_FILES ≤ length nodes.chains
 
 -- no page of a job is in this row
 pub record IsFreeRow (nodes : Chains) (row : ℕ) : Type 0 where
   pub here : HasRow nodes row
-  pub empty : (i : ℕ) → i < 52 → pages_in nodes row i ≡ []
+  pub empty : (i : ℕ) → i < MAX_FILES → pages_in nodes row i ≡ []
 
 -- the nodes hold what the chain says: no file has more pages there than it was given, an open one has all, and beyond
 -- its files there is nothing
 pub record IsHeld (c : Kept) (nodes : Chains) : Type 0 where
   pub row : HasRow nodes c.row
-  pub few : length c.files ≤ 52
+  pub few : length c.files ≤ MAX_FILES
   pub fits : (i : ℕ) → i < length c.files → length (pages_in nodes c.row i) ≤ (run_at c.files i).pages
   pub whole : c.is_open ≡ true → (i : ℕ) → suc i ≡ length c.files → length (pages_in nodes c.row i) ≡ (run_at c.files i).pages
-  pub beyond : (i : ℕ) → length c.files ≤ i → i < 52 → pages_in nodes c.row i ≡ []
+  pub beyond : (i : ℕ) → length c.files ≤ i → i < MAX_FILES → pages_in nodes c.row i ≡ []
 
 -- no file is open, no place is still to be handed out, and none was
 pub record IsIdle (c : Kept) : Type 0 where
@@ -117,7 +118,7 @@ pub record IsIdle (c : Kept) : Type 0 where
 pub record OnlyRow (old new : Chains) (row : ℕ) : Type 0 where
   pub room : new.room ≡ old.room
   pub count : length new.chains ≡ length old.chains
-  pub others : (other i : ℕ) → (other ≡ row → ⊥) → i < 52 → pages_in new other i ≡ pages_in old other i
+  pub others : (other i : ℕ) → (other ≡ row → ⊥) → i < MAX_FILES → pages_in new other i ≡ pages_in old other i
 
 -- a call on a chain that leaves it so among the nodes, and changes the chains of its row alone
 pub record Leads (old new : Kept) (before after : Chains) (v : Files) : Type 0 where

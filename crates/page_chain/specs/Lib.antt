@@ -3,3 +3,4 @@ pub mod Changes
 pub mod Held
 pub mod Drained
 pub mod Laws
+pub mod Words

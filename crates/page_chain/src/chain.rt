@@ -1,23 +1,24 @@
 //! The chain of the pages of one job.
 
 ghost use Rattle.std.specs.Prelude.{◌≡◌, ◌+◌, ◌<◌, ◌≤◌, ◌↔◌, ◌^◌, true, false, [], None, Some, IsTrue, IfOk, OnOk, OnErr, MatchOption, MatchResult, slice_get, length};
+ghost use Rattle.lpd_values.specs.declared.limits.TheConstants.{MAX_FILES, MAX_PRINTS};
 ghost use Rattle.page_nodes.specs.Chains.{Chains, AreOfSize, total};
 ghost use Rattle.page_chain.specs.Files.{Files, every_page, page_at};
 ghost use Rattle.page_chain.specs.Changes.{CanBegin, RefusedFor, begun, with_page, unnamed_pages, placed, next_place, taken, comes_again, given_again, emptied, AwaitsLast, IsReady};
 ghost use Rattle.page_chain.specs.Held.{Turns, Leads, HasRow, IsFreeRow, IsHeld, IsIdle, OnlyRow, names_in, places_left, shown};
 
-use crate::drain::{drain_files, forget};
+use crate::drain::{drain_files, forget, key_of};
 use crate::error::ChainError;
 use crate::place::Place;
 use crate::prints::{is_to_come, list_prints};
 use crate::run::{Run, find};
-use lpd_values::{FileName, MAX_FILES, MAX_PRINTS};
+use lpd_values::{FileName, MAX_PRINTS};
 use page_nodes::Nodes;
 use page_pool::{FilledPage, Pool};
 use std::alloc::{AllocError, Global};
 use std::marker::Model;
 
-/// The files of one job, whose pages are in a row of the nodes: the file `i` has the chain `52 * row + i`.
+/// The files of one job, whose pages are in a row of the nodes: the file `i` has the chain `MAX_FILES * row + i`.
 ///
 /// ```text
 ///            begin_file          end_file
@@ -48,6 +49,7 @@ pub struct Chain {
 
 impl Model for Chain {
     ghost use Rattle.std.specs.Prelude.{◌≡◌, ◌<◌, ◌≤◌, ◌^◌, true, None, [], drop, vec_len, vec_capacity};
+    ghost use Rattle.lpd_values.specs.declared.limits.TheConstants.{MAX_FILES, MAX_PRINTS};
     ghost use Rattle.page_chain.specs.Held.{Kept, CanPrint, HasTurned, IsOfFile};
 
     ghost Value = { Kept };
@@ -64,10 +66,10 @@ impl Model for Chain {
 
     ghost invariant = { λ c.
         (c.row < 2 ^ 32)
-        × (c.file_room ≤ 52)
+        × (c.file_room ≤ MAX_FILES)
         × (vec_len c.files ≤ c.file_room)
         × (c.file_room ≤ vec_capacity c.files)
-        × (99 ≤ vec_capacity c.prints)
+        × (MAX_PRINTS ≤ vec_capacity c.prints)
         × (c.printed ≤ vec_len c.prints)
         × (c.is_open ≡ true → (0 < vec_len c.files)
         × (drop c.printed c.prints.items ≡ []) × (c.last ≡ None))
@@ -80,7 +82,7 @@ impl Chain {
     /// A chain with room for so many files, whose pages will be in this row of the nodes.
     pub fn with_room(alloc: Global, row: usize, files: usize) -> Result<Chain, AllocError>
         requires rows { row < 2 ^ 32 }
-        requires files { files ≤ 52 }
+        requires files { files ≤ MAX_FILES }
         ensures row { IfOk result (λ c. c.row ≡ row) }
         ensures empty { IfOk result (λ c. (nodes : Chains) → shown c nodes ≡ record {
           files = [];
@@ -170,7 +172,7 @@ impl Chain {
         ensures total { total nodes.new.chains ≡ total nodes.old.chains + 1 }
     {
         let last = self.files.len() - 1;
-        let key = MAX_FILES * self.row + last;
+        let key = key_of(self.row, last);
         nodes.push(key, page);
         self.files[last].pages = nodes.len(key);
     }
@@ -184,10 +186,10 @@ impl Chain {
     }
 
     /// Gives the pages of the named files places, in the order of the list and with its repeats (at
-    /// most 99 names), and puts the pages of all other files back into the pool.
+    /// most `MAX_PRINTS` names), and puts the pages of all other files back into the pool.
     pub fn drop_unnamed(&mut self, names: &[FileName], nodes: &mut Nodes, pool: &mut Pool)
         requires idle { IsIdle self.old }
-        requires few { length names.now ≤ 99 }
+        requires few { length names.now ≤ MAX_PRINTS }
         requires held { IsHeld self.old nodes.old }
         requires sizes { AreOfSize pool.old.page_size
             (unnamed_pages (shown self.old nodes.old).files names.now) }
@@ -229,7 +231,7 @@ impl Chain {
         ensures { IsTrue result ↔ IsReady (shown self.now nodes.now) }
     {
         match self.prints.get(self.printed) {
-            Some(&file) => nodes.len(MAX_FILES * self.row + file) > 0,
+            Some(&file) => nodes.len(key_of(self.row, file)) > 0,
             None => false,
         }
     }
@@ -241,7 +243,7 @@ impl Chain {
         ensures { page_at (shown self.now nodes.now).files (next_place (shown self.now nodes.now))
             ≡ Some result.now }
     {
-        nodes.first(MAX_FILES * self.row + self.prints[self.printed])
+        nodes.first(key_of(self.row, self.prints[self.printed]))
     }
 
     /// Takes the page of the next place out.
@@ -257,7 +259,7 @@ impl Chain {
         let file = self.prints[self.printed];
         let pages = self.files.as_slice()[file].pages;
         let number = self.turned;
-        let page = nodes.take(MAX_FILES * self.row + file);
+        let page = nodes.take(key_of(self.row, file));
         self.last = Some(Place { file, number });
         self.turned = number + 1;
         if self.turned == pages {
@@ -289,7 +291,7 @@ impl Chain {
         match self.last {
             Some(place) => {
                 let pages = self.files.as_slice()[place.file].pages;
-                nodes.len(MAX_FILES * self.row + place.file) == pages - 1
+                nodes.len(key_of(self.row, place.file)) == pages - 1
             }
             None => false,
         }
@@ -306,7 +308,7 @@ impl Chain {
         ensures total { total nodes.new.chains ≡ total nodes.old.chains + 1 }
     {
         match self.last {
-            Some(place) => nodes.push(MAX_FILES * self.row + place.file, page),
+            Some(place) => nodes.push(key_of(self.row, place.file), page),
             None => unreachable!(),
         }
     }

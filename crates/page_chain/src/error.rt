@@ -12,7 +12,13 @@ pub enum ChainError {
     FilesFull,
 }
 
+/// Writes the number and the name, as `7 NameTaken`.
 impl fmt::Display for ChainError {
+    ghost use Rattle.std.specs.Prelude.{Some};
+    ghost use Rattle.page_chain.specs.Words.{error_words};
+
+    ghost output = { λ error. Some (error_words error) };
+
     fn fmt<W: fmt::Write>(&self, f: &mut fmt::Formatter<W>) -> fmt::Result {
         f.write_str(match self {
             ChainError::NameTaken => "7 NameTaken",

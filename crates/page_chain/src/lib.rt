@@ -13,4 +13,7 @@ mod run;
 pub use chain::Chain;
 pub use error::ChainError;
 pub use laws::{others_stay, pages_are_counted, places_or_returns, shows_names};
+pub use lpd_values::FileName;
+pub use page_nodes::Nodes;
+pub use page_pool::{FilledPage, Pool};
 pub use place::Place;

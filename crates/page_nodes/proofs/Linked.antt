@@ -9,7 +9,7 @@ use Rattle.slab.proofs.SlabLemmas.{Updates-with_value, ContainsKey-within}
 use Rattle.page_pool.specs.Page.{Page}
 use Rattle.page_nodes.specs.declared.strand.Strand.{Strand}
 use Rattle.page_nodes.specs.Chains.{Chains, chain_of, with_chain, total}
-use Rattle.page_nodes.specs.Links.{no_strand, strand_at, or_zero, next_of, page_at, or_blank, nodes_from, nodes_of, pages_at, pages_of, chains_of, Has, Distinct, last_of, IsNode, Lies, held, IsSound}
+use Rattle.page_nodes.specs.Links.{no_strand, strand_at, or_zero, next_of, page_at, or_blank, nodes_from, nodes_of, pages_at, pages_of, chains_of, Has, Distinct, last_of, IsNode, Lies, AreEmpty, held, IsSound}
 
 pub length-nodes_from : (next : ℕ → ℕ) (n x : ℕ) → length (nodes_from next n x) ≡ n
 length-nodes_from next zero x = refl
@@ -145,6 +145,7 @@ pub record Steps (links later : Slab ℕ) (slots after : List (Option Page)) (ow
   pub counted : slab_len later + (strand_at strands k).len ≡ slab_len links + t.len
   pub lies : Lies later after owners k t
   pub others : (j : ℕ) → (j ≡ k → ⊥) → (x : ℕ) → IsNode links slots owner j x → Same links later slots after owner owners x
+  pub vacant : AreEmpty links slots → AreEmpty later after
 
 pub step_sound : (links later : Slab ℕ) (slots after : List (Option Page)) (owners : ℕ → ℕ) (strands : List Strand) (k : ℕ) (t : Strand) (room : ℕ)
     → (i : IsSound links slots strands room) → Steps links later slots after i.owner owners strands k t → held (set strands k t) ≤ room → IsSound later after (set strands k t) room
@@ -154,6 +155,7 @@ step_sound links later slots after owners strands k t room i p fits =
       links_enough = (let c = p.capacity in let o = i.links_enough in omega (arith, c, o));
       counted = (let n = p.counted in let o = i.counted in let h = held_set strands k t p.here in omega (arith, n, o, h));
       fits = fits;
+      vacant = p.vacant i.vacant;
       owner = owners;
       lies = λ j lt. elim (cases_eq j k) [
         | inl e ↦ subst (λ (n : ℕ). Lies later after owners n (strand_at (set strands k t) n)) (sym e) (subst (Lies later after owners k) (sym (get_or-set_same strands k t no_strand p.here)) p.lies)
@@ -243,8 +245,11 @@ module _ (links made later : Slab ℕ) (slots after : List (Option Page)) (owner
         subst (λ (o : Option ℕ). IsSome o) (sym e) refl
   ]
 
+  push_last : 0 < s.len → get later s.last ≡ Some new
+  push_last lt = ap (λ (m : Slab ℕ). get m s.last) (p.links_of_some lt) ∙ (Updates-with_value made s.last new (last_contained lt)).changed
+
   push_joined : 0 < s.len → next_of later s.last ≡ new
-  push_joined lt = ap or_zero (ap (λ (m : Slab ℕ). get m s.last) (p.links_of_some lt) ∙ (Updates-with_value made s.last new (last_contained lt)).changed)
+  push_joined lt = ap or_zero (push_last lt)
 
   push_slot : page_at after new ≡ Some page
   push_slot = ap (λ (xs : List (Option Page)). page_at xs new) p.filled ∙ get_or-set_same slots new (Some page) None p.within
@@ -286,9 +291,7 @@ module _ (links made later : Slab ℕ) (slots after : List (Option Page)) (owner
       record {
         linked = elim (cases_eq x s.last) [
           | inl e ↦ elim (cases_lt 0 s.len) [
-            | inl lt ↦
-                let g : get later s.last ≡ Some new = ap (λ (m : Slab ℕ). get m s.last) (p.links_of_some lt) ∙ (Updates-with_value made s.last new (last_contained lt)).changed in
-                subst (λ (o : Option ℕ). IsSome o) (sym (ap (get later) e ∙ g)) refl
+            | inl lt ↦ subst (λ (o : Option ℕ). IsSome o) (sym (ap (get later) e ∙ push_last lt)) refl
             | inr le ↦ subst (λ (o : Option ℕ). IsSome o) (sym (push_link x ne (λ lt. absurd (omega arith)))) n.linked
           ]
           | inr d ↦ subst (λ (o : Option ℕ). IsSome o) (sym (push_link x ne (λ lt. d))) n.linked
@@ -325,6 +328,13 @@ module _ (links made later : Slab ℕ) (slots after : List (Option Page)) (owner
         owned = given_other owner new k x differs;
       }
 
+  -- the new node and the last one are in use, and the others are as they were
+  pub push_vacant : AreEmpty links slots → AreEmpty later after
+  push_vacant e x n =
+      let differs : x ≡ new → ⊥ = λ same. not_both (get later new) (ap (get later) (sym same) ∙ n) push_new in
+      let apart : 0 < s.len → x ≡ s.last → ⊥ = λ lt same. not_both (get later s.last) (ap (get later) (sym same) ∙ n) (subst (λ (o : Option ℕ). IsSome o) (sym (push_last lt)) refl) in
+      push_slots x differs ∙ e x (sym (push_link x differs apart) ∙ n)
+
 pub push_steps : (links made later : Slab ℕ) (slots after : List (Option Page)) (strands : List Strand) (k : ℕ) (t : Strand) (new : ℕ) (page : Page) (room : ℕ)
     → (i : IsSound links slots strands room) → k < length strands → Pushes links made later slots after (strand_at strands k) t new page
     → Steps links later slots after i.owner (given i.owner new k) strands k t
@@ -338,6 +348,7 @@ push_steps links made later slots after strands k t new page room i lt p =
       counted = (let n = push_count links made later slots after i.owner k s t new page l p in let m = p.len in omega (arith, n, m));
       lies = push_lies links made later slots after i.owner k s t new page l p;
       others = push_others links made later slots after i.owner k s t new page l p;
+      vacant = push_vacant links made later slots after i.owner k s t new page l p;
     }
 
 -- what is seen of an open store
@@ -374,6 +385,12 @@ pub record Takes (links later : Slab ℕ) (slots after : List (Option Page)) (s 
   pub first : t.first ≡ next_of links s.first
   pub last : t.last ≡ s.last
   pub len : t.len + 1 ≡ s.len
+
+-- a slot that was emptied
+none_there : (slots : List (Option Page)) (x : ℕ) → page_at (set slots x None) x ≡ None
+none_there [] x = refl
+none_there (o ∷ slots) zero = refl
+none_there (o ∷ slots) (suc x) = none_there slots x
 
 uncons : (next : ℕ → ℕ) (n x m y : ℕ) → n ≡ suc m → y ≡ next x → nodes_from next n x ≡ x ∷ nodes_from next m y
 uncons next n x m y e f = ap (λ (i : ℕ). nodes_from next i x) e ∙ ap (λ (z : ℕ). x ∷ nodes_from next m z) (sym f)
@@ -425,6 +442,12 @@ module _ (links later : Slab ℕ) (slots after : List (Option Page)) (owner : �
   take_others : (j : ℕ) → (j ≡ k → ⊥) → (x : ℕ) → IsNode links slots owner j x → Same links later slots after owner owner x
   take_others j ne x n = take_same x (λ e. ne (sym n.owned ∙ (ap owner e ∙ (first_node links slots owner k s l take_owns).owned)))
 
+  take_vacant : AreEmpty links slots → AreEmpty later after
+  take_vacant e x n = elim (cases_eq x s.first) [
+    | inl same ↦ ap (λ (xs : List (Option Page)). page_at xs x) p.emptied ∙ subst (λ (y : ℕ). page_at (set slots y None) x ≡ None) same (none_there slots x)
+    | inr ne ↦ (take_same x ne).slot ∙ e x (sym (take_same x ne).link ∙ n)
+  ]
+
 pub take_steps : (links later : Slab ℕ) (slots after : List (Option Page)) (strands : List Strand) (k : ℕ) (t : Strand) (page : Page) (room : ℕ)
     → (i : IsSound links slots strands room) → k < length strands → Takes links later slots after (strand_at strands k) t page
     → Steps links later slots after i.owner i.owner strands k t
@@ -438,6 +461,7 @@ take_steps links later slots after strands k t page room i lt p =
       counted = (let n = p.counted in let m = p.len in omega (arith, n, m));
       lies = take_lies links later slots after i.owner k s t page l p;
       others = take_others links later slots after i.owner k s t page l p;
+      vacant = take_vacant links later slots after i.owner k s t page l p;
     }
 
 -- a store with no page
@@ -452,13 +476,19 @@ pub none_chains : (links : Slab ℕ) (slots : List (Option Page)) (n : ℕ) → 
 none_chains links slots zero = refl
 none_chains links slots (suc n) = ap (λ (c : List (List Page)). [] ∷ c) (none_chains links slots n)
 
-pub none_sound : (links : Slab ℕ) (slots : List (Option Page)) (n room : ℕ) → links.slots ≡ [] → room ≤ links.capacity → links.capacity ≤ length slots → IsSound links slots (replicate n no_strand) room
-none_sound links slots n room e r m =
+none_at : (count x : ℕ) → page_at (replicate count None) x ≡ None
+none_at zero x = refl
+none_at (suc count) zero = refl
+none_at (suc count) (suc x) = none_at count x
+
+pub none_sound : (links : Slab ℕ) (slots : List (Option Page)) (n room count : ℕ) → links.slots ≡ [] → room ≤ links.capacity → links.capacity ≤ count → slots ≡ replicate count None → IsSound links slots (replicate n no_strand) room
+none_sound links slots n room count e r m empty =
     record {
-      slots_enough = m;
+      slots_enough = (let l = ap length empty ∙ length-replicate count None in omega (arith, m, l));
       links_enough = r;
       counted = ap (λ (xs : List (Option ℕ)). count_by is_some xs) e ∙ sym (none_held n);
       fits = (let h = none_held n in omega (arith, h));
+      vacant = λ x v. ap (λ (xs : List (Option Page)). page_at xs x) empty ∙ none_at count x;
       owner = λ x. 0;
       lies = λ k lt. subst (Lies links slots (λ x. 0) k) (sym (get_or-replicate n k no_strand no_strand (let l = length-replicate n no_strand in omega (arith, l)))) (none_lies links slots (λ x. 0) k);
     }

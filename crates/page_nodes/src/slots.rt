@@ -1,13 +1,13 @@
 //! Slots for pages, one for each node.
 
-ghost use Rattle.std.specs.Prelude.{◌≡◌, ◌<◌, Some, None, IsSome, IfOk, length, slice_set, slice_index_or};
+ghost use Rattle.std.specs.Prelude.{◌≡◌, ◌<◌, Some, None, IsSome, IfOk, length, replicate, slice_set, slice_index_or};
 
 use page_pool::FilledPage;
 use std::alloc::{AllocError, Global};
 
 /// So many slots with no page.
 pub fn no_pages(alloc: Global, count: usize) -> Result<Vec<Option<FilledPage>>, AllocError>
-    ensures { IfOk result (λ slots. length slots.items ≡ count) }
+    ensures { IfOk result (λ slots. slots.items ≡ replicate count None) }
 {
     let mut slots = Vec::with_capacity(alloc, count)?;
     'slots: for _ in 0..count {
@@ -19,14 +19,15 @@ pub fn no_pages(alloc: Global, count: usize) -> Result<Vec<Option<FilledPage>>, 
     Ok(slots)
 }
 
-/// Puts a page into a slot; a page that was there is spent.
+/// Puts a page into a slot that has none.
 pub fn fill(slots: &mut Vec<Option<FilledPage>>, slot: usize, page: FilledPage)
-    requires { slot < length slots.old.items }
+    requires here { slot < length slots.old.items }
+    requires empty { slice_index_or slots.old.items slot None ≡ None }
     ensures { slots.new.items ≡ slice_set slots.old.items slot (Some page) }
 {
     let place = &mut slots[slot];
     match place.replace(page) {
-        Some(old) => old.unseal().surrender(),
+        Some(_) => unreachable!(),
         None => {}
     }
 }

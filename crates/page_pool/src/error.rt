@@ -12,7 +12,13 @@ pub enum PoolError {
     Memory,
 }
 
+/// Writes the number and the name, as `20 BadSize`.
 impl Display for PoolError {
+    ghost use Rattle.std.specs.Prelude.{Some};
+    ghost use Rattle.page_pool.specs.Words.{error_words};
+
+    ghost output = { λ error. Some (error_words error) };
+
     fn fmt<W: Write>(&self, f: &mut Formatter<W>) -> fmt::Result {
         f.write_str(match self {
             PoolError::BadSize => "20 BadSize",

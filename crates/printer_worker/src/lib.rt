@@ -9,4 +9,5 @@ mod worker;
 
 pub use shared_spool::{HandedPage, PrinterSeat, SharedSpool};
 pub use sink::{PrintSink, SinkFault};
+pub use spool_ledgers::SpoolLedger;
 pub use worker::{Ending, WorkReport, work};

@@ -1,5 +1,5 @@
 -- A book with one entry more, and with one less.
-use Rattle.std.proofs.Common.{◌≡◌, ℕ, ◌+◌, ◌<◌, ◌≤◌, inl, inr, false, Option, Some, None, List, [], ◌∷◌, ◌++◌, length, remove, refl, sym, ◌∙◌, ap, subst, arith}
+use Rattle.std.proofs.Common.{◌≡◌, ℕ, ◌+◌, ◌<◌, ◌≤◌, ◌^◌, inl, inr, false, Option, Some, None, List, [], ◌∷◌, ◌++◌, length, remove, refl, sym, ◌∙◌, ap, subst, arith}
 use Rattle.std.proofs.lemmas.Bool.{cases_eq, cases_lt}
 use Rattle.std.proofs.lemmas.List.{length_push, get_or_push, get_or_append_left}
 use Rattle.std.proofs.lemmas.List.Edits.{get_or-remove_below, get_or-remove_above, length-remove}
@@ -48,7 +48,7 @@ added nodes rows new es most places size number w h room other vacant u c len wi
     ]
   ];
   free = λ r lt none. h.free r (subst (λ (n : ℕ). r < n) c lt) (sym (u.others r (λ same. none_some (sym u.changed ∙ (ap (get new) (sym same) ∙ none)))) ∙ none);
-  rows_few = subst (λ (n : ℕ). n < 4294967296) (sym c) h.rows_few;
+  rows_few = subst (λ (n : ℕ). n < 2 ^ 32) (sym c) h.rows_few;
   rows_enough = subst (λ (n : ℕ). most ≤ n) (sym c) h.rows_enough;
   counted = (let l = length_push es (number, w) in let n = h.counted in omega (arith, l, n, len));
   fits = (let l = length_push es (number, w) in omega (arith, l, room));
@@ -137,7 +137,7 @@ removed nodes rows new es most places size i h il empty u c len = record {
     })
     | inr ne ↦ h.free r (subst (λ (n : ℕ). r < n) c lt) (sym (u.others r ne) ∙ none)
   ];
-  rows_few = subst (λ (n : ℕ). n < 4294967296) (sym c) h.rows_few;
+  rows_few = subst (λ (n : ℕ). n < 2 ^ 32) (sym c) h.rows_few;
   rows_enough = subst (λ (n : ℕ). most ≤ n) (sym c) h.rows_enough;
   counted = (let l = length-remove es i il in let n = h.counted in omega (arith, l, n, len));
   fits = (let l = length-remove es i il in let n = h.fits in omega (arith, l, n));

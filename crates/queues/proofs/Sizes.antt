@@ -9,18 +9,8 @@ use Rattle.page_chain.specs.declared.run.Run.{Run}
 use Rattle.page_chain.specs.Changes.{CanBegin, RefusedFor}
 use Rattle.page_chain.specs.Files.{File, every_page, file_at, page_at, with_page_at, there, names_of}
 use Rattle.page_chain.specs.Held.{Kept, files_from, names_in, shown}
-
-sized_both : (size : ℕ) (a b : List Page) → AreOfSize size a → AreOfSize size b → AreOfSize size (a ++ b)
-sized_both size [] b h k = k
-sized_both size (page ∷ a) b h k = (h.0, sized_both size a b h.1 k)
-
-sized_front : (size : ℕ) (a b : List Page) → AreOfSize size (a ++ b) → AreOfSize size a
-sized_front size [] b h = tt
-sized_front size (page ∷ a) b h = (h.0, sized_front size a b h.1)
-
-sized_back : (size : ℕ) (a b : List Page) → AreOfSize size (a ++ b) → AreOfSize size b
-sized_back size [] b h = h
-sized_back size (page ∷ a) b h = sized_back size a b h.1
+use Rattle.page_chain.proofs.Seen.{length-files_from as length-files, names_shown as names_from}
+use Rattle.page_chain.proofs.Turning.{sized_back, sized_both, sized_front}
 
 -- a page that is there, and one that is put or taken
 
@@ -72,16 +62,8 @@ size_at size files place page h e = page_size_of size (file_at files place.file)
 
 -- the names and the number of the files that are shown
 
-names_from : (nodes : Chains) (row : ℕ) (prints : List ℕ) (turned k : ℕ) (files : List Run) → names_of (files_from nodes row prints turned k files) ≡ names_in files
-names_from nodes row prints turned k [] = refl
-names_from nodes row prints turned k (run ∷ files) = ap (λ (names : List (List ℕ)). run.name ∷ names) (names_from nodes row prints turned (suc k) files)
-
 pub names_seen : (c : Kept) (nodes : Chains) → names_of (shown c nodes).files ≡ names_in c.files
 names_seen c nodes = names_from nodes c.row c.prints c.turned 0 c.files
-
-pub length-files : (nodes : Chains) (row : ℕ) (prints : List ℕ) (turned k : ℕ) (files : List Run) → length (files_from nodes row prints turned k files) ≡ length files
-length-files nodes row prints turned k [] = refl
-length-files nodes row prints turned k (run ∷ files) = ap suc (length-files nodes row prints turned (suc k) files)
 
 -- a file that may begin is not refused
 

@@ -1,5 +1,6 @@
 -- How a book holds its jobs.
 use Rattle.std.specs.Prelude.{◌≡◌, ℕ, ◌<◌, ◌≤◌, ◌^◌, false, Some, None, List, [], length, map, slice_index_or}
+use Rattle.lpd_values.specs.declared.limits.TheConstants.{MAX_FILES}
 use Rattle.slab.specs.Slab.{Slab, get, slab_len}
 use Rattle.page_nodes.specs.Chains.{Chains, AreOfSize, total}
 use Rattle.page_chain.specs.Files.{every_page}
@@ -26,7 +27,7 @@ book_of nodes es max_jobs pages page_size = record {
 }
 
 abbrev pub no_chain : Kept
-no_chain = record { row = 0; files = []; is_open = false; prints = []; turned = 0; last = None; file_room = 52 }
+no_chain = record { row = 0; files = []; is_open = false; prints = []; turned = 0; last = None; file_room = MAX_FILES }
 
 abbrev pub no_entry : ℕ × Entry
 no_entry = (0, record { job = new_facts 0 0 0; chain = no_chain; row = 0 })
@@ -39,7 +40,7 @@ pub record IsEntry (nodes : Chains) (rows : Slab ℕ) (size : ℕ) (e : ℕ × E
   pub key : e.0 ≡ e.1.job.number
   pub row : e.1.row ≡ e.1.chain.row
   pub held : IsHeld e.1.chain nodes
-  pub room : e.1.chain.file_room ≡ 52
+  pub room : e.1.chain.file_room ≡ MAX_FILES
   pub within : e.1.chain.row < rows.capacity
   pub taken : get rows e.1.chain.row ≡ Some e.0
   pub sizes : AreOfSize size (every_page (shown e.1.chain nodes).files)

@@ -2,12 +2,14 @@
 
 ghost use Rattle.std.specs.Prelude.{◌≡◌, ◌≢◌, ◌↔◌, ◌+◌, ◌<◌, ◌≤◌, ◌++◌, ◌∷◌, ◌^◌, [], true, None, Some, All, IsTrue, IfOk, IfSome, IfNone, OnOk, OnErr, MatchOption, IsSome, ◌-◌, length, nat_eq, remove, slice_get};
 ghost use Rattle.control_file.specs.View.{contents};
+ghost use Rattle.lpd_values.specs.declared.limits.TheConstants.{MAX_FILES};
 ghost use Rattle.page_chain.specs.Files.{names_of, page_at};
 ghost use Rattle.page_chain.specs.Changes.{CanBegin, RefusedFor, AwaitsLast, IsReady, comes_again, next_place};
 ghost use Rattle.indexmap.specs.IndexMap.{get, spare};
 ghost use Rattle.held_jobs.specs.Jobs.{HeldJob, last_size};
 ghost use Rattle.held_jobs.specs.Moves.{lent_facts, unlent_facts, back_facts, controlled_facts, told, begun_job, closed_file, changed, with_new, put_in, received_in, handed_in, again_in, drained_in, pages_of, unnamed_of};
 ghost use Rattle.held_jobs.specs.Books.{IsIdle, job_at};
+ghost use Rattle.queues.specs.declared.book.TheConstants.{MAX_JOBS, MAX_PAGES};
 
 use crate::entry::Entry;
 use control_file::Control;
@@ -49,6 +51,12 @@ impl Model for Book {
     ghost invariant = { λ b. IsBook b.nodes b.rows b.jobs.entries b.max_jobs b.pages b.page_size };
 }
 
+/// The most jobs that a book may have room for.
+pub const MAX_JOBS: usize = 1_024;
+
+/// The most pages that it may have room for.
+pub const MAX_PAGES: usize = 65_536;
+
 /// The most rows that there are chains for: a slab may come with more places than were asked for.
 const MAX_ROWS: usize = 65_536;
 
@@ -62,8 +70,8 @@ impl Book {
         pages: usize,
         page_size: usize,
     ) -> Result<Book, AllocError>
-        requires jobs { max_jobs ≤ 1024 }
-        requires pages { pages ≤ 65536 }
+        requires jobs { max_jobs ≤ MAX_JOBS }
+        requires pages { pages ≤ MAX_PAGES }
         ensures { IfOk result (λ b. b ≡ record {
           jobs = [];
           stored = 0;
@@ -139,8 +147,8 @@ impl Book {
     pub fn refusal(&self, i: usize, name: &FileName) -> Option<ChainError>
         requires { i < length self.now.jobs }
         ensures { MatchOption result
-            (CanBegin (names_of (job_at self.now i).chain.files) 52 name.now)
-            (RefusedFor (names_of (job_at self.now i).chain.files) 52 name.now) }
+            (CanBegin (names_of (job_at self.now i).chain.files) MAX_FILES name.now)
+            (RefusedFor (names_of (job_at self.now i).chain.files) MAX_FILES name.now) }
     {
         let entry = &self.jobs[i];
         entry.chain.refusal(name)
@@ -221,8 +229,8 @@ impl Book {
     pub fn begin(&mut self, i: usize, name: FileName, count: u64)
         requires here { i < length self.old.jobs }
         requires idle { IsIdle (job_at self.old i).chain }
-        requires free { CanBegin (names_of (job_at self.old i).chain.files) 52 name }
-        requires files { length (job_at self.old i).facts.files < 52 }
+        requires free { CanBegin (names_of (job_at self.old i).chain.files) MAX_FILES name }
+        requires files { length (job_at self.old i).facts.files < MAX_FILES }
         ensures { self.new ≡ changed (begun_job name count) self.old i }
     {
         let entry = &mut self.jobs[i];

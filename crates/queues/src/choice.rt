@@ -4,9 +4,10 @@ ghost use Rattle.std.specs.Prelude.{◌≡◌, ◌≤◌, ◌<◌, ◌==◌, ◌
 ghost use Rattle.std.specs.List.{list_any};
 ghost use Rattle.lpd_values.specs.Digits.{count_of};
 ghost use Rattle.held_jobs.specs.Jobs.{Facts};
-ghost use Rattle.held_jobs.specs.Choice as C;
+ghost use Rattle.lpd_values.specs.Choice as C;
+ghost use Rattle.held_jobs.specs.Told.{told_in};
 ghost use Rattle.held_jobs.specs.Turns.{FirstOf, facts_in};
-ghost use Rattle.queues.specs.Tests as T;
+ghost use Rattle.queues.specs.Tests.{is_from};
 
 use crate::book::Book;
 use held_jobs::{Job, Phase};
@@ -73,28 +74,28 @@ fn is_root(agent: &[u8]) -> bool
 
 /// Whether a job is received, hasn't ended, and is of this queue.
 fn is_listed(queue: u32, job: &Job) -> bool
-    ensures { result ≡ C.is_listed queue job.now }
+    ensures { result ≡ C.is_listed queue (told_in job.now) }
 {
     job.queue() == queue && job.phase() == Phase::Received
 }
 
 /// Whether a job is of this sender and queue.
 fn is_from(sender: u32, queue: u32, job: &Job) -> bool
-    ensures { result ≡ C.is_from sender queue job.now }
+    ensures { result ≡ is_from sender queue job.now }
 {
     job.sender() == sender && job.queue() == queue
 }
 
 /// Whether a place of a listed job was handed out.
 fn is_active(queue: u32, job: &Job) -> bool
-    ensures { result ≡ C.is_active queue job.now }
+    ensures { result ≡ C.is_active queue (told_in job.now) }
 {
     is_listed(queue, job) && job.handed() != 0
 }
 
 /// Whether a word chooses a job, by its number or by its user.
 fn chooses(job: &Job, word: &[u8]) -> bool
-    ensures { result ≡ C.chooses job.now word.now }
+    ensures { result ≡ C.chooses (told_in job.now) word.now }
 {
     if is_number_word(word) {
         names_number(word, job.told_number())
@@ -105,7 +106,7 @@ fn chooses(job: &Job, word: &[u8]) -> bool
 
 /// Whether one of these words chooses a job.
 fn is_chosen(job: &Job, words: &[Octets]) -> bool
-    ensures { result ≡ list_any (C.chooses job.now) words.now }
+    ensures { result ≡ list_any (C.chooses (told_in job.now)) words.now }
 {
     let Some((first, rest)) = words.split_first() else {
         return false;
@@ -115,7 +116,7 @@ fn is_chosen(job: &Job, words: &[Octets]) -> bool
 
 /// Whether a job is shown for the state of a queue.
 pub(crate) fn is_shown(queue: u32, list: &[Octets], job: &Job) -> bool
-    ensures { result ≡ T.is_shown queue list.now job.now }
+    ensures { result ≡ C.is_shown queue list.now (told_in job.now) }
 {
     match list {
         [] => is_listed(queue, job),
@@ -125,21 +126,21 @@ pub(crate) fn is_shown(queue: u32, list: &[Octets], job: &Job) -> bool
 
 /// Whether an agent may remove a job: its own ones, and root may remove all.
 pub(crate) fn may_remove(agent: &[u8], job: &Job) -> bool
-    ensures { result ≡ C.may_remove agent.now job.now }
+    ensures { result ≡ C.may_remove agent.now (told_in job.now) }
 {
     is_root(agent) || job.told_user() == agent
 }
 
 /// Whether a word picks a job for a removal: a user's name counts only where the agent is root.
 fn picks(agent: &[u8], job: &Job, word: &[u8]) -> bool
-    ensures { result ≡ C.picks agent.now job.now word.now }
+    ensures { result ≡ C.picks agent.now (told_in job.now) word.now }
 {
     chooses(job, word) && (is_number_word(word) || is_root(agent))
 }
 
 /// Whether one of these words picks a job for a removal.
 fn is_picked_by(agent: &[u8], job: &Job, words: &[Octets]) -> bool
-    ensures { result ≡ list_any (C.picks agent.now job.now) words.now }
+    ensures { result ≡ list_any (C.picks agent.now (told_in job.now)) words.now }
 {
     let Some((first, rest)) = words.split_first() else {
         return false;
@@ -149,7 +150,7 @@ fn is_picked_by(agent: &[u8], job: &Job, words: &[Octets]) -> bool
 
 /// Whether a removal by these words takes a job.
 pub(crate) fn is_picked(queue: u32, agent: &[u8], words: &[Octets], job: &Job) -> bool
-    ensures { result ≡ T.is_picked queue agent.now words.now job.now }
+    ensures { result ≡ C.is_picked queue agent.now words.now (told_in job.now) }
 {
     is_listed(queue, job) && (may_remove(agent, job) && is_picked_by(agent, job, words))
 }
@@ -157,7 +158,7 @@ pub(crate) fn is_picked(queue: u32, agent: &[u8], words: &[Octets], job: &Job) -
 /// Puts the number of a job behind these, where an agent may remove it.
 fn put_where_allowed(numbers: &mut Vec<u64>, agent: &[u8], job: &Job) -> Result<(), AllocError>
     ensures { OnOk result (numbers.new.items ≡ numbers.old.items
-        ++ (if C.may_remove agent.now job.now then job.now.number ∷ [] else [])) }
+        ++ (if C.may_remove agent.now (told_in job.now) then job.now.number ∷ [] else [])) }
 {
     if may_remove(agent, job) {
         numbers.push(job.number())?;
@@ -174,7 +175,8 @@ fn put_where_picked(
     job: &Job,
 ) -> Result<(), AllocError>
     ensures { OnOk result (numbers.new.items ≡ numbers.old.items
-        ++ (if T.is_picked queue agent.now words.now job.now then job.now.number ∷ [] else [])) }
+        ++ (if C.is_picked queue agent.now words.now (told_in job.now)
+        then job.now.number ∷ [] else [])) }
 {
     if is_picked(queue, agent, words, job) {
         numbers.push(job.number())?;
@@ -185,7 +187,7 @@ fn put_where_picked(
 impl Book {
     /// How many jobs of a queue are received and haven't ended.
     pub fn listed(&self, queue: u32) -> usize
-        ensures { result ≡ length (C.listed queue (facts_in self.now.jobs)) }
+        ensures { result ≡ length (C.listed told_in queue (facts_in self.now.jobs)) }
     {
         let mut count = 0;
         for i in 0..self.len() {
@@ -198,7 +200,7 @@ impl Book {
 
     /// The place of the job of a queue that is being printed and was accepted first.
     pub fn active(&self, queue: u32) -> Option<usize>
-        ensures { FirstOf (C.is_active queue) (facts_in self.now.jobs) result }
+        ensures { FirstOf (λ j. C.is_active queue (told_in j)) (facts_in self.now.jobs) result }
     {
         for i in 0..self.len() {
             if is_active(queue, self.job(i)) {
@@ -210,7 +212,7 @@ impl Book {
 
     /// The place of the first held job of a sender and queue.
     pub fn head_of_sender(&self, sender: u32, queue: u32) -> Option<usize>
-        ensures { FirstOf (C.is_from sender queue) (facts_in self.now.jobs) result }
+        ensures { FirstOf (is_from sender queue) (facts_in self.now.jobs) result }
     {
         for i in 0..self.len() {
             if is_from(sender, queue, self.job(i)) {
@@ -224,7 +226,7 @@ impl Book {
     fn chosen_active(&self, queue: u32, agent: &[u8]) -> Result<Vec<u64>, AllocError>
         ensures { IfOk result (λ numbers. numbers.items
             ≡ map (λ (j : Facts). j.number)
-            (C.chosen queue agent.now [] (facts_in self.now.jobs))) }
+            (C.chosen told_in queue agent.now [] (facts_in self.now.jobs))) }
     {
         let mut numbers = Vec::new(self.alloc());
         let Some(i) = self.active(queue) else {
@@ -238,7 +240,7 @@ impl Book {
     fn chosen_by(&self, queue: u32, agent: &[u8], words: &[Octets]) -> Result<Vec<u64>, AllocError>
         ensures { IfOk result (λ numbers. numbers.items
             ≡ map (λ (j : Facts). j.number)
-            (T.picked queue agent.now words.now (facts_in self.now.jobs))) }
+            (C.picked told_in queue agent.now words.now (facts_in self.now.jobs))) }
     {
         let mut numbers = Vec::new(self.alloc());
         for i in 0..self.len() {
@@ -253,7 +255,7 @@ impl Book {
     pub fn chosen(&self, queue: u32, agent: &[u8], list: &[Octets]) -> Result<Vec<u64>, AllocError>
         ensures { IfOk result (λ numbers. numbers.items
             ≡ map (λ (j : Facts). j.number)
-            (C.chosen queue agent.now list.now (facts_in self.now.jobs))) }
+            (C.chosen told_in queue agent.now list.now (facts_in self.now.jobs))) }
     {
         match list {
             [] => self.chosen_active(queue, agent),

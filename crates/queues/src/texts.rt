@@ -1,13 +1,12 @@
 //! The texts that tell of held jobs, for a queue's state and a removal.
 
-ghost use Rattle.std.specs.Prelude.{◌≡◌, ◌≤◌, ◌==◌, ◌-◌, ◌++◌, ◌∷◌, [], IfOk, OnOk, codes, if◌then◌else◌, length};
+ghost use Rattle.std.specs.Prelude.{◌≡◌, ◌≤◌, ◌++◌, [], IfOk, OnOk, if◌then◌else◌, length, map};
 ghost use Rattle.std.specs.Fmt.{decimal};
 ghost use Rattle.std.specs.List.{flat_map};
-ghost use Rattle.std.specs.Str.{bytes_eq};
-ghost use Rattle.held_jobs.specs.Choice as C;
-ghost use Rattle.held_jobs.specs.Texts as T;
+ghost use Rattle.lpd_values.specs.Choice as C;
+ghost use Rattle.lpd_values.specs.Texts as T;
+ghost use Rattle.held_jobs.specs.Told.{told_file, told_in};
 ghost use Rattle.held_jobs.specs.Turns.{facts_in};
-ghost use Rattle.queues.specs.Tests.{is_picked, is_shown, picked};
 
 use crate::book::Book;
 use crate::choice::{is_picked, is_shown, may_remove};
@@ -71,7 +70,7 @@ fn put_stage(text: &mut Vec<u8>, job: &Job) -> Result<(), AllocError>
 
 /// Puts the line of a job behind a text.
 fn put_job_line(alloc: Global, text: &mut Vec<u8>, job: &Job) -> Result<(), AllocError>
-    ensures { OnOk result (text.new.items ≡ text.old.items ++ T.job_line job.now) }
+    ensures { OnOk result (text.new.items ≡ text.old.items ++ T.job_line (told_in job.now)) }
 {
     put_stage(text, job)?;
     put_three_digits(text, job.told_number())?;
@@ -90,8 +89,7 @@ fn put_where_named(
     file: &DataFile,
 ) -> Result<(), AllocError>
     ensures { OnOk result (text.new.items ≡ text.old.items
-        ++ (if bytes_eq file.now.name name.now then codes "  " ++ file.now.name ++ codes " "
-        ++ decimal file.now.count ++ 10 ∷ [] else [])) }
+        ++ T.file_line name.now (told_file file.now)) }
 {
     if file.name == *name {
         put_word(text, b"  ".as_slice(), file.name.octets())?;
@@ -108,7 +106,8 @@ fn put_file_lines(
     name: &FileName,
     files: &[DataFile],
 ) -> Result<(), AllocError>
-    ensures { OnOk result (text.new.items ≡ text.old.items ++ T.file_lines name.now files.now) }
+    ensures { OnOk result (text.new.items ≡ text.old.items
+        ++ T.file_lines name.now (map told_file files.now)) }
 {
     let Some((first, rest)) = files.split_first() else {
         return Ok(());
@@ -125,7 +124,7 @@ fn put_print_lines(
     files: &[DataFile],
 ) -> Result<(), AllocError>
     ensures { OnOk result (text.new.items ≡ text.old.items
-        ++ flat_map (λ name. T.file_lines name files.now) names.now) }
+        ++ flat_map (λ name. T.file_lines name (map told_file files.now)) names.now) }
 {
     let Some((first, rest)) = names.split_first() else {
         return Ok(());
@@ -136,7 +135,7 @@ fn put_print_lines(
 
 /// Puts the lines of a job behind a text.
 fn put_job_lines(alloc: Global, text: &mut Vec<u8>, long: bool, job: &Job) -> Result<(), AllocError>
-    ensures { OnOk result (text.new.items ≡ text.old.items ++ T.job_lines long job.now) }
+    ensures { OnOk result (text.new.items ≡ text.old.items ++ T.job_lines long (told_in job.now)) }
 {
     put_job_line(alloc, text, job)?;
     if long {
@@ -157,7 +156,8 @@ fn put_where_shown(
     job: &Job,
 ) -> Result<(), AllocError>
     ensures { OnOk result (text.new.items ≡ text.old.items
-        ++ (if is_shown queue list.now job.now then T.job_lines long job.now else [])) }
+        ++ (if C.is_shown queue list.now (told_in job.now)
+        then T.job_lines long (told_in job.now) else [])) }
 {
     if is_shown(queue, list, job) {
         put_job_lines(alloc, text, long, job)?;
@@ -167,7 +167,7 @@ fn put_where_shown(
 
 /// Puts the line of a removed job behind a text.
 fn put_removed_line(text: &mut Vec<u8>, job: &Job) -> Result<(), AllocError>
-    ensures { OnOk result (text.new.items ≡ text.old.items ++ T.removed_line job.now) }
+    ensures { OnOk result (text.new.items ≡ text.old.items ++ T.removed_line (told_in job.now)) }
 {
     text.extend_from_slice(b"removed ".as_slice())?;
     put_three_digits(text, job.told_number())?;
@@ -179,7 +179,8 @@ fn put_removed_line(text: &mut Vec<u8>, job: &Job) -> Result<(), AllocError>
 /// Puts the line of a job behind a text, where an agent may remove it.
 fn put_where_allowed(text: &mut Vec<u8>, agent: &[u8], job: &Job) -> Result<(), AllocError>
     ensures { OnOk result (text.new.items ≡ text.old.items
-        ++ (if C.may_remove agent.now job.now then T.removed_line job.now else [])) }
+        ++ (if C.may_remove agent.now (told_in job.now)
+        then T.removed_line (told_in job.now) else [])) }
 {
     if may_remove(agent, job) {
         put_removed_line(text, job)?;
@@ -196,7 +197,8 @@ fn put_where_picked(
     job: &Job,
 ) -> Result<(), AllocError>
     ensures { OnOk result (text.new.items ≡ text.old.items
-        ++ (if is_picked queue agent.now words.now job.now then T.removed_line job.now else [])) }
+        ++ (if C.is_picked queue agent.now words.now (told_in job.now)
+        then T.removed_line (told_in job.now) else [])) }
 {
     if is_picked(queue, agent, words, job) {
         put_removed_line(text, job)?;
@@ -214,7 +216,7 @@ impl Book {
         long: bool,
     ) -> Result<(), AllocError>
         ensures { OnOk result (text.new.items ≡ text.old.items
-            ++ T.listing queue list.now long (facts_in self.now.jobs)) }
+            ++ T.listing told_in queue list.now long (facts_in self.now.jobs)) }
     {
         let alloc = self.alloc();
         for i in 0..self.len() {
@@ -232,10 +234,8 @@ impl Book {
         printers: usize,
         stopped: usize,
     ) -> Result<(), AllocError>
-        ensures { OnOk result (text.new.items ≡ text.old.items ++ (codes "queue " ++ name.now
-            ++ codes " jobs " ++ decimal (length (C.listed queue (facts_in self.now.jobs)))
-            ++ codes " printers " ++ decimal printers ++ codes " stopped " ++ decimal stopped
-            ++ 10 ∷ [])) }
+        ensures { OnOk result (text.new.items ≡ text.old.items ++ T.queue_line name.now
+            (length (C.listed told_in queue (facts_in self.now.jobs))) printers stopped) }
     {
         let alloc = self.alloc();
         put_word(text, b"queue ".as_slice(), name)?;
@@ -257,7 +257,7 @@ impl Book {
     /// AllocError where memory for them is refused.
     pub fn listing(&self, queue: u32, list: &[Octets], long: bool) -> Result<Vec<u8>, AllocError>
         ensures { IfOk result (λ text. text.items
-            ≡ T.listing queue list.now long (facts_in self.now.jobs)) }
+            ≡ T.listing told_in queue list.now long (facts_in self.now.jobs)) }
     {
         let mut text = Vec::new(self.alloc());
         self.put_listing(&mut text, queue, list, long)?;
@@ -278,7 +278,8 @@ impl Book {
         long: bool,
     ) -> Result<Vec<u8>, AllocError>
         ensures { IfOk result (λ text. text.items
-            ≡ T.state_text queue name.now printers stopped list.now long (facts_in self.now.jobs)) }
+            ≡ T.state_text told_in queue name.now printers stopped list.now long
+            (facts_in self.now.jobs)) }
     {
         let mut text = Vec::new(self.alloc());
         self.put_head(&mut text, queue, name, printers, stopped)?;
@@ -289,7 +290,8 @@ impl Book {
     /// The line of the active job of a queue, where an agent may remove it.
     fn removed_active(&self, queue: u32, agent: &[u8]) -> Result<Vec<u8>, AllocError>
         ensures { IfOk result (λ text. text.items
-            ≡ flat_map T.removed_line (C.chosen queue agent.now [] (facts_in self.now.jobs))) }
+            ≡ T.removed_lines told_in
+            (C.chosen told_in queue agent.now [] (facts_in self.now.jobs))) }
     {
         let mut text = Vec::new(self.alloc());
         let Some(i) = self.active(queue) else {
@@ -302,7 +304,8 @@ impl Book {
     /// A line for each job that a removal by these words takes.
     fn removed_by(&self, queue: u32, agent: &[u8], words: &[Octets]) -> Result<Vec<u8>, AllocError>
         ensures { IfOk result (λ text. text.items
-            ≡ flat_map T.removed_line (picked queue agent.now words.now (facts_in self.now.jobs))) }
+            ≡ T.removed_lines told_in
+            (C.picked told_in queue agent.now words.now (facts_in self.now.jobs))) }
     {
         let mut text = Vec::new(self.alloc());
         for i in 0..self.len() {
@@ -319,8 +322,8 @@ impl Book {
         list: &[Octets],
     ) -> Result<Vec<u8>, AllocError>
         ensures { IfOk result (λ text. text.items
-            ≡ flat_map T.removed_line
-            (C.chosen queue agent.now list.now (facts_in self.now.jobs))) }
+            ≡ T.removed_lines told_in
+            (C.chosen told_in queue agent.now list.now (facts_in self.now.jobs))) }
     {
         match list {
             [] => self.removed_active(queue, agent),
@@ -334,7 +337,7 @@ impl Book {
     /// AllocError where memory for it is refused.
     pub fn removal(&self, queue: u32, agent: &[u8], list: &[Octets]) -> Result<Vec<u8>, AllocError>
         ensures { IfOk result (λ text. text.items
-            ≡ T.removal_text queue agent.now list.now (facts_in self.now.jobs)) }
+            ≡ T.removal_text told_in queue agent.now list.now (facts_in self.now.jobs)) }
     {
         let mut text = self.removed_lines(queue, agent, list)?;
         if text.is_empty() {

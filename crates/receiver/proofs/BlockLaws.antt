@@ -61,7 +61,7 @@ file_read short queue whole z (p ∷ q ∷ ps) rest a os c g =
     rw append_assoc (page_read short queue true p (concat (q ∷ ps) ++ 0 ∷ rest) z (length (p ++ concat (q ∷ ps))) (length (concat (q ∷ ps))) (told_for z (q ∷ ps) ++ ended whole ∷ a) (asked_for z (q ∷ ps) ++ Asked EndFile ∷ Wrote Ack ∷ os) (omega arith) (omega arith) (omega arith) (file_read short queue whole z (q ∷ ps) rest a os c.2 g))
 
 -- a whole line
-due_line : (next : List ℕ → List ℕ → Due) (line r : List ℕ) → IsLine line → at_line next (line ++ 10 ∷ r) ≡ next line r
+pub due_line : (next : List ℕ → List ℕ → Due) (line r : List ℕ) → IsLine line → at_line next (line ++ 10 ∷ r) ≡ next line r
 due_line next line r h =
     let n : prefix_len is_inner (line ++ 10 ∷ r) ≡ length line = prefix_len-append is_inner line (10 ∷ r) ∙ rw (eq-eqb _ _ h.0) (add-zero (length line)) in
     let k = length-append line (10 ∷ r) in
@@ -87,7 +87,7 @@ data_block_read queue true whole line name z ps short rest a os l c e g =
     (refl, inl (refl, file_read short queue whole z ps rest a os c g))
 
 -- a control text and its octet 00
-text_whole : (name : List ℕ) (items : List Item) (text rest : List ℕ) → at_text name (length text) items (text ++ 0 ∷ rest) ≡ after_text (control_of name text) items rest
+pub text_whole : (name : List ℕ) (items : List Item) (text rest : List ℕ) → at_text name (length text) items (text ++ 0 ∷ rest) ≡ after_text (control_of name text) items rest
 text_whole name items text rest =
     let k = length-append text (0 ∷ rest) in
     let g : get_or (text ++ 0 ∷ rest) (length text) 0 ≡ 0 = ap (λ n. get_or (text ++ 0 ∷ rest) n 0) (sym (add-zero (length text))) ∙ get_or-append-add text (0 ∷ rest) 0 0 in
@@ -101,7 +101,7 @@ control_end short queue false name text contents rest a os e g =
     go short _ _ (at queue true (ControlText name (length text) ∷ Acks ∷ [])) (text ++ 0 ∷ rest) _ _ (text_whole name (Acks ∷ []) text rest ∙ ap (λ r. after_text r (Acks ∷ []) rest) e) (refl, inl (refl, g))
 
 -- a control file's length that is taken
-taken_len : (n : ℕ) → 1 ≤ n → n ≤ MAX_CONTROL_TEXT → (n == 0 || nat_lt MAX_CONTROL_TEXT n) ≡ false
+pub taken_len : (n : ℕ) → 1 ≤ n → n ≤ MAX_CONTROL_TEXT → (n == 0 || nat_lt MAX_CONTROL_TEXT n) ≡ false
 taken_len n h k = rw (ne_eqb n 0 (λ e. omega arith), le-ltb MAX_CONTROL_TEXT n k) refl
 
 control_items : (job : Bool) (queue name : List ℕ) (n : ℕ) → 1 ≤ n → n ≤ MAX_CONTROL_TEXT → block job queue (Ok (sub.ControlFile n name)) ≡ opening job queue ++ Acks ∷ ControlText name n ∷ Acks ∷ []

@@ -32,11 +32,6 @@ text_done name items k tail input h =
     let s : length tail + k + 1 ≡ length tail + (k + 1) = omega arith in
     rw (lt-ltb (length tail + k) (length (tail ++ input)) (omega arith), get_or-append-add tail input k 0, take-append-add tail input k, s, d) refl
 
-pub text_waits : (name : List ℕ) (items : List Item) (n : ℕ) (tail input : List ℕ) → length tail + length input ≤ n → at_text name n items (tail ++ input) ≡ Waits
-text_waits name items n tail input h =
-    let e = length-append tail input in
-    rw (le-ltb n (length (tail ++ input)) (omega arith)) refl
-
 -- a line: how far it goes without LF, where the tail has none
 inner : (tail input : List ℕ) → prefix_len is_inner tail ≡ length tail → prefix_len is_inner (tail ++ input) ≡ length tail + prefix_len is_inner input
 inner tail input h = prefix_len-append is_inner tail input ∙ rw (eq-eqb _ _ h) refl

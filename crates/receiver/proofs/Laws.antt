@@ -126,9 +126,6 @@ reads_tail : (short : Bool) (os : List Output) (s : Progress) (x t : List ℕ) (
 reads_tail short [] s x t a h = h
 reads_tail short (o ∷ os) s x t a h = h
 
-no_more : (next : Progress → List ℕ → List Reply → Type 0) (last : Type 0) (s : Progress) (o : Output) (a : List Reply) → GoesOn next last s o a Ends → ⊥
-no_more next last s o a h = h
-
 -- nothing comes after the end
 nothing_over : (os : List Output) (s : Progress) (t : List ℕ) (a : List Reply) → s.items ≡ Over ∷ [] → Reads true os s t a → os ≡ []
 nothing_over [] s t a e h = refl
@@ -298,7 +295,3 @@ rested old input n (need.Start queue) new e s l = λ t. asks_rest new _ t l.owed
 rested old input n (need.State queue list long) new e s l = λ t. asks_rest new _ t l.owed
 rested old input n (need.Remove queue agent list) new e s l = λ t. asks_rest new _ t l.owed
 rested old input n need.Abort new e s l = λ t. asks_rest new _ t l.owed
-
-pub reply_owes_none : (s : Progress) (x : Reply) → IsFitting s.owed x → (after_reply s x).owed ≡ None
-reply_owes_none s x f =
-    elim s.owed as (λ o. IsFitting o x → (answered_owed o x s).owed ≡ None) [ None ↦ λ f. absurd f | Some kind ↦ λ f. (answered_keeps kind x s).0 ] f

@@ -18,10 +18,3 @@ on_reply os text a old new rest x g l t b next h = rw append_assoc (l t (x ∷ b
 
 pub to_reading : LeadsToReading
 to_reading os text a s rest t b l h = rw append-nil at (l t b [] h)
-
-false_not_true : false ≡ true → ⊥
-false_not_true e = cc
-
--- where an answer is owed and none is left, nothing more comes
-pub owed_rests : (s : Progress) (t : List ℕ) → IsSome s.owed → ReadsFrom true [] s t []
-owed_rests s t h = elim s.owed as (λ o. IsSome o → ReadsOwed true [] s (s.tail ++ t) [] o) [ None ↦ λ h. absurd (false_not_true h) | Some k ↦ λ h. refl ] h

@@ -5,4 +5,3 @@ pub mod BlockLaws
 pub mod LeadsLaws
 pub mod Exists
 pub mod Short
-pub mod Outputs

@@ -7,6 +7,9 @@ use Rattle.lpd_values.specs.declared.refusal.Refusal.{Refusal}
 use Rattle.lpd_values.specs.declared.refusal.Refusal.TheVariants.{LineTooLong, NoZero, Memory}
 use Rattle.lpd_commands.specs.declared.command.Command.{Command}
 use Rattle.lpd_commands.specs.declared.command.Command.TheVariants as command
+use Rattle.lpd_commands.specs.Layout.{MeansSub}
+use Rattle.lpd_commands.specs.declared.sub.Sub.{Sub}
+use Rattle.lpd_commands.specs.declared.sub.Sub.TheVariants as sub
 use Rattle.lpd_values.specs.Contents.{Contents}
 use Rattle.page_pool.specs.Page.{Page}
 use Rattle.control_file.specs.Text.{control_of}
@@ -16,7 +19,7 @@ use Rattle.receiver.specs.Script.{Item, Acks, data_file, after_line, first_block
 use Rattle.receiver.specs.Reading.{Waits, due, due_at, after_text, is_inner}
 use Rattle.receiver.specs.Reads.{TakesMemory}
 use Rattle.receiver.specs.View.{StepsAt, EndsLine}
-use Rattle.receiver.specs.Sound.{state_of, owed_of, IsSound}
+use Rattle.receiver.specs.Sound.{state_of, owed_of, HasCount, IsSound}
 use Rattle.receiver.specs.declared.machine.Machine.{Machine}
 use Rattle.receiver.specs.declared.machine.Phase.TheVariants as phase
 use Rattle.receiver.specs.declared.machine.Owed.TheVariants as owed
@@ -132,3 +135,9 @@ first_refused old r refusal p s =
 pub refusing : (old : Machine) (refusal : Refusal) (input : List ℕ) → old.phase ≡ phase.Refusing refusal →
     StepsAt (state_of old) input 0 (need.Fault refusal) (state_of (record old { phase = phase.Over })) (due (state_of old) ((state_of old).tail ++ input))
 refusing old refusal input p = rw p (inl (refl, omega arith, refl, refl))
+
+-- a data file that a line means has octets
+pub means_count : (line : List ℕ) (s : Sub) → MeansSub line s → HasCount s
+means_count line sub.Abort m = tt
+means_count line (sub.ControlFile count name) m = tt
+means_count line (sub.DataFile count name) m = m.5

@@ -57,12 +57,6 @@ octets_written [] = []
 octets_written (Wrote w ∷ os) = octet w ∷ octets_written os
 octets_written (Asked r ∷ os) = octets_written os
 
--- the requests among what a session does
-abbrev pub requests_of : List Output → List Request
-requests_of [] = []
-requests_of (Wrote w ∷ os) = requests_of os
-requests_of (Asked r ∷ os) = r ∷ requests_of os
-
 -- an answer; of a ticket, how many octets its page takes
 pub data Reply : Type 0 where
   Yes : Reply

@@ -3,6 +3,8 @@ use Rattle.std.specs.Prelude.{◌≡◌, ℕ, List, [], ◌∷◌, ◌≤◌, �
 use Rattle.lpd_values.specs.declared.limits.TheConstants.{MAX_LINE, MAX_CONTROL_TEXT}
 use Rattle.std.specs.List.{prefix_len}
 use Rattle.lpd_values.specs.declared.refusal.Refusal.TheVariants.{Memory}
+use Rattle.lpd_commands.specs.declared.sub.Sub.{Sub}
+use Rattle.lpd_commands.specs.declared.sub.Sub.TheVariants as sub
 use Rattle.page_pool.specs.Page.{Page}
 use Rattle.receiver.specs.Script.{BeginFile, Item, Asks, Acks, Refuses, PageOctets, ControlText, Over, data_file}
 use Rattle.receiver.specs.Reading.{Progress, Kind, Admission, Opening, Lending, Ending, Aborting, Plain, is_inner}
@@ -72,6 +74,7 @@ pub record HoldsPage (ticket : Option Page) (piece : ℕ) : Type 0 where
 abbrev pub PhaseHolds : List ℕ → List ℕ → Option Page → Phase → Type 0
 PhaseHolds line text ticket phase.Line =
     (prefix_len is_inner line ≡ length line) × (length line ≤ MAX_LINE) × (ticket ≡ None)
+PhaseHolds line text ticket (phase.Begin name count) = (0 < count) × (ticket ≡ None)
 PhaseHolds line text ticket (phase.AckControl name count) =
     (count ≤ MAX_CONTROL_TEXT) × (ticket ≡ None)
 PhaseHolds line text ticket (phase.Text name count) =
@@ -100,6 +103,11 @@ pub record IsSound (m : Machine) : Type 0 where
   pub text_room : MAX_CONTROL_TEXT ≤ vec_capacity m.text
   pub phase : PhaseHolds m.line.items m.text.items m.ticket m.phase
   pub owing : OwedHolds m.phase m.owed
+
+-- a data file that a subcommand begins has octets
+abbrev pub HasCount : Sub → Type 0
+HasCount (sub.DataFile count name) = 0 < count
+HasCount _ = Unit {0}
 
 -- a line has ended
 pub record IsAtLineEnd (m : Machine) : Type 0 where

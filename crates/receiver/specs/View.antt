@@ -1,5 +1,5 @@
 -- What a receiver's needs and answers mean, and what one call does.
-use Rattle.std.specs.Prelude.{◌≡◌, ℕ, Bool, true, false, List, [], ◌∷◌, ◌++◌, ◌≤◌, Option, Some, None, length, drop, ◌⊎◌}
+use Rattle.std.specs.Prelude.{◌≡◌, ℕ, Bool, true, false, List, [], ◌∷◌, ◌++◌, ◌≤◌, ◌<◌, Option, Some, None, length, drop, ◌⊎◌}
 use Rattle.lpd_values.specs.declared.refusal.Refusal.TheVariants.{Memory}
 use Rattle.control_file.specs.View.{contents}
 use Rattle.page_pool.specs.Page.{Page}
@@ -96,9 +96,15 @@ is_last (need.Fault refusal) = true
 is_last need.Ended = true
 is_last _ = false
 
--- a request waits for its answer, and after the last need nothing is read
+-- a data file that is to begin has octets
+abbrev pub BeginsSome : Need → Type 0
+BeginsSome (need.BeginFile name count) = 0 < count
+BeginsSome _ = Unit {0}
+
+-- a request waits for its answer, a data file that is to begin has octets, and after the last need nothing is read
 pub record Leaves (want : Need) (new : Progress) : Type 0 where
   pub owed : new.owed ≡ asked want
+  pub begins : BeginsSome want
   pub over : is_last want ≡ true → new.items ≡ Over ∷ []
 
 -- Nothing is due after a need, until an octet or an answer comes.

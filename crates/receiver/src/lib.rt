@@ -8,7 +8,10 @@ mod need;
 mod receiver;
 mod theorems;
 
+pub use control_file::Control;
+pub use lpd_values::{FileName, Octets, Refusal, Words};
 pub use need::{Answer, Need};
+pub use page_pool::{FilledPage, PageTicket};
 pub use receiver::Receiver;
 pub use theorems::{
     abort_block, control_block, data_block, first_line, later_again, leads, one_reading,

@@ -5,7 +5,7 @@ ghost use Rattle.std.specs.List.{prefix_len};
 ghost use Rattle.receiver.specs.Script.{Ticket, after_line, first_block, block};
 ghost use Rattle.receiver.specs.Reading.{due, start, is_inner, IsFitting, after_reply};
 ghost use Rattle.receiver.specs.View.{Steps, StepsAt, EndsLine, Leaves, reply_of, IsEmptyTicket, held};
-ghost use Rattle.receiver.specs.Sound.{state_of, IsSound, IsAtLineEnd, OpensOrNot};
+ghost use Rattle.receiver.specs.Sound.{state_of, HasCount, IsSound, IsAtLineEnd, OpensOrNot};
 ghost use Rattle.receiver.specs.Idle.{IsIdle};
 
 use crate::need::{Answer, Need};
@@ -468,6 +468,7 @@ impl Machine {
     fn begin_block(&mut self, sub: Sub) -> Need
         requires ended { IsAtLineEnd self.old }
         requires later { self.old.admitted ≡ true }
+        requires counted { HasCount sub }
         ensures sound { IsSound self.new }
         ensures step { EndsLine (state_of self.old)
             (block self.old.job self.old.queue (Ok sub)) result (state_of self.new) }

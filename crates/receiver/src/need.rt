@@ -14,7 +14,7 @@ pub enum Need {
     Queue(Octets),
     /// Asks for a new job for this queue. The answer is Yes.
     Open(Octets),
-    /// Asks for a data file of `count` octets to begin. The answer is Yes.
+    /// Asks for a data file of `count` octets, at least one, to begin. The answer is Yes.
     BeginFile {
         name: FileName,
         count: u64,

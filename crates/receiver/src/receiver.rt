@@ -47,7 +47,8 @@ impl Receiver {
         ensures within { result.0 ≤ length input.now }
         // What is due, exactly.
         ensures step { Steps self.old input.now result.0 result.1 self.new }
-        // Whether an answer is owed, and what is left after a session.
+        // Whether an answer is owed, and what is left after a session. A data file that is to begin
+        // has octets.
         ensures leaves { Leaves result.1 self.new }
         // What comes after the call is the rest of what comes from before it.
         ensures reading { Advances self.old input.now (outputs result.1) self.new

@@ -4,7 +4,7 @@ ghost use Rattle.std.specs.Prelude.{◌≡◌, ◌∷◌, [], None, true, IsSome
 ghost use Rattle.receiver.specs.Script as script;
 ghost use Rattle.receiver.specs.Script.{Request};
 ghost use Rattle.receiver.specs.Reading.{IsFitting};
-ghost use Rattle.receiver.specs.View.{asked, outputs};
+ghost use Rattle.receiver.specs.View.{BeginsSome, asked, outputs};
 ghost use Rattle.spool_trace.specs.Sessions.{reply_of};
 ghost use Rattle.request_calls.specs.Pages.{IsLentPage, blank, page_with};
 
@@ -33,8 +33,10 @@ impl Outcome {
 }
 
 /// Carries out a request of a session, whose host has this number and whose last job has this one.
+/// A data file that it begins has octets.
 pub fn carry_out<T: Requests>(spool: &mut T, sender: u32, job: u64, request: Need) -> Outcome
-    requires { IsSome (asked request) }
+    requires asks { IsSome (asked request) }
+    requires begins { BeginsSome request }
     ensures carries { (r : Request) → outputs request ≡ script.Asked r ∷ []
         → T.carries spool.old sender job r result.answer spool.new }
     ensures page { (r : Request) → outputs request ≡ script.Asked r ∷ []

@@ -5,7 +5,7 @@ use crate::requests::Requests;
 use control_file::Control;
 use lpd_values::{FileName, Octets, Refusal};
 use page_pool::{FilledPage, PageTicket};
-use spool_core::{Asked, Core, Receipt, ReturnedPage, ReturnedTicket};
+use spool_core::{Asked, Core, Receipt, ReturnedControl, ReturnedPage, ReturnedTicket};
 
 impl Requests for Core {
     ghost use Rattle.request_calls.specs.Carried.{Carries, Ends};
@@ -23,9 +23,6 @@ impl Requests for Core {
     }
 
     fn begin_file(&mut self, job: u64, name: FileName, count: u64) -> Result<(), Refusal> {
-        if count == 0 {
-            return Err(Refusal::BadCount);
-        }
         Core::begin_file(self, job, name, count)
     }
 
@@ -34,8 +31,6 @@ impl Requests for Core {
     }
 
     fn put(&mut self, job: u64, page: FilledPage) -> Result<(), ReturnedPage> {
-        // Some history leaves the core here; so it is known that a page which is refused comes back.
-        let _held = self.held();
         Core::put(self, job, page)
     }
 
@@ -43,13 +38,11 @@ impl Requests for Core {
         Core::end_file(self, job)
     }
 
-    fn control(&mut self, job: u64, control: Control) -> Result<Receipt, Refusal> {
+    fn control(&mut self, job: u64, control: Control) -> Result<Receipt, ReturnedControl> {
         Core::control(self, job, control)
     }
 
     fn abort(&mut self, job: u64, ticket: Option<PageTicket>) -> Result<(), ReturnedTicket> {
-        // So it is of a ticket.
-        let _held = self.held();
         Core::abort(self, job, ticket)
     }
 

@@ -12,5 +12,5 @@ pub use carrying::{Outcome, carry_out};
 pub use pages::{first, keep, spend};
 pub use replying::reply;
 pub use requests::Requests;
-pub use spool_calls::{Asked, Receipt, ReturnedPage, ReturnedTicket};
+pub use spool_calls::{Asked, Receipt, ReturnedControl, ReturnedPage, ReturnedTicket};
 pub use spool_requests::Answer;

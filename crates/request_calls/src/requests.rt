@@ -1,16 +1,16 @@
 //! What carries out the requests of sessions.
 
-ghost use Rattle.std.specs.Prelude.{◌≡◌, ℕ, Option, None, IfErr, IfOk};
+ghost use Rattle.std.specs.Prelude.{◌≡◌, ◌<◌, ℕ, Option, None, IfErr, IfOk};
 ghost use Rattle.control_file.specs.View.{contents};
 ghost use Rattle.receiver.specs.Script as script;
-ghost use Rattle.spool_requests.specs.Follows.{aborted_by, asked_by, done_by, kept_by, opened_by};
-ghost use Rattle.spool_requests.specs.Follows.{put_by, told_by};
+ghost use Rattle.spool_requests.specs.Follows.{aborted_by, asked_by, controlled_by, done_by};
+ghost use Rattle.spool_requests.specs.Follows.{kept_by, opened_by, put_by, told_by};
 ghost use Rattle.request_calls.specs.Pages.{IsBlank};
 
 use control_file::Control;
 use lpd_values::{FileName, Octets, Refusal};
 use page_pool::{FilledPage, PageTicket};
-use spool_calls::{Asked, Receipt, ReturnedPage, ReturnedTicket};
+use spool_calls::{Asked, Receipt, ReturnedControl, ReturnedPage, ReturnedTicket};
 
 /// What carries out the requests of sessions. Contracts tell the answer to each by a relation that
 /// whoever carries it out states.
@@ -36,8 +36,9 @@ pub trait Requests {
         ensures { (job : ℕ)
             → carries self.old sender job (script.Open queue.now) (opened_by result) self.new };
 
-    /// Begins a data file of so many octets. One of none is BadCount.
+    /// Begins a data file of so many octets, at least one.
     fn begin_file(&mut self, job: u64, name: FileName, count: u64) -> Result<(), Refusal>
+        requires some { 0 < count }
         ensures { (sender : ℕ)
             → carries self.old sender job (script.BeginFile name count) (done_by result)
             self.new };
@@ -59,11 +60,13 @@ pub trait Requests {
         ensures { (sender : ℕ)
             → carries self.old sender job script.EndFile (kept_by result) self.new };
 
-    /// Takes the control file of a job, and says whether the job is whole by that.
-    fn control(&mut self, job: u64, control: Control) -> Result<Receipt, Refusal>
-        ensures { (sender : ℕ)
-            → carries self.old sender job (script.Control (contents control)) (kept_by result)
-            self.new };
+    /// Takes the control file of a job, and says whether the job is whole by that. One that is
+    /// refused comes back.
+    fn control(&mut self, job: u64, control: Control) -> Result<Receipt, ReturnedControl>
+        ensures back { IfErr result (λ e. e.control ≡ control) }
+        ensures carries { (sender : ℕ)
+            → carries self.old sender job (script.Control (contents control))
+            (controlled_by result) self.new };
 
     /// Ends a job that is being received, or takes back the page that was lent to one that has
     /// ended. A ticket that is refused comes back.

@@ -15,38 +15,25 @@ use Rattle.spool_trace.specs.declared.reply.Deed.TheVariants as deed
 use Rattle.spool_trace.specs.Sessions.{due_in}
 use Rattle.request_calls.specs.Carried.{Carries}
 use Rattle.request_calls.specs.Carried as core
-use Rattle.request_calls.proofs.Begins.{Begins, DueBegins, due_begins, turned_begins}
 use Rattle.request_session.specs.declared.ending.SessionEnd.{SessionEnd}
 use Rattle.request_session.specs.Alone.{AllAnswered, IsAnswered, LeavesEnded, ServedAlone, grown, with_answer}
 use Rattle.request_session.specs.Carried.{AtEnd, CarriesAll, CarriesDue}
-use Rattle.request_session.specs.Course.{Course, Came, Did, IsRight, session_after}
-use Rattle.request_session.specs.Served.{ServedBy, Side}
-
--- each file that is to begin has octets
-course_begins : (sender : ℕ) (c : Course) → Begins (session_after sender c)
-course_begins sender [] = tt
-course_begins sender (Came octets ∷ c) = course_begins sender c
-course_begins sender (Did done ∷ c) =
-    let s = session_after sender c in
-    turned_begins (due_in s) done s (due_begins s.progress s.unread (course_begins sender c)) (course_begins sender c)
-
--- what is due begins files with octets
-due_in_begins : (sender : ℕ) (c : Course) → DueBegins (due_in (session_after sender c))
-due_in_begins sender c = due_begins (session_after sender c).progress (session_after sender c).unread (course_begins sender c)
+use Rattle.request_session.specs.Course.{Course, Came, Did, session_after}
+use Rattle.request_session.specs.Served.{Around, ServedBy}
 
 -- the core has grown by one answer
 pub record OneMore (due : Due) (sender job : ℕ) (answer : Answer) (old new : Kept) : Type 0 where
   pub config : new.config ≡ old.config
   pub follows : IsConfig old.config → calls.IsRight old (λ d b h. IsAnswered d old.config b sender due job answer h × Leaves d b (with_answer d old.config b sender due job answer h) new)
 
-one_more : (due : Due) (sender job : ℕ) (answer : Answer) (old new : Kept) → DueBegins due → CarriesDue Carries sender due job answer old new → OneMore due sender job answer old new
-one_more Ends sender job answer old new begins x = absurd x
-one_more Waits sender job answer old new begins x = absurd x
-one_more (Writes w items text) sender job answer old new begins x = absurd x
-one_more (Requests r items text) sender job answer old new begins x =
+one_more : (due : Due) (sender job : ℕ) (answer : Answer) (old new : Kept) → CarriesDue Carries sender due job answer old new → OneMore due sender job answer old new
+one_more Ends sender job answer old new x = absurd x
+one_more Waits sender job answer old new x = absurd x
+one_more (Writes w items text) sender job answer old new x = absurd x
+one_more (Requests r items text) sender job answer old new x =
     record {
       config = x.config;
-      follows = λ ranges d b h l. let f = x.follows begins.0 ranges d b h l in (f.is, f.left);
+      follows = λ ranges d b h l. let f = x.follows ranges d b h l in (f.is, f.left);
     }
 
 -- the core has grown by all answers of a course
@@ -65,7 +52,7 @@ all_more (Did (deed.Refused n) ∷ c) sender old new x = let m = all_more c send
 all_more (Did (deed.Asked kind answer) ∷ c) sender old new (before, all, one) =
     let s = session_after sender c in
     let m = all_more c sender old before all in
-    let o = one_more (due_in s) sender s.job answer before new (due_in_begins sender c) one in
+    let o = one_more (due_in s) sender s.job answer before new one in
     record {
       config = o.config ∙ m.config;
       follows = λ ranges d b h l.
@@ -92,17 +79,17 @@ end_more true job old new (page, x) =
     record { config = x.config; leaves = λ d b h l. let a = x.aborts d b h l in aborted d b h job page old new a.0 l a.1 }
 
 -- a session that a core served, with no one else at it
-pub alone : (end : SessionEnd) (sender : ℕ) (reader reader' writer writer' : Side) (old new : Kept)
-    → ServedBy Carries core.Ends end sender reader reader' writer writer' old new → ServedAlone end sender reader reader' writer writer' old new
-alone end sender reader reader' writer writer' old new x =
+pub alone : (end : SessionEnd) (sender : ℕ) (before after : Around Kept) → ServedBy Carries core.Ends end sender before after → ServedAlone end sender before after
+alone end sender before after x =
     let s = session_after sender x.course in
-    let m = all_more x.course sender old x.asked x.carried in
-    let e = end_more s.progress.job s.job x.asked new x.aborts in
+    let m = all_more x.course sender before.spool x.asked x.carried in
+    let e = end_more s.progress.job s.job x.asked after.spool x.aborts in
     record {
       course = x.course;
       ends = x.ends;
+      read = x.read;
       config = e.config ∙ m.config;
       grows = λ ranges d b h l.
           let k = m.follows ranges d b h l in
-          record { answers = k.0; leaves = e.leaves d b (grown d old.config b sender x.course h) k.1 };
+          record { answers = k.0; leaves = e.leaves d b (grown d before.spool.config b sender x.course h) k.1 };
     }

@@ -18,7 +18,7 @@ use Rattle.spool_trace.specs.declared.reply.Deed.TheVariants as deed
 use Rattle.spool_trace.specs.Sessions.{due_in}
 use Rattle.request_session.specs.declared.ending.SessionEnd.{SessionEnd}
 use Rattle.request_session.specs.Course.{Course, Did, session_after}
-use Rattle.request_session.specs.Served.{Ends, Side}
+use Rattle.request_session.specs.Served.{Around, Ends, HasRead}
 
 module _ (d : Detail) (config : Config) (b : Base) (sender : ℕ) where
   -- the history with the event, if any, that the request which was due shows with its answer
@@ -58,9 +58,10 @@ pub record Grows (d : Detail) (b : Base) (h : List (Event (What d))) (sender : �
       LeavesEnded d b (session_after sender c).progress.job (session_after sender c).job (grown d old.config b sender c h) new
 
 -- a session was served by a core and ended so, and no one else called the core meanwhile
-pub record ServedAlone (end : SessionEnd) (sender : ℕ) (reader reader' writer writer' : Side) (core core' : Kept)
-    : Type 0 where
+pub record ServedAlone (end : SessionEnd) (sender : ℕ) (before after : Around Kept) : Type 0 where
   pub course : Course
-  pub ends : Ends end sender course reader reader' writer writer'
-  pub config : core'.config ≡ core.config
-  pub grows : IsConfig core.config → IsRight core (λ d b h. Grows d b h sender course core core')
+  pub ends : Ends end sender course before.writer after.writer
+  pub read : HasRead end (session_after sender course).arrived before.reader after.reader
+  pub config : after.spool.config ≡ before.spool.config
+  pub grows :
+      IsConfig before.spool.config → IsRight before.spool (λ d b h. Grows d b h sender course before.spool after.spool)

@@ -16,14 +16,6 @@ Carrying S = S → (sender job : ℕ) → Request → Answer → S → Type 0
 abbrev pub Ending : Type 0 → Type 1
 Ending S = S → (job : ℕ) → Option Page → S → Type 0
 
--- what carries requests out, and the number of the job that was opened last
-pub record Here (S : Type 0) : Type 0 where
-  pub spool : S
-  pub job : ℕ
-
-abbrev pub here : {S : Type 0} → S → ℕ → Here S
-here spool job = record { spool = spool; job = job }
-
 module _ {S : Type 0} (carries : Carrying S) (sender : ℕ) where
   -- the request that was due was carried out
   abbrev pub CarriesDue : Due → (job : ℕ) → Answer → (old new : S) → Type 0

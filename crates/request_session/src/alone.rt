@@ -1,7 +1,7 @@
 //! A session that a core serves alone.
 
 ghost use Rattle.request_session.specs.Alone.{ServedAlone};
-ghost use Rattle.request_session.specs.Served.{side};
+ghost use Rattle.request_session.specs.Served.{around, side, source};
 
 use crate::ending::SessionEnd;
 use crate::session::serve_by;
@@ -23,10 +23,10 @@ pub fn serve_alone<R: Wait, I: OctetRead, W: OctetWrite>(
     writer: &mut W,
 ) -> SessionEnd
     ensures { ServedAlone result sender
-        (side (I.left reader.old) (I.faults reader.old))
-        (side (I.left reader.new) (I.faults reader.new))
-        (side (W.written writer.old) (W.faults writer.old))
-        (side (W.written writer.new) (W.faults writer.new)) core.old core.new }
+        (around (source (I.left reader.old) (I.faults reader.old) (I.reads reader.old))
+        (side (W.written writer.old) (W.faults writer.old)) core.old)
+        (around (source (I.left reader.new) (I.faults reader.new) (I.reads reader.new))
+        (side (W.written writer.new) (W.faults writer.new)) core.new) }
 {
     serve_by(rt, alloc, core, sender, reader, writer)
 }

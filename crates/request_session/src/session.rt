@@ -1,11 +1,10 @@
 //! Serving a session.
 
-ghost use Rattle.std.specs.Prelude.{◌≡◌, ◌<◌, length};
+ghost use Rattle.std.specs.Prelude.{◌≡◌, ◌<◌, [], length};
 ghost use Rattle.receiver.specs.Reading.{start};
-ghost use Rattle.request_session.specs.Carried.{here};
-ghost use Rattle.request_session.specs.Course.{Course};
-ghost use Rattle.request_session.specs.Served.{ServedBy, side};
-ghost use Rattle.request_session.specs.Turned.{EndsThere, IsEnding};
+ghost use Rattle.request_session.specs.Course.{Course, session_after};
+ghost use Rattle.request_session.specs.Served.{HasRead, ServedBy, around, side, source};
+ghost use Rattle.request_session.specs.Turned.{EndsThere, IsEnding, moment};
 
 use crate::ending::{SessionEnd, say_last};
 use crate::talk::Talk;
@@ -60,12 +59,13 @@ impl Talk {
         requires start { self.old.receiver ≡ start }
         requires none { self.old.job ≡ 0 }
         requires room { 0 < length buffer.old }
-        ensures over { (c : Course) × IsEnding T.carries result self.old.sender c
-            (side (I.left reader.old) (I.faults reader.old))
-            (side (I.left reader.new) (I.faults reader.new))
-            (side (W.written writer.old) (W.faults writer.old))
-            (side (W.written writer.new) (W.faults writer.new))
-            (here spool.old self.old.job) (here spool.new self.new.job) self.new.receiver }
+        ensures over { (c : Course)
+            × IsEnding T.carries result c
+            (moment self.old [] spool.old (side (W.written writer.old) (W.faults writer.old)))
+            (moment self.new [] spool.new (side (W.written writer.new) (W.faults writer.new)))
+            × HasRead result (session_after self.old.sender c).arrived
+            (source (I.left reader.old) (I.faults reader.old) (I.reads reader.old))
+            (source (I.left reader.new) (I.faults reader.new) (I.reads reader.new)) }
     {
         'reads: for _i in 0..MOST_READS {
             let count = match reader.read(buffer) {
@@ -98,10 +98,10 @@ pub fn serve_by<T: Requests, R: Wait, I: OctetRead, W: OctetWrite>(
     writer: &mut W,
 ) -> SessionEnd
     ensures { ServedBy T.carries T.ends result sender
-        (side (I.left reader.old) (I.faults reader.old))
-        (side (I.left reader.new) (I.faults reader.new))
-        (side (W.written writer.old) (W.faults writer.old))
-        (side (W.written writer.new) (W.faults writer.new)) spool.old spool.new }
+        (around (source (I.left reader.old) (I.faults reader.old) (I.reads reader.old))
+        (side (W.written writer.old) (W.faults writer.old)) spool.old)
+        (around (source (I.left reader.new) (I.faults reader.new) (I.reads reader.new))
+        (side (W.written writer.new) (W.faults writer.new)) spool.new) }
 {
     let Ok(mut buffer) = vec![in alloc; 0u8; BUFFER_SIZE] else {
         return SessionEnd::Memory;

@@ -1,11 +1,10 @@
 //! What a session does for the octets that it has read.
 
 ghost use Rattle.std.specs.Prelude.{◌≡◌, ◌≤◌, [], drop, length, IsSome, None};
-ghost use Rattle.receiver.specs.View.{asked};
+ghost use Rattle.receiver.specs.View.{BeginsSome, asked};
 ghost use Rattle.request_session.specs.Served.{side};
-ghost use Rattle.request_session.specs.Carried.{here};
-ghost use Rattle.request_session.specs.Turned.{Answered, TurnsFrom, Writing};
-ghost use Rattle.request_session.specs.Turned.{turn_after_lem, turn_of};
+ghost use Rattle.request_session.specs.Turned.{Answered, TurnsFrom, Writing, here, moment};
+ghost use Rattle.request_session.specs.Turned.{turn_if_written, turn_of};
 ghost use Rattle.spool_trace.specs.Trace.{text_of};
 
 use crate::ending::SessionEnd;
@@ -40,7 +39,7 @@ pub(crate) enum Turn {
 
 /// Over where the writer failed, and else the turn.
 fn turn_after(written: Result<(), OctetFault>, turn: Turn) -> Turn
-    ensures { result ≡ turn_after_lem written turn }
+    ensures { result ≡ turn_if_written written turn }
 {
     match written {
         Ok(()) => turn,
@@ -57,13 +56,12 @@ impl Talk {
         request: Need,
     ) -> Result<(), OctetFault>
         requires asks { IsSome (asked request) }
+        requires begins { BeginsSome request }
         requires owed { self.old.receiver.owed ≡ asked request }
-        ensures answered { (answer : Answer)
-            × Answered T.carries self.old.sender request answer self.old.receiver self.new.receiver
-            (here spool.old self.old.job) (here spool.new self.new.job)
+        ensures { (answer : Answer)
+            × Answered T.carries request answer (here self.old spool.old) (here self.new spool.new)
             × Writing result (text_of answer) (side (W.written writer.old) (W.faults writer.old))
             (side (W.written writer.new) (W.faults writer.new)) }
-        ensures sender { self.new.sender ≡ self.old.sender }
     {
         match self.carry_out(spool, request) {
             Answer::Told(text) => write_all(writer, text.as_slice()),
@@ -81,12 +79,10 @@ impl Talk {
     ) -> (usize, Turn)
         requires { self.old.receiver.owed ≡ None }
         ensures within { result.0 ≤ length rest.now }
-        ensures turned { TurnsFrom T.carries self.old.sender
-            (side (W.written writer.old) (W.faults writer.old))
-            (side (W.written writer.new) (W.faults writer.new))
-            (here spool.old self.old.job) (here spool.new self.new.job) self.old.receiver rest.now
-            result.1 self.new.receiver (drop result.0 rest.now) }
-        ensures sender { self.new.sender ≡ self.old.sender }
+        ensures turned { TurnsFrom T.carries result.1
+            (moment self.old rest.now spool.old (side (W.written writer.old) (W.faults writer.old)))
+            (moment self.new (drop result.0 rest.now) spool.new
+            (side (W.written writer.new) (W.faults writer.new))) }
         ensures nothing { self.new.receiver.owed ≡ None }
     {
         let (count, need) = self.receiver.advance(rest);
@@ -112,12 +108,9 @@ impl Talk {
         octets: &[u8],
     ) -> Option<SessionEnd>
         requires { self.old.receiver.owed ≡ None }
-        ensures turned { TurnsFrom T.carries self.old.sender
-            (side (W.written writer.old) (W.faults writer.old))
-            (side (W.written writer.new) (W.faults writer.new))
-            (here spool.old self.old.job) (here spool.new self.new.job) self.old.receiver octets.now
-            (turn_of result) self.new.receiver [] }
-        ensures sender { self.new.sender ≡ self.old.sender }
+        ensures turned { TurnsFrom T.carries (turn_of result)
+            (moment self.old octets.now spool.old (side (W.written writer.old) (W.faults writer.old)))
+            (moment self.new [] spool.new (side (W.written writer.new) (W.faults writer.new))) }
         ensures nothing { self.new.receiver.owed ≡ None }
     {
         let mut rest = octets;

@@ -1,5 +1,10 @@
 //! Handing connections on to sessions that are free.
 
+ghost use Rattle.std.specs.Prelude.{◌≡◌, ◌≢◌, ◌↔◌, ◌+◌, ◌-◌, ◌^◌, IsSome, IsTrue, Some, min};
+ghost use Rattle.server_edge.specs.Desk.{HasPlace, IsFree};
+ghost use Rattle.server_edge.specs.declared.desk.Served.TheVariants.{Questions};
+ghost use Rattle.server_edge.specs.declared.first_line.Kind.TheVariants.{Job, Listing};
+
 use crate::first_line::Kind;
 use crate::waiting_room::Turn;
 use std::alloc::Global;
@@ -67,17 +72,18 @@ impl<T: Drop> Hall<T> {
     }
 
     /// Whether a session for all is free for this host, which may have so many.
-    fn has_place(&self, host: u32, most: u32) -> bool {
-        let mut left = most;
-        for other in self.hosts.iter() {
-            if *other == host {
-                left = left.saturating_sub(1);
-            }
-        }
-        self.all.free > 0 && left > 0
+    fn has_place(&self, host: u32, most: u32) -> bool
+        ensures { IsTrue result ↔ HasPlace self.now.all.free self.now.hosts.items host most }
+    {
+        let of_host = self.hosts.iter().filter(|other| **other == host);
+        self.all.free > 0 && of_host.count() < most as usize
     }
 
-    fn is_free(&self, turn: Turn, most: u32) -> bool {
+    /// Whether a session is free for this one, of whose host so many may be served.
+    fn is_free(&self, turn: Turn, most: u32) -> bool
+        ensures { IsTrue result ↔ IsFree turn.kind self.now.all.free self.now.questions.free
+            self.now.listings self.now.hosts.items turn.host most }
+    {
         match turn.kind {
             Kind::Job => self.has_place(turn.host, most),
             Kind::Listing if self.listings >= MOST_LISTINGS => false,
@@ -103,38 +109,51 @@ impl<T: Drop> Hall<T> {
         None
     }
 
+    /// Hands on to a session for all, where one is free. Whether it has.
+    fn hand_to_all(&mut self, host: u32, visit: T) -> bool
+        ensures { self.new.listings ≡ self.old.listings }
+    {
+        if self.hosts.push(host).is_err() {
+            return false;
+        }
+        if self.all.hand(visit) {
+            return true;
+        }
+        self.leave(Served::All, Kind::Question, host);
+        false
+    }
+
     /// Hands on where a session is free: a question to one for questions first, so that the others stay free for jobs. What is
     /// answered is to which; None where none is free, or memory is refused.
-    fn hand(&mut self, kind: Kind, host: u32, visit: T) -> Option<Served> {
+    fn hand(&mut self, kind: Kind, host: u32, visit: T) -> Option<Served>
+        ensures job { kind ≡ Job → result ≢ Some Questions }
+        ensures listing { kind ≡ Listing → IsSome result
+            → self.new.listings ≡ min (self.old.listings + 1) (2 ^ 32 - 1) }
+        ensures other { kind ≢ Listing → self.new.listings ≡ self.old.listings }
+    {
+        let listings = self.listings.saturating_add(1);
         let served = if kind != Kind::Job && self.questions.free > 0 {
-            Served::Questions
+            self.questions.hand(visit).then_some(Served::Questions)
         } else {
-            Served::All
+            self.hand_to_all(host, visit).then_some(Served::All)
         };
-        if served == Served::All && self.hosts.push(host).is_err() {
-            return None;
+        if kind == Kind::Listing && served.is_some() {
+            self.listings = listings;
         }
-        if !self.window(served).hand(visit) {
-            self.leave(served, Kind::Question, host);
-            return None;
-        }
-        if kind == Kind::Listing {
-            self.listings = self.listings.saturating_add(1);
-        }
-        Some(served)
+        served
     }
 
     /// A session has served this.
-    fn leave(&mut self, served: Served, kind: Kind, host: u32) {
+    fn leave(&mut self, served: Served, kind: Kind, host: u32)
+        ensures listing { kind ≡ Listing → self.new.listings ≡ self.old.listings - 1 }
+        ensures other { kind ≢ Listing → self.new.listings ≡ self.old.listings }
+    {
         if kind == Kind::Listing {
             self.listings = self.listings.saturating_sub(1);
         }
         if served == Served::All {
-            for at in 0..self.hosts.len() {
-                if self.hosts[at] == host {
-                    self.hosts.remove(at);
-                    return;
-                }
+            if let Some(at) = self.hosts.iter().position(|other| *other == host) {
+                self.hosts.remove(at);
             }
         }
     }

@@ -9,7 +9,8 @@
 //!
 //! One thread holds them, with no octet read: what came is looked at, and left for the session.
 
-ghost use Rattle.std.specs.Prelude.{◌≡◌, ◌<◌, ◌↔◌, IsTrue, None, length};
+ghost use Rattle.std.specs.Prelude.{◌≡◌, ◌<◌, ◌↔◌, ◌++◌, IsTrue, Some, codes, length};
+ghost use Rattle.std.specs.Fmt.{decimal};
 
 use crate::desk::Desk;
 use crate::first_line::Kind;
@@ -48,7 +49,8 @@ struct WantOfRoom {
 }
 
 impl Display for WantOfRoom {
-    ghost output = { λ _. None };
+    ghost output = { λ why. Some (codes "closed without its first line for want of room, "
+        ++ (decimal why.closed ++ codes " by now")) };
 
     fn fmt<W: fmt::Write>(&self, f: &mut fmt::Formatter<W>) -> fmt::Result {
         write!(

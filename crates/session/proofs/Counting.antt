@@ -11,7 +11,7 @@ use Rattle.session.specs.Seated as seats
 use Rattle.request_session.specs.declared.ending.SessionEnd.{SessionEnd}
 use Rattle.request_session.specs.Carried.{AtEnd, CarriesAll, CarriesDue}
 use Rattle.request_session.specs.Course.{Course, Came, Did, IsDue, IsRight, session_after}
-use Rattle.request_session.specs.Served.{ServedBy, Side}
+use Rattle.request_session.specs.Served.{Around, ServedBy}
 use Rattle.session.specs.Added.{AddsAll, AddsAtEnd, AllGiven}
 use Rattle.session.specs.Served.{Served}
 
@@ -39,15 +39,16 @@ at_end : (in_hand : Bool) (job : ℕ) (old new : Sums) → AtEnd seats.Ends in_h
 at_end true job old new x = x.1
 at_end false job old new x = x
 
-pub counted : (end : SessionEnd) (sender : ℕ) (reader reader' writer writer' : Side) (seat seat' : Sums)
-    → ServedBy Carries seats.Ends end sender reader reader' writer writer' seat seat' → Served end sender reader reader' writer writer' seat seat'
-counted end sender reader reader' writer writer' seat seat' x =
-    let a = all_added sender x.course seat x.asked x.ends.right x.carried in
+pub counted : (end : SessionEnd) (sender : ℕ) (before after : Around Sums) → ServedBy Carries seats.Ends end sender before after
+    → Served end sender before.reader after.reader before.writer after.writer before.spool after.spool
+counted end sender before after x =
+    let a = all_added sender x.course before.spool x.asked x.ends.right x.carried in
     record {
       course = x.course;
       ends = x.ends;
+      read = x.read;
       given = a.0;
       asked = x.asked;
       adds = a.1;
-      aborts = at_end (session_after sender x.course).progress.job (session_after sender x.course).job x.asked seat' x.aborts;
+      aborts = at_end (session_after sender x.course).progress.job (session_after sender x.course).job x.asked after.spool x.aborts;
     }

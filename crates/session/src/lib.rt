@@ -8,7 +8,9 @@
 mod seated;
 mod session;
 
+pub use lpd_values::Refusal;
 pub use request_session::{BUFFER_SIZE, MOST_READS, OctetFault, OctetRead, OctetWrite, SessionEnd};
 pub use seated::Seated;
 pub use session::serve;
 pub use shared_spool::{SessionSeat, SharedSpool};
+pub use spool_ledgers::SpoolLedger;

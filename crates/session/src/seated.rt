@@ -5,7 +5,7 @@ ghost use Rattle.std.specs.Prelude.{◌≡◌};
 use control_file::Control;
 use lpd_values::{FileName, Octets, Refusal};
 use page_pool::{FilledPage, PageTicket};
-use request_calls::{Asked, Receipt, Requests, ReturnedPage, ReturnedTicket};
+use request_calls::{Asked, Receipt, Requests, ReturnedControl, ReturnedPage, ReturnedTicket};
 use shared_spool::{SessionSeat, SharedSpool, SpoolLedger};
 use std::marker::Model;
 use std::sync::Wait;
@@ -69,9 +69,6 @@ impl<R: Wait, E: SpoolLedger, K: Ledger, H: Ledger> Requests for Seated<'_, R, E
     }
 
     fn begin_file(&mut self, job: u64, name: FileName, count: u64) -> Result<(), Refusal> {
-        if count == 0 {
-            return Err(Refusal::BadCount);
-        }
         self.spool
             .begin_file(self.rt, &mut self.seat, job, name, count)
     }
@@ -88,7 +85,7 @@ impl<R: Wait, E: SpoolLedger, K: Ledger, H: Ledger> Requests for Seated<'_, R, E
         self.spool.end_file(self.rt, &mut self.seat, job)
     }
 
-    fn control(&mut self, job: u64, control: Control) -> Result<Receipt, Refusal> {
+    fn control(&mut self, job: u64, control: Control) -> Result<Receipt, ReturnedControl> {
         self.spool.control(self.rt, &mut self.seat, job, control)
     }
 

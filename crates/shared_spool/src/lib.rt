@@ -13,11 +13,15 @@ mod sessions;
 mod spool;
 mod waiting;
 
+pub use account::{Act, Outline, Sheet, Turn};
+pub use control_file::Control;
 pub use line::Waiting;
 pub use locked_spool::{
     Account, Asked, Base, Config, Entry, Foreign, HandedPage, Kind, Next, Pages, Progress, Receipt,
-    ReturnedPage, ReturnedTicket, RotateError, Segment,
+    ReturnedControl, ReturnedPage, ReturnedTicket, RotateError, Segment, Unopened,
 };
+pub use lpd_values::{FileName, Octets, Refusal};
+pub use page_pool::{FilledPage, PageTicket};
 pub use seats::{PrinterSeat, SessionSeat};
 pub use spool::{Opened, SharedSpool, Unfinished};
-pub use spool_ledgers::SpoolLedger;
+pub use spool_ledgers::{Blanks, SpoolLedger};

@@ -8,7 +8,7 @@ ghost use Rattle.locked_spool.specs.Shares.{when_done, when_lent};
 use crate::seats::SessionSeat;
 use crate::spool::SharedSpool;
 use control_file::Control;
-use locked_spool::{Asked, Receipt, ReturnedPage, ReturnedTicket};
+use locked_spool::{Asked, Receipt, ReturnedControl, ReturnedPage, ReturnedTicket};
 use lpd_values::{FileName, Refusal};
 use page_pool::{FilledPage, PageTicket};
 use spool_ledgers::SpoolLedger;
@@ -155,16 +155,17 @@ impl<E: SpoolLedger, K: Ledger, H: Ledger> SharedSpool<E, K, H> {
 
     /// Takes the control file of a job, and says whether the job is whole by that.
     ///
-    /// NotOpen where the job isn't being received; ControlTwice where it has one; Memory where memory for the account's copy is
-    /// refused.
+    /// Refused, with the control file: NotOpen where the job isn't being received; ControlTwice where it has one; Memory where
+    /// memory for the account's copy is refused.
     pub fn control<R: Wait>(
         &self,
         rt: &R,
         seat: &mut SessionSeat<E, K, H>,
         job: u64,
         control: Control,
-    ) -> Result<Receipt, Refusal>
-        ensures { seat.new ≡ when_done kind.Controlled result seat.old }
+    ) -> Result<Receipt, ReturnedControl>
+        ensures back { IfErr result (λ e. e.control ≡ control) }
+        ensures shares { seat.new ≡ when_done kind.Controlled result seat.old }
     {
         let row = seat.row_for(job);
         let mut room = self.state.lock(rt);

@@ -1,19 +1,20 @@
 //! The spool, its seats, and its end.
 
-ghost use Rattle.std.specs.Prelude.{◌≡◌, ◌≢◌, ◌+◌, ◌↔◌, sum_by, vec_len, IfOk, IfErr, IsErr};
+ghost use Rattle.std.specs.Prelude.{◌≡◌, ◌≢◌, ◌+◌, ◌≤◌, ◌↔◌, [], sum_by, vec_len, vec_capacity, IfOk, IfErr, IsErr};
 ghost use Rattle.config_values.specs.Config.{printer_count};
 ghost use Rattle.locked_spool.specs.Segments.{HasHeadline, IsLegalSegment, all_entries, all_handed, all_kinds};
+ghost use Rattle.spool_ledgers.specs.Blanks.{AreFor, mark};
 ghost use Rattle.shared_spool.specs.Seats.{AreDesks, AreFresh, entries_by, handed_by_all, kinds_by};
 
 use crate::bells::Bells;
 use crate::line::{Line, Room};
 use crate::seats::{PrinterSeat, SessionSeat};
-use locked_spool::{Config, Locked, Segment};
-use spool_ledgers::{Books, Shares, SpoolLedger};
+use locked_spool::{Config, Locked, Segment, Unopened};
+use spool_ledgers::{Blanks, Shares, SpoolLedger};
 use std::alloc::{AllocError, Global};
 use std::fmt;
 use std::marker::Model;
-use std::sync::ledger::{Blank, Ledger};
+use std::sync::ledger::Ledger;
 use std::sync::{Condvar, Mutex};
 
 /// A spool that threads share. Contracts see how many seats it has.
@@ -60,6 +61,10 @@ pub struct Unfinished<E: SpoolLedger, K: Ledger, H: Ledger> {
 
 /// Writes the number and the name of the refusal, `13 SeatsMissing`.
 impl<E: SpoolLedger, K: Ledger, H: Ledger> fmt::Display for Unfinished<E, K, H> {
+    ghost use Rattle.std.specs.Prelude.{Some, codes};
+
+    ghost output = { λ _. Some (codes "13 SeatsMissing") };
+
     fn fmt<W: fmt::Write>(&self, f: &mut fmt::Formatter<W>) -> fmt::Result {
         f.write_str("13 SeatsMissing")
     }
@@ -96,46 +101,71 @@ fn merge_printers<E: SpoolLedger, K: Ledger, H: Ledger>(
     }
 }
 
+/// What a spool takes memory for beside what lies under its lock: its bells, its line, and room for its seats.
+#[derive(Drop)]
+struct Places<E: SpoolLedger, K: Ledger, H: Ledger> {
+    sessions: Vec<SessionSeat<E, K, H>>,
+    printers: Vec<PrinterSeat<E, K, H>>,
+    bells: Bells,
+    line: Line,
+}
+
+/// Places for so many sessions and for the printers of a configuration, none of which has a seat yet.
+fn places_for<E: SpoolLedger, K: Ledger, H: Ledger>(
+    alloc: Global,
+    config: &Config,
+    sessions: u32,
+) -> Result<Places<E, K, H>, AllocError>
+    ensures none { IfOk result (λ p. (p.sessions.items ≡ []) × (p.printers.items ≡ [])) }
+    ensures room { IfOk result (λ p. (sessions ≤ vec_capacity p.sessions)
+        × (printer_count config.now ≤ vec_capacity p.printers)) }
+{
+    let printers = config.printer_count();
+    Ok(Places {
+        sessions: Vec::with_capacity(alloc, sessions as usize)?,
+        printers: Vec::with_capacity(alloc, printers as usize)?,
+        bells: Bells::new(alloc, config, sessions)?,
+        line: Line::new(alloc, printers, sessions)?,
+    })
+}
+
 impl<E: SpoolLedger, K: Ledger, H: Ledger> SharedSpool<E, K, H> {
     /// A spool in which nothing happened yet, a seat for each of so many sessions, and one for each printer.
     ///
-    /// AllocError where memory for it is refused.
+    /// Where memory for it is refused all that it was given comes back.
     pub fn new(
         alloc: Global,
-        entries: Blank,
-        kinds: Blank,
-        handed: Blank,
+        blanks: Blanks,
         config: Config,
         sessions: u32,
-    ) -> Result<Opened<E, K, H>, AllocError>
-        requires entries { (entries.name ≡ E.name) × (entries.parts ≡ E.parts) }
-        requires kinds { (kinds.name ≡ K.name) × (kinds.parts ≡ K.parts) }
-        requires handed { (handed.name ≡ H.name) × (handed.parts ≡ H.parts) }
-        requires config { config ≡ E.config }
-        requires one_each { (E.parts ≡ sessions + printer_count config) × (K.parts ≡ E.parts)
-            × (H.parts ≡ E.parts) }
+    ) -> Result<Opened<E, K, H>, Unopened>
+        requires { AreFor blanks config sessions E.config (mark E.name E.parts)
+            (mark K.name K.parts) (mark H.name H.parts) }
         ensures seats { IfOk result (λ o. o.spool ≡ sessions + printer_count config) }
         ensures sessions { IfOk result (λ o. AreFresh sessions o.sessions.items) }
         ensures printers { IfOk result (λ o. AreDesks (printer_count config) o.printers.items) }
+        ensures back { IfErr result (λ u. (u.blanks ≡ blanks) × (u.config ≡ config)) }
     {
         let printers = config.printer_count();
-        let (books, mut all) = Books::open(entries, kinds, handed);
-        let mut session_seats = Vec::new(alloc);
+        let Ok(places) = places_for::<E, K, H>(alloc, &config, sessions) else {
+            return Err(Unopened { blanks, config });
+        };
+        let (locked, mut all) = Locked::<E, K, H>::new(alloc, blanks, config)?;
+        let Places {
+            sessions: mut session_seats,
+            printers: mut printer_seats,
+            bells,
+            line,
+        } = places;
         'sessions: for i in 0..sessions {
-            session_seats.push(SessionSeat::new(i, all.split_one()))?;
+            session_seats.push_reserved(SessionSeat::new(i, all.split_one()));
         }
-        let mut printer_seats = Vec::new(alloc);
         'printers: for i in 0..printers {
-            printer_seats.push(PrinterSeat::new(i + 1, all.split_one()))?;
+            printer_seats.push_reserved(PrinterSeat::new(i + 1, all.split_one()));
         }
-        let bells = Bells::new(alloc, &config, sessions)?;
-        let line = Line::new(alloc, printers, sessions)?;
         Ok(Opened {
             spool: SharedSpool {
-                state: Mutex::new(Room {
-                    locked: Locked::new(alloc, config, books)?,
-                    line,
-                }),
+                state: Mutex::new(Room { locked, line }),
                 changed: Condvar::new(),
                 bells,
                 seats: u64::from(sessions) + u64::from(printers),

@@ -24,6 +24,7 @@ pub struct Reader<'a> {
     /// Whether it fails at its end.
     breaks: bool,
     faults: u64,
+    reads: u64,
 }
 
 impl<'a> Reader<'a> {
@@ -34,6 +35,7 @@ impl<'a> Reader<'a> {
             piece: draws.below(MOST_AT_ONCE) as usize + 1,
             breaks,
             faults: 0,
+            reads: 0,
         }
     }
 }
@@ -43,7 +45,10 @@ impl OctetRead for Reader<'_> {
 
     ghost faults = { λ reader. reader.faults };
 
+    ghost reads = { λ reader. reader.reads };
+
     fn read(&mut self, into: &mut [u8]) -> Result<usize, OctetFault> {
+        self.reads = self.reads.saturating_add(1);
         if self.rest.is_empty() && self.breaks {
             self.faults = self.faults.saturating_add(1);
             return Err(OctetFault);

@@ -1,7 +1,6 @@
 //! A spool from its opening to its end.
 
-ghost use Rattle.std.specs.Prelude.{◌≡◌, ◌+◌};
-ghost use Rattle.config_values.specs.Config.{printer_count};
+ghost use Rattle.spool_ledgers.specs.Blanks.{AreFor, mark};
 
 use crate::audit::Audit;
 use crate::draws::Draws;
@@ -13,12 +12,12 @@ use crate::violation::Violation;
 use config_values::Config;
 use printer_worker::{Ending, PrinterSeat};
 use session::SessionSeat;
-use shared_spool::{Opened, SharedSpool, SpoolLedger};
+use shared_spool::{Blanks, Opened, SharedSpool, SpoolLedger};
 use std::alloc::{AllocError, Global};
 use std::marker::Brand;
 use std::rt::Clock;
 use std::sync::Wait;
-use std::sync::ledger::{Blank, Ledger};
+use std::sync::ledger::Ledger;
 use std::thread;
 use std::thread::Threads;
 
@@ -35,13 +34,6 @@ const CONFIG: &[u8] = b"pages = 24\npage_size = 256\nmax_jobs = 12\naccount = 60
 /// NoConfig.
 fn config(alloc: Global) -> Result<Config, Violation> {
     spool_config::read(alloc, CONFIG).map_err(|_| Violation::NoConfig)
-}
-
-/// The ledgers of a spool, before they are opened.
-struct Blanks {
-    entries: Blank,
-    kinds: Blank,
-    handed: Blank,
 }
 
 /// Those who serve sessions, each at a seat of these.
@@ -216,25 +208,17 @@ fn live_at<
     audit: Audit,
     plan: Plan,
 ) -> Result<Figures, Violation>
-    requires entries { (blanks.entries.name ≡ E.name) × (blanks.entries.parts ≡ E.parts) }
-    requires kinds { (blanks.kinds.name ≡ K.name) × (blanks.kinds.parts ≡ K.parts) }
-    requires handed { (blanks.handed.name ≡ H.name) × (blanks.handed.parts ≡ H.parts) }
-    requires config { config ≡ E.config }
-    requires one_each { (E.parts ≡ seats + printer_count config) × (K.parts ≡ E.parts)
-        × (H.parts ≡ E.parts) }
+    requires { AreFor blanks config seats E.config (mark E.name E.parts)
+        (mark K.name K.parts) (mark H.name H.parts) }
 {
-    let Blanks {
-        entries,
-        kinds,
-        handed,
-    } = blanks;
     let alloc = rt.alloc();
     let mut plan = plan;
+    let opened = SharedSpool::<E, K, H>::new(alloc, blanks, config, seats);
     let Opened {
         spool,
         sessions,
         printers,
-    } = SharedSpool::<E, K, H>::new(alloc, entries, kinds, handed, config, seats)?;
+    } = opened.map_err(AllocError::from)?;
     let printers = printers_at(alloc, &mut plan.draws, printers)?;
     let mut front = front_at(alloc, audit, plan, sessions)?;
     let printers = run(rt, &spool, &mut front, printers)?;
@@ -252,11 +236,6 @@ pub fn live<R: AllocGlobal + Clock + Threads + Wait + Sync>(
     let alloc = rt.alloc();
     let audit = Audit::new(alloc, config(alloc)?);
     let config = config(alloc)?;
-    let parts = u64::from(SEATS) + u64::from(config.printer_count());
-    let blanks = Blanks {
-        entries: Blank::new(parts),
-        kinds: Blank::new(parts),
-        handed: Blank::new(parts),
-    };
+    let blanks = Blanks::new(&config, SEATS);
     live_at::<R, Brand, Brand, Brand>(rt, config, SEATS, blanks, audit, plan)
 }

@@ -1,33 +1,33 @@
 -- What each call of a core answers after a history, and which history it leaves.
-use Rattle.std.specs.Prelude.{◌≡◌, ◌≢◌, ℕ, ◌+◌, ◌<◌, ◌≤◌, ◌^◌, ◌⊎◌, Bool, true, false, All, List, [], ◌∷◌, Option, Some, None, Result, Ok, Err, length, map}
+use Rattle.std.specs.Prelude.{◌≡◌, ◌≢◌, ℕ, ◌+◌, ◌⊎◌, Bool, true, false, List, [], ◌∷◌, Option, Some, None, Result, Ok, Err, map}
 use Rattle.page_pool.specs.Page.{Page}
+use Rattle.control_file.specs.View.{contents}
 use Rattle.lpd_values.specs.Contents.{Contents}
-use Rattle.lpd_values.specs.Kept.{is_among}
 use Rattle.lpd_values.specs.declared.refusal.Refusal.{Refusal}
-use Rattle.lpd_values.specs.declared.refusal.Refusal.TheVariants.{UnknownQueue, TableFull, AccountFull, Closed, OverClaim, ControlTwice, NameTaken, FilesFull, FileOpen, NotOpen, Memory}
 use Rattle.account.specs.Seen.{progress_seen}
 use Rattle.account.specs.declared.entry.Progress.{Progress}
-use Rattle.config_values.specs.Config.{Config, Queue, IsQueue, limit_of, queue_at, reserve_of}
+use Rattle.config_values.specs.Config.{IsQueue, queue_named}
 use Rattle.spool_history.specs.Base.{Base}
 use Rattle.spool_history.specs.Events as E
 use Rattle.spool_history.specs.Events.{Event, Sheet}
 use Rattle.spool_history.specs.Events.Act.{Granted, Began, Put, FileEnded, Controlled, Aborted}
 use Rattle.spool_history.specs.Events.Turn.{Handed, Printed, Failed}
 use Rattle.spool_history.specs.Events.Event.{Opened, OfJob, AtPrinter, Removed, Started}
-use Rattle.spool_history.specs.Acts.{is_open_in, names_in}
-use Rattle.spool_history.specs.Now.{Job, State, now}
+use Rattle.spool_history.specs.Now.{Job, State}
 use Rattle.spool_history.specs.Next.{next_page, printer_at}
 use Rattle.spool_history.specs.Next as N
 use Rattle.spool_history.specs.Choice.{chosen}
 use Rattle.spool_history.specs.Texts.{removal_text, state_text}
 use Rattle.spool_history.specs.Rotated.{rotated}
-use Rattle.spool_history.specs.Legal.{HasJob, HasNoFile, HasFileRoom, HasNoOpen, HasRoom, IsBelowLimit, IsReceiving, IsWithinLimit, CanAsk, JobMay, MayGrant, MayOpen, May, progress_of}
+use Rattle.spool_history.specs.Legal.{HasJob, JobMay, MayGrant, MayOpen, May, progress_of}
+use Rattle.spool_history.specs.Refusals.{OrMemory, RefusesControl, RefusesFile, RefusesJob, RefusesPage, RefusesQueue, RefusesState, RefusesUnless, TakesJobs}
 use Rattle.spool_calls.specs.declared.answers.Asked.{Asked}
 use Rattle.spool_calls.specs.declared.answers.Asked.TheVariants as asked
 use Rattle.spool_calls.specs.declared.answers.Receipt.{Receipt}
 use Rattle.spool_calls.specs.declared.answers.Receipt.TheVariants as receipt
 use Rattle.spool_calls.specs.declared.answers.Next.{Next}
 use Rattle.spool_calls.specs.declared.answers.Next.TheVariants as next
+use Rattle.spool_calls.specs.declared.answers.ReturnedControl.{ReturnedControl}
 use Rattle.spool_calls.specs.declared.answers.ReturnedPage.{ReturnedPage}
 use Rattle.spool_calls.specs.declared.answers.ReturnedTicket.{ReturnedTicket}
 use Rattle.spool_calls.specs.declared.answers.Foreign.{Foreign}
@@ -40,122 +40,103 @@ use Rattle.spool_calls.specs.Kept.{Kept, Leaves, left_by}
 abbrev pub IsRight : Kept → ((d : Detail) → Base → List (Event (What d)) → Type 0) → Type 0
 IsRight old P = (d : Detail) (b : Base) (h : List (Event (What d))) → Leaves d b h old → P d b h
 
--- a queue has this name and this number
-abbrev pub IsNamed : Config → List ℕ → ℕ → Type 0
-IsNamed c name q = IsQueue c q × ((queue_at c q).name ≡ name)
+-- a page of this size is given exactly where one is lent
+abbrev pub IsLent : Bool → ℕ → Option Page → Type 0
+IsLent lent page_size None = lent ≡ false
+IsLent lent page_size (Some page) = (lent ≡ true) × (page.page_size ≡ page_size)
 
--- no queue has this name
-abbrev pub IsUnknown : Config → List ℕ → Type 0
-IsUnknown c name = All (λ (q : Queue). q.name ≢ name) c.queues
+-- what may be done with a job of a spool
+module _ (d : Detail) (v : State (What d)) where
+  -- a page may be lent to it, where one is free and the state stays safe
+  abbrev pub MayAsk : (job : ℕ) → Type 0
+  MayAsk job = HasJob v.jobs job (JobMay (size d) v.config Granted)
+
+  -- the page may be put into this file of it, as its page of this number
+  abbrev pub MayTake : (job : ℕ) → Page → (file number : ℕ) → Type 0
+  MayTake job page file number =
+      HasJob v.jobs job (JobMay (size d) v.config (Put file number (see d page.octets))) × (page.page_size ≡ v.config.page_size)
+
+  -- the page is the next one of its open file
+  abbrev pub MayPut : (job : ℕ) → Page → Type 0
+  MayPut job page = (file : ℕ) × (number : ℕ) × MayTake job page file number
+
+  -- its open file has all its octets
+  abbrev pub MayEnd : (job : ℕ) → Type 0
+  MayEnd job = (file : ℕ) × (whole : Bool) × HasJob v.jobs job (JobMay (size d) v.config (FileEnded file whole))
+
+  -- it may be aborted with this page: it is being received, or has ended while a page is lent to it
+  abbrev pub CanAbort : Option Page → Job (What d) → Type 0
+  CanAbort ticket w = JobMay (size d) v.config Aborted w × IsLent w.lent v.config.page_size ticket
+
+  abbrev pub MayAbort : (job : ℕ) → Option Page → Type 0
+  MayAbort job ticket = HasJob v.jobs job (CanAbort ticket)
+
+-- whether the job is whole by that
+abbrev pub is_whole : Receipt → Bool
+is_whole receipt.Stored = false
+is_whole receipt.Received = true
 
 module _ (d : Detail) (b : Base) (h : List (Event (What d))) (old : Kept) where
   -- where the history left the spool
   abbrev pub before : State (What d)
   before = left_by d b h old
 
-  -- a queue of this name is there and P holds of it, in an open spool
-  abbrev pub InQueue : List ℕ → (ℕ → Type 0) → Type 0
-  InQueue name P = (before.closed ≡ false) × (q : ℕ) × IsNamed old.config name q × P q
-
-  -- the spool is open, and no queue has this name
-  abbrev pub InNoQueue : List ℕ → Type 0
-  InNoQueue name = (before.closed ≡ false) × IsUnknown old.config name
+  -- the number of the queue of a name
+  abbrev pub queue : List ℕ → ℕ
+  queue name = queue_named old.config name
 
   -- whether a session may send jobs to a queue
   abbrev pub Admits : List ℕ → Result (Unit {0}) Refusal → Type 0
-  Admits name (Ok done) = InQueue name (λ q. Unit {0})
-  Admits name (Err Closed) = before.closed ≡ true
-  Admits name (Err UnknownQueue) = InNoQueue name
-  Admits name (Err _) = ⊥
-
-  -- there is room for one more job of a queue in the account, and a number for it
-  abbrev pub HasEntries : ℕ → Type 0
-  HasEntries q = HasRoom before q × (before.accepted + 1 < 2 ^ 64)
+  Admits name (Ok done) = TakesJobs before (queue name)
+  Admits name (Err n) = RefusesQueue before (queue name) n
 
   -- a job was accepted
   abbrev pub Opens : (sender : ℕ) → List ℕ → Kept → Result ℕ Refusal → Type 0
   Opens sender name new (Ok job) =
-      InQueue name (λ q. MayOpen before job q × Leaves d b (Opened job sender q ∷ h) new)
-  Opens sender name new (Err Closed) = (before.closed ≡ true) × (new ≡ old)
-  Opens sender name new (Err UnknownQueue) = InNoQueue name × (new ≡ old)
-  Opens sender name new (Err TableFull) = InQueue name (λ q. old.config.max_jobs ≤ length before.jobs) × (new ≡ old)
-  Opens sender name new (Err AccountFull) =
-      InQueue name (λ q. (length before.jobs < old.config.max_jobs) × (HasEntries q → ⊥)) × (new ≡ old)
-  Opens sender name new (Err Memory) = InQueue name (λ q. MayOpen before (before.accepted + 1) q) × (new ≡ old)
-  Opens sender name new (Err _) = ⊥
+      MayOpen before job (queue name) × Leaves d b (Opened job sender (queue name) ∷ h) new
+  Opens sender name new (Err n) =
+      OrMemory (MayOpen before (before.accepted + 1) (queue name)) (RefusesJob before (queue name)) n × (new ≡ old)
 
   -- a page was lent, or can't be now
   abbrev pub Asks : ℕ → Kept → Result Asked Refusal → Type 0
   Asks job new (Ok (asked.Page ticket)) =
-      HasJob before.jobs job (JobMay (size d) old.config Granted) × MayGrant before job × Leaves d b (OfJob job Granted ∷ h) new
+      MayAsk d before job × MayGrant before job × Leaves d b (OfJob job Granted ∷ h) new
       × (ticket.octets ≡ []) × (ticket.page_size ≡ old.config.page_size)
-  Asks job new (Ok asked.Later) =
-      HasJob before.jobs job (JobMay (size d) old.config Granted) × (MayGrant before job → ⊥) × (new ≡ old)
-  Asks job new (Err NotOpen) = (HasJob before.jobs job CanAsk → ⊥) × (new ≡ old)
-  Asks job new (Err OverClaim) = HasJob before.jobs job (λ v. CanAsk v × (IsBelowLimit old.config v → ⊥)) × (new ≡ old)
-  Asks job new (Err _) = ⊥
+  Asks job new (Ok asked.Later) = MayAsk d before job × (MayGrant before job → ⊥) × (new ≡ old)
+  Asks job new (Err n) = RefusesPage before job n × (new ≡ old)
 
   -- a data file began
   abbrev pub Begins : ℕ → List ℕ → ℕ → Kept → Result (Unit {0}) Refusal → Type 0
   Begins job name count new (Ok done) =
       HasJob before.jobs job (JobMay (size d) old.config (Began name count)) × Leaves d b (OfJob job (Began name count) ∷ h) new
-  Begins job name count new (Err NotOpen) = (HasJob before.jobs job IsReceiving → ⊥) × (new ≡ old)
-  Begins job name count new (Err FileOpen) = HasJob before.jobs job (λ v. IsReceiving v × (is_open_in v.files ≡ true)) × (new ≡ old)
-  Begins job name count new (Err NameTaken) =
-      HasJob before.jobs job (λ v. IsReceiving v × HasNoOpen v × (is_among name (names_in v.files) ≡ true)) × (new ≡ old)
-  Begins job name count new (Err FilesFull) =
-      HasJob before.jobs job (λ v. IsReceiving v × HasNoOpen v × HasNoFile name v × (HasFileRoom v → ⊥)) × (new ≡ old)
-  Begins job name count new (Err OverClaim) =
-      HasJob before.jobs job (λ v. IsReceiving v × HasNoOpen v × HasNoFile name v × HasFileRoom v × (IsWithinLimit old.config count v → ⊥))
-      × (new ≡ old)
-  Begins job name count new (Err _) = ⊥
-
-  -- the page may be put into this file of the job, as its page of this number
-  abbrev pub MayTake : ℕ → Page → (file number : ℕ) → Type 0
-  MayTake job page file number =
-      HasJob before.jobs job (JobMay (size d) old.config (Put file number (see d page.octets))) × (page.page_size ≡ old.config.page_size)
+  Begins job name count new (Err n) = RefusesFile before job name count n × (new ≡ old)
 
   -- a page was put
   abbrev pub Puts : ℕ → Page → Kept → Result (Unit {0}) ReturnedPage → Type 0
   Puts job page new (Ok done) =
-      (file : ℕ) × (number : ℕ) × MayTake job page file number × Leaves d b (OfJob job (Put file number (see d page.octets)) ∷ h) new
-  Puts job page new (Err back) = ((file number : ℕ) → MayTake job page file number → ⊥) × (new ≡ old) × (back.page ≡ page)
-
-  abbrev pub is_whole : Receipt → Bool
-  is_whole receipt.Stored = false
-  is_whole receipt.Received = true
+      (file : ℕ) × (number : ℕ) × MayTake d before job page file number
+      × Leaves d b (OfJob job (Put file number (see d page.octets)) ∷ h) new
+  Puts job page new (Err back) = (MayPut d before job page → ⊥) × (new ≡ old) × (back.page ≡ page)
 
   -- the open file ended
   abbrev pub Ends : ℕ → Kept → Result Receipt Refusal → Type 0
   Ends job new (Ok got) =
       (file : ℕ) × HasJob before.jobs job (JobMay (size d) old.config (FileEnded file (is_whole got)))
       × Leaves d b (OfJob job (FileEnded file (is_whole got)) ∷ h) new
-  Ends job new (Err NotOpen) =
-      ((file : ℕ) (whole : Bool) → HasJob before.jobs job (JobMay (size d) old.config (FileEnded file whole)) → ⊥) × (new ≡ old)
-  Ends job new (Err _) = ⊥
+  Ends job new (Err n) = RefusesUnless (MayEnd d before job) n × (new ≡ old)
 
   -- the control file came
-  abbrev pub Controls : ℕ → Contents → Kept → Result Receipt Refusal → Type 0
+  abbrev pub Controls : ℕ → Contents → Kept → Result Receipt ReturnedControl → Type 0
   Controls job control new (Ok got) =
       HasJob before.jobs job (JobMay (size d) old.config (Controlled control (is_whole got)))
       × Leaves d b (OfJob job (Controlled control (is_whole got)) ∷ h) new
-  Controls job control new (Err NotOpen) = (HasJob before.jobs job IsReceiving → ⊥) × (new ≡ old)
-  Controls job control new (Err ControlTwice) = HasJob before.jobs job (λ v. IsReceiving v × (v.control ≡ None → ⊥)) × (new ≡ old)
-  Controls job control new (Err _) = ⊥
-
-  -- a page of this size is given exactly where one is lent
-  abbrev pub IsLent : Bool → ℕ → Option Page → Type 0
-  IsLent lent page_size None = lent ≡ false
-  IsLent lent page_size (Some page) = (lent ≡ true) × (page.page_size ≡ page_size)
-
-  -- a job may be aborted with this page: it is being received, or has ended while a page is lent to it
-  abbrev pub CanAbort : Option Page → Job (What d) → Type 0
-  CanAbort ticket v = JobMay (size d) old.config Aborted v × IsLent v.lent old.config.page_size ticket
+  Controls job control new (Err back) =
+      RefusesControl before job back.refusal × (new ≡ old) × (contents back.control ≡ control)
 
   -- a job was aborted, or gave back the page that was lent to it
   abbrev pub Aborts : ℕ → Option Page → Kept → Result (Unit {0}) ReturnedTicket → Type 0
-  Aborts job ticket new (Ok done) = HasJob before.jobs job (CanAbort ticket) × Leaves d b (OfJob job Aborted ∷ h) new
-  Aborts job ticket new (Err back) = (HasJob before.jobs job (CanAbort ticket) → ⊥) × (new ≡ old) × (back.ticket ≡ ticket)
+  Aborts job ticket new (Ok done) = MayAbort d before job ticket × Leaves d b (OfJob job Aborted ∷ h) new
+  Aborts job ticket new (Err back) = (MayAbort d before job ticket → ⊥) × (new ≡ old) × (back.ticket ≡ ticket)
 
   -- the page as a printer was given it
   abbrev pub sheet_of : HandedPage → Sheet (What d)
@@ -198,11 +179,10 @@ module _ (d : Detail) (b : Base) (h : List (Event (What d))) (old : Kept) where
   -- the stopped printers of a queue were started, if one was stopped
   abbrev pub Starts : List ℕ → Kept → Result (Unit {0}) Refusal → Type 0
   Starts name new (Ok done) =
-      InQueue name (λ q. (May (size d) before (Started q) × Leaves d b (Started q ∷ h) new)
-      ⊎ ((May (size d) before (Started q) → ⊥) × (new ≡ old)))
-  Starts name new (Err Closed) = (before.closed ≡ true) × (new ≡ old)
-  Starts name new (Err UnknownQueue) = InNoQueue name × (new ≡ old)
-  Starts name new (Err _) = ⊥
+      TakesJobs before (queue name)
+      × ((May (size d) before (Started (queue name)) × Leaves d b (Started (queue name) ∷ h) new)
+      ⊎ ((May (size d) before (Started (queue name)) → ⊥) × (new ≡ old)))
+  Starts name new (Err n) = RefusesQueue before (queue name) n × (new ≡ old)
 
   -- the numbers of the jobs that a removal chooses
   abbrev pub removed_by : ℕ → List ℕ → List (List ℕ) → List ℕ
@@ -211,19 +191,17 @@ module _ (d : Detail) (b : Base) (h : List (Event (What d))) (old : Kept) where
   -- jobs were removed, if any was chosen
   abbrev pub Removes : List ℕ → List ℕ → List (List ℕ) → Kept → Result (List ℕ) Refusal → Type 0
   Removes name agent list new (Ok text) =
-      InQueue name (λ q. (text ≡ removal_text before q agent list)
-      × (((removed_by q agent list ≡ []) × (new ≡ old)) ⊎ ((removed_by q agent list ≢ []) × Leaves d b (Removed q (removed_by q agent list) ∷ h) new)))
-  Removes name agent list new (Err Closed) = (before.closed ≡ true) × (new ≡ old)
-  Removes name agent list new (Err UnknownQueue) = InNoQueue name × (new ≡ old)
-  Removes name agent list new (Err Memory) = InQueue name (λ q. Unit {0}) × (new ≡ old)
-  Removes name agent list new (Err _) = ⊥
+      TakesJobs before (queue name) × (text ≡ removal_text before (queue name) agent list)
+      × (((removed_by (queue name) agent list ≡ []) × (new ≡ old))
+      ⊎ ((removed_by (queue name) agent list ≢ [])
+      × Leaves d b (Removed (queue name) (removed_by (queue name) agent list) ∷ h) new))
+  Removes name agent list new (Err n) =
+      OrMemory (TakesJobs before (queue name)) (RefusesQueue before (queue name)) n × (new ≡ old)
 
   -- the state of a queue, also of a closed spool
   abbrev pub Tells : List ℕ → List (List ℕ) → Bool → Result (List ℕ) Refusal → Type 0
-  Tells name list long (Ok text) = (q : ℕ) × IsNamed old.config name q × (text ≡ state_text before q list long)
-  Tells name list long (Err UnknownQueue) = IsUnknown old.config name
-  Tells name list long (Err Memory) = (q : ℕ) × IsNamed old.config name q
-  Tells name list long (Err _) = ⊥
+  Tells name list long (Ok text) = IsQueue old.config (queue name) × (text ≡ state_text before (queue name) list long)
+  Tells name list long (Err n) = OrMemory (IsQueue old.config (queue name)) (RefusesState before (queue name)) n
 
   -- the spool is closed; a second close changes nothing
   abbrev pub Closes : Kept → Type 0

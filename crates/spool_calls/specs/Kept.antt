@@ -1,5 +1,5 @@
 -- What a core keeps of where a history leaves its spool.
-use Rattle.std.specs.Prelude.{◌≡◌, ℕ, zero, suc, ◌+◌, ◌-◌, ◌*◌, ◌==◌, ◌&&◌, not, Bool, true, false, List, [], ◌∷◌, Option, Some, None, map, drop, length, slice_get, if◌then◌else◌}
+use Rattle.std.specs.Prelude.{◌≡◌, ℕ, zero, suc, ◌-◌, ◌*◌, ◌==◌, ◌&&◌, not, Bool, false, List, [], ◌∷◌, Option, Some, None, map, drop, length, slice_get, if◌then◌else◌}
 use Rattle.std.specs.List.{list_any}
 use Rattle.page_pool.specs.Page.{Page, Pages}
 use Rattle.page_chain.specs.declared.place.Place.{Place}
@@ -24,8 +24,9 @@ use Rattle.spool_history.specs.Now.{State, is_received, places, now, free_pages}
 use Rattle.spool_history.specs.Legal.{IsLegal}
 use Rattle.spool_laws.specs.Sums.{chained}
 use Rattle.spool_history.specs.Claimed.{IsTableOf}
+use Rattle.spool_calls.specs.declared.handed.HandedPage.{HandedPage}
 use Rattle.spool_calls.specs.declared.printer.Printer.{Printer}
-use Rattle.spool_calls.specs.Looks.{Detail, What, see, size, outline_in}
+use Rattle.spool_calls.specs.Looks.{Detail, What, see, size, outline_in, outline_of}
 
 -- how far a job is
 abbrev pub phase_of : {C : Type 0} → N.Job C → Phase
@@ -110,6 +111,10 @@ shown_job c v = record { facts = facts_of c v; shelf = shelf_of (phase_of v) v.f
 -- of a page at a printer its length and digest are kept
 abbrev pub kept_sheet : (d : Detail) → E.Sheet (What d) → Sheet
 kept_sheet d s = record { job = s.job; place = s.place; file = s.file; number = s.number; page = outline_in d s.page }
+
+-- and so of one that goes to a printer
+abbrev pub sheet_out : HandedPage → Sheet
+sheet_out p = record { job = p.job; place = p.place; file = p.file; number = p.number; page = outline_of p.page.octets }
 
 abbrev pub kept_out : (d : Detail) → Option (E.Sheet (What d)) → Option Sheet
 kept_out d None = None

@@ -1,16 +1,14 @@
 -- What the readers of a core say after a history.
-use Rattle.std.specs.Prelude.{◌≡◌, ℕ, ◌+◌, ◌<◌, ◌≤◌, ◌==◌, ◌&&◌, true, List, None, count_by, length}
-use Rattle.lpd_values.specs.declared.refusal.Refusal.{Refusal}
-use Rattle.lpd_values.specs.declared.refusal.Refusal.TheVariants.{UnknownQueue, TableFull, AccountFull, Closed, ControlTwice, NotOpen}
+use Rattle.std.specs.Prelude.{◌≡◌, ℕ, ◌+◌, ◌==◌, ◌&&◌, true, List, count_by, length}
 use Rattle.spool_history.specs.Base.{Base}
 use Rattle.spool_history.specs.Events.{Event}
 use Rattle.spool_history.specs.Acts.{is_open_in}
 use Rattle.spool_history.specs.Now.{Printer, free_pages}
-use Rattle.spool_history.specs.Legal.{HasJob, HasOpen, IsReceiving, MayOpen}
+use Rattle.spool_history.specs.Legal.{HasJob, HasOpen, IsReceiving}
 use Rattle.spool_laws.specs.Sums.{at_printers, chained, lent}
 use Rattle.spool_calls.specs.Looks.{Detail, What}
 use Rattle.spool_calls.specs.Kept.{Kept}
-use Rattle.spool_calls.specs.Calls.{before, HasEntries, InNoQueue, InQueue}
+use Rattle.spool_calls.specs.Calls.{before}
 
 -- the pages of a spool by where they are: free, in the chains of jobs, lent to sessions, and out at printers
 pub record ArePlaced (d : Detail) (b : Base) (h : List (Event (What d))) (k : Kept) (free chain session printer : ℕ) : Type 0 where
@@ -25,29 +23,6 @@ module _ (d : Detail) (b : Base) (h : List (Event (What d))) (k : Kept) where
   -- how many printers of a queue are stopped
   abbrev pub stopped_for : ℕ → ℕ
   stopped_for q = count_by (λ (p : Printer (What d)). (p.queue == q) && p.stopped) (before d b h k).printers
-
-  -- a job of a queue of this name may be opened, where memory is given
-  abbrev pub MayOpenIn : List ℕ → Type 0
-  MayOpenIn name = InQueue d b h k name (λ q. MayOpen (before d b h k) ((before d b h k).accepted + 1) q)
-
-  -- why none may be
-  abbrev pub RefusesOpen : List ℕ → Refusal → Type 0
-  RefusesOpen name Closed = (before d b h k).closed ≡ true
-  RefusesOpen name UnknownQueue = InNoQueue d b h k name
-  RefusesOpen name TableFull = InQueue d b h k name (λ q. k.config.max_jobs ≤ length (before d b h k).jobs)
-  RefusesOpen name AccountFull =
-      InQueue d b h k name (λ q. (length (before d b h k).jobs < k.config.max_jobs) × (HasEntries d b h k q → ⊥))
-  RefusesOpen name _ = ⊥
-
-  -- the control file of a job may come
-  abbrev pub MayControl : ℕ → Type 0
-  MayControl job = HasJob (before d b h k).jobs job (λ v. IsReceiving v × (v.control ≡ None))
-
-  -- why it may not
-  abbrev pub RefusesControl : ℕ → Refusal → Type 0
-  RefusesControl job NotOpen = HasJob (before d b h k).jobs job IsReceiving → ⊥
-  RefusesControl job ControlTwice = HasJob (before d b h k).jobs job (λ v. IsReceiving v × (v.control ≡ None → ⊥))
-  RefusesControl job _ = ⊥
 
   -- a job is being received, and a file of it is open
   abbrev pub HasOpenFile : ℕ → Type 0

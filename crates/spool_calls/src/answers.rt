@@ -1,6 +1,8 @@
 //! What a core answers.
 
 use crate::handed::HandedPage;
+use control_file::Control;
+use lpd_values::Refusal;
 use page_pool::{FilledPage, PageTicket};
 
 /// The answer to a job that asks for a page.
@@ -52,6 +54,13 @@ impl ReturnedTicket {
             page.surrender();
         }
     }
+}
+
+/// A control file that `control` refused, and why.
+#[derive(Drop)]
+pub struct ReturnedControl {
+    pub control: Control,
+    pub refusal: Refusal,
 }
 
 /// A page that isn't the one which is out at the printer.

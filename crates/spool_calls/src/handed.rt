@@ -1,9 +1,23 @@
 //! A page at a printer.
 
-ghost use Rattle.std.specs.Prelude.{◌≡◌, [], length};
+ghost use Rattle.std.specs.Prelude.{◌≡◌, ◌<◌, ◌^◌, [], length};
 ghost use Rattle.sha2.specs.Sha256.{sha256};
+ghost use Rattle.spool_calls.specs.Looks as looks;
+ghost use Rattle.spool_calls.specs.Kept.{sheet_out};
 
+use account::{Outline, Sheet};
 use page_pool::{FilledPage, PageTicket};
+
+/// The length and the digest of a page.
+pub fn outline_of(page: &FilledPage) -> Outline
+    requires { page.now.page_size < 2 ^ 32 }
+    ensures { result ≡ looks.outline_of page.now.octets }
+{
+    Outline {
+        length: page.len() as u32,
+        digest: page.digest(),
+    }
+}
 
 /// A page that was handed to a printer. It has to be spent: given back by `printed` or `failed`, or surrendered.
 pub struct HandedPage {
@@ -32,6 +46,20 @@ impl HandedPage {
         ensures { result ≡ sha256 self.now.page.octets }
     {
         self.page.digest()
+    }
+
+    /// What an account says of it.
+    pub fn sheet(&self) -> Sheet
+        requires { self.now.page.page_size < 2 ^ 32 }
+        ensures { result ≡ sheet_out self.now }
+    {
+        Sheet {
+            job: self.job,
+            place: self.place,
+            file: self.file,
+            number: self.number,
+            page: outline_of(&self.page),
+        }
     }
 
     /// The page that it is.

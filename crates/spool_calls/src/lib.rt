@@ -6,6 +6,6 @@ mod handed;
 mod printer;
 
 pub use account::{Progress, Sheet};
-pub use answers::{Asked, Foreign, Next, Receipt, ReturnedPage, ReturnedTicket};
-pub use handed::HandedPage;
+pub use answers::{Asked, Foreign, Next, Receipt, ReturnedControl, ReturnedPage, ReturnedTicket};
+pub use handed::{HandedPage, outline_of};
 pub use printer::Printer;

@@ -5,6 +5,7 @@ mod laws;
 mod reading;
 mod settings;
 
+pub use config_values::Config;
 pub use laws::each_text_is_decided;
 pub use reading::read;
 pub use settings::{ConfigFault, Key};

@@ -100,7 +100,7 @@ fn rows(document: &Table) -> Result<&[Value], ConfigFault>
         K.value_at QueueKey (table_view document.now) ≡ Some (array (items_view rows.now))) }
     ensures tables { IfOk result (λ rows. IsTrue (list_all F.is_row (map view rows.now))) }
     ensures some { IfOk result (λ rows. 1 ≤ length rows.now) }
-    ensures few { IfOk result (λ rows. length rows.now ≤ 64) }
+    ensures few { IfOk result (λ rows. length rows.now ≤ K.most_of QueueKey) }
     ensures fault { IfErr result (λ fault.
         slice_get (F.rows_faults (K.value_at QueueKey (table_view document.now))) 0 ≡ Some fault) }
 {
@@ -131,7 +131,7 @@ fn are_tables(rows: &[Value]) -> bool
 fn queues(alloc: Global, rows: &[Value]) -> Result<Vec<Queue>, ConfigFault>
     requires { IsTrue (list_all F.is_row (map view rows.now)) }
     ensures told { IfOk result (λ queues. T.TellQueues (map view rows.now) queues.items) }
-    ensures within { IfOk result (λ queues. All (IsWithin 65536) queues.items) }
+    ensures within { IfOk result (λ queues. All (IsWithin (K.most_of Pages)) queues.items) }
     ensures fault { IfErr result (λ fault. fault ≢ Memory →
         slice_get (flat_map F.row_faults (map view rows.now)) 0 ≡ Some fault) }
 {
@@ -149,7 +149,7 @@ fn queues(alloc: Global, rows: &[Value]) -> Result<Vec<Queue>, ConfigFault>
 /// The queue that a table tells.
 fn queue(alloc: Global, table: &Table) -> Result<Queue, ConfigFault>
     ensures told { IfOk result (T.TellsQueue (table_view table.now)) }
-    ensures within { IfOk result (IsWithin 65536) }
+    ensures within { IfOk result (IsWithin (K.most_of Pages)) }
     ensures fault { IfErr result (λ fault. fault ≢ Memory →
         slice_get (F.queue_faults (table_view table.now)) 0 ≡ Some fault) }
 {
@@ -211,7 +211,7 @@ fn is_among(queues: &[Queue], name: &[u8]) -> bool
 
 /// Whether each limit is within the pages.
 fn are_within(pages: u32, queues: &[Queue]) -> bool
-    requires { All (IsWithin 65536) queues.now }
+    requires { All (IsWithin (K.most_of Pages)) queues.now }
     ensures value { result ≡ not (list_any (int_lt (pos pages))
         (map (λ (q : C.Queue). pos q.limit) queues.now)) }
     ensures within { result ≡ true → All (IsWithin pages) queues.now }

@@ -1,10 +1,10 @@
 -- Amounts of each kind, written one after the other.
-use Rattle.std.proofs.Common.{inl, inr, ◌≡◌, ◌==◌, ◌≢◌, ℕ, zero, suc, ◌+◌, ◌-◌, ◌<◌, ◌≤◌, Bool, true, false, List, [], ◌∷◌, ◌++◌, length, get_or, set, map, replicate, refl, sym, ◌∙◌, ap, subst, arith}
+use Rattle.std.proofs.Common.{inl, inr, ◌≡◌, ◌==◌, ◌≢◌, ℕ, zero, suc, ◌+◌, ◌-◌, ◌<◌, ◌≤◌, Bool, true, false, List, [], ◌∷◌, length, get_or, set, map, replicate, refl, sym, ◌∙◌, ap, arith}
 use Rattle.std.specs.Prelude.{cond, ◌⊎◌}
 use Rattle.std.proofs.lemmas.List.{ext_get_or, length-set, length-map, get_or-set_same, get_or-set_other, map-append, get_or-append_right, get_or_append_left, length_push, length-replicate, get_or-replicate}
 use Rattle.std.proofs.lemmas.Bool.Decides.{nat_tests}
-use Rattle.config_values.specs.Config.{Config, Queue, limit_of}
-use Rattle.spool_history.specs.Now.{up_to, amounts, capacity}
+use Rattle.config_values.specs.Config.{Config}
+use Rattle.spool_history.specs.Now.{up_to, amounts}
 
 same_by : (k i : ℕ) (b : Bool) → (k == i) ≡ b → (k ≡ i) ⊎ (k ≢ i)
 same_by k i true e = inl (grind (arith, nat_tests))

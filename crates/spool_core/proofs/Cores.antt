@@ -1,9 +1,8 @@
 -- What each call of a core owes.
-use Rattle.std.proofs.Common.{◌≡◌, ℕ, ◌+◌, ◌-◌, ◌<◌, List, [], ◌∷◌, length, sym, ◌∙◌, ap, subst, arith}
+use Rattle.std.proofs.Common.{◌≡◌, ℕ, ◌+◌, ◌-◌, ◌<◌, List, length, sym, ◌∙◌, ap, subst, arith}
 use Rattle.std.specs.Vec.{vec_len}
 use Rattle.account.specs.declared.entry.Outline.{Outline}
-use Rattle.held_jobs.specs.Jobs.{HeldJob}
-use Rattle.held_jobs.specs.Books.{Books, job_at}
+use Rattle.held_jobs.specs.Books.{job_at}
 use Rattle.config_values.specs.Config.{IsPrinter}
 use Rattle.spool_history.specs.Base.{Base}
 use Rattle.spool_history.specs.Events.{Event}

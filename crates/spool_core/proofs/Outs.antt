@@ -37,7 +37,7 @@ pub at_is : (a : Inside) (o : Option SheetOut) (page : HandedPage) (z : ℕ) →
 at_is a o page z e i = at_by o page z (subst (λ (n : ℕ). IsOutOf o page n) (sym e) i)
 
 -- a printer that was looked at twice is one
-same_printer : (a : Inside) (p : ℕ) (x y : Printer) → IsCore a → IsPrinter a.config p → x ≡ get_or a.printers.items (p - 1) x → y ≡ get_or a.printers.items (p - 1) y → x ≡ y
+pub same_printer : (a : Inside) (p : ℕ) (x y : Printer) → IsCore a → IsPrinter a.config p → x ≡ get_or a.printers.items (p - 1) x → y ≡ get_or a.printers.items (p - 1) y → x ≡ y
 same_printer a p x y core ip ex ey =
     let r = core.reached in
     let lt = printer_there Outlines r.0 r.1 (core_view a) r.2 p ip in

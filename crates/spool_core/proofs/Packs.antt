@@ -1,5 +1,5 @@
 -- What several calls on parts of a core leave together.
-use Rattle.std.proofs.Common.{◌≡◌, ℕ, ◌+◌, ◌-◌, ◌<◌, List, length, get_or, set, sym, ◌∙◌, ap, subst}
+use Rattle.std.proofs.Common.{◌≡◌, ℕ, ◌+◌, ◌-◌, ◌<◌, List, length, sym, ◌∙◌, ap}
 use Rattle.std.proofs.lemmas.List.{get_or-set_same, set-set}
 use Rattle.claims.specs.Claims.{Claims}
 use Rattle.claims.specs.Changes.{given_back, need_ended}
@@ -8,7 +8,6 @@ use Rattle.page_chain.specs.Changes.{unnamed_pages}
 use Rattle.held_jobs.specs.Jobs.{HeldJob, no_job}
 use Rattle.held_jobs.specs.Moves.{received_job}
 use Rattle.held_jobs.specs.Books.{Books, job_at, prints_of, with_job}
-use Rattle.spool_calls.specs.Kept.{Kept}
 use Rattle.spool_core.specs.declared.core_state.Core.TheInside.{Inside}
 use Rattle.spool_core.specs.Inside.{core_view}
 use Rattle.core_steps.proofs.Receiving.{received_core}

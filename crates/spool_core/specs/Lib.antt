@@ -1,4 +1,6 @@
 pub mod Printers
+pub mod Due
 pub mod Inside
+pub mod Places
 pub mod Tickets
 pub mod Headline

@@ -1,7 +1,6 @@
 -- The printers of a core.
 use Rattle.std.specs.Prelude.{◌≡◌, ◌⊎◌, ℕ, List, [], Option, Some, None, map}
 use Rattle.account.specs.declared.entry.Sheet.{Sheet}
-use Rattle.account.specs.declared.entry.Outline.{Outline}
 use Rattle.config_values.specs.Config.{Config}
 use Rattle.spool_history.specs.Base.{Base, first_base}
 use Rattle.spool_history.specs.Events as E
@@ -19,10 +18,6 @@ use Rattle.spool_calls.specs.Calls.{before}
 -- so many printers, before anything happens
 abbrev pub idle : Config → ℕ → List Printer
 idle c n = map (kept_printer Outlines) (map (printer_of c first_base []) (up_to n))
-
--- what is kept of a page that goes to a printer
-abbrev pub sheet_out : HandedPage → Sheet
-sheet_out p = record { job = p.job; place = p.place; file = p.file; number = p.number; page = outline_of p.page.octets }
 
 -- the page is the one that is out
 abbrev pub IsOutAt : Option Sheet → HandedPage → ℕ → Type 0

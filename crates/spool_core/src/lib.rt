@@ -3,6 +3,7 @@
 
 mod closing;
 mod core_state;
+mod due;
 mod kinds;
 mod laws;
 mod opening;
@@ -11,11 +12,17 @@ mod printing;
 mod reading;
 mod receiving;
 mod telling;
+mod unmade;
 
 pub use config_values::{Config, Queue};
+pub use control_file::Control;
 pub use core_state::Core;
 pub use laws::headline_stands;
+pub use lpd_values::{FileName, Octets, Refusal};
+pub use page_pool::{FilledPage, PageTicket};
 pub use reading::Pages;
 pub use spool_calls::{
-    Asked, Foreign, HandedPage, Next, Progress, Receipt, ReturnedPage, ReturnedTicket,
+    Asked, Foreign, HandedPage, Next, Progress, Receipt, ReturnedControl, ReturnedPage,
+    ReturnedTicket, Sheet,
 };
+pub use unmade::Unmade;

@@ -1,12 +1,15 @@
 //! The acceptance of jobs.
 
-ghost use Rattle.std.specs.Prelude.{◌≡◌, ◌≢◌, ◌↔◌, ◌+◌, ◌<◌, ◌≤◌, All, IsTrue, OnOk, OnErr, length};
+ghost use Rattle.std.specs.Prelude.{◌≡◌, ◌≢◌, ◌↔◌, ◌+◌, ◌<◌, ◌≤◌, All, IsTrue, IfErr, IfOk, OnErr, OnOk, length};
 ghost use Rattle.counts.specs.Amounts.{amount, Fits};
 ghost use Rattle.claims.specs.declared.row.Row.{Row};
 ghost use Rattle.claims.specs.Changes.{opened};
 ghost use Rattle.config_values.specs.Config as C;
 ghost use Rattle.held_jobs.specs.Jobs.{HeldJob};
-ghost use Rattle.spool_calls.specs.Calls.{IsRight, Opens};
+ghost use Rattle.config_values.specs.Config.{queue_named, reserve_of};
+ghost use Rattle.spool_history.specs.Refusals.{RefusesJob};
+ghost use Rattle.spool_calls.specs.Calls.{IsRight, Opens, before};
+ghost use Rattle.spool_core.specs.Places.{Accepts};
 ghost use Rattle.held_jobs.specs.Moves.{with_new};
 ghost use Rattle.spool_core.specs.Inside.{claim_in};
 
@@ -18,18 +21,12 @@ use lpd_values::Refusal;
 use queues::Book;
 use std::alloc::{AllocError, Global};
 
-/// Whether so many entries more have room in an account beside the one for the close.
-fn has_room(account: u64, reserved: u64, more: u64) -> bool
-    ensures { IsTrue result ↔ (reserved + more + 1 ≤ account) }
+/// Whether the account has room for the entries of one more job of a queue.
+fn has_room(config: &Config, reserved: u64, queue: u32) -> bool
+    ensures { IsTrue result ↔ (reserved + reserve_of config.now queue + 1 ≤ config.now.account) }
 {
-    more < account && reserved < account - more
-}
-
-/// Whether there is a number after this one.
-fn has_next(number: u64) -> bool
-    ensures { IsTrue result ↔ (number + 1 < 18446744073709551616) }
-{
-    number < u64::MAX
+    let entries = u128::from(reserved) + u128::from(config.reserve_of(queue)) + 1;
+    entries <= u128::from(config.account())
 }
 
 /// Adds a job to the book and its row to the table. AllocError where memory for either is refused; nothing changes then.
@@ -69,6 +66,27 @@ fn add_job(
 }
 
 impl Core {
+    /// The number of the queue of a name, where one more job of it may be accepted.
+    pub(crate) fn admission(&self, queue: &[u8]) -> Result<u32, Refusal>
+        ensures accepted { IfOk result (Accepts self.now queue.now) }
+        ensures refused { IfErr result (λ n. IsRight self.now (λ d b h.
+            RefusesJob (before d b h self.now) (queue_named self.now.config queue.now) n)) }
+    {
+        if self.closed {
+            return Err(Refusal::Closed);
+        }
+        let Some(number) = self.config.queue_named(queue) else {
+            return Err(Refusal::UnknownQueue);
+        };
+        if self.config.max_jobs() as usize <= self.book.len() {
+            return Err(Refusal::TableFull);
+        }
+        if !has_room(&self.config, self.reserved, number) || self.accepted == u64::MAX {
+            return Err(Refusal::AccountFull);
+        }
+        Ok(number)
+    }
+
     /// Accepts a job from a sender for a queue, and answers its number: 1, 2, 3 and so on, over all queues.
     ///
     /// Closed; UnknownQueue; TableFull where as many jobs are held as may be; AccountFull where the account has no room for all
@@ -78,20 +96,10 @@ impl Core {
         ensures answer { IsRight self.old (λ d b h.
             Opens d b h self.old sender queue.now self.new result) }
     {
-        if self.closed {
-            return Err(Refusal::Closed);
-        }
-        let Some(queue) = self.config.queue_named(queue) else {
-            return Err(Refusal::UnknownQueue);
+        let queue = match self.admission(queue) {
+            Ok(queue) => queue,
+            Err(refusal) => return Err(refusal),
         };
-        if self.config.max_jobs() as usize <= self.book.len() {
-            return Err(Refusal::TableFull);
-        }
-        let reserve = self.config.reserve_of(queue);
-        let account = u64::from(self.config.account());
-        if !has_room(account, self.reserved, reserve) || !has_next(self.accepted) {
-            return Err(Refusal::AccountFull);
-        }
         let number = self.accepted + 1;
         let book = &mut self.book;
         let table = &mut self.table;
@@ -100,7 +108,7 @@ impl Core {
             Err(_) => return Err(Refusal::Memory),
         }
         self.accepted = number;
-        self.reserved += reserve;
+        self.reserved += self.config.reserve_of(queue);
         Ok(number)
     }
 }

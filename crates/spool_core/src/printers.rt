@@ -1,10 +1,11 @@
 //! The printers of a core, and the pages that are out at them.
 
-ghost use Rattle.std.specs.Prelude.{◌≡◌, ◌<◌, ◌^◌, ◌↔◌, IsTrue, IfOk, length};
+ghost use Rattle.std.specs.Prelude.{◌≡◌, ◌↔◌, IsTrue, IfOk, length};
 ghost use Rattle.config_values.specs.Config.{printer_count};
-ghost use Rattle.spool_core.specs.Printers.{idle, sheet_out, IsOutAt};
+ghost use Rattle.spool_calls.specs.Telling.{serving, stopped_in};
+ghost use Rattle.spool_core.specs.Printers.{idle, IsOutAt};
 
-use account::{Outline, Sheet};
+use account::Sheet;
 use config_values::Config;
 use spool_calls::{HandedPage, Printer};
 use std::alloc::{AllocError, Global};
@@ -25,21 +26,25 @@ pub fn idle_printers(alloc: Global, config: &Config) -> Result<Vec<Printer>, All
     Ok(printers)
 }
 
-/// What is kept of a page that goes to a printer.
-pub fn sheet_out(page: &HandedPage) -> Sheet
-    requires { length page.now.page.octets < 2 ^ 32 }
-    ensures { result ≡ sheet_out page.now }
+/// How many of these printers serve a queue.
+pub fn count_serving(printers: &[Printer], queue: u32) -> usize
+    ensures { result ≡ length (serving queue printers.now) }
 {
-    Sheet {
-        job: page.job,
-        place: page.place,
-        file: page.file,
-        number: page.number,
-        page: Outline {
-            length: page.page.len() as u32,
-            digest: page.page.digest(),
-        },
-    }
+    printers
+        .iter()
+        .filter(|printer| printer.queue == queue)
+        .count()
+}
+
+/// How many of these printers serve a queue and are stopped.
+pub fn count_stopped_in(printers: &[Printer], queue: u32) -> usize
+    ensures { result ≡ length (stopped_in queue printers.now) }
+{
+    printers
+        .iter()
+        .filter(|printer| printer.queue == queue)
+        .filter(|printer| printer.stopped)
+        .count()
 }
 
 /// Whether the page is the one that is out.

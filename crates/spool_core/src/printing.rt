@@ -7,17 +7,20 @@ ghost use Rattle.claims.specs.Changes.{closed, granted};
 ghost use Rattle.config_values.specs.Config.{IsPrinter};
 ghost use Rattle.held_jobs.specs.Books.{job_at};
 ghost use Rattle.spool_calls.specs.Calls.{IsRight, Hands, Prints, Fails};
-ghost use Rattle.spool_core.specs.Printers.{HasNext, MustWait};
+ghost use Rattle.spool_calls.specs.declared.answers.Next.TheVariants as next;
+ghost use Rattle.spool_core.specs.Due.{IsTurn};
 ghost use Rattle.account.specs.declared.entry.Progress.TheVariants as progress;
 ghost use Rattle.core_steps.proofs.Backing.{said_of};
 ghost use Rattle.held_jobs.specs.Moves.{pages_of};
 
 use crate::core_state::Core;
-use crate::printers::{is_out, sheet_out};
+use crate::due::Due;
+use crate::printers::is_out;
 use account::Progress;
 use claims::Table;
 use held_jobs::Phase;
 use ordered_safety::PAGES;
+use page_chain::Place;
 use page_pool::Pool;
 use queues::Book;
 use spool_calls::{Foreign, HandedPage, Next, Printer};
@@ -78,33 +81,16 @@ fn let_go(book: &mut Book, pool: &mut Pool, table: &mut Table, i: usize, page: H
 }
 
 impl Core {
-    /// Gives a printer its next page: the next place of the job that it began, while that hasn't ended, or else the first of
-    /// the first job of its queue that is ready.
-    ///
-    /// Closed where the spool is closed; Stopped where a page failed at the printer and its queue wasn't started since; Busy
-    /// while a page is out at it; Nothing where no job is next for it, or where all places of that job were handed out.
-    pub fn next(&mut self, printer: u32) -> Next
-        requires { IsPrinter self.old.config printer }
+    /// Hands a printer the place of a job that is due for it.
+    fn hand_out(&mut self, printer: u32, i: usize, place: Place) -> HandedPage
+        requires printer { IsPrinter self.old.config printer }
+        requires due { IsTurn self.old printer i place }
         ensures config { self.new.config ≡ self.old.config }
-        ensures answer { IsRight self.old (λ d b h. Hands d b h self.old printer self.new result) }
+        ensures answer { IsRight self.old (λ d b h.
+            Hands d b h self.old printer self.new (next.Handed result)) }
     {
-        if self.closed {
-            return Next::Closed;
-        }
         let p = printer as usize - 1;
         let at = self.printers[p];
-        if at.stopped {
-            return Next::Stopped;
-        }
-        if at.out.is_some() {
-            return Next::Busy;
-        }
-        let Some(i) = self.book.turn_of(at.queue, at.began) else {
-            return Next::Nothing;
-        };
-        let Some(place) = self.book.next_place(i) else {
-            return Next::Nothing;
-        };
         let found = self.book.job(i);
         let job = found.number();
         let queue = found.queue();
@@ -119,53 +105,30 @@ impl Core {
         };
         self.printers[p] = Printer {
             queue: at.queue,
-            out: Some(sheet_out(&page)),
+            out: Some(page.sheet()),
             began: Some(job),
             stopped: false,
         };
-        Next::Handed(page)
+        page
     }
 
-    /// Whether a page is next for a printer, so that `next` would hand it one.
-    pub fn has_next(&self, printer: u32) -> bool
-        requires { IsPrinter self.now.config printer }
-        ensures { IsRight self.now (λ d b h. IsTrue result ↔ HasNext d b h self.now printer) }
+    /// Gives a printer its next page: the next place of the job that it began, while that hasn't ended, or else the first of
+    /// the first job of its queue that is ready.
+    ///
+    /// Closed where the spool is closed; Stopped where a page failed at the printer and its queue wasn't started since; Busy
+    /// while a page is out at it; Nothing where no job is next for it, or where all places of that job were handed out.
+    pub fn next(&mut self, printer: u32) -> Next
+        requires { IsPrinter self.old.config printer }
+        ensures config { self.new.config ≡ self.old.config }
+        ensures answer { IsRight self.old (λ d b h. Hands d b h self.old printer self.new result) }
     {
-        let at = self.printers[printer as usize - 1];
-        if self.closed {
-            return false;
+        match self.due(printer) {
+            Due::Closed => Next::Closed,
+            Due::Stopped => Next::Stopped,
+            Due::Busy => Next::Busy,
+            Due::Nothing => Next::Nothing,
+            Due::Page(i, place) => Next::Handed(self.hand_out(printer, i, place)),
         }
-        if at.stopped {
-            return false;
-        }
-        if at.out.is_some() {
-            return false;
-        }
-        let Some(i) = self.book.turn_of(at.queue, at.began) else {
-            return false;
-        };
-        self.book.next_place(i).is_some()
-    }
-
-    /// Whether a printer has to wait for its next page: `next` would answer Nothing or Stopped.
-    pub fn must_wait(&self, printer: u32) -> bool
-        requires { IsPrinter self.now.config printer }
-        ensures { IsRight self.now (λ d b h. IsTrue result ↔ MustWait d b h self.now printer) }
-    {
-        let at = self.printers[printer as usize - 1];
-        if self.closed {
-            return false;
-        }
-        if at.stopped {
-            return true;
-        }
-        if at.out.is_some() {
-            return false;
-        }
-        let Some(i) = self.book.turn_of(at.queue, at.began) else {
-            return true;
-        };
-        self.book.next_place(i).is_none()
     }
 
     /// Takes back the page that is out at a printer, printed, and says how far its job is.

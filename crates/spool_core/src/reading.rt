@@ -1,21 +1,24 @@
 //! What a core tells of itself. No reader takes memory, and none changes anything.
 
-ghost use Rattle.std.specs.Prelude.{◌≡◌, ◌↔◌, ◌+◌, ◌-◌, ◌<◌, ◌≤◌, ◌^◌, List, IsTrue, MatchOption, length, slice_index_or};
+ghost use Rattle.std.specs.Prelude.{◌≡◌, ◌+◌, ◌-◌, ◌<◌, List, MatchOption, length, slice_index_or};
 ghost use Rattle.account.specs.declared.entry.Outline.{Outline};
-ghost use Rattle.config_values.specs.Config.{IsPrinter, reserve_of};
+ghost use Rattle.config_values.specs.Config.{IsPrinter, IsQueue, queue_named};
 ghost use Rattle.held_jobs.specs.Jobs.{last_size};
 ghost use Rattle.spool_history.specs.Base.{Base};
 ghost use Rattle.spool_history.specs.Events.{Event};
 ghost use Rattle.spool_history.specs.Now.{free_pages};
+ghost use Rattle.spool_history.specs.Legal.{MayOpen};
 ghost use Rattle.spool_history.specs.Next.{printer_at};
+ghost use Rattle.spool_history.specs.Refusals.{MayControl, RefusesControl, RefusesJob};
 ghost use Rattle.spool_calls.specs.Looks.Detail.{Outlines};
 ghost use Rattle.spool_calls.specs.Kept.{Leaves, kept_out};
-ghost use Rattle.spool_calls.specs.Calls.{IsNamed, IsRight, IsUnknown, before};
-ghost use Rattle.spool_calls.specs.Readers.{ArePlaced, HasOpenFile, IsOpenFile, MayControl, MayOpenIn, RefusesControl, RefusesOpen, stopped_for};
-ghost use Rattle.core_steps.proofs.Reading.{lent_among, out_among, stopped_in_queue};
+ghost use Rattle.spool_calls.specs.Calls.{IsRight, before};
+ghost use Rattle.spool_calls.specs.Readers.{ArePlaced, HasOpenFile, IsOpenFile, stopped_for};
+ghost use Rattle.core_steps.proofs.Reading.{lent_among, out_among};
 ghost use Rattle.core_steps.proofs.Starting.{no_kept};
 
 use crate::core_state::Core;
+use crate::printers::count_stopped_in;
 use crate::receiving::is_receiving;
 use account::Sheet;
 use config_values::Config;
@@ -47,16 +50,6 @@ fn count_out(printers: &[Printer]) -> usize
         .count()
 }
 
-/// How many printers of a queue are stopped.
-fn count_stopped_in(printers: &[Printer], queue: u32) -> usize
-    ensures { result ≡ stopped_in_queue queue printers.now }
-{
-    printers
-        .iter()
-        .filter(|printer| printer.queue == queue && printer.stopped)
-        .count()
-}
-
 /// To how many of the held jobs a page is lent.
 fn count_lent(book: &Book) -> usize
     ensures { result ≡ lent_among book.now.jobs }
@@ -68,15 +61,6 @@ fn count_lent(book: &Book) -> usize
         }
     }
     lent
-}
-
-/// Whether the account has room for the entries of one more job of a queue, and there is a number for it.
-fn has_entries(config: &Config, reserved: u64, accepted: u64, queue: u32) -> bool
-    ensures { IsTrue result ↔ (reserved + reserve_of config.now queue + 1 ≤ config.now.account)
-        × (accepted + 1 < 2 ^ 64) }
-{
-    let entries = u128::from(reserved) + u128::from(config.reserve_of(queue)) + 1;
-    entries <= u128::from(config.account()) && accepted < u64::MAX
 }
 
 /// The number of a job's last file, and how many pages of that have come.
@@ -150,8 +134,8 @@ impl Core {
 
     /// The number of the queue of a name.
     pub fn queue_number(&self, name: &[u8]) -> Option<u32>
-        ensures { MatchOption result (IsUnknown self.now.config name.now)
-            (λ q. IsNamed self.now.config name.now q) }
+        ensures { MatchOption result (queue_named self.now.config name.now ≡ 0)
+            (λ q. (queue_named self.now.config name.now ≡ q) × IsQueue self.now.config q) }
     {
         self.config.queue_named(name)
     }
@@ -160,40 +144,20 @@ impl Core {
     ///
     /// The refusals are those of `open`, in the same order.
     pub fn open_refusal(&self, queue: &[u8]) -> Option<Refusal>
-        ensures { IsRight self.now (λ d b h.
-            MatchOption result (MayOpenIn d b h self.now queue.now) (RefusesOpen d b h self.now queue.now)) }
+        ensures { IsRight self.now (λ d b h. MatchOption result
+            (MayOpen (before d b h self.now) ((before d b h self.now).accepted + 1)
+            (queue_named self.now.config queue.now))
+            (RefusesJob (before d b h self.now) (queue_named self.now.config queue.now))) }
     {
-        if self.closed {
-            return Some(Refusal::Closed);
-        }
-        let Some(number) = self.config.queue_named(queue) else {
-            return Some(Refusal::UnknownQueue);
-        };
-        if self.config.max_jobs() as usize <= self.book.len() {
-            return Some(Refusal::TableFull);
-        }
-        if !has_entries(&self.config, self.reserved, self.accepted, number) {
-            return Some(Refusal::AccountFull);
-        }
-        None
+        self.admission(queue).err()
     }
 
     /// Why the control file of a job would be refused: NotOpen where the job isn't being received, ControlTwice where it has one.
     pub fn control_refusal(&self, job: u64) -> Option<Refusal>
-        ensures { IsRight self.now (λ d b h.
-            MatchOption result (MayControl d b h self.now job) (RefusesControl d b h self.now job)) }
+        ensures { IsRight self.now (λ d b h. MatchOption result
+            (MayControl (before d b h self.now) job) (RefusesControl (before d b h self.now) job)) }
     {
-        let Some(i) = self.book.find(job) else {
-            return Some(Refusal::NotOpen);
-        };
-        let found = self.book.job(i);
-        if !is_receiving(found) {
-            return Some(Refusal::NotOpen);
-        }
-        if found.control().is_some() {
-            return Some(Refusal::ControlTwice);
-        }
-        None
+        self.lacks_control(job).err()
     }
 
     /// The number of a job's open file, and how many pages of it were put; None where the job isn't being received or no file

@@ -1,6 +1,6 @@
 //! The calls on a job that is being received.
 
-ghost use Rattle.std.specs.Prelude.{◌≡◌, ◌↔◌, ◌+◌, ◌<◌, ◌≤◌, ◌-◌, None, IsTrue, IsSome, IfOk, IfSome, length};
+ghost use Rattle.std.specs.Prelude.{◌≡◌, ◌↔◌, ◌+◌, ◌<◌, ◌≤◌, ◌-◌, None, IsTrue, IsSome, IfErr, IfOk, IfSome, length};
 ghost use Rattle.control_file.specs.View.{contents};
 ghost use Rattle.counts.specs.Amounts.{amount};
 ghost use Rattle.claims.specs.Claims.{row_at};
@@ -9,7 +9,9 @@ ghost use Rattle.config_values.specs.Config.{limit_of};
 ghost use Rattle.held_jobs.specs.declared.phase.Phase.TheVariants as phase;
 ghost use Rattle.held_jobs.specs.Books.{IsIdle, job_at};
 ghost use Rattle.held_jobs.specs.Moves.{MayAsk, Awaits, CanEnd, received_in, unnamed_of};
-ghost use Rattle.spool_calls.specs.Calls.{IsRight, Asks, Begins, Puts, Ends, Controls, Aborts};
+ghost use Rattle.spool_calls.specs.Calls.{IsRight, Asks, Begins, Puts, Ends, Controls, Aborts, before};
+ghost use Rattle.spool_history.specs.Refusals.{RefusesControl};
+ghost use Rattle.spool_core.specs.Places.{LacksControl};
 ghost use Rattle.spool_history.specs.Legal.{pages_for};
 ghost use Rattle.spool_core.specs.Tickets.{IsBlank};
 ghost use Rattle.spool_calls.specs.Tickets.{MayAbort, count_of};
@@ -24,7 +26,7 @@ use ordered_safety::{PAGES, safe_after_page};
 use page_chain::ChainError;
 use page_pool::{FilledPage, PageTicket, Pool};
 use queues::Book;
-use spool_calls::{Asked, Receipt, ReturnedPage, ReturnedTicket};
+use spool_calls::{Asked, Receipt, ReturnedControl, ReturnedPage, ReturnedTicket};
 
 /// Whether a job is being received.
 pub(crate) fn is_receiving(job: &Job) -> bool
@@ -204,6 +206,7 @@ impl Core {
     /// isn't the one that the file awaits: full, or with its last octets.
     pub fn put(&mut self, job: u64, page: FilledPage) -> Result<(), ReturnedPage>
         ensures config { self.new.config ≡ self.old.config }
+        ensures back { IfErr result (λ e. e.page ≡ page) }
         ensures answer { IsRight self.old (λ d b h. Puts d b h self.old job page self.new result) }
     {
         let page_size = self.config.page_size();
@@ -241,13 +244,13 @@ impl Core {
         Ok(Receipt::Received)
     }
 
-    /// Takes the control file of a job.
+    /// The place of a job that is being received and has no control file.
     ///
     /// NotOpen where the job isn't being received; ControlTwice where it has one.
-    pub fn control(&mut self, job: u64, control: Control) -> Result<Receipt, Refusal>
-        ensures config { self.new.config ≡ self.old.config }
-        ensures answer { IsRight self.old (λ d b h.
-            Controls d b h self.old job (contents control) self.new result) }
+    pub(crate) fn lacks_control(&self, job: u64) -> Result<usize, Refusal>
+        ensures lacks { IfOk result (LacksControl self.now job) }
+        ensures refused { IfErr result (λ n. IsRight self.now (λ d b h.
+            RefusesControl (before d b h self.now) job n)) }
     {
         let Some(i) = self.book.find(job) else {
             return Err(Refusal::NotOpen);
@@ -259,6 +262,22 @@ impl Core {
         if found.control().is_some() {
             return Err(Refusal::ControlTwice);
         }
+        Ok(i)
+    }
+
+    /// Takes the control file of a job.
+    ///
+    /// Refused, with the control file: NotOpen where the job isn't being received; ControlTwice where it has one.
+    pub fn control(&mut self, job: u64, control: Control) -> Result<Receipt, ReturnedControl>
+        ensures config { self.new.config ≡ self.old.config }
+        ensures back { IfErr result (λ e. e.control ≡ control) }
+        ensures answer { IsRight self.old (λ d b h.
+            Controls d b h self.old job (contents control) self.new result) }
+    {
+        let i = match self.lacks_control(job) {
+            Ok(i) => i,
+            Err(refusal) => return Err(ReturnedControl { control, refusal }),
+        };
         self.book.set_control(i, control);
         if self.book.is_open(i) {
             return Ok(Receipt::Stored);
@@ -277,6 +296,7 @@ impl Core {
     /// one of another size.
     pub fn abort(&mut self, job: u64, ticket: Option<PageTicket>) -> Result<(), ReturnedTicket>
         ensures config { self.new.config ≡ self.old.config }
+        ensures back { IfErr result (λ e. e.ticket ≡ ticket) }
         ensures answer { IsRight self.old (λ d b h.
             Aborts d b h self.old job ticket self.new result) }
     {

@@ -1,41 +1,21 @@
 //! The state of a queue, and the removal of its jobs.
 
 ghost use Rattle.std.specs.Prelude.{◌≡◌, ◌≤◌, IfOk, length};
+ghost use Rattle.lpd_values.specs.Texts.{state_text};
 ghost use Rattle.config_values.specs.Config.{queue_at};
-ghost use Rattle.held_jobs.specs.Texts.{state_text};
+ghost use Rattle.held_jobs.specs.Told.{told_in};
 ghost use Rattle.held_jobs.specs.Turns.{facts_in};
 ghost use Rattle.spool_calls.specs.Calls.{IsRight, Removes, Tells};
 ghost use Rattle.spool_calls.specs.Telling.{Chooses, serving, stopped_in};
 
 use crate::closing::end_listed;
 use crate::core_state::Core;
+use crate::printers::{count_serving, count_stopped_in};
 use config_values::Config;
 use lpd_values::{Octets, Refusal};
 use queues::Book;
 use spool_calls::Printer;
 use std::alloc::AllocError;
-
-/// How many of these printers serve a queue.
-fn count_serving(queue: u32, printers: &[Printer]) -> usize
-    ensures value { result ≡ length (serving queue printers.now) }
-    ensures within { result ≤ length printers.now }
-{
-    let Some((first, rest)) = printers.split_first() else {
-        return 0;
-    };
-    usize::from(first.queue == queue) + count_serving(queue, rest)
-}
-
-/// How many of these printers serve a queue and are stopped.
-fn count_stopped(queue: u32, printers: &[Printer]) -> usize
-    ensures value { result ≡ length (stopped_in queue printers.now) }
-    ensures within { result ≤ length printers.now }
-{
-    let Some((first, rest)) = printers.split_first() else {
-        return 0;
-    };
-    usize::from(first.queue == queue && first.stopped) + count_stopped(queue, rest)
-}
 
 /// The text for the state of a queue.
 fn state_of(
@@ -46,13 +26,14 @@ fn state_of(
     list: &[Octets],
     long: bool,
 ) -> Result<Octets, AllocError>
-    ensures { IfOk result (λ text. text ≡ state_text queue (queue_at config.now queue).name
+    ensures { IfOk result (λ text. text
+        ≡ state_text told_in queue (queue_at config.now queue).name
         (length (serving queue printers.now)) (length (stopped_in queue printers.now)) list.now long
         (facts_in book.now.jobs)) }
 {
     let name = config.name_of(queue);
-    let serving = count_serving(queue, printers);
-    let stopped = count_stopped(queue, printers);
+    let serving = count_serving(printers, queue);
+    let stopped = count_stopped_in(printers, queue);
     let text = book.state(queue, name, serving, stopped, list, long)?;
     Ok(Octets::from_vec(text))
 }

@@ -4,6 +4,7 @@ use Rattle.std.specs.List.{list_all, list_any, flat_map}
 use Rattle.lpd_values.specs.Contents.{Contents}
 use Rattle.std.specs.Str.{bytes_eq}
 use Rattle.lpd_values.specs.Kept.{is_among}
+use Rattle.lpd_values.specs.Told.{prints_in}
 use Rattle.spool_history.specs.Events.{Act}
 use Rattle.spool_history.specs.Events.Act.{Granted, Began, Put, FileEnded, Controlled, Aborted}
 
@@ -50,10 +51,6 @@ abbrev pub control_by : {C : Type 0} → List (Act C) → Option Contents
 control_by [] = None
 control_by (Controlled control whole ∷ acts) = Some control
 control_by (_ ∷ acts) = control_by acts
-
-abbrev pub prints_in : Option Contents → List (List ℕ)
-prints_in None = []
-prints_in (Some control) = control.prints
 
 -- whether a file is open: the last that began hasn't ended
 abbrev pub is_open_in : {C : Type 0} → List (File C) → Bool

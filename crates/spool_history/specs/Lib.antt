@@ -9,6 +9,7 @@ pub mod Joined
 pub mod Next
 pub mod Steps
 pub mod Legal
+pub mod Refusals
 pub mod Told
 pub mod Choice
 pub mod Texts

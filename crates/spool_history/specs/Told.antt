@@ -1,26 +1,18 @@
--- What a control file tells of its job.
-use Rattle.std.specs.Prelude.{ℕ, List, [], Option, Some, None}
-use Rattle.lpd_values.specs.Contents.{Contents}
-use Rattle.spool_history.specs.Now.{Job}
+-- What is told of a held job, in the state of its queue and in a removal.
+use Rattle.std.specs.Prelude.{◌-◌, ◌&&◌, not, length, map}
+use Rattle.lpd_values.specs.Told.{Told, ToldFile}
+use Rattle.spool_history.specs.Acts.{File}
+use Rattle.spool_history.specs.Now.{Job, is_received, places}
 
-abbrev pub number_in : Option Contents → ℕ
-number_in None = 0
-number_in (Some control) = control.number
+abbrev pub told_file : {C : Type 0} → File C → ToldFile
+told_file f = record { name = f.name; count = f.count }
 
-abbrev pub user_in : Option Contents → List ℕ
-user_in None = []
-user_in (Some control) = control.user
-
-abbrev pub host_in : Option Contents → List ℕ
-host_in None = []
-host_in (Some control) = control.host
-
--- the job number, the user and the host, as its control file has them
-abbrev pub number_of : {C : Type 0} → Job C → ℕ
-number_of v = number_in v.control
-
-abbrev pub user_of : {C : Type 0} → Job C → List ℕ
-user_of v = user_in v.control
-
-abbrev pub host_of : {C : Type 0} → Job C → List ℕ
-host_of v = host_in v.control
+abbrev pub told_of : {C : Type 0} → Job C → Told
+told_of v = record {
+  queue = v.queue;
+  listed = is_received v && not v.ended;
+  control = v.control;
+  files = map told_file v.files;
+  handed = v.handed;
+  left = length (places v) - v.handed;
+}

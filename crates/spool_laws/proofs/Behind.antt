@@ -28,7 +28,7 @@ IsBehind h o k = Has o (openings h) × Has k (openings h) × (o.job < k.job) × 
 abbrev pub Behind : {C : Type 0} → List (Event C) → Type 0
 Behind h = (o k : Opening) → IsBehind h o k → 0 < handed_at h k.job → is_held (job_of h o) ≡ false
 
-bool_cases : (b : Bool) → (b ≡ true → ⊥) → b ≡ false
+pub bool_cases : (b : Bool) → (b ≡ true → ⊥) → b ≡ false
 bool_cases true f = absurd (f refl)
 bool_cases false f = refl
 

@@ -101,7 +101,7 @@ gone_or_out e l a b e1 l1 ab held =
     let z : false ≡ true = rw (e1, l1, same) at held in
     clash false z refl
 
-unlent_by : (b r : Bool) → (b ≡ true → r ≡ false) → r ≡ true → b ≡ false
+pub unlent_by : (b r : Bool) → (b ≡ true → r ≡ false) → r ≡ true → b ≡ false
 unlent_by true r f e = absurd (clash r e (f refl))
 unlent_by false r f e = refl
 

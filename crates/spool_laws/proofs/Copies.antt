@@ -4,7 +4,8 @@ use Rattle.std.specs.Prelude.{cond, filter}
 use Rattle.std.specs.List.{list_any, flat_map}
 use Rattle.std.specs.Str.{bytes_eq}
 use Rattle.std.proofs.lemmas.List.Sums.{length-filter, count_by-le-length}
-use Rattle.spool_history.specs.Acts.{File, Page, all_pages, is_same_page, numbered, pages_among, pages_named, prints_in}
+use Rattle.lpd_values.specs.Told.{prints_in}
+use Rattle.spool_history.specs.Acts.{File, Page, all_pages, is_same_page, numbered, pages_among, pages_named}
 use Rattle.spool_history.specs.Now.{Job, pages_kept, places}
 use Rattle.spool_laws.proofs.Known.{Has, clash, or_true, test}
 use Rattle.spool_laws.proofs.Adding.{has_left}
@@ -78,36 +79,36 @@ kept_fewer {C} v =
 
 -- each place is a page of a file
 
-has_right : {X : Type 0} (x : X) (xs ys : List X) → Has x ys → Has x (xs ++ ys)
+pub has_right : {X : Type 0} (x : X) (xs ys : List X) → Has x ys → Has x (xs ++ ys)
 has_right x [] ys has = has
 has_right x (z ∷ zs) ys has = inr (has_right x zs ys has)
 
-has_either : {X : Type 0} (x : X) (xs ys : List X) → Has x (xs ++ ys) → Has x xs ⊎ Has x ys
+pub has_either : {X : Type 0} (x : X) (xs ys : List X) → Has x (xs ++ ys) → Has x xs ⊎ Has x ys
 has_either x [] ys has = inr has
 has_either x (z ∷ zs) ys has = elim has [
   | inl e ↦ inl (inl e)
   | inr t ↦ elim (has_either x zs ys t) [ inl a ↦ inl (inr a) | inr b ↦ inr b ]
 ]
 
-if_has : {X : Type 0} (x : X) (b : Bool) (xs : List X) → Has x (cond b xs []) → Has x xs
+pub if_has : {X : Type 0} (x : X) (b : Bool) (xs : List X) → Has x (cond b xs []) → Has x xs
 if_has x true xs has = has
 if_has x false xs has = absurd has
 
-named_there : {C : Type 0} (name : List ℕ) (x : Page C) (n : ℕ) (fs : List (File C)) → Has x (pages_named name n fs) → Has x (all_pages n fs)
+pub named_there : {C : Type 0} (name : List ℕ) (x : Page C) (n : ℕ) (fs : List (File C)) → Has x (pages_named name n fs) → Has x (all_pages n fs)
 named_there name x n [] has = absurd has
 named_there name x n (f ∷ fs) has = elim (has_either x (cond (bytes_eq f.name name) (numbered n 0 f.pages) []) (pages_named name (n + 1) fs) has) [
   | inl a ↦ has_left x (numbered n 0 f.pages) (all_pages (n + 1) fs) (if_has x (bytes_eq f.name name) (numbered n 0 f.pages) a)
   | inr b ↦ has_right x (numbered n 0 f.pages) (all_pages (n + 1) fs) (named_there name x (n + 1) fs b)
 ]
 
-places_there : {C : Type 0} (x : Page C) (fs : List (File C)) (names : List (List ℕ)) → Has x (flat_map (λ name. pages_named name 0 fs) names) → Has x (all_pages 0 fs)
+pub places_there : {C : Type 0} (x : Page C) (fs : List (File C)) (names : List (List ℕ)) → Has x (flat_map (λ name. pages_named name 0 fs) names) → Has x (all_pages 0 fs)
 places_there x fs [] has = absurd has
 places_there x fs (name ∷ names) has = elim (has_either x (pages_named name 0 fs) (flat_map (λ name. pages_named name 0 fs) names) has) [
   | inl a ↦ named_there name x 0 fs a
   | inr b ↦ places_there x fs names b
 ]
 
-same_page : {C : Type 0} (x : Page C) → is_same_page x x ≡ true
+pub same_page : {C : Type 0} (x : Page C) → is_same_page x x ≡ true
 same_page x = elim (test x.file x.file) [
   | inl s ↦ elim (test x.number x.number) [ inl t ↦ rw (s.1, t.1) refl | inr t ↦ absurd (t.0 refl) ]
   | inr s ↦ absurd (s.0 refl)

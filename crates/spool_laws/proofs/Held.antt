@@ -4,13 +4,14 @@ use Rattle.std.specs.Prelude.{not, cond, nat_le}
 use Rattle.lpd_values.specs.Contents.{Contents}
 use Rattle.lpd_values.specs.Kept.{is_print_list}
 use Rattle.lpd_values.specs.declared.limits.TheConstants.{MAX_PRINTS}
+use Rattle.lpd_values.specs.Told.{prints_in}
 use Rattle.std.proofs.lemmas.Bool.{leb-true}
 use Rattle.spool_history.specs.Base.{Base}
 use Rattle.spool_history.specs.Events.{Act, Event}
 use Rattle.spool_history.specs.Events.Act.{Granted, Began, Put, FileEnded, Controlled, Aborted}
 use Rattle.spool_history.specs.Events.Event.{Opened, OfJob, AtPrinter, Removed, Started, Closed}
 use Rattle.config_values.specs.Config.{Config}
-use Rattle.spool_history.specs.Acts.{File, granted_by, is_lent_by, files_by, control_by, at_last, new_file, is_open_in, prints_in}
+use Rattle.spool_history.specs.Acts.{File, granted_by, is_lent_by, files_by, control_by, at_last, new_file, is_open_in}
 use Rattle.spool_history.specs.Said.{acts_of}
 use Rattle.spool_history.specs.Now.{now}
 use Rattle.spool_history.specs.Legal.{IsLegal, May}

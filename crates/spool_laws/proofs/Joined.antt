@@ -20,9 +20,10 @@ use Rattle.spool_history.specs.Joined.{LeavesJoined, handed, jobs_from, is_of_on
 use Rattle.spool_laws.specs.Leaving.{EachHanded, WasAccepted}
 use Rattle.spool_laws.proofs.Known.{Has, has_contained, has_last, held_at, none_of, test, clash}
 use Rattle.spool_laws.proofs.Facts.{facts, last, Turn', turn_of_page, handed_at, handed_more, handed_one, handed_same}
-use Rattle.spool_laws.proofs.Places.{placed}
+use Rattle.spool_laws.proofs.Places.{placed, none_by}
 use Rattle.spool_laws.proofs.Behind.{Behind, behind}
 use Rattle.spool_laws.proofs.Whole.{whole}
+use Rattle.spool_laws.proofs.Adding.{has_left}
 
 -- jobs by rising number
 
@@ -88,10 +89,6 @@ join_none : {X A : Type 0} (f : X → List A) (xs : List X) → ((x : X) → Has
 join_none f [] e = refl
 join_none {X} {A} f (x ∷ xs) e = ap (λ (l : List A). l ++ flat_map f xs) (e x (inl refl)) ∙ join_none f xs (λ y has. e y (inr has))
 
-none_by : {X : Type 0} (xs : List X) → length xs ≡ 0 → xs ≡ []
-none_by [] e = refl
-none_by (x ∷ xs) e = absurd (omega arith)
-
 append_three : {X : Type 0} (xs ys zs : List X) → (xs ++ ys) ++ zs ≡ xs ++ (ys ++ zs)
 append_three [] ys zs = refl
 append_three {X} (x ∷ xs) ys zs = ap (λ (l : List X). x ∷ l) (append_three xs ys zs)
@@ -128,10 +125,6 @@ joined_more {C} h p sheet o (y ∷ ys) r has same none =
 -- what was handed is of these jobs, one after the other
 abbrev Joins : {C : Type 0} → List (Event C) → List Opening → Type 0
 Joins h js = handed_from h js ≡ flat_map (λ (o : Opening). handed_of h o.job) js
-
-has_left : {X : Type 0} (x : X) (xs ys : List X) → Has x xs → Has x (xs ++ ys)
-has_left x [] ys has = absurd has
-has_left x (y ∷ xs) ys has = elim has [ inl s ↦ inl s | inr t ↦ inr (has_left x xs ys t) ]
 
 has_pushed : {X : Type 0} (x y : X) (xs : List X) → y ≡ x → Has x (xs ++ y ∷ [])
 has_pushed x y [] e = inl e
@@ -289,7 +282,7 @@ joined {C} size c base h l sender queue =
 
 -- a page is handed of an accepted job
 
-contained : {X : Type 0} (x : X) (xs : List X) → Has x xs → Contains xs x
+pub contained : {X : Type 0} (x : X) (xs : List X) → Has x xs → Contains xs x
 contained x [] has = absurd has
 contained x (y ∷ ys) has = elim has [
   | inl e ↦ (zero, omega arith, e)

@@ -4,13 +4,14 @@ use Rattle.std.specs.Prelude.{◌&&◌, ◌||◌, not, cond, find, is_some, opti
 use Rattle.std.specs.List.{list_any, list_all, flat_map}
 use Rattle.std.proofs.lemmas.List.{map-append, drop-map, length-map}
 use Rattle.lpd_values.specs.Kept.{is_among}
+use Rattle.lpd_values.specs.Told.{prints_in}
 use Rattle.claims.specs.declared.row.Row.{Row}
 use Rattle.counts.specs.Amounts.{amount}
 use Rattle.claims.specs.Safety.{HasFinishingOrder}
 use Rattle.spool_history.specs.Events.{Sheet}
 use Rattle.spool_history.specs.Events.Progress.{Going, Done, Ended}
 use Rattle.config_values.specs.Config.{Config, limit_of}
-use Rattle.spool_history.specs.Acts.{File, Page, all_pages, is_same_page, prints_in, is_open_in, names_in, numbered, pages_among, pages_named}
+use Rattle.spool_history.specs.Acts.{File, Page, all_pages, is_same_page, is_open_in, names_in, numbered, pages_among, pages_named}
 use Rattle.spool_history.specs.Now.{Job, Printer, State, is_received, places, pages_kept, pages_out, printers_held, printers_needed, amounts, row_of, capacity, free_pages, IsSafeNow}
 use Rattle.spool_history.specs.Next.{Next, hand_first, hand_of, is_preceded_by, is_ready, first_ready, or_first, turn_of, with_out, next_at, printer_at, next_page}
 use Rattle.spool_history.specs.Next.Next.{Hands, Nothing, Stops, Busy, Over}

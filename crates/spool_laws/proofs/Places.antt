@@ -34,7 +34,7 @@ take_one {X} (suc n) (x ∷ xs) page rest e =
     let m : suc n + 1 ≡ suc (n + 1) = omega arith in
     (rw m (ap (λ (l : List X). x ∷ l) ih.0), ap suc ih.1)
 
-none_by : {X : Type 0} (xs : List X) → length xs ≡ 0 → xs ≡ []
+pub none_by : {X : Type 0} (xs : List X) → length xs ≡ 0 → xs ≡ []
 none_by [] e = refl
 none_by (x ∷ xs) e = absurd (omega arith)
 

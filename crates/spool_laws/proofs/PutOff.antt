@@ -171,7 +171,7 @@ act_takes {C} size c base h k act l m f u has = elim (test k u.number) [
   | inr s ↦ rw s.1 (inl refl)
 ]
 
-open_last : {C : Type 0} (before : List (File C)) (last : File C) → last.ended ≡ false → is_open_in (before ++ last ∷ []) ≡ true
+pub open_last : {C : Type 0} (before : List (File C)) (last : File C) → last.ended ≡ false → is_open_in (before ++ last ∷ []) ≡ true
 open_last [] last e = rw e refl
 open_last {C} (f ∷ fs) last e = rw (open_last fs last e) (or_true (not f.ended))
 

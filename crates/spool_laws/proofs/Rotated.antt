@@ -31,10 +31,6 @@ map_map : {X Y Z : Type 0} (g : Y → Z) (f : X → Y) (xs : List X) → map g (
 map_map g f [] = refl
 map_map {X} {Y} {Z} g f (x ∷ xs) = ap (λ (l : List Z). g (f x) ∷ l) (map_map g f xs)
 
--- which printers are stopped is kept
-abbrev stopped_of : {C : Type 0} → Printer C → Bool
-stopped_of printer = printer.stopped
-
 still_stopped : {C : Type 0} (c : Config) (b : Base) (h : List (Event C)) (p : ℕ) → 1 ≤ p → p ≤ printer_count c → was_stopped (rotated (now c b h)) p ≡ is_stopped_at b h (queue_of c p) p
 still_stopped c b h zero one le = absurd (omega arith)
 still_stopped {C} c b h (suc p) one le =

@@ -28,6 +28,7 @@ use Rattle.spool_laws.proofs.Moves.{moved}
 use Rattle.spool_laws.proofs.Busy.{busy, received_if}
 use Rattle.spool_laws.proofs.StillHeld.{left}
 use Rattle.spool_laws.proofs.PutOff.{Takes, takes, still_held, at_job}
+use Rattle.spool_laws.proofs.Behind.{bool_cases as false_if}
 
 -- what an event that doesn't serve a queue makes of a job of that queue: it takes something or nothing, or a page of it comes
 -- back, and it goes on
@@ -387,10 +388,6 @@ before_parts w v e =
     let b0 = b.0 in
     let b1 = b.1 in
     (grind (arith, nat_tests), grind (arith, nat_tests))
-
-false_if : (b : Bool) → (b ≡ true → ⊥) → b ≡ false
-false_if true f = absurd (f refl)
-false_if false f = refl
 
 begins_before : {C : Type 0} (size : C → ℕ) (c : Config) (base : Base) (h : List (Event C)) (e : Event C) (q : ℕ) → may_serve (now c base h) q e ≡ false → IsLegal size c base h → May size (now c base h) e
     → (u : Job C) → Has u (now c base h).jobs → Begins (all e (now c base h).jobs) q (change e u) → (change e u).ended ≡ false → Begins (now c base h).jobs q u × (u.ended ≡ false)

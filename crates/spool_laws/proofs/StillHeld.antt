@@ -17,15 +17,6 @@ Lowers row g ws = AllByRecursion (λ w. is_held (g w) ≡ true → Lower (row w)
 abbrev pub left : {C : Type 0} → (Job C → Job C) → List (Job C) → List (Job C)
 left g ws = filter is_held (map g ws)
 
-holds_step : {C : Type 0} (row : Job C → Row) (g : Job C → Job C) (k : ℕ) (w : Job C) (ws : List (Job C)) (b : Bool) → is_held (g w) ≡ b → (is_held (g w) ≡ true → Lower (row w) (row (g w))) → holds k (map row (left g ws)) ≤ holds k (map row ws)
-    → holds k (map row (left g (w ∷ ws))) ≤ holds k (map row (w ∷ ws))
-holds_step row g k w ws true e l ih = rw e (let h = (l e).held k in omega arith)
-holds_step row g k w ws false e l ih = rw e (omega arith)
-
-pub holds_less : {C : Type 0} (row : Job C → Row) (g : Job C → Job C) (k : ℕ) (ws : List (Job C)) → Lowers row g ws → holds k (map row (left g ws)) ≤ holds k (map row ws)
-holds_less row g k [] l = omega arith
-holds_less row g k (w ∷ ws) l = holds_step row g k w ws (is_held (g w)) refl l.0 (holds_less row g k ws l.1)
-
 abbrev Enough : (ℕ → ℕ) → List Row → (ℕ → ℕ) → List Row → Type 0
 Enough f xs g ys = (k : ℕ) → f k + holds k xs ≤ g k + holds k ys
 

@@ -5,7 +5,7 @@ use Rattle.counts.specs.Amounts.{amount}
 use Rattle.claims.specs.declared.row.Row.{Row}
 use Rattle.claims.specs.Claims.{Pairwise}
 use Rattle.claims.specs.Safety.{freed, CanFinish, KeepsLine, IsOrderOf, HasFinishingOrder}
-use Rattle.claims.proofs.Lowered.{holds, holds_append}
+use Rattle.claims.proofs.Lowered.{holds, holds_append, holds_order as held_in_order}
 
 -- the second is of the same job and holds no less, and with what it may still need it asks for no less
 pub record Took (x y : Row) : Type 0 where
@@ -87,15 +87,6 @@ finishes f g (x ∷ xs) (y ∷ ys) t le h = (
   λ k. (let m = took_more k xs ys t.1 in omega (arith, h.0 k, le k, t.0.claim k, t.0.held k)),
   finishes (freed f x) (freed g y) xs ys t.1 (λ k. omega (arith, le k)) h.1,
 )
-
-held_in_order : (k : ℕ) (rows order : List Row) → IsOrderOf rows order → holds k rows ≡ holds k order
-held_in_order k rows [] o = ap (holds k) o
-held_in_order k rows (y ∷ order) o =
-    let e1 = ap (holds k) o.2 in
-    let e2 = holds_append k o.0 (y ∷ o.1) in
-    let e3 = holds_append k o.0 o.1 in
-    let ih = held_in_order k (o.0 ++ o.1) order o.3 in
-    omega arith
 
 -- where the rows could finish after some took something, they could before
 pub safe_before : (f g : ℕ → ℕ) (xs ys : List Row) → AllTook xs ys → NoLess f xs g ys → HasFinishingOrder g ys → HasFinishingOrder f xs

@@ -1,12 +1,14 @@
 //! The totals of the three ledgers.
 
 ghost use Rattle.std.specs.Prelude.{◌≡◌, ◌<◌, ◌≤◌};
+ghost use Rattle.spool_ledgers.specs.Blanks.{AreOf, mark};
 ghost use Rattle.spool_ledgers.specs.Sums.{no_sums, with_entry};
 
+use crate::blanks::Blanks;
 use crate::shares::Shares;
 use account::Kind;
 use std::marker::Model;
-use std::sync::ledger::{Blank, Book, Ledger};
+use std::sync::ledger::{Book, Ledger};
 
 /// The totals of the three ledgers.
 /// They are kept under the lock, beside what they count.
@@ -34,14 +36,17 @@ impl<E: Ledger, K: Ledger, H: Ledger> Model for Books<E, K, H> {
 
 impl<E: Ledger, K: Ledger, H: Ledger> Books<E, K, H> {
     /// Opens the three ledgers.
-    pub fn open(entries: Blank, kinds: Blank, handed: Blank) -> (Books<E, K, H>, Shares<E, K, H>)
-        requires entries { (entries.name ≡ E.name) × (entries.parts ≡ E.parts) }
-        requires kinds { (kinds.name ≡ K.name) × (kinds.parts ≡ K.parts) }
-        requires handed { (handed.name ≡ H.name) × (handed.parts ≡ H.parts) }
-        requires same { (K.parts ≡ E.parts) × (H.parts ≡ E.parts) }
+    pub fn open(blanks: Blanks) -> (Books<E, K, H>, Shares<E, K, H>)
+        requires { AreOf blanks (mark E.name E.parts) (mark K.name K.parts)
+            (mark H.name H.parts) }
         ensures books { result.0 ≡ no_sums 0 }
         ensures shares { result.1 ≡ no_sums E.parts }
     {
+        let Blanks {
+            entries,
+            kinds,
+            handed,
+        } = blanks;
         let (entries, all_entries) = entries.open::<E>();
         let (kinds, all_kinds) = kinds.open::<K>();
         let (handed, all_handed) = handed.open::<H>();

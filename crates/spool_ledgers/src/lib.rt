@@ -4,10 +4,12 @@
 //! the totals.
 #![tactic(auto)]
 
+mod blanks;
 mod books;
 mod shares;
 mod spool_ledger;
 
+pub use blanks::Blanks;
 pub use books::Books;
 pub use shares::Shares;
 pub use spool_ledger::SpoolLedger;

@@ -13,6 +13,7 @@ use Rattle.spool_laws.proofs.Held.{keeps}
 use Rattle.spool_laws.proofs.Sound.{Sound}
 use Rattle.spool_laws.proofs.Told.{within}
 use Rattle.spool_laws.proofs.Apart.{Apart, apart, held_apart, pages_sum}
+use Rattle.spool_laws.proofs.Busy.{unlent_by}
 
 -- how many pages the files of a job have
 abbrev pub file_pages : {C : Type 0} → Job C → ℕ
@@ -35,10 +36,6 @@ lent_is_open {C} size c base h v l has =
 -- a job to which a page is lent isn't received
 pub lent_unreceived : {C : Type 0} (size : C → ℕ) (c : Config) (base : Base) (h : List (Event C)) (v : Job C) → IsLegal size c base h → Has v (now c base h).jobs → v.lent ≡ true → is_received v ≡ false
 lent_unreceived size c base h v l has = (job_sound size c base h v l has).lent
-
-unlent_by : (b r : Bool) → (b ≡ true → r ≡ false) → r ≡ true → b ≡ false
-unlent_by true r f e = absurd (clash r e (f refl))
-unlent_by false r f e = refl
 
 -- so no page is lent to a received job
 pub received_unlent : {C : Type 0} (size : C → ℕ) (c : Config) (base : Base) (h : List (Event C)) (v : Job C) → IsLegal size c base h → Has v (now c base h).jobs → is_received v ≡ true → v.lent ≡ false
@@ -94,11 +91,3 @@ unreceived_unhanded size c base h v l has r =
     let none = s.begun r in
     let le = s.back in
     (none, omega arith)
-
--- so a job of which a place was handed out is received
-pub handed_received : {C : Type 0} (size : C → ℕ) (c : Config) (base : Base) (h : List (Event C)) (v : Job C) → IsLegal size c base h → Has v (now c base h).jobs → 0 < v.handed → is_received v ≡ true
-handed_received size c base h v l has pos = by (is_received v) refl
-  where
-    by : (b : Bool) → is_received v ≡ b → b ≡ true
-    by true e = refl
-    by false e = (let none = (unreceived_unhanded size c base h v l has e).0 in absurd (omega arith))

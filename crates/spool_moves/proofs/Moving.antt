@@ -84,33 +84,7 @@ jobs_left {C} size c base h e l m none =
     let kept = filter is_held (map (change e) (now c base h).jobs) in
     ap (λ (v : State C). v.jobs) (moved size c base h e l m) ∙ (ap (λ (r : List (Job C)). kept ++ r) none ∙ append-nil kept)
 
--- after an act its job has changed at its place, if it stays held
-pub acted_jobs : {C : Type 0} (size : C → ℕ) (c : Config) (base : Base) (h : List (Event C)) (i k : ℕ) (act : Act C) → IsLegal size c base h → May size (now c base h) (OfJob k act) → Stands (now c base h).jobs i k → is_held (acted act (get_or (now c base h).jobs i no_job)) ≡ true
-    → (now c base (OfJob k act ∷ h)).jobs ≡ set (now c base h).jobs i (acted act (get_or (now c base h).jobs i no_job))
-acted_jobs size c base h i k act l m s held = jobs_left size c base h (OfJob k act) l m refl ∙ act_set size c base h i k act l s held
-
--- and is out, if it is held no more
-pub acted_gone : {C : Type 0} (size : C → ℕ) (c : Config) (base : Base) (h : List (Event C)) (i k : ℕ) (act : Act C) → IsLegal size c base h → May size (now c base h) (OfJob k act) → Stands (now c base h).jobs i k → is_held (acted act (get_or (now c base h).jobs i no_job)) ≡ false
-    → (now c base (OfJob k act ∷ h)).jobs ≡ remove (now c base h).jobs i
-acted_gone size c base h i k act l m s gone = jobs_left size c base h (OfJob k act) l m refl ∙ act_gone size c base h i k act l s gone
-
 -- after a turn the job of its page has changed at its place, if it stays held
 pub turned_jobs : {C : Type 0} (size : C → ℕ) (c : Config) (base : Base) (h : List (Event C)) (i p : ℕ) (sheet : Sheet C) (turn : Turn) → IsLegal size c base h → May size (now c base h) (AtPrinter p sheet turn) → Stands (now c base h).jobs i sheet.job → is_held (turned turn (get_or (now c base h).jobs i no_job)) ≡ true
     → (now c base (AtPrinter p sheet turn ∷ h)).jobs ≡ set (now c base h).jobs i (turned turn (get_or (now c base h).jobs i no_job))
 turned_jobs size c base h i p sheet turn l m s held = jobs_left size c base h (AtPrinter p sheet turn) l m refl ∙ turn_set size c base h i p sheet turn l s held
-
--- and is out, if it is held no more
-pub turned_gone : {C : Type 0} (size : C → ℕ) (c : Config) (base : Base) (h : List (Event C)) (i p : ℕ) (sheet : Sheet C) (turn : Turn) → IsLegal size c base h → May size (now c base h) (AtPrinter p sheet turn) → Stands (now c base h).jobs i sheet.job → is_held (turned turn (get_or (now c base h).jobs i no_job)) ≡ false
-    → (now c base (AtPrinter p sheet turn ∷ h)).jobs ≡ remove (now c base h).jobs i
-turned_gone size c base h i p sheet turn l m s gone = jobs_left size c base h (AtPrinter p sheet turn) l m refl ∙ turn_gone size c base h i p sheet turn l s gone
-
--- a job that is accepted stands last, behind the held ones
-pub opened_jobs : {C : Type 0} (size : C → ℕ) (c : Config) (base : Base) (h : List (Event C)) (k sender queue : ℕ) → IsLegal size c base h → May size (now c base h) (Opened k sender queue)
-    → (now c base (Opened k sender queue ∷ h)).jobs ≡ (now c base h).jobs ++ new_job k sender queue ∷ []
-opened_jobs {C} size c base h k sender queue l m =
-    ap (λ (v : State C). v.jobs) (moved size c base h (Opened k sender queue) l m)
-    ∙ ap (λ (r : List (Job C)). r ++ new_job k sender queue ∷ []) (none_changed (change (Opened k sender queue)) (now c base h).jobs (λ z has. refl) (all_held c base h))
-
--- the start of a queue changes no job
-pub started_jobs : {C : Type 0} (size : C → ℕ) (c : Config) (base : Base) (h : List (Event C)) (queue : ℕ) → IsLegal size c base h → May size (now c base h) (Started queue) → (now c base (Started queue ∷ h)).jobs ≡ (now c base h).jobs
-started_jobs size c base h queue l m = jobs_left size c base h (Started queue) l m refl ∙ none_changed (change (Started queue)) (now c base h).jobs (λ z has. refl) (all_held c base h)

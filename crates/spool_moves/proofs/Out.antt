@@ -21,7 +21,8 @@ use Rattle.spool_laws.proofs.Moves.{out_held}
 use Rattle.spool_laws.proofs.Busy.{busy, received_if}
 use Rattle.spool_laws.proofs.Places.{placed}
 use Rattle.spool_moves.specs.Standing.{no_job}
-use Rattle.spool_moves.proofs.Standing.{Stands, contains_has, has_here}
+use Rattle.spool_moves.proofs.Standing.{Stands, has_here}
+use Rattle.spool_laws.proofs.Joined.{contained as contains_has}
 use Rattle.spool_moves.proofs.Holding.{job_sound}
 
 some_sheet : {C : Type 0} (s t : Sheet C) → ◌≡◌ {A = Option (Sheet C)} (Some s) (Some t) → s ≡ t
@@ -29,9 +30,6 @@ some_sheet s t e = cc
 
 none_some : {C : Type 0} (s : Sheet C) → ◌≡◌ {A = Option (Sheet C)} None (Some s) → ⊥
 none_some s e = cc
-
-some_number : (k j : ℕ) → ◌≡◌ {A = Option ℕ} (Some k) (Some j) → k ≡ j
-some_number k j e = cc
 
 handed_still : {C : Type 0} (h : List (Event C)) (p : ℕ) (x : Sheet C) (turn : Turn) (s : Sheet C) (j : ℕ) → Has s (handed_of h j) → Has s (handed_of (AtPrinter p x turn ∷ h) j)
 handed_still {C} h p x Handed s j has = elim (test x.job j) [
@@ -135,14 +133,6 @@ drop_first [] (suc i) y ys d e = absurd cc
 drop_first (x ∷ xs) zero y ys d e = (omega arith, cc)
 drop_first (x ∷ xs) (suc i) y ys d e = (let r = drop_first xs i y ys d e in (let lt = r.0 in omega arith, r.1))
 
--- the printer of a number serves the queue that the config says
-pub printer_queue : {C : Type 0} (c : Config) (base : Base) (h : List (Event C)) (p : ℕ) → IsPrinter c p → (printer_at (now c base h) p).queue ≡ queue_of c p
-printer_queue {C} c base h p is = ap (λ (x : Printer C). x.queue) (at_printer c base h p is.0 is.1)
-
--- and what is out at it is what the history says
-pub printer_out : {C : Type 0} (c : Config) (base : Base) (h : List (Event C)) (p : ℕ) → IsPrinter c p → (printer_at (now c base h) p).out ≡ out_at h p
-printer_out {C} c base h p is = ap (λ (x : Printer C). x.out) (at_printer c base h p is.0 is.1)
-
 out_held_job : {C : Type 0} (size : C → ℕ) (c : Config) (base : Base) (h : List (Event C)) (p : ℕ) (sheet : Sheet C) → IsLegal size c base h → out_at h p ≡ Some sheet → HasJob (now c base h).jobs sheet.job (OutOf (queue_of c p) sheet)
 out_held_job {C} size c base h p sheet l e =
     let f = facts size c base h l in
@@ -188,15 +178,6 @@ pub out_here : {C : Type 0} (size : C → ℕ) (c : Config) (base : Base) (h : L
     → OutOf (queue_of c p) sheet (get_or (now c base h).jobs i no_job)
 out_here {C} size c base h i p sheet l is e s = has_here size c base h i sheet.job (OutOf (queue_of c p) sheet) l s (out_job size c base h p sheet l is e)
 
--- two printers at which pages of one job are out are one
-pub out_alone : {C : Type 0} (size : C → ℕ) (c : Config) (base : Base) (h : List (Event C)) (p q : ℕ) (s t : Sheet C) → IsLegal size c base h → IsPrinter c p → IsPrinter c q → (printer_at (now c base h) p).out ≡ Some s → (printer_at (now c base h) q).out ≡ Some t → s.job ≡ t.job
-    → p ≡ q
-out_alone {C} size c base h p q s t l ip iq ep eq same =
-    let f = facts size c base h l in
-    let a = (f.out p s (is_out c base h p s ip ep)).0 in
-    let b = (f.out q t (is_out c base h q t iq eq)).0 in
-    f.alone p q t.job (a ∙ ap (λ (j : ℕ). Some j) same) b
-
 -- a page of this job is out at a printer
 pub record AtPrinterOf {C : Type 0} (c : Config) (base : Base) (h : List (Event C)) (x : Job C) : Type 0 where
   pub at : ℕ
@@ -204,36 +185,3 @@ pub record AtPrinterOf {C : Type 0} (c : Config) (base : Base) (h : List (Event 
   pub sheet : Sheet C
   pub out : (printer_at (now c base h) at).out ≡ Some sheet
   pub job : sheet.job ≡ x.number
-
--- where one more place of a held job was handed out than came back, that one is out at a printer
-pub out_somewhere : {C : Type 0} (size : C → ℕ) (c : Config) (base : Base) (h : List (Event C)) (x : Job C) → IsLegal size c base h → Has x (now c base h).jobs → x.handed ≡ x.back + 1 → AtPrinterOf c base h x
-out_somewhere {C} size c base h x l has more =
-    let f = facts size c base h l in
-    let k = known c base h x has in
-    let o = k.opening in
-    let handed : handed_at h o.job ≡ back_of h o.job + 1 = subst (λ (v : Job C). v.handed ≡ v.back + 1) k.is more in
-    let number : o.job ≡ x.number = sym (ap (λ (v : Job C). v.number) k.is) in
-    let b = busy size c base h l o k.there (subst (λ (v : Job C). is_held v ≡ true) k.is k.held) (omega arith) in
-    by o.job b.at b.is number handed b.began (out_at h b.at) refl
-  where
-    by : (j p : ℕ) → IsPrinter c p → j ≡ x.number → handed_at h j ≡ back_of h j + 1 → began_at h p ≡ Some j → (r : Option (Sheet C)) → out_at h p ≡ r → AtPrinterOf c base h x
-    by j p is n handed began None e = (let z = (facts size c base h l).idle p j e began in absurd (omega arith))
-    by j p is n handed began (Some s) e =
-        let was = ((facts size c base h l).out p s e).0 in
-        let same : s.job ≡ j = some_number s.job j (sym was ∙ began) in
-        record { at = p; is = is; sheet = s; out = printer_out c base h p is ∙ e; job = same ∙ n }
-
--- where no printer has a page of a held job, all that was handed out of it came back
-pub none_out : {C : Type 0} (size : C → ℕ) (c : Config) (base : Base) (h : List (Event C)) (x : Job C) → IsLegal size c base h → Has x (now c base h).jobs
-    → ((p : ℕ) (sheet : Sheet C) → IsPrinter c p → (printer_at (now c base h) p).out ≡ Some sheet → sheet.job ≢ x.number) → x.handed ≡ x.back
-none_out size c base h x l has none =
-    let s = job_sound size c base h x l has in
-    let back = s.back in
-    let out = s.out in
-    elim (test x.handed x.back) [
-      | inl e ↦ e.0
-      | inr e ↦
-          let ne = e.0 in
-          let a = out_somewhere size c base h x l has (omega arith) in
-          absurd (none a.at a.sheet a.is a.out a.job)
-    ]

@@ -11,6 +11,7 @@ use Rattle.spool_laws.proofs.Known.{Has, has_contained, filter_cons, known}
 use Rattle.spool_laws.proofs.Pigeons.{Rises}
 use Rattle.spool_laws.proofs.Busy.{rising_jobs}
 use Rattle.spool_moves.specs.Standing.{no_job}
+use Rattle.spool_laws.proofs.Joined.{contained as contains_has}
 
 -- the numbers of these jobs rise
 abbrev pub Rising : {C : Type 0} → List (Job C) → Type 0
@@ -109,44 +110,8 @@ has_job {C} v i number P s p = record {
 pub has_none : {C : Type 0} (v : State C) (number : ℕ) (P : Job C → Type 0) → ((x : Job C) → Has x v.jobs → x.number ≢ number) → HasJob v.jobs number P → ⊥
 has_none v number P none m = none m.job (has_contained m.job v.jobs m.there) m.number
 
--- of two held jobs of one number each is the other
-pub same_job : {C : Type 0} (jobs : List (Job C)) (x y : Job C) → Rising jobs → Has x jobs → Has y jobs → x.number ≡ y.number → x ≡ y
-same_job [] x y r a b e = absurd a
-same_job {C} (v ∷ vs) x y r a b e = elim a [
-  | inl s ↦ elim b [
-    | inl t ↦ sym s ∙ t
-    | inr t ↦ absurd (let lt = r.0 y t in let n : v.number ≡ x.number = ap (λ (z : Job C). z.number) s in omega arith)
-  ]
-  | inr s ↦ elim b [
-    | inl t ↦ absurd (let lt = r.0 x s in let n : v.number ≡ y.number = ap (λ (z : Job C). z.number) t in omega arith)
-    | inr t ↦ same_job vs x y r.1 s t e
-  ]
-]
-
 -- the place of a job that is there
 pub record PlaceOf {C : Type 0} (jobs : List (Job C)) (x : Job C) : Type 0 where
   pub at : ℕ
   pub stands : Stands jobs at x.number
   pub is : get_or jobs at no_job ≡ x
-
--- what is one of a list stands in it
-pub contains_has : {X : Type 0} (x : X) (xs : List X) → Has x xs → Contains xs x
-contains_has x [] has = absurd has
-contains_has x (y ∷ ys) has = elim has [
-  | inl e ↦ (0, omega arith, e)
-  | inr t ↦ let r = contains_has x ys t in (suc r.0, (let lt = r.1 in omega arith), r.2)
-]
-
--- each of these jobs has a place
-pub place_of : {C : Type 0} (jobs : List (Job C)) (x : Job C) → Has x jobs → PlaceOf jobs x
-place_of [] x has = absurd has
-place_of {C} (v ∷ vs) x has = elim has [
-  | inl s ↦ record { at = 0; stands = record { there = omega arith; number' = ap (λ (z : Job C). z.number) s }; is = s }
-  | inr t ↦ let p = place_of vs x t in record { at = suc p.at; stands = record { there = (let lt = p.stands.there in omega arith); number' = p.stands.number' }; is = p.is }
-]
-
--- where the job of a number stands, there each job of that number is
-pub stands_is : {C : Type 0} (size : C → ℕ) (c : Config) (base : Base) (h : List (Event C)) (i number : ℕ) (x : Job C) → IsLegal size c base h → Stands (now c base h).jobs i number → Has x (now c base h).jobs → x.number ≡ number → get_or (now c base h).jobs i no_job ≡ x
-stands_is size c base h i number x l s has n =
-    let jobs = (now c base h).jobs in
-    same_job jobs (get_or jobs i no_job) x (rising_jobs size c base h l) (has_get jobs i no_job s.there) has (s.number' ∙ sym n)

@@ -1,4 +1,3 @@
-pub mod Named
 pub mod Starts
 pub mod Puts
 pub mod Aborts

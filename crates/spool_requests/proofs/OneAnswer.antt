@@ -2,7 +2,7 @@
 use Rattle.std.proofs.Common.{◌≡◌, ℕ, zero, suc, ◌+◌, ◌<◌, Bool, true, false, List, [], ◌∷◌, length, None, refl, sym, ap, subst, ◌∙◌, arith}
 use Rattle.lpd_values.specs.Contents.{Contents}
 use Rattle.lpd_values.specs.declared.refusal.Refusal.TheVariants.{UnknownQueue, TableFull, AccountFull, Closed, OverClaim, ControlTwice, NameTaken, FilesFull, FileOpen, NotOpen, Memory}
-use Rattle.config_values.specs.Config.{Config, IsQueue}
+use Rattle.config_values.specs.Config.{Config, IsQueue, queue_named}
 use Rattle.page_pool.specs.Page.{Page}
 use Rattle.receiver.specs.Script.{Request, Queue, Open, BeginFile, AskPage, Filled, EndFile, Control, AbortJob, StartPrinters, QueueState, RemoveJobs}
 use Rattle.spool_history.specs.Base.{Base}
@@ -13,15 +13,16 @@ use Rattle.spool_history.specs.Said.{Opening}
 use Rattle.spool_history.specs.Now.{Job, State, now, is_received, job_of}
 use Rattle.spool_history.specs.Steps.{acted}
 use Rattle.spool_history.specs.Legal.{HasJob, HasNoFile, HasFileRoom, HasNoOpen, IsBelowLimit, IsReceiving, IsWithinLimit, CanAsk, MayGrant, IsLegal}
+use Rattle.spool_history.specs.Refusals.{HasEntries}
 use Rattle.spool_history.specs.Texts.{state_text, removal_text}
 use Rattle.spool_laws.proofs.Known.{At, clash, has_at}
 use Rattle.spool_laws.proofs.Facts.{facts}
 use Rattle.spool_calls.specs.Looks.{Detail, What, size}
+use Rattle.spool_calls.specs.Calls.{MayAbort, MayEnd, MayPut}
 use Rattle.spool_requests.specs.declared.answer.Answer.{Answer}
 use Rattle.spool_requests.specs.declared.answer.Answer.TheVariants.{Yes, Accepted, Lent, Later, Stored, Received, Told, Refused}
-use Rattle.spool_requests.specs.Named.{queue_named}
 use Rattle.spool_requests.specs.Shows.{file_now, page_now}
-use Rattle.spool_requests.specs.Due.{IsAnswer, HasEntries, MayAbort, MayEnd, MayPut}
+use Rattle.spool_requests.specs.Due.{IsAnswer}
 use Rattle.spool_requests.specs.Agree.{AnswersAgree, is_short}
 
 -- the first k of these conditions hold, and the next one doesn't, if there is one
@@ -205,11 +206,11 @@ module _ (d : Detail) (c : Config) (b : Base) (h : List (Event (What d))) (l : I
     of_one good (suc k) = good
 
     for_put : (page : Page) (x : Answer) → IsAnswer d v sender j (Filled page) x → Stands (MayPut d v j page ∷ []) (of_one Yes) x
-    for_put page Yes a = (1, ((file_now v j, page_now v j, a.may, a.due), tt), refl)
+    for_put page Yes a = (1, ((file_now v j, page_now v j, (a.may.0, a.due)), tt), refl)
     for_put page (Refused NotOpen) a = (0, a.due, refl)
     for_put page _ a = absurd a.due
 
-    for_abort : (x : Answer) → IsAnswer d v sender j AbortJob x → Stands (MayAbort d v j ∷ []) (of_one Yes) x
+    for_abort : (x : Answer) → IsAnswer d v sender j AbortJob x → Stands (MayAbort d v j None ∷ []) (of_one Yes) x
     for_abort Yes a = (1, (a.due, tt), refl)
     for_abort (Refused NotOpen) a = (0, a.due, refl)
     for_abort _ a = absurd a.due
@@ -230,8 +231,8 @@ module _ (d : Detail) (c : Config) (b : Base) (h : List (Event (What d))) (l : I
     for_end : (x : Answer) → IsAnswer d v sender j EndFile x → Stands end_holds of_end x
     for_end Stored a =
         let f = file_now v j in
-        (1, ((f, false, a.may), λ n. (let x = meets j _ (WholeThen f true) a.may.0 n in clash (is_received (acted (FileEnded f true) x.0)) (sym x.2) (sym x.1.3))), refl)
-    for_end Received a = (let f = file_now v j in (2, ((f, true, a.may), (weaker j _ (WholeThen f true) (λ w p. p.3) a.may.0, tt)), refl))
+        (1, ((f, false, a.may.0), λ n. (let x = meets j _ (WholeThen f true) a.may.0 n in clash (is_received (acted (FileEnded f true) x.0)) (sym x.2) (sym x.1.3))), refl)
+    for_end Received a = (let f = file_now v j in (2, ((f, true, a.may.0), (weaker j _ (WholeThen f true) (λ w p. p.3) a.may.0, tt)), refl))
     for_end (Refused NotOpen) a = (0, a.due, refl)
     for_end _ a = absurd a.due
 
@@ -273,7 +274,7 @@ module _ (d : Detail) (c : Config) (b : Base) (h : List (Event (What d))) (l : I
     agree (Filled page) x y a e s t = one_stands (MayPut d v j page ∷ []) _ x y (for_put page x a) (for_put page y e)
     agree EndFile x y a e s t = one_stands end_holds _ x y (for_end x a) (for_end y e)
     agree (Control control) x y a e s t = one_stands (control_holds control) _ x y (for_control control x a) (for_control control y e)
-    agree AbortJob x y a e s t = one_stands (MayAbort d v j ∷ []) _ x y (for_abort x a) (for_abort y e)
+    agree AbortJob x y a e s t = one_stands (MayAbort d v j None ∷ []) _ x y (for_abort x a) (for_abort y e)
     agree (StartPrinters name) x y a e s t = one_stands (queue_holds name) _ x y (for_start name sender j x a) (for_start name sender j y e)
     agree (QueueState name list long) x y a e s t = one_stands (IsQueue c (q name) ∷ []) _ x y (for_state name list long sender j x a s) (for_state name list long sender j y e t)
     agree (RemoveJobs name agent list) x y a e s t = one_stands (queue_holds name) _ x y (for_removal name agent list sender j x a s) (for_removal name agent list sender j y e t)

@@ -2,15 +2,12 @@
 -- whether printers are started and a job is aborted.
 use Rattle.std.specs.Prelude.{◌≡◌, ◌↔◌, ℕ, Bool, true, List}
 use Rattle.config_values.specs.Config.{Config, IsPrinter}
-use Rattle.config_values.specs.Ranges.{HaveOwnNames}
 use Rattle.spool_history.specs.Base.{Base}
 use Rattle.spool_history.specs.Events.{Event}
 use Rattle.spool_history.specs.Events.Act.{Put, FileEnded, Aborted}
 use Rattle.spool_history.specs.Now.{State, now}
 use Rattle.spool_history.specs.Next.{printer_at}
 use Rattle.spool_history.specs.Legal.{MayAct, IsStoppedFor}
-use Rattle.spool_calls.specs.Calls.{IsNamed, IsUnknown}
-use Rattle.spool_requests.specs.Named.{queue_named}
 use Rattle.spool_requests.specs.Shows.{file_now, page_now, has_stopped, may_abort}
 
 -- after a history a page has one place where it may be put
@@ -34,11 +31,3 @@ abbrev pub StartIsDecided : Type 0 → Type 0
 StartIsDecided C =
     (c : Config) (b : Base) (h : List (Event C)) (q : ℕ) →
     (has_stopped (now c b h) q ≡ true) ↔ (p : ℕ) × IsPrinter c p × IsStoppedFor q (printer_at (now c b h) p)
-
--- where queues have their own names, the queue of a name is the one that has it
-abbrev pub NameIsDecided : Type 0
-NameIsDecided = (c : Config) (name : List ℕ) (q : ℕ) → HaveOwnNames c.queues → IsNamed c name q → queue_named c name ≡ q
-
--- and where none has it, none is named
-abbrev pub NoNameIsDecided : Type 0
-NoNameIsDecided = (c : Config) (name : List ℕ) → IsUnknown c name → queue_named c name ≡ 0

@@ -14,6 +14,7 @@ use Rattle.spool_calls.specs.declared.answers.Asked.{Asked}
 use Rattle.spool_calls.specs.declared.answers.Asked.TheVariants as asked
 use Rattle.spool_calls.specs.declared.answers.Receipt.{Receipt}
 use Rattle.spool_calls.specs.declared.answers.Receipt.TheVariants as receipt
+use Rattle.spool_calls.specs.declared.answers.ReturnedControl.{ReturnedControl}
 use Rattle.spool_calls.specs.declared.answers.ReturnedPage.{ReturnedPage}
 use Rattle.spool_calls.specs.declared.answers.ReturnedTicket.{ReturnedTicket}
 use Rattle.spool_calls.specs.Looks.{Detail, What}
@@ -47,6 +48,10 @@ abbrev pub kept_by : Result Receipt Refusal → Answer
 kept_by (Ok receipt.Stored) = Stored
 kept_by (Ok receipt.Received) = Received
 kept_by (Err n) = Refused n
+
+abbrev pub controlled_by : Result Receipt ReturnedControl → Answer
+controlled_by (Ok got) = kept_by (Ok got)
+controlled_by (Err back) = Refused back.refusal
 
 abbrev pub aborted_by : Result (Unit {0}) ReturnedTicket → Answer
 aborted_by (Ok done) = Yes
@@ -106,8 +111,8 @@ EndFollows = Always (Result Receipt Refusal) (λ d b h old new result sender job
 
 abbrev pub ControlFollows : Type 0
 ControlFollows =
-    (control : Contents) → Always (Result Receipt Refusal)
-    (λ d b h old new result sender job. Controls d b h old job control new result) (Control control) kept_by
+    (control : Contents) → Always (Result Receipt ReturnedControl)
+    (λ d b h old new result sender job. Controls d b h old job control new result) (Control control) controlled_by
 
 -- between blocks no page is in hand
 abbrev pub AbortFollows : Type 0
@@ -134,7 +139,7 @@ module _ (d : Detail) (b : Base) (h : List (Event (What d))) (old new : Kept) (j
   -- a page is in hand exactly where one is lent to the job
   abbrev pub HasItsPage : Option Page → Type 0
   HasItsPage ticket =
-      (w : Job (What d)) → Contains (before d b h old).jobs w → w.number ≡ job → IsLent d b h old w.lent old.config.page_size ticket
+      (w : Job (What d)) → Contains (before d b h old).jobs w → w.number ≡ job → IsLent w.lent old.config.page_size ticket
 
   -- at its end a session aborts the job that it has in hand, with the page in its hand, whatever is answered
   abbrev pub EndsSession : (in_hand : Bool) → Option Page → Type 0

@@ -1,5 +1,4 @@
 pub mod Kinds
-pub mod Named
 pub mod Shows
 pub mod Due
 pub mod Decided

@@ -1,6 +1,7 @@
 -- Which event of a history a request of a session shows with its answer.
 use Rattle.std.specs.Prelude.{ℕ, ◌-◌, ◌==◌, ◌&&◌, not, Bool, true, false, List, [], ◌∷◌, Option, Some, None, map, length, find, if◌then◌else◌, slice_index_or}
 use Rattle.std.specs.List.{list_any}
+use Rattle.config_values.specs.Config.{queue_named}
 use Rattle.receiver.specs.Script.{Request, Open, BeginFile, AskPage, Filled, EndFile, Control, AbortJob, StartPrinters, RemoveJobs}
 use Rattle.spool_history.specs.Events.{Event}
 use Rattle.spool_history.specs.Events.Act.{Granted, Began, Put, FileEnded, Controlled, Aborted}
@@ -11,7 +12,6 @@ use Rattle.spool_history.specs.Choice.{chosen}
 use Rattle.spool_calls.specs.Looks.{Detail, What, see}
 use Rattle.spool_requests.specs.declared.answer.Answer.{Answer}
 use Rattle.spool_requests.specs.declared.answer.Answer.TheVariants.{Yes, Accepted, Lent, Stored, Received, Told}
-use Rattle.spool_requests.specs.Named.{queue_named}
 
 -- the files of a job, if there is one
 abbrev pub files_in : {C : Type 0} → Option (Job C) → List (File C)

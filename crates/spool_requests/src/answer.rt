@@ -1,7 +1,10 @@
 //! What a session asks, and what it is answered.
 
+ghost use Rattle.std.specs.Prelude.{◌≡◌, Ok};
+ghost use Rattle.spool_requests.specs.Follows.{kept_by};
+
 use lpd_values::{Octets, Refusal};
-use spool_calls::Receipt;
+use spool_calls::{Receipt, ReturnedControl};
 
 /// Which kind of request a session makes.
 #[derive(Clone, Copy, Debug, PartialEq, Eq)]
@@ -66,6 +69,16 @@ impl From<Result<(), Refusal>> for Answer {
     }
 }
 
+/// Whether the job is whole.
+fn kept(receipt: Receipt) -> Answer
+    ensures { result ≡ kept_by (Ok receipt) }
+{
+    match receipt {
+        Receipt::Stored => Answer::Stored,
+        Receipt::Received => Answer::Received,
+    }
+}
+
 /// Whether the job is whole, or the refusal.
 impl From<Result<Receipt, Refusal>> for Answer {
     ghost use Rattle.std.specs.Prelude.{◌≡◌};
@@ -75,9 +88,23 @@ impl From<Result<Receipt, Refusal>> for Answer {
 
     fn from(outcome: Result<Receipt, Refusal>) -> Answer {
         match outcome {
-            Ok(Receipt::Stored) => Answer::Stored,
-            Ok(Receipt::Received) => Answer::Received,
+            Ok(receipt) => kept(receipt),
             Err(refusal) => Answer::Refused(refusal),
+        }
+    }
+}
+
+/// Whether the job is whole, or why its control file was refused.
+impl From<Result<Receipt, ReturnedControl>> for Answer {
+    ghost use Rattle.std.specs.Prelude.{◌≡◌};
+    ghost use Rattle.spool_requests.specs.Follows.{controlled_by};
+
+    ghost from_gives = { λ outcome answer. answer ≡ controlled_by outcome };
+
+    fn from(outcome: Result<Receipt, ReturnedControl>) -> Answer {
+        match outcome {
+            Ok(receipt) => kept(receipt),
+            Err(returned) => Answer::Refused(returned.refusal),
         }
     }
 }

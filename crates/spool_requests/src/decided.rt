@@ -1,7 +1,6 @@
 //! Of what a history leaves no choice.
 
-ghost use Rattle.spool_requests.specs.Decided.{AbortIsDecided, EndIsDecided, NameIsDecided, NoNameIsDecided};
-ghost use Rattle.spool_requests.specs.Decided.{PutIsDecided, StartIsDecided};
+ghost use Rattle.spool_requests.specs.Decided.{AbortIsDecided, EndIsDecided, PutIsDecided, StartIsDecided};
 
 /// The file and the page that may be put, and the file that may end, are those that a request shows.
 pub fn puts_are_decided<C>()
@@ -17,10 +16,4 @@ pub fn abort_is_decided<C>()
 /// A start shows something exactly where a printer of its queue is stopped.
 pub fn start_is_decided<C>()
     ensures { StartIsDecided C }
-{}
-
-/// Where queues have their own names, a name names the queue that has it, and otherwise none.
-pub fn names_are_decided()
-    ensures some { NameIsDecided }
-    ensures none { NoNameIsDecided }
 {}

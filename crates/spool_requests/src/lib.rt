@@ -10,5 +10,5 @@ mod follows;
 
 pub use agree::answers_agree;
 pub use answer::{Answer, RequestKind};
-pub use decided::{abort_is_decided, names_are_decided, puts_are_decided, start_is_decided};
+pub use decided::{abort_is_decided, puts_are_decided, start_is_decided};
 pub use follows::{jobs_follow, queues_follow, session_end_follows};

@@ -22,7 +22,7 @@
 //! Each may be `refused N`. A call that a spool may not be asked is a `bad row`.
 
 ghost use Rattle.std.specs.Prelude.{IfOk, IfSome, IsSome};
-ghost use Rattle.receiver.specs.View.{asked};
+ghost use Rattle.receiver.specs.View.{BeginsSome, asked};
 
 use crate::rows::{number, octets, value, word, words};
 use config_values::Config;
@@ -78,16 +78,18 @@ fn control(alloc: Global, number: &str, text: &str) -> Result<Control, Refusal> 
 
 /// The request that a call makes of a session, or None where it makes none.
 pub fn request(alloc: Global, call: &str, rest: &str) -> Result<Option<Need>, Refusal>
-    ensures { IfOk result (λ need. IfSome need (λ need. IsSome (asked need))) }
+    ensures asks { IfOk result (λ need. IfSome need (λ need. IsSome (asked need))) }
+    ensures begins { IfOk result (λ need. IfSome need BeginsSome) }
 {
     let (first, others) = word(rest);
     let (second, third) = word(others);
+    let count = number(third);
     Ok(Some(match call {
         "admits" => Need::Queue(name(alloc, first)?),
         "open" => Need::Open(name(alloc, second)?),
-        "begin" if number(third) > 0 => Need::BeginFile {
+        "begin" if count > 0 => Need::BeginFile {
             name: FileName::read(second.as_bytes())?,
-            count: number(third),
+            count,
         },
         "end" => Need::EndFile,
         "control" => Need::Control(control(alloc, second, third)?),

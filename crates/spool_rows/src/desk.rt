@@ -1,7 +1,7 @@
 //! A spool, with the pages that the sessions of its jobs and its printers keep, and what it answers to the calls of `calls`.
 
 ghost use Rattle.std.specs.Prelude.{IsSome};
-ghost use Rattle.receiver.specs.View.{asked};
+ghost use Rattle.receiver.specs.View.{BeginsSome, asked};
 
 use crate::calls::{self, BAD_ROW};
 use crate::kept::Kept;
@@ -77,7 +77,8 @@ impl<S: Spool> Desk<S> {
 
     /// Carries out a request of a session, and answers what isn't refused. A page that comes back is kept again.
     fn carry_out(&mut self, sender: u32, job: u64, request: Need) -> Result<Answer, Refusal>
-        requires { IsSome (asked request) }
+        requires asks { IsSome (asked request) }
+        requires begins { BeginsSome request }
     {
         let Outcome { answer, page } = self.spool.carry_out(sender, job, request);
         if let Some(ticket) = page {

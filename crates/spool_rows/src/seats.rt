@@ -10,8 +10,7 @@
 //! Below a segment stand its entries, each in a line behind two spaces, in order of writing and in the words of `entries`, and
 //! then `legal`, where the plain reader finds that each of them met its conditions from the segment's base on.
 
-ghost use Rattle.std.specs.Prelude.{◌≡◌, ◌+◌};
-ghost use Rattle.config_values.specs.Config.{printer_count};
+ghost use Rattle.spool_ledgers.specs.Blanks.{AreFor, mark};
 
 use crate::calls::{SPOOL, config_of};
 use crate::cores::desk_of;
@@ -23,12 +22,12 @@ use crate::spool::Spool;
 use config_values::Config;
 use history_legality::is_legal;
 use session::{Seated, SessionSeat, SharedSpool};
-use shared_spool::{Opened, PrinterSeat, Segment, SpoolLedger};
+use shared_spool::{Blanks, Opened, PrinterSeat, Segment, SpoolLedger};
 use spool_core::Core;
 use std::alloc::{AllocError, Global};
 use std::marker::Brand;
 use std::sync::Wait;
-use std::sync::ledger::{Blank, Ledger};
+use std::sync::ledger::Ledger;
 
 /// How many seats there are for sessions: that of the requests, and that of all else.
 const SEATS: u32 = 2;
@@ -48,6 +47,8 @@ fn push_segment(
         ("segment", segment.number),
         ("entries", entries.len() as u64),
         ("before", segment.before),
+        ("kinds", segment.kinds_before),
+        ("handed", segment.handed_before),
     ];
     push_numbers(told, &numbers)?;
     for entry in entries.iter() {
@@ -218,13 +219,6 @@ struct Block<'a> {
     rows: &'a str,
 }
 
-/// The ledgers of a spool, before they are opened.
-struct Blanks {
-    entries: Blank,
-    kinds: Blank,
-    handed: Blank,
-}
-
 /// Appends the lines of a block at a spool that is open, beside a core of the same configuration.
 fn push_beside<R: Wait, E: SpoolLedger, K: Ledger, H: Ledger>(
     told: &mut String,
@@ -248,19 +242,10 @@ fn push_opened<R: Wait, E: SpoolLedger, K: Ledger, H: Ledger>(
     blanks: Blanks,
     block: Block<'_>,
 ) -> Result<(), AllocError>
-    requires entries { (blanks.entries.name ≡ E.name) × (blanks.entries.parts ≡ E.parts) }
-    requires kinds { (blanks.kinds.name ≡ K.name) × (blanks.kinds.parts ≡ K.parts) }
-    requires handed { (blanks.handed.name ≡ H.name) × (blanks.handed.parts ≡ H.parts) }
-    requires config { config ≡ E.config }
-    requires one_each { (E.parts ≡ 2 + printer_count config) × (K.parts ≡ E.parts)
-        × (H.parts ≡ E.parts) }
+    requires { AreFor blanks config 2 E.config (mark E.name E.parts)
+        (mark K.name K.parts) (mark H.name H.parts) }
 {
-    let Blanks {
-        entries,
-        kinds,
-        handed,
-    } = blanks;
-    let opened = SharedSpool::<E, K, H>::new(alloc, entries, kinds, handed, config, SEATS)?;
+    let opened = SharedSpool::<E, K, H>::new(alloc, blanks, config, SEATS)?;
     push_beside(told, rt, alloc, opened, block)
 }
 
@@ -283,12 +268,7 @@ fn push_seats<R: Wait>(
     let Some(config) = config_of(alloc, block.spool)? else {
         return told.push_str(NO_CONFIG);
     };
-    let parts = 2 + u64::from(config.printer_count());
-    let blanks = Blanks {
-        entries: Blank::new(parts),
-        kinds: Blank::new(parts),
-        handed: Blank::new(parts),
-    };
+    let blanks = Blanks::new(&config, SEATS);
     push_opened::<R, Brand, Brand, Brand>(told, rt, alloc, config, blanks, block)
 }
 

@@ -1,7 +1,7 @@
 //! The calls of a spool that no request of a session is. A core answers them, and so do the seats of a spool that threads share.
 
 ghost use Rattle.std.specs.Prelude.{IsSome};
-ghost use Rattle.receiver.specs.View.{asked};
+ghost use Rattle.receiver.specs.View.{BeginsSome, asked};
 
 use lpd_commands::Refusal;
 use page_pool::PageTicket;
@@ -13,7 +13,8 @@ use spool_core::{Asked, Core, Foreign, HandedPage, Next, Pages, Progress};
 pub trait Spool: Drop {
     /// Carries out a request of a session, whose host has this number and whose last job has this one.
     fn carry_out(&mut self, sender: u32, job: u64, request: Need) -> Outcome
-        requires { IsSome (asked request) };
+        requires asks { IsSome (asked request) }
+        requires begins { BeginsSome request };
 
     /// Ends a job that is being received, with the page that is lent to it.
     fn abort(&mut self, job: u64, ticket: Option<PageTicket>) -> Result<(), ReturnedTicket>;

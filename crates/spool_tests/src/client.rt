@@ -47,6 +47,8 @@ impl OctetRead for Server<'_> {
 
     ghost faults = { λ server. server.faults };
 
+    ghost reads = { λ server. server.calls };
+
     fn read(&mut self, into: &mut [u8]) -> Result<usize, OctetFault> {
         self.calls = self.calls.saturating_add(1);
         if self.calls == self.fails {
@@ -118,7 +120,7 @@ fn job(rt: &impl Abort, alloc: Global, prints: &[u8], files: &[DataFile]) -> Res
     let name = FileName::read(b"cfA001h1")?;
     let control = control(alloc, &name, prints)?;
     assert!(rt; is_sendable(alloc, &queue, &name, &control, files)?);
-    Ok(job_bytes(alloc, queue, &name, &control, files)?)
+    Ok(job_bytes(alloc, &queue, &name, &control, files)?)
 }
 
 /// Sends the job of `PARTS`.
@@ -137,7 +139,7 @@ fn send(
         alloc,
         server,
         sent,
-        queue,
+        &queue,
         &name,
         &control,
         files.as_slice(),
@@ -270,20 +272,16 @@ fn ann(alloc: Global) -> Result<Words, AllocError> {
 #[test]
 fn questions(rt: HostRuntime) -> Result<(), Fail> {
     let alloc = rt.alloc();
-    let line = state_bytes(
-        alloc,
-        Octets::copy_of(alloc, b"lp")?,
-        Words::new(alloc),
-        false,
-    )?;
-    expect(&rt, b"state", line.as_slice(), b"\x03lp\n");
-    let line = state_bytes(alloc, Octets::copy_of(alloc, b"lp")?, ann(alloc)?, true)?;
-    expect(&rt, b"long state", line.as_slice(), b"\x04lp ann\n");
     let (queue, agent) = (
         Octets::copy_of(alloc, b"lp")?,
         Octets::copy_of(alloc, b"root")?,
     );
-    let line = remove_bytes(alloc, queue, agent, ann(alloc)?)?;
+    let ann = ann(alloc)?;
+    let line = state_bytes(alloc, &queue, &Words::new(alloc), false)?;
+    expect(&rt, b"state", line.as_slice(), b"\x03lp\n");
+    let line = state_bytes(alloc, &queue, &ann, true)?;
+    expect(&rt, b"long state", line.as_slice(), b"\x04lp ann\n");
+    let line = remove_bytes(alloc, &queue, &agent, &ann)?;
     expect(&rt, b"removal", line.as_slice(), b"\x05lp root ann\n");
     Ok(())
 }

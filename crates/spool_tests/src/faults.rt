@@ -31,6 +31,8 @@ impl OctetRead for Reader<'_> {
 
     ghost faults = { λ reader. reader.faults };
 
+    ghost reads = { λ reader. reader.calls };
+
     fn read(&mut self, into: &mut [u8]) -> Result<usize, OctetFault> {
         self.calls = self.calls.saturating_add(1);
         if self.calls == self.fails {

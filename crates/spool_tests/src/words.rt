@@ -2,7 +2,7 @@
 
 use crate::rows::expect;
 use lpd_script::{StreamReader, StreamWriter};
-use lpd_words::{Fault, Outcome, Serving, run};
+use lpd_words::{Fault, Outcome, Settings, run};
 use lpr_client::{Control, DataFile, FileName, Octets, SendFault, is_sendable, job_bytes};
 use std::alloc::{AllocError, Global};
 use std::io::{Read, Write};
@@ -235,8 +235,8 @@ fn bad_words(rt: HostRuntime) -> Result<(), Fail> {
 }
 
 /// How a server is to run, in a line.
-fn line_of(alloc: Global, config: &str, serving: &Serving) -> Result<String, AllocError> {
-    let Serving {
+fn line_of(alloc: Global, config: &str, settings: &Settings) -> Result<String, AllocError> {
+    let Settings {
         port,
         bind,
         out,
@@ -247,7 +247,7 @@ fn line_of(alloc: Global, config: &str, serving: &Serving) -> Result<String, All
         per_host,
         slowest,
         keep_room,
-    } = *serving;
+    } = *settings;
     format!(in alloc;
         "{config} {port} {bind} {out} {sessions} {connections:?} {rotate:?} {silence:?} {per_host:?} {slowest:?} {keep_room}\n"
     )
@@ -270,7 +270,7 @@ fn served(rt: &HostRuntime, line: &str) -> Result<String, AllocError> {
         &mut faults,
     );
     match outcome {
-        Outcome::Serve { config, serving } => line_of(alloc, config, &serving),
+        Outcome::Serve { config, settings } => line_of(alloc, config, &settings),
         Outcome::Ended(status) => format!(in alloc; "status {status}\n"),
     }
 }
@@ -434,7 +434,7 @@ fn octets_of_job(rt: &impl Abort, alloc: Global) -> Result<Octets, Fail> {
     }];
     let queue = Octets::copy_of(alloc, b"lp")?;
     assert!(rt; is_sendable(alloc, &queue, &name, &control, files.as_slice())?);
-    Ok(job_bytes(alloc, queue, &name, &control, files.as_slice())?)
+    Ok(job_bytes(alloc, &queue, &name, &control, files.as_slice())?)
 }
 
 #[test]

@@ -24,7 +24,7 @@ use Rattle.spool_requests.specs.declared.answer.Answer.{Answer}
 use Rattle.spool_requests.specs.declared.answer.Answer.TheVariants.{Yes, Accepted, Lent, Later, Stored, Received, Told, Refused}
 use Rattle.spool_requests.specs.Kinds.{request_kind}
 use Rattle.spool_requests.specs.Shows.{event_of, start_of, removal_of, has_stopped, numbers_chosen, file_now, page_now, with_event}
-use Rattle.spool_requests.specs.Named.{queue_named}
+use Rattle.config_values.specs.Config.{queue_named}
 use Rattle.spool_requests.specs.Due.{IsDueAnswer, MayCome}
 use Rattle.spool_trace.specs.declared.step.Step.TheVariants as step
 use Rattle.spool_trace.specs.declared.reply.Deed.TheVariants as deed
@@ -50,9 +50,6 @@ acts_started h false q j = refl
 acts_removed : (h : History) (q : ℕ) (numbers : List ℕ) (j : ℕ) → Still h (removal_of q numbers) j
 acts_removed h q [] j = refl
 acts_removed h q (n ∷ ns) j = refl
-
-is_filled : Request → Bool
-is_filled r = ends_filled (Asked r ∷ [])
 
 module _ (c : Config) (h : History) (t : Trace) (n : ℕ) (s : Session) (e : Entry) (g : Good h t n s) (here : session_at (sessions t) n ≡ s) (going : s.over ≡ false) (left : IsEnd s.arrived s.unread) (unknown : (j : ℕ) → length (openings h) < j → Unknown h j) where
   abbrev pub v : State (List ℕ)

@@ -34,9 +34,6 @@ sized_push z left n (q ∷ qs) p s e lt is =
 min_full : (z n : ℕ) → z ≤ n → min z n ≡ z
 min_full z n le = omega (arith, le)
 
-min_rest : (z n : ℕ) → n ≤ z → min z n ≡ n
-min_rest z n le = omega (arith, le)
-
 cut_of : (z left : ℕ) (ps : List (List ℕ)) → 0 < z → Sized z left ps → AreCut z ps
 cut_of z left [] some s = tt
 cut_of z left (p ∷ []) some s = (let a = s.0 in let b = s.1 in (omega (arith, some, a, b), omega (arith, b)))

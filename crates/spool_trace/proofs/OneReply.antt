@@ -37,7 +37,7 @@ use Rattle.spool_trace.specs.Replies.{IsDueTurn, IsGoing, IsSession, OfSession, 
 use Rattle.spool_trace.specs.Agree.{RepliesAgree, is_short, is_short_deed}
 use Rattle.spool_trace.proofs.Legal.{legal}
 
-short_memory : (n : Refusal) → n ≡ Memory → is_short_deed (deed.Refused n) ≡ false → ⊥
+pub short_memory : (n : Refusal) → n ≡ Memory → is_short_deed (deed.Refused n) ≡ false → ⊥
 short_memory n e s = clash true refl (subst (λ (m : Refusal). is_short_deed (deed.Refused m) ≡ false) e s)
 
 -- what a step of a session may be answered
@@ -148,9 +148,7 @@ module _ (c : Config) (h : List (Event (List ℕ))) (l : IsLegal length c first_
 
   turned : (n : ℕ) (a b : Reply) → OnTurn v (mine n) a → OnTurn v (mine n) b → MayCome Octets v (Rattle.spool_trace.specs.Shown.shown v ss (step.Turn n) a) → MayCome Octets v (Rattle.spool_trace.specs.Shown.shown v ss (step.Turn n) b) → is_short a ≡ false → is_short b ≡ false → a ≡ b
   turned n (reply.Turned x) (reply.Turned y) a b m k i j = ap reply.Turned (deeds (mine n) (due_in (mine n)) x y a b m k i j)
-  turned n (reply.Turned x) reply.Memory a b m k i j = absurd (clash true refl j)
   turned n (reply.Turned x) y a b m k i j = absurd b
-  turned n reply.Memory y a b m k i j = absurd (clash true refl i)
   turned n x y a b m k i j = absurd a
 
   printed : (p : ℕ) (a b : Reply) → OnPrinted v p a → OnPrinted v p b → MayCome Octets v (Rattle.spool_trace.specs.Shown.shown v ss (step.Printed p) a) → MayCome Octets v (Rattle.spool_trace.specs.Shown.shown v ss (step.Printed p) b) → a ≡ b

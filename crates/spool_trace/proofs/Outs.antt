@@ -17,7 +17,7 @@ use Rattle.spool_calls.specs.Looks.Detail.{Octets}
 use Rattle.spool_requests.specs.declared.answer.Answer.{Answer}
 use Rattle.spool_requests.specs.declared.answer.Answer.TheVariants.{Yes, Accepted, Lent, Stored, Received, Told}
 use Rattle.spool_requests.specs.Shows.{event_of, may_abort, removal_of, start_of, has_stopped, numbers_chosen, with_event}
-use Rattle.spool_requests.specs.Named.{queue_named}
+use Rattle.config_values.specs.Config.{queue_named}
 use Rattle.account.specs.Seen.{progress_seen}
 use Rattle.spool_trace.specs.declared.step.Step.{Step}
 use Rattle.spool_trace.specs.declared.step.Step.TheVariants as step

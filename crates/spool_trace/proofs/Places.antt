@@ -7,7 +7,8 @@ use Rattle.std.proofs.lemmas.List.{take-append-drop}
 use Rattle.config_values.specs.Config.{Config}
 use Rattle.spool_history.specs.Base.{first_base}
 use Rattle.spool_history.specs.Events.{Sheet}
-use Rattle.spool_history.specs.Acts.{File, Page, control_by, files_by, numbered, pages_named, prints_in}
+use Rattle.lpd_values.specs.Told.{prints_in}
+use Rattle.spool_history.specs.Acts.{File, Page, control_by, files_by, numbered, pages_named}
 use Rattle.spool_history.specs.Said.{Opening, openings, acts_of, handed_of}
 use Rattle.spool_laws.specs.Leaving.{places_of, sheets}
 use Rattle.spool_laws.proofs.Known.{Has, has_contained}
@@ -19,22 +20,13 @@ use Rattle.spool_trace.specs.Shown.{events}
 use Rattle.spool_trace.specs.Replies.{IsTrace}
 use Rattle.spool_trace.specs.Headline.{AsArrived, HandedArrived, HandedAsArrived, IsAsArrived}
 use Rattle.spool_trace.proofs.Legal.{legal}
-
-pub contained : {X : Type 0} (x : X) (xs : List X) → Has x xs → Contains xs x
-contained x [] has = absurd has
-contained x (y ∷ ys) has = elim has [
-  | inl e ↦ (0, omega arith, e)
-  | inr h ↦ let r = contained x ys h in (suc r.0, (let lt = r.1 in omega (arith, lt)), r.2)
-]
+use Rattle.spool_laws.proofs.Copies.{has_either as has_split}
+use Rattle.spool_laws.proofs.Joined.{contained}
 
 got : {X : Type 0} (x : X) (xs : List X) (i : ℕ) → slice_get xs i ≡ Some x → Has x xs
 got x [] i e = absurd cc
 got x (y ∷ ys) zero e = inl (let same : ◌≡◌ {A = Option _} (Some y) (Some x) = e in cc)
 got x (y ∷ ys) (suc i) e = inr (got x ys i e)
-
-has_split : {X : Type 0} (x : X) (xs ys : List X) → Has x (xs ++ ys) → Has x xs ⊎ Has x ys
-has_split x [] ys h = inr h
-has_split x (y ∷ xs) ys h = elim h [ inl e ↦ inl (inl e) | inr t ↦ elim (has_split x xs ys t) [ inl a ↦ inl (inr a) | inr b ↦ inr b ] ]
 
 abbrev Of : {C : Type 0} → (job : ℕ) → Page C → Sheet C → Type 0
 Of job x s = (s.job ≡ job) × (s.file ≡ x.file) × (s.number ≡ x.number) × (s.page ≡ x.page)

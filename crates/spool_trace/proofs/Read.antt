@@ -37,9 +37,6 @@ answered_keeps Ending Yes s = (refl, refl)
 answered_keeps Aborting Yes s = (refl, refl)
 answered_keeps Plain Yes s = (refl, refl)
 
-true_not_false : true ≡ false → ⊥
-true_not_false e = cc
-
 -- what is due stays due when more comes
 still : (p : Progress) (unread t : List ℕ) (d : Due) → due p unread ≡ d → HasCome d → due p (unread ++ t) ≡ extended t d
 still p unread t d e h = due_stable p unread t (rw e h) ∙ ap (extended t) e

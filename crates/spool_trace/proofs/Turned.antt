@@ -21,7 +21,7 @@ use Rattle.spool_requests.specs.declared.answer.Answer.{Answer}
 use Rattle.spool_requests.specs.declared.answer.Answer.TheVariants.{Yes, Accepted, Lent, Later, Stored, Received, Told, Refused}
 use Rattle.spool_requests.specs.declared.answer.RequestKind.{RequestKind}
 use Rattle.spool_requests.specs.Kinds.{request_kind}
-use Rattle.spool_requests.specs.Named.{queue_named}
+use Rattle.config_values.specs.Config.{queue_named}
 use Rattle.spool_requests.specs.Shows.{event_of, start_of, removal_of, has_stopped, may_abort, numbers_chosen, file_now, page_now, with_event}
 use Rattle.spool_requests.specs.Due.{IsDueAnswer, MayCome}
 use Rattle.spool_trace.specs.declared.step.Step.TheVariants as step
@@ -55,11 +55,11 @@ end_owned s false may e = tt
 pub ends_owned : (v : State (List ℕ)) (s : Session) → Owned s (end_in v s)
 ends_owned v s = end_owned s s.progress.job (may_abort v s.job) refl
 
-start_owned : (s : Session) (b : Bool) (q : ℕ) → Owned s (start_of b q)
+pub start_owned : (s : Session) (b : Bool) (q : ℕ) → Owned s (start_of b q)
 start_owned s true q = tt
 start_owned s false q = tt
 
-removal_owned : (s : Session) (q : ℕ) (numbers : List ℕ) → Owned s (removal_of q numbers)
+pub removal_owned : (s : Session) (q : ℕ) (numbers : List ℕ) → Owned s (removal_of q numbers)
 removal_owned s q [] = tt
 removal_owned s q (n ∷ ns) = tt
 

@@ -24,7 +24,8 @@ use Rattle.spool_trace.specs.Hands.{PagesAreLent, HeldPagesAreInHand, JobsDiffer
 use Rattle.spool_trace.proofs.Legal.{legal}
 use Rattle.spool_trace.proofs.Cuts.{IsSized, each_has, sized, cut_file, whole_file}
 use Rattle.spool_trace.proofs.Standing.{kept}
-use Rattle.spool_trace.proofs.Places.{contained, handed}
+use Rattle.spool_trace.proofs.Places.{handed}
+use Rattle.spool_laws.proofs.Joined.{contained}
 
 pub arrived : PagesAreAsArrived
 arrived c t ranges r o f has of_job =
@@ -55,7 +56,7 @@ arrived c t ranges r o f has of_job =
     }
 
 -- a configuration in its ranges lets each job finish alone
-limit_pages : (c : Config) (q : ℕ) → IsConfig c → IsQueue c q → limit_of c q ≤ c.pages
+pub limit_pages : (c : Config) (q : ℕ) → IsConfig c → IsQueue c q → limit_of c q ≤ c.pages
 limit_pages c zero ranges is = absurd (let low = is.0 in omega (arith, low))
 limit_pages c (suc n) ranges is = (let high = is.1 in (ranges.queues n no_queue (omega (arith, high))).limit_high)
 

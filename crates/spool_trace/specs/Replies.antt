@@ -59,7 +59,6 @@ OnArrival s _ = ⊥
 
 abbrev pub OnTurn : State (List ℕ) → Session → Reply → Type 0
 OnTurn v s (reply.Turned done) = IsDueTurn v s.job (due_in s) done
-OnTurn v s reply.Memory = Unit {0}
 OnTurn v s _ = ⊥
 
 abbrev pub OnBreak : Session → Reply → Type 0

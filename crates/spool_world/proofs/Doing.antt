@@ -37,8 +37,6 @@ use Rattle.spool_world.specs.Stands as stands
 use Rattle.spool_world.specs.Stands.{GoesOn, Stands, page_of}
 use Rattle.spool_world.specs.Turns.{AbortsIt, Answered, Does, IsEnded, IsOf}
 use Rattle.spool_world.proofs.Ends.{at, ended, fine, good, no_page, none_kept, quiet_held, stood, true_false}
-use Rattle.request_calls.proofs.Begins.{DueBegins}
-use Rattle.spool_world.proofs.Begins.{session_begins}
 use Rattle.spool_world.proofs.Ties.{SizeOf, before_quiet, filled_size, filling_held, is_filled, none_has, request_tie}
 
 held_some : (page : Page) → Some page ≡ None → ⊥
@@ -293,8 +291,7 @@ module _ (old : Kept) (t : Trace) (n : ℕ) (k : Connection) (o : IsOf old t n k
       let d : Due = Requests r w.0 w.1 in
       let x = fine_at d w.2 in
       let x' = a.answer in
-      let begins = (subst DueBegins w.2 (session_begins t n)).0 in
-      let c = a.carries begins o.ranges Octets first_base h o.left in
+      let c = a.carries o.ranges Octets first_base h o.left in
       let follows : requests.Follows Octets first_base h old core s.sender s.job r x' =
       subst (λ (i : ℕ). requests.Follows Octets first_base h old core i s.job r x') o.stands.sender (subst (λ (i : ℕ). requests.Follows Octets first_base h old core k.sender i r x') o.stands.job c.follows) in
       let asked' : Deed = deed.Asked (request_kind r) x' in

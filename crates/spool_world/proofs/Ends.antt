@@ -31,13 +31,10 @@ use Rattle.spool_world.specs.Turns.{AbortsIt, IsOf}
 pub true_false : true ≡ false → ⊥
 true_false e = cc
 
-some_none : (x : Page) → Some x ≡ None → ⊥
-some_none x e = cc
-
 -- what is had where a page is lent
-is_lent_page : (h : List (Event (List ℕ))) (k : Kept) (lent other : Bool) (size : ℕ) (page : Option Page) → HasLent lent size page → other ≡ lent → IsLent Octets first_base h k other size page
-is_lent_page h k lent other size None has e = e ∙ has
-is_lent_page h k lent other size (Some page) has e = (e ∙ has.0, has.1)
+is_lent_page : (lent other : Bool) (size : ℕ) (page : Option Page) → HasLent lent size page → other ≡ lent → IsLent other size page
+is_lent_page lent other size None has e = e ∙ has
+is_lent_page lent other size (Some page) has e = (e ∙ has.0, has.1)
 
 -- no page is had where none is lent
 pub no_page : (lent : Bool) (size : ℕ) (page : Option Page) → HasLent lent size page → lent ≡ false → page ≡ None
@@ -47,10 +44,6 @@ no_page lent size (Some page) has e = absurd (true_false (sym has.0 ∙ e))
 pub none_kept : (kept page : Option Page) → first_page kept page ≡ None → kept ≡ None
 none_kept None page e = refl
 none_kept (Some x) page e = e
-
-pub none_held : (kept page : Option Page) → first_page kept page ≡ None → page ≡ None
-none_held None page e = e
-none_held (Some x) page e = absurd (some_none x e)
 
 -- where no page is in hand by the items, the reader holds none
 pub quiet_held : (items : List Item) (tail : List ℕ) → ((os : List Output) → page_in items os ≡ false) → held items tail ≡ None
@@ -77,7 +70,7 @@ module _ (old : Kept) (t : Trace) (n : ℕ) (k : Connection) (o : IsOf old t n k
   -- the page of the connection is the one that is lent to its job
   its_page : (new : Kept) → s.progress.job ≡ true → HasItsPage Octets first_base (events old.config t) old new k.job (page_of p k)
   its_page new job w there number =
-      is_lent_page (events old.config t) old (has_page s) w.lent old.config.page_size (page_of p k) at.page
+      is_lent_page (has_page s) w.lent old.config.page_size (page_of p k) at.page
       (in_hand old.config t o.right n o.there at.open' job w there (number ∙ o.stands.job))
 
   ends_it : (new : Kept) (in_hand' : Bool) → in_hand' ≡ s.progress.job → AbortsIt old new in_hand' k.job (page_of p k) → EndsSession Octets first_base (events old.config t) old new k.job in_hand' (page_of p k)

@@ -1,6 +1,5 @@
 pub mod Answers
 pub mod Ends
-pub mod Begins
 pub mod Ties
 pub mod Doing
 pub mod Leading

@@ -24,7 +24,6 @@ use Rattle.spool_trace.specs.Replies.{IsSession, IsTrace}
 use Rattle.spool_trace.specs.Follows.{StepFollows}
 use Rattle.spool_world.specs.declared.connection.Connection.{Connection}
 use Rattle.request_calls.specs.Pages.{IsLentPage, first_page, is_lent}
-use Rattle.request_calls.specs.Carried.{BeginsSome}
 use Rattle.spool_world.specs.Carried.{Carries}
 use Rattle.spool_world.specs.Stands.{Stands, page_of}
 
@@ -35,7 +34,7 @@ pub record Answered (old new : Kept) (sender job : ℕ) (r : Request) (done : De
   pub answer : Answer
   pub page : Option Page
   pub is : done ≡ deed.Asked (request_kind r) answer
-  pub carries : BeginsSome r → Carries old new sender job r answer page
+  pub carries : Carries old new sender job r answer page
   pub lent : IsLentPage answer page
   pub reader' : left ≡ after_reply reader (reply_of answer)
   pub last' : last ≡ job_after job answer

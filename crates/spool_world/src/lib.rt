@@ -12,6 +12,7 @@ mod run;
 mod turning;
 mod world;
 
-pub use spool_core::{Config, Pages};
+pub use lpd_values::{Octets, Refusal};
+pub use spool_core::{Config, Pages, Unmade};
 pub use spool_trace::{Answer, Deed, Given, Progress, Reply, RequestKind, ShownPage, Step};
 pub use world::World;

@@ -17,8 +17,7 @@ fn shown(page: &HandedPage, mut room: Vec<u8>) -> ShownPage
     ensures { result ≡ shown_page page.now }
 {
     // No more octets lie on a page than it has room for.
-    let _len = page.page.len();
-    match room.extend_from_slice(page.bytes()) {
+    match room.extend_from_slice(page.page.bytes()) {
         Ok(()) => {}
         Err(_) => unreachable!(),
     }
@@ -40,8 +39,6 @@ impl World {
         if !self.core.config().is_printer(printer) {
             return Reply::NoSuch;
         }
-        // Some history leaves the core here; so it is known which page `next` hands out.
-        let _held = self.core.held();
         // Where no page is next no room is taken, since no reply but a page may be refused for
         // want of it.
         let room = if self.core.has_next(printer) {

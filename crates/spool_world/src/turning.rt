@@ -3,7 +3,7 @@
 ghost use Rattle.std.specs.Prelude.{◌≡◌, ◌∷◌, [], None, IsSome};
 ghost use Rattle.receiver.specs.Script as script;
 ghost use Rattle.receiver.specs.Script.{Request};
-ghost use Rattle.receiver.specs.View.{asked, outputs};
+ghost use Rattle.receiver.specs.View.{BeginsSome, asked, outputs};
 ghost use Rattle.spool_world.specs.Turns.{Answered, EndsIt, IsEnded, TurnsRight};
 
 use crate::connection::Connection;
@@ -25,6 +25,7 @@ fn answer(
     request: Need,
 ) -> Deed
     requires asks { IsSome (asked request) }
+    requires begins { BeginsSome request }
     requires owed { reader.old.owed ≡ asked request }
     ensures config { core.new.config ≡ core.old.config }
     ensures answered { reader.new.owed ≡ None }

@@ -1,7 +1,7 @@
 //! The world: a core, the connections of its hosts, and the pages at its printers.
 
-ghost use Rattle.std.specs.Prelude.{◌≡◌, ◌+◌, ◌<◌, ◌∷◌, [], All, Option, None, Some, length};
-ghost use Rattle.std.specs.Prelude.{IfOk, MatchOption, OnErr, OnOk};
+ghost use Rattle.std.specs.Prelude.{◌≡◌, ◌+◌, ◌<◌, ◌≤◌, ◌∷◌, [], All, Option, None, Some, length, vec_capacity};
+ghost use Rattle.std.specs.Prelude.{IfErr, IfOk, MatchOption, OnErr, OnOk};
 ghost use Rattle.spool_trace.specs.declared.step.Step.TheVariants as step;
 ghost use Rattle.spool_trace.specs.Trace.{Trace};
 ghost use Rattle.spool_trace.specs.Shown.{events, spool_after};
@@ -15,7 +15,7 @@ ghost use Rattle.spool_world.specs.Worlds.{AddsConnection, IsPlace, Leads, Steps
 use crate::connection::Connection;
 use bytes::BytesMut;
 use receiver::Receiver;
-use spool_core::{Config, Core, HandedPage, Pages};
+use spool_core::{Config, Core, HandedPage, Pages, Unmade};
 use spool_trace::{Reply, Step};
 use std::alloc::{AllocError, Global};
 use std::marker::Model;
@@ -64,38 +64,45 @@ impl Drop for World {
     }
 }
 
-/// A place for the page of each printer, with no page in it.
-fn no_pages(alloc: Global, printers: usize) -> Result<Vec<Option<HandedPage>>, AllocError>
-    ensures count { IfOk result (λ pages. length pages.items ≡ printers) }
-    ensures none { IfOk result (λ pages.
-        All (λ (page : Option HandedPage). page ≡ None) pages.items) }
+/// A place for the page of each printer, with no page in it, where there is room for these places.
+fn no_pages(room: Vec<Option<HandedPage>>, printers: usize) -> Vec<Option<HandedPage>>
+    requires empty { room.items ≡ [] }
+    requires enough { printers ≤ vec_capacity room }
+    ensures count { length result.items ≡ printers }
+    ensures none { All (λ (page : Option HandedPage). page ≡ None) result.items }
 {
-    let mut pages = Vec::with_capacity(alloc, printers)?;
+    let mut pages = room;
     for _ in 0..printers {
         pages.push_reserved(None);
     }
-    Ok(pages)
+    pages
 }
 
 impl World {
     /// A world in which nothing has happened.
     ///
-    /// AllocError where memory for it is refused.
-    pub fn new(alloc: Global, config: Config) -> Result<World, AllocError>
+    /// Where memory for it is refused the configuration comes back.
+    pub fn new(alloc: Global, config: Config) -> Result<World, Unmade>
         ensures config { IfOk result (λ world. world.core.config ≡ config) }
         ensures start { IfOk result (Leads []) }
+        ensures back { IfErr result (λ unmade. unmade.config ≡ config) }
     {
         let printers = config.printer_count() as usize;
-        // A configuration is in its ranges, as each of its readers says.
-        let _max_jobs = config.max_jobs();
-        let core = Core::new(alloc, config)?;
-        let pages = no_pages(alloc, printers)?;
-        Ok(World {
-            alloc,
-            core,
-            connections: Vec::new(alloc),
-            pages,
-        })
+        let Ok(room) = Vec::with_capacity(alloc, printers) else {
+            return Err(Unmade { config });
+        };
+        match Core::new(alloc, config) {
+            Ok(core) => Ok(World {
+                alloc,
+                core,
+                connections: Vec::new(alloc),
+                pages: no_pages(room, printers),
+            }),
+            Err(unmade) => {
+                room.destroy_empty();
+                Err(unmade)
+            }
+        }
     }
 
     /// The configuration.

@@ -88,6 +88,8 @@ impl<R: Wait + Clock> OctetRead for Reader<'_, R> {
 
     ghost faults = { λ reader. reader.faults };
 
+    ghost reads = { λ reader. reader.calls };
+
     fn read(&mut self, into: &mut [u8]) -> Result<usize, OctetFault> {
         let (session, octets) = (self.session, self.given);
         self.board.tell(self.rt, Mark::Came { session, octets });

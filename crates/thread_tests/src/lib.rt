@@ -19,6 +19,8 @@ mod ends;
 #[cfg(test)]
 mod jobs;
 #[cfg(test)]
+mod known;
+#[cfg(test)]
 mod report;
 #[cfg(test)]
 mod rings;

@@ -1,7 +1,6 @@
 //! A spool for each scene: made, and finished when all seats have come back.
 
-ghost use Rattle.std.specs.Prelude.{◌≡◌, ◌+◌};
-ghost use Rattle.config_values.specs.Config.{printer_count};
+ghost use Rattle.spool_ledgers.specs.Blanks.{AreFor, mark};
 
 use crate::board::{Board, Mark};
 use crate::director::Step;
@@ -12,13 +11,13 @@ use crate::turns::Pair;
 use crate::waiters::{sessions_in, wait_through};
 use config_values::Config;
 use shared_spool::{
-    Opened, Pages, PrinterSeat, Segment, SessionSeat, SharedSpool, SpoolLedger, Unfinished,
+    Blanks, Opened, Pages, PrinterSeat, Segment, SessionSeat, SharedSpool, SpoolLedger, Unfinished,
 };
 use std::alloc::Global;
 use std::marker::Brand;
 use std::process::Abort;
 use std::sync::Wait;
-use std::sync::ledger::{Blank, Ledger};
+use std::sync::ledger::Ledger;
 use std::test::Fail;
 use std::thread::Threads;
 use std::time::Clock;
@@ -64,13 +63,6 @@ impl Script<'_> {
             Script::Steps(_) => Missing::Nothing,
         }
     }
-}
-
-/// The ledgers of a spool, before they are opened.
-struct Blanks {
-    entries: Blank,
-    kinds: Blank,
-    handed: Blank,
 }
 
 /// Finishes a spool, of which a seat may be missing at first. Answers the last segment of the
@@ -168,24 +160,15 @@ fn perform_at<
     K: Ledger + Send + Sync,
     H: Ledger + Send + Sync,
 >(rt: &R, what: Script<'_>, config: Config, count: u32, blanks: Blanks) -> Option<Report>
-    requires entries { (blanks.entries.name ≡ E.name) × (blanks.entries.parts ≡ E.parts) }
-    requires kinds { (blanks.kinds.name ≡ K.name) × (blanks.kinds.parts ≡ K.parts) }
-    requires handed { (blanks.handed.name ≡ H.name) × (blanks.handed.parts ≡ H.parts) }
-    requires config { config ≡ E.config }
-    requires one_each { (E.parts ≡ count + printer_count config) × (K.parts ≡ E.parts)
-        × (H.parts ≡ E.parts) }
+    requires { AreFor blanks config count E.config (mark E.name E.parts)
+        (mark K.name K.parts) (mark H.name H.parts) }
 {
     let alloc = rt.alloc();
-    let Blanks {
-        entries,
-        kinds,
-        handed,
-    } = blanks;
     let Opened {
         spool,
         sessions,
         printers,
-    } = SharedSpool::<E, K, H>::new(alloc, entries, kinds, handed, config, count).ok()?;
+    } = SharedSpool::<E, K, H>::new(alloc, blanks, config, count).ok()?;
     let seen = see(rt, what, &spool, sessions, printers)?;
     report(alloc, what, spool, seen)
 }
@@ -228,12 +211,7 @@ pub fn happen<R: AllocGlobal + Clock + Threads + Wait + Sync>(
     let config = config_of(rt.alloc(), printers)?;
     // One more for the director.
     let count = u32::try_from(sessions).ok()?.checked_add(1)?;
-    let seats = u64::from(count) + u64::from(config.printer_count());
-    let blanks = Blanks {
-        entries: Blank::new(seats),
-        kinds: Blank::new(seats),
-        handed: Blank::new(seats),
-    };
+    let blanks = Blanks::new(&config, count);
     perform_at::<R, Brand, Brand, Brand>(rt, what, config, count, blanks)
 }
 

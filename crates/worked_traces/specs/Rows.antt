@@ -58,10 +58,6 @@ begins_file n = asked n kind.BeginFile Yes
 abbrev pub lent : ℕ → Entry
 lent n = asked n kind.Page (Lent 8)
 
--- or no page yet
-abbrev pub not_yet : ℕ → Entry
-not_yet n = asked n kind.Page Later
-
 abbrev pub fills : ℕ → Entry
 fills n = asked n kind.Filled Yes
 

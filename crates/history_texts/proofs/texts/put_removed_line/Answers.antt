@@ -1,13 +1,13 @@
 use Rattle.std.proofs.Common.{ap, ◌++◌, ◌∷◌, [], ◌∙◌, codes}
-use Rattle.spool_history.specs.Told.{number_of, user_of}
-use Rattle.spool_history.specs.Texts as T
-use Rattle.history_reader.specs.Seen.{job_seen}
+use Rattle.lpd_values.specs.Told.{number_in, user_in}
+use Rattle.lpd_values.specs.Texts as T
+use Rattle.history_reader.specs.Seen.{control_seen}
 use Rattle.history_texts.proofs.Pieces.{four_more}
 use Rattle.history_texts.proofs.texts.put_removed_line.Goals as goal
 
 pub returns : goal.returns
 returns c =
-    four_more c.args.text.now.items c.extend_from_slice.new.self.items c.put_three_digits.new.text.items c.put_word.new.text.items c.push.new.self.items (codes "removed ") (T.three_digits (number_of (job_seen c.args.job.now))) (codes " ") (user_of (job_seen c.args.job.now)) (10 ∷ [])
+    four_more c.args.text.now.items c.extend_from_slice.new.self.items c.put_three_digits.new.text.items c.put_word.new.text.items c.push.new.self.items (codes "removed ") (T.three_digits (number_in (control_seen c.args.job.now.control))) (codes " ") (user_in (control_seen c.args.job.now.control)) (10 ∷ [])
     (c.in_ok-extend_from_slice.ensures.items ∙ ap (λ l. c.args.text.now.items ++ l) c.as_slice.ensures)
     (c.in_ok-put_three_digits.ensures ∙ ap (λ n. c.extend_from_slice.new.self.items ++ T.three_digits n) c.told_number.ensures.value)
     (c.in_ok-put_word.ensures ∙ cc)

@@ -1,12 +1,18 @@
-use Rattle.std.proofs.Common.{◌≤◌, ◌+◌, length, IsTrue}
+use Rattle.std.proofs.Common.{◌≡◌, ◌≤◌, ◌+◌, ◌++◌, ℕ, List, length, map, take, IsTrue}
 use Rattle.std.specs.List.{list_all}
 use Rattle.lpd_values.specs.Name.{is_data_name}
+use Rattle.lpr_client.specs.declared.file.DataFile.{DataFile}
 use Rattle.lpr_client.specs.Sendable.{is_sendable_file}
 use Rattle.lpd_words.proofs.sending.data_files.Given as goal
+
+-- the names of these files
+abbrev pub names : List DataFile → List (List ℕ)
+names files = map (λ (file : DataFile). file.name) files
 
 abbrev pub invariant-loop-name : goal.invariant-loop-name
 invariant-loop-name g l = record {
   sendable : IsTrue (list_all is_sendable_file l.read.items);
   named : IsTrue (list_all is_data_name l.name-iterator.a.rest.now);
   fewer : length l.read.items + length l.name-iterator.a.rest.now ≤ length l.fn.names;
+  told : names l.read.items ++ take (length l.name-iterator.b.rest.now) l.name-iterator.a.rest.now ≡ take (length l.fn.paths) l.fn.names;
 }

@@ -11,9 +11,9 @@ returns-in_err-envelope-in-send-clause-fault c =
     (names_no_job _ _ c.in_ok-sending-in-send.sending c.in_err-envelope-in-send.field-0.0 c.in-send.is c.in_ok-sending-in-send.ensures.read
     c.in_err-envelope-in-send.ensures.fault)
 
-pub returns-in_err-serving-in-serve-clause-fault : goal.returns-in_err-serving-in-serve-clause-fault
-returns-in_err-serving-in-serve-clause-fault c =
-    let r = c.from_residual-in_err-serving-in-serve in
+pub returns-in_err-settings-in-serve-clause-fault : goal.returns-in_err-settings-in-serve-clause-fault
+returns-in_err-settings-in-serve-clause-fault c =
+    let r = c.from_residual-in_err-settings-in-serve in
     let p = err_from_is_err_and r.result r.ensures.1 in
     rw (p.1, p.2)
-    (asks_no_server _ _ c.in_err-serving-in-serve.field-0.0 c.in-serve.is c.in_err-serving-in-serve.ensures.fault)
+    (asks_no_server _ _ c.in_err-settings-in-serve.field-0.0 c.in-serve.is c.in_err-settings-in-serve.ensures.fault)

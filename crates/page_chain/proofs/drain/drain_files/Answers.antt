@@ -29,8 +29,8 @@ drain_into-requires-clause-sizes c =
     let lt52 : i < 52 = omega (arith, few, lt) in
     let among : is_among c.args.kept.now i ≡ false = sym c.contains.ensures.value ∙ c.if-not-contains.true in
     let size = ap (λ (p : Pages). p.page_size) d.pool_is in
-    subst (λ (ps : List Page). AreOfSize c.files.pool.page_size ps) (sym (still_in n c.args.row c.args.kept.now c.args.pool.now c.files.nodes c.files.pool i d lt52))
-    (subst (λ (s : ℕ). AreOfSize s (pages_in n c.args.row i)) (sym size) (c.requires.sizes i lt among))
+    rw c.key_of.ensures (subst (λ (ps : List Page). AreOfSize c.files.pool.page_size ps) (sym (still_in n c.args.row c.args.kept.now c.args.pool.now c.files.nodes c.files.pool i d lt52))
+    (subst (λ (s : ℕ). AreOfSize s (pages_in n c.args.row i)) (sym size) (c.requires.sizes i lt among)))
 
 pub drain_into-requires-clause-room : goal.drain_into-requires-clause-room
 drain_into-requires-clause-room c =
@@ -47,7 +47,7 @@ drain_into-requires-clause-room c =
     let all = cond-false (is_among c.args.kept.now i) 0 (length (pages_in n c.args.row i)) among in
     let more = dropped_more n c.args.row c.args.kept.now (suc i) c.args.files (omega (arith, lt)) in
     let room = c.requires.room in
-    omega (arith, free, pages, still, all, more, room)
+    rw c.key_of.ensures (omega (arith, free, pages, still, all, more, room))
 
 pub files-preserved : goal.files-preserved
 files-preserved c =
@@ -64,7 +64,7 @@ files-preserved c =
     (elim c.if-not-contains.branch [
       | then-not-contains w ↦
           drains_gone n row kept pool c.files.nodes c.files.pool i c.if-not-contains.nodes c.if-not-contains.pool c.files.invariant lt52 c.requires.here
-          (sym c.contains.ensures.value ∙ w.if-not-contains.true) (w.nodes-is ∙ w.drain_into.ensures.nodes) (w.pool-is ∙ w.drain_into.ensures.pool)
+          (sym c.contains.ensures.value ∙ w.if-not-contains.true) (w.nodes-is ∙ simp w.key_of.ensures at w.drain_into.ensures.nodes) (w.pool-is ∙ simp w.key_of.ensures at w.drain_into.ensures.pool)
       | else-not-contains w ↦
           subst (λ (u : Chains). Drains n row kept pool u c.if-not-contains.pool (suc i)) (sym w.nodes-is)
           (subst (λ (u : Pages). Drains n row kept pool c.files.nodes u (suc i)) (sym w.pool-is)

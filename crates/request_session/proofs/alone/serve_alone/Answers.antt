@@ -1,4 +1,4 @@
-use Rattle.request_session.specs.Served.{Side, side}
+use Rattle.request_session.specs.Served.{around, side, source}
 use Rattle.request_session.proofs.Growing.{alone}
 use Rattle.request_session.proofs.alone.serve_alone.Goals as goal
 
@@ -6,8 +6,7 @@ pub returns : goal.returns
 returns g c =
     let r = g.I.OctetRead in
     let w = g.W.OctetWrite in
-    let reader : Side = side (r.left c.args.reader.now) (r.faults c.args.reader.now) in
-    let reader' : Side = side (r.left c.serve_by.new.reader) (r.faults c.serve_by.new.reader) in
-    let writer : Side = side (w.written c.args.writer.now) (w.faults c.args.writer.now) in
-    let writer' : Side = side (w.written c.serve_by.new.writer) (w.faults c.serve_by.new.writer) in
-    alone c.serve_by.result c.args.sender reader reader' writer writer' c.args.core.now c.serve_by.new.spool c.serve_by.ensures
+    let old = c.args in
+    let new = c.serve_by.new in
+    alone c.serve_by.result old.sender (around (source (r.left old.reader.now) (r.faults old.reader.now) (r.reads old.reader.now)) (side (w.written old.writer.now) (w.faults old.writer.now)) old.core.now)
+    (around (source (r.left new.reader) (r.faults new.reader) (r.reads new.reader)) (side (w.written new.writer) (w.faults new.writer)) new.spool) c.serve_by.ensures

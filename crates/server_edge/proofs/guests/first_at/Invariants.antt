@@ -1,4 +1,4 @@
-use Rattle.std.proofs.Common.{◌≡◌, ◌<◌, ◌≤◌, ℕ, length, Some, MatchOption, slice_get}
+use Rattle.std.proofs.Common.{◌≡◌, Some, MatchOption, slice_get}
 use Rattle.server_edge.specs.declared.guests.Guest.{Guest}
 use Rattle.server_edge.specs.Guests.{IsNobodyAt, IsNobodyBefore}
 use Rattle.server_edge.proofs.guests.first_at.Given as goal

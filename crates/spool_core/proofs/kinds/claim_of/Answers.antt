@@ -1,4 +1,4 @@
-use Rattle.std.proofs.Common.{◌≡◌, ℕ, ◌+◌, ◌≤◌, List, length, replicate, set, ap, ◌∙◌, arith}
+use Rattle.std.proofs.Common.{◌≡◌, ℕ, ◌+◌, length, replicate, set, ap, ◌∙◌}
 use Rattle.config_values.specs.Config as C
 use Rattle.spool_core.proofs.Amounts.{claim}
 use Rattle.spool_core.proofs.kinds.claim_of.Goals as goal

@@ -1,4 +1,4 @@
-use Rattle.std.proofs.Common.{◌≡◌, ℕ, ◌+◌, ◌-◌, ◌<◌, ◌≤◌, length, get_or, ap, subst, sym, ◌∙◌, arith}
+use Rattle.std.proofs.Common.{◌≡◌, ℕ, ◌+◌, ◌-◌, ◌<◌, ◌≤◌, ◌^◌, length, get_or, ap, subst, sym, ◌∙◌, arith}
 use Rattle.held_jobs.specs.declared.file.DataFile.{DataFile}
 use Rattle.held_jobs.specs.declared.job.Job.TheInside.{Inside}
 use Rattle.held_jobs.specs.Jobs.{Facts, contents_of, last_size}
@@ -6,12 +6,12 @@ use Rattle.held_jobs.specs.Moves.{put_facts}
 use Rattle.held_jobs.proofs.Sizes.{last_is, put_view}
 use Rattle.held_jobs.proofs.job.Job.put.Goals as goal
 
-known : (k l : Facts) (len i m : ℕ) (x : DataFile) → k ≡ l → 0 < length l.files → len ≤ (last_size l.files).left → (last_size l.files).pages + 1 < 18446744073709551616
-    → m ≡ length k.files → i ≡ m - 1 → x ≡ get_or k.files i x → (len ≤ x.left) × (x.pages + 1 < 18446744073709551616)
+known : (k l : Facts) (len i m : ℕ) (x : DataFile) → k ≡ l → 0 < length l.files → len ≤ (last_size l.files).left → (last_size l.files).pages + 1 < 2 ^ 64
+    → m ≡ length k.files → i ≡ m - 1 → x ≡ get_or k.files i x → (len ≤ x.left) × (x.pages + 1 < 2 ^ 64)
 known k l len i m x e lt fits few em ei ex =
     let lt' : 0 < length k.files = subst (λ (j : Facts). 0 < length j.files) (sym e) lt in
     let is : x ≡ last_size l.files = last_is k.files i m x lt' em ei ex ∙ ap (λ (j : Facts). last_size j.files) e in
-    (subst (λ (y : DataFile). len ≤ y.left) (sym is) fits, subst (λ (y : DataFile). y.pages + 1 < 18446744073709551616) (sym is) few)
+    (subst (λ (y : DataFile). len ≤ y.left) (sym is) fits, subst (λ (y : DataFile). y.pages + 1 < 2 ^ 64) (sym is) few)
 
 abbrev view_of : Inside → Facts
 view_of a = record {

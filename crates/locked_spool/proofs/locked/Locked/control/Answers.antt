@@ -1,8 +1,6 @@
 use Rattle.std.proofs.Common.{◌≡◌, ℕ, Bool, List, ◌∷◌, refl, sym, ◌∙◌, subst}
 use Rattle.std.specs.Prelude.{Ok, Err}
 use Rattle.lpd_values.specs.Contents.{Contents}
-use Rattle.lpd_values.specs.declared.refusal.Refusal.{Refusal}
-use Rattle.lpd_values.specs.declared.refusal.Refusal.TheVariants.{ControlTwice, NotOpen}
 use Rattle.control_file.specs.View.{contents}
 use Rattle.account.specs.Seen.{base_seen}
 use Rattle.account.specs.declared.entry.Outline.{Outline}
@@ -18,14 +16,8 @@ use Rattle.locked_spool.proofs.Decided.{whole_is}
 use Rattle.locked_spool.proofs.Written.{room_here, unchanged, written_here}
 use Rattle.locked_spool.proofs.locked.Locked.control.Goals as goal
 
--- a refusal changes nothing
-still : (b : Base) (h : List (Event Outline)) (old new : Kept) (job : ℕ) (control : Contents) (e : Refusal) → Controls Outlines b h old job control new (Err e) → new ≡ old
-still b h old new job control NotOpen a = a.1
-still b h old new job control ControlTwice a = a.1
-still b h old new job control _ a = absurd a
-
 -- the control file is there
-there : (b : Base) (h : List (Event Outline)) (old new : Kept) (job : ℕ) (control copy : Contents) (got : Receipt) (whole : Bool) → copy ≡ control → whole ≡ is_whole Outlines b h old got
+there : (b : Base) (h : List (Event Outline)) (old new : Kept) (job : ℕ) (control copy : Contents) (got : Receipt) (whole : Bool) → copy ≡ control → whole ≡ is_whole got
     → Controls Outlines b h old job control new (Ok got) → Leaves Outlines b (OfJob job (Controlled copy whole) ∷ h) new
 there b h old new job control copy got whole same said a =
     subst (λ (v : Contents). Leaves Outlines b (OfJob job (Controlled v whole) ∷ h) new) (sym same)
@@ -35,7 +27,7 @@ pub invariant_of-self : goal.invariant_of-self
 invariant_of-self g c =
     let i = c.self.invariant in
     let a = c.self.inside in
-    unchanged i _ (still (base_seen a.base) a.account.events a.core c.control.new.self c.args.job (contents c.args.control) c.in_err-receipt.field-0.0 (c.in_err-receipt.ensures.answer _ _ _ i.left))
+    unchanged i _ (c.in_err-receipt.ensures.answer _ _ _ i.left).1
 
 pub write-requires-clause-room : goal.write-requires-clause-room
 write-requires-clause-room g c =
@@ -45,8 +37,8 @@ write-requires-clause-room g c =
     let b = base_seen a.base in
     let h = a.account.events in
     let got = c.in_ok-receipt.receipt in
-    room_here i (there b h a.core c.control.new.self c.args.job (contents c.args.control) (contents c.in_ok-copy.copy) got c.eq-whole.result c.in_ok-copy.ensures
-    (c.eq-whole.ensures ∙ whole_is Outlines b h a.core got) (s.answer _ _ _ i.left)) s.config refl
+    room_here i (there b h a.core c.control.new.self c.args.job (contents c.args.control) (contents c.in-Ok.copy) got c.eq-whole.result c.in-Ok.ensures
+    (c.eq-whole.ensures ∙ whole_is got) (s.answer _ _ _ i.left)) s.config refl
 
 pub invariant_of-self-2 : goal.invariant_of-self-2
 invariant_of-self-2 g c =
@@ -58,5 +50,5 @@ invariant_of-self-2 g c =
     let h = a.account.events in
     let got = c.in_ok-receipt.receipt in
     written_here i c.write.new.account.events c.write.new.account.room c.write.new.books
-    (there b h a.core c.control.new.self c.args.job (contents c.args.control) (contents c.in_ok-copy.copy) got c.eq-whole.result c.in_ok-copy.ensures
-    (c.eq-whole.ensures ∙ whole_is Outlines b h a.core got) (s.answer _ _ _ i.left)) s.config refl w.events w.room w.books
+    (there b h a.core c.control.new.self c.args.job (contents c.args.control) (contents c.in-Ok.copy) got c.eq-whole.result c.in-Ok.ensures
+    (c.eq-whole.ensures ∙ whole_is got) (s.answer _ _ _ i.left)) s.config refl w.events w.room w.books

@@ -21,7 +21,7 @@ use Rattle.locked_spool.proofs.locked.Locked.end_file.Goals as goal
 module _ (h : Held) (k : Kept) (job file pages : ℕ) (got : Receipt) (whole : Bool)
     (is : IsOpenFile Outlines h.base h.events h.core job file pages) (a : Ends Outlines h.base h.events h.core job k (Ok got)) where
   abbrev w : Bool
-  w = is_whole Outlines h.base h.events h.core got
+  w = is_whole got
 
   -- the file that was open has ended
   same : a.0 ≡ file
@@ -50,7 +50,7 @@ write-requires-clause-room g c =
     let s = c.in_ok-receipt.ensures in
     let h : Held = record { core = a.core; base = base_seen a.base; events = a.account.events; number = a.number; before = a.before; kinds_before = a.kinds_before; handed_before = a.handed_before } in
     room_here i (ended h c.end_file.new.self c.args.job c.in-Some.file c.in-Some.field-0-1 c.in_ok-receipt.receipt c.eq-whole.result (c.in-Some.ensures _ _ _ i.left) (s.answer _ _ _ i.left)
-    (c.eq-whole.ensures ∙ whole_is Outlines h.base h.events h.core c.in_ok-receipt.receipt)) s.config refl
+    (c.eq-whole.ensures ∙ whole_is c.in_ok-receipt.receipt)) s.config refl
 
 pub invariant_of-self-2 : goal.invariant_of-self-2
 invariant_of-self-2 g c =
@@ -60,7 +60,7 @@ invariant_of-self-2 g c =
     let w = c.write.ensures in
     let h : Held = record { core = a.core; base = base_seen a.base; events = a.account.events; number = a.number; before = a.before; kinds_before = a.kinds_before; handed_before = a.handed_before } in
     written_here i c.write.new.account.events c.write.new.account.room c.write.new.books (ended h c.end_file.new.self c.args.job c.in-Some.file c.in-Some.field-0-1 c.in_ok-receipt.receipt c.eq-whole.result (c.in-Some.ensures _ _ _ i.left) (s.answer _ _ _ i.left)
-    (c.eq-whole.ensures ∙ whole_is Outlines h.base h.events h.core c.in_ok-receipt.receipt)) s.config refl w.events w.room w.books
+    (c.eq-whole.ensures ∙ whole_is c.in_ok-receipt.receipt)) s.config refl w.events w.room w.books
 
 pub returns-clause-account : goal.returns-clause-account
 returns-clause-account g c =
@@ -73,4 +73,4 @@ returns-clause-account g c =
     let got = c.in_ok-receipt.receipt in
     subst (λ (z : Held). WritesFileEnded z (record h { core = k; events = es }) c.args.job (Ok got)) c.self.view_is
     (told h k c.args.job c.in-Some.file c.in-Some.field-0-1 got c.eq-whole.result (c.in-Some.ensures _ _ _ i.left) (s.answer _ _ _ i.left)
-    (c.eq-whole.ensures ∙ whole_is Outlines h.base h.events h.core got) es c.write.ensures.events)
+    (c.eq-whole.ensures ∙ whole_is got) es c.write.ensures.events)

@@ -3,27 +3,22 @@ use Rattle.std.specs.Prelude.{Ok, sum_by}
 use Rattle.std.proofs.lemmas.List.Sums.{sum_by_push}
 use Rattle.account.specs.Seen.{base_seen}
 use Rattle.account.specs.declared.entry.Outline.{Outline}
-use Rattle.config_values.specs.Config.{Config, reserve_of}
+use Rattle.config_values.specs.Config.{Config, queue_named, reserve_of}
 use Rattle.spool_history.specs.Events.{Event}
 use Rattle.spool_history.specs.Events.Event.{Opened}
 use Rattle.spool_history.specs.Said.{Opening, openings}
 use Rattle.spool_calls.specs.Looks.Detail.{Outlines}
 use Rattle.spool_calls.specs.Kept.{Kept, Leaves}
-use Rattle.spool_calls.specs.Calls.{IsNamed, Opens}
+use Rattle.spool_calls.specs.Calls.{Opens}
 use Rattle.spool_ledgers.specs.Sums.{Sums}
 use Rattle.locked_spool.specs.Held.{Held, IsHeld}
-use Rattle.locked_spool.proofs.Decided.{one_queue}
-use Rattle.locked_spool.proofs.Written.{in_ranges, room_for, written}
+use Rattle.locked_spool.proofs.Written.{room_for, written}
 use Rattle.locked_spool.proofs.locked.Locked.open.Goals as goal
 
 module _ (config : Config) (h : Held) (room : ℕ) (totals : Sums) (is : IsHeld config h room totals) (k : Kept) (sender : ℕ) (name : List ℕ) (q job : ℕ)
-    (there : IsNamed h.core.config name q) (a : Opens Outlines h.base h.events h.core sender name k (Ok job)) where
-  -- the queue of the name is the one that was found
-  same : a.1 ≡ q
-  same = one_queue h.core.config name a.1 q (in_ranges is) a.2 there
-
+    (there : queue_named h.core.config name ≡ q) (a : Opens Outlines h.base h.events h.core sender name k (Ok job)) where
   opened : Leaves Outlines h.base (Opened job sender q ∷ h.events) k
-  opened = subst (λ (n : ℕ). Leaves Outlines h.base (Opened job sender n ∷ h.events) k) same a.3.1
+  opened = subst (λ (n : ℕ). Leaves Outlines h.base (Opened job sender n ∷ h.events) k) there a.1
 
   -- its reserve is counted from now on
   counted : k.config ≡ h.core.config → k.reserved ≡ h.core.reserved + reserve_of h.core.config q
@@ -50,7 +45,7 @@ write-requires-clause-room g c =
     let s = c.in_ok-job.ensures in
     let r = c.in_ok-reserve.ensures in
     let q = c.in-Some-queue_number.number in
-    let named = c.in-Some-queue_number.ensures in
+    let named = c.in-Some-queue_number.ensures.0 in
     let answer = s.answer Outlines h.base h.events i.left in
     let k = c.open.new.self in
     let job = c.in_ok-job.job in
@@ -68,7 +63,7 @@ invariant_of-self-2 g c =
     let s = c.in_ok-job.ensures in
     let r = c.in_ok-reserve.ensures in
     let q = c.in-Some-queue_number.number in
-    let named = c.in-Some-queue_number.ensures in
+    let named = c.in-Some-queue_number.ensures.0 in
     let answer = s.answer Outlines h.base h.events i.left in
     let k = c.open.new.self in
     let job = c.in_ok-job.job in

@@ -9,7 +9,7 @@ use Rattle.spool_history.specs.Events.Event.{OfJob}
 use Rattle.spool_calls.specs.Looks.{outline_of, size}
 use Rattle.spool_calls.specs.Looks.Detail.{Outlines}
 use Rattle.spool_calls.specs.Kept.{Kept, Leaves}
-use Rattle.spool_calls.specs.Calls.{MayTake, Puts}
+use Rattle.spool_calls.specs.Calls.{MayTake, Puts, before}
 use Rattle.spool_calls.specs.Readers.{IsOpenFile}
 use Rattle.locked_spool.specs.Held.{Held}
 use Rattle.locked_spool.specs.Entries.{WritesPut}
@@ -23,10 +23,10 @@ module _ (h : Held) (k : Kept) (job : ℕ) (page : Page) (file number : ℕ) (ou
   goes = page_goes (size Outlines) h.core.config h.base h.events job file number is a.0 a.1 (outline_of page.octets) a.2.0
 
   -- it went to the open file, as its next page
-  may : MayTake Outlines h.base h.events h.core job page file number
+  may : MayTake Outlines (before Outlines h.base h.events h.core) job page file number
   may =
-      subst (λ (n : ℕ). MayTake Outlines h.base h.events h.core job page file n) goes.1
-      (subst (λ (n : ℕ). MayTake Outlines h.base h.events h.core job page n a.1) goes.0 a.2)
+      subst (λ (n : ℕ). MayTake Outlines (before Outlines h.base h.events h.core) job page file n) goes.1
+      (subst (λ (n : ℕ). MayTake Outlines (before Outlines h.base h.events h.core) job page n a.1) goes.0 a.2)
 
   taken : outline ≡ outline_of page.octets → Leaves Outlines h.base (OfJob job (Put file number outline) ∷ h.events) k
   taken is-it =

@@ -25,7 +25,7 @@ returns-in-Some c =
     let pages = ap (λ (fs : List Run). (get_or fs place.file c.index-as_slice-place.result).pages) c.as_slice.ensures.value
     ∙ ap (λ (r : Run). r.pages) (get_or_default files place.file c.index-as_slice-place.result no_run there) in
     let told = (get_or c.as_slice.result.now place.file c.index-as_slice-place.result).pages in
-    let len = c.len.ensures in (
+    let len = simp c.key_of.ensures at c.len.ensures in (
       λ same.
           let e = eqb-true c.len.result (told - 1) same in
           subst (λ (u : Kept). AwaitsLast (shown u n)) v (awaits t n place held c.self.invariant.7 number turned c.in-Some.is (omega (arith, e, pages, len, number))),

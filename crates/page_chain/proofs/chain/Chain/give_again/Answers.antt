@@ -19,7 +19,7 @@ returns-clause-chain c =
     let held = subst (λ (u : Kept). IsHeld u n) (sym v) c.requires.held in
     let gap = subst (λ (u : Kept). IsOnlyGap (shown u n) (last_place (shown u n))) (sym v) c.requires.awaited.gap in
     subst (λ (u : Kept). Leads u u n c.push.new.self (given_again c.args.page (shown u n))) v
-    (gives t n c.push.new.self place c.args.page held c.self.invariant.7 number (file_there files place number) c.in-Some.is gap c.push.ensures)
+    (gives t n c.push.new.self place c.args.page held c.self.invariant.7 number (file_there files place number) c.in-Some.is gap (simp c.key_of.ensures at c.push.ensures))
 
 pub returns-clause-total : goal.returns-clause-total
 returns-clause-total c =
@@ -34,6 +34,6 @@ returns-clause-total c =
     let held = subst (λ (u : Kept). IsHeld u n) (sym v) c.requires.held in
     let few = held.few in
     let old = pages_in n f.row place.file in
-    let a = total_with n c.push.new.self f.row place.file (old ++ c.args.page ∷ []) c.push.ensures held.row (omega (arith, there, few)) in
+    let a = total_with n c.push.new.self f.row place.file (old ++ c.args.page ∷ []) (simp c.key_of.ensures at c.push.ensures) held.row (omega (arith, there, few)) in
     let b = length_push old c.args.page in
     omega (arith, a, b)

@@ -21,11 +21,11 @@ returns-in-Some c =
     let g = front_at t c.args.self.now prints f.printed file v refl c.self.invariant.7 lt is in (
       λ some.
           let m = ltb-true 0 c.len.result some in
-          let e = c.len.ensures in
+          let e = simp c.key_of.ensures at c.len.ensures in
           subst (λ (u : Kept). IsReady (shown u n)) g.is (ready t n file rest g.can (pages_in n f.row file) refl (omega (arith, m, e))),
       λ h.
           let r = subst (λ (u : Kept). IsReady (shown u n)) (sym g.is) h in
           let m = next_front t n file rest g.can r.here in
-          let e = c.len.ensures in
+          let e = simp c.key_of.ensures at c.len.ensures in
           lt-ltb 0 c.len.result (omega (arith, m, e)),
     )

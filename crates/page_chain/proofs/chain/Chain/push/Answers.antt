@@ -25,7 +25,7 @@ returns-clause-chain c =
     let some = (i.6 opened).0 in
     let at : suc last ≡ length files = omega (arith, some, len) in
     let run : run_at files last ≡ c.index_mut.result.now = sym (c.index_mut.ensures.value ∙ get_or_default files last c.index_mut.result.now no_run (omega (arith, at))) in
-    let made = pushes t n new last c.len.result c.args.page held opened (i.6 opened).1 at c.push.ensures c.len.ensures in
+    let made = pushes t n new last c.len.result c.args.page held opened (i.6 opened).1 at (simp c.key_of-key.ensures at c.push.ensures) (simp c.key_of-key.ensures at c.len.ensures) in
     let exact = subst (λ (r : Run). Leads t (record t { files = set files last (record r { pages = c.len.result }) }) n new (record (shown t n) { files = with_page (shown t n).files c.args.page })) run made in
     subst (λ (u : Kept). Leads u (record t { files = set files last (record c.index_mut.result.now { pages = c.len.result }) }) n new (record (shown u n) { files = with_page (shown u n).files c.args.page })) v exact
 
@@ -44,6 +44,6 @@ returns-clause-total c =
     let some = (i.6 opened).0 in
     let few = held.few in
     let old = pages_in n f.row last in
-    let a = total_with n c.push.new.self f.row last (old ++ c.args.page ∷ []) c.push.ensures held.row (omega (arith, some, len, few)) in
+    let a = total_with n c.push.new.self f.row last (old ++ c.args.page ∷ []) (simp c.key_of-key.ensures at c.push.ensures) held.row (omega (arith, some, len, few)) in
     let b = length_push old c.args.page in
     omega (arith, a, b)

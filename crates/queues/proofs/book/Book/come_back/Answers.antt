@@ -1,4 +1,4 @@
-use Rattle.std.proofs.Common.{◌+◌, ◌<◌, refl, ap, subst}
+use Rattle.std.proofs.Common.{◌+◌, ◌<◌, ◌^◌, refl, ap, subst}
 use Rattle.held_jobs.specs.Jobs.{HeldJob}
 use Rattle.held_jobs.specs.Moves.{back_facts, told}
 use Rattle.held_jobs.specs.Books.{Books}
@@ -10,7 +10,7 @@ use Rattle.queues.proofs.book.Book.come_back.Goals as goal
 pub come_back-requires : goal.come_back-requires
 come_back-requires c =
     let k = here_at c.args.i c.index_mut-entry.result.now c.self.invariant c.self.view_is c.requires.here c.index_mut-entry.ensures.value in
-    subst (λ (j : HeldJob). j.facts.back + 1 < 18446744073709551616) k.shows c.requires.few
+    subst (λ (j : HeldJob). j.facts.back + 1 < 2 ^ 64) k.shows c.requires.few
 
 pub invariant_of-self : goal.invariant_of-self
 invariant_of-self c =

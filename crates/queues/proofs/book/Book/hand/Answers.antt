@@ -1,4 +1,4 @@
-use Rattle.std.proofs.Common.{◌≡◌, ◌+◌, ◌-◌, ◌<◌, Some, refl, sym, ◌∙◌, ap, subst, arith}
+use Rattle.std.proofs.Common.{◌≡◌, ◌+◌, ◌-◌, ◌<◌, ◌^◌, Some, refl, sym, ◌∙◌, ap, subst, arith}
 use Rattle.page_chain.specs.Files.{page_at}
 use Rattle.page_chain.specs.Changes.{IsReady, next_place}
 use Rattle.page_chain.specs.Held.{shown}
@@ -14,7 +14,7 @@ use Rattle.queues.proofs.book.Book.hand.Goals as goal
 pub hand-requires : goal.hand-requires
 hand-requires c =
     let k = here_at c.args.i c.index_mut-entry.result.now c.self.invariant c.self.view_is c.requires.here c.index_mut-entry.ensures.value in
-    subst (λ (j : HeldJob). j.facts.handed + 1 < 18446744073709551616) k.shows c.requires.few
+    subst (λ (j : HeldJob). j.facts.handed + 1 < 2 ^ 64) k.shows c.requires.few
 
 pub take-requires-clause-held : goal.take-requires-clause-held
 take-requires-clause-held c =

@@ -1,5 +1,5 @@
 use Rattle.std.proofs.Common.{◌∙◌, below_more, sym, ap, arith}
-use Rattle.held_jobs.specs.Choice.{is_from}
+use Rattle.queues.specs.Tests.{is_from}
 use Rattle.queues.proofs.Lists.{known_at}
 use Rattle.queues.proofs.book.Book.head_of_sender.Goals as goal
 

@@ -1,5 +1,5 @@
 use Rattle.std.proofs.Common.{◌≡◌, ℕ, ◌<◌, false, get_or}
-use Rattle.held_jobs.specs.Choice.{is_from}
+use Rattle.queues.specs.Tests.{is_from}
 use Rattle.held_jobs.specs.Turns.{facts_in, no_facts}
 use Rattle.queues.proofs.book.Book.head_of_sender.Given as goal
 

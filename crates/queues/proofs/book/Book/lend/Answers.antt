@@ -1,4 +1,4 @@
-use Rattle.std.proofs.Common.{◌+◌, ◌<◌, refl, ap, subst}
+use Rattle.std.proofs.Common.{◌+◌, ◌<◌, ◌^◌, refl, ap, subst}
 use Rattle.held_jobs.specs.Jobs.{HeldJob}
 use Rattle.held_jobs.specs.Moves.{lent_facts, told}
 use Rattle.held_jobs.specs.Books.{Books}
@@ -10,7 +10,7 @@ use Rattle.queues.proofs.book.Book.lend.Goals as goal
 pub lend-requires : goal.lend-requires
 lend-requires c =
     let k = here_at c.args.i c.index_mut-entry.result.now c.self.invariant c.self.view_is c.requires.here c.index_mut-entry.ensures.value in
-    subst (λ (j : HeldJob). j.facts.granted + 1 < 4294967296) k.shows c.requires.few
+    subst (λ (j : HeldJob). j.facts.granted + 1 < 2 ^ 32) k.shows c.requires.few
 
 pub invariant_of-self : goal.invariant_of-self
 invariant_of-self c =

@@ -1,4 +1,4 @@
-use Rattle.std.proofs.Common.{◌≡◌, ℕ, ◌+◌, ◌<◌, ◌≤◌, true, length, refl, sym, ◌∙◌, ap, subst}
+use Rattle.std.proofs.Common.{◌≡◌, ℕ, ◌+◌, ◌<◌, ◌≤◌, ◌^◌, true, length, refl, sym, ◌∙◌, ap, subst}
 use Rattle.page_chain.specs.Held.{shown}
 use Rattle.page_chain.proofs.Counting.{page_of_size}
 use Rattle.held_jobs.specs.Jobs.{HeldJob, last_size}
@@ -33,7 +33,7 @@ put-requires-clause-fits c =
 pub put-requires-clause-few : goal.put-requires-clause-few
 put-requires-clause-few c =
     let k = here_at c.args.i c.index_mut-entry.result.now c.self.invariant c.self.view_is c.requires.here c.index_mut-entry.ensures.value in
-    subst (λ (j : HeldJob). (last_size j.facts.files).pages + 1 < 18446744073709551616) k.shows c.requires.few
+    subst (λ (j : HeldJob). (last_size j.facts.files).pages + 1 < 2 ^ 64) k.shows c.requires.few
 
 pub invariant_of-self : goal.invariant_of-self
 invariant_of-self c =

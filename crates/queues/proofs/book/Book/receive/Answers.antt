@@ -7,7 +7,8 @@ use Rattle.page_chain.specs.Held.{Leads, shown}
 use Rattle.page_chain.proofs.Counting.{named_of_size, returns_of_these}
 use Rattle.held_jobs.specs.Jobs.{HeldJob}
 use Rattle.held_jobs.specs.Moves.{received_job}
-use Rattle.held_jobs.specs.Books.{Books, IsIdle, job_at, prints_in, prints_of}
+use Rattle.lpd_values.specs.Told.{prints_in}
+use Rattle.held_jobs.specs.Books.{Books, IsIdle, job_at, prints_of}
 use Rattle.queues.specs.declared.entry.Entry.{Entry}
 use Rattle.queues.specs.Inside.{seen}
 use Rattle.queues.proofs.Entries.{here_at, led, leads_on}

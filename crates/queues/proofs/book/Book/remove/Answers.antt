@@ -9,7 +9,7 @@ use Rattle.queues.specs.declared.entry.Entry.{Entry}
 use Rattle.queues.specs.Inside.{IsBook, IsEntry, book_of, entry_at, no_entry, seen}
 use Rattle.queues.proofs.Entries.{job_seen, within}
 use Rattle.queues.proofs.Rows.{removed}
-use Rattle.queues.proofs.Sizes.{length-files}
+use Rattle.page_chain.proofs.Seen.{length-files_from as length-files}
 use Rattle.queues.proofs.book.Book.remove.Goals as goal
 
 pub remove-requires : goal.remove-requires

@@ -16,16 +16,18 @@ printers-preserved g c =
       parts = search rules;
       fresh = search rules;
       seats = search rules;
-      row = subst (λ (ds : List Desk). (i : ℕ) → i < length ds → slice_get ds i ≡ Some (new_desk (i + 1))) (sym c.in_ok-push-2.ensures.items) row;
+      room = search rules;
+      row = subst (λ (ds : List Desk). (i : ℕ) → i < length ds → slice_get ds i ≡ Some (new_desk (i + 1))) (sym c.push_reserved-in-printers.ensures.items) row;
     }
 
 pub sessions-preserved : goal.sessions-preserved
 sessions-preserved g c =
-    let fresh : c.new.result ≡ no_sums 1 = c.new.ensures ∙ c.split_one.ensures.one in
-    let all = all_pushed (λ (s : Sums). s ≡ no_sums 1) c.sessions.session_seats.items c.new.result c.sessions.invariant.none fresh in
+    let fresh : c.new-in-sessions.result ≡ no_sums 1 = c.new-in-sessions.ensures ∙ c.split_one.ensures.one in
+    let all = all_pushed (λ (s : Sums). s ≡ no_sums 1) c.sessions.session_seats.items c.new-in-sessions.result c.sessions.invariant.none fresh in
     record {
       parts = search rules;
       fresh = search rules;
       seats = search rules;
-      none = subst (λ (ss : List Sums). All (λ (s : Sums). s ≡ no_sums 1) ss) (sym c.in_ok-push.ensures.items) all;
+      room = search rules;
+      none = subst (λ (ss : List Sums). All (λ (s : Sums). s ≡ no_sums 1) ss) (sym c.push_reserved.ensures.items) all;
     }

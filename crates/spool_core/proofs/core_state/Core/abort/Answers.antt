@@ -1,25 +1,19 @@
-use Rattle.std.proofs.Common.{◌≡◌, ◌≢◌, ℕ, zero, suc, ◌+◌, ◌-◌, ◌*◌, ◌<◌, ◌≤◌, List, [], ◌∷◌, ◌++◌, length, get_or, set, refl, ap, subst, sym, ◌∙◌, arith}
-use Rattle.std.specs.Prelude.{Result, Ok, Err, Option, Some, None, Bool, true, false, not, IsTrue, remove}
-use Rattle.counts.specs.Amounts.{amount}
-use Rattle.claims.specs.Claims.{Claims, row_at}
+use Rattle.std.proofs.Common.{◌≡◌, ℕ, zero, suc, ◌+◌, ◌-◌, ◌≤◌, List, [], ◌∷◌, length, set, refl, ap, subst, sym, ◌∙◌, arith}
+use Rattle.std.specs.Prelude.{Result, Ok, Err, Option, remove}
+use Rattle.claims.specs.Claims.{Claims}
 use Rattle.page_pool.specs.Page.{Page, Pages}
 use Rattle.held_jobs.specs.Jobs.{Facts, HeldJob}
 use Rattle.held_jobs.specs.Books.{Books, job_at, with_job}
 use Rattle.spool_history.specs.Base.{Base}
 use Rattle.spool_history.specs.Events.{Event}
-use Rattle.spool_history.specs.Events.Event.{OfJob}
-use Rattle.lpd_values.specs.declared.refusal.Refusal.{Refusal}
 use Rattle.spool_calls.specs.Looks.{Detail, What}
 use Rattle.spool_calls.specs.Looks.Detail.{Outlines}
-use Rattle.spool_calls.specs.Kept.{Kept, Leaves}
+use Rattle.spool_calls.specs.Kept.{Kept}
 use Rattle.spool_calls.specs.Calls.{IsRight}
 use Rattle.core_steps.proofs.Leaving.{Found}
 use Rattle.spool_core.specs.declared.core_state.Core.TheInside.{Inside}
 use Rattle.spool_core.specs.Inside.{core_view, IsCore}
 use Rattle.spool_core.proofs.Cores.{found, stays, still}
-use Rattle.std.specs.Prelude.{IfSome, ◌⊎◌}
-use Rattle.spool_history.specs.Events.Act.{Aborted}
-use Rattle.spool_laws.specs.Sums.{chained_of}
 use Rattle.page_chain.specs.Files.{every_page}
 use Rattle.held_jobs.specs.Moves.{drained_job}
 use Rattle.claims.specs.Changes.{closed}
@@ -29,7 +23,6 @@ use Rattle.spool_calls.specs.Calls.{Aborts}
 use Rattle.core_steps.proofs.Leaving.{every_counted, jobs_len, one_stored}
 use Rattle.core_steps.proofs.Receiving.{pool_room}
 use Rattle.core_steps.proofs.Aborting.{abort_done, abort_none, abort_refused, aborted_core, aborted_room}
-use Rattle.spool_core.proofs.Packs.{put_there}
 use Rattle.spool_core.proofs.core_state.Core.abort.Goals as goal
 
 abbrev Answer : ℕ → Option Page → Result (Unit {0}) ReturnedTicket → Kept → Kept → (d : Detail) → Base → List (Event (What d)) → Type 0

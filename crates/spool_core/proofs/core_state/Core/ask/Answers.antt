@@ -1,4 +1,4 @@
-use Rattle.std.proofs.Common.{◌≡◌, ◌≢◌, ℕ, ◌+◌, ◌-◌, ◌<◌, ◌≤◌, List, [], ◌∷◌, length, refl, ap, subst, sym, ◌∙◌, arith}
+use Rattle.std.proofs.Common.{◌≡◌, ◌≢◌, ℕ, ◌-◌, ◌<◌, List, [], ◌∷◌, refl, ap, subst, sym, ◌∙◌, arith}
 use Rattle.std.specs.Prelude.{Result, Ok, Err, Bool, true, false, not, IsTrue}
 use Rattle.counts.specs.Amounts.{amount}
 use Rattle.claims.specs.Claims.{Claims, row_at}
@@ -20,13 +20,14 @@ use Rattle.spool_calls.specs.declared.answers.Asked.{Asked}
 use Rattle.spool_calls.specs.declared.answers.Asked.TheVariants.{Page as Page', Later}
 use Rattle.spool_calls.specs.Looks.{Detail, What}
 use Rattle.spool_calls.specs.Looks.Detail.{Outlines}
-use Rattle.spool_calls.specs.Kept.{Kept, Leaves}
+use Rattle.spool_calls.specs.Kept.{Kept}
 use Rattle.spool_calls.specs.Calls.{Asks, IsRight}
 use Rattle.core_steps.proofs.Leaving.{Found}
 use Rattle.core_steps.proofs.Asking.{ask_none, ask_not_open, ask_over, ask_none_free, ask_not_safe, ask_page, lent_core, row_needs}
 use Rattle.spool_core.specs.declared.core_state.Core.TheInside.{Inside}
 use Rattle.spool_core.specs.Inside.{core_view, IsCore}
 use Rattle.spool_core.proofs.Cores.{found, stays, still}
+use Rattle.spool_core.proofs.core_state.Core.ask.Goals.{After-get, After-safe_after_page}
 use Rattle.spool_core.proofs.core_state.Core.ask.Goals as goal
 
 abbrev Answer : ℕ → Result Asked Refusal → Kept → Kept → (d : Detail) → Base → List (Event (What d)) → Type 0
@@ -61,17 +62,23 @@ returns-then-limit_of-granted-clause-answer c =
     stays (core_view a) c.args.self.now (Same c.args.job (Err OverClaim)) c.self.view_is
     (λ d b h l. ask_over d b h (core_view a) l c.args.job c.in-Some.i f (c.if-not-may_ask.ensures.0 refl) (omega (arith, n0, n1, t)))
 
-pub returns-then-get-eq0-clause-answer : goal.returns-then-get-eq0-clause-answer
-returns-then-get-eq0-clause-answer c =
+-- the job holds fewer pages than its queue allows
+below : (c : After-get) → (job_at c.self.inside.book c.in-Some.i).facts.granted < limit_of c.self.inside.config (job_at c.self.inside.book c.in-Some.i).facts.queue
+below c =
     let a = c.self.inside in
-    let f = found a c.args.job c.in-Some.i c.in-Some.ensures.found in
     let n = limited c.job-found.result.now (job_at a.book c.in-Some.i).facts c.limit_of.result c.queue.result c.granted.result (limit_of a.config) c.job-found.ensures c.queue.ensures c.limit_of.ensures c.granted.ensures in
     let n0 = n.0 in
     let n1 = n.1 in
     let t = c.if-limit_of-granted.false in
+    omega (arith, n0, n1, t)
+
+pub returns-then-get-eq0-clause-answer : goal.returns-then-get-eq0-clause-answer
+returns-then-get-eq0-clause-answer c =
+    let a = c.self.inside in
+    let f = found a c.args.job c.in-Some.i c.in-Some.ensures.found in
     let none : amount a.table.free 0 ≡ 0 = ap (λ (l : List ℕ). amount l 0) (sym c.free.ensures.free) ∙ (sym c.get.ensures ∙ c.if-get-eq0.true) in
     stays (core_view a) c.args.self.now (Same c.args.job (Ok Later)) c.self.view_is
-    (λ d b h l. ask_none_free d b h (core_view a) l c.args.job c.in-Some.i f (c.if-not-may_ask.ensures.0 refl) (omega (arith, n0, n1, t)) none)
+    (λ d b h l. ask_none_free d b h (core_view a) l c.args.job c.in-Some.i f (c.if-not-may_ask.ensures.0 refl) (below (goal.at.returns-then-get-eq0-clause-answer c).After-get) none)
 
 needs : (a : Inside) (job i : ℕ) → IsCore a → Found (core_view a) job i → MayAsk (job_at a.book i) → (job_at a.book i).facts.granted < limit_of a.config (job_at a.book i).facts.queue → 0 < amount (row_at a.table.rows i).need 0
 needs a job i core f m lt =
@@ -82,37 +89,29 @@ pub safe_after_page-requires-clause-needed : goal.safe_after_page-requires-claus
 safe_after_page-requires-clause-needed c =
     let a = c.self.inside in
     let f = found a c.args.job c.in-Some.i c.in-Some.ensures.found in
-    let n = limited c.job-found.result.now (job_at a.book c.in-Some.i).facts c.limit_of.result c.queue.result c.granted.result (limit_of a.config) c.job-found.ensures c.queue.ensures c.limit_of.ensures c.granted.ensures in
-    let n0 = n.0 in
-    let n1 = n.1 in
-    let t = c.if-limit_of-granted.false in
-    needs a c.args.job c.in-Some.i c.self.invariant f (c.if-not-may_ask.ensures.0 refl) (omega (arith, n0, n1, t))
+    needs a c.args.job c.in-Some.i c.self.invariant f (c.if-not-may_ask.ensures.0 refl) (below (goal.at.safe_after_page-requires-clause-needed c).After-get)
 
 pub grant-requires-clause-needed : goal.grant-requires-clause-needed
 grant-requires-clause-needed c =
     let a = c.self.inside in
     let f = found a c.args.job c.in-Some.i c.in-Some.ensures.found in
-    let n = limited c.job-found.result.now (job_at a.book c.in-Some.i).facts c.limit_of.result c.queue.result c.granted.result (limit_of a.config) c.job-found.ensures c.queue.ensures c.limit_of.ensures c.granted.ensures in
-    let n0 = n.0 in
-    let n1 = n.1 in
-    let t = c.if-limit_of-granted.false in
-    needs a c.args.job c.in-Some.i c.self.invariant f (c.if-not-may_ask.ensures.0 refl) (omega (arith, n0, n1, t))
+    needs a c.args.job c.in-Some.i c.self.invariant f (c.if-not-may_ask.ensures.0 refl) (below (goal.at.grant-requires-clause-needed c).After-get)
 
 positive : (n m k : ℕ) → (n ≡ 0 → ⊥) → n ≡ m → m ≡ k → 0 < k
 positive n m k ne e f = (let g : n ≢ 0 = ne in omega arith)
+
+-- a page is free
+page_free : (c : After-safe_after_page) → 0 < amount c.self.inside.table.free 0
+page_free c =
+    let e : amount c.free.result.now 0 ≡ amount c.self.inside.table.free 0 = ap (λ (l : List ℕ). amount l 0) c.free.ensures.free in
+    positive c.get.result (amount c.free.result.now 0) (amount c.self.inside.table.free 0) c.if-get-eq0.false c.get.ensures e
 
 pub returns-then-not-safe_after_page-clause-answer : goal.returns-then-not-safe_after_page-clause-answer
 returns-then-not-safe_after_page-clause-answer c =
     let a = c.self.inside in
     let f = found a c.args.job c.in-Some.i c.in-Some.ensures.found in
-    let n = limited c.job-found.result.now (job_at a.book c.in-Some.i).facts c.limit_of.result c.queue.result c.granted.result (limit_of a.config) c.job-found.ensures c.queue.ensures c.limit_of.ensures c.granted.ensures in
-    let n0 = n.0 in
-    let n1 = n.1 in
-    let t = c.if-limit_of-granted.false in
-    let e : amount c.free.result.now 0 ≡ amount a.table.free 0 = ap (λ (l : List ℕ). amount l 0) c.free.ensures.free in
-    let free : 0 < amount a.table.free 0 = positive c.get.result (amount c.free.result.now 0) (amount a.table.free 0) c.if-get-eq0.false c.get.ensures e in
     subst (λ (k : Kept). IsRight k (Answer c.args.job (Ok Later) (core_view a) k)) c.self.view_is
-    (λ d b h l. ask_not_safe d b h (core_view a) l c.args.job c.in-Some.i f (c.if-not-may_ask.ensures.0 refl) (omega (arith, n0, n1, t)) free (λ q. absurd (cc (c.safe_after_page.ensures.exact.1 q))))
+    (λ d b h l. ask_not_safe d b h (core_view a) l c.args.job c.in-Some.i f (c.if-not-may_ask.ensures.0 refl) (below (goal.at.returns-then-not-safe_after_page-clause-answer c).After-get) (page_free (goal.at.returns-then-not-safe_after_page-clause-answer c).After-safe_after_page) (λ q. absurd (cc (c.safe_after_page.ensures.exact.1 q))))
 
 -- all that a granted page leaves
 lent : (a : Inside) (pool : Pages) (t : Claims) (book : Books) (scratch : Room) (job i : ℕ) (ticket : Page) → IsCore a → Found (core_view a) job i → MayAsk (job_at a.book i) → (job_at a.book i).facts.granted < limit_of a.config (job_at a.book i).facts.queue
@@ -139,28 +138,16 @@ pub invariant_of-self-2 : goal.invariant_of-self-2
 invariant_of-self-2 c =
     let a = c.self.inside in
     let f = found a c.args.job c.in-Some.i c.in-Some.ensures.found in
-    let n = limited c.job-found.result.now (job_at a.book c.in-Some.i).facts c.limit_of.result c.queue.result c.granted.result (limit_of a.config) c.job-found.ensures c.queue.ensures c.limit_of.ensures c.granted.ensures in
-    let n0 = n.0 in
-    let n1 = n.1 in
-    let t = c.if-limit_of-granted.false in
-    let e : amount c.free.result.now 0 ≡ amount a.table.free 0 = ap (λ (l : List ℕ). amount l 0) c.free.ensures.free in
-    let free : 0 < amount a.table.free 0 = positive c.get.result (amount c.free.result.now 0) (amount a.table.free 0) c.if-get-eq0.false c.get.ensures e in
-    let r = lent a c.take.new.self c.grant.new.self c.lend.new.self c.safe_after_page.new.scratch c.args.job c.in-Some.i c.in-Some-take.ticket c.self.invariant f (c.if-not-may_ask.ensures.0 refl) (omega (arith, n0, n1, t))
-    free (c.safe_after_page.ensures.exact.0 (safe_if c.safe_after_page.result.safe c.if-not-safe_after_page.false)) c.grant.ensures c.lend.ensures c.safe_after_page.ensures.room c.in-Some-take.ensures.left.1 c.in-Some-take.ensures.page in
+    let r = lent a c.take.new.self c.grant.new.self c.lend.new.self c.safe_after_page.new.scratch c.args.job c.in-Some.i c.in-Some-take.ticket c.self.invariant f (c.if-not-may_ask.ensures.0 refl) (below (goal.at.invariant_of-self-2 c).After-get)
+    (page_free (goal.at.invariant_of-self-2 c).After-safe_after_page) (c.safe_after_page.ensures.exact.0 (safe_if c.safe_after_page.result.safe c.if-not-safe_after_page.false)) c.grant.ensures c.lend.ensures c.safe_after_page.ensures.room c.in-Some-take.ensures.left.1 c.in-Some-take.ensures.page in
     r.0
 
 pub returns-clause-answer : goal.returns-clause-answer
 returns-clause-answer c =
     let a = c.self.inside in
     let f = found a c.args.job c.in-Some.i c.in-Some.ensures.found in
-    let n = limited c.job-found.result.now (job_at a.book c.in-Some.i).facts c.limit_of.result c.queue.result c.granted.result (limit_of a.config) c.job-found.ensures c.queue.ensures c.limit_of.ensures c.granted.ensures in
-    let n0 = n.0 in
-    let n1 = n.1 in
-    let t = c.if-limit_of-granted.false in
-    let e : amount c.free.result.now 0 ≡ amount a.table.free 0 = ap (λ (l : List ℕ). amount l 0) c.free.ensures.free in
-    let free : 0 < amount a.table.free 0 = positive c.get.result (amount c.free.result.now 0) (amount a.table.free 0) c.if-get-eq0.false c.get.ensures e in
-    let r = lent a c.take.new.self c.grant.new.self c.lend.new.self c.safe_after_page.new.scratch c.args.job c.in-Some.i c.in-Some-take.ticket c.self.invariant f (c.if-not-may_ask.ensures.0 refl) (omega (arith, n0, n1, t))
-    free (c.safe_after_page.ensures.exact.0 (safe_if c.safe_after_page.result.safe c.if-not-safe_after_page.false)) c.grant.ensures c.lend.ensures c.safe_after_page.ensures.room c.in-Some-take.ensures.left.1 c.in-Some-take.ensures.page in
+    let r = lent a c.take.new.self c.grant.new.self c.lend.new.self c.safe_after_page.new.scratch c.args.job c.in-Some.i c.in-Some-take.ticket c.self.invariant f (c.if-not-may_ask.ensures.0 refl) (below (goal.at.returns-clause-answer c).After-get)
+    (page_free (goal.at.returns-clause-answer c).After-safe_after_page) (c.safe_after_page.ensures.exact.0 (safe_if c.safe_after_page.result.safe c.if-not-safe_after_page.false)) c.grant.ensures c.lend.ensures c.safe_after_page.ensures.room c.in-Some-take.ensures.left.1 c.in-Some-take.ensures.page in
     subst (λ (k : Kept). IsRight k (Answer c.args.job (Ok (Page' c.in-Some-take.ticket)) (core_view (record { alloc = a.alloc; config = a.config; pool = c.take.new.self; book = c.lend.new.self; table = c.grant.new.self; scratch = c.safe_after_page.new.scratch; accepted = a.accepted; reserved = a.reserved; printers = a.printers; closed = a.closed })) k)) c.self.view_is r.1
 
 blank : (a : Inside) (now : Kept) (ticket : Page) → IsCore a → core_view a ≡ now → ticket ≡ record { octets = []; page_size = a.pool.page_size } → (ticket.octets ≡ []) × (ticket.page_size ≡ now.config.page_size)

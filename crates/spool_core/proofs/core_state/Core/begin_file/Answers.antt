@@ -1,9 +1,6 @@
-use Rattle.std.proofs.Common.{◌≡◌, ◌≢◌, ℕ, zero, suc, ◌+◌, ◌-◌, ◌*◌, ◌<◌, ◌≤◌, List, [], ◌∷◌, ◌++◌, length, get_or, set, refl, ap, subst, sym, ◌∙◌, arith}
-use Rattle.std.specs.Prelude.{Result, Ok, Err, Option, Some, None, Bool, true, false, not, IsTrue, remove}
-use Rattle.counts.specs.Amounts.{amount}
-use Rattle.claims.specs.Claims.{Claims, row_at}
-use Rattle.page_pool.specs.Page.{Page, Pages}
-use Rattle.held_jobs.specs.Jobs.{Facts, HeldJob}
+use Rattle.std.proofs.Common.{◌≡◌, ℕ, ◌+◌, ◌<◌, ◌≤◌, List, ◌∷◌, refl, ap, subst, sym, ◌∙◌, arith}
+use Rattle.std.specs.Prelude.{Result, Ok, Err, false}
+use Rattle.held_jobs.specs.Jobs.{Facts}
 use Rattle.held_jobs.specs.Books.{Books, job_at, with_job}
 use Rattle.spool_history.specs.Base.{Base}
 use Rattle.spool_history.specs.Events.{Event}
@@ -11,7 +8,7 @@ use Rattle.spool_history.specs.Events.Event.{OfJob}
 use Rattle.lpd_values.specs.declared.refusal.Refusal.{Refusal}
 use Rattle.spool_calls.specs.Looks.{Detail, What}
 use Rattle.spool_calls.specs.Looks.Detail.{Outlines}
-use Rattle.spool_calls.specs.Kept.{Kept, Leaves}
+use Rattle.spool_calls.specs.Kept.{Kept}
 use Rattle.spool_calls.specs.Calls.{IsRight}
 use Rattle.core_steps.proofs.Leaving.{Found}
 use Rattle.spool_core.specs.declared.core_state.Core.TheInside.{Inside}

@@ -21,4 +21,4 @@ returns-in-Ok c =
     let agent = c.args.agent.now in
     let list = c.args.list.now in
     stays (core_view a) c.args.self.now (Answer name agent list (Ok c.in-Ok.numbers)) c.self.view_is
-    (λ d b h l. choose_numbers d b h (core_view a) l name agent list c.in-Some.q c.in-Ok.numbers c.if-self.false c.in-Some.ensures.found c.in-Ok.ensures)
+    (λ d b h l. choose_numbers d b h (core_view a) l name agent list c.in-Some.q c.in-Ok.numbers c.if-self.false c.in-Some.ensures.named c.in-Some.ensures.found.0 c.in-Ok.ensures)

@@ -1,33 +1,30 @@
-use Rattle.std.proofs.Common.{◌≡◌, ◌≢◌, ℕ, zero, suc, ◌+◌, ◌-◌, ◌*◌, ◌<◌, ◌≤◌, List, [], ◌∷◌, ◌++◌, length, get_or, set, refl, ap, subst, sym, ◌∙◌, arith}
-use Rattle.std.specs.Prelude.{Result, Ok, Err, Option, Some, None, Bool, true, false, not, IsTrue, remove}
+use Rattle.std.proofs.Common.{◌≡◌, ℕ, ◌+◌, ◌<◌, ◌≤◌, List, length, refl, ap, subst, sym, ◌∙◌}
+use Rattle.std.specs.Prelude.{Result, Ok, Err, Bool, true, false}
 use Rattle.counts.specs.Amounts.{amount}
 use Rattle.claims.specs.Claims.{Claims, row_at}
-use Rattle.page_pool.specs.Page.{Page, Pages}
+use Rattle.page_pool.specs.Page.{Pages}
 use Rattle.held_jobs.specs.Jobs.{Facts, HeldJob}
 use Rattle.held_jobs.specs.Books.{Books, job_at, with_job}
 use Rattle.spool_history.specs.Base.{Base}
 use Rattle.spool_history.specs.Events.{Event}
-use Rattle.spool_history.specs.Events.Event.{OfJob}
 use Rattle.lpd_values.specs.declared.refusal.Refusal.{Refusal}
 use Rattle.spool_calls.specs.Looks.{Detail, What}
 use Rattle.spool_calls.specs.Looks.Detail.{Outlines}
-use Rattle.spool_calls.specs.Kept.{Kept, Leaves}
+use Rattle.spool_calls.specs.Kept.{Kept}
 use Rattle.spool_calls.specs.Calls.{IsRight}
 use Rattle.core_steps.proofs.Leaving.{Found}
 use Rattle.spool_core.specs.declared.core_state.Core.TheInside.{Inside}
 use Rattle.spool_core.specs.Inside.{core_view, IsCore}
 use Rattle.spool_core.proofs.Cores.{found, stays, still}
-use Rattle.spool_history.specs.Events.Act.{FileEnded}
-use Rattle.page_chain.specs.Changes.{unnamed_pages}
 use Rattle.held_jobs.specs.Jobs.{has_prints}
-use Rattle.held_jobs.specs.Moves.{CanEnd, closed_file, received_job}
-use Rattle.held_jobs.specs.Books.{IsIdle, prints_of}
+use Rattle.held_jobs.specs.Moves.{CanEnd, closed_file}
+use Rattle.held_jobs.specs.Books.{IsIdle}
 use Rattle.claims.specs.Changes.{given_back, need_ended}
 use Rattle.lpd_values.specs.declared.refusal.Refusal.TheVariants.{NotOpen}
 use Rattle.spool_calls.specs.declared.answers.Receipt.{Receipt}
 use Rattle.spool_calls.specs.declared.answers.Receipt.TheVariants.{Stored, Received}
 use Rattle.spool_calls.specs.Calls.{Ends}
-use Rattle.core_steps.proofs.Receiving.{Counted, end_control, end_counted, end_idle, end_none, end_received, end_refused, end_stored, pool_room, received_core}
+use Rattle.core_steps.proofs.Receiving.{end_counted, end_idle, end_none, end_received, end_refused, end_stored, pool_room}
 use Rattle.spool_core.proofs.Packs.{put_there, received_pack, unprinted, with_received}
 use Rattle.spool_core.proofs.core_state.Core.end_file.Goals as goal
 

@@ -1,4 +1,4 @@
-use Rattle.std.proofs.Common.{◌≡◌, ℕ, ◌+◌, ◌-◌, ◌<◌, List, ◌∷◌, Bool, true, false, length, refl, ap, subst, sym, ◌∙◌, arith}
+use Rattle.std.proofs.Common.{◌≡◌, ℕ, ◌+◌, ◌-◌, ◌<◌, ◌^◌, List, ◌∷◌, Bool, true, false, length, refl, ap, subst, sym, ◌∙◌, arith}
 use Rattle.std.specs.Prelude.{Result, Ok, Err, remove}
 use Rattle.account.specs.declared.entry.Progress.{Progress}
 use Rattle.account.specs.declared.entry.Progress.TheVariants.{Going}
@@ -26,6 +26,7 @@ use Rattle.spool_core.specs.declared.core_state.Core.TheInside.{Inside}
 use Rattle.spool_core.specs.Inside.{core_view, IsCore}
 use Rattle.spool_core.proofs.Cores.{printer_of, printer_within, stays, still}
 use Rattle.spool_core.proofs.Outs.{Seen, at_is, left, out_is, room, seen_again, seen_of, view_left}
+use Rattle.spool_core.proofs.core_state.Core.printed.Goals.{After-index_mut}
 use Rattle.spool_core.proofs.core_state.Core.printed.Goals as goal
 
 abbrev Answer : ℕ → HandedPage → Result Progress Foreign → Kept → Kept → (d : Detail) → Base → List (Event (What d)) → Type 0
@@ -111,131 +112,77 @@ last a p i at page said comes pool book t core s es eg ec e ep eb et =
     let got = ans Outlines r.0 r.1 r.2 in
     (still a (left a p pool book t (idle_printer at)) core refl refl refl (r.0, AtPrinter p got.0 (Printed (progress_seen said)) ∷ r.1, got.3 got.1.3), ans)
 
-few : (a : Inside) (p i : ℕ) (at : Printer) (page : HandedPage) → IsCore a → Seen a p i at page → (job_at a.book i).facts.back + 1 < 18446744073709551616
+few : (a : Inside) (p i : ℕ) (at : Printer) (page : HandedPage) → IsCore a → Seen a p i at page → (job_at a.book i).facts.back + 1 < 2 ^ 64
 few a p i at page core s =
     let r = core.reached in
     back_few Outlines r.0 r.1 (core_view a) r.2 p s.printer at s.at-is page s.out i s.found core.ranges
 
-pub let_go-requires-clause-room : goal.let_go-requires-clause-room
-let_go-requires-clause-room c =
+-- what is known once the printer is idle: the page was out at it, and its job stands at the place that was found
+seen : (c : After-index_mut) → Seen c.self.inside c.args.printer c.in-Some.i c.index_mut.result.now c.args.page
+seen c =
     let a = c.self.inside in
     let p = c.args.printer in
-    let at = c.index_mut.result.now in
     let first = seen_of a c.args.self.now p c.in-Some.i c.index.result.now c.args.page c.page_size.result c.self.view_is c.requires c.index.ensures c.page_size.ensures.value (c.if-not-is_out.ensures.0 refl) c.in-Some.ensures.found in
-    let s = seen_again a p c.in-Some.i c.index.result.now at c.args.page c.self.invariant first c.index_mut.ensures.value in
-    room a p c.in-Some.i at c.args.page c.self.invariant s
+    seen_again a p c.in-Some.i c.index.result.now c.index_mut.result.now c.args.page c.self.invariant first c.index_mut.ensures.value
+
+pub let_go-requires-clause-room : goal.let_go-requires-clause-room
+let_go-requires-clause-room c =
+    room c.self.inside c.args.printer c.in-Some.i c.index_mut.result.now c.args.page c.self.invariant (seen (goal.at.let_go-requires-clause-room c).After-index_mut)
 
 pub come_again-requires-clause-few : goal.come_again-requires-clause-few
 come_again-requires-clause-few c =
-    let a = c.self.inside in
-    let p = c.args.printer in
-    let at = c.index_mut.result.now in
-    let first = seen_of a c.args.self.now p c.in-Some.i c.index.result.now c.args.page c.page_size.result c.self.view_is c.requires c.index.ensures c.page_size.ensures.value (c.if-not-is_out.ensures.0 refl) c.in-Some.ensures.found in
-    let s = seen_again a p c.in-Some.i c.index.result.now at c.args.page c.self.invariant first c.index_mut.ensures.value in
-    few a p c.in-Some.i at c.args.page c.self.invariant s
+    few c.self.inside c.args.printer c.in-Some.i c.index_mut.result.now c.args.page c.self.invariant (seen (goal.at.come_again-requires-clause-few c).After-index_mut)
 
 pub come_again-requires-clause-awaited : goal.come_again-requires-clause-awaited
 come_again-requires-clause-awaited c =
-    let a = c.self.inside in
-    let p = c.args.printer in
-    let at = c.index_mut.result.now in
-    let first = seen_of a c.args.self.now p c.in-Some.i c.index.result.now c.args.page c.page_size.result c.self.view_is c.requires c.index.ensures c.page_size.ensures.value (c.if-not-is_out.ensures.0 refl) c.in-Some.ensures.found in
-    let s = seen_again a p c.in-Some.i c.index.result.now at c.args.page c.self.invariant first c.index_mut.ensures.value in
+    let s = seen (goal.at.come_again-requires-clause-awaited c).After-index_mut in
     let r = c.self.invariant.reached in
-    back_awaited Outlines r.0 r.1 (core_view a) r.2 p s.printer at s.at-is c.args.page s.out c.in-Some.i s.found (sym c.progress-said.ensures ∙ c.if-not-goes_on.ensures.0 refl) (sym c.comes_again.ensures ∙ c.if-comes_again.true)
+    back_awaited Outlines r.0 r.1 (core_view c.self.inside) r.2 c.args.printer s.printer c.index_mut.result.now s.at-is c.args.page s.out c.in-Some.i s.found (sym c.progress-said.ensures ∙ c.if-not-goes_on.ensures.0 refl) (sym c.comes_again.ensures ∙ c.if-comes_again.true)
 
 pub come_again-requires-clause-room : goal.come_again-requires-clause-room
 come_again-requires-clause-room c =
-    let a = c.self.inside in
-    let p = c.args.printer in
-    let at = c.index_mut.result.now in
-    let first = seen_of a c.args.self.now p c.in-Some.i c.index.result.now c.args.page c.page_size.result c.self.view_is c.requires c.index.ensures c.page_size.ensures.value (c.if-not-is_out.ensures.0 refl) c.in-Some.ensures.found in
-    let s = seen_again a p c.in-Some.i c.index.result.now at c.args.page c.self.invariant first c.index_mut.ensures.value in
+    let s = seen (goal.at.come_again-requires-clause-room c).After-index_mut in
     let r = c.self.invariant.reached in
-    room_stored Outlines r.0 r.1 (core_view a) r.2 p s.printer at s.at-is c.args.page s.out c.in-Some.i s.found
+    room_stored Outlines r.0 r.1 (core_view c.self.inside) r.2 c.args.printer s.printer c.index_mut.result.now s.at-is c.args.page s.out c.in-Some.i s.found
 
 pub put_back-requires-clause-room : goal.put_back-requires-clause-room
 put_back-requires-clause-room c =
-    let a = c.self.inside in
-    let p = c.args.printer in
-    let at = c.index_mut.result.now in
-    let first = seen_of a c.args.self.now p c.in-Some.i c.index.result.now c.args.page c.page_size.result c.self.view_is c.requires c.index.ensures c.page_size.ensures.value (c.if-not-is_out.ensures.0 refl) c.in-Some.ensures.found in
-    let s = seen_again a p c.in-Some.i c.index.result.now at c.args.page c.self.invariant first c.index_mut.ensures.value in
-    let n = room a p c.in-Some.i at c.args.page c.self.invariant s in
+    let n = room c.self.inside c.args.printer c.in-Some.i c.index_mut.result.now c.args.page c.self.invariant (seen (goal.at.put_back-requires-clause-room c).After-index_mut) in
     omega (arith, n)
 
 pub give_back-requires-clause-held : goal.give_back-requires-clause-held
 give_back-requires-clause-held c =
-    let a = c.self.inside in
-    let p = c.args.printer in
-    let at = c.index_mut.result.now in
-    let first = seen_of a c.args.self.now p c.in-Some.i c.index.result.now c.args.page c.page_size.result c.self.view_is c.requires c.index.ensures c.page_size.ensures.value (c.if-not-is_out.ensures.0 refl) c.in-Some.ensures.found in
-    let s = seen_again a p c.in-Some.i c.index.result.now at c.args.page c.self.invariant first c.index_mut.ensures.value in
+    let s = seen (goal.at.give_back-requires-clause-held c).After-index_mut in
     let r = c.self.invariant.reached in
-    back_held Outlines r.0 r.1 (core_view a) r.2 p s.printer at s.at-is c.args.page s.out c.in-Some.i s.found (sym c.progress-said.ensures ∙ c.if-not-goes_on.ensures.0 refl)
+    back_held Outlines r.0 r.1 (core_view c.self.inside) r.2 c.args.printer s.printer c.index_mut.result.now s.at-is c.args.page s.out c.in-Some.i s.found (sym c.progress-said.ensures ∙ c.if-not-goes_on.ensures.0 refl)
 
 pub come_back-requires-clause-few : goal.come_back-requires-clause-few
 come_back-requires-clause-few c =
-    let a = c.self.inside in
-    let p = c.args.printer in
-    let at = c.index_mut.result.now in
-    let first = seen_of a c.args.self.now p c.in-Some.i c.index.result.now c.args.page c.page_size.result c.self.view_is c.requires c.index.ensures c.page_size.ensures.value (c.if-not-is_out.ensures.0 refl) c.in-Some.ensures.found in
-    let s = seen_again a p c.in-Some.i c.index.result.now at c.args.page c.self.invariant first c.index_mut.ensures.value in
-    few a p c.in-Some.i at c.args.page c.self.invariant s
+    few c.self.inside c.args.printer c.in-Some.i c.index_mut.result.now c.args.page c.self.invariant (seen (goal.at.come_back-requires-clause-few c).After-index_mut)
 
 pub invariant_of-self : goal.invariant_of-self
 invariant_of-self c =
-    let a = c.self.inside in
-    let p = c.args.printer in
-    let at = c.index_mut.result.now in
-    let first = seen_of a c.args.self.now p c.in-Some.i c.index.result.now c.args.page c.page_size.result c.self.view_is c.requires c.index.ensures c.page_size.ensures.value (c.if-not-is_out.ensures.0 refl) c.in-Some.ensures.found in
-    let s = seen_again a p c.in-Some.i c.index.result.now at c.args.page c.self.invariant first c.index_mut.ensures.value in
-    (gone a p c.in-Some.i at c.args.page c.progress-said.result c.let_go.new.pool c.let_go.new.book c.let_go.new.table c.self.invariant s c.progress-said.ensures (λ q. absurd (cc (c.if-not-goes_on.ensures.1 q))) c.let_go.ensures.pool c.let_go.ensures.book c.let_go.ensures.table).0
+    (gone c.self.inside c.args.printer c.in-Some.i c.index_mut.result.now c.args.page c.progress-said.result c.let_go.new.pool c.let_go.new.book c.let_go.new.table c.self.invariant (seen (goal.at.invariant_of-self c).After-index_mut) c.progress-said.ensures (λ q. absurd (cc (c.if-not-goes_on.ensures.1 q))) c.let_go.ensures.pool c.let_go.ensures.book c.let_go.ensures.table).0
 
 pub returns-then-not-goes_on-clause-answer : goal.returns-then-not-goes_on-clause-answer
 returns-then-not-goes_on-clause-answer c =
-    let a = c.self.inside in
-    let p = c.args.printer in
-    let at = c.index_mut.result.now in
-    let first = seen_of a c.args.self.now p c.in-Some.i c.index.result.now c.args.page c.page_size.result c.self.view_is c.requires c.index.ensures c.page_size.ensures.value (c.if-not-is_out.ensures.0 refl) c.in-Some.ensures.found in
-    let s = seen_again a p c.in-Some.i c.index.result.now at c.args.page c.self.invariant first c.index_mut.ensures.value in
-    let d = gone a p c.in-Some.i at c.args.page c.progress-said.result c.let_go.new.pool c.let_go.new.book c.let_go.new.table c.self.invariant s c.progress-said.ensures (λ q. absurd (cc (c.if-not-goes_on.ensures.1 q))) c.let_go.ensures.pool c.let_go.ensures.book c.let_go.ensures.table in
-    subst (λ (k : Kept). IsRight k (Answer p c.args.page (Ok c.progress-said.result) (core_view (left a p c.let_go.new.pool c.let_go.new.book c.let_go.new.table (idle_printer at))) k)) c.self.view_is d.1
+    let d = gone c.self.inside c.args.printer c.in-Some.i c.index_mut.result.now c.args.page c.progress-said.result c.let_go.new.pool c.let_go.new.book c.let_go.new.table c.self.invariant (seen (goal.at.returns-then-not-goes_on-clause-answer c).After-index_mut) c.progress-said.ensures (λ q. absurd (cc (c.if-not-goes_on.ensures.1 q))) c.let_go.ensures.pool c.let_go.ensures.book c.let_go.ensures.table in
+    subst (λ (k : Kept). IsRight k (Answer c.args.printer c.args.page (Ok c.progress-said.result) (core_view (left c.self.inside c.args.printer c.let_go.new.pool c.let_go.new.book c.let_go.new.table (idle_printer c.index_mut.result.now))) k)) c.self.view_is d.1
 
 pub invariant_of-self-then-comes_again : goal.invariant_of-self-then-comes_again
 invariant_of-self-then-comes_again c =
-    let a = c.self.inside in
-    let p = c.args.printer in
-    let at = c.index_mut.result.now in
-    let first = seen_of a c.args.self.now p c.in-Some.i c.index.result.now c.args.page c.page_size.result c.self.view_is c.requires c.index.ensures c.page_size.ensures.value (c.if-not-is_out.ensures.0 refl) c.in-Some.ensures.found in
-    let s = seen_again a p c.in-Some.i c.index.result.now at c.args.page c.self.invariant first c.index_mut.ensures.value in
-    (again a p c.in-Some.i at c.args.page c.progress-said.result c.into_page.result c.comes_again.result c.come_again.new.self c.self.invariant s c.progress-said.ensures (c.if-not-goes_on.ensures.0 refl) c.comes_again.ensures c.if-comes_again.true c.into_page.ensures c.come_again.ensures).0
+    (again c.self.inside c.args.printer c.in-Some.i c.index_mut.result.now c.args.page c.progress-said.result c.into_page.result c.comes_again.result c.come_again.new.self c.self.invariant (seen (goal.at.invariant_of-self-then-comes_again c).After-index_mut) c.progress-said.ensures (c.if-not-goes_on.ensures.0 refl) c.comes_again.ensures c.if-comes_again.true c.into_page.ensures c.come_again.ensures).0
 
 pub returns-then-comes_again-clause-answer : goal.returns-then-comes_again-clause-answer
 returns-then-comes_again-clause-answer c =
-    let a = c.self.inside in
-    let p = c.args.printer in
-    let at = c.index_mut.result.now in
-    let first = seen_of a c.args.self.now p c.in-Some.i c.index.result.now c.args.page c.page_size.result c.self.view_is c.requires c.index.ensures c.page_size.ensures.value (c.if-not-is_out.ensures.0 refl) c.in-Some.ensures.found in
-    let s = seen_again a p c.in-Some.i c.index.result.now at c.args.page c.self.invariant first c.index_mut.ensures.value in
-    let d = again a p c.in-Some.i at c.args.page c.progress-said.result c.into_page.result c.comes_again.result c.come_again.new.self c.self.invariant s c.progress-said.ensures (c.if-not-goes_on.ensures.0 refl) c.comes_again.ensures c.if-comes_again.true c.into_page.ensures c.come_again.ensures in
-    subst (λ (k : Kept). IsRight k (Answer p c.args.page (Ok c.progress-said.result) (core_view (left a p a.pool c.come_again.new.self a.table (idle_printer at))) k)) c.self.view_is d.1
+    let d = again c.self.inside c.args.printer c.in-Some.i c.index_mut.result.now c.args.page c.progress-said.result c.into_page.result c.comes_again.result c.come_again.new.self c.self.invariant (seen (goal.at.returns-then-comes_again-clause-answer c).After-index_mut) c.progress-said.ensures (c.if-not-goes_on.ensures.0 refl) c.comes_again.ensures c.if-comes_again.true c.into_page.ensures c.come_again.ensures in
+    subst (λ (k : Kept). IsRight k (Answer c.args.printer c.args.page (Ok c.progress-said.result) (core_view (left c.self.inside c.args.printer c.self.inside.pool c.come_again.new.self c.self.inside.table (idle_printer c.index_mut.result.now))) k)) c.self.view_is d.1
 
 pub invariant_of-self-2 : goal.invariant_of-self-2
 invariant_of-self-2 c =
-    let a = c.self.inside in
-    let p = c.args.printer in
-    let at = c.index_mut.result.now in
-    let first = seen_of a c.args.self.now p c.in-Some.i c.index.result.now c.args.page c.page_size.result c.self.view_is c.requires c.index.ensures c.page_size.ensures.value (c.if-not-is_out.ensures.0 refl) c.in-Some.ensures.found in
-    let s = seen_again a p c.in-Some.i c.index.result.now at c.args.page c.self.invariant first c.index_mut.ensures.value in
-    (last a p c.in-Some.i at c.args.page c.progress-said.result c.comes_again.result c.put_back.new.self c.come_back.new.self c.give_back.new.self c.self.invariant s c.progress-said.ensures (c.if-not-goes_on.ensures.0 refl) c.comes_again.ensures c.if-comes_again.false c.put_back.ensures c.come_back.ensures c.give_back.ensures).0
+    (last c.self.inside c.args.printer c.in-Some.i c.index_mut.result.now c.args.page c.progress-said.result c.comes_again.result c.put_back.new.self c.come_back.new.self c.give_back.new.self c.self.invariant (seen (goal.at.invariant_of-self-2 c).After-index_mut) c.progress-said.ensures (c.if-not-goes_on.ensures.0 refl) c.comes_again.ensures c.if-comes_again.false c.put_back.ensures c.come_back.ensures c.give_back.ensures).0
 
 pub returns-clause-answer : goal.returns-clause-answer
 returns-clause-answer c =
-    let a = c.self.inside in
-    let p = c.args.printer in
-    let at = c.index_mut.result.now in
-    let first = seen_of a c.args.self.now p c.in-Some.i c.index.result.now c.args.page c.page_size.result c.self.view_is c.requires c.index.ensures c.page_size.ensures.value (c.if-not-is_out.ensures.0 refl) c.in-Some.ensures.found in
-    let s = seen_again a p c.in-Some.i c.index.result.now at c.args.page c.self.invariant first c.index_mut.ensures.value in
-    let d = last a p c.in-Some.i at c.args.page c.progress-said.result c.comes_again.result c.put_back.new.self c.come_back.new.self c.give_back.new.self c.self.invariant s c.progress-said.ensures (c.if-not-goes_on.ensures.0 refl) c.comes_again.ensures c.if-comes_again.false c.put_back.ensures c.come_back.ensures c.give_back.ensures in
-    subst (λ (k : Kept). IsRight k (Answer p c.args.page (Ok c.progress-said.result) (core_view (left a p c.put_back.new.self c.come_back.new.self c.give_back.new.self (idle_printer at))) k)) c.self.view_is d.1
+    let d = last c.self.inside c.args.printer c.in-Some.i c.index_mut.result.now c.args.page c.progress-said.result c.comes_again.result c.put_back.new.self c.come_back.new.self c.give_back.new.self c.self.invariant (seen (goal.at.returns-clause-answer c).After-index_mut) c.progress-said.ensures (c.if-not-goes_on.ensures.0 refl) c.comes_again.ensures c.if-comes_again.false c.put_back.ensures c.come_back.ensures c.give_back.ensures in
+    subst (λ (k : Kept). IsRight k (Answer c.args.printer c.args.page (Ok c.progress-said.result) (core_view (left c.self.inside c.args.printer c.put_back.new.self c.come_back.new.self c.give_back.new.self (idle_printer c.index_mut.result.now))) k)) c.self.view_is d.1

@@ -1,23 +1,18 @@
-use Rattle.std.proofs.Common.{◌≡◌, ◌≢◌, ℕ, zero, suc, ◌+◌, ◌-◌, ◌*◌, ◌<◌, ◌≤◌, List, [], ◌∷◌, ◌++◌, length, get_or, set, refl, ap, subst, sym, ◌∙◌, arith}
-use Rattle.std.specs.Prelude.{Result, Ok, Err, Option, Some, None, Bool, true, false, not, IsTrue, remove}
-use Rattle.counts.specs.Amounts.{amount}
-use Rattle.claims.specs.Claims.{Claims, row_at}
-use Rattle.page_pool.specs.Page.{Page, Pages}
+use Rattle.std.proofs.Common.{◌≡◌, ℕ, ◌+◌, ◌<◌, ◌^◌, List, length, refl, subst, sym, ◌∙◌, arith}
+use Rattle.std.specs.Prelude.{Result, Ok, Err}
+use Rattle.page_pool.specs.Page.{Page}
 use Rattle.held_jobs.specs.Jobs.{Facts, HeldJob}
 use Rattle.held_jobs.specs.Books.{Books, job_at, with_job}
 use Rattle.spool_history.specs.Base.{Base}
 use Rattle.spool_history.specs.Events.{Event}
-use Rattle.spool_history.specs.Events.Event.{OfJob}
-use Rattle.lpd_values.specs.declared.refusal.Refusal.{Refusal}
 use Rattle.spool_calls.specs.Looks.{Detail, What}
 use Rattle.spool_calls.specs.Looks.Detail.{Outlines}
-use Rattle.spool_calls.specs.Kept.{Kept, Leaves}
+use Rattle.spool_calls.specs.Kept.{Kept}
 use Rattle.spool_calls.specs.Calls.{IsRight}
 use Rattle.core_steps.proofs.Leaving.{Found}
 use Rattle.spool_core.specs.declared.core_state.Core.TheInside.{Inside}
 use Rattle.spool_core.specs.Inside.{core_view, IsCore}
 use Rattle.spool_core.proofs.Cores.{found, stays, still}
-use Rattle.spool_history.specs.Events.Act.{Put}
 use Rattle.held_jobs.specs.Moves.{Awaits, put_job}
 use Rattle.spool_calls.specs.declared.answers.ReturnedPage.{ReturnedPage}
 use Rattle.spool_calls.specs.Calls.{Puts}
@@ -60,7 +55,7 @@ returns-then-not-awaits-clause-answer c =
     (λ q. absurd (cc (c.if-not-awaits.ensures.1 (unawaited a c.in-Some.i c.len.result c.from.result c.page_size-page_size.result c.args.page c.len.ensures.len c.from.ensures c.page_size-page_size.ensures.value q)))) refl)
 
 can : (a : Inside) (job i len big size : ℕ) (page : Page) → IsCore a → Found (core_view a) job i → len ≡ length page.octets → big ≡ size → size ≡ a.config.page_size → Awaits (job_at a.book i) len big
-    → (a.book.stored < a.book.pages) × ((Rattle.held_jobs.specs.Jobs.last_size (job_at a.book i).facts.files).pages + 1 < 18446744073709551616)
+    → (a.book.stored < a.book.pages) × ((Rattle.held_jobs.specs.Jobs.last_size (job_at a.book i).facts.files).pages + 1 < 2 ^ 64)
 can a job i len big size page core f el eb es w =
     let r = core.reached in
     let n = can_put Outlines r.0 r.1 (core_view a) r.2 job i f page core.ranges (awaited a i len big size page el eb es w) in

@@ -14,7 +14,7 @@ use Rattle.spool_trace.specs.Trace.{Trace}
 use Rattle.spool_trace.specs.Sessions.{session_at, sessions, turns}
 use Rattle.spool_world.specs.declared.connection.Connection.{Connection}
 use Rattle.spool_world.specs.Turns.{Does}
-use Rattle.spool_world.proofs.Answers.{asked_request}
+use Rattle.request_calls.proofs.Requested.{asked_request}
 use Rattle.spool_world.proofs.Doing.{ack_not, acknowledges, asking, asks_right, ended_not, ends_all, given, job_same, more_not, refuses, waits}
 use Rattle.spool_world.proofs.connection.Connection.turn.Goals as goal
 use Rattle.spool_world.proofs.connection.Connection.turn.Goals.{in-More, in-Ack, in-Fault, in-Ended, in_default-need}

@@ -20,11 +20,11 @@ use Rattle.spool_world.proofs.world.World.next.Goals.{in-Handed, in-Nothing, in-
 pub shown-shown-requires-clause-room : goal.shown-shown-requires-clause-room
 shown-shown-requires-clause-room c =
     let core = c.self.inside.core in
-    let r = c.held-held.ensures.reached in
+    let r = c.has_next.ensures.reached in
     let hands = subst (λ (x : Next). Hands Outlines r.0 r.1 core c.args.printer c.next.new.self x) c.in-Handed.is (c.next.ensures.answer Outlines r.0 r.1 r.2) in
     elim c.if-has_next.branch [
       | then-has_next+in-Ok w ↦ (let a = hands.2 in let b = w.page_size-page_size.ensures.value in let d = w.in-Ok.ensures.exact in let f = ap vec_capacity w.room-is in let g = ap (λ (x : Config). x.page_size) w.config-then-has_next.ensures in omega (arith, a, b, d, f, g))
-      | else-has_next w ↦ absurd (true_false (sym ((c.has_next.ensures Outlines r.0 r.1 r.2).1 (sheet_of Outlines r.0 r.1 core c.in-Handed.page, hands.0)) ∙ w.if-has_next.false))
+      | else-has_next w ↦ absurd (true_false (sym ((c.has_next.ensures.next Outlines r.0 r.1 r.2).1 (sheet_of Outlines r.0 r.1 core c.in-Handed.page, hands.0)) ∙ w.if-has_next.false))
     ]
 
 pub returns-clause-step : goal.returns-clause-step

@@ -1,0 +1,23 @@
+-- How many jobs fit into the account, and the lines that say it.
+use Rattle.std.specs.Prelude.{◌++◌, ◌∷◌, ◌-◌, ◌/◌, ℕ, List, [], codes, if◌then◌else◌, nat_lt, zero, suc}
+use Rattle.std.specs.Fmt.{decimal}
+use Rattle.config_values.specs.Config as C
+
+-- how many jobs of a queue fit between two moments without held jobs, each as large as the queue allows: the last entry
+-- is that of the close
+abbrev pub jobs_that_fit : C.Config → ℕ → ℕ
+jobs_that_fit c queue = (c.account - 1) / C.reserve_of c queue
+
+-- what is said where so many jobs are few
+abbrev pub few_text : ℕ → List ℕ
+few_text jobs = if nat_lt jobs 50 then codes ", too few: a larger account or larger pages make room" else []
+
+abbrev pub size_line : C.Config → ℕ → List ℕ
+size_line c queue =
+    codes "queue " ++ (C.queue_at c queue).name ++ codes " jobs " ++ decimal (jobs_that_fit c queue)
+    ++ few_text (jobs_that_fit c queue) ++ 10 ∷ []
+
+-- a line for each of the first so many queues
+abbrev pub size_lines : C.Config → ℕ → List ℕ
+size_lines c zero = []
+size_lines c (suc n) = size_lines c n ++ size_line c (suc n)

@@ -1,0 +1,168 @@
+//! What is logged, by a log that holds up no one.
+
+use crate::clients::{ask, ask_from, connect, is_answered, is_ended, refused, write};
+use crate::place::{make, path, remove};
+use crate::server::{SMALL, Spool, ends_well, settings};
+use log::{Level, Logged, error, warn};
+use lpd_daemon::Settings;
+use server_edge::{LineLog, LineQueue};
+use std::alloc::Global;
+use std::io::Read;
+use std::net::{Net, Shutdown, TcpStream};
+use std::os::unix::fs::symlink;
+use std::process::Abort;
+use std::thread;
+use std::time::{Clock, Duration};
+
+/// Where two lines may wait to be written, the first two are, in order: a fault as a line of its
+/// own, and a warning behind the part that gives it. How many were dropped is told.
+#[test]
+fn two_lines_wait(rt: HostRuntime) {
+    let alloc = rt.alloc();
+    let queue = LineQueue::new(alloc, 2);
+    let logged = Logged::new(rt, Level::Info, LineLog::new(&rt, alloc, &queue));
+    error!(logged; "fault 72 Network");
+    for number in 1..4 {
+        warn!(logged; "line {number}");
+    }
+    let (written, is_all) = thread::join(
+        &rt,
+        || {
+            let mut written = Vec::new(alloc);
+            queue.write_all(&rt, alloc, &mut written);
+            written
+        },
+        || queue.end(&rt, Duration::from_secs(10)),
+    );
+    assert!(rt; is_all);
+    assert_eq!(rt;
+        str::from_utf8(written.as_slice()),
+        Ok(
+            "fault 72 Network\n[WARN  network_tests::logging] line 1\n[WARN ] 2 lines were dropped\n",
+        )
+    );
+}
+
+/// A spool for so many jobs that the system doesn't keep their long listing for a peer that doesn't
+/// read it.
+const MANY_JOBS: Spool = Spool {
+    pages: 512,
+    jobs: 512,
+    account: 1_000_000,
+    ..SMALL
+};
+
+/// How many jobs there are. Their listing has two and a half megabytes, and the system keeps less
+/// than two.
+const JOBS: u32 = 300;
+
+/// How often a job prints its file: as often as a control file has room for a name of 126 octets.
+const PRINTS: usize = 63;
+
+/// More octets than a job has in the listing.
+const A_JOB: usize = 10_000;
+
+/// The octets of a job's two files.
+fn job_octets<R: Abort>(rt: &R, alloc: Global, number: u32) -> String {
+    let name = format!(in alloc; "A{number:03}{:h>120}", "h").expect(rt, "memory");
+    let mut text = String::from_str(alloc, "Hh1\nPann\n").expect(rt, "memory");
+    let line = format!(in alloc; "fdf{name}\n").expect(rt, "memory");
+    for _ in 0..PRINTS {
+        text.push_str(line.as_str()).expect(rt, "memory");
+    }
+    let count = text.len();
+    format!(in alloc; "\x02{count} cf{name}\n{text}\0\x031 df{name}\n!\0").expect(rt, "memory")
+}
+
+/// Sends all jobs over one connection.
+fn send_jobs<R: Abort + AllocGlobal + Net<Stream = TcpStream>>(rt: &R, port: u16) {
+    let stream = connect(rt, port);
+    let mut octets = Vec::from_slice(rt.alloc(), b"\x02lp\n").expect(rt, "memory");
+    for number in 0..JOBS {
+        let job = job_octets(rt, rt.alloc(), number);
+        octets
+            .extend_from_slice(job.as_bytes())
+            .expect(rt, "memory");
+    }
+    write(rt, &stream, octets.as_slice());
+    for _ in 0..=4 * JOBS {
+        is_answered(rt, &stream, &[0]);
+    }
+}
+
+/// Three peers ask for a long listing at once and don't read for five seconds: two of a session for
+/// questions alone, which waits for five seconds and more, and one of the session for all, which
+/// waits for two to four. How many find their answer cut.
+fn count_cut<R: Abort + AllocGlobal + Clock + Net<Stream = TcpStream>>(
+    rt: &R,
+    port: u16,
+    whole: usize,
+) -> usize {
+    let mut asking = Vec::new(rt.alloc());
+    for _ in 0..3 {
+        let stream = ask_from(rt, 1, port, b"\x04lp\n");
+        asking.push(stream).expect(rt, "memory");
+    }
+    thread::sleep(rt, Duration::from_secs(5));
+    let mut cut = 0usize;
+    for stream in asking.iter() {
+        let mut octets = Vec::new(rt.alloc());
+        let mut reader = stream;
+        reader.read_to_end(&mut octets).expect(rt, "octets");
+        // One job may have gone since the whole listing was asked for.
+        if octets.len().saturating_add(A_JOB) < whole {
+            cut = cut.saturating_add(1);
+        }
+    }
+    cut
+}
+
+/// Each session that ends neither as finished nor as closed is told, with its peer and why; no
+/// other one is.
+#[test]
+fn each_end_is_logged(rt: HostRuntime) {
+    let out = "each_end_is_logged";
+    make(&rt, out);
+    let file = path(&rt, rt.alloc(), out, 1);
+    symlink(&rt, "/dev/full", file.as_str()).expect(&rt, "a link");
+    let alloc = rt.alloc();
+    let queue = LineQueue::new(alloc, 64);
+    let logged = Logged::new(rt, Level::Info, LineLog::new(&rt, alloc, &queue));
+    let settings = Settings {
+        sessions: 1,
+        silence: Some(2),
+        ..settings(out, 8)
+    };
+    ends_well(&logged, MANY_JOBS, settings, |port| {
+        refused(&rt, port);
+        let broken = connect(&rt, port);
+        write(&rt, &broken, b"\x02lp\n\x03");
+        broken.shutdown(Shutdown::Write).expect(&rt, "the end");
+        is_answered(&rt, &broken, &[0]);
+        is_ended(&rt, &broken);
+        let silent = connect(&rt, port);
+        write(&rt, &silent, b"\x02lp\n");
+        is_answered(&rt, &silent, &[0]);
+        is_ended(&rt, &silent);
+        send_jobs(&rt, port);
+        let whole = ask(&rt, port, b"\x04lp\n").len();
+        assert_eq!(rt; count_cut(&rt, port, whole), 1);
+    });
+    remove(&rt, out);
+    queue.end(&rt, Duration::from_millis(1));
+    let mut written = Vec::new(alloc);
+    queue.write_all(&rt, alloc, &mut written);
+    let text = str::from_utf8(written.as_slice()).expect(&rt, "text");
+    let mut lines = text.lines();
+    for why in [
+        ": 1 UnknownQueue",
+        ": the connection ended in the middle",
+        ": reading failed, or the peer was silent",
+        ": writing failed",
+    ] {
+        let line = lines.next().expect(&rt, why);
+        let begins = line.starts_with("[WARN  lpd_daemon::answering] 127.0.0.1:");
+        assert!(rt; begins && line.ends_with(why), "{line}");
+    }
+    assert_eq!(rt; lines.next(), None);
+}
