@@ -90,9 +90,13 @@ fn send_jobs<R: Abort + AllocGlobal + Net<Stream = TcpStream>>(rt: &R, port: u16
     }
 }
 
-/// Three peers ask for a long listing at once and don't read for five seconds: two of a session for
-/// questions alone, which waits for five seconds and more, and one of the session for all, which
-/// waits for two to four. How many find their answer cut.
+/// For how many seconds peers don't read. The system takes a part of two writes and nothing of a
+/// third: so the session for all gives up after three times its limit of two seconds, and those for
+/// questions alone after 15 seconds.
+const UNREAD: u64 = 12;
+
+/// Three peers ask for a long listing at once and don't read: two of sessions for questions alone,
+/// one of the session for all. How many find their answer cut.
 fn count_cut<R: Abort + AllocGlobal + Clock + Net<Stream = TcpStream>>(
     rt: &R,
     port: u16,
@@ -103,7 +107,7 @@ fn count_cut<R: Abort + AllocGlobal + Clock + Net<Stream = TcpStream>>(
         let stream = ask_from(rt, 1, port, b"\x04lp\n");
         asking.push(stream).expect(rt, "memory");
     }
-    thread::sleep(rt, Duration::from_secs(5));
+    thread::sleep(rt, Duration::from_secs(UNREAD));
     let mut cut = 0usize;
     for stream in asking.iter() {
         let mut octets = Vec::new(rt.alloc());
@@ -115,6 +119,11 @@ fn count_cut<R: Abort + AllocGlobal + Clock + Net<Stream = TcpStream>>(
         }
     }
     cut
+}
+
+/// Whether this line tells why a session ended.
+fn is_told(line: &str, why: &str) -> bool {
+    line.starts_with("[WARN  lpd_daemon::answering] 127.0.0.1:") && line.ends_with(why)
 }
 
 /// Each session that ends neither as finished nor as closed is told, with its peer and why; no
@@ -146,7 +155,9 @@ fn each_end_is_logged(rt: HostRuntime) {
         is_ended(&rt, &silent);
         send_jobs(&rt, port);
         let whole = ask(&rt, port, b"\x04lp\n").len();
-        assert_eq!(rt; count_cut(&rt, port, whole), 1);
+        let cut = count_cut(&rt, port, whole);
+        assert!(rt; cut != 0);
+        warn!(logged; "{cut} answers were cut");
     });
     remove(&rt, out);
     queue.end(&rt, Duration::from_millis(1));
@@ -158,11 +169,19 @@ fn each_end_is_logged(rt: HostRuntime) {
         ": 1 UnknownQueue",
         ": the connection ended in the middle",
         ": reading failed, or the peer was silent",
-        ": writing failed",
     ] {
         let line = lines.next().expect(&rt, why);
-        let begins = line.starts_with("[WARN  lpd_daemon::answering] 127.0.0.1:");
-        assert!(rt; begins && line.ends_with(why), "{line}");
+        assert!(rt; is_told(line, why), "{line}");
     }
-    assert_eq!(rt; lines.next(), None);
+    let (mut failed, mut last) = (0usize, "");
+    for line in lines {
+        if is_told(line, ": writing failed") {
+            failed = failed.saturating_add(1);
+        } else {
+            assert_eq!(rt; last, "");
+            last = line;
+        }
+    }
+    let cut = format!(in alloc; "[WARN  network_tests::logging] {failed} answers were cut");
+    assert_eq!(rt; last, cut.expect(&rt, "memory").as_str());
 }
