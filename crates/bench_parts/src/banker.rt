@@ -113,23 +113,33 @@ fn fastest<R: Clock>(rt: &R, scratch: &mut Scratch, table: &Table, times: u32) -
     Some(best)
 }
 
-/// Prints the first decision on a page for so many rows, and the fastest of those that follow it with the order that it kept.
+/// The first decision on a page for so many rows, and the fastest of those that follow it with the
+/// order that it kept. None where the last row can't ask for a page.
+fn decisions<R: AllocGlobal + Clock>(
+    rt: &R,
+    ladder: Ladder,
+    rows: u32,
+) -> Result<Option<(Decided, Decided)>, AllocError> {
+    let table = table_of(rt.alloc(), ladder, rows)?;
+    let mut scratch = Scratch::with_room(rt.alloc(), table.len(), table.capacity().kinds())?;
+    let first = fastest(rt, &mut scratch, &table, 1);
+    let again = fastest(rt, &mut scratch, &table, HITS);
+    Ok(first.zip(again))
+}
+
+/// Prints what these decisions took.
 fn measure<R: AllocGlobal + Clock + Print>(
     rt: &R,
     ladder: Ladder,
     name: &str,
     rows: u32,
 ) -> io::Result<()> {
-    let table = table_of(rt.alloc(), ladder, rows)?;
-    let mut scratch = Scratch::with_room(rt.alloc(), table.len(), table.capacity().kinds())?;
-    let first = fastest(rt, &mut scratch, &table, 1);
-    let again = fastest(rt, &mut scratch, &table, HITS);
-    match (first, again) {
-        (Some(first), Some(again)) => println!(rt;
+    match decisions(rt, ladder, rows)? {
+        Some((first, again)) => println!(rt;
             "{rows} rows, {name}: {} comparisons in {} ns, again {} in {} ns",
             first.tests, first.took, again.tests, again.took
         ),
-        _ => println!(rt; "{rows} rows, {name}: the last one can't ask for a page"),
+        None => println!(rt; "{rows} rows, {name}: the last one can't ask for a page"),
     }
 }
 

@@ -203,7 +203,42 @@ fn print<R: Clock>(rt: &R, core: &mut Core, times: &mut Times, printer: u32) -> 
     Some(())
 }
 
+/// Prints the oldest of the jobs that are held, once so many were sent. None where a call was
+/// refused.
+fn print_oldest<R: Clock>(
+    rt: &R,
+    core: &mut Core,
+    times: &mut Times,
+    load: Load,
+    sent: u32,
+) -> Option<()> {
+    if sent >= load.held {
+        let oldest = sent - load.held;
+        let printer = oldest / SENDERS % QUEUES.len() as u32 + 1;
+        for _ in 0..load.pages {
+            print(rt, core, times, printer)?;
+        }
+    }
+    Some(())
+}
+
 /// Sends the jobs, and prints the oldest once so many are held. None where a call was refused.
+fn drive<R: AllocGlobal + Clock>(
+    rt: &R,
+    core: &mut Core,
+    times: &mut Times,
+    load: Load,
+) -> Option<()> {
+    for number in 0..load.jobs {
+        // A sender's jobs go to all queues in turn.
+        let queue = QUEUES[(number / SENDERS) as usize % QUEUES.len()];
+        send(rt, core, times, load, number % SENDERS, queue)?;
+        print_oldest(rt, core, times, load, number + 1)?;
+    }
+    Some(())
+}
+
+/// What the calls took where the jobs went through a core of their own. None where one was refused.
 fn through_core<R: AllocGlobal + Clock>(rt: &R, load: Load) -> Option<Times> {
     let config = spool_config::read(rt.alloc(), load.config.as_bytes()).ok()?;
     let mut core = Core::new(rt.alloc(), config).ok()?;
@@ -215,19 +250,7 @@ fn through_core<R: AllocGlobal + Clock>(rt: &R, load: Load) -> Option<Times> {
         last: 0,
         totals: [none; 9],
     };
-    for number in 0..load.jobs {
-        // A sender's jobs go to all queues in turn.
-        let queue = QUEUES[(number / SENDERS) as usize % QUEUES.len()];
-        send(rt, &mut core, &mut times, load, number % SENDERS, queue)?;
-        if number + 1 >= load.held {
-            let oldest = (number + 1).saturating_sub(load.held);
-            let printer = oldest / SENDERS % QUEUES.len() as u32 + 1;
-            for _ in 0..load.pages {
-                print(rt, &mut core, &mut times, printer)?;
-            }
-        }
-    }
-    Some(times)
+    drive(rt, &mut core, &mut times, load).map(|()| times)
 }
 
 /// Prints the mean of each call.
