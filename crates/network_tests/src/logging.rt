@@ -74,29 +74,33 @@ fn job_octets<R: Abort>(rt: &R, alloc: Global, number: u32) -> String {
     format!(in alloc; "\x02{count} cf{name}\n{text}\0\x031 df{name}\n!\0").expect(rt, "memory")
 }
 
-/// Sends all jobs over one connection.
-fn send_jobs<R: Abort + AllocGlobal + Net<Stream = TcpStream>>(rt: &R, port: u16) {
+/// Sends so many jobs over one connection, from the one of this number on.
+fn send_jobs<R: Abort + AllocGlobal + Net<Stream = TcpStream>>(
+    rt: &R,
+    port: u16,
+    first: u32,
+    count: u32,
+) {
     let stream = connect(rt, port);
     let mut octets = Vec::from_slice(rt.alloc(), b"\x02lp\n").expect(rt, "memory");
-    for number in 0..JOBS {
-        let job = job_octets(rt, rt.alloc(), number);
+    for job in 0..count {
+        let job = job_octets(rt, rt.alloc(), first.saturating_add(job));
         octets
             .extend_from_slice(job.as_bytes())
             .expect(rt, "memory");
     }
     write(rt, &stream, octets.as_slice());
-    for _ in 0..=4 * JOBS {
+    for _ in 0..=count.saturating_mul(4) {
         is_answered(rt, &stream, &[0]);
     }
 }
 
-/// For how many seconds peers don't read. The system takes a part of two writes and nothing of a
-/// third: so the session for all gives up after three times its limit of two seconds, and those for
-/// questions alone after 15 seconds.
-const UNREAD: u64 = 12;
+/// After how many seconds the peers that ask are served.
+const SERVED: u64 = 3;
 
 /// Three peers ask for a long listing at once and don't read: two of sessions for questions alone,
-/// one of the session for all. How many find their answer cut.
+/// one of the session for all, until that takes another job, since it waits for its peer no more.
+/// How many find their answer cut.
 fn count_cut<R: Abort + AllocGlobal + Clock + Net<Stream = TcpStream>>(
     rt: &R,
     port: u16,
@@ -107,7 +111,8 @@ fn count_cut<R: Abort + AllocGlobal + Clock + Net<Stream = TcpStream>>(
         let stream = ask_from(rt, 1, port, b"\x04lp\n");
         asking.push(stream).expect(rt, "memory");
     }
-    thread::sleep(rt, Duration::from_secs(UNREAD));
+    thread::sleep(rt, Duration::from_secs(SERVED));
+    send_jobs(rt, port, JOBS, 1);
     let mut cut = 0usize;
     for stream in asking.iter() {
         let mut octets = Vec::new(rt.alloc());
@@ -139,7 +144,7 @@ fn each_end_is_logged(rt: HostRuntime) {
     let logged = Logged::new(rt, Level::Info, LineLog::new(&rt, alloc, &queue));
     let settings = Settings {
         sessions: 1,
-        silence: Some(2),
+        silence: Some(4),
         ..settings(out, 8)
     };
     ends_well(&logged, MANY_JOBS, settings, |port| {
@@ -153,7 +158,7 @@ fn each_end_is_logged(rt: HostRuntime) {
         write(&rt, &silent, b"\x02lp\n");
         is_answered(&rt, &silent, &[0]);
         is_ended(&rt, &silent);
-        send_jobs(&rt, port);
+        send_jobs(&rt, port, 0, JOBS);
         let whole = ask(&rt, port, b"\x04lp\n").len();
         let cut = count_cut(&rt, port, whole);
         assert!(rt; cut != 0);
