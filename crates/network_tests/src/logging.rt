@@ -145,7 +145,7 @@ fn each_end_is_logged(rt: HostRuntime) {
     let settings = Settings {
         sessions: 1,
         silence: Some(4),
-        ..settings(out, 8)
+        ..settings(out, 9)
     };
     ends_well(&logged, MANY_JOBS, settings, |port| {
         refused(&rt, port);
