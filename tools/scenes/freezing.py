@@ -250,6 +250,8 @@ def an_output_that_is_gone():
     reader, writer = os.pipe()
     with Server(PROGRAM, spool(), "--connections", "4", "--rotate", "1", stdout=writer) as server:
         os.close(writer)
+        # A server that can't print its first line ends.
+        check(os.read(reader, 64).startswith(b"listening "), "it doesn't say that it listens")
         os.close(reader)
         for number in (1, 2, 3):
             check(send(server.port, number, b"g" * 100) == 0, "it is refused")
