@@ -1,11 +1,12 @@
 #!/usr/bin/env bash
 # Loads the server over loopback: jobs of 1 KiB from 1, 8 and 32 connections at once, of 4 MiB and of 64 MiB; beside it, in
 # the same run, a server that takes the same octets and keeps nothing. A line for each: jobs and octets a second, and how
-# much processor time the server took a job. The server's printers write to /dev/null.
+# much processor time the server took a job. The server's printers write to /dev/null, and its account is rotated after so
+# many connections that it is never full.
 #
 # Then two series of rows, each the best of three runs: idle printers, which get no job, and a small pool, in which jobs wait
 # for pages. No account is rotated in them: a job reserves 200 times its queue's limit and 112 entries, and each account holds
-# all jobs of a run, and those of twice the sessions and two, without which it would be rotated.
+# all jobs of a run.
 set -eu
 top=$(cd "$(dirname "${BASH_SOURCE[0]}")/.." && pwd)
 (cd "$top/crates/lpd_server" && rt run -- --version)
@@ -40,9 +41,9 @@ await() {
     exit 1
 }
 
-# start NAME SESSIONS: a server of the configuration of this name.
+# start NAME SESSIONS WORD..: a server of the configuration of this name, with these words.
 start() {
-    "$server" serve "$room/$1.toml" --port 5150 --out "$room" --sessions "$2" > "$room/said" 2> "$room/log" &
+    "$server" serve "$room/$1.toml" --port 5150 --out "$room" --sessions "${@:2}" > "$room/said" 2> "$room/log" &
     serving=$!
     await 5150
 }
@@ -74,9 +75,10 @@ configure 65536 4000000 16385 1 1 > "$room/large.toml"
 "$client" discard 5151 32 &
 discarding=$!
 await 5151
-for load in "small 1 2000 1024" "small 8 8000 1024" "small 32 8000 1024" "middle 1 64 4194304" "large 1 8 67108864"; do
-    read -r name connections jobs octets <<< "$load"
-    start "$name" 32
+# The account is rotated after so many connections, before it is full.
+for load in "small 1 2000 1024 1000" "small 8 8000 1024 1000" "small 32 8000 1024 1000" "middle 1 64 4194304 16" "large 1 8 67108864 1"; do
+    read -r name connections jobs octets every <<< "$load"
+    start "$name" 32 --rotate "$every"
     measure "$serving" 5150 "$connections" "$jobs" "$octets"
     printf '%-8s %s, %s ms of processor a job\n' server "$line" "$used"
     stop
