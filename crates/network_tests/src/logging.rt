@@ -131,6 +131,38 @@ fn is_told(line: &str, why: &str) -> bool {
     line.starts_with("[WARN  lpd_daemon::answering] 127.0.0.1:") && line.ends_with(why)
 }
 
+/// The log tells of three sessions why they ended, and then of as many whose answers couldn't be
+/// written as were cut, by a line among those; and of nothing else.
+fn all_is_told<R: Abort>(rt: &R, alloc: Global, text: &str) {
+    let mut lines = text.lines();
+    for why in [
+        ": 1 UnknownQueue",
+        ": the connection ended in the middle",
+        ": reading failed, or the peer was silent",
+    ] {
+        let line = lines.next().expect(rt, why);
+        assert!(rt; is_told(line, why), "{line}");
+    }
+    let unwritten = ": writing failed";
+    let mut failed = 0usize;
+    for line in text.lines() {
+        if is_told(line, unwritten) {
+            failed = failed.saturating_add(1);
+        }
+    }
+    let cut = format!(in alloc; "[WARN  network_tests::logging] {failed} answers were cut").expect(
+        rt, "memory",
+    );
+    let mut others = 0usize;
+    for line in lines {
+        if !is_told(line, unwritten) {
+            assert_eq!(rt; line, cut.as_str());
+            others = others.saturating_add(1);
+        }
+    }
+    assert_eq!(rt; others, 1);
+}
+
 /// Each session that ends neither as finished nor as closed is told, with its peer and why; no
 /// other one is.
 #[test]
@@ -169,24 +201,5 @@ fn each_end_is_logged(rt: HostRuntime) {
     let mut written = Vec::new(alloc);
     queue.write_all(&rt, alloc, &mut written);
     let text = str::from_utf8(written.as_slice()).expect(&rt, "text");
-    let mut lines = text.lines();
-    for why in [
-        ": 1 UnknownQueue",
-        ": the connection ended in the middle",
-        ": reading failed, or the peer was silent",
-    ] {
-        let line = lines.next().expect(&rt, why);
-        assert!(rt; is_told(line, why), "{line}");
-    }
-    let (mut failed, mut last) = (0usize, "");
-    for line in lines {
-        if is_told(line, ": writing failed") {
-            failed = failed.saturating_add(1);
-        } else {
-            assert_eq!(rt; last, "");
-            last = line;
-        }
-    }
-    let cut = format!(in alloc; "[WARN  network_tests::logging] {failed} answers were cut");
-    assert_eq!(rt; last, cut.expect(&rt, "memory").as_str());
+    all_is_told(&rt, alloc, text);
 }
