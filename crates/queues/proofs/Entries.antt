@@ -12,6 +12,7 @@ use Rattle.page_chain.specs.Files.{File, Files, every_page}
 use Rattle.page_chain.specs.Held.{Kept, HasRow, IsFreeRow, IsHeld, Leads, OnlyRow, Turns, file_shown, files_from, turned_in, pages_in, shown}
 use Rattle.page_chain.specs.declared.run.Run.{Run}
 use Rattle.held_jobs.specs.Jobs.{Facts, HeldJob, no_job}
+use Rattle.held_jobs.specs.Moves.{told}
 use Rattle.held_jobs.specs.Books.{Books, job_at, with_job}
 use Rattle.queues.specs.declared.entry.Entry.{Entry}
 use Rattle.queues.specs.Inside.{seen, seen_jobs, book_of, no_entry, entry_at, IsEntry, IsBook}
@@ -157,6 +158,47 @@ pub record Led (new : Chains) (rows : Slab ℕ) (es : List (ℕ × Entry)) (most
   pub book : IsBook new rows es most places size
   pub shows : book_of new es most places size ≡ record (with_job b i j) { stored = n }
 
+-- a call on the entry's chain alone, on its job alone, and on its chain among the nodes
+
+pub leads_on : {old new : Chains} (e w : Entry) (j : HeldJob) → Leads e.chain w.chain old new j.chain → w.job ≡ j.facts → w.row ≡ e.row
+    → j.facts.number ≡ e.job.number → j.chain.file_room ≡ e.chain.file_room → Leaves old new e w j
+leads_on e w j l job same number room = record {
+  job = job;
+  chain = l.shows;
+  held = l.held;
+  only = l.only;
+  row = l.row;
+  same = same;
+  number = number;
+  room = room;
+}
+
+pub turns_on : {nodes : Chains} (e w : Entry) (f : Files → Files) (j : HeldJob) → Turns e.chain w.chain f → IsHeld e.chain nodes → f (shown e.chain nodes) ≡ j.chain → w.job ≡ j.facts → w.row ≡ e.row
+    → j.facts.number ≡ e.job.number → j.chain.file_room ≡ e.chain.file_room → Leaves nodes nodes e w j
+turns_on {nodes} e w f j t h v job same number room = record {
+  job = job;
+  chain = t.shows nodes h ∙ v;
+  held = t.held nodes h;
+  only = only_none nodes e.chain.row;
+  row = t.row;
+  same = same;
+  number = number;
+  room = room;
+}
+
+pub told_on : {nodes : Chains} (e w : Entry) (j : HeldJob) → w.chain ≡ e.chain → IsHeld e.chain nodes → shown e.chain nodes ≡ j.chain → w.job ≡ j.facts → w.row ≡ e.row
+    → j.facts.number ≡ e.job.number → j.chain.file_room ≡ e.chain.file_room → Leaves nodes nodes e w j
+told_on {nodes} e w j c h v job same number room = record {
+  job = job;
+  chain = ap (λ (x : Kept). shown x nodes) c ∙ v;
+  held = subst (λ (x : Kept). IsHeld x nodes) (sym c) h;
+  only = only_none nodes e.chain.row;
+  row = ap (λ (x : Kept). x.row) c;
+  same = same;
+  number = number;
+  room = room;
+}
+
 module _ {old : Chains} {rows : Slab ℕ} {es : List (ℕ × Entry)} {most places size : ℕ} {b : Books} {i : ℕ} {e : Entry} (k : Here old rows es most places size b i e) where
   -- another entry has another row
   other_row : (m : ℕ) → m < length es → (m ≡ i → ⊥) → (entry_at es m).1.chain.row ≡ e.chain.row → ⊥
@@ -235,43 +277,25 @@ module _ {old : Chains} {rows : Slab ℕ} {es : List (ℕ × Entry)} {most place
           ∙ (ap (λ (j : HeldJob). record (with_job (book_of old es most places size) i (F j)) { stored = n }) (sym k.shows)
           ∙ ap (λ (u : Books). record (with_job u i (F (job_at b i))) { stored = n }) k.view))
 
--- a call on the entry's chain alone, on its job alone, and on its chain among the nodes
+  -- the same for a call on its job alone
+  pub told_led : (job : Facts) (f : Facts → Facts) → job ≡ f e.job → (f e.job).number ≡ e.job.number
+      → Led old rows (set_value_at es i (record { job = job; chain = e.chain; row = e.row })) most places size b i (told f (job_at b i)) b.stored
+  told_led job f is number =
+      let w : Entry = record { job = job; chain = e.chain; row = e.row } in
+      led old w (told f) b.stored (told_on e w (told f (seen old e)) refl k.entry.held refl is refl number refl) k.entry.sizes (ap (λ (u : Books). u.stored) k.view)
 
-pub leads_on : {old new : Chains} (e w : Entry) (j : HeldJob) → Leads e.chain w.chain old new j.chain → w.job ≡ j.facts → w.row ≡ e.row
-    → j.facts.number ≡ e.job.number → j.chain.file_room ≡ e.chain.file_room → Leaves old new e w j
-leads_on e w j l job same number room = record {
-  job = job;
-  chain = l.shows;
-  held = l.held;
-  only = l.only;
-  row = l.row;
-  same = same;
-  number = number;
-  room = room;
-}
+  -- for one that moves no page
+  pub turned_led : (job : Facts) (chain : Kept) (f : Files → Files) (F : HeldJob → HeldJob) → Turns e.chain chain f → f (shown e.chain old) ≡ (F (seen old e)).chain → job ≡ (F (seen old e)).facts
+      → (F (seen old e)).facts.number ≡ e.job.number → (F (seen old e)).chain.file_room ≡ e.chain.file_room → AreOfSize size (every_page (F (seen old e)).chain.files)
+      → Led old rows (set_value_at es i (record { job = job; chain = chain; row = e.row })) most places size b i (F (job_at b i)) b.stored
+  turned_led job chain f F turns is same number room sizes =
+      let w : Entry = record { job = job; chain = chain; row = e.row } in
+      led old w F b.stored (turns_on e w f (F (seen old e)) turns k.entry.held is same refl number room) sizes (ap (λ (u : Books). u.stored) k.view)
 
-pub turns_on : {nodes : Chains} (e w : Entry) (f : Files → Files) (j : HeldJob) → Turns e.chain w.chain f → IsHeld e.chain nodes → f (shown e.chain nodes) ≡ j.chain → w.job ≡ j.facts → w.row ≡ e.row
-    → j.facts.number ≡ e.job.number → j.chain.file_room ≡ e.chain.file_room → Leaves nodes nodes e w j
-turns_on {nodes} e w f j t h v job same number room = record {
-  job = job;
-  chain = t.shows nodes h ∙ v;
-  held = t.held nodes h;
-  only = only_none nodes e.chain.row;
-  row = t.row;
-  same = same;
-  number = number;
-  room = room;
-}
-
-pub told_on : {nodes : Chains} (e w : Entry) (j : HeldJob) → w.chain ≡ e.chain → IsHeld e.chain nodes → shown e.chain nodes ≡ j.chain → w.job ≡ j.facts → w.row ≡ e.row
-    → j.facts.number ≡ e.job.number → j.chain.file_room ≡ e.chain.file_room → Leaves nodes nodes e w j
-told_on {nodes} e w j c h v job same number room = record {
-  job = job;
-  chain = ap (λ (x : Kept). shown x nodes) c ∙ v;
-  held = subst (λ (x : Kept). IsHeld x nodes) (sym c) h;
-  only = only_none nodes e.chain.row;
-  row = ap (λ (x : Kept). x.row) c;
-  same = same;
-  number = number;
-  room = room;
-}
+  -- and for one that moves pages
+  pub leads_led : (new : Chains) (job : Facts) (chain : Kept) (F : HeldJob → HeldJob) (n : ℕ) → Leads e.chain chain old new (F (seen old e)).chain → job ≡ (F (seen old e)).facts
+      → (F (seen old e)).facts.number ≡ e.job.number → (F (seen old e)).chain.file_room ≡ e.chain.file_room → AreOfSize size (every_page (F (seen old e)).chain.files) → total new.chains ≡ n
+      → Led new rows (set_value_at es i (record { job = job; chain = chain; row = e.row })) most places size b i (F (job_at b i)) n
+  leads_led new job chain F n leads is number room sizes t =
+      let w : Entry = record { job = job; chain = chain; row = e.row } in
+      led new w F n (leads_on e w (F (seen old e)) leads is refl number room) sizes t

@@ -1,15 +1,14 @@
 -- The sizes and the names of the pages and files of a job.
-use Rattle.std.proofs.Common.{◌≡◌, ℕ, zero, suc, Option, Some, None, List, [], ◌∷◌, ◌++◌, length, set, get_or, true≢false, refl, sym, ◌∙◌, ap, arith}
+use Rattle.std.proofs.Common.{◌≡◌, ℕ, zero, suc, Option, Some, None, List, [], ◌∷◌, set, get_or, true≢false, sym, ◌∙◌, ap, arith}
 use Rattle.page_pool.specs.Page.{Page}
 use Rattle.page_nodes.specs.Chains.{Chains, AreOfSize}
 use Rattle.page_chain.specs.declared.error.ChainError.{ChainError}
 use Rattle.page_chain.specs.declared.error.ChainError.TheVariants.{NameTaken, FilesFull}
 use Rattle.page_chain.specs.declared.place.Place.{Place}
-use Rattle.page_chain.specs.declared.run.Run.{Run}
 use Rattle.page_chain.specs.Changes.{CanBegin, RefusedFor}
 use Rattle.page_chain.specs.Files.{File, every_page, file_at, page_at, with_page_at, there, names_of}
-use Rattle.page_chain.specs.Held.{Kept, files_from, names_in, shown}
-use Rattle.page_chain.proofs.Seen.{length-files_from as length-files, names_shown as names_from}
+use Rattle.page_chain.specs.Held.{Kept, names_in, shown}
+use Rattle.page_chain.proofs.Seen.{names_shown as names_from}
 use Rattle.page_chain.proofs.Turning.{sized_back, sized_both, sized_front}
 
 -- a page that is there, and one that is put or taken

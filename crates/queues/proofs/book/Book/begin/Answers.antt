@@ -5,10 +5,8 @@ use Rattle.page_chain.specs.Held.{names_in, shown}
 use Rattle.page_chain.proofs.Counting.{file_of_size}
 use Rattle.held_jobs.specs.Jobs.{HeldJob}
 use Rattle.held_jobs.specs.Moves.{begun_job}
-use Rattle.held_jobs.specs.Books.{Books, IsIdle, job_at}
-use Rattle.queues.specs.declared.entry.Entry.{Entry}
-use Rattle.queues.specs.Inside.{seen}
-use Rattle.queues.proofs.Entries.{here_at, led, turns_on}
+use Rattle.held_jobs.specs.Books.{IsIdle, job_at}
+use Rattle.queues.proofs.Entries.{here_at, turned_led}
 use Rattle.queues.proofs.Sizes.{names_seen, never_refused}
 use Rattle.queues.proofs.book.Book.begin.Goals as goal
 
@@ -37,18 +35,12 @@ unreachable-requires c =
 
 pub invariant_of-self : goal.invariant_of-self
 invariant_of-self c =
-    let f = c.self.inside in
-    let e = c.index_mut-entry.result.now in
     let k = here_at c.args.i c.index_mut-entry.result.now c.self.invariant c.self.view_is c.requires.here c.index_mut-entry.ensures.value in
-    let w : Entry = record { job = c.begin.new.self; chain = c.begin_file.new.self; row = e.row } in
-    let l = turns_on e w (begun c.args.name) (begun_job c.args.name c.args.count (seen f.nodes e)) c.in-Ok.ensures.begun k.entry.held refl c.begin.ensures refl refl refl in
-    (led k f.nodes w (begun_job c.args.name c.args.count) (c.args.self.now.stored) l (file_of_size f.page_size (shown e.chain f.nodes).files c.args.name k.entry.sizes) (ap (λ (u : Books). u.stored) c.self.view_is)).book
+    let sizes = file_of_size c.self.inside.page_size (shown c.index_mut-entry.result.now.chain c.self.inside.nodes).files c.args.name k.entry.sizes in
+    (turned_led k c.begin.new.self c.begin_file.new.self (begun c.args.name) (begun_job c.args.name c.args.count) c.in-Ok.ensures.begun refl c.begin.ensures refl refl sizes).book
 
 pub returns : goal.returns
 returns c =
-    let f = c.self.inside in
-    let e = c.index_mut-entry.result.now in
     let k = here_at c.args.i c.index_mut-entry.result.now c.self.invariant c.self.view_is c.requires.here c.index_mut-entry.ensures.value in
-    let w : Entry = record { job = c.begin.new.self; chain = c.begin_file.new.self; row = e.row } in
-    let l = turns_on e w (begun c.args.name) (begun_job c.args.name c.args.count (seen f.nodes e)) c.in-Ok.ensures.begun k.entry.held refl c.begin.ensures refl refl refl in
-    (led k f.nodes w (begun_job c.args.name c.args.count) (c.args.self.now.stored) l (file_of_size f.page_size (shown e.chain f.nodes).files c.args.name k.entry.sizes) (ap (λ (u : Books). u.stored) c.self.view_is)).shows
+    let sizes = file_of_size c.self.inside.page_size (shown c.index_mut-entry.result.now.chain c.self.inside.nodes).files c.args.name k.entry.sizes in
+    (turned_led k c.begin.new.self c.begin_file.new.self (begun c.args.name) (begun_job c.args.name c.args.count) c.in-Ok.ensures.begun refl c.begin.ensures refl refl sizes).shows

@@ -4,9 +4,7 @@ use Rattle.page_chain.specs.Held.{shown}
 use Rattle.held_jobs.specs.Jobs.{HeldJob}
 use Rattle.held_jobs.specs.Moves.{again_job}
 use Rattle.held_jobs.specs.Books.{Books}
-use Rattle.queues.specs.declared.entry.Entry.{Entry}
-use Rattle.queues.specs.Inside.{seen}
-use Rattle.queues.proofs.Entries.{here_at, led, leads_on}
+use Rattle.queues.proofs.Entries.{here_at, leads_led}
 use Rattle.queues.proofs.Sizes.{given_of_size}
 use Rattle.queues.proofs.book.Book.come_again.Goals as goal
 
@@ -27,22 +25,16 @@ come_back-requires c =
 
 pub invariant_of-self : goal.invariant_of-self
 invariant_of-self c =
-    let f = c.self.inside in
-    let e = c.index_mut-entry.result.now in
     let k = here_at c.args.i c.index_mut-entry.result.now c.self.invariant c.self.view_is c.requires.here c.index_mut-entry.ensures.value in
-    let w : Entry = record { job = c.come_back.new.self; chain = e.chain; row = e.row } in
-    let page = c.args.page in
-    let l = leads_on e w (again_job page (seen f.nodes e)) c.give_again.ensures.chain c.come_back.ensures refl refl refl in
-    let size : page.page_size ≡ f.page_size = c.requires.size ∙ sym (ap (λ (u : Books). u.page_size) c.self.view_is) in
-    (led k c.give_again.new.nodes w (again_job page) (c.args.self.now.stored + 1) l (given_of_size f.page_size (shown e.chain f.nodes).files (last_place (shown e.chain f.nodes)) page k.entry.sizes size) (c.give_again.ensures.total ∙ ap (λ (u : Books). u.stored + 1) c.self.view_is)).book
+    let size : c.args.page.page_size ≡ c.self.inside.page_size = c.requires.size ∙ sym (ap (λ (u : Books). u.page_size) c.self.view_is) in
+    let sizes = let v = shown c.index_mut-entry.result.now.chain c.self.inside.nodes in given_of_size c.self.inside.page_size v.files (last_place v) c.args.page k.entry.sizes size in
+    let total = c.give_again.ensures.total ∙ ap (λ (u : Books). u.stored + 1) c.self.view_is in
+    (leads_led k c.give_again.new.nodes c.come_back.new.self c.index_mut-entry.result.now.chain (again_job c.args.page) (c.args.self.now.stored + 1) c.give_again.ensures.chain c.come_back.ensures refl refl sizes total).book
 
 pub returns : goal.returns
 returns c =
-    let f = c.self.inside in
-    let e = c.index_mut-entry.result.now in
     let k = here_at c.args.i c.index_mut-entry.result.now c.self.invariant c.self.view_is c.requires.here c.index_mut-entry.ensures.value in
-    let w : Entry = record { job = c.come_back.new.self; chain = e.chain; row = e.row } in
-    let page = c.args.page in
-    let l = leads_on e w (again_job page (seen f.nodes e)) c.give_again.ensures.chain c.come_back.ensures refl refl refl in
-    let size : page.page_size ≡ f.page_size = c.requires.size ∙ sym (ap (λ (u : Books). u.page_size) c.self.view_is) in
-    (led k c.give_again.new.nodes w (again_job page) (c.args.self.now.stored + 1) l (given_of_size f.page_size (shown e.chain f.nodes).files (last_place (shown e.chain f.nodes)) page k.entry.sizes size) (c.give_again.ensures.total ∙ ap (λ (u : Books). u.stored + 1) c.self.view_is)).shows
+    let size : c.args.page.page_size ≡ c.self.inside.page_size = c.requires.size ∙ sym (ap (λ (u : Books). u.page_size) c.self.view_is) in
+    let sizes = let v = shown c.index_mut-entry.result.now.chain c.self.inside.nodes in given_of_size c.self.inside.page_size v.files (last_place v) c.args.page k.entry.sizes size in
+    let total = c.give_again.ensures.total ∙ ap (λ (u : Books). u.stored + 1) c.self.view_is in
+    (leads_led k c.give_again.new.nodes c.come_back.new.self c.index_mut-entry.result.now.chain (again_job c.args.page) (c.args.self.now.stored + 1) c.give_again.ensures.chain c.come_back.ensures refl refl sizes total).shows

@@ -4,10 +4,8 @@ use Rattle.page_chain.specs.Files.{every_page}
 use Rattle.page_chain.specs.Held.{shown}
 use Rattle.held_jobs.specs.Jobs.{HeldJob}
 use Rattle.held_jobs.specs.Moves.{drained_job}
-use Rattle.held_jobs.specs.Books.{Books, job_at}
-use Rattle.queues.specs.declared.entry.Entry.{Entry}
-use Rattle.queues.specs.Inside.{seen}
-use Rattle.queues.proofs.Entries.{here_at, led, leads_on}
+use Rattle.held_jobs.specs.Books.{Books}
+use Rattle.queues.proofs.Entries.{here_at, leads_led}
 use Rattle.queues.proofs.book.Book.drain.Goals as goal
 
 pub drain_into-requires-clause-held : goal.drain_into-requires-clause-held
@@ -30,43 +28,28 @@ drain_into-requires-clause-room c =
 
 pub invariant_of-self : goal.invariant_of-self
 invariant_of-self c =
-    let f = c.self.inside in
-    let e = c.index_mut-entry.result.now in
     let k = here_at c.args.i c.index_mut-entry.result.now c.self.invariant c.self.view_is c.requires.here c.index_mut-entry.ensures.value in
-    let w : Entry = record { job = c.end.new.self; chain = c.drain_into.new.self; row = e.row } in
-    let all : length (every_page (shown e.chain f.nodes).files) ≡ length (every_page (job_at c.args.self.now c.args.i).chain.files) = sym (ap (λ (j : HeldJob). length (every_page j.chain.files)) k.shows) in
     let t = c.drain_into.ensures.total in
-    let o = c.drain_into.ensures.chain.only.room in
-    let before = c.free-free.ensures in
-    let after = c.free.ensures in
+    let o = c.drain_into.ensures.chain.only.room in let before = c.free-free.ensures in let after = c.free.ensures in
     let s = ap (λ (u : Books). u.stored) c.self.view_is in
-    let l = leads_on e w (drained_job (seen f.nodes e)) c.drain_into.ensures.chain c.end.ensures refl refl refl in
-    (led k c.drain_into.new.nodes w drained_job (c.args.self.now.stored - (c.free.result - c.free-free.result)) l (tt) (omega (arith, t, o, before, after, s))).book
+    (leads_led k c.drain_into.new.nodes c.end.new.self c.drain_into.new.self drained_job (c.args.self.now.stored - (c.free.result - c.free-free.result)) c.drain_into.ensures.chain c.end.ensures refl refl tt
+    (omega (arith, t, o, before, after, s))).book
 
 pub returns-clause-book : goal.returns-clause-book
 returns-clause-book c =
-    let f = c.self.inside in
-    let e = c.index_mut-entry.result.now in
     let k = here_at c.args.i c.index_mut-entry.result.now c.self.invariant c.self.view_is c.requires.here c.index_mut-entry.ensures.value in
-    let w : Entry = record { job = c.end.new.self; chain = c.drain_into.new.self; row = e.row } in
-    let all : length (every_page (shown e.chain f.nodes).files) ≡ length (every_page (job_at c.args.self.now c.args.i).chain.files) = sym (ap (λ (j : HeldJob). length (every_page j.chain.files)) k.shows) in
     let t = c.drain_into.ensures.total in
-    let o = c.drain_into.ensures.chain.only.room in
-    let before = c.free-free.ensures in
-    let after = c.free.ensures in
+    let o = c.drain_into.ensures.chain.only.room in let before = c.free-free.ensures in let after = c.free.ensures in
     let s = ap (λ (u : Books). u.stored) c.self.view_is in
-    let l = leads_on e w (drained_job (seen f.nodes e)) c.drain_into.ensures.chain c.end.ensures refl refl refl in
-    (led k c.drain_into.new.nodes w drained_job (c.args.self.now.stored - (c.free.result - c.free-free.result)) l (tt) (omega (arith, t, o, before, after, s))).shows
+    (leads_led k c.drain_into.new.nodes c.end.new.self c.drain_into.new.self drained_job (c.args.self.now.stored - (c.free.result - c.free-free.result)) c.drain_into.ensures.chain c.end.ensures refl refl tt
+    (omega (arith, t, o, before, after, s))).shows
 
 pub returns-clause-count : goal.returns-clause-count
 returns-clause-count c =
-    let f = c.self.inside in
-    let e = c.index_mut-entry.result.now in
     let k = here_at c.args.i c.index_mut-entry.result.now c.self.invariant c.self.view_is c.requires.here c.index_mut-entry.ensures.value in
-    let all : length (every_page (shown e.chain f.nodes).files) ≡ length (every_page (job_at c.args.self.now c.args.i).chain.files) = sym (ap (λ (j : HeldJob). length (every_page j.chain.files)) k.shows) in
+    let all = ap (λ (j : HeldJob). length (every_page j.chain.files)) k.shows in
     let t = c.drain_into.ensures.total in
     let o = c.drain_into.ensures.chain.only.room in
     let before = c.free-free.ensures in
     let after = c.free.ensures in
-    let s = ap (λ (u : Books). u.stored) c.self.view_is in
     omega (arith, all, t, o, before, after)

@@ -5,9 +5,7 @@ use Rattle.page_chain.specs.Held.{shown}
 use Rattle.held_jobs.specs.Jobs.{HeldJob}
 use Rattle.held_jobs.specs.Moves.{handed_job}
 use Rattle.held_jobs.specs.Books.{Books}
-use Rattle.queues.specs.declared.entry.Entry.{Entry}
-use Rattle.queues.specs.Inside.{seen}
-use Rattle.queues.proofs.Entries.{here_at, led, leads_on}
+use Rattle.queues.proofs.Entries.{here_at, leads_led}
 use Rattle.queues.proofs.Sizes.{size_at, taken_of_size}
 use Rattle.queues.proofs.book.Book.hand.Goals as goal
 
@@ -28,25 +26,19 @@ take-requires-clause-ready c =
 
 pub invariant_of-self : goal.invariant_of-self
 invariant_of-self c =
-    let f = c.self.inside in
-    let e = c.index_mut-entry.result.now in
     let k = here_at c.args.i c.index_mut-entry.result.now c.self.invariant c.self.view_is c.requires.here c.index_mut-entry.ensures.value in
-    let w : Entry = record { job = c.hand.new.self; chain = c.take.new.self; row = e.row } in
-    let l = leads_on e w (handed_job (seen f.nodes e)) c.take.ensures.chain c.hand.ensures refl refl refl in
+    let sizes = let v = shown c.index_mut-entry.result.now.chain c.self.inside.nodes in taken_of_size c.self.inside.page_size v.files (next_place v) k.entry.sizes in
     let t = c.take.ensures.total in
     let s = ap (λ (u : Books). u.stored) c.self.view_is in
-    (led k c.take.new.nodes w handed_job (c.args.self.now.stored - 1) l (taken_of_size f.page_size (shown e.chain f.nodes).files (next_place (shown e.chain f.nodes)) k.entry.sizes) (omega (arith, t, s))).book
+    (leads_led k c.take.new.nodes c.hand.new.self c.take.new.self handed_job (c.args.self.now.stored - 1) c.take.ensures.chain c.hand.ensures refl refl sizes (omega (arith, t, s))).book
 
 pub returns-clause-book : goal.returns-clause-book
 returns-clause-book c =
-    let f = c.self.inside in
-    let e = c.index_mut-entry.result.now in
     let k = here_at c.args.i c.index_mut-entry.result.now c.self.invariant c.self.view_is c.requires.here c.index_mut-entry.ensures.value in
-    let w : Entry = record { job = c.hand.new.self; chain = c.take.new.self; row = e.row } in
-    let l = leads_on e w (handed_job (seen f.nodes e)) c.take.ensures.chain c.hand.ensures refl refl refl in
+    let sizes = let v = shown c.index_mut-entry.result.now.chain c.self.inside.nodes in taken_of_size c.self.inside.page_size v.files (next_place v) k.entry.sizes in
     let t = c.take.ensures.total in
     let s = ap (λ (u : Books). u.stored) c.self.view_is in
-    (led k c.take.new.nodes w handed_job (c.args.self.now.stored - 1) l (taken_of_size f.page_size (shown e.chain f.nodes).files (next_place (shown e.chain f.nodes)) k.entry.sizes) (omega (arith, t, s))).shows
+    (leads_led k c.take.new.nodes c.hand.new.self c.take.new.self handed_job (c.args.self.now.stored - 1) c.take.ensures.chain c.hand.ensures refl refl sizes (omega (arith, t, s))).shows
 
 pub returns-clause-page : goal.returns-clause-page
 returns-clause-page c =

@@ -1,10 +1,7 @@
-use Rattle.std.proofs.Common.{◌+◌, ◌<◌, ◌^◌, refl, ap, subst}
+use Rattle.std.proofs.Common.{◌+◌, ◌<◌, ◌^◌, refl, subst}
 use Rattle.held_jobs.specs.Jobs.{HeldJob}
-use Rattle.held_jobs.specs.Moves.{lent_facts, told}
-use Rattle.held_jobs.specs.Books.{Books}
-use Rattle.queues.specs.declared.entry.Entry.{Entry}
-use Rattle.queues.specs.Inside.{seen}
-use Rattle.queues.proofs.Entries.{here_at, led, told_on}
+use Rattle.held_jobs.specs.Moves.{lent_facts}
+use Rattle.queues.proofs.Entries.{here_at, told_led}
 use Rattle.queues.proofs.book.Book.lend.Goals as goal
 
 pub lend-requires : goal.lend-requires
@@ -14,18 +11,10 @@ lend-requires c =
 
 pub invariant_of-self : goal.invariant_of-self
 invariant_of-self c =
-    let f = c.self.inside in
-    let e = c.index_mut-entry.result.now in
     let k = here_at c.args.i c.index_mut-entry.result.now c.self.invariant c.self.view_is c.requires.here c.index_mut-entry.ensures.value in
-    let w : Entry = record { job = c.lend.new.self; chain = e.chain; row = e.row } in
-    let l = told_on e w (told lent_facts (seen f.nodes e)) refl k.entry.held refl c.lend.ensures refl refl refl in
-    (led k f.nodes w (told lent_facts) (c.args.self.now.stored) l (k.entry.sizes) (ap (λ (u : Books). u.stored) c.self.view_is)).book
+    (told_led k c.lend.new.self lent_facts c.lend.ensures refl).book
 
 pub returns : goal.returns
 returns c =
-    let f = c.self.inside in
-    let e = c.index_mut-entry.result.now in
     let k = here_at c.args.i c.index_mut-entry.result.now c.self.invariant c.self.view_is c.requires.here c.index_mut-entry.ensures.value in
-    let w : Entry = record { job = c.lend.new.self; chain = e.chain; row = e.row } in
-    let l = told_on e w (told lent_facts (seen f.nodes e)) refl k.entry.held refl c.lend.ensures refl refl refl in
-    (led k f.nodes w (told lent_facts) (c.args.self.now.stored) l (k.entry.sizes) (ap (λ (u : Books). u.stored) c.self.view_is)).shows
+    (told_led k c.lend.new.self lent_facts c.lend.ensures refl).shows

@@ -4,9 +4,7 @@ use Rattle.page_chain.proofs.Counting.{page_of_size}
 use Rattle.held_jobs.specs.Jobs.{HeldJob, last_size}
 use Rattle.held_jobs.specs.Moves.{put_facts, put_job}
 use Rattle.held_jobs.specs.Books.{Books}
-use Rattle.queues.specs.declared.entry.Entry.{Entry}
-use Rattle.queues.specs.Inside.{seen}
-use Rattle.queues.proofs.Entries.{here_at, led, leads_on}
+use Rattle.queues.proofs.Entries.{here_at, leads_led}
 use Rattle.queues.proofs.book.Book.put.Goals as goal
 
 pub push-requires-clause-opened : goal.push-requires-clause-opened
@@ -37,24 +35,16 @@ put-requires-clause-few c =
 
 pub invariant_of-self : goal.invariant_of-self
 invariant_of-self c =
-    let f = c.self.inside in
-    let e = c.index_mut-entry.result.now in
     let k = here_at c.args.i c.index_mut-entry.result.now c.self.invariant c.self.view_is c.requires.here c.index_mut-entry.ensures.value in
-    let w : Entry = record { job = c.put.new.self; chain = c.push.new.self; row = e.row } in
-    let page = c.args.page in
-    let job : c.put.new.self ≡ put_facts (length page.octets) e.job = c.put.ensures ∙ ap (λ (n : ℕ). put_facts n e.job) c.len-len.ensures.len in
-    let l = leads_on e w (put_job page (seen f.nodes e)) c.push.ensures.chain job refl refl refl in
-    let size : page.page_size ≡ f.page_size = c.requires.size ∙ sym (ap (λ (u : Books). u.page_size) c.self.view_is) in
-    (led k c.push.new.nodes w (put_job page) (c.args.self.now.stored + 1) l (page_of_size f.page_size (shown e.chain f.nodes).files page k.entry.sizes size) (c.push.ensures.total ∙ ap (λ (u : Books). u.stored + 1) c.self.view_is)).book
+    let job : c.put.new.self ≡ put_facts (length c.args.page.octets) c.index_mut-entry.result.now.job = c.put.ensures ∙ ap (λ (n : ℕ). put_facts n c.index_mut-entry.result.now.job) c.len-len.ensures.len in
+    let sizes = page_of_size c.self.inside.page_size (shown c.index_mut-entry.result.now.chain c.self.inside.nodes).files c.args.page k.entry.sizes (c.requires.size ∙ sym (ap (λ (u : Books). u.page_size) c.self.view_is)) in
+    let total = c.push.ensures.total ∙ ap (λ (u : Books). u.stored + 1) c.self.view_is in
+    (leads_led k c.push.new.nodes c.put.new.self c.push.new.self (put_job c.args.page) (c.args.self.now.stored + 1) c.push.ensures.chain job refl refl sizes total).book
 
 pub returns : goal.returns
 returns c =
-    let f = c.self.inside in
-    let e = c.index_mut-entry.result.now in
     let k = here_at c.args.i c.index_mut-entry.result.now c.self.invariant c.self.view_is c.requires.here c.index_mut-entry.ensures.value in
-    let w : Entry = record { job = c.put.new.self; chain = c.push.new.self; row = e.row } in
-    let page = c.args.page in
-    let job : c.put.new.self ≡ put_facts (length page.octets) e.job = c.put.ensures ∙ ap (λ (n : ℕ). put_facts n e.job) c.len-len.ensures.len in
-    let l = leads_on e w (put_job page (seen f.nodes e)) c.push.ensures.chain job refl refl refl in
-    let size : page.page_size ≡ f.page_size = c.requires.size ∙ sym (ap (λ (u : Books). u.page_size) c.self.view_is) in
-    (led k c.push.new.nodes w (put_job page) (c.args.self.now.stored + 1) l (page_of_size f.page_size (shown e.chain f.nodes).files page k.entry.sizes size) (c.push.ensures.total ∙ ap (λ (u : Books). u.stored + 1) c.self.view_is)).shows
+    let job : c.put.new.self ≡ put_facts (length c.args.page.octets) c.index_mut-entry.result.now.job = c.put.ensures ∙ ap (λ (n : ℕ). put_facts n c.index_mut-entry.result.now.job) c.len-len.ensures.len in
+    let sizes = page_of_size c.self.inside.page_size (shown c.index_mut-entry.result.now.chain c.self.inside.nodes).files c.args.page k.entry.sizes (c.requires.size ∙ sym (ap (λ (u : Books). u.page_size) c.self.view_is)) in
+    let total = c.push.ensures.total ∙ ap (λ (u : Books). u.stored + 1) c.self.view_is in
+    (leads_led k c.push.new.nodes c.put.new.self c.push.new.self (put_job c.args.page) (c.args.self.now.stored + 1) c.push.ensures.chain job refl refl sizes total).shows
