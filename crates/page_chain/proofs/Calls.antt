@@ -1,5 +1,5 @@
 -- What each call owes, over plain values.
-use Rattle.std.proofs.Common.{◌≡◌, ℕ, suc, ◌+◌, ◌*◌, ◌<◌, inl, inr, true, false, Option, Some, None, List, [], ◌∷◌, ◌++◌, length, drop, set, get_or, refl, sym, ◌∙◌, ap, subst, arith}
+use Rattle.std.proofs.Common.{◌≡◌, ℕ, suc, ◌+◌, ◌*◌, ◌<◌, ◌≤◌, inl, inr, true, false, Option, Some, None, List, [], ◌∷◌, ◌++◌, length, drop, set, get_or, refl, sym, ◌∙◌, ap, subst, arith}
 use Rattle.std.specs.Prelude.{IsSome}
 use Rattle.std.proofs.lemmas.Bool.{cases_eq, cases_lt}
 use Rattle.std.proofs.lemmas.List.{length_push, length-set, get_or-set_same, get_or-set_other, get_or_append_left, get_or_push, get_or_past, get_or_default, drop_more, length-drop}
@@ -370,44 +370,45 @@ ready c nodes file prints p (page ∷ rest) e lt = record {
   here = subst (λ (o : Option Page). IsSome o) (sym (next_page_is c nodes file prints page rest p e)) refl;
 }
 
--- the page that was handed out last is awaited where its file has one page less than it was given
-pub awaits : (c : Kept) (nodes : Chains) (place : Place) → IsHeld c nodes → CanPrint c.files c.prints c.turned → place.number < (run_at c.files place.file).pages
-    → HasTurned c.files c.prints c.turned (Some place) → c.last ≡ Some place → suc (length (pages_in nodes c.row place.file)) ≡ (run_at c.files place.file).pages
-    → AwaitsLast (shown c nodes)
-awaits c nodes place h p number turned last short =
-    let file = place.file in
-    let there = file_there c.files place number in
-    let fs = files_from nodes c.row c.prints c.turned 0 c.files in
-    let old = pages_in nodes c.row file in
-    let run = run_at c.files file in
-    let r = turned_in c.prints c.turned file in
-    let shows : file_at fs file ≡ file_shown old r run = file_of nodes c.row c.prints c.turned c.files file there in
-    let size : length (file_at fs file).pages ≡ run.pages = size_of nodes c.row c.prints c.turned c.files file in
-    let within = turned_within c.files c.prints c.turned file p in
-    let gap = last_is_gap run.pages r place.number old turned within number short in
-    let is : last_place (shown c nodes) ≡ place = ap or_no_place last in
-    record {
-      last = subst (λ (o : Option Place). IsSome o) (sym last) refl;
-      gap = subst (IsOnlyGap (shown c nodes)) (sym is) (record {
-        out = ap (λ (x : File). get_or x.pages place.number None) shows ∙ gap.0;
-        others = λ m lt ne. subst (λ (o : Option Page). IsSome o) (sym (ap (λ (x : File). get_or x.pages m None) shows)) (gap.1 m (omega (arith, size, lt)) ne);
-      });
-    }
+-- the page that was handed out last, and its file
+module _ (c : Kept) (nodes : Chains) (place : Place) (p : CanPrint c.files c.prints c.turned) (number : place.number < (run_at c.files place.file).pages) (last : c.last ≡ Some place) where
+  abbrev old : List Page
+  old = pages_in nodes c.row place.file
 
-pub awaits_counts : (c : Kept) (nodes : Chains) (place : Place) (page : Page) → CanPrint c.files c.prints c.turned → place.number < (run_at c.files place.file).pages
-    → c.last ≡ Some place → AwaitsLast (shown c nodes) → suc (length (pages_in nodes c.row place.file)) ≡ (run_at c.files place.file).pages
-awaits_counts c nodes place page p number last a =
-    let file = place.file in
-    let there = file_there c.files place number in
-    let fs = files_from nodes c.row c.prints c.turned 0 c.files in
-    let old = pages_in nodes c.row file in
-    let run = run_at c.files file in
-    let r = turned_in c.prints c.turned file in
-    let shows : file_at fs file ≡ file_shown old r run = file_of nodes c.row c.prints c.turned c.files file there in
-    let size : length (file_at fs file).pages ≡ run.pages = size_of nodes c.row c.prints c.turned c.files file in
-    let within = turned_within c.files c.prints c.turned file p in
-    let is : last_place (shown c nodes) ≡ place = ap or_no_place last in
-    let g = subst (IsOnlyGap (shown c nodes)) is a.gap in
-    gap_counts run.pages r place.number old page within number
-    (ap (λ (x : File). get_or x.pages place.number None) (sym shows) ∙ g.out)
-    (λ m lt ne. subst (λ (o : Option Page). IsSome o) (ap (λ (x : File). get_or x.pages m None) shows) (g.others m (omega (arith, size, lt)) ne))
+  abbrev run : Run
+  run = run_at c.files place.file
+
+  abbrev turns : ℕ
+  turns = turned_in c.prints c.turned place.file
+
+  shows : file_at (files_from nodes c.row c.prints c.turned 0 c.files) place.file ≡ file_shown old turns run
+  shows = file_of nodes c.row c.prints c.turned c.files place.file (file_there c.files place number)
+
+  size : length (file_at (files_from nodes c.row c.prints c.turned 0 c.files) place.file).pages ≡ run.pages
+  size = size_of nodes c.row c.prints c.turned c.files place.file
+
+  within : turns ≤ run.pages
+  within = turned_within c.files c.prints c.turned place.file p
+
+  is : last_place (shown c nodes) ≡ place
+  is = ap or_no_place last
+
+  -- it is awaited where its file has one page less than it was given
+  pub awaits : IsHeld c nodes → HasTurned c.files c.prints c.turned (Some place) → suc (length old) ≡ run.pages → AwaitsLast (shown c nodes)
+  awaits h turned short =
+      let gap = last_is_gap run.pages turns place.number old turned within number short in
+      record {
+        last = subst (λ (o : Option Place). IsSome o) (sym last) refl;
+        gap = subst (IsOnlyGap (shown c nodes)) (sym is) (record {
+          out = ap (λ (x : File). get_or x.pages place.number None) shows ∙ gap.0;
+          others = λ m lt ne. subst (λ (o : Option Page). IsSome o) (sym (ap (λ (x : File). get_or x.pages m None) shows)) (gap.1 m (let s = size in omega (arith, s, lt)) ne);
+        });
+      }
+
+  -- and only there
+  pub awaits_counts : Page → AwaitsLast (shown c nodes) → suc (length old) ≡ run.pages
+  awaits_counts page a =
+      let g = subst (IsOnlyGap (shown c nodes)) is a.gap in
+      gap_counts run.pages turns place.number old page within number
+      (ap (λ (x : File). get_or x.pages place.number None) (sym shows) ∙ g.out)
+      (λ m lt ne. subst (λ (o : Option Page). IsSome o) (ap (λ (x : File). get_or x.pages m None) shows) (g.others m (let s = size in omega (arith, s, lt)) ne))

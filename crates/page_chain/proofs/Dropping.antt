@@ -322,20 +322,26 @@ module _ (c : Kept) (nodes : Chains) (names : List (List ℕ)) (prints : List �
           row = refl;
         }
 
--- the same of a chain that is seen from outside
+-- the same of a chain that is seen from outside, where this was listed of its files
 module _ (t now : Kept) (nodes : Chains) (names : List (List ℕ)) (prints : List ℕ) (v : t ≡ now) (p : CanPrint t.files t.prints t.turned) (idle : IsIdle now) (h : IsHeld now nodes)
-    (listed : prints ≡ filter (has_page t.files) (numbers_of (names_in t.files) names)) where
+    (files : List Run) (are : files ≡ t.files) (given : prints ≡ filter (has_page files) (numbers_of (names_in files) names)) where
   none : t.prints ≡ []
   none = none_left t.files t.prints t.turned p (subst (λ (u : Kept). places_left u.files u.prints u.turned ≡ []) (sym v) idle.placed)
 
   held : IsHeld t nodes
   held = subst (λ (u : Kept). IsHeld u nodes) (sym v) h
 
+  listed : prints ≡ filter (has_page t.files) (numbers_of (names_in t.files) names)
+  listed = subst (λ (fs : List Run). prints ≡ filter (has_page fs) (numbers_of (names_in fs) names)) are given
+
   pub seen_sized : (size i : ℕ) → AreOfSize size (unnamed_pages (shown now nodes).files names) → i < length t.files → is_among prints i ≡ false → AreOfSize size (pages_in nodes t.row i)
   seen_sized size i s = dropped_are t nodes names prints none held listed size i (subst (λ (u : Kept). AreOfSize size (unnamed_pages (shown u nodes).files names)) (sym v) s)
 
-  pub seen_count : dropped_in nodes t.row prints (length t.files) ≡ length (unnamed_pages (shown now nodes).files names)
-  seen_count = dropped_all t nodes names prints none held listed ∙ ap (λ (u : Kept). length (unnamed_pages (shown u nodes).files names)) v
+  pub seen_count : (kept : List ℕ) (count : ℕ) → kept ≡ prints → count ≡ length t.files → dropped_in nodes t.row kept count ≡ length (unnamed_pages (shown now nodes).files names)
+  seen_count kept count same all =
+      ap (λ (ps : List ℕ). dropped_in nodes t.row ps count) same
+      ∙ (ap (dropped_in nodes t.row prints) all
+      ∙ (dropped_all t nodes names prints none held listed ∙ ap (λ (u : Kept). length (unnamed_pages (shown u nodes).files names)) v))
 
   pub seen_prints : CanPrint (runs_kept 0 prints t.files) prints 0
   seen_prints = can_print t nodes names prints none held listed

@@ -1,12 +1,14 @@
 -- The page of the next place, and what is left once it was taken.
 use Rattle.std.proofs.Common.{◌≡◌, ℕ, suc, ◌+◌, ◌*◌, ◌<◌, true, Some, List, [], ◌∷◌, length, drop, get_or, sym, ◌∙◌, ap, subst, arith}
 use Rattle.std.specs.Prelude.{IsSome}
+use Rattle.std.proofs.lemmas.List.{get_or_default}
 use Rattle.page_pool.specs.Page.{Page}
 use Rattle.page_nodes.specs.Chains.{Chains, with_chain, total}
 use Rattle.page_chain.specs.declared.place.Place.{Place}
+use Rattle.page_chain.specs.declared.run.Run.{Run}
 use Rattle.page_chain.specs.Files.{page_at}
 use Rattle.page_chain.specs.Changes.{IsReady, next_place, taken}
-use Rattle.page_chain.specs.Held.{Kept, Leads, IsHeld, CanPrint, run_at, pages_in, shown}
+use Rattle.page_chain.specs.Held.{Kept, Leads, IsHeld, CanPrint, no_run, run_at, pages_in, shown}
 use Rattle.page_chain.proofs.Rows.{total_with}
 use Rattle.page_chain.proofs.Calls.{Front, front_file, next_front, next_page_is, takes, passes_on, passes_over}
 
@@ -29,6 +31,10 @@ module _ (t now : Kept) (nodes : Chains) (all : List ℕ) (printed file : ℕ) (
 
   pub next_turned : t.turned < (run_at t.files file).pages
   next_turned = next.can.1
+
+  -- what was read of how many pages the file has
+  pub next_pages : (files : List Run) (d : Run) → files ≡ t.files → (get_or files file d).pages ≡ (run_at t.files file).pages
+  next_pages files d are = ap (λ (fs : List Run). (get_or fs file d).pages) are ∙ ap (λ (r : Run). r.pages) (get_or_default t.files file d no_run next_there)
 
   pub front_page : (page : Page) → pages_in nodes t.row file ≡ page ∷ drop 1 (pages_in nodes t.row file) → page_at (shown now nodes).files (next_place (shown now nodes)) ≡ Some page
   front_page page first =

@@ -26,24 +26,23 @@ drain_into-requires-clause-sizes c =
     let d = c.files.invariant in
     let few = c.requires.few in
     let lt = c.files-test.true in
-    let lt52 : i < 52 = omega (arith, few, lt) in
     let among : is_among c.args.kept.now i ≡ false = sym c.contains.ensures.value ∙ c.if-not-contains.true in
+    let still = still_in n c.args.row c.args.kept.now c.args.pool.now c.files.nodes c.files.pool i d (omega (arith, few, lt)) in
     let size = ap (λ (p : Pages). p.page_size) d.pool_is in
-    rw c.key_of.ensures (subst (λ (ps : List Page). AreOfSize c.files.pool.page_size ps) (sym (still_in n c.args.row c.args.kept.now c.args.pool.now c.files.nodes c.files.pool i d lt52))
+    rw c.key_of.ensures (subst (λ (ps : List Page). AreOfSize c.files.pool.page_size ps) (sym still)
     (subst (λ (s : ℕ). AreOfSize s (pages_in n c.args.row i)) (sym size) (c.requires.sizes i lt among)))
 
 pub drain_into-requires-clause-room : goal.drain_into-requires-clause-room
 drain_into-requires-clause-room c =
+    let p = c.files.invariant.pool_is in
+    let free = ap (λ (p : Pages). p.free) p in
+    let pages = ap (λ (p : Pages). p.pages) p in
     let n = c.args.nodes.now in
     let i = c.files.i-counter in
-    let d = c.files.invariant in
     let few = c.requires.few in
     let lt = c.files-test.true in
-    let lt52 : i < 52 = omega (arith, few, lt) in
     let among : is_among c.args.kept.now i ≡ false = sym c.contains.ensures.value ∙ c.if-not-contains.true in
-    let free = ap (λ (p : Pages). p.free) d.pool_is in
-    let pages = ap (λ (p : Pages). p.pages) d.pool_is in
-    let still = ap length (still_in n c.args.row c.args.kept.now c.args.pool.now c.files.nodes c.files.pool i d lt52) in
+    let still = ap length (still_in n c.args.row c.args.kept.now c.args.pool.now c.files.nodes c.files.pool i c.files.invariant (omega (arith, few, lt))) in
     let all = cond-false (is_among c.args.kept.now i) 0 (length (pages_in n c.args.row i)) among in
     let more = dropped_more n c.args.row c.args.kept.now (suc i) c.args.files (omega (arith, lt)) in
     let room = c.requires.room in

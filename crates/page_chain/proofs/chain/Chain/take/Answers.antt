@@ -1,9 +1,7 @@
-use Rattle.std.proofs.Common.{List, get_or, refl, ◌∙◌, ap, arith}
-use Rattle.std.proofs.lemmas.List.{get_or_default}
+use Rattle.std.proofs.Common.{refl, ap, arith}
 use Rattle.page_chain.specs.declared.run.Run.{Run}
-use Rattle.page_chain.specs.Held.{no_run}
 use Rattle.page_chain.proofs.Inside.{kept_of}
-use Rattle.page_chain.proofs.Taking.{next_some, next_there, next_turned, taken_on, taken_over, taken_total, front_page}
+use Rattle.page_chain.proofs.Taking.{next_pages, next_some, next_turned, taken_on, taken_over, taken_total, front_page}
 use Rattle.page_chain.proofs.chain.Chain.take.Goals as goal
 
 pub take-page-requires-clause-some : goal.take-page-requires-clause-some
@@ -16,9 +14,7 @@ pub overflow_add-self : goal.overflow_add-self
 overflow_add-self c =
     let f = c.self.inside in
     let file = c.index-file.result.now in
-    let there = next_there (kept_of f) c.args.self.now c.args.nodes.now f.prints.items f.printed file c.self.view_is refl c.self.invariant.7 c.requires.held c.requires.ready c.index-file.ensures in
-    let pages = ap (λ (fs : List Run). (get_or fs file c.index-as_slice-file.result).pages) c.as_slice.ensures.value
-    ∙ ap (λ (r : Run). r.pages) (get_or_default f.files.items file c.index-as_slice-file.result no_run there) in
+    let pages = next_pages (kept_of f) c.args.self.now c.args.nodes.now f.prints.items f.printed file c.self.view_is refl c.self.invariant.7 c.requires.held c.requires.ready c.index-file.ensures c.as_slice.result.now c.index-as_slice-file.result c.as_slice.ensures.value in
     let turned = next_turned (kept_of f) c.args.self.now c.args.nodes.now f.prints.items f.printed file c.self.view_is refl c.self.invariant.7 c.requires.held c.requires.ready c.index-file.ensures in
     let fits = c.index-as_slice-file.element_fits in
     omega (arith, turned, pages, fits)
@@ -33,10 +29,7 @@ pub returns-then-self-pages-clause-chain : goal.returns-then-self-pages-clause-c
 returns-then-self-pages-clause-chain c =
     let f = c.self.inside in
     let file = c.index-file.result.now in
-    let there = next_there (kept_of f) c.args.self.now c.args.nodes.now f.prints.items f.printed file c.self.view_is refl c.self.invariant.7 c.requires.held c.requires.ready c.index-file.ensures in
-    let pages = ap (λ (fs : List Run). (get_or fs file c.index-as_slice-file.result).pages) c.as_slice.ensures.value
-    ∙ ap (λ (r : Run). r.pages) (get_or_default f.files.items file c.index-as_slice-file.result no_run there) in
-    let turned = next_turned (kept_of f) c.args.self.now c.args.nodes.now f.prints.items f.printed file c.self.view_is refl c.self.invariant.7 c.requires.held c.requires.ready c.index-file.ensures in
+    let pages = next_pages (kept_of f) c.args.self.now c.args.nodes.now f.prints.items f.printed file c.self.view_is refl c.self.invariant.7 c.requires.held c.requires.ready c.index-file.ensures c.as_slice.result.now c.index-as_slice-file.result c.as_slice.ensures.value in
     let told = ap (λ (r : Run). r.pages) c.index-as_slice-file.is in
     let last = c.if-self-pages.true in
     taken_over (kept_of f) c.args.self.now c.args.nodes.now f.prints.items f.printed file c.self.view_is refl c.self.invariant.7 c.requires.held c.requires.ready c.index-file.ensures c.take-page.new.self c.take-page.result (simp c.key_of.ensures at c.take-page.ensures.page) (simp c.key_of.ensures at c.take-page.ensures.nodes) (λ o. (c.self.invariant.6 o).1) (omega (arith, last, pages, told))
@@ -57,9 +50,7 @@ pub returns-else-self-pages-clause-chain : goal.returns-else-self-pages-clause-c
 returns-else-self-pages-clause-chain c =
     let f = c.self.inside in
     let file = c.index-file.result.now in
-    let there = next_there (kept_of f) c.args.self.now c.args.nodes.now f.prints.items f.printed file c.self.view_is refl c.self.invariant.7 c.requires.held c.requires.ready c.index-file.ensures in
-    let pages = ap (λ (fs : List Run). (get_or fs file c.index-as_slice-file.result).pages) c.as_slice.ensures.value
-    ∙ ap (λ (r : Run). r.pages) (get_or_default f.files.items file c.index-as_slice-file.result no_run there) in
+    let pages = next_pages (kept_of f) c.args.self.now c.args.nodes.now f.prints.items f.printed file c.self.view_is refl c.self.invariant.7 c.requires.held c.requires.ready c.index-file.ensures c.as_slice.result.now c.index-as_slice-file.result c.as_slice.ensures.value in
     let turned = next_turned (kept_of f) c.args.self.now c.args.nodes.now f.prints.items f.printed file c.self.view_is refl c.self.invariant.7 c.requires.held c.requires.ready c.index-file.ensures in
     let told = ap (λ (r : Run). r.pages) c.index-as_slice-file.is in
     taken_on (kept_of f) c.args.self.now c.args.nodes.now f.prints.items f.printed file c.self.view_is refl c.self.invariant.7 c.requires.held c.requires.ready c.index-file.ensures c.take-page.new.self c.take-page.result (simp c.key_of.ensures at c.take-page.ensures.page) (simp c.key_of.ensures at c.take-page.ensures.nodes) (λ o. (c.self.invariant.6 o).1) (omega (arith, c.if-self-pages.false, pages, told, turned))
