@@ -2,7 +2,9 @@
 use Rattle.std.proofs.Common.{◌≡◌, ℕ, ◌+◌, ◌-◌, ◌<◌, List, length, sym, ◌∙◌, ap, subst, arith}
 use Rattle.std.specs.Vec.{vec_len}
 use Rattle.account.specs.declared.entry.Outline.{Outline}
-use Rattle.held_jobs.specs.Books.{job_at}
+use Rattle.claims.specs.Claims.{Claims}
+use Rattle.page_pool.specs.Page.{Pages}
+use Rattle.held_jobs.specs.Books.{Books, job_at}
 use Rattle.config_values.specs.Config.{IsPrinter}
 use Rattle.spool_history.specs.Base.{Base}
 use Rattle.spool_history.specs.Events.{Event}
@@ -41,3 +43,9 @@ printer_within a p core is =
     let n = printer_there Outlines r.0 r.1 (core_view a) r.2 p is in
     let o = a.printers.ok in
     omega (arith, n, o)
+
+-- a core with equal parts
+pub parts : (k : Kept) (p q : Pages) (b c : Books) (t u : Claims) → q ≡ p → c ≡ b → u ≡ t → record k { pool = p; book = b; table = t } ≡ record k { pool = q; book = c; table = u }
+parts k p q b c t u ep eb et =
+    ap (λ (z : Pages). record k { pool = z; book = b; table = t }) (sym ep)
+    ∙ (ap (λ (z : Books). record k { pool = q; book = z; table = t }) (sym eb) ∙ ap (λ (z : Claims). record k { pool = q; book = c; table = z }) (sym et))

@@ -1,35 +1,29 @@
-use Rattle.std.proofs.Common.{◌≡◌, ◌==◌, ℕ, ◌-◌, ◌<◌, List, ◌∷◌, false, length, get_or, set, refl, ap, subst, sym, ◌∙◌}
+use Rattle.std.proofs.Common.{◌≡◌, ◌==◌, ℕ, ◌-◌, ◌<◌, List, false, length, get_or, set, refl, ap, subst, sym, ◌∙◌}
 use Rattle.std.specs.Prelude.{Some, cond, slice_get}
-use Rattle.std.specs.Vec.{with_item}
 use Rattle.counts.specs.Amounts.{amount}
 use Rattle.claims.specs.Claims.{Claims, row_at}
 use Rattle.claims.specs.Changes.{granted}
-use Rattle.page_pool.specs.Page.{Page}
 use Rattle.page_chain.specs.declared.place.Place.{Place}
-use Rattle.page_chain.specs.Files.{page_at}
-use Rattle.page_chain.specs.Changes.{next_place}
 use Rattle.held_jobs.specs.Jobs.{Facts}
-use Rattle.held_jobs.specs.Moves.{handed_job}
-use Rattle.held_jobs.specs.Books.{Books, job_at, with_job}
+use Rattle.held_jobs.specs.Books.{Books, job_at}
 use Rattle.held_jobs.specs.Turns.{TurnAt, facts_in}
 use Rattle.account.specs.declared.entry.Sheet.{Sheet as SheetOut}
 use Rattle.config_values.specs.Config.{IsPrinter}
 use Rattle.spool_history.specs.Base.{Base}
 use Rattle.spool_history.specs.Events.{Event}
-use Rattle.spool_history.specs.Events.Turn.{Handed}
-use Rattle.spool_history.specs.Events.Event.{AtPrinter}
 use Rattle.spool_calls.specs.declared.printer.Printer.{Printer}
 use Rattle.spool_calls.specs.declared.handed.HandedPage.{HandedPage}
 use Rattle.spool_calls.specs.declared.answers.Next.TheVariants as next
 use Rattle.spool_calls.specs.Looks.{Detail, What}
 use Rattle.spool_calls.specs.Looks.Detail.{Outlines}
 use Rattle.spool_calls.specs.Kept.{Kept, sheet_out}
-use Rattle.spool_calls.specs.Calls.{Hands, IsRight, sheet_of}
+use Rattle.spool_calls.specs.Calls.{Hands, IsRight}
 use Rattle.core_steps.proofs.Handing.{Waits, free_here, hand_few, hand_ready, handed_core, hands_page, kind_there, need_here}
 use Rattle.spool_core.specs.declared.core_state.Core.TheInside.{Inside}
-use Rattle.spool_core.specs.Inside.{core_view, IsCore}
+use Rattle.spool_core.specs.Inside.{core_view}
 use Rattle.spool_core.specs.Due.{IsTurn}
 use Rattle.spool_core.proofs.Cores.{printer_of, printer_within, still}
+use Rattle.spool_core.proofs.core_state.Core.hand_out.Goals.{After-handed-handed, After-index-at, After-sheet}
 use Rattle.spool_core.proofs.core_state.Core.hand_out.Goals as goal
 
 abbrev Answer : ℕ → HandedPage → Kept → Kept → (d : Detail) → Base → List (Event (What d)) → Type 0
@@ -49,125 +43,125 @@ record Looked (a : Inside) (p i : ℕ) (at : Printer) (place : Place) : Type 0 w
   turn : TurnAt (facts_in a.book.jobs) at.queue at.began (Some i)
   first : slice_get (job_at a.book i).chain.places 0 ≡ Some place
 
-looked : (a : Inside) (now : Kept) (p i : ℕ) (at : Printer) (place : Place) → core_view a ≡ now → IsPrinter now.config p → at ≡ get_or a.printers.items (p - 1) at → IsTurn now p i place → Looked a p i at place
-looked a now p i at place e is ea due =
-    let t = subst (λ (z : Kept). IsTurn z p i place) (sym e) due at ea in
-    record { printer = printer_of (core_view a) now p e is; at-is = ea; waits = record { open' = t.open'; runs = t.runs; idle = t.idle }; turn = t.turn; first = t.first }
+looked : (c : After-index-at) → Looked c.self.inside c.args.printer c.args.i c.index-at.result.now c.args.place
+looked c =
+    let t = subst (λ (z : Kept). IsTurn z c.args.printer c.args.i c.args.place) (sym c.self.view_is) c.requires.due c.index-at.result.now c.index-at.ensures in
+    record {
+      printer = printer_of (core_view c.self.inside) c.args.self.now c.args.printer c.self.view_is c.requires.printer;
+      at-is = c.index-at.ensures;
+      waits = record { open' = t.open'; runs = t.runs; idle = t.idle };
+      turn = t.turn;
+      first = t.first;
+    }
 
-needs : (a : Inside) (p i : ℕ) (at : Printer) (place : Place) (q n : ℕ) (g : Facts) → IsCore a → Looked a p i at place → g ≡ (job_at a.book i).facts → q ≡ g.queue → n ≡ g.handed
-    → (q < length a.table.capacity) × (n ≡ 0 → 0 < amount a.table.free q) × (n ≡ 0 → 0 < amount (row_at a.table.rows i).need q)
-needs a p i at place q n g core o eg eq en =
-    let r = core.reached in
-    let k = core_view a in
-    let q' : q ≡ (job_at a.book i).facts.queue = eq ∙ ap (λ (y : Facts). y.queue) eg in
-    let n' : n ≡ (job_at a.book i).facts.handed = en ∙ ap (λ (y : Facts). y.handed) eg in (
-      subst (λ (m : ℕ). m < length a.table.capacity) (sym q') (kind_there Outlines r.0 r.1 k r.2 p o.printer at o.at-is o.waits i o.turn place o.first),
-      λ z. subst (λ (m : ℕ). 0 < amount a.table.free m) (sym q') (free_here Outlines r.0 r.1 k r.2 p o.printer at o.at-is o.waits i o.turn place o.first (sym n' ∙ z)),
-      λ z. subst (λ (m : ℕ). 0 < amount (row_at a.table.rows i).need m) (sym q') (need_here Outlines r.0 r.1 k r.2 p o.printer at o.at-is o.waits i o.turn place o.first (sym n' ∙ z)),
-    )
+-- the job's printer is there, and is free and needed where it has none yet
+module _ (c : After-handed-handed) (o : Looked c.self.inside c.args.printer c.args.i c.index-at.result.now c.args.place) where
+  abbrev table : Claims
+  table = c.self.inside.table
+
+  abbrev q : ℕ
+  q = c.queue-queue.result
+
+  of_queue : q ≡ (job_at c.self.inside.book c.args.i).facts.queue
+  of_queue = c.queue-queue.ensures ∙ ap (λ (y : Facts). y.queue) c.job-found.ensures
+
+  of_handed : c.handed-handed.result ≡ (job_at c.self.inside.book c.args.i).facts.handed
+  of_handed = c.handed-handed.ensures ∙ ap (λ (y : Facts). y.handed) c.job-found.ensures
+
+  there : q < length table.capacity
+  there =
+      let r = c.self.invariant.reached in
+      subst (λ (m : ℕ). m < length table.capacity) (sym of_queue) (kind_there Outlines r.0 r.1 (core_view c.self.inside) r.2 c.args.printer o.printer c.index-at.result.now o.at-is o.waits c.args.i o.turn c.args.place o.first)
+
+  free : c.handed-handed.result ≡ 0 → 0 < amount table.free q
+  free z =
+      let r = c.self.invariant.reached in
+      subst (λ (m : ℕ). 0 < amount table.free m) (sym of_queue) (free_here Outlines r.0 r.1 (core_view c.self.inside) r.2 c.args.printer o.printer c.index-at.result.now o.at-is o.waits c.args.i o.turn c.args.place o.first (sym of_handed ∙ z))
+
+  needed : c.handed-handed.result ≡ 0 → 0 < amount (row_at table.rows c.args.i).need q
+  needed z =
+      let r = c.self.invariant.reached in
+      subst (λ (m : ℕ). 0 < amount (row_at table.rows c.args.i).need m) (sym of_queue) (need_here Outlines r.0 r.1 (core_view c.self.inside) r.2 c.args.printer o.printer c.index-at.result.now o.at-is o.waits c.args.i o.turn c.args.place o.first (sym of_handed ∙ z))
 
 pub lend_printer-requires-clause-kind : goal.lend_printer-requires-clause-kind
-lend_printer-requires-clause-kind c =
-    let a = c.self.inside in
-    let p = c.args.printer in
-    let at = c.index-at.result.now in
-    let o = looked a c.args.self.now p c.args.i at c.args.place c.self.view_is c.requires.printer c.index-at.ensures c.requires.due in
-    (needs a p c.args.i at c.args.place c.queue-queue.result c.handed-handed.result c.job-found.result.now c.self.invariant o c.job-found.ensures c.queue-queue.ensures c.handed-handed.ensures).0
+lend_printer-requires-clause-kind c = let x = goal.at.lend_printer-requires-clause-kind c in there x.After-handed-handed (looked x.After-index-at)
 
 pub lend_printer-requires-clause-free : goal.lend_printer-requires-clause-free
-lend_printer-requires-clause-free c =
-    let a = c.self.inside in
-    let p = c.args.printer in
-    let at = c.index-at.result.now in
-    let o = looked a c.args.self.now p c.args.i at c.args.place c.self.view_is c.requires.printer c.index-at.ensures c.requires.due in
-    (needs a p c.args.i at c.args.place c.queue-queue.result c.handed-handed.result c.job-found.result.now c.self.invariant o c.job-found.ensures c.queue-queue.ensures c.handed-handed.ensures).1
+lend_printer-requires-clause-free c = let x = goal.at.lend_printer-requires-clause-free c in free x.After-handed-handed (looked x.After-index-at)
 
 pub lend_printer-requires-clause-needed : goal.lend_printer-requires-clause-needed
-lend_printer-requires-clause-needed c =
-    let a = c.self.inside in
-    let p = c.args.printer in
-    let at = c.index-at.result.now in
-    let o = looked a c.args.self.now p c.args.i at c.args.place c.self.view_is c.requires.printer c.index-at.ensures c.requires.due in
-    (needs a p c.args.i at c.args.place c.queue-queue.result c.handed-handed.result c.job-found.result.now c.self.invariant o c.job-found.ensures c.queue-queue.ensures c.handed-handed.ensures).2
+lend_printer-requires-clause-needed c = let x = goal.at.lend_printer-requires-clause-needed c in needed x.After-handed-handed (looked x.After-index-at)
 
 pub hand-requires-clause-ready : goal.hand-requires-clause-ready
 hand-requires-clause-ready c =
-    let a = c.self.inside in
-    let p = c.args.printer in
-    let at = c.index-at.result.now in
-    let o = looked a c.args.self.now p c.args.i at c.args.place c.self.view_is c.requires.printer c.index-at.ensures c.requires.due in
+    let o = looked (goal.at.hand-requires-clause-ready c).After-index-at in
     let r = c.self.invariant.reached in
-    hand_ready Outlines r.0 r.1 (core_view a) r.2 p o.printer at o.at-is o.waits c.args.i o.turn c.args.place o.first
+    hand_ready Outlines r.0 r.1 (core_view c.self.inside) r.2 c.args.printer o.printer c.index-at.result.now o.at-is o.waits c.args.i o.turn c.args.place o.first
 
 pub hand-requires-clause-few : goal.hand-requires-clause-few
 hand-requires-clause-few c =
-    let a = c.self.inside in
-    let p = c.args.printer in
-    let at = c.index-at.result.now in
-    let o = looked a c.args.self.now p c.args.i at c.args.place c.self.view_is c.requires.printer c.index-at.ensures c.requires.due in
+    let o = looked (goal.at.hand-requires-clause-few c).After-index-at in
     let r = c.self.invariant.reached in
-    hand_few Outlines r.0 r.1 (core_view a) r.2 p o.printer at o.at-is o.waits c.args.i o.turn c.args.place o.first c.self.invariant.ranges
+    hand_few Outlines r.0 r.1 (core_view c.self.inside) r.2 c.args.printer o.printer c.index-at.result.now o.at-is o.waits c.args.i o.turn c.args.place o.first c.self.invariant.ranges
 
--- what a handed page leaves, over plain values
-abbrev left : Inside → (p : ℕ) → Printer → Books → Claims → SheetOut → ℕ → Inside
-left a p at book t out number = record {
-  alloc = a.alloc;
-  config = a.config;
-  pool = a.pool;
-  book = book;
-  table = t;
-  scratch = a.scratch;
-  accepted = a.accepted;
-  reserved = a.reserved;
-  printers = with_item a.printers (p - 1) (record { queue = at.queue; out = Some out; began = Some number; stopped = false });
-  closed = a.closed;
-}
+-- what the call answers, and leaves
+module _ (c : After-sheet) (o : Looked c.self.inside c.args.printer c.args.i c.index-at.result.now c.args.place) where
+  abbrev a : Inside
+  a = c.self.inside
 
-abbrev handed : (job place : ℕ) → Place → Page → HandedPage
-handed job n place page = record { job = job; place = n; file = place.file; number = place.number; page = page }
+  abbrev at : Printer
+  at = c.index-at.result.now
 
-done : (a : Inside) (p i : ℕ) (at : Printer) (place : Place) (book : Books) (t : Claims) (job q n : ℕ) (g : Facts) (out : SheetOut) (page : Page) → IsCore a → Looked a p i at place
-    → g ≡ (job_at a.book i).facts → job ≡ g.number → q ≡ g.queue → n ≡ g.handed
-    → t ≡ cond (n == 0) (granted a.table i q) a.table → page_at (job_at a.book i).chain.files (next_place (job_at a.book i).chain) ≡ Some page → page.page_size ≡ a.book.page_size
-    → book ≡ record (with_job a.book i (handed_job (job_at a.book i))) { stored = a.book.stored - 1 } → out ≡ sheet_out (handed job n place page)
-    → IsCore (left a p at book t out job) × IsRight (core_view a) (Answer p (handed job n place page) (core_view (left a p at book t out job)) (core_view a))
-done a p i at place book t job q n g out page core o eg ej eq en et whole size eb eo =
-    let k = core_view a in
-    let hp = handed job n place page in
-    let f : Facts = (job_at a.book i).facts in
-    let tab : cond (f.handed == 0) (granted a.table i f.queue) a.table ≡ t =
-    ap (λ (y : Facts). cond (y.handed == 0) (granted a.table i y.queue) a.table) (sym eg)
-    ∙ (ap (λ (m : ℕ). cond (m == 0) (granted a.table i g.queue) a.table) (sym en)
-    ∙ (ap (λ (m : ℕ). cond (n == 0) (granted a.table i m) a.table) (sym eq) ∙ sym et)) in
-    let new : handed_core k p i at hp ≡ core_view (left a p at book t out job) =
-    ap (λ (z : Books). record k { book = z; table = cond (f.handed == 0) (granted a.table i f.queue) a.table; printers = set a.printers.items (p - 1) (record { queue = at.queue; out = Some (sheet_out hp); began = Some job; stopped = false }) }) (sym eb)
-    ∙ (ap (λ (z : Claims). record k { book = book; table = z; printers = set a.printers.items (p - 1) (record { queue = at.queue; out = Some (sheet_out hp); began = Some job; stopped = false }) }) tab
-    ∙ ap (λ (z : SheetOut). record k { book = book; table = t; printers = set a.printers.items (p - 1) (record { queue = at.queue; out = Some z; began = Some job; stopped = false }) }) (sym eo)) in
-    let ans : IsRight k (Answer p hp (core_view (left a p at book t out job)) k) = (λ d b h l.
-    subst (λ (z : Kept). Hands d b h k p z (next.Handed hp)) new
-    (hands_page d b h k l p o.printer at o.at-is o.waits i o.turn place o.first hp
-    (record { job = ej ∙ ap (λ (y : Facts). y.number) eg; place' = en ∙ ap (λ (y : Facts). y.handed) eg; file = refl; number = refl; whole = whole; size' = size }))) in
-    let r = core.reached in
-    let got = ans Outlines r.0 r.1 r.2 in
-    (still a (left a p at book t out job) core refl refl refl (r.0, AtPrinter p (sheet_of Outlines r.0 r.1 k hp) Handed ∷ r.1, got.1), ans)
+  abbrev page : HandedPage
+  page = record { job = c.number-job.result; place = c.handed-handed.result; file = c.args.place.file; number = c.args.place.number; page = c.hand.result }
+
+  abbrev with_parts : Books → Claims → SheetOut → Kept
+  with_parts book table out = record (core_view a) {
+    book = book;
+    table = table;
+    printers = set a.printers.items (c.args.printer - 1) (record { queue = at.queue; out = Some out; began = Some c.number-job.result; stopped = false });
+  }
+
+  abbrev left : Kept
+  left = with_parts c.hand.new.self c.lend_printer.new.table c.sheet.result
+
+  queue : c.queue-queue.result ≡ (job_at a.book c.args.i).facts.queue
+  queue = c.queue-queue.ensures ∙ ap (λ (y : Facts). y.queue) c.job-found.ensures
+
+  handed : c.handed-handed.result ≡ (job_at a.book c.args.i).facts.handed
+  handed = c.handed-handed.ensures ∙ ap (λ (y : Facts). y.handed) c.job-found.ensures
+
+  is_left : handed_core (core_view a) c.args.printer c.args.i at page ≡ left
+  is_left =
+      let f : Facts = (job_at a.book c.args.i).facts in
+      let table : cond (f.handed == 0) (granted a.table c.args.i f.queue) a.table ≡ c.lend_printer.new.table =
+      ap (λ (m : ℕ). cond (m == 0) (granted a.table c.args.i f.queue) a.table) (sym handed)
+      ∙ (ap (λ (m : ℕ). cond (c.handed-handed.result == 0) (granted a.table c.args.i m) a.table) (sym queue) ∙ sym c.lend_printer.ensures) in
+      let t = cond (f.handed == 0) (granted a.table c.args.i f.queue) a.table in
+      ap (λ (z : Books). with_parts z t (sheet_out page)) (sym c.hand.ensures.book)
+      ∙ (ap (λ (z : Claims). with_parts c.hand.new.self z (sheet_out page)) table ∙ ap (with_parts c.hand.new.self c.lend_printer.new.table) (sym c.sheet.ensures))
+
+  hands : IsRight (core_view a) (Answer c.args.printer page left (core_view a))
+  hands d b h l =
+      subst (λ (z : Kept). Hands d b h (core_view a) c.args.printer z (next.Handed page)) is_left
+      (hands_page d b h (core_view a) l c.args.printer o.printer at o.at-is o.waits c.args.i o.turn c.args.place o.first page (record {
+        job = c.number-job.ensures ∙ ap (λ (y : Facts). y.number) c.job-found.ensures;
+        place' = handed;
+        file = refl;
+        number = refl;
+        whole = c.hand.ensures.page;
+        size' = c.hand.ensures.size;
+      }))
 
 pub invariant_of-self : goal.invariant_of-self
 invariant_of-self c =
-    let a = c.self.inside in
-    let p = c.args.printer in
-    let at = c.index-at.result.now in
-    let o = looked a c.args.self.now p c.args.i at c.args.place c.self.view_is c.requires.printer c.index-at.ensures c.requires.due in
-    let r = done a p c.args.i at c.args.place c.hand.new.self c.lend_printer.new.table c.number-job.result c.queue-queue.result c.handed-handed.result c.job-found.result.now c.sheet.result c.hand.result c.self.invariant o
-    c.job-found.ensures c.number-job.ensures c.queue-queue.ensures c.handed-handed.ensures c.lend_printer.ensures c.hand.ensures.page c.hand.ensures.size c.hand.ensures.book c.sheet.ensures in
-    r.0
+    let x = goal.at.invariant_of-self c in
+    let r = c.self.invariant.reached in
+    let after = (hands x.After-sheet (looked x.After-index-at) Outlines r.0 r.1 r.2).1 in
+    still c.self.inside _ c.self.invariant refl refl refl (r.0, _, after)
 
 pub returns-clause-answer : goal.returns-clause-answer
 returns-clause-answer c =
-    let a = c.self.inside in
-    let p = c.args.printer in
-    let at = c.index-at.result.now in
-    let o = looked a c.args.self.now p c.args.i at c.args.place c.self.view_is c.requires.printer c.index-at.ensures c.requires.due in
-    let r = done a p c.args.i at c.args.place c.hand.new.self c.lend_printer.new.table c.number-job.result c.queue-queue.result c.handed-handed.result c.job-found.result.now c.sheet.result c.hand.result c.self.invariant o
-    c.job-found.ensures c.number-job.ensures c.queue-queue.ensures c.handed-handed.ensures c.lend_printer.ensures c.hand.ensures.page c.hand.ensures.size c.hand.ensures.book c.sheet.ensures in
-    let hp = handed c.number-job.result c.handed-handed.result c.args.place c.hand.result in
-    subst (λ (k : Kept). IsRight k (Answer p hp (core_view (left a p at c.hand.new.self c.lend_printer.new.table c.sheet.result c.number-job.result)) k)) c.self.view_is r.1
+    let x = goal.at.returns-clause-answer c in
+    let o = looked x.After-index-at in
+    subst (λ (k : Kept). IsRight k (Answer c.args.printer (page x.After-sheet o) (left x.After-sheet o) k)) c.self.view_is (hands x.After-sheet o)
