@@ -14,7 +14,6 @@ use Rattle.spool_calls.specs.Looks.Detail.{Outlines}
 use Rattle.spool_calls.specs.Kept.{Kept, Leaves}
 use Rattle.spool_ledgers.specs.Sums.{Sums, with_entry}
 use Rattle.locked_spool.specs.Held.{Held, IsHeld}
-use Rattle.locked_spool.specs.Entries.{Writes}
 
 module _ {config : Config} {h : Held} {room : ℕ} {totals : Sums} (is : IsHeld config h room totals) where
   -- the configuration of the core is in its ranges

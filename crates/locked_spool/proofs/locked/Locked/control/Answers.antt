@@ -1,5 +1,5 @@
 use Rattle.std.proofs.Common.{◌≡◌, ℕ, Bool, List, ◌∷◌, refl, sym, ◌∙◌, subst}
-use Rattle.std.specs.Prelude.{Ok, Err}
+use Rattle.std.specs.Prelude.{Ok}
 use Rattle.lpd_values.specs.Contents.{Contents}
 use Rattle.control_file.specs.View.{contents}
 use Rattle.account.specs.Seen.{base_seen}

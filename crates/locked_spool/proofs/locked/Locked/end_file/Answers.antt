@@ -11,66 +11,67 @@ use Rattle.spool_calls.specs.Looks.{size}
 use Rattle.spool_calls.specs.Looks.Detail.{Outlines}
 use Rattle.spool_calls.specs.Kept.{Kept, Leaves}
 use Rattle.spool_calls.specs.Calls.{Ends, before, is_whole}
-use Rattle.spool_calls.specs.Readers.{IsOpenFile}
 use Rattle.locked_spool.specs.Held.{Held}
 use Rattle.locked_spool.specs.Entries.{WritesFileEnded}
 use Rattle.locked_spool.proofs.Decided.{file_ends, whole_is}
 use Rattle.locked_spool.proofs.Written.{room_here, written_here}
+use Rattle.locked_spool.proofs.locked.Locked.end_file.Given.{Over}
+use Rattle.locked_spool.proofs.locked.Locked.end_file.Goals.{After-eq-whole}
 use Rattle.locked_spool.proofs.locked.Locked.end_file.Goals as goal
 
-module _ (h : Held) (k : Kept) (job file pages : ℕ) (got : Receipt) (whole : Bool)
-    (is : IsOpenFile Outlines h.base h.events h.core job file pages) (a : Ends Outlines h.base h.events h.core job k (Ok got)) where
-  abbrev w : Bool
-  w = is_whole got
+module _ (g : Over) (c : After-eq-whole g) where
+  -- what the lock held before
+  abbrev h : Held
+  h = let a = c.self.inside in record { core = a.core; base = base_seen a.base; events = a.account.events; number = a.number; before = a.before; kinds_before = a.kinds_before; handed_before = a.handed_before }
+
+  abbrev k : Kept
+  k = c.end_file.new.self
+
+  abbrev got : Receipt
+  got = c.in_ok-receipt.receipt
+
+  abbrev file : ℕ
+  file = c.in-Some.file
+
+  answer : Ends Outlines h.base h.events h.core c.args.job k (Ok got)
+  answer = c.in_ok-receipt.ensures.answer Outlines h.base h.events c.self.invariant.left
+
+  said : c.eq-whole.result ≡ is_whole got
+  said = c.eq-whole.ensures ∙ whole_is got
 
   -- the file that was open has ended
-  same : a.0 ≡ file
-  same = file_ends (size Outlines) h.core.config h.base h.events job file pages is a.0 w a.1
+  same : answer.0 ≡ file
+  same = file_ends (size Outlines) h.core.config h.base h.events c.args.job file c.in-Some.field-0-1 (c.in-Some.ensures Outlines h.base h.events c.self.invariant.left) answer.0 (is_whole got) answer.1
 
-  may : HasJob (before Outlines h.base h.events h.core).jobs job (JobMay (size Outlines) h.core.config (FileEnded file w))
-  may = subst (λ (n : ℕ). HasJob (before Outlines h.base h.events h.core).jobs job (JobMay (size Outlines) h.core.config (FileEnded n w))) same a.1
+  may : HasJob (before Outlines h.base h.events h.core).jobs c.args.job (JobMay (size Outlines) h.core.config (FileEnded file (is_whole got)))
+  may = subst (λ (n : ℕ). HasJob (before Outlines h.base h.events h.core).jobs c.args.job (JobMay (size Outlines) h.core.config (FileEnded n (is_whole got)))) same answer.1
 
-  ended : whole ≡ w → Leaves Outlines h.base (OfJob job (FileEnded file whole) ∷ h.events) k
-  ended said =
-      subst (λ (v : Bool). Leaves Outlines h.base (OfJob job (FileEnded file v) ∷ h.events) k) (sym said)
-      (subst (λ (n : ℕ). Leaves Outlines h.base (OfJob job (FileEnded n w) ∷ h.events) k) same a.2)
+  ended : Leaves Outlines h.base (OfJob c.args.job (FileEnded file c.eq-whole.result) ∷ h.events) k
+  ended =
+      subst (λ (v : Bool). Leaves Outlines h.base (OfJob c.args.job (FileEnded file v) ∷ h.events) k) (sym said)
+      (subst (λ (n : ℕ). Leaves Outlines h.base (OfJob c.args.job (FileEnded n (is_whole got)) ∷ h.events) k) same answer.2)
 
-  told : whole ≡ w → (events : List (Event Outline)) → events ≡ OfJob job (FileEnded file whole) ∷ h.events → WritesFileEnded h (record h { core = k; events = events }) job (Ok got)
-  told said events one = (
+  abbrev Writes : Held → Held → Type 0
+  Writes old new = WritesFileEnded old new c.args.job (Ok got)
+
+  told : (events : List (Event Outline)) → events ≡ OfJob c.args.job (FileEnded file c.eq-whole.result) ∷ h.events → Writes h (record h { core = k; events = events })
+  told events one = (
     file,
     may,
     ap (λ (es : List (Event Outline)). record h { core = k; events = es }) one
-        ∙ ap (λ (v : Bool). record h { core = k; events = OfJob job (FileEnded file v) ∷ h.events }) said,
+        ∙ ap (λ (v : Bool). record h { core = k; events = OfJob c.args.job (FileEnded file v) ∷ h.events }) said,
   )
 
 pub write-requires-clause-room : goal.write-requires-clause-room
-write-requires-clause-room g c =
-    let i = c.self.invariant in
-    let a = c.self.inside in
-    let s = c.in_ok-receipt.ensures in
-    let h : Held = record { core = a.core; base = base_seen a.base; events = a.account.events; number = a.number; before = a.before; kinds_before = a.kinds_before; handed_before = a.handed_before } in
-    room_here i (ended h c.end_file.new.self c.args.job c.in-Some.file c.in-Some.field-0-1 c.in_ok-receipt.receipt c.eq-whole.result (c.in-Some.ensures _ _ _ i.left) (s.answer _ _ _ i.left)
-    (c.eq-whole.ensures ∙ whole_is c.in_ok-receipt.receipt)) s.config refl
+write-requires-clause-room g c = room_here c.self.invariant (ended g (goal.at.write-requires-clause-room g c).After-eq-whole) c.in_ok-receipt.ensures.config refl
 
 pub invariant_of-self-2 : goal.invariant_of-self-2
 invariant_of-self-2 g c =
-    let i = c.self.invariant in
-    let a = c.self.inside in
-    let s = c.in_ok-receipt.ensures in
     let w = c.write.ensures in
-    let h : Held = record { core = a.core; base = base_seen a.base; events = a.account.events; number = a.number; before = a.before; kinds_before = a.kinds_before; handed_before = a.handed_before } in
-    written_here i c.write.new.account.events c.write.new.account.room c.write.new.books (ended h c.end_file.new.self c.args.job c.in-Some.file c.in-Some.field-0-1 c.in_ok-receipt.receipt c.eq-whole.result (c.in-Some.ensures _ _ _ i.left) (s.answer _ _ _ i.left)
-    (c.eq-whole.ensures ∙ whole_is c.in_ok-receipt.receipt)) s.config refl w.events w.room w.books
+    written_here c.self.invariant c.write.new.account.events c.write.new.account.room c.write.new.books (ended g (goal.at.invariant_of-self-2 g c).After-eq-whole) c.in_ok-receipt.ensures.config refl w.events w.room w.books
 
 pub returns-clause-account : goal.returns-clause-account
 returns-clause-account g c =
-    let i = c.self.invariant in
-    let a = c.self.inside in
-    let s = c.in_ok-receipt.ensures in
-    let h : Held = record { core = a.core; base = base_seen a.base; events = a.account.events; number = a.number; before = a.before; kinds_before = a.kinds_before; handed_before = a.handed_before } in
-    let k = c.end_file.new.self in
+    let n = (goal.at.returns-clause-account g c).After-eq-whole in
     let es = c.write.new.account.events in
-    let got = c.in_ok-receipt.receipt in
-    subst (λ (z : Held). WritesFileEnded z (record h { core = k; events = es }) c.args.job (Ok got)) c.self.view_is
-    (told h k c.args.job c.in-Some.file c.in-Some.field-0-1 got c.eq-whole.result (c.in-Some.ensures _ _ _ i.left) (s.answer _ _ _ i.left)
-    (c.eq-whole.ensures ∙ whole_is got) es c.write.ensures.events)
+    subst (λ (z : Held). Writes g n z (record (h g n) { core = k g n; events = es })) c.self.view_is (told g n es c.write.ensures.events)

@@ -1,11 +1,11 @@
-use Rattle.std.proofs.Common.{◌≡◌, ◌≢◌, ◌==◌, ◌⊎◌, ℕ, Bool, true, false, List, [], ◌∷◌, length, refl, sym, ◌∙◌, ap, subst, inl, inr, arith}
+use Rattle.std.proofs.Common.{◌≡◌, ◌≢◌, ◌==◌, ℕ, Bool, true, false, List, [], ◌∷◌, length, refl, sym, ◌∙◌, ap, subst, inl, inr, arith}
 use Rattle.std.specs.Prelude.{Ok, if◌then◌else◌, vec_len}
 use Rattle.std.specs.Str.{bytes_eq}
 use Rattle.std.proofs.lemmas.Bool.Decides.{nat_tests}
 use Rattle.account.specs.Seen.{base_seen}
 use Rattle.account.specs.declared.entry.Outline.{Outline}
 use Rattle.account.specs.declared.kind.Kind.TheVariants as kind
-use Rattle.config_values.specs.Config.{Config, queue_named}
+use Rattle.config_values.specs.Config.{queue_named}
 use Rattle.spool_history.specs.Events.{Event}
 use Rattle.spool_history.specs.Events.Event.{Removed}
 use Rattle.spool_history.specs.Choice as choice
@@ -13,7 +13,7 @@ use Rattle.spool_calls.specs.Looks.Detail.{Outlines}
 use Rattle.spool_calls.specs.Kept.{Kept, Leaves}
 use Rattle.spool_calls.specs.Calls.{Removes, before, removed_by}
 use Rattle.spool_ledgers.specs.Sums.{Sums, with_entry}
-use Rattle.locked_spool.specs.Held.{Held, IsHeld}
+use Rattle.locked_spool.specs.Held.{Held}
 use Rattle.locked_spool.specs.Entries.{WritesRemoved}
 use Rattle.locked_spool.specs.Shares.{nothing_removed, when_removed}
 use Rattle.locked_spool.proofs.Removed.{tells_none, tells_some}
@@ -32,15 +32,7 @@ not_empty n xs e l z = absurd (let m : length xs ≡ 0 = ap length z in grind (a
 module _ (g : Over) (c : In_ok-text g) where
   -- what the lock held before
   abbrev h : Held
-  h = record {
-    core = c.self.inside.core;
-    base = base_seen c.self.inside.base;
-    events = c.self.inside.account.events;
-    number = c.self.inside.number;
-    before = c.self.inside.before;
-    kinds_before = c.self.inside.kinds_before;
-    handed_before = c.self.inside.handed_before;
-  }
+  h = let a = c.self.inside in record { core = a.core; base = base_seen a.base; events = a.account.events; number = a.number; before = a.before; kinds_before = a.kinds_before; handed_before = a.handed_before }
 
   -- the core after the call, and the numbers of the jobs that it removed
   abbrev k : Kept
