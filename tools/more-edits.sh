@@ -5,7 +5,8 @@
 #
 # What was refused is kept, by a checksum of all that the check read: the edit, the crate and those below it, and the toolchain.
 # It isn't tried again while these stay the same, so a run that was stopped is gone on with by calling it again. The checksums are
-# kept in the file EDITS_KEPT names, or in ~/.cache/hurgwaye/more-edits.
+# kept in the file EDITS_KEPT names, or in ~/.cache/hurgwaye/more-edits. What the prover said of each is appended to the file
+# EDITS_LOG names, where that is set: so it can be seen where each was refused.
 #
 # The first edit of a crate takes as long as the whole proof of the crate, and each further one 10 to 100 seconds. So all
 # 700 would take some eight hours of one processor, as reckoned from those that were tried: name the crates that changed. Several
@@ -120,6 +121,7 @@ try_other() {
 try_own() {
     local name=$1 edit sum
     rt must-fail "$name" > "$copy/log" 2>&1
+    [ -z "${EDITS_LOG:-}" ] || cat "$copy/log" >> "$EDITS_LOG"
     for edit in "crates/$name/must-fail"/*.edit; do
         sum=$(cat "$copy/sums/$(basename "$edit")")
         if grep "$(basename "$edit" .edit)\b" "$copy/log" | grep -q 'refused, as it must be'; then
