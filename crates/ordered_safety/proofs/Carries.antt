@@ -1,8 +1,8 @@
 -- Carrying a kept order to the rows: what each kept row adds.
-use Rattle.std.proofs.Common.{◌≡◌, ◌≢◌, inl, inr, ℕ, suc, ◌+◌, ◌<◌, ◌≤◌, Bool, true, false, not, ◌||◌, cond, List, [], ◌∷◌, ◌++◌, length, get_or, set, take, drop, refl, subst, ap, ap₂, sym, ◌∙◌, arith, append_assoc, append-nil, drop-cons}
+use Rattle.std.proofs.Common.{◌≡◌, ◌≢◌, inl, inr, ℕ, suc, ◌+◌, ◌<◌, ◌≤◌, Bool, true, false, not, ◌||◌, cond, List, [], ◌∷◌, ◌++◌, length, get_or, set, take, drop, refl, subst, ap, ap₂, sym, ◌∙◌, arith, append_assoc, append-nil}
 use Rattle.std.specs.Prelude.{All, ◌==◌, slice_index_or, filter}
 use Rattle.std.specs.List.{AllByRecursion, count_by, list_any}
-use Rattle.std.proofs.lemmas.List.{take-append-drop, get_or_default, get_or-set_same, get_or-set_other, get_or-take, get_or-map, length-map, length-set, length-take-le, length_push, map-append, map_more, drop_more}
+use Rattle.std.proofs.lemmas.List.{get_or_default, get_or-set_same, get_or-set_other, get_or-take, get_or-map, length-map, length-set, length-take-le, length_push, map-append, map_more, drop_more}
 use Rattle.std.proofs.lemmas.List.Elements.{All-push, All-weaker, All-from_recursion, recursion_from_All, filter-append, filter_more}
 use Rattle.std.proofs.lemmas.List.Folds.{list_any-append, list_any_none, list_any_at}
 use Rattle.std.proofs.lemmas.List.Sums.{sum_by-set, sum_by-cons}
@@ -16,7 +16,7 @@ use Rattle.ordered_safety.specs.Scan.{rows_at}
 use Rattle.ordered_safety.specs.Carried.{StandsAt, has_row, is_among, is_lacked, AreMet, numbers_of}
 use Rattle.ordered_safety.specs.Kept.{kept_numbers, KeepsLines}
 use Rattle.ordered_safety.proofs.Keeps.{Differ, others_differ}
-use Rattle.ordered_safety.proofs.OneNumber.{lower_at}
+use Rattle.ordered_safety.proofs.Picks.{lower_at, split_at}
 use Rattle.claims.proofs.Lowered.{line_last as pairwise_last}
 
 abbrev pub no_kept : Kept
@@ -181,10 +181,6 @@ rows_all P rows places h = by places (recursion_from_All (λ place. P (row_at ro
     by : (places : List ℕ) → AllByRecursion (λ place. P (row_at rows place)) places → AllByRecursion P (rows_at rows places)
     by [] h = tt
     by (p ∷ places) h = (h.0, by places h.1)
-
--- the row of a number, and the others
-split_at : (rows : List Row) (place : ℕ) → place < length rows → rows ≡ take place rows ++ row_at rows place ∷ drop (suc place) rows
-split_at rows place lt = sym (take-append-drop place rows) ∙ ap (λ (r : List Row). take place rows ++ r) (drop-cons rows place no_row lt)
 
 differ_split : (a b : List Row) (x : Row) (n : ℕ) → n ≡ x.number → AllByRecursion (Differ x) (a ++ b) → AllByRecursion (λ y. n ≢ y.number) a × AllByRecursion (λ y. n ≢ y.number) b
 differ_split [] b x n e h = (tt, by b h)

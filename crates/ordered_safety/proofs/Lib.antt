@@ -1,6 +1,5 @@
 pub mod Picks
 pub mod Turns
-pub mod Comparisons
 pub mod OneNumber
 pub mod Walks
 pub mod Keeps

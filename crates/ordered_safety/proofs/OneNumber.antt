@@ -1,17 +1,15 @@
 -- A scan of rows has one list of turns, and the check of an order one number of comparisons.
-use Rattle.std.proofs.Common.{◌≡◌, ◌⊎◌, inl, inr, ℕ, zero, suc, ◌+◌, ◌<◌, ◌≤◌, Bool, true, false, List, [], ◌∷◌, ◌++◌, length, take, drop, drop-cons, refl, subst, ap, ap₂, sym, ◌∙◌, arith}
+use Rattle.std.proofs.Common.{◌≡◌, ◌⊎◌, inl, inr, ℕ, ◌+◌, ◌<◌, ◌≤◌, Bool, true, false, List, [], ◌∷◌, length, refl, subst, ap, ap₂, sym, ◌∙◌, arith}
 use Rattle.std.specs.Prelude.{nat_lt, remove}
 use Rattle.std.proofs.lemmas.Bool.{cases_lt}
 use Rattle.std.proofs.lemmas.Bool.Decides.{nat_tests}
-use Rattle.std.proofs.lemmas.List.{take-append-drop}
 use Rattle.counts.specs.Amounts.{amount, Fits}
 use Rattle.claims.specs.declared.row.Row.{Row}
-use Rattle.claims.specs.Claims.{Claims, IsTable, Pairwise, IsLower, row_at, no_row}
-use Rattle.claims.proofs.Tables.{pairwise_without}
+use Rattle.claims.specs.Claims.{Claims, IsTable, Pairwise, IsLower, row_at}
 use Rattle.claims.specs.Safety.{freed}
 use Rattle.ordered_safety.specs.Compared.{GoesNext, AreTurns, scan_tests, ScanTakes, IsNext, CheckTakes}
 use Rattle.ordered_safety.specs.Carried.{AfterPageTakes, carried}
-use Rattle.ordered_safety.proofs.Picks.{all_get}
+use Rattle.ordered_safety.proofs.Picks.{lower_at, rising_without}
 
 goes_once : (free : ℕ → ℕ) (rows : List Row) (a b : ℕ) → GoesNext free rows a → GoesNext free rows b → a ≡ b
 goes_once free rows a b g h = by (nat_lt a b) (nat_lt b a) refl refl
@@ -34,14 +32,6 @@ pub one_number : (free : ℕ → ℕ) (rows : List Row) (n m : ℕ) → ScanTake
 one_number free rows n m x y = x.2 ∙ (ap (scan_tests rows) (turns_once free rows x.0 y.0 x.1 y.1) ∙ sym y.2)
 
 -- numbers rise with the places
-pub lower_at : (rows : List Row) (i j : ℕ) → i < j → j < length rows → Pairwise IsLower rows → (row_at rows i).number < (row_at rows j).number
-lower_at [] i j lt le low = absurd (omega arith)
-lower_at (x ∷ xs) zero zero lt le low = absurd (omega arith)
-lower_at (x ∷ xs) zero (suc j) lt le low = all_get (IsLower x) xs j no_row (omega arith) low.0
-lower_at (x ∷ xs) (suc i) zero lt le low = absurd (omega arith)
-lower_at (x ∷ xs) (suc i) (suc j) lt le low = lower_at xs i j (omega arith) (omega arith) low.1
-
--- and stay where the places are equal
 pub low_upto : (rows : List Row) (i j : ℕ) → i ≤ j → j < length rows → Pairwise IsLower rows → (row_at rows i).number ≤ (row_at rows j).number
 low_upto rows i j le lt low = elim (cases_lt i j) [
   | inl below ↦ let l = lower_at rows i j below lt low in omega arith
@@ -64,17 +54,11 @@ next_once rows number a b low x y = by (nat_lt a b) (nat_lt b a) refl refl
         omega arith)
     by false false e f = grind (arith, nat_tests)
 
-rising_without : (rows : List Row) (at : ℕ) → at < length rows → Pairwise IsLower rows → Pairwise IsLower (remove rows at)
-rising_without rows at lt low =
-    pairwise_without IsLower (take at rows) (row_at rows at) (drop (suc at) rows)
-    (subst (Pairwise IsLower) (sym (take-append-drop at rows) ∙ ap (λ (r : List Row). take at rows ++ r) (drop-cons rows at no_row lt)) low)
-
--- the comparison of the row at a place, and of those after it
-abbrev Compares : (ℕ → ℕ) → List Row → List ℕ → ℕ → ℕ → Type 0
-Compares free rows numbers tests at =
-    (¬ (Fits (row_at rows at).need free) × (tests ≡ 1))
-    ⊎ (Fits (row_at rows at).need free × (later : ℕ) × (tests ≡ later + 1)
-    × CheckTakes (freed free (row_at rows at)) (remove rows at) numbers later)
+-- the comparison of a row, and those of the others after it
+abbrev pub Compares : (ℕ → ℕ) → Row → List Row → List ℕ → ℕ → Type 0
+Compares free x others numbers tests =
+    (¬ (Fits x.need free) × (tests ≡ 1))
+    ⊎ (Fits x.need free × (later : ℕ) × (tests ≡ later + 1) × CheckTakes (freed free x) others numbers later)
 
 pub one_of_order : (free : ℕ → ℕ) (rows : List Row) (numbers : List ℕ) (n m : ℕ) → Pairwise IsLower rows → CheckTakes free rows numbers n → CheckTakes free rows numbers m → n ≡ m
 one_of_order free rows [] n m low x y = x ∙ sym y
@@ -84,7 +68,7 @@ one_of_order free rows (number ∷ numbers) n m low x y = elim x [
     | inl t ↦ absurd (t.0 s.0 s.1)
     | inr t ↦
         let same : t.0 ≡ s.0 = next_once rows number t.0 s.0 low t.1 s.1 in
-        let other : Compares free rows numbers m s.0 = subst (Compares free rows numbers m) same t.2 in
+        let other = subst (λ (at : ℕ). Compares free (row_at rows at) (remove rows at) numbers m) same t.2 in
         elim s.2 [
           | inl over ↦ elim other [ inl over' ↦ over.1 ∙ sym over'.1 | inr goes ↦ absurd (over.0 goes.0) ]
           | inr goes ↦ elim other [

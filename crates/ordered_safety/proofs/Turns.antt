@@ -1,56 +1,136 @@
--- One turn of the scan.
-use Rattle.std.proofs.Common.{◌≡◌, ℕ, suc, ◌+◌, ◌*◌, ◌<◌, ◌≤◌, Option, Some, List, [], ◌∷◌, length, get_or, take, drop, refl, subst, ap, ◌∙◌, arith}
-use Rattle.std.specs.Prelude.{IfSome, slice_index, All, remove}
-use Rattle.std.proofs.lemmas.List.{get_or_default, same_lists, length-map}
+-- One turn after the other: what is known of the rows that are left, and what a check of an order and a scan have found so far.
+use Rattle.std.proofs.Common.{◌≡◌, ℕ, suc, ◌+◌, ◌<◌, ◌^◌, ◌↔◌, List, [], ◌∷◌, ◌++◌, length, take, drop, inl, inr, refl, subst, ap, ap₂, sym, ◌∙◌, append-nil, append_assoc, arith}
+use Rattle.std.proofs.Math.Path.{fun_ext}
+use Rattle.std.specs.Prelude.{slice_index, All, remove}
+use Rattle.std.proofs.lemmas.List.{get_or_default, get_or-map, same_lists, length-map}
 use Rattle.std.proofs.lemmas.List.Elements.{All-get_or, All-append, All-take, All-drop}
-use Rattle.counts.specs.Amounts.{amount, sum_of}
-use Rattle.counts.proofs.Sums.{amount-sum_of}
+use Rattle.std.proofs.lemmas.List.Sums.{sum_by-remove}
+use Rattle.counts.specs.Amounts.{amount, sum_of, Fits}
+use Rattle.counts.proofs.Sums.{amount-sum_of, length-sum_of}
 use Rattle.claims.specs.declared.row.Row.{Row}
-use Rattle.claims.specs.Claims.{HaveKinds, row_at, no_row}
-use Rattle.claims.specs.Safety.{IsFinishingOrder}
-use Rattle.ordered_safety.specs.Scan.{rows_at, row_of, MayGoAt}
-use Rattle.ordered_safety.proofs.Picks.{get_or_map, Gives}
+use Rattle.claims.specs.Claims.{HaveKinds, IsLower, Pairwise, held_of, row_at, no_row}
+use Rattle.claims.specs.Safety.{freed, AreFinishing, HasFinishingOrder, IsFinishingOrder}
+use Rattle.claims.proofs.Orders.{none_ordered}
+use Rattle.ordered_safety.specs.Scan.{rows_at, row_of, StaysSmall}
+use Rattle.ordered_safety.specs.Compared.{compared, GoesNext, NoneCanGo, ScanTakes, IsNext, NoneIsNext, CheckTakes}
+use Rattle.ordered_safety.proofs.Picks.{row_there, same_remove, rising_without, order_before, safe_after, numbers_from, none_safe, some_next}
+
+-- the rows that are left at these places, and what is free
+pub record Leaving (rows : List Row) (left start free : List ℕ) : Type 0 where
+  pub rising : Pairwise IsLower (rows_at rows left)
+  pub there : All (λ j. j < length rows) left
+  pub small : StaysSmall free (rows_at rows left)
+  pub kinds : length free ≡ length start
 
 -- all places give all rows
-pub all_rows : (rows : List Row) (left : List ℕ) → length left ≡ length rows → ((j : ℕ) → j < length rows → slice_index left j ≡ j) → rows_at rows left ≡ rows
-all_rows rows left len each =
-    let n : length (rows_at rows left) ≡ length rows = length-map left (row_at rows) ∙ len in
-    same_lists (rows_at rows left) rows n (λ k d lt.
-    get_or_default (rows_at rows left) k d no_row lt ∙ (get_or_map rows left k (omega arith) ∙ (ap (row_at rows) (each k (omega arith)) ∙ get_or_default rows k no_row d (omega arith))))
+module _ (rows : List Row) (left : List ℕ) (len : length left ≡ length rows) (each : (j : ℕ) → j < length rows → slice_index left j ≡ j) where
+  pub all_rows : rows_at rows left ≡ rows
+  all_rows = same_lists (rows_at rows left) rows (length-map left (row_at rows) ∙ len) (λ k d lt.
+      let below : k < length rows = omega (arith, length-map left (row_at rows)) in
+      get_or-map (row_at rows) left k 0 d (omega arith) ∙ (ap (row_at rows) (each k below) ∙ get_or_default rows k no_row d below))
 
-pub all_there : (rows : List Row) (left : List ℕ) → length left ≡ length rows → ((j : ℕ) → j < length rows → slice_index left j ≡ j) → All (λ j. j < length rows) left
-all_there rows left len each = λ k d lt.
-    let e = each k (omega arith) in
-    let f = get_or_default left k d 0 lt in
-    omega arith
+  pub leaving_all : (free : List ℕ) → Pairwise IsLower rows → StaysSmall free rows → Leaving rows left free free
+  leaving_all free rising small = record {
+    rising = subst (Pairwise IsLower) (sym all_rows) rising;
+    there = λ k d lt. (let e = each k (omega arith) in let f = get_or_default left k d 0 lt in omega arith);
+    small = subst (StaysSmall free) (sym all_rows) small;
+    kinds = refl;
+  }
 
--- the row that was read is the one at that place
-pub row_is : (rows : List Row) (left : List ℕ) (at place : ℕ) (row : Row) → at < length left → place ≡ get_or left at place → row ≡ row_at rows place → row ≡ row_of rows left at
-row_is rows left at place row lt is got = got ∙ ap (row_at rows) (is ∙ get_or_default left at place 0 lt)
+-- what is free once the row at a place gave back what it holds
+pub given : (rows : List Row) (places start free more : List ℕ) (row : Row) → All (λ j. j < length rows) places → HaveKinds (length start) rows → (at : ℕ) → at < length places → row ≡ row_of rows places at → length free ≡ length start → more ≡ sum_of free row.held
+    → amount more ≡ freed (amount free) (row_of rows places at)
+given rows places start free more row within kinds at there is same sum = fun_ext (λ kind.
+    let place : slice_index places at < length rows = All-get_or (λ j. j < length rows) places at 0 there within in
+    let here = All-get_or (λ (r : Row). (length r.held ≡ length start) × (length r.need ≡ length start)) rows (slice_index places at) no_row place kinds in
+    let held = ap (λ (r : Row). length r.held) is in
+    ap (λ (f : List ℕ). amount f kind) sum ∙ (amount-sum_of free row.held kind (held ∙ (here.0 ∙ sym same)) ∙ ap (λ (r : Row). amount free kind + amount r.held kind) is))
 
-pub held_kinds : (kinds : ℕ) (rows : List Row) (left : List ℕ) (at : ℕ) → HaveKinds kinds rows → All (λ j. j < length rows) left → at < length left → length (row_of rows left at).held ≡ kinds
-held_kinds kinds rows left at h there lt =
-    let r : slice_index left at < length rows = All-get_or (λ j. j < length rows) left at 0 lt there in
-    let k : (length (row_of rows left at).held ≡ kinds) × (length (row_of rows left at).need ≡ kinds) = All-get_or (λ (r : Row). (length r.held ≡ kinds) × (length r.need ≡ kinds)) rows (slice_index left at) no_row r h in
-    k.0
+-- the row that goes
+module _ {rows : List Row} {left start free : List ℕ} {row : Row} (l : Leaving rows left start free) (kinds : HaveKinds (length start) rows) (at : ℕ) (there : at < length left) (is : row ≡ row_of rows left at) where
+  held_after : (kind : ℕ) → held_of kind (rows_at rows (remove left at)) + amount row.held kind ≡ held_of kind (rows_at rows left)
+  held_after kind =
+      let s = sum_by-remove (λ (r : Row). amount r.held kind) (rows_at rows left) at no_row (omega (arith, length-map left (row_at rows))) in
+      let e = ap (held_of kind) (same_remove rows left at) in
+      let f = ap (λ (r : Row). amount r.held kind) (is ∙ sym (row_there rows left at there)) in
+      omega arith
 
-pub gives_back : (free more : List ℕ) (row x : Row) → more ≡ sum_of free row.held → row ≡ x → length x.held ≡ length free → Gives free x more
-gives_back free more row x sum same len kind =
-    ap (λ (r : List ℕ). amount r kind) sum ∙ (ap (λ (r : Row). amount (sum_of free r.held) kind) same ∙ amount-sum_of free x.held kind len)
+  -- what is free and what it gives back are amounts
+  pub room_back : (kind : ℕ) → amount free kind + amount row.held kind < 2 ^ 32
+  room_back kind = omega (arith, held_after kind, l.small kind)
 
-pub few_tests : (t u m n k : ℕ) → u ≤ m → 2 * t + m * (m + 1) ≤ k → n + 1 ≡ m → 2 * (t + u) + n * (n + 1) ≤ k
-few_tests t u m n k = grind arith
+  pub given_back : (more : List ℕ) → more ≡ sum_of free row.held → amount more ≡ freed (amount free) (row_at (rows_at rows left) at)
+  given_back more sum = given rows left start free more row l.there kinds at there is l.kinds sum ∙ ap (freed (amount free)) (sym (row_there rows left at there))
 
-pub first_tests : (m n : ℕ) → m ≡ n → 2 * 0 + m * (m + 1) ≤ n * (n + 1)
-first_tests m n e = subst (λ (k : ℕ). 2 * 0 + m * (m + 1) ≤ k * (k + 1)) e (omega arith)
+  pub leaving_others : (more now : List ℕ) → more ≡ sum_of free row.held → now ≡ remove left at → Leaving rows now start more
+  leaving_others more now sum e = subst (λ (places : List ℕ). Leaving rows places start more) (sym e) (record {
+    rising = subst (Pairwise IsLower) (sym (same_remove rows left at)) (rising_without (rows_at rows left) at (omega (arith, length-map left (row_at rows))) l.rising);
+    there = All-append (λ j. j < length rows) (take at left) (drop (suc at) left) (All-take (λ j. j < length rows) at left l.there) (All-drop (λ j. j < length rows) (suc at) left l.there);
+    small = λ kind.
+        let f = ap (λ (g : ℕ → ℕ). g kind) (given_back more sum) in
+        let r = ap (λ (r : Row). amount r.held kind) (is ∙ sym (row_there rows left at there)) in
+        omega (arith, held_after kind, l.small kind);
+    kinds = ap length sum ∙ (length-sum_of free row.held ∙ l.kinds);
+  })
 
--- of the place that was found, at the list and the option that were read
-pub found_at : (rows : List Row) (now left free : List ℕ) (o : Option ℕ) (at : ℕ) → now ≡ left → o ≡ Some at → IfSome o (MayGoAt rows now free) → MayGoAt rows left free at
-found_at rows now left free o at e is h = subst (λ (l : List ℕ). MayGoAt rows l free at) e (subst (λ (p : Option ℕ). IfSome p (MayGoAt rows now free)) is h)
+-- numbers are followed up to here: the rest decides on the rows that are left, and so many comparisons were made
+pub record Followed (start : ℕ → ℕ) (rows : List Row) (numbers : List ℕ) (free : ℕ → ℕ) (left : List Row) (rest : List ℕ) (tests : ℕ) : Type 0 where
+  pub exact : AreFinishing free left rest ↔ AreFinishing start rows numbers
+  pub taken : (n m : ℕ) → tests + n ≡ m → CheckTakes free left rest n → CheckTakes start rows numbers m
 
-pub all_removed : (P : ℕ → Type 0) (xs : List ℕ) (at : ℕ) → All P xs → All P (remove xs at)
-all_removed P xs at h = All-append P (take at xs) (drop (suc at) xs) (All-take P at xs h) (All-drop P (suc at) xs h)
+-- the next number
+module _ {start free : ℕ → ℕ} {rows left : List Row} {numbers rest : List ℕ} {number tests : ℕ} (s : Followed start rows numbers free left (number ∷ rest) tests) (low : Pairwise IsLower left) where
+  pub followed_none : NoneIsNext left number → ¬ (AreFinishing start rows numbers) × CheckTakes start rows numbers tests
+  followed_none none = (
+    λ h. (let w = some_next free left number rest low (s.exact.1 h) in none w.0 w.1),
+    s.taken 0 tests (omega arith) (inl (none, refl)),
+  )
 
-pub none_left : (free : ℕ → ℕ) (rows : List Row) (left : List ℕ) → length left ≡ 0 → IsFinishingOrder free (rows_at rows left) []
-none_left free rows [] e = record { each_once = refl; in_line = tt; fits = tt }
-none_left free rows (i ∷ left) e = absurd (omega arith)
+  pub followed_over : (at : ℕ) → IsNext left number at → ¬ (Fits (row_at left at).need free) → ¬ (AreFinishing start rows numbers) × CheckTakes start rows numbers (tests + 1)
+  followed_over at next over = (
+    λ h. over ((numbers_from left at next.there low free number rest next).0 (s.exact.1 h)).0,
+    s.taken 1 (tests + 1) refl (inr (at, next, inl (over, refl))),
+  )
+
+  pub followed_more : (at : ℕ) → IsNext left number at → Fits (row_at left at).need free → Followed start rows numbers (freed free (row_at left at)) (remove left at) rest (tests + 1)
+  followed_more at next fits =
+      let f = numbers_from left at next.there low free number rest next in
+      record {
+        exact = (λ h. s.exact.0 (f.1 (fits, h)), λ h. (f.0 (s.exact.1 h)).1);
+        taken = λ n m e h. s.taken (n + 1) m (omega arith) (inr (at, next, inr (fits, n, refl, h)));
+      }
+
+-- no number is left
+pub followed_all : {start free : ℕ → ℕ} {rows left : List Row} {numbers : List ℕ} {tests : ℕ} → Followed start rows numbers free left [] tests → ((left ≡ []) ↔ AreFinishing start rows numbers) × CheckTakes start rows numbers tests
+followed_all {free = free} {left = left} {tests = tests} s = (
+  (λ e. s.exact.0 ([], record { each_once = e; in_line = tt; fits = tt }, refl), λ h. none_ordered free left (s.exact.1 h)),
+  s.taken 0 tests (omega arith) refl,
+)
+
+-- a scan up to here: these rows went, the others decide, and so many comparisons were made
+pub record Scanned (start : ℕ → ℕ) (rows : List Row) (free : ℕ → ℕ) (left gone : List Row) (tests : ℕ) : Type 0 where
+  pub only : (order : List Row) → IsFinishingOrder free left order → IsFinishingOrder start rows (gone ++ order)
+  pub still : HasFinishingOrder start rows → HasFinishingOrder free left
+  pub taken : (n m : ℕ) → tests + n ≡ m → ScanTakes free left n → ScanTakes start rows m
+
+module _ {start free : ℕ → ℕ} {rows left gone : List Row} {tests : ℕ} (s : Scanned start rows free left gone tests) where
+  -- one more row goes
+  pub scanned_more : (at t : ℕ) → Pairwise IsLower left → GoesNext free left at → t ≡ compared left (at + 1) → Scanned start rows (freed free (row_at left at)) (remove left at) (gone ++ row_at left at ∷ []) (tests + t)
+  scanned_more at t low goes e = record {
+    only = λ order h. subst (IsFinishingOrder start rows) (sym (append_assoc gone (row_at left at ∷ []) order))
+        (s.only (row_at left at ∷ order) (order_before left at goes.0.there low free order goes.0.fits goes.0.in_line h));
+    still = λ h. safe_after left at goes.0.there low free (s.still h);
+    taken = λ n m f h. s.taken (t + n) m (omega arith) (at ∷ h.0, (goes, h.1), ap₂ (λ (a b : ℕ). a + b) e h.2);
+  }
+
+  -- none may go
+  pub scanned_stuck : (t : ℕ) → 0 < length left → Pairwise IsLower left → NoneCanGo free left → t ≡ compared left (length left) → ¬ (HasFinishingOrder start rows) × ScanTakes start rows (tests + t)
+  scanned_stuck t some low none e = (λ h. none_safe free left some low none (s.still h), s.taken t (tests + t) refl ([], none, e))
+
+  -- none is left
+  pub scanned_all : left ≡ [] → IsFinishingOrder start rows gone × ScanTakes start rows tests
+  scanned_all e =
+      let all : Scanned start rows free [] gone tests = subst (λ (l : List Row). Scanned start rows free l gone tests) e s in (
+        subst (IsFinishingOrder start rows) (append-nil gone) (all.only [] (record { each_once = refl; in_line = tt; fits = tt })),
+        all.taken 0 tests (omega arith) ([], λ at m. absurd (omega (arith, m.there)), refl),
+      )

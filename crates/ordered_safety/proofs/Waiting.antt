@@ -1,16 +1,19 @@
--- How many earlier rows of its line each row waits for, and how that changes when a row goes.
-use Rattle.std.proofs.Common.{◌≡◌, inl, inr, ℕ, zero, suc, ◌+◌, ◌<◌, ◌≤◌, ◌↔◌, Bool, true, false, cond, List, [], ◌∷◌, ◌++◌, length, get_or, set, take, drop, refl, subst, ap, ap₂, sym, ◌∙◌, arith, below_more}
-use Rattle.std.specs.Prelude.{slice_index, remove}
-use Rattle.std.specs.List.{count_by, sum_by}
-use Rattle.std.proofs.lemmas.List.{get_or_append_left, get_or_push, get_or-take, get_or-set_same, get_or-set_other, length-map, length-set, length-take-le, take-map, take-take, take-append-le}
+-- How many earlier rows of its line each row waits for, how that changes when a row goes, and whose needs are compared.
+use Rattle.std.proofs.Common.{◌≡◌, inl, inr, ℕ, zero, suc, ◌+◌, ◌<◌, ◌≤◌, ◌↔◌, Bool, true, false, cond, List, [], ◌∷◌, ◌++◌, length, length-take, get_or, set, take, drop, refl, subst, ap, ap₂, sym, ◌∙◌, add-one, arith, below_more}
+use Rattle.std.specs.Prelude.{slice_index, remove, All}
+use Rattle.std.specs.List.{count_by, list_any, sum_by}
+use Rattle.std.proofs.lemmas.List.{get_or_append_left, get_or_push, get_or-take, get_or-set_same, get_or-set_other, length-set, length-take-le, take-map, take-take, take-append-le}
 use Rattle.std.proofs.lemmas.List.Edits.{length-remove, get_or-remove_below, get_or-remove_above}
-use Rattle.std.proofs.lemmas.List.Sums.{sum_by-cons, sum_by-remove}
-use Rattle.std.proofs.lemmas.Bool.{cases_lt}
+use Rattle.std.proofs.lemmas.List.Elements.{All-from_get_or}
+use Rattle.std.proofs.lemmas.List.Folds.{list_any_none, list_any_at}
+use Rattle.std.proofs.lemmas.List.Sums.{get_or-le-sum_by, sum_by-le, sum_by-remove}
+use Rattle.std.proofs.lemmas.Bool.{cases_lt, cases_Bool}
 use Rattle.claims.specs.declared.row.Row.{Row}
 use Rattle.claims.specs.Claims.{row_at, no_row}
 use Rattle.claims.specs.Safety.{same_line}
-use Rattle.ordered_safety.specs.Scan.{rows_at, row_of, ahead_of, CountsAhead, IsHead}
-use Rattle.ordered_safety.proofs.Comparisons.{row_there}
+use Rattle.ordered_safety.specs.Scan.{rows_at, row_of, ahead_of, CountsAhead}
+use Rattle.ordered_safety.specs.Compared.{HasNoEarlier, compared}
+use Rattle.ordered_safety.proofs.Picks.{refuted, row_there}
 
 -- one more count
 pub counts_more : (f : ℕ → ℕ) (counts pushed : List ℕ) (n at : ℕ) → pushed ≡ counts ++ n ∷ [] → length counts ≡ at → ((j : ℕ) → j < at → get_or counts j 0 ≡ f j) → n ≡ f at → (j : ℕ) → j < at + 1 → get_or pushed j 0 ≡ f j
@@ -33,10 +36,36 @@ plus_one a b c n e f g = omega arith
 pub waits : (xs : List Row) (gone at : ℕ) → gone < at → at < length xs → same_line (row_at xs at) (row_at xs gone) ≡ true → 0 < ahead_of xs at
 waits xs gone at lt le e =
     let f : Row → ℕ = λ x. cond (same_line (row_at xs at) x) 1 0 in
-    let len : length (take at xs) ≡ at = length-take-le at xs (omega arith) in
-    let sum = sum_by-remove f (take at xs) gone no_row (omega arith) in
+    let most = get_or-le-sum_by f (take at xs) gone no_row (omega (arith, length-take-le at xs)) in
     let here : f (get_or (take at xs) gone no_row) ≡ 1 = ap f (get_or-take at xs gone no_row lt) ∙ ap (λ (b : Bool). cond b 1 0) e in
     omega arith
+
+-- where none is, none is among the rows before it
+none_taken : (xs : List Row) (at : ℕ) → HasNoEarlier xs at → All (λ y. same_line (row_at xs at) y ≡ false) (take at xs)
+none_taken xs at none = All-from_get_or (λ y. same_line (row_at xs at) y ≡ false) (take at xs) no_row (λ j lt.
+    let below : j < at = omega (arith, length-take at xs) in ap (same_line (row_at xs at)) (get_or-take at xs j no_row below) ∙ none j below)
+
+-- the counts tell of which rows none before them is of their line
+pub head_where : (xs : List Row) (counts : List ℕ) (at : ℕ) → CountsAhead xs counts → at < length xs → (slice_index counts at ≡ 0) ↔ HasNoEarlier xs at
+head_where xs counts at h lt = (
+  λ zero j below. refuted (same_line (row_at xs at) (row_at xs j)) (λ same. omega (arith, waits xs j at below lt same, h.each at lt)),
+  λ none.
+      let most = sum_by-le (λ x. cond (same_line (row_at xs at) x) 1 0) 0 (take at xs) (λ k d there. rw (none_taken xs at none k d there) (omega arith)) in
+      omega (arith, h.each at lt),
+)
+
+-- the need of such a row is compared
+pub compared_head : (xs : List Row) (at : ℕ) → HasNoEarlier xs at → compared xs (at + 1) ≡ compared xs at + 1
+compared_head xs at none = rw (add-one at, list_any_none (same_line (row_at xs at)) (take at xs) (none_taken xs at none)) refl
+
+-- and that of another isn't
+pub compared_other : (xs : List Row) (at : ℕ) → at < length xs → (HasNoEarlier xs at → ⊥) → compared xs (at + 1) ≡ compared xs at
+compared_other xs at lt some = elim (cases_Bool (list_any (same_line (row_at xs at)) (take at xs))) [
+  | inl any ↦ rw (add-one at, any) (omega arith)
+  | inr none ↦ absurd (some (λ j below. refuted (same_line (row_at xs at) (row_at xs j)) (λ same.
+      let any = list_any_at (same_line (row_at xs at)) (take at xs) j no_row (omega (arith, length-take at xs)) (ap (same_line (row_at xs at)) (get_or-take at xs j no_row below) ∙ same) in
+      cc)))
+]
 
 -- each later row up to `at` of the line of the row that goes counts one less
 pub record Less (xs : List Row) (counts : List ℕ) (gone at : ℕ) : Type 0 where
@@ -131,27 +160,3 @@ less_removed xs counts gone at lt end h =
             omega arith
       ];
     }
-
-none_counted : (p : Row → Bool) (rows : List Row) (places : List ℕ) → ((j : ℕ) → j < length places → p (row_at rows (slice_index places j)) ≡ false) → count_by p (rows_at rows places) ≡ 0
-none_counted p rows [] none = refl
-none_counted p rows (i ∷ places) none =
-    let first : cond (p (row_at rows i)) 1 0 ≡ 0 = ap (λ (b : Bool). cond b 1 0) (none 0 (omega arith)) in
-    let rest = none_counted p rows places (λ j lt. none (suc j) (omega arith)) in
-    let s = sum_by-cons (λ (x : Row). cond (p x) 1 0) (row_at rows i) (rows_at rows places) in
-    s ∙ (ap₂ (λ (a b : ℕ). a + b) first rest)
-
--- a row that waits for none is a head
-pub head_where : (rows : List Row) (left : List ℕ) (at : ℕ) → at < length left → (ahead_of (rows_at rows left) at ≡ 0) ↔ IsHead rows (take at left) (slice_index left at)
-head_where rows left at lt = (
-  λ none j below.
-      let small : length (take at left) ≡ at = length-take-le at left (omega arith) in
-      let here : slice_index (take at left) j ≡ slice_index left j = get_or-take at left j 0 (omega arith) in
-      let same : same_line (row_of rows left at) (row_at rows (slice_index (take at left) j)) ≡ same_line (row_at (rows_at rows left) at) (row_at (rows_at rows left) j) =
-      ap₂ same_line (sym (row_there rows left at lt)) (ap (row_at rows) here ∙ sym (row_there rows left j (omega arith))) in
-      same ∙ by j (omega arith) none (same_line (row_at (rows_at rows left) at) (row_at (rows_at rows left) j)) refl,
-  λ head. sym (ahead_there rows left at lt) ∙ none_counted (same_line (row_of rows left at)) rows (take at left) head,
-)
-  where
-    by : (j : ℕ) → j < at → ahead_of (rows_at rows left) at ≡ 0 → (b : Bool) → same_line (row_at (rows_at rows left) at) (row_at (rows_at rows left) j) ≡ b → b ≡ false
-    by j lt' none false e = refl
-    by j lt' none true e = absurd (let n = length-map left (row_at rows) in let w = waits (rows_at rows left) j at lt' (omega arith) e in omega arith)

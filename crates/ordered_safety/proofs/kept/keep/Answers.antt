@@ -1,19 +1,16 @@
 use Rattle.std.proofs.Common.{length, map, subst, ap, sym, ◌∙◌, arith}
 use Rattle.std.proofs.lemmas.Grind.{common_steps}
-use Rattle.std.proofs.lemmas.List.{take_all, length-map}
-use Rattle.ordered_safety.specs.Scan.{rows_at}
+use Rattle.std.proofs.lemmas.List.{take_all}
 use Rattle.ordered_safety.specs.Kept.{kept_numbers, KeepsLines}
 use Rattle.ordered_safety.proofs.Keeps.{kept_at, kept_numbers_are, lines_kept}
-use Rattle.ordered_safety.proofs.Walks.{order_long}
-use Rattle.claims.specs.Claims.{row_at}
+use Rattle.ordered_safety.proofs.Walks.{as_many}
 use Rattle.ordered_safety.proofs.kept.keep.Goals as goal
 
 pub unwrap-requires : goal.unwrap-requires
 unwrap-requires c =
     let rows = c.args.rows.now in
     let places = c.args.places.now in
-    let long = order_long rows (rows_at rows places) c.requires.once in
-    let as_many = length-map places (row_at rows) in
+    let long = as_many rows places c.requires.once in
     let room = c.loop-place.invariant.room in
     let len = ap length c.loop-place.invariant.kept in
     grind (arith, common_steps)

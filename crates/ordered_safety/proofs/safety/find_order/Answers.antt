@@ -1,10 +1,7 @@
 use Rattle.std.proofs.Common.{◌≡◌, length, not, Bool, true, false, refl, ap, ◌∙◌, arith}
 use Rattle.std.specs.Prelude.{IsTrue}
-use Rattle.std.proofs.lemmas.List.{length-map}
 use Rattle.std.proofs.lemmas.Grind.{common_steps}
-use Rattle.claims.specs.Claims.{row_at}
-use Rattle.ordered_safety.specs.Scan.{rows_at}
-use Rattle.ordered_safety.proofs.Walks.{order_long}
+use Rattle.ordered_safety.proofs.Walks.{as_many}
 use Rattle.ordered_safety.proofs.safety.find_order.Goals as goal
 
 was_true : (b : Bool) → not b ≡ false → IsTrue b
@@ -16,8 +13,7 @@ put_numbers-requires-clause-room c =
     let rows = c.plain-rows.result in
     let places = c.scan-verdict.new.places.items in
     let order = c.scan-verdict.ensures.order (was_true c.scan-verdict.result.safe c.if-not-verdict.false) in
-    let long = order_long rows (rows_at rows places) order.each_once in
-    let as_many = length-map places (row_at rows) in
+    let long = as_many rows places order.each_once in
     let same = ap length c.as_slice.ensures.value in
     let table = ap length (c.plain-rows.ensures ∙ c.rows.ensures.rows) in
     grind (arith, common_steps)

@@ -1,11 +1,9 @@
 use Rattle.std.proofs.Common.{◌≡◌, List, length, subst, ap, ◌∙◌, ℕ, arith}
-use Rattle.std.proofs.lemmas.List.{length-map}
 use Rattle.counts.specs.Amounts.{amount}
-use Rattle.claims.specs.Claims.{row_at}
 use Rattle.claims.specs.Safety.{AreFinishing}
 use Rattle.ordered_safety.specs.Scan.{rows_at}
 use Rattle.ordered_safety.specs.Carried.{numbers_of}
-use Rattle.ordered_safety.proofs.Walks.{finishing_is, order_long}
+use Rattle.ordered_safety.proofs.Walks.{finishing_is, as_many}
 use Rattle.ordered_safety.proofs.trial.try_kept.Goals as goal
 
 pub returns-then-carry-clause-order : goal.returns-then-carry-clause-order
@@ -18,8 +16,7 @@ pub put_numbers-requires-clause-room : goal.put_numbers-requires-clause-room
 put_numbers-requires-clause-room c =
     let rows = c.args.rows.now in
     let places = c.carry.new.places.items in
-    let long = order_long rows (rows_at rows places) c.carry.ensures.once in
-    let as_many = length-map places (row_at rows) in
+    let long = as_many rows places c.carry.ensures.once in
     let same = ap length c.as_slice-2.ensures.value in
     let room = c.requires.numbers in
     omega arith

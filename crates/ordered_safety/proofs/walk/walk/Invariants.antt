@@ -1,8 +1,7 @@
-use Rattle.std.proofs.Common.{◌≡◌, ℕ, ◌+◌, ◌↔◌, length, drop}
+use Rattle.std.proofs.Common.{◌≡◌, length, drop}
 use Rattle.counts.specs.Amounts.{amount}
-use Rattle.claims.specs.Safety.{CanFinish}
 use Rattle.ordered_safety.specs.Scan.{StaysSmall, rows_at}
-use Rattle.ordered_safety.proofs.Walks.{WalkTakes}
+use Rattle.ordered_safety.proofs.Walks.{Walked}
 use Rattle.ordered_safety.proofs.walk.walk.Given as goal
 
 abbrev pub invariant-loop-place : goal.invariant-loop-place
@@ -10,6 +9,5 @@ invariant-loop-place l = record {
   tests : l.tests ≡ l.place-index;
   small : StaysSmall l.free (rows_at l.rows (drop l.place-index l.places));
   kinds : length l.free ≡ length l.fn.free;
-  finish : CanFinish (amount l.free) (rows_at l.rows (drop l.place-index l.places)) ↔ CanFinish (amount l.fn.free) (rows_at l.rows l.places);
-  taken : (n : ℕ) → WalkTakes (amount l.free) (rows_at l.rows (drop l.place-index l.places)) n → WalkTakes (amount l.fn.free) (rows_at l.rows l.places) (l.tests + n);
+  walked : Walked (amount l.fn.free) (rows_at l.rows l.places) (amount l.free) (rows_at l.rows (drop l.place-index l.places)) l.tests;
 }
