@@ -1,13 +1,14 @@
 -- Carrying a kept order to the rows: what each kept row adds.
+use Rattle.std.proofs.Math.Bool.{or-false, or-true}
 use Rattle.std.proofs.Common.{◌≡◌, ◌≢◌, inl, inr, ℕ, suc, ◌+◌, ◌<◌, ◌≤◌, Bool, true, false, not, ◌||◌, cond, List, [], ◌∷◌, ◌++◌, length, get_or, set, take, drop, refl, subst, ap, ap₂, sym, ◌∙◌, arith, append_assoc, append-nil}
-use Rattle.std.specs.Prelude.{All, ◌==◌, slice_index_or, filter}
+use Rattle.std.specs.Prelude.{All, ◌==◌, slice_index_or, filter, remove}
 use Rattle.std.specs.List.{AllByRecursion, count_by, list_any}
-use Rattle.std.proofs.lemmas.List.{get_or_default, get_or-set_same, get_or-set_other, get_or-take, get_or-map, length-map, length-set, length-take-le, length_push, map-append, map_more, drop_more}
-use Rattle.std.proofs.lemmas.List.Elements.{All-push, All-weaker, All-from_recursion, recursion_from_All, filter-append, filter_more}
+use Rattle.std.proofs.lemmas.List.{get_or_default, get_or-set_same, get_or-set_other, get_or-take, get_or-map, length-map, length-set, length-take-le, length_push, map-append, map_more, map_push, drop_more}
+use Rattle.std.proofs.lemmas.List.Elements.{All-append, All-filter, All-map, All-push, All-weaker, All-from_recursion, recursion_from_All, filter-append, filter_more, filter_passes}
 use Rattle.std.proofs.lemmas.List.Folds.{list_any-append, list_any_none, list_any_at}
 use Rattle.std.proofs.lemmas.List.Sums.{sum_by-set, sum_by-cons}
 use Rattle.std.proofs.lemmas.Bool.{eq-eqb, cases_lt}
-use Rattle.std.proofs.lemmas.Bool.Decides.{eqb_tells, nat_tests}
+use Rattle.std.proofs.lemmas.Bool.Decides.{Decides-eqb, eqb_tells, nat_tests}
 use Rattle.claims.specs.declared.row.Row.{Row}
 use Rattle.claims.specs.Claims.{Pairwise, IsLower, row_at, no_row}
 use Rattle.claims.specs.Safety.{IsOrderOf, KeepsLine}
@@ -15,8 +16,8 @@ use Rattle.ordered_safety.specs.declared.kept.Kept.{Kept}
 use Rattle.ordered_safety.specs.Scan.{rows_at}
 use Rattle.ordered_safety.specs.Carried.{StandsAt, has_row, is_among, is_lacked, AreMet, numbers_of}
 use Rattle.ordered_safety.specs.Kept.{kept_numbers, KeepsLines}
-use Rattle.ordered_safety.proofs.Keeps.{Differ, others_differ}
-use Rattle.ordered_safety.proofs.Picks.{lower_at, split_at}
+use Rattle.ordered_safety.proofs.Keeps.{others_differ}
+use Rattle.ordered_safety.proofs.Picks.{refuted, same_place, split_at}
 use Rattle.claims.proofs.Lowered.{line_last as pairwise_last}
 
 abbrev pub no_kept : Kept
@@ -48,11 +49,7 @@ pub record Carrying (rows : List Row) (kept : List Kept) (i : ℕ) (places : Lis
 count_none : (met : List Bool) → AllByRecursion (λ mark. mark ≡ false) met → count_by not met ≡ length met
 count_none [] h = refl
 count_none (m ∷ met) h =
-    let first : cond (not m) 1 0 ≡ 1 = ap (λ (b : Bool). cond (not b) 1 0) h.0 in
-    let rest = count_none met h.1 in
-    let s = sum_by-cons (λ (b : Bool). cond (not b) 1 0) m met in
-    let t : cond (not m) 1 0 + count_by not met ≡ 1 + length met = ap₂ (λ (a b : ℕ). a + b) first rest in
-    s ∙ (t ∙ omega arith)
+    sum_by-cons (λ (b : Bool). cond (not b) 1 0) m met ∙ (ap₂ (λ (a b : ℕ). a + b) (ap (λ (b : Bool). cond (not b) 1 0) h.0) (count_none met h.1) ∙ omega arith)
 
 filter_all : (rows : List Row) → filter (is_lacked []) rows ≡ rows
 filter_all [] = refl
@@ -79,51 +76,33 @@ numbers_more kept i lt = map_more (λ (k : Kept). k.number) kept i no_kept lt
 
 -- a number of another row
 other_number : (n m : ℕ) → n ≢ m → (n == m) ≡ false
-other_number n m ne = elim (eqb_tells n m) [ inl equal ↦ absurd (ne equal.1) | inr apart ↦ apart.0 ]
-
-or_false : (a : Bool) → (a || false) ≡ a
-or_false true = refl
-or_false false = refl
-
-or_true : (a : Bool) → (a || true) ≡ true
-or_true true = refl
-or_true false = refl
+other_number n m ne = refuted (n == m) (λ e. ne ((Decides-eqb n m).0 e))
 
 among_more : (ns : List ℕ) (n : ℕ) (x : Row) → is_among (ns ++ n ∷ []) x ≡ (is_among ns x || ((n == x.number) || false))
 among_more ns n x = list_any-append (λ (k : ℕ). k == x.number) ns (n ∷ [])
 
 among_other : (ns : List ℕ) (n : ℕ) (x : Row) → n ≢ x.number → is_among (ns ++ n ∷ []) x ≡ is_among ns x
 among_other ns n x ne =
-    among_more ns n x ∙ (ap (λ (b : Bool). is_among ns x || (b || false)) (other_number n x.number ne) ∙ or_false (is_among ns x))
+    among_more ns n x ∙ (ap (λ (b : Bool). is_among ns x || (b || false)) (other_number n x.number ne) ∙ or-false (is_among ns x))
 
 among_same : (ns : List ℕ) (n : ℕ) (x : Row) → n ≡ x.number → is_among (ns ++ n ∷ []) x ≡ true
 among_same ns n x e =
-    among_more ns n x ∙ (ap (λ (b : Bool). is_among ns x || (b || false)) (eq-eqb n x.number e) ∙ or_true (is_among ns x))
+    among_more ns n x ∙ (ap (λ (b : Bool). is_among ns x || (b || false)) (eq-eqb n x.number e) ∙ or-true (is_among ns x))
 
 among_still : (ns : List ℕ) (n : ℕ) (x : Row) → is_among ns x ≡ true → is_among (ns ++ n ∷ []) x ≡ true
 among_still ns n x e = among_more ns n x ∙ ap (λ (b : Bool). b || ((n == x.number) || false)) e
 
-filter_same : (p q : Row → Bool) (xs : List Row) → AllByRecursion (λ x. p x ≡ q x) xs → filter p xs ≡ filter q xs
-filter_same p q [] h = refl
-filter_same p q (x ∷ xs) h =
-    ap₂ (λ (b : Bool) (l : List Row). cond b (x ∷ l) l) h.0 (filter_same p q xs h.1)
-
 -- a number that none of these rows has leaves what is lacked
 lacked_other : (ns : List ℕ) (n : ℕ) (xs : List Row) → AllByRecursion (λ x. n ≢ x.number) xs → filter (is_lacked (ns ++ n ∷ [])) xs ≡ filter (is_lacked ns) xs
-lacked_other ns n xs h = filter_same (is_lacked (ns ++ n ∷ [])) (is_lacked ns) xs (by xs h)
-  where
-    by : (xs : List Row) → AllByRecursion (λ x. n ≢ x.number) xs → AllByRecursion (λ x. is_lacked (ns ++ n ∷ []) x ≡ is_lacked ns x) xs
-    by [] h = tt
-    by (x ∷ xs) h = (ap not (among_other ns n x h.0), by xs h.1)
+lacked_other ns n [] h = refl
+lacked_other ns n (x ∷ xs) h = ap₂ (λ (b : Bool) (l : List Row). cond (not b) (x ∷ l) l) (among_other ns n x h.0) (lacked_other ns n xs h.1)
 
 -- a number that no row has
-none_has : (rows : List Row) (n : ℕ) → ((place : ℕ) → StandsAt rows n place → ⊥) → AllByRecursion (λ x. n ≢ x.number) rows
-none_has rows n none =
-    recursion_from_All (λ x. n ≢ x.number) rows (λ k d lt e. none k (record { there = lt; numbered = ap (λ (r : Row). r.number) (get_or_default rows k no_row d lt) ∙ sym e }))
+none_has : (rows : List Row) (n : ℕ) → ((place : ℕ) → StandsAt rows n place → ⊥) → All (λ x. n ≢ x.number) rows
+none_has rows n none = λ k d lt e. none k (record { there = lt; numbered = ap (λ (r : Row). r.number) (get_or_default rows k no_row d lt) ∙ sym e })
 
-has_none : (rows : List Row) (n : ℕ) → AllByRecursion (λ x. n ≢ x.number) rows → has_row rows n ≡ false
-has_none [] n h = refl
-has_none (x ∷ rows) n h = ap₂ (λ (a b : Bool). a || b) (other_number x.number n (λ e. h.0 (sym e))) (has_none rows n h.1)
+has_none : (rows : List Row) (n : ℕ) → All (λ x. n ≢ x.number) rows → has_row rows n ≡ false
+has_none rows n other = list_any_none (λ (row : Row). row.number == n) rows (λ k d lt. other_number (get_or rows k d).number n (λ e. other k d lt (sym e)))
 
 has_some : (rows : List Row) (n place : ℕ) → StandsAt rows n place → has_row rows n ≡ true
 has_some rows n place h = list_any_at (λ (row : Row). row.number == n) rows place no_row h.there (eq-eqb (row_at rows place).number n h.numbered)
@@ -139,12 +118,11 @@ carried_missed rows kept i places met same greatest more lt le none h =
     let n = (slice_index_or kept i no_kept).number in
     let ns = kept_numbers (take i kept) in
     let e : kept_numbers (take (i + 1) kept) ≡ ns ++ n ∷ [] = numbers_more kept i lt in
-    let differ = none_has rows n none in
-    let each = All-from_recursion (λ (x : Row). n ≢ x.number) rows differ in
+    let each = none_has rows n none in
     record {
       there = h.there;
-      found = h.found ∙ (sym (append-nil (filter (has_row rows) ns)) ∙ (sym (filter_last (has_row rows) ns n false (has_none rows n differ)) ∙ ap (filter (has_row rows)) (sym e)));
-      once = λ others o. h.once others (subst (λ (r : List Row). IsOrderOf r others) (ap (λ (l : List ℕ). filter (is_lacked l) rows) e ∙ lacked_other ns n rows differ) o);
+      found = h.found ∙ (sym (append-nil (filter (has_row rows) ns)) ∙ (sym (filter_last (has_row rows) ns n false (has_none rows n each)) ∙ ap (filter (has_row rows)) (sym e)));
+      once = λ others o. h.once others (subst (λ (r : List Row). IsOrderOf r others) (ap (λ (l : List ℕ). filter (is_lacked l) rows) e ∙ lacked_other ns n rows (recursion_from_All (λ x. n ≢ x.number) rows each)) o);
       among = rw e (All-weaker (λ place. is_among ns (row_at rows place) ≡ true) (λ place. is_among (ns ++ n ∷ []) (row_at rows place) ≡ true) (λ place a. among_still ns n (row_at rows place) a) places h.among);
       below = All-weaker (λ place. (row_at rows place).number ≤ greatest) (λ place. (row_at rows place).number ≤ more) (λ place a. omega arith) places h.below;
       as_kept = λ s. All-weaker (λ place. HasKept kept i (row_at rows place)) (λ place. HasKept kept (i + 1) (row_at rows place)) (λ place a. (a.0, let l = a.1 in omega arith, a.2)) places (h.as_kept s);
@@ -175,55 +153,23 @@ kept_line kept i j x y lt le lines a b same =
     let m = b.number in
     omega arith
 
-rows_all : (P : Row → Type 0) (rows : List Row) (places : List ℕ) → All (λ place. P (row_at rows place)) places → AllByRecursion P (rows_at rows places)
-rows_all P rows places h = by places (recursion_from_All (λ place. P (row_at rows place)) places h)
-  where
-    by : (places : List ℕ) → AllByRecursion (λ place. P (row_at rows place)) places → AllByRecursion P (rows_at rows places)
-    by [] h = tt
-    by (p ∷ places) h = (h.0, by places h.1)
+-- what is lacked before a row has the number, and then: all but that row
+module _ (rows : List Row) (place : ℕ) (ns : List ℕ) (n : ℕ) (lt : place < length rows) (number : n ≡ (row_at rows place).number) where
+  lacked_before : is_among ns (row_at rows place) ≡ false → filter (is_lacked ns) rows ≡ filter (is_lacked ns) (take place rows) ++ row_at rows place ∷ filter (is_lacked ns) (drop (suc place) rows)
+  lacked_before none =
+      ap (filter (is_lacked ns)) (split_at rows place lt)
+      ∙ (filter-append (is_lacked ns) (take place rows) (row_at rows place ∷ drop (suc place) rows)
+      ∙ rw none refl)
 
-differ_split : (a b : List Row) (x : Row) (n : ℕ) → n ≡ x.number → AllByRecursion (Differ x) (a ++ b) → AllByRecursion (λ y. n ≢ y.number) a × AllByRecursion (λ y. n ≢ y.number) b
-differ_split [] b x n e h = (tt, by b h)
-  where
-    by : (b : List Row) → AllByRecursion (Differ x) b → AllByRecursion (λ y. n ≢ y.number) b
-    by [] h = tt
-    by (y ∷ b) h = ((λ f. h.0 (sym e ∙ f)), by b h.1)
-differ_split (y ∷ a) b x n e h = let rest = differ_split a b x n e h.1 in (((λ f. h.0 (sym e ∙ f)), rest.0), rest.1)
-
--- what is lacked, without the row that is found
-abbrev Found : List Row → List ℕ → ℕ → Row → Type 0
-Found rows ns n x = (a : List Row) × (b : List Row) × (filter (is_lacked ns) rows ≡ a ++ x ∷ b) × (filter (is_lacked (ns ++ n ∷ [])) rows ≡ a ++ b)
-
-lacked_found : (a : List Row) (x : Row) (b : List Row) (ns : List ℕ) (n : ℕ) → n ≡ x.number → is_among ns x ≡ false → Pairwise IsLower (a ++ x ∷ b) → Found (a ++ x ∷ b) ns n x
-lacked_found a x b ns n e none low =
-    let d = differ_split a b x n e (others_differ a x b low) in
-    let p = is_lacked ns in
-    let q = is_lacked (ns ++ n ∷ []) in
-    let kept : filter p (a ++ x ∷ b) ≡ filter p a ++ x ∷ filter p b =
-    filter-append p a (x ∷ b) ∙ ap (λ (c : Bool). filter p a ++ cond (not c) (x ∷ filter p b) (filter p b)) none in
-    let gone : filter q (a ++ x ∷ b) ≡ filter q a ++ filter q b =
-    filter-append q a (x ∷ b) ∙ ap (λ (c : Bool). filter q a ++ cond (not c) (x ∷ filter q b) (filter q b)) (among_same ns n x e) in (
-      filter p a,
-      filter p b,
-      kept,
-      gone ∙ ap₂ (λ (l m : List Row). l ++ m) (lacked_other ns n a d.0) (lacked_other ns n b d.1),
-    )
-
-found_at : (rows : List Row) (place : ℕ) (ns : List ℕ) (n : ℕ) → place < length rows → n ≡ (row_at rows place).number → is_among ns (row_at rows place) ≡ false → Pairwise IsLower rows → Found rows ns n (row_at rows place)
-found_at rows place ns n lt e none low =
-    let x = row_at rows place in
-    subst (λ (r : List Row). Found r ns n x) (sym (split_at rows place lt))
-    (lacked_found (take place rows) x (drop (suc place) rows) ns n e none (subst (Pairwise IsLower) (split_at rows place lt) low))
-
-rows_push : (rows : List Row) (places : List ℕ) (place : ℕ) → rows_at rows (places ++ place ∷ []) ≡ rows_at rows places ++ row_at rows place ∷ []
-rows_push rows places place = map-append (row_at rows) places (place ∷ [])
-
--- rows of different places have different numbers
-place_differs : (rows : List Row) (i j : ℕ) → i < length rows → j < length rows → i ≢ j → Pairwise IsLower rows → (row_at rows i).number ≢ (row_at rows j).number
-place_differs rows i j li lj ne low e = elim (cases_lt i j) [
-  | inl below ↦ let l = lower_at rows i j below lj low in omega arith
-  | inr above ↦ let l = lower_at rows j i (omega arith) li low in omega arith
-]
+  lacked_then : Pairwise IsLower rows → filter (is_lacked (ns ++ n ∷ [])) rows ≡ filter (is_lacked ns) (take place rows) ++ filter (is_lacked ns) (drop (suc place) rows)
+  lacked_then low =
+      let p = is_lacked (ns ++ n ∷ []) in
+      let differ = others_differ (take place rows) (row_at rows place) (drop (suc place) rows) (subst (Pairwise IsLower) (split_at rows place lt) low) in
+      ap (filter p) (split_at rows place lt)
+      ∙ (filter-append p (take place rows) (row_at rows place ∷ drop (suc place) rows)
+      ∙ (rw (among_same ns n (row_at rows place) number) (sym (filter-append p (take place rows) (drop (suc place) rows)))
+      ∙ (lacked_other ns n (remove rows place) (subst (λ (m : ℕ). AllByRecursion (λ y. m ≢ y.number) (remove rows place)) (sym number) differ)
+      ∙ filter-append (is_lacked ns) (take place rows) (drop (suc place) rows))))
 
 marks_more : (rows : List Row) (ns : List ℕ) (n place : ℕ) (met : List Bool) → Pairwise IsLower rows → place < length rows → length met ≡ length rows → n ≡ (row_at rows place).number → AreMet rows ns met → AreMet rows (ns ++ n ∷ []) (set met place true)
 marks_more rows ns n place met low lt len e h q there = elim (eqb_tells q place) [
@@ -231,7 +177,7 @@ marks_more rows ns n place met low lt len e h q there = elim (eqb_tells q place)
       let here : get_or (set met place true) q false ≡ true = ap (λ (k : ℕ). get_or (set met place true) k false) same.1 ∙ get_or-set_same met place true false (omega arith) in
       here ∙ sym (among_same ns n (row_at rows q) (e ∙ ap (λ (k : ℕ). (row_at rows k).number) (sym same.1)))
   | inr other ↦
-      get_or-set_other met place q true false other.1 ∙ (h q there ∙ sym (among_other ns n (row_at rows q) (λ f. place_differs rows place q lt there (λ g. other.1 (sym g)) low (sym e ∙ f))))
+      get_or-set_other met place q true false other.1 ∙ (h q there ∙ sym (among_other ns n (row_at rows q) (λ f. other.1 (sym (same_place rows place q lt there low (sym e ∙ f))))))
 ]
 
 count_more : (met : List Bool) (place k n : ℕ) → place < length met → get_or met place false ≡ false → k + count_by not met ≡ n → (k + 1) + count_by not (set met place true) ≡ n
@@ -264,8 +210,7 @@ carried_found rows kept i places met same still greatest more place low lines lt
     let e : kept_numbers (take (i + 1) kept) ≡ ns ++ n ∷ [] = numbers_more kept i lt in
     let number : n ≡ x.number = sym stands.numbered in
     let none : is_among ns x ≡ false = among_none kept i x lt lines stands.numbered in
-    let f = found_at rows place ns n stands.there number none low in
-    let pushed = rows_push rows places place in
+    let pushed = map_push (row_at rows) places place in
     let unmarked : get_or met place false ≡ false = h.marks place stands.there ∙ none in
     let len = h.len in
     let there = stands.there in
@@ -273,8 +218,8 @@ carried_found rows kept i places met same still greatest more place low lines lt
       there = All-push (λ j. j < length rows) places place h.there stands.there;
       found = ap numbers_of pushed ∙ (map-append (λ (r : Row). r.number) (rows_at rows places) (x ∷ []) ∙ (ap₂ (λ (l : List ℕ) (k : ℕ). l ++ k ∷ []) h.found (sym number) ∙ (sym (filter_last (has_row rows) ns n true (has_some rows n place stands)) ∙ ap (filter (has_row rows)) (sym e))));
       once = λ others o.
-          let without : IsOrderOf (f.0 ++ f.1) others = subst (λ (r : List Row). IsOrderOf r others) (ap (λ (l : List ℕ). filter (is_lacked l) rows) e ∙ f.3) o in
-          let all : IsOrderOf rows (rows_at rows places ++ x ∷ others) = h.once (x ∷ others) (f.0, f.1, f.2, without) in
+          let without = subst (λ (r : List Row). IsOrderOf r others) (ap (λ (l : List ℕ). filter (is_lacked l) rows) e ∙ lacked_then rows place ns n stands.there number low) o in
+          let all = h.once (x ∷ others) (filter (is_lacked ns) (take place rows), filter (is_lacked ns) (drop (suc place) rows), lacked_before rows place ns n stands.there number none, without) in
           subst (IsOrderOf rows) (sym (append_assoc (rows_at rows places) (x ∷ []) others) ∙ ap (λ (l : List Row). l ++ others) (sym pushed)) all;
       among = rw e (All-push (λ p. is_among (ns ++ n ∷ []) (row_at rows p) ≡ true) places place
           (All-weaker (λ p. is_among ns (row_at rows p) ≡ true) (λ p. is_among (ns ++ n ∷ []) (row_at rows p) ≡ true) (λ p a. among_still ns n (row_at rows p) a) places h.among)
@@ -287,7 +232,7 @@ carried_found rows kept i places met same still greatest more place low lines lt
           (i, omega arith, (still_is s).1);
       line = λ s. subst (Pairwise KeepsLine) (sym pushed)
           (pairwise_last (rows_at rows places) x
-          (rows_all (λ r. KeepsLine r x) rows places (All-weaker (λ p. HasKept kept i (row_at rows p)) (λ p. KeepsLine (row_at rows p) x) (λ p a. kept_line kept a.0 i (row_at rows p) x a.1 lt lines a.2 (still_is s).1) places (h.as_kept (still_is s).0)))
+          (recursion_from_All (λ r. KeepsLine r x) (rows_at rows places) (All-map (λ r. KeepsLine r x) (row_at rows) places (All-weaker (λ p. HasKept kept i (row_at rows p)) (λ p. KeepsLine (row_at rows p) x) (λ p a. kept_line kept a.0 i (row_at rows p) x a.1 lt lines a.2 (still_is s).1) places (h.as_kept (still_is s).0))))
           (h.line (still_is s).0));
       marks = rw e (marks_more rows ns n place met low stands.there h.len number h.marks);
       len = length-set met place true ∙ h.len;
@@ -340,7 +285,7 @@ pub adding_found : (rows : List Row) (met : List Bool) (before : List ℕ) (grea
 adding_found rows met before greatest i places above still lt len e still_is h = record {
   there = All-push (λ j. j < length rows) places i h.there lt;
   others = λ numbers m.
-      rows_push rows places i
+      map_push (row_at rows) places i
       ∙ (ap (λ (l : List Row). l ++ row_at rows i ∷ []) (h.others numbers m)
       ∙ (append_assoc (rows_at rows before) (filter (is_lacked numbers) (take i rows)) (row_at rows i ∷ [])
       ∙ ap (λ (l : List Row). rows_at rows before ++ l) (sym (lacked_more rows numbers met i false lt e m))));
@@ -361,77 +306,46 @@ carried_once rows found all ns once e = subst (IsOrderOf rows) (sym e) (once (fi
 
 pairwise_join : (a b : List Row) → Pairwise KeepsLine a → Pairwise KeepsLine b → AllByRecursion (λ x. AllByRecursion (KeepsLine x) b) a → Pairwise KeepsLine (a ++ b)
 pairwise_join [] b p q h = q
-pairwise_join (x ∷ a) b p q h = (join a p.0, pairwise_join a b p.1 q h.1)
-  where
-    join : (a : List Row) → AllByRecursion (KeepsLine x) a → AllByRecursion (KeepsLine x) (a ++ b)
-    join [] i = h.0
-    join (y ∷ a) i = (i.0, join a i.1)
+pairwise_join (x ∷ a) b p q h = (
+  recursion_from_All (KeepsLine x) (a ++ b) (All-append (KeepsLine x) a b (All-from_recursion (KeepsLine x) a p.0) (All-from_recursion (KeepsLine x) b h.0)),
+  pairwise_join a b p.1 q h.1,
+)
 
 -- what is passed of rising rows keeps all lines
 filter_lines : (p : Row → Bool) (rows : List Row) → Pairwise IsLower rows → Pairwise KeepsLine (filter p rows)
 filter_lines p [] low = tt
 filter_lines p (x ∷ rows) low = by (p x) (filter_lines p rows low.1)
   where
-    lower : (rows : List Row) → AllByRecursion (IsLower x) rows → AllByRecursion (KeepsLine x) (filter p rows)
-    lower [] h = tt
-    lower (y ∷ rows) h = pass (p y) (lower rows h.1)
-      where
-        pass : (b : Bool) → AllByRecursion (KeepsLine x) (filter p rows) → AllByRecursion (KeepsLine x) (cond b (y ∷ filter p rows) (filter p rows))
-        pass true i = ((λ same. h.0), i)
-        pass false i = i
-
     by : (b : Bool) → Pairwise KeepsLine (filter p rows) → Pairwise KeepsLine (cond b (x ∷ filter p rows) (filter p rows))
-    by true i = (lower rows low.0, i)
+    by true i = (recursion_from_All (KeepsLine x) (filter p rows) (All-filter p (KeepsLine x) rows (λ k d lt same. All-from_recursion (IsLower x) rows low.0 k d lt)), i)
     by false i = i
-
-filter_facts : (p : Row → Bool) (P : Row → Type 0) (rows : List Row) → AllByRecursion (λ x. p x ≡ true → P x) rows → AllByRecursion (λ x. (p x ≡ true) × P x) (filter p rows)
-filter_facts p P [] h = tt
-filter_facts p P (x ∷ rows) h = by (p x) refl (filter_facts p P rows h.1)
-  where
-    by : (b : Bool) → p x ≡ b → AllByRecursion (λ x. (p x ≡ true) × P x) (filter p rows) → AllByRecursion (λ x. (p x ≡ true) × P x) (cond b (x ∷ filter p rows) (filter p rows))
-    by true e rest = ((e, h.0 e), rest)
-    by false e rest = rest
 
 same_among : (ns : List ℕ) (x y : Row) → x.number ≡ y.number → is_among ns x ≡ is_among ns y
 same_among ns x y e = ap (λ (n : ℕ). list_any (λ (k : ℕ). k == n) ns) e
 
 -- a row that was kept has a lower number than one that the kept order lacks
-across : (ns : List ℕ) (greatest : ℕ) (x y : Row) → is_among ns x ≡ true → x.number ≤ greatest → is_lacked ns y ≡ true → greatest ≤ y.number → KeepsLine x y
-across ns greatest x y among below lacked above same = elim (cases_lt x.number y.number) [
+across : (ns : List ℕ) (greatest : ℕ) (x y : Row) → (is_among ns x ≡ true) × (x.number ≤ greatest) → is_lacked ns y ≡ true → greatest ≤ y.number → KeepsLine x y
+across ns greatest x y kept lacked above same = elim (cases_lt x.number y.number) [
   | inl lower ↦ lower
   | inr other ↦ absurd (
-      let e : x.number ≡ y.number = omega arith in
-      let s : is_among ns y ≡ true = sym (same_among ns x y e) ∙ among in
-      let t : is_lacked ns y ≡ false = ap not s in
-      let u : true ≡ false = sym lacked ∙ t in
+      let s : is_among ns y ≡ true = same_among ns y x (omega arith) ∙ kept.0 in
+      let t : true ≡ not true = sym lacked ∙ ap not s in
       cc)
 ]
-
-cross : (ns : List ℕ) (greatest : ℕ) (a b : List Row) → AllByRecursion (λ x. (is_among ns x ≡ true) × (x.number ≤ greatest)) a → AllByRecursion (λ y. (is_lacked ns y ≡ true) × (greatest ≤ y.number)) b → AllByRecursion (λ x. AllByRecursion (KeepsLine x) b) a
-cross ns greatest [] b h i = tt
-cross ns greatest (x ∷ a) b h i = (over b i, cross ns greatest a b h.1 i)
-  where
-    over : (b : List Row) → AllByRecursion (λ y. (is_lacked ns y ≡ true) × (greatest ≤ y.number)) b → AllByRecursion (KeepsLine x) b
-    over [] i = tt
-    over (y ∷ b) i = (across ns greatest x y h.0.0 h.0.1 i.0.0 i.0.1, over b i.1)
-
-lacked_not : (ns : List ℕ) (x : Row) → is_lacked ns x ≡ true → is_among ns x ≡ false
-lacked_not ns x e = by (is_among ns x) refl
-  where
-    by : (b : Bool) → is_among ns x ≡ b → b ≡ false
-    by false f = refl
-    by true f = absurd (let g : true ≡ not true = sym e ∙ ap not f in cc)
 
 pub carried_line : (rows all : List Row) (places : List ℕ) (met : List Bool) (ns : List ℕ) (greatest : ℕ) → Pairwise IsLower rows → AreMet rows ns met → Pairwise KeepsLine (rows_at rows places)
     → All (λ place. is_among ns (row_at rows place) ≡ true) places → All (λ place. (row_at rows place).number ≤ greatest) places
     → ((place : ℕ) → place < length rows → get_or met place false ≡ false → greatest ≤ (row_at rows place).number)
     → all ≡ rows_at rows places ++ filter (is_lacked ns) rows → Pairwise KeepsLine all
 carried_line rows all places met ns greatest low marks line among below above e =
+    let found = rows_at rows places in
     let others = filter (is_lacked ns) rows in
-    let a = rows_all (λ x. (is_among ns x ≡ true) × (x.number ≤ greatest)) rows places (λ k d lt. (among k d lt, below k d lt)) in
-    let each = recursion_from_All (λ x. is_lacked ns x ≡ true → greatest ≤ x.number) rows (λ k d lt l.
+    let kept = All-map (λ x. (is_among ns x ≡ true) × (x.number ≤ greatest)) (row_at rows) places (λ k d lt. (among k d lt, below k d lt)) in
+    let high = All-filter (is_lacked ns) (λ x. is_lacked ns x ≡ true → greatest ≤ x.number) rows (λ k d lt lacked.
     let same : get_or rows k d ≡ row_at rows k = get_or_default rows k d no_row lt in
-    let here : is_among ns (row_at rows k) ≡ false = ap (is_among ns) (sym same) ∙ lacked_not ns (get_or rows k d) l in
+    let here : is_among ns (row_at rows k) ≡ false = ap (is_among ns) (sym same) ∙ refuted (is_among ns (get_or rows k d)) (λ there. let u : true ≡ not true = sym lacked ∙ ap not there in cc) in
     subst (λ (x : Row). greatest ≤ x.number) (sym same) (above k lt (marks k lt ∙ here))) in
-    let b = filter_facts (is_lacked ns) (λ x. greatest ≤ x.number) rows each in
-    subst (Pairwise KeepsLine) (sym e) (pairwise_join (rows_at rows places) others line (filter_lines (is_lacked ns) rows low) (cross ns greatest (rows_at rows places) others a b))
+    let cross = recursion_from_All (λ x. AllByRecursion (KeepsLine x) others) found (λ k d lt. recursion_from_All (KeepsLine (get_or found k d)) others (λ m o there.
+    let lacked = filter_passes (is_lacked ns) rows m o there in
+    across ns greatest (get_or found k d) (get_or others m o) (kept k d lt) lacked (high m o there lacked))) in
+    subst (Pairwise KeepsLine) (sym e) (pairwise_join found others line (filter_lines (is_lacked ns) rows low) cross)

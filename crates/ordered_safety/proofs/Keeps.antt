@@ -1,17 +1,20 @@
 -- What is kept of an order keeps its lines.
-use Rattle.std.proofs.Common.{◌≡◌, ◌≢◌, ℕ, zero, suc, ◌<◌, true, List, [], ◌∷◌, ◌++◌, length, get_or, map, refl, subst, ap, arith}
+use Rattle.std.proofs.Common.{◌≡◌, ◌≢◌, ℕ, ◌<◌, true, List, [], ◌∷◌, ◌++◌, length, map, refl, subst, subst₂, ap, arith}
+use Rattle.std.specs.Prelude.{slice_index}
 use Rattle.std.specs.List.{AllByRecursion}
-use Rattle.std.proofs.lemmas.List.{length-map}
+use Rattle.std.proofs.lemmas.List.{get_or-map, length-map}
+use Rattle.std.proofs.lemmas.List.Elements.{All-from_recursion, recursion_from_All}
 use Rattle.std.proofs.lemmas.Bool.Decides.{nat_tests}
 use Rattle.claims.specs.declared.row.Row.{Row}
 use Rattle.claims.specs.Claims.{Pairwise, IsLower, row_at}
 use Rattle.claims.specs.Safety.{IsOrderOf, KeepsLine, same_line}
 use Rattle.claims.proofs.Tables.{pairwise_without}
-use Rattle.claims.proofs.Orders.{all_in_order}
+use Rattle.claims.proofs.Orders.{all_at, all_in_order}
 use Rattle.ordered_safety.specs.declared.kept.Kept.{Kept}
 use Rattle.ordered_safety.specs.Scan.{rows_at}
 use Rattle.ordered_safety.specs.Carried.{numbers_of}
 use Rattle.ordered_safety.specs.Kept.{kept_numbers, MayPrecede, KeepsLines}
+use Rattle.ordered_safety.proofs.Picks.{pair_at, row_there}
 
 -- what is kept of the row at a place
 abbrev pub kept_at : List Row → ℕ → Kept
@@ -25,18 +28,10 @@ kept_numbers_are rows (i ∷ places) = ap (λ (l : List ℕ). (row_at rows i).nu
 abbrev pub Differ : Row → Row → Type 0
 Differ x y = x.number ≢ y.number
 
-lower_differs : (x : Row) (rows : List Row) → AllByRecursion (IsLower x) rows → AllByRecursion (Differ x) rows
-lower_differs x [] h = tt
-lower_differs x (y ∷ rows) h = ((λ e. let l = h.0 in omega arith), lower_differs x rows h.1)
-
 -- the others have other numbers
 pub others_differ : (a : List Row) (x : Row) (b : List Row) → Pairwise IsLower (a ++ x ∷ b) → AllByRecursion (Differ x) (a ++ b)
-others_differ [] x b low = lower_differs x b low.0
-others_differ (y ∷ a) x b low = ((λ e. let l = below a x b low.0 in omega arith), others_differ a x b low.1)
-  where
-    below : (a : List Row) (x : Row) (b : List Row) → AllByRecursion (IsLower y) (a ++ x ∷ b) → y.number < x.number
-    below [] x b h = h.0
-    below (z ∷ a) x b h = below a x b h.1
+others_differ [] x b low = recursion_from_All (Differ x) b (λ k d lt e. omega (arith, All-from_recursion (IsLower x) b low.0 k d lt))
+others_differ (y ∷ a) x b low = ((λ e. omega (arith, all_at (IsLower y) a x b low.0)), others_differ a x b low.1)
 
 -- each number stands once in an order
 pub order_differs : (rows order : List Row) → Pairwise IsLower rows → IsOrderOf rows order → Pairwise Differ order
@@ -53,18 +48,13 @@ may_precede rows i j differ line = record {
   in_line = λ sender queue. line (let s : same_line (row_at rows i) (row_at rows j) ≡ true = grind (arith, nat_tests) in s);
 }
 
--- what is kept at a place that is read
-first_kept : (rows : List Row) (i : ℕ) (places : List ℕ) (j : ℕ) (d : Kept) → j < length places → AllByRecursion (Differ (row_at rows i)) (rows_at rows places) → AllByRecursion (KeepsLine (row_at rows i)) (rows_at rows places) → MayPrecede (kept_at rows i) (get_or (map (kept_at rows) places) j d)
-first_kept rows i [] j d lt differ line = absurd (omega arith)
-first_kept rows i (p ∷ places) zero d lt differ line = may_precede rows i p differ.0 line.0
-first_kept rows i (p ∷ places) (suc j) d lt differ line = first_kept rows i places j d (omega arith) differ.1 line.1
-
-lines_by : (rows : List Row) (places : List ℕ) (i j : ℕ) (d : Kept) → i < j → j < length places → Pairwise Differ (rows_at rows places) → Pairwise KeepsLine (rows_at rows places) → MayPrecede (get_or (map (kept_at rows) places) i d) (get_or (map (kept_at rows) places) j d)
-lines_by rows [] i j d below lt differ line = absurd (omega arith)
-lines_by rows (p ∷ places) i zero d below lt differ line = absurd (omega arith)
-lines_by rows (p ∷ places) zero (suc j) d below lt differ line = first_kept rows p places j d (omega arith) differ.0 line.0
-lines_by rows (p ∷ places) (suc i) (suc j) d below lt differ line = lines_by rows places i j d (omega arith) (omega arith) differ.1 line.1
-
 pub lines_kept : (rows : List Row) (places : List ℕ) → Pairwise IsLower rows → IsOrderOf rows (rows_at rows places) → Pairwise KeepsLine (rows_at rows places) → KeepsLines (map (kept_at rows) places)
 lines_kept rows places low once line = λ i j d below lt.
-    lines_by rows places i j d below (let n = length-map places (kept_at rows) in omega arith) (order_differs rows (rows_at rows places) low once) line
+    let order = rows_at rows places in
+    let there : j < length places = omega (arith, length-map places (kept_at rows)) in
+    let within : j < length order = omega (arith, length-map places (row_at rows)) in
+    let first = row_there rows places i (omega arith) in
+    let second = row_there rows places j there in
+    rw (get_or-map (kept_at rows) places i 0 d (omega arith), get_or-map (kept_at rows) places j 0 d there)
+    (may_precede rows (slice_index places i) (slice_index places j)
+    (subst₂ Differ first second (pair_at Differ order i j below within (order_differs rows order low once))) (subst₂ KeepsLine first second (pair_at KeepsLine order i j below within line)))

@@ -1,23 +1,20 @@
 -- A scan of rows has one list of turns, and the check of an order one number of comparisons.
-use Rattle.std.proofs.Common.{◌≡◌, ◌⊎◌, inl, inr, ℕ, ◌+◌, ◌<◌, ◌≤◌, Bool, true, false, List, [], ◌∷◌, length, refl, subst, ap, ap₂, sym, ◌∙◌, arith}
-use Rattle.std.specs.Prelude.{nat_lt, remove}
+use Rattle.std.proofs.Common.{◌≡◌, ◌⊎◌, inl, inr, ℕ, ◌+◌, ◌<◌, ◌≤◌, List, [], ◌∷◌, length, refl, subst, ap, ap₂, sym, ◌∙◌, arith}
+use Rattle.std.specs.Prelude.{remove}
 use Rattle.std.proofs.lemmas.Bool.{cases_lt}
-use Rattle.std.proofs.lemmas.Bool.Decides.{nat_tests}
 use Rattle.counts.specs.Amounts.{amount, Fits}
 use Rattle.claims.specs.declared.row.Row.{Row}
 use Rattle.claims.specs.Claims.{Claims, IsTable, Pairwise, IsLower, row_at}
 use Rattle.claims.specs.Safety.{freed}
-use Rattle.ordered_safety.specs.Compared.{GoesNext, AreTurns, scan_tests, ScanTakes, IsNext, CheckTakes}
+use Rattle.ordered_safety.specs.Compared.{GoesNext, AreTurns, scan_tests, ScanTakes, CheckTakes}
 use Rattle.ordered_safety.specs.Carried.{AfterPageTakes, carried}
-use Rattle.ordered_safety.proofs.Picks.{lower_at, rising_without}
+use Rattle.ordered_safety.proofs.Picks.{pair_at, same_place, rising_without}
 
 goes_once : (free : ℕ → ℕ) (rows : List Row) (a b : ℕ) → GoesNext free rows a → GoesNext free rows b → a ≡ b
-goes_once free rows a b g h = by (nat_lt a b) (nat_lt b a) refl refl
-  where
-    by : (below above : Bool) → nat_lt a b ≡ below → nat_lt b a ≡ above → a ≡ b
-    by true above e f = absurd (h.1 a (grind (arith, nat_tests)) g.0)
-    by false true e f = absurd (g.1 b (grind (arith, nat_tests)) h.0)
-    by false false e f = grind (arith, nat_tests)
+goes_once free rows a b g h =
+    let below : a < b → ⊥ = λ lt. h.1 a lt g.0 in
+    let above : b < a → ⊥ = λ lt. g.1 b lt h.0 in
+    omega arith
 
 turns_once : (free : ℕ → ℕ) (rows : List Row) (s t : List ℕ) → AreTurns free rows s → AreTurns free rows t → s ≡ t
 turns_once free rows [] [] x y = refl
@@ -25,8 +22,7 @@ turns_once free rows [] (b ∷ t) x y = absurd (x b y.0.0)
 turns_once free rows (a ∷ s) [] x y = absurd (y a x.0.0)
 turns_once free rows (a ∷ s) (b ∷ t) x y =
     let e : b ≡ a = goes_once free rows b a y.0 x.0 in
-    let rest : AreTurns (freed free (row_at rows a)) (remove rows a) t = subst (λ (i : ℕ). AreTurns (freed free (row_at rows i)) (remove rows i) t) e y.1 in
-    ap₂ (λ (i : ℕ) (l : List ℕ). i ∷ l) (sym e) (turns_once (freed free (row_at rows a)) (remove rows a) s t x.1 rest)
+    ap₂ (λ (i : ℕ) (l : List ℕ). i ∷ l) (sym e) (turns_once (freed free (row_at rows a)) (remove rows a) s t x.1 (rw e at y.1))
 
 pub one_number : (free : ℕ → ℕ) (rows : List Row) (n m : ℕ) → ScanTakes free rows n → ScanTakes free rows m → n ≡ m
 one_number free rows n m x y = x.2 ∙ (ap (scan_tests rows) (turns_once free rows x.0 y.0 x.1 y.1) ∙ sym y.2)
@@ -34,25 +30,9 @@ one_number free rows n m x y = x.2 ∙ (ap (scan_tests rows) (turns_once free ro
 -- numbers rise with the places
 pub low_upto : (rows : List Row) (i j : ℕ) → i ≤ j → j < length rows → Pairwise IsLower rows → (row_at rows i).number ≤ (row_at rows j).number
 low_upto rows i j le lt low = elim (cases_lt i j) [
-  | inl below ↦ let l = lower_at rows i j below lt low in omega arith
+  | inl below ↦ let l = pair_at IsLower rows i j below lt low in omega arith
   | inr above ↦ let e : i ≡ j = omega arith in let n = ap (λ (k : ℕ). (row_at rows k).number) e in omega arith
 ]
-
-next_once : (rows : List Row) (number a b : ℕ) → Pairwise IsLower rows → IsNext rows number a → IsNext rows number b → a ≡ b
-next_once rows number a b low x y = by (nat_lt a b) (nat_lt b a) refl refl
-  where
-    by : (below above : Bool) → nat_lt a b ≡ below → nat_lt b a ≡ above → a ≡ b
-    by true above e f = absurd (
-        let l = lower_at rows a b (grind (arith, nat_tests)) y.there low in
-        let n = x.numbered in
-        let m = y.numbered in
-        omega arith)
-    by false true e f = absurd (
-        let l = lower_at rows b a (grind (arith, nat_tests)) x.there low in
-        let n = x.numbered in
-        let m = y.numbered in
-        omega arith)
-    by false false e f = grind (arith, nat_tests)
 
 -- the comparison of a row, and those of the others after it
 abbrev pub Compares : (ℕ → ℕ) → Row → List Row → List ℕ → ℕ → Type 0
@@ -67,7 +47,7 @@ one_of_order free rows (number ∷ numbers) n m low x y = elim x [
   | inr s ↦ elim y [
     | inl t ↦ absurd (t.0 s.0 s.1)
     | inr t ↦
-        let same : t.0 ≡ s.0 = next_once rows number t.0 s.0 low t.1 s.1 in
+        let same : t.0 ≡ s.0 = same_place rows t.0 s.0 t.1.there s.1.there low (t.1.numbered ∙ sym s.1.numbered) in
         let other = subst (λ (at : ℕ). Compares free (row_at rows at) (remove rows at) numbers m) same t.2 in
         elim s.2 [
           | inl over ↦ elim other [ inl over' ↦ over.1 ∙ sym over'.1 | inr goes ↦ absurd (over.0 goes.0) ]

@@ -62,12 +62,19 @@ module _ (rows : List Row) (left : List ℕ) (at : ℕ) where
 pub split_at : (rows : List Row) (at : ℕ) → at < length rows → rows ≡ take at rows ++ row_at rows at ∷ drop (suc at) rows
 split_at rows at lt = sym (take-append-drop at rows) ∙ ap (λ (r : List Row). take at rows ++ r) (drop-cons rows at no_row lt)
 
--- numbers rise with the places
-pub lower_at : (rows : List Row) (i j : ℕ) → i < j → j < length rows → Pairwise IsLower rows → (row_at rows i).number < (row_at rows j).number
-lower_at [] i j lt le low = absurd (omega arith)
-lower_at (x ∷ xs) i zero lt le low = absurd (omega arith)
-lower_at (x ∷ xs) zero (suc j) lt le low = All-from_recursion (IsLower x) xs low.0 j no_row (omega arith)
-lower_at (x ∷ xs) (suc i) (suc j) lt le low = lower_at xs i j (omega arith) (omega arith) low.1
+-- how two rows stand to each other
+pub pair_at : (R : Row → Row → Type 0) (rows : List Row) (i j : ℕ) → i < j → j < length rows → Pairwise R rows → R (row_at rows i) (row_at rows j)
+pair_at R [] i j lt le h = absurd (omega arith)
+pair_at R (x ∷ xs) i zero lt le h = absurd (omega arith)
+pair_at R (x ∷ xs) zero (suc j) lt le h = All-from_recursion (R x) xs h.0 j no_row (omega arith)
+pair_at R (x ∷ xs) (suc i) (suc j) lt le h = pair_at R xs i j (omega arith) (omega arith) h.1
+
+-- no two rows have one number
+pub same_place : (rows : List Row) (i j : ℕ) → i < length rows → j < length rows → Pairwise IsLower rows → (row_at rows i).number ≡ (row_at rows j).number → i ≡ j
+same_place rows i j li lj low e =
+    let below : i < j → ⊥ = λ lt. omega (arith, pair_at IsLower rows i j lt lj low) in
+    let above : j < i → ⊥ = λ lt. omega (arith, pair_at IsLower rows j i lt li low) in
+    omega arith
 
 -- where a row stands among others with all of which it keeps its line, it is next
 pub next_there : (a : List Row) (x : Row) (b : List Row) → Pairwise IsLower (a ++ x ∷ b) → AllByRecursion (KeepsLine x) (a ++ b) → IsNext (a ++ x ∷ b) x.number (length a)
@@ -80,7 +87,7 @@ next_there a x b low keeps =
       in_line = λ j lt.
           let y = get_or (a ++ b) j no_row in
           let other : row_at (a ++ x ∷ b) j ≡ y = get_or_append_left a (x ∷ b) no_row j lt ∙ sym (get_or_append_left a b no_row j lt) in
-          let lower : y.number < x.number = subst₂ IsLower other here (lower_at (a ++ x ∷ b) j (length a) lt there low) in
+          let lower : y.number < x.number = subst₂ IsLower other here (pair_at IsLower (a ++ x ∷ b) j (length a) lt there low) in
           let line : KeepsLine x y = All-from_recursion (KeepsLine x) (a ++ b) keeps j no_row (omega (arith, length-append a b)) in
           ap₂ same_line here other ∙ refuted (same_line x y) (λ same. let l = line same in omega arith);
     }
@@ -97,11 +104,12 @@ module _ (rows : List Row) (at : ℕ) (there : at < length rows) (low : Pairwise
   keeps_line : HasNoEarlier rows at → AllByRecursion (KeepsLine (row_at rows at)) (remove rows at)
   keeps_line none = recursion_from_All (KeepsLine (row_at rows at)) (remove rows at) (All-from_get_or (KeepsLine (row_at rows at)) (remove rows at) no_row (λ k lt same. elim (cases_lt k at) [
     | inl before ↦ absurd (cc (same, ap (same_line (row_at rows at)) (get_or-remove_below rows at no_row k before there), none k before))
-    | inr after ↦ subst (IsLower (row_at rows at)) (sym (get_or-remove_above rows at no_row k after there)) (lower_at rows at (k + 1) (omega arith) (omega (arith, length-remove rows at there)) low)
+    | inr after ↦ subst (IsLower (row_at rows at)) (sym (get_or-remove_above rows at no_row k after there)) (pair_at IsLower rows at (k + 1) (omega arith) (omega (arith, length-remove rows at there)) low)
   ]))
 
   -- a finishing order of the others, with the row before it
-  pub order_before : (free : ℕ → ℕ) (order : List Row) → Fits (row_at rows at).need free → HasNoEarlier rows at → IsFinishingOrder (freed free (row_at rows at)) (remove rows at) order → IsFinishingOrder free rows (row_at rows at ∷ order)
+  pub order_before : (free : ℕ → ℕ) (order : List Row) → Fits (row_at rows at).need free → HasNoEarlier rows at
+      → IsFinishingOrder (freed free (row_at rows at)) (remove rows at) order → IsFinishingOrder free rows (row_at rows at ∷ order)
   order_before free order fits none h = record {
     each_once = (take at rows, drop (suc at) rows, split_at rows at there, h.each_once);
     in_line = (all_in_order (KeepsLine (row_at rows at)) (remove rows at) order h.each_once (keeps_line none), h.in_line);
@@ -128,8 +136,8 @@ none_safe free [] some low none h = omega arith
 none_safe free (r ∷ rows) some low none h =
     let f = some_first free r rows h in
     let next = next_there f.0 f.1 f.2 (subst (Pairwise IsLower) f.3 low) f.4.in_line in
-    let here : row_at (f.0 ++ f.1 ∷ f.2) (length f.0) ≡ f.1 = get_or_at f.0 f.1 f.2 no_row (length f.0) refl in
-    none (length f.0) (subst (λ (rs : List Row). CanGo free rs (length f.0)) (sym f.3) (record { there = next.there; fits = subst (λ (x : Row). Fits x.need free) (sym here) f.4.fits; in_line = next.in_line }))
+    let fits = subst (λ (x : Row). Fits x.need free) (sym (get_or_at f.0 f.1 f.2 no_row (length f.0) refl)) f.4.fits in
+    none (length f.0) (subst (λ (rs : List Row). CanGo free rs (length f.0)) (sym f.3) (record { there = next.there; fits = fits; in_line = next.in_line }))
 
 -- the first number of a finishing order is that of the row that is next
 pub some_next : (free : ℕ → ℕ) (rows : List Row) (number : ℕ) (numbers : List ℕ) → Pairwise IsLower rows → AreFinishing free rows (number ∷ numbers) → (at : ℕ) × IsNext rows number at

@@ -1,9 +1,9 @@
 -- One turn after the other: what is known of the rows that are left, and what a check of an order and a scan have found so far.
-use Rattle.std.proofs.Common.{◌≡◌, ℕ, suc, ◌+◌, ◌<◌, ◌^◌, ◌↔◌, List, [], ◌∷◌, ◌++◌, length, take, drop, inl, inr, refl, subst, ap, ap₂, sym, ◌∙◌, append-nil, append_assoc, arith}
+use Rattle.std.proofs.Common.{◌≡◌, ℕ, suc, ◌+◌, ◌<◌, ◌^◌, ◌↔◌, List, [], ◌∷◌, ◌++◌, length, get_or, take, drop, inl, inr, refl, subst, ap, ap₂, sym, ◌∙◌, append-nil, append_assoc, arith}
 use Rattle.std.proofs.Math.Path.{fun_ext}
 use Rattle.std.specs.Prelude.{slice_index, All, remove}
 use Rattle.std.proofs.lemmas.List.{get_or_default, get_or-map, same_lists, length-map}
-use Rattle.std.proofs.lemmas.List.Elements.{All-get_or, All-append, All-take, All-drop}
+use Rattle.std.proofs.lemmas.List.Elements.{All-get_or, All-append, All-map, All-take, All-drop}
 use Rattle.std.proofs.lemmas.List.Sums.{sum_by-remove}
 use Rattle.counts.specs.Amounts.{amount, sum_of, Fits}
 use Rattle.counts.proofs.Sums.{amount-sum_of, length-sum_of}
@@ -11,9 +11,9 @@ use Rattle.claims.specs.declared.row.Row.{Row}
 use Rattle.claims.specs.Claims.{HaveKinds, IsLower, Pairwise, held_of, row_at, no_row}
 use Rattle.claims.specs.Safety.{freed, AreFinishing, HasFinishingOrder, IsFinishingOrder}
 use Rattle.claims.proofs.Orders.{none_ordered}
-use Rattle.ordered_safety.specs.Scan.{rows_at, row_of, StaysSmall}
+use Rattle.ordered_safety.specs.Scan.{rows_at, StaysSmall}
 use Rattle.ordered_safety.specs.Compared.{compared, GoesNext, NoneCanGo, ScanTakes, IsNext, NoneIsNext, CheckTakes}
-use Rattle.ordered_safety.proofs.Picks.{row_there, same_remove, rising_without, order_before, safe_after, numbers_from, none_safe, some_next}
+use Rattle.ordered_safety.proofs.Picks.{same_remove, rising_without, order_before, safe_after, numbers_from, none_safe, some_next}
 
 -- the rows that are left at these places, and what is free
 pub record Leaving (rows : List Row) (left start free : List ℕ) : Type 0 where
@@ -37,39 +37,38 @@ module _ (rows : List Row) (left : List ℕ) (len : length left ≡ length rows)
     kinds = refl;
   }
 
+-- rows that are put in an order have an amount of each kind
+pub kinds_at : (kinds : ℕ) (rows : List Row) (places : List ℕ) → HaveKinds kinds rows → All (λ j. j < length rows) places → HaveKinds kinds (rows_at rows places)
+kinds_at kinds rows places have there =
+    let P : Row → Type 0 = λ row. (length row.held ≡ kinds) × (length row.need ≡ kinds) in
+    All-map P (row_at rows) places (λ k d lt. All-get_or P rows (get_or places k d) no_row (there k d lt) have)
+
 -- what is free once the row at a place gave back what it holds
-pub given : (rows : List Row) (places start free more : List ℕ) (row : Row) → All (λ j. j < length rows) places → HaveKinds (length start) rows → (at : ℕ) → at < length places → row ≡ row_of rows places at → length free ≡ length start → more ≡ sum_of free row.held
-    → amount more ≡ freed (amount free) (row_of rows places at)
-given rows places start free more row within kinds at there is same sum = fun_ext (λ kind.
-    let place : slice_index places at < length rows = All-get_or (λ j. j < length rows) places at 0 there within in
-    let here = All-get_or (λ (r : Row). (length r.held ≡ length start) × (length r.need ≡ length start)) rows (slice_index places at) no_row place kinds in
-    let held = ap (λ (r : Row). length r.held) is in
-    ap (λ (f : List ℕ). amount f kind) sum ∙ (amount-sum_of free row.held kind (held ∙ (here.0 ∙ sym same)) ∙ ap (λ (r : Row). amount free kind + amount r.held kind) is))
+pub given : (rows : List Row) (start free more : List ℕ) (row : Row) (at : ℕ) → HaveKinds (length start) rows → at < length rows → row ≡ row_at rows at → length free ≡ length start → more ≡ sum_of free row.held
+    → amount more ≡ freed (amount free) (row_at rows at)
+given rows start free more row at have there is same sum =
+    let here = All-get_or (λ (r : Row). (length r.held ≡ length start) × (length r.need ≡ length start)) rows at no_row there have in
+    let held : length row.held ≡ length free = ap (λ (r : Row). length r.held) is ∙ (here.0 ∙ sym same) in
+    ap amount sum ∙ (fun_ext (λ kind. amount-sum_of free row.held kind held) ∙ ap (freed (amount free)) is)
 
 -- the row that goes
-module _ {rows : List Row} {left start free : List ℕ} {row : Row} (l : Leaving rows left start free) (kinds : HaveKinds (length start) rows) (at : ℕ) (there : at < length left) (is : row ≡ row_of rows left at) where
-  held_after : (kind : ℕ) → held_of kind (rows_at rows (remove left at)) + amount row.held kind ≡ held_of kind (rows_at rows left)
-  held_after kind =
-      let s = sum_by-remove (λ (r : Row). amount r.held kind) (rows_at rows left) at no_row (omega (arith, length-map left (row_at rows))) in
-      let e = ap (held_of kind) (same_remove rows left at) in
-      let f = ap (λ (r : Row). amount r.held kind) (is ∙ sym (row_there rows left at there)) in
-      omega arith
+module _ {rows : List Row} {left start free : List ℕ} {row : Row} (l : Leaving rows left start free) (at : ℕ) (there : at < length (rows_at rows left)) (is : row ≡ row_at (rows_at rows left) at) where
+  held_after : (kind : ℕ) → held_of kind (remove (rows_at rows left) at) + amount (row_at (rows_at rows left) at).held kind ≡ held_of kind (rows_at rows left)
+  held_after kind = sum_by-remove (λ (r : Row). amount r.held kind) (rows_at rows left) at no_row there
 
   -- what is free and what it gives back are amounts
   pub room_back : (kind : ℕ) → amount free kind + amount row.held kind < 2 ^ 32
-  room_back kind = omega (arith, held_after kind, l.small kind)
+  room_back kind = rw is (omega (arith, held_after kind, l.small kind))
 
-  pub given_back : (more : List ℕ) → more ≡ sum_of free row.held → amount more ≡ freed (amount free) (row_at (rows_at rows left) at)
-  given_back more sum = given rows left start free more row l.there kinds at there is l.kinds sum ∙ ap (freed (amount free)) (sym (row_there rows left at there))
+  -- what is free then, and the others
+  pub given_back : (more : List ℕ) → HaveKinds (length start) rows → more ≡ sum_of free row.held → amount more ≡ freed (amount free) (row_at (rows_at rows left) at)
+  given_back more have sum = given (rows_at rows left) start free more row at (kinds_at (length start) rows left have l.there) there is l.kinds sum
 
-  pub leaving_others : (more now : List ℕ) → more ≡ sum_of free row.held → now ≡ remove left at → Leaving rows now start more
-  leaving_others more now sum e = subst (λ (places : List ℕ). Leaving rows places start more) (sym e) (record {
-    rising = subst (Pairwise IsLower) (sym (same_remove rows left at)) (rising_without (rows_at rows left) at (omega (arith, length-map left (row_at rows))) l.rising);
+  pub leaving_others : (more now : List ℕ) → HaveKinds (length start) rows → more ≡ sum_of free row.held → now ≡ remove left at → Leaving rows now start more
+  leaving_others more now have sum e = subst (λ (places : List ℕ). Leaving rows places start more) (sym e) (record {
+    rising = rw (same_remove rows left at) (rising_without (rows_at rows left) at there l.rising);
     there = All-append (λ j. j < length rows) (take at left) (drop (suc at) left) (All-take (λ j. j < length rows) at left l.there) (All-drop (λ j. j < length rows) (suc at) left l.there);
-    small = λ kind.
-        let f = ap (λ (g : ℕ → ℕ). g kind) (given_back more sum) in
-        let r = ap (λ (r : Row). amount r.held kind) (is ∙ sym (row_there rows left at there)) in
-        omega (arith, held_after kind, l.small kind);
+    small = λ kind. rw (same_remove rows left at) (omega (arith, ap (λ (f : ℕ → ℕ). f kind) (given_back more have sum), held_after kind, l.small kind));
     kinds = ap length sum ∙ (length-sum_of free row.held ∙ l.kinds);
   })
 
@@ -101,7 +100,8 @@ module _ {start free : ℕ → ℕ} {rows left : List Row} {numbers rest : List 
       }
 
 -- no number is left
-pub followed_all : {start free : ℕ → ℕ} {rows left : List Row} {numbers : List ℕ} {tests : ℕ} → Followed start rows numbers free left [] tests → ((left ≡ []) ↔ AreFinishing start rows numbers) × CheckTakes start rows numbers tests
+pub followed_all : {start free : ℕ → ℕ} {rows left : List Row} {numbers : List ℕ} {tests : ℕ} → Followed start rows numbers free left [] tests
+    → ((left ≡ []) ↔ AreFinishing start rows numbers) × CheckTakes start rows numbers tests
 followed_all {free = free} {left = left} {tests = tests} s = (
   (λ e. s.exact.0 ([], record { each_once = e; in_line = tt; fits = tt }, refl), λ h. none_ordered free left (s.exact.1 h)),
   s.taken 0 tests (omega arith) refl,
@@ -115,7 +115,8 @@ pub record Scanned (start : ℕ → ℕ) (rows : List Row) (free : ℕ → ℕ) 
 
 module _ {start free : ℕ → ℕ} {rows left gone : List Row} {tests : ℕ} (s : Scanned start rows free left gone tests) where
   -- one more row goes
-  pub scanned_more : (at t : ℕ) → Pairwise IsLower left → GoesNext free left at → t ≡ compared left (at + 1) → Scanned start rows (freed free (row_at left at)) (remove left at) (gone ++ row_at left at ∷ []) (tests + t)
+  pub scanned_more : (at t : ℕ) → Pairwise IsLower left → GoesNext free left at → t ≡ compared left (at + 1)
+      → Scanned start rows (freed free (row_at left at)) (remove left at) (gone ++ row_at left at ∷ []) (tests + t)
   scanned_more at t low goes e = record {
     only = λ order h. subst (IsFinishingOrder start rows) (sym (append_assoc gone (row_at left at ∷ []) order))
         (s.only (row_at left at ∷ order) (order_before left at goes.0.there low free order goes.0.fits goes.0.in_line h));

@@ -1,5 +1,5 @@
-use Rattle.std.proofs.Common.{◌≡◌, ℕ, ◌+◌, ◌*◌, ◌<◌, ◌≤◌, Option, List, [], ◌∷◌, ◌++◌, length, get_or, refl, subst, subst₂, ap, sym, ◌∙◌, zero-add, arith}
-use Rattle.std.specs.Prelude.{IfSome, IfNone, remove}
+use Rattle.std.proofs.Common.{◌≡◌, ℕ, ◌+◌, ◌*◌, ◌<◌, ◌≤◌, List, [], ◌∷◌, ◌++◌, length, get_or, refl, subst, subst₂, ap, sym, ◌∙◌, zero-add, arith}
+use Rattle.std.specs.Prelude.{remove}
 use Rattle.std.proofs.lemmas.Grind.{common_steps}
 use Rattle.std.proofs.lemmas.Bool.Decides.{nat_tests}
 use Rattle.std.proofs.lemmas.List.{get_or_default, length-map, length_push, map_push, nil_from_length}
@@ -9,8 +9,8 @@ use Rattle.std.proofs.lemmas.Slice.{pushed}
 use Rattle.counts.specs.Amounts.{amount}
 use Rattle.claims.specs.declared.row.Row.{Row}
 use Rattle.claims.specs.Claims.{row_at}
-use Rattle.claims.specs.Safety.{freed, HasFinishingOrder, IsFinishingOrder}
-use Rattle.ordered_safety.specs.Scan.{rows_at, row_of, CountsAhead, MayGoAt}
+use Rattle.claims.specs.Safety.{HasFinishingOrder, IsFinishingOrder}
+use Rattle.ordered_safety.specs.Scan.{rows_at, CountsAhead}
 use Rattle.ordered_safety.specs.Compared.{ScanTakes, GoesNext, compared}
 use Rattle.ordered_safety.proofs.Picks.{row_there, same_remove, can_go, may_go_at}
 use Rattle.ordered_safety.proofs.Turns.{Scanned, leaving_all, all_rows, leaving_others, given_back, room_back, scanned_more, scanned_stuck, scanned_all}
@@ -43,16 +43,12 @@ turns-init c =
 -- none may go
 stuck : (c : In_default) → ¬ (HasFinishingOrder (amount c.args.free.now) c.args.rows.now) × ScanTakes (amount c.args.free.now) c.args.rows.now (c.turns.tests + c.pick-choice.result.tests)
 stuck c =
-    let rows = c.args.rows.now in
     let left = c.turns.left.items in
-    let free = c.turns.free in
-    let tests = c.pick-choice.result.tests in
-    let n = length-map left (row_at rows) in
-    let slice = c.as_slice-in-turns.ensures.value in
-    let none : (at : ℕ) → MayGoAt rows left free at → ⊥ = subst₂ (λ (l : List ℕ) (o : Option ℕ). IfNone o ((at : ℕ) → MayGoAt rows l free at → ⊥)) slice c.in_default.is c.pick-choice.ensures.none in
-    let all : tests ≡ compared (rows_at rows left) (length left) = subst₂ (λ (l : List ℕ) (o : Option ℕ). IfNone o (tests ≡ compared (rows_at rows l) (length l))) slice c.in_default.is c.pick-choice.ensures.all in
-    scanned_stuck c.turns.invariant.scanned tests (grind (arith, common_steps, nat_tests)) c.turns.invariant.leaving.rising
-    (λ at g. none at (may_go_at rows left at free g)) (all ∙ ap (compared (rows_at rows left)) (sym n))
+    let n = length-map left (row_at c.args.rows.now) in
+    let none = rw (c.in_default.is, c.as_slice-in-turns.ensures.value) at c.pick-choice.ensures.none in
+    let all : c.pick-choice.result.tests ≡ compared (rows_at c.args.rows.now left) (length left) = rw (c.in_default.is, c.as_slice-in-turns.ensures.value) at c.pick-choice.ensures.all in
+    scanned_stuck c.turns.invariant.scanned c.pick-choice.result.tests (grind (arith, common_steps, nat_tests)) c.turns.invariant.leaving.rising
+    (λ at g. none at (may_go_at c.args.rows.now left at c.turns.free g)) (all ∙ ap (compared (rows_at c.args.rows.now left)) (sym n))
 
 pub returns-in_default-clause-exact : goal.returns-in_default-clause-exact
 returns-in_default-clause-exact c = (λ h. absurd cc, λ h. absurd ((stuck c).0 h))
@@ -60,25 +56,25 @@ returns-in_default-clause-exact c = (λ h. absurd cc, λ h. absurd ((stuck c).0 
 pub returns-in_default-clause-tests : goal.returns-in_default-clause-tests
 returns-in_default-clause-tests c = (stuck c).1
 
--- the row that was picked goes next
-picked : (c : In-Some) → MayGoAt c.args.rows.now c.turns.left.items c.turns.free c.in-Some.at
-picked c = subst₂ (λ (l : List ℕ) (o : Option ℕ). IfSome o (MayGoAt c.args.rows.now l c.turns.free)) c.as_slice-in-turns.ensures.value c.in-Some.is c.pick-choice.ensures.found
-
+-- the row that was picked goes next, and it is the one that is read
 goes_next : (c : In-Some) → GoesNext (amount c.turns.free) (rows_at c.args.rows.now c.turns.left.items) c.in-Some.at
 goes_next c =
     let rows = c.args.rows.now in
     let left = c.turns.left.items in
-    let first : (k : ℕ) → k < c.in-Some.at → MayGoAt rows left c.turns.free k → ⊥ =
-    subst₂ (λ (l : List ℕ) (o : Option ℕ). IfSome o (λ at. (k : ℕ) → k < at → MayGoAt rows l c.turns.free k → ⊥)) c.as_slice-in-turns.ensures.value c.in-Some.is c.pick-choice.ensures.first in
-    (can_go rows left c.in-Some.at c.turns.free (picked c), λ k lt g. first k lt (may_go_at rows left k c.turns.free g))
+    let found = rw (c.in-Some.is, c.as_slice-in-turns.ensures.value) at c.pick-choice.ensures.found in
+    let first = rw (c.in-Some.is, c.as_slice-in-turns.ensures.value) at c.pick-choice.ensures.first in
+    (can_go rows left c.in-Some.at c.turns.free found, λ k lt g. first k lt (may_go_at rows left k c.turns.free g))
 
-row_is : (c : After-get) → c.get.result.now ≡ row_of c.args.rows.now c.turns.left.items c.in-Some.at
+there : (c : In-Some) → c.in-Some.at < length c.turns.left.items
+there c = omega (arith, (goes_next c).0.there, length-map c.turns.left.items (row_at c.args.rows.now))
+
+row_is : (c : After-get) → c.get.result.now ≡ row_at (rows_at c.args.rows.now c.turns.left.items) c.in-Some.at
 row_is c =
-    let there = (picked (goal.at.add-requires-clause-room c).In-Some).there in
-    c.get.ensures ∙ ap (row_at c.args.rows.now) (c.remove-place.ensures.value ∙ get_or_default c.turns.left.items c.in-Some.at c.remove-place.result 0 there)
+    let s = (goal.at.add-requires-clause-room c).In-Some in
+    c.get.ensures ∙ (ap (row_at c.args.rows.now) (c.remove-place.ensures.value ∙ get_or_default c.turns.left.items c.in-Some.at c.remove-place.result 0 (there s)) ∙ sym (row_there c.args.rows.now c.turns.left.items c.in-Some.at (there s)))
 
 pub add-requires-clause-room : goal.add-requires-clause-room
-add-requires-clause-room c = room_back c.turns.invariant.leaving c.requires.kinds c.in-Some.at (picked (goal.at.add-requires-clause-room c).In-Some).there (row_is c)
+add-requires-clause-room c = room_back c.turns.invariant.leaving c.in-Some.at (goes_next (goal.at.add-requires-clause-room c).In-Some).0.there (row_is c)
 
 -- a turn compares at most as often as rows are left
 few_tests : (t u m n k : ℕ) → u ≤ m → 2 * t + m * (m + 1) ≤ k → n + 1 ≡ m → 2 * (t + u) + n * (n + 1) ≤ k
@@ -88,32 +84,29 @@ pub turns-preserved : goal.turns-preserved
 turns-preserved c =
     let rows = c.args.rows.now in
     let left = c.turns.left.items in
+    let places = c.turns.places.items in
     let at = c.in-Some.at in
     let old = c.turns.invariant in
     let s = goal.at.turns-preserved c in
-    let there = (picked s.In-Some).there in
+    let next = goes_next s.In-Some in
+    let there = there s.In-Some in
     let row = row_is s.After-get in
     let slice = c.as_slice-in-turns.ensures.value in
     let items = c.remove-place.ensures.items in
-    let left_rows = ap (rows_at rows) items ∙ same_remove rows left at in
+    let others = ap (rows_at rows) items ∙ same_remove rows left at in
     let len = length-remove left at there in
     let place : c.remove-place.result ≡ get_or left at 0 = c.remove-place.ensures.value ∙ get_or_default left at c.remove-place.result 0 there in
-    let pushed : c.push.new.self.items ≡ c.turns.places.items ++ get_or left at 0 ∷ [] = pushed (c.remove-place.result ∷ []) refl c.unwrap.ensures c.push.ensures.items ∙ ap (λ (i : ℕ). c.turns.places.items ++ i ∷ []) place in
-    let longer : length c.push.new.self.items ≡ length c.turns.places.items + 1 = ap length pushed ∙ length_push c.turns.places.items (get_or left at 0) in
-    let gone_rows : rows_at rows c.turns.places.items ++ row_at (rows_at rows left) at ∷ [] ≡ rows_at rows c.push.new.self.items =
-    ap (λ (r : Row). rows_at rows c.turns.places.items ++ r ∷ []) (row_there rows left at there) ∙ (sym (map_push (row_at rows) c.turns.places.items (get_or left at 0)) ∙ ap (rows_at rows) (sym pushed)) in
-    let tested : c.pick-choice.result.tests ≤ length left = subst (λ (l : List ℕ). c.pick-choice.result.tests ≤ length l) slice c.pick-choice.ensures.most in
+    let pushed : c.push.new.self.items ≡ places ++ get_or left at 0 ∷ [] = rw place at (pushed (c.remove-place.result ∷ []) refl c.unwrap.ensures c.push.ensures.items) in
+    let longer : length c.push.new.self.items ≡ length places + 1 = ap length pushed ∙ length_push places (get_or left at 0) in
+    let gone = ap (rows_at rows) pushed ∙ (map_push (row_at rows) places (get_or left at 0) ∙ ap (λ (r : Row). rows_at rows places ++ r ∷ []) (sym (row_there rows left at there))) in
+    let tested : c.pick-choice.result.tests ≤ length left = rw slice at c.pick-choice.ensures.most in
     let some : 0 < c.pick-choice.result.tests = c.pick-choice.ensures.least (rw slice (omega arith)) in
-    let turn : c.pick-choice.result.tests ≡ compared (rows_at rows left) (at + 1) =
-    subst₂ (λ (l : List ℕ) (o : Option ℕ). IfSome o (λ at. c.pick-choice.result.tests ≡ compared (rows_at rows l) (at + 1))) slice c.in-Some.is c.pick-choice.ensures.tests in
-    let more = scanned_more old.scanned at c.pick-choice.result.tests old.leaving.rising (goes_next s.In-Some) turn in
-    let given = given_back old.leaving c.requires.kinds at there row c.add.new.self c.add.ensures in
+    let turn : c.pick-choice.result.tests ≡ compared (rows_at rows left) (at + 1) = rw (c.in-Some.is, slice) at c.pick-choice.ensures.tests in
     record {
-      leaving = leaving_others old.leaving c.requires.kinds at there row c.add.new.self c.remove-place.new.self.items c.add.ensures items;
-      scanned = subst (λ (f : ℕ → ℕ). Scanned (amount c.args.free.now) rows f (rows_at rows c.remove-place.new.self.items) (rows_at rows c.push.new.self.items) (c.turns.tests + c.pick-choice.result.tests)) (sym given)
-          (subst₂ (λ (l gone : List Row). Scanned (amount c.args.free.now) rows (freed (amount c.turns.free) (row_at (rows_at rows left) at)) l gone (c.turns.tests + c.pick-choice.result.tests)) (sym left_rows) gone_rows more);
-      gone = rw pushed (All-push (λ j. j < length rows) c.turns.places.items (get_or left at 0) old.gone (All-get_or (λ j. j < length rows) left at 0 there old.leaving.there));
-      counts = subst (λ (r : List Row). CountsAhead r c.count_less.new.ahead.items) (ap (λ (l : List ℕ). remove (rows_at rows l) at) c.as_slice-in-turns-3.ensures.value ∙ sym left_rows) c.count_less.ensures.counts;
+      leaving = leaving_others old.leaving at next.0.there row c.add.new.self c.remove-place.new.self.items c.requires.kinds c.add.ensures items;
+      scanned = rw (others, gone, given_back old.leaving at next.0.there row c.add.new.self c.requires.kinds c.add.ensures) (scanned_more old.scanned at c.pick-choice.result.tests old.leaving.rising next turn);
+      gone = rw pushed (All-push (λ j. j < length rows) places (get_or left at 0) old.gone (All-get_or (λ j. j < length rows) left at 0 there old.leaving.there));
+      counts = rw (others, ← c.as_slice-in-turns-3.ensures.value) c.count_less.ensures.counts;
       most = rw items (few_tests c.turns.tests c.pick-choice.result.tests (length left) (length (remove left at)) (length rows * (length rows + 1)) tested old.most len);
       least = let l = old.least in omega arith;
       all = rw items (let l = old.all in omega arith);

@@ -1,17 +1,18 @@
-use Rattle.std.proofs.Common.{◌≡◌, ℕ, ◌+◌, List, ◌∷◌, length, drop, refl, subst, ap, sym, ◌∙◌, zero-add, arith}
+use Rattle.std.proofs.Common.{◌≡◌, ℕ, ◌+◌, ◌<◌, length, refl, subst, ap, sym, ◌∙◌, zero-add, arith}
 use Rattle.std.specs.Prelude.{IsTrue}
-use Rattle.std.proofs.lemmas.List.{drop_all, drop_more}
-use Rattle.std.proofs.lemmas.List.Sums.{sum_by-cons}
+use Rattle.std.proofs.lemmas.List.{drop_all, drop_more, length-map}
+use Rattle.std.proofs.lemmas.List.Sums.{sum_by-drop_more}
 use Rattle.counts.specs.Amounts.{amount, Fits}
 use Rattle.counts.proofs.Sums.{length-sum_of}
 use Rattle.claims.specs.declared.row.Row.{Row}
-use Rattle.claims.specs.Claims.{held_of}
+use Rattle.claims.specs.Claims.{row_at, no_row}
 use Rattle.claims.specs.Safety.{CanFinish}
-use Rattle.ordered_safety.specs.Scan.{rows_at, row_of}
-use Rattle.ordered_safety.proofs.Turns.{given}
-use Rattle.ordered_safety.proofs.Walks.{WalkTakes, Walked, walked_over, walked_more, check_as_walked, finishing_is, as_many, held_same}
+use Rattle.ordered_safety.specs.Scan.{rows_at}
+use Rattle.ordered_safety.proofs.Picks.{row_there}
+use Rattle.ordered_safety.proofs.Turns.{given, kinds_at}
+use Rattle.ordered_safety.proofs.Walks.{WalkTakes, walked_over, walked_more, check_as_walked, finishing_is, as_many, held_same}
 use Rattle.ordered_safety.proofs.walk.walk.Goals as goal
-use Rattle.ordered_safety.proofs.walk.walk.Goals.{In-loop-place, After-loop-place, Then-not-le}
+use Rattle.ordered_safety.proofs.walk.walk.Goals.{After-get-row, After-loop-place, Then-not-le}
 
 pub loop-place-init : goal.loop-place-init
 loop-place-init c =
@@ -23,17 +24,21 @@ loop-place-init c =
       walked = record { finish = (λ h. h, λ h. h); taken = λ n m e h. subst (WalkTakes (amount c.args.free.now) order) (sym (zero-add n) ∙ e) h };
     }
 
--- the row at the next place, and those after it
-next : (c : In-loop-place) → rows_at c.args.rows.now (drop c.loop-place.place-index c.args.places.now) ≡ row_of c.args.rows.now c.args.places.now c.loop-place.place-index ∷ rows_at c.args.rows.now (drop (c.loop-place.place-index + 1) c.args.places.now)
-next c = ap (rows_at c.args.rows.now) (drop_more c.args.places.now c.loop-place.place-index 0 c.loop-place-test.true)
+-- the row that is read is the next one of the order
+there : (c : After-get-row) → c.loop-place.place-index < length (rows_at c.args.rows.now c.args.places.now)
+there c = let lt = c.loop-place-test.true in omega (arith, length-map c.args.places.now (row_at c.args.rows.now))
 
-so_far : (c : In-loop-place) → Walked (amount c.args.free.now) (rows_at c.args.rows.now c.args.places.now) (amount c.loop-place.free) (row_of c.args.rows.now c.args.places.now c.loop-place.place-index ∷ rows_at c.args.rows.now (drop (c.loop-place.place-index + 1) c.args.places.now)) c.loop-place.tests
-so_far c = subst (λ (r : List Row). Walked (amount c.args.free.now) (rows_at c.args.rows.now c.args.places.now) (amount c.loop-place.free) r c.loop-place.tests) (next c) c.loop-place.invariant.walked
+row_is : (c : After-get-row) → c.get-row.result.now ≡ row_at (rows_at c.args.rows.now c.args.places.now) c.loop-place.place-index
+row_is c = c.get-row.ensures ∙ sym (row_there c.args.rows.now c.args.places.now c.loop-place.place-index c.loop-place-test.true)
 
 -- it needs too much
-over : (c : Then-not-le) → ¬ (CanFinish (amount c.args.free.now) (rows_at c.args.rows.now c.args.places.now)) × WalkTakes (amount c.args.free.now) (rows_at c.args.rows.now c.args.places.now) (c.loop-place.tests + 1)
-over c = walked_over (so_far (goal.at.returns-then-not-le-clause-exact c).In-loop-place) (λ fits. absurd (
-    let yes : IsTrue c.le.result = c.le.ensures.1 (subst (λ (r : Row). Fits r.need (amount c.loop-place.free)) (sym c.get-row.ensures) fits) in
+over : (c : Then-not-le)
+    → ¬ (CanFinish (amount c.args.free.now) (rows_at c.args.rows.now c.args.places.now)) × WalkTakes (amount c.args.free.now) (rows_at c.args.rows.now c.args.places.now) (c.loop-place.tests + 1)
+over c =
+    let order = rows_at c.args.rows.now c.args.places.now in
+    let s = (goal.at.returns-then-not-le-clause-exact c).After-get-row in
+    walked_over (rw (drop_more order c.loop-place.place-index no_row (there s)) at c.loop-place.invariant.walked) (λ fits. absurd (
+    let yes : IsTrue c.le.result = c.le.ensures.1 (subst (λ (r : Row). Fits r.need (amount c.loop-place.free)) (sym (row_is s)) fits) in
     cc))
 
 pub returns-then-not-le-clause-exact : goal.returns-then-not-le-clause-exact
@@ -49,40 +54,38 @@ returns-then-not-le-clause-tests c =
 pub returns-then-not-le-clause-most : goal.returns-then-not-le-clause-most
 returns-then-not-le-clause-most c = omega (arith, as_many c.args.rows.now c.args.places.now c.requires.once)
 
--- what the rows from here on hold
-held_from : (c : In-loop-place) (kind : ℕ) → held_of kind (rows_at c.args.rows.now (drop c.loop-place.place-index c.args.places.now)) ≡ amount (row_of c.args.rows.now c.args.places.now c.loop-place.place-index).held kind + held_of kind (rows_at c.args.rows.now (drop (c.loop-place.place-index + 1) c.args.places.now))
-held_from c kind =
-    ap (held_of kind) (next c)
-    ∙ sum_by-cons (λ (row : Row). amount row.held kind) (row_of c.args.rows.now c.args.places.now c.loop-place.place-index) (rows_at c.args.rows.now (drop (c.loop-place.place-index + 1) c.args.places.now))
-
 pub add-requires-clause-room : goal.add-requires-clause-room
 add-requires-clause-room c = λ kind.
-    let h = ap (λ (row : Row). amount row.held kind) c.get-row.ensures in
-    omega (arith, held_from (goal.at.add-requires-clause-room c).In-loop-place kind, c.loop-place.invariant.small kind)
+    let f : Row → ℕ = λ row. amount row.held kind in
+    let s = (goal.at.add-requires-clause-room c).After-get-row in
+    let held = sum_by-drop_more f (rows_at c.args.rows.now c.args.places.now) c.loop-place.place-index no_row (there s) in
+    omega (arith, ap f (row_is s), c.loop-place.invariant.small kind)
 
 pub loop-place-preserved : goal.loop-place-preserved
 loop-place-preserved c =
-    let rows = c.args.rows.now in
-    let places = c.args.places.now in
+    let order = rows_at c.args.rows.now c.args.places.now in
     let i = c.loop-place.place-index in
-    let free = c.loop-place.free in
     let old = c.loop-place.invariant in
-    let s = (goal.at.loop-place-preserved c).In-loop-place in
+    let s = (goal.at.loop-place-preserved c).After-get-row in
     let yes : IsTrue c.le.result = c.if-not-le.false in
-    let fits : Fits (row_of rows places i).need (amount free) = subst (λ (r : Row). Fits r.need (amount free)) c.get-row.ensures (c.le.ensures.0 yes) in
-    let more = given rows places c.args.free.now free c.add.new.self c.get-row.result.now c.requires.there c.requires.kinds i c.loop-place-test.true c.get-row.ensures old.kinds c.add.ensures in
+    let fits = subst (λ (r : Row). Fits r.need (amount c.loop-place.free)) (row_is s) (c.le.ensures.0 yes) in
+    let more = given order c.args.free.now c.loop-place.free c.add.new.self c.get-row.result.now i (kinds_at (length c.args.free.now) c.args.rows.now c.args.places.now c.requires.kinds c.requires.there) (there s) (row_is s) old.kinds c.add.ensures in
     record {
       tests = omega arith;
-      small = λ kind. (let g = ap (λ (f : ℕ → ℕ). f kind) more in omega (arith, held_from s kind, old.small kind));
-      kinds = ap length c.add.ensures ∙ (length-sum_of free c.get-row.result.now.held ∙ old.kinds);
-      walked = subst (λ (f : ℕ → ℕ). Walked (amount c.args.free.now) (rows_at rows places) f (rows_at rows (drop (i + 1) places)) (c.loop-place.tests + 1)) (sym more) (walked_more (so_far s) fits);
+      small = λ kind.
+          let held = sum_by-drop_more (λ (row : Row). amount row.held kind) order i no_row (there s) in
+          omega (arith, ap (λ (f : ℕ → ℕ). f kind) more, old.small kind);
+      kinds = ap length c.add.ensures ∙ (length-sum_of c.loop-place.free c.get-row.result.now.held ∙ old.kinds);
+      walked = rw more (walked_more (rw (drop_more order i no_row (there s)) at old.walked) fits);
     }
 
 -- all places are passed
-all : (c : After-loop-place) → CanFinish (amount c.args.free.now) (rows_at c.args.rows.now c.args.places.now) × WalkTakes (amount c.args.free.now) (rows_at c.args.rows.now c.args.places.now) c.loop-place.tests
+all : (c : After-loop-place)
+    → CanFinish (amount c.args.free.now) (rows_at c.args.rows.now c.args.places.now) × WalkTakes (amount c.args.free.now) (rows_at c.args.rows.now c.args.places.now) c.loop-place.tests
 all c =
-    let rest = subst (λ (ps : List ℕ). Walked (amount c.args.free.now) (rows_at c.args.rows.now c.args.places.now) (amount c.loop-place.free) (rows_at c.args.rows.now ps) c.loop-place.tests) (drop_all c.loop-place.place-index c.args.places.now c.loop-place-test.false) c.loop-place.invariant.walked in
-    (rest.finish.0 tt, rest.taken 0 c.loop-place.tests (omega arith) refl)
+    let end = c.loop-place-test.false in
+    let passed = rw (drop_all c.loop-place.place-index (rows_at c.args.rows.now c.args.places.now) (omega (arith, length-map c.args.places.now (row_at c.args.rows.now)))) at c.loop-place.invariant.walked in
+    (passed.finish.0 tt, passed.taken 0 c.loop-place.tests (omega arith) refl)
 
 pub returns-clause-tests : goal.returns-clause-tests
 returns-clause-tests c =

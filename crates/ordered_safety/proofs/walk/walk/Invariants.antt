@@ -7,7 +7,7 @@ use Rattle.ordered_safety.proofs.walk.walk.Given as goal
 abbrev pub invariant-loop-place : goal.invariant-loop-place
 invariant-loop-place l = record {
   tests : l.tests ≡ l.place-index;
-  small : StaysSmall l.free (rows_at l.rows (drop l.place-index l.places));
+  small : StaysSmall l.free (drop l.place-index (rows_at l.rows l.places));
   kinds : length l.free ≡ length l.fn.free;
-  walked : Walked (amount l.fn.free) (rows_at l.rows l.places) (amount l.free) (rows_at l.rows (drop l.place-index l.places)) l.tests;
+  walked : Walked (amount l.fn.free) (rows_at l.rows l.places) (amount l.free) (drop l.place-index (rows_at l.rows l.places)) l.tests;
 }
