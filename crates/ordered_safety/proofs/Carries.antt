@@ -122,7 +122,7 @@ carried_missed rows kept i places met same greatest more lt le none h =
     record {
       there = h.there;
       found = h.found ∙ (sym (append-nil (filter (has_row rows) ns)) ∙ (sym (filter_last (has_row rows) ns n false (has_none rows n each)) ∙ ap (filter (has_row rows)) (sym e)));
-      once = λ others o. h.once others (subst (λ (r : List Row). IsOrderOf r others) (ap (λ (l : List ℕ). filter (is_lacked l) rows) e ∙ lacked_other ns n rows (recursion_from_All (λ x. n ≢ x.number) rows each)) o);
+      once = λ others o. h.once others (rw (e, lacked_other ns n rows (recursion_from_All (λ x. n ≢ x.number) rows each)) at o);
       among = rw e (All-weaker (λ place. is_among ns (row_at rows place) ≡ true) (λ place. is_among (ns ++ n ∷ []) (row_at rows place) ≡ true) (λ place a. among_still ns n (row_at rows place) a) places h.among);
       below = All-weaker (λ place. (row_at rows place).number ≤ greatest) (λ place. (row_at rows place).number ≤ more) (λ place a. omega arith) places h.below;
       as_kept = λ s. All-weaker (λ place. HasKept kept i (row_at rows place)) (λ place. HasKept kept (i + 1) (row_at rows place)) (λ place a. (a.0, let l = a.1 in omega arith, a.2)) places (h.as_kept s);
@@ -218,7 +218,7 @@ carried_found rows kept i places met same still greatest more place low lines lt
       there = All-push (λ j. j < length rows) places place h.there stands.there;
       found = ap numbers_of pushed ∙ (map-append (λ (r : Row). r.number) (rows_at rows places) (x ∷ []) ∙ (ap₂ (λ (l : List ℕ) (k : ℕ). l ++ k ∷ []) h.found (sym number) ∙ (sym (filter_last (has_row rows) ns n true (has_some rows n place stands)) ∙ ap (filter (has_row rows)) (sym e))));
       once = λ others o.
-          let without = subst (λ (r : List Row). IsOrderOf r others) (ap (λ (l : List ℕ). filter (is_lacked l) rows) e ∙ lacked_then rows place ns n stands.there number low) o in
+          let without = rw (e, lacked_then rows place ns n stands.there number low) at o in
           let all = h.once (x ∷ others) (filter (is_lacked ns) (take place rows), filter (is_lacked ns) (drop (suc place) rows), lacked_before rows place ns n stands.there number none, without) in
           subst (IsOrderOf rows) (sym (append_assoc (rows_at rows places) (x ∷ []) others) ∙ ap (λ (l : List Row). l ++ others) (sym pushed)) all;
       among = rw e (All-push (λ p. is_among (ns ++ n ∷ []) (row_at rows p) ≡ true) places place
@@ -232,7 +232,9 @@ carried_found rows kept i places met same still greatest more place low lines lt
           (i, omega arith, (still_is s).1);
       line = λ s. subst (Pairwise KeepsLine) (sym pushed)
           (pairwise_last (rows_at rows places) x
-          (recursion_from_All (λ r. KeepsLine r x) (rows_at rows places) (All-map (λ r. KeepsLine r x) (row_at rows) places (All-weaker (λ p. HasKept kept i (row_at rows p)) (λ p. KeepsLine (row_at rows p) x) (λ p a. kept_line kept a.0 i (row_at rows p) x a.1 lt lines a.2 (still_is s).1) places (h.as_kept (still_is s).0))))
+          (recursion_from_All (λ r. KeepsLine r x) (rows_at rows places) (All-map (λ r. KeepsLine r x) (row_at rows) places (λ k d below.
+          let kept_there = h.as_kept (still_is s).0 k d below in
+          kept_line kept kept_there.0 i (row_at rows (get_or places k d)) x kept_there.1 lt lines kept_there.2 (still_is s).1)))
           (h.line (still_is s).0));
       marks = rw e (marks_more rows ns n place met low stands.there h.len number h.marks);
       len = length-set met place true ∙ h.len;

@@ -102,10 +102,12 @@ module _ (rows : List Row) (at : ℕ) (there : at < length rows) (low : Pairwise
 
   -- where no earlier row is of its line, it keeps its line with all others
   keeps_line : HasNoEarlier rows at → AllByRecursion (KeepsLine (row_at rows at)) (remove rows at)
-  keeps_line none = recursion_from_All (KeepsLine (row_at rows at)) (remove rows at) (All-from_get_or (KeepsLine (row_at rows at)) (remove rows at) no_row (λ k lt same. elim (cases_lt k at) [
-    | inl before ↦ absurd (cc (same, ap (same_line (row_at rows at)) (get_or-remove_below rows at no_row k before there), none k before))
-    | inr after ↦ subst (IsLower (row_at rows at)) (sym (get_or-remove_above rows at no_row k after there)) (pair_at IsLower rows at (k + 1) (omega arith) (omega (arith, length-remove rows at there)) low)
-  ]))
+  keeps_line none =
+      let x = row_at rows at in
+      recursion_from_All (KeepsLine x) (remove rows at) (All-from_get_or (KeepsLine x) (remove rows at) no_row (λ k lt same. elim (cases_lt k at) [
+        | inl before ↦ absurd (cc (same, ap (same_line x) (get_or-remove_below rows at no_row k before there), none k before))
+        | inr after ↦ rw (get_or-remove_above rows at no_row k after there) (pair_at IsLower rows at (k + 1) (omega arith) (omega (arith, length-remove rows at there)) low)
+      ]))
 
   -- a finishing order of the others, with the row before it
   pub order_before : (free : ℕ → ℕ) (order : List Row) → Fits (row_at rows at).need free → HasNoEarlier rows at

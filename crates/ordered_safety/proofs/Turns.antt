@@ -44,8 +44,8 @@ kinds_at kinds rows places have there =
     All-map P (row_at rows) places (λ k d lt. All-get_or P rows (get_or places k d) no_row (there k d lt) have)
 
 -- what is free once the row at a place gave back what it holds
-pub given : (rows : List Row) (start free more : List ℕ) (row : Row) (at : ℕ) → HaveKinds (length start) rows → at < length rows → row ≡ row_at rows at → length free ≡ length start → more ≡ sum_of free row.held
-    → amount more ≡ freed (amount free) (row_at rows at)
+pub given : (rows : List Row) (start free more : List ℕ) (row : Row) (at : ℕ) → HaveKinds (length start) rows → at < length rows → row ≡ row_at rows at → length free ≡ length start
+    → more ≡ sum_of free row.held → amount more ≡ freed (amount free) (row_at rows at)
 given rows start free more row at have there is same sum =
     let here = All-get_or (λ (r : Row). (length r.held ≡ length start) × (length r.need ≡ length start)) rows at no_row there have in
     let held : length row.held ≡ length free = ap (λ (r : Row). length r.held) is ∙ (here.0 ∙ sym same) in

@@ -14,7 +14,8 @@ once : (c : After-place_others-above) → IsOrderOf c.args.rows.now (rows_at c.a
 once c =
     let rows = c.args.rows.now in
     let ns = kept_numbers c.args.kept.now in
-    carried_once rows (rows_at rows c.place_found-found.new.places.items) (rows_at rows c.place_others-above.new.places.items) ns c.place_found-found.ensures.once (c.place_others-above.ensures.others ns (marks c))
+    let others = c.place_others-above.ensures.others ns (marks c) in
+    carried_once rows (rows_at rows c.place_found-found.new.places.items) (rows_at rows c.place_others-above.new.places.items) ns c.place_found-found.ensures.once others
 
 pub returns-then-found-clause-once : goal.returns-then-found-clause-once
 returns-then-found-clause-once c = once (goal.at.returns-then-found-clause-once c).After-place_others-above

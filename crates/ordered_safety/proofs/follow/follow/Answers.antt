@@ -38,7 +38,8 @@ none : (c : In_default) → ¬ (AreFinishing (amount c.args.free.now) c.args.row
 none c =
     let next = so_far (goal.at.returns-in_default-clause-exact c).In-numbers in
     let gone = rw c.as_slice.ensures.value at c.in_default.ensures.none in
-    followed_none (rw next at c.numbers.invariant.followed) c.numbers.invariant.leaving.rising (λ at h. gone at (has_turn c.args.rows.now c.numbers.left.items at (get_or c.args.numbers.now c.numbers.number-index 0) h))
+    followed_none (rw next at c.numbers.invariant.followed) c.numbers.invariant.leaving.rising
+    (λ at h. gone at (has_turn c.args.rows.now c.numbers.left.items at (get_or c.args.numbers.now c.numbers.number-index 0) h))
 
 pub returns-in_default-clause-exact : goal.returns-in_default-clause-exact
 returns-in_default-clause-exact c = (λ h. absurd cc, λ h. absurd ((none c).0 h))
@@ -94,8 +95,8 @@ numbers-preserved c =
     }
 
 -- where no number is left
-all : (c : After-is_empty)
-    → ((rows_at c.args.rows.now c.numbers.left.items ≡ []) ↔ AreFinishing (amount c.args.free.now) c.args.rows.now c.args.numbers.now) × CheckTakes (amount c.args.free.now) c.args.rows.now c.args.numbers.now c.numbers.tests
+all : (c : After-is_empty) → ((rows_at c.args.rows.now c.numbers.left.items ≡ []) ↔ AreFinishing (amount c.args.free.now) c.args.rows.now c.args.numbers.now)
+    × CheckTakes (amount c.args.free.now) c.args.rows.now c.args.numbers.now c.numbers.tests
 all c = followed_all (rw (drop_all c.numbers.number-index c.args.numbers.now (omega arith)) at c.numbers.invariant.followed)
 
 pub returns-clause-exact : goal.returns-clause-exact

@@ -1,15 +1,14 @@
-use Rattle.std.proofs.Common.{◌≡◌, inl, inr, ℕ, ◌-◌, ◌↔◌, Bool, List, length, get_or, set, refl, subst, subst₂, ap, ap₂, sym, ◌∙◌, arith}
+use Rattle.std.proofs.Common.{◌≡◌, inl, inr, ℕ, ◌-◌, List, length, get_or, set, refl, subst, ap, ap₂, sym, ◌∙◌, arith}
 use Rattle.std.specs.Prelude.{IsTrue}
 use Rattle.std.proofs.lemmas.List.{get_or_default}
 use Rattle.counts.specs.Amounts.{amount}
 use Rattle.counts.proofs.Sums.{within}
 use Rattle.claims.specs.declared.row.Row.{Row}
-use Rattle.claims.specs.Claims.{Claims, IsTable, Pairwise, IsLower, held_of, no_row}
+use Rattle.claims.specs.Claims.{IsTable, Pairwise, IsLower, held_of, no_row}
 use Rattle.claims.specs.Changes.{granted, granted_row}
-use Rattle.claims.specs.Safety.{HasFinishingOrder, AreFinishing}
 use Rattle.claims.proofs.Tables.{granted_table}
 use Rattle.ordered_safety.specs.Scan.{rows_at}
-use Rattle.ordered_safety.specs.Compared.{CheckTakes, ScanTakes, OrderTakes}
+use Rattle.ordered_safety.specs.Compared.{OrderTakes}
 use Rattle.ordered_safety.specs.Carried.{StillServes, carried, numbers_of}
 use Rattle.ordered_safety.specs.Kept.{kept_numbers}
 use Rattle.ordered_safety.specs.Room.{Room}
@@ -38,12 +37,6 @@ rising c = subst (Pairwise IsLower) (sym (rows_are c)) (page_table c).rising
 page_taken : {free now left : List ℕ} → now ≡ free → left ≡ set now 0 (amount now 0 - 1) → left ≡ set free 0 (amount free 0 - 1)
 page_taken same is = is ∙ ap (λ (f : List ℕ). set f 0 (amount f 0 - 1)) same
 
--- what the trial tells of the table
-trial : (t : Claims) {rows : List Row} {free ns order : List ℕ} {safe : Bool} (tests : ℕ) → rows ≡ t.rows → free ≡ t.free → ns ≡ order → (IsTrue safe ↔ AreFinishing (amount free) rows (carried rows ns)) → CheckTakes (amount free) rows (carried rows ns) tests
-    → (IsTrue safe ↔ StillServes t order) × OrderTakes t (carried t.rows order) tests
-trial t {safe = safe} tests e f g exact takes =
-    subst (λ (z : List Row × List ℕ × List ℕ). (IsTrue safe ↔ AreFinishing (amount z.1) z.0 (carried z.0 z.2)) × CheckTakes (amount z.1) z.0 (carried z.0 z.2) tests) (λ i. (e i, f i, g i)) (exact, takes)
-
 pub try_kept-tried-requires-clause-rising : goal.try_kept-tried-requires-clause-rising
 try_kept-tried-requires-clause-rising c = rising (goal.at.try_kept-tried-requires-clause-rising c).After-with-rows
 
@@ -53,17 +46,18 @@ keep-requires-clause-rising c = rising (goal.at.keep-requires-clause-rising c).A
 pub returns-then-tried-clause-carried : goal.returns-then-tried-clause-carried
 returns-then-tried-clause-carried c = λ serves.
     let rows = rows_are (goal.at.returns-then-tried-clause-carried c).After-with-rows in
-    let order = ap kept_numbers c.as_slice.ensures.value ∙ ap (λ (r : Room). r.order) c.scratch.view_is in
+    let order = ap (λ (r : Room). r.order) c.scratch.view_is in
     c.keep.ensures.numbers
     ∙ (ap (λ (l : List ℕ). numbers_of (rows_at c.with-rows.result l)) c.as_slice-then-tried.ensures.value
-    ∙ (c.try_kept-tried.ensures.carried ∙ ap₂ carried rows order))
+    ∙ (c.try_kept-tried.ensures.carried ∙ ap₂ carried rows (ap kept_numbers c.as_slice.ensures.value ∙ order)))
 
 pub returns-then-tried-clause-tests : goal.returns-then-tried-clause-tests
 returns-then-tried-clause-tests c =
     let rows = rows_are (goal.at.returns-then-tried-clause-tests c).After-with-rows in
-    let tried = trial (granted c.args.table.now c.args.row 0) c.try_kept-tried.result.tests rows (page_taken c.free.ensures.free c.take_page.ensures) (ap kept_numbers c.as_slice.ensures.value ∙ ap (λ (r : Room). r.order) c.scratch.view_is) c.try_kept-tried.ensures.exact c.try_kept-tried.ensures.tests in
+    let free = page_taken c.free.ensures.free c.take_page.ensures in
+    let order = ap (λ (r : Room). r.order) c.scratch.view_is in
     let yes : IsTrue c.try_kept-tried.result.safe = c.if-tried.true in
-    inl (tried.0.0 yes, c.try_kept-tried.ensures.each yes ∙ ap length rows)
+    inl ((rw (rows, free, c.as_slice.ensures.value, order) at c.try_kept-tried.ensures.exact).0 yes, c.try_kept-tried.ensures.each yes ∙ ap length rows)
 
 pub scan-scanned-requires-clause-rising : goal.scan-scanned-requires-clause-rising
 scan-scanned-requires-clause-rising c = rising (goal.at.scan-scanned-requires-clause-rising c).After-with-rows
@@ -83,13 +77,13 @@ keep-requires-then-scanned-clause-rising c = rising (goal.at.keep-requires-then-
 failed : (c : Else-tried) (rows : c.with-rows.result ≡ (granted c.args.table.now c.args.row 0).rows) → ¬ (StillServes (granted c.args.table.now c.args.row 0) c.args.scratch.now.order)
     × OrderTakes (granted c.args.table.now c.args.row 0) (carried (granted c.args.table.now c.args.row 0).rows c.args.scratch.now.order) c.try_kept-tried.result.tests
 failed c rows =
-    let h = trial (granted c.args.table.now c.args.row 0) c.try_kept-tried.result.tests rows (page_taken c.free.ensures.free c.take_page.ensures) (ap kept_numbers c.as_slice.ensures.value ∙ ap (λ (r : Room). r.order) c.scratch.view_is) c.try_kept-tried.ensures.exact c.try_kept-tried.ensures.tests in
-    (λ serves. absurd (let safe = h.0.1 serves in let over = c.if-tried.false in cc), h.1)
+    let free = page_taken c.free.ensures.free c.take_page.ensures in
+    let order = ap (λ (r : Room). r.order) c.scratch.view_is in
+    let exact = rw (rows, free, c.as_slice.ensures.value, order) at c.try_kept-tried.ensures.exact in
+    (λ serves. absurd (let safe = exact.1 serves in let over = c.if-tried.false in cc), rw (rows, free, c.as_slice.ensures.value, order) at c.try_kept-tried.ensures.tests)
 
 pub returns-clause-exact : goal.returns-clause-exact
-returns-clause-exact c =
-    subst₂ (λ (f : List ℕ) (r : List Row). IsTrue c.scan-scanned.result.safe ↔ HasFinishingOrder (amount f) r)
-    (page_taken c.free-2.ensures.free c.take_page-2.ensures) (rows_are (goal.at.returns-clause-exact c).After-with-rows) c.scan-scanned.ensures.exact
+returns-clause-exact c = rw (rows_are (goal.at.returns-clause-exact c).After-with-rows, page_taken c.free-2.ensures.free c.take_page-2.ensures) at c.scan-scanned.ensures.exact
 
 pub returns-clause-carried : goal.returns-clause-carried
 returns-clause-carried c = λ serves.
@@ -101,7 +95,7 @@ returns-clause-tests c =
     let s = goal.at.returns-clause-tests c in
     let rows = rows_are s.After-with-rows in
     let tried = failed s.Else-tried rows in
-    let scanned = subst₂ (λ (f : List ℕ) (r : List Row). ScanTakes (amount f) r c.scan-scanned.result.tests) (page_taken c.free-2.ensures.free c.take_page-2.ensures) rows c.scan-scanned.ensures.tests in
+    let scanned = rw (rows, page_taken c.free-2.ensures.free c.take_page-2.ensures) at c.scan-scanned.ensures.tests in
     inr (tried.0, c.try_kept-tried.result.tests, c.scan-scanned.result.tests, refl, tried.1, scanned)
 
 pub returns-clause-few : goal.returns-clause-few

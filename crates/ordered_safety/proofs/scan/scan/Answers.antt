@@ -70,8 +70,11 @@ there c = omega (arith, (goes_next c).0.there, length-map c.turns.left.items (ro
 
 row_is : (c : After-get) → c.get.result.now ≡ row_at (rows_at c.args.rows.now c.turns.left.items) c.in-Some.at
 row_is c =
-    let s = (goal.at.add-requires-clause-room c).In-Some in
-    c.get.ensures ∙ (ap (row_at c.args.rows.now) (c.remove-place.ensures.value ∙ get_or_default c.turns.left.items c.in-Some.at c.remove-place.result 0 (there s)) ∙ sym (row_there c.args.rows.now c.turns.left.items c.in-Some.at (there s)))
+    let left = c.turns.left.items in
+    let there = there (goal.at.add-requires-clause-room c).In-Some in
+    c.get.ensures
+    ∙ (ap (row_at c.args.rows.now) (c.remove-place.ensures.value ∙ get_or_default left c.in-Some.at c.remove-place.result 0 there)
+    ∙ sym (row_there c.args.rows.now left c.in-Some.at there))
 
 pub add-requires-clause-room : goal.add-requires-clause-room
 add-requires-clause-room c = room_back c.turns.invariant.leaving c.in-Some.at (goes_next (goal.at.add-requires-clause-room c).In-Some).0.there (row_is c)
@@ -104,7 +107,8 @@ turns-preserved c =
     let turn : c.pick-choice.result.tests ≡ compared (rows_at rows left) (at + 1) = rw (c.in-Some.is, slice) at c.pick-choice.ensures.tests in
     record {
       leaving = leaving_others old.leaving at next.0.there row c.add.new.self c.remove-place.new.self.items c.requires.kinds c.add.ensures items;
-      scanned = rw (others, gone, given_back old.leaving at next.0.there row c.add.new.self c.requires.kinds c.add.ensures) (scanned_more old.scanned at c.pick-choice.result.tests old.leaving.rising next turn);
+      scanned = rw (others, gone, given_back old.leaving at next.0.there row c.add.new.self c.requires.kinds c.add.ensures)
+          (scanned_more old.scanned at c.pick-choice.result.tests old.leaving.rising next turn);
       gone = rw pushed (All-push (λ j. j < length rows) places (get_or left at 0) old.gone (All-get_or (λ j. j < length rows) left at 0 there old.leaving.there));
       counts = rw (others, ← c.as_slice-in-turns-3.ensures.value) c.count_less.ensures.counts;
       most = rw items (few_tests c.turns.tests c.pick-choice.result.tests (length left) (length (remove left at)) (length rows * (length rows + 1)) tested old.most len);

@@ -1,4 +1,4 @@
-use Rattle.std.proofs.Common.{◌≡◌, ℕ, ◌+◌, ◌<◌, length, refl, subst, ap, sym, ◌∙◌, zero-add, arith}
+use Rattle.std.proofs.Common.{◌≡◌, ℕ, ◌+◌, ◌<◌, ◌≤◌, length, refl, subst, ap, sym, ◌∙◌, zero-add, arith}
 use Rattle.std.specs.Prelude.{IsTrue}
 use Rattle.std.proofs.lemmas.List.{drop_all, drop_more, length-map}
 use Rattle.std.proofs.lemmas.List.Sums.{sum_by-drop_more}
@@ -69,7 +69,8 @@ loop-place-preserved c =
     let s = (goal.at.loop-place-preserved c).After-get-row in
     let yes : IsTrue c.le.result = c.if-not-le.false in
     let fits = subst (λ (r : Row). Fits r.need (amount c.loop-place.free)) (row_is s) (c.le.ensures.0 yes) in
-    let more = given order c.args.free.now c.loop-place.free c.add.new.self c.get-row.result.now i (kinds_at (length c.args.free.now) c.args.rows.now c.args.places.now c.requires.kinds c.requires.there) (there s) (row_is s) old.kinds c.add.ensures in
+    let kinds = kinds_at (length c.args.free.now) c.args.rows.now c.args.places.now c.requires.kinds c.requires.there in
+    let more = given order c.args.free.now c.loop-place.free c.add.new.self c.get-row.result.now i kinds (there s) (row_is s) old.kinds c.add.ensures in
     record {
       tests = omega arith;
       small = λ kind.
@@ -83,8 +84,8 @@ loop-place-preserved c =
 all : (c : After-loop-place)
     → CanFinish (amount c.args.free.now) (rows_at c.args.rows.now c.args.places.now) × WalkTakes (amount c.args.free.now) (rows_at c.args.rows.now c.args.places.now) c.loop-place.tests
 all c =
-    let end = c.loop-place-test.false in
-    let passed = rw (drop_all c.loop-place.place-index (rows_at c.args.rows.now c.args.places.now) (omega (arith, length-map c.args.places.now (row_at c.args.rows.now)))) at c.loop-place.invariant.walked in
+    let end : length (rows_at c.args.rows.now c.args.places.now) ≤ c.loop-place.place-index = omega (arith, c.loop-place-test.false, length-map c.args.places.now (row_at c.args.rows.now)) in
+    let passed = rw (drop_all c.loop-place.place-index (rows_at c.args.rows.now c.args.places.now) end) at c.loop-place.invariant.walked in
     (passed.finish.0 tt, passed.taken 0 c.loop-place.tests (omega arith) refl)
 
 pub returns-clause-tests : goal.returns-clause-tests
