@@ -3,7 +3,7 @@ use Rattle.std.proofs.Common.{◌≡◌, ◌≢◌, ◌⊎◌, inl, inr, ℕ, Li
 use Rattle.std.proofs.lemmas.Option.{same_Some}
 use Rattle.config_values.specs.Config as C
 use Rattle.spool_config.specs.declared.settings.ConfigFault.{ConfigFault}
-use Rattle.spool_config.specs.declared.settings.ConfigFault.TheVariants.{NotToml, Missing, WrongType, OutOfRange, SameName, LimitOverPool, Memory}
+use Rattle.spool_config.specs.declared.settings.ConfigFault.TheVariants.{Memory}
 use Rattle.spool_config.specs.Answers.{fault_of, GivesConfig}
 use Rattle.spool_config.proofs.Sound.{given_has_no_fault, one_given}
 
@@ -15,13 +15,8 @@ IsFirst text fault = fault ≢ Memory → fault_of text ≡ Some fault
 
 -- a fault is told for want of memory, or is the text's
 told : (text : List ℕ) (fault : ConfigFault) → IsFirst text fault → (fault ≡ Memory) ⊎ (fault_of text ≡ Some fault)
-told text NotToml first = inr (first (λ same. cc))
-told text (Missing key) first = inr (first (λ same. cc))
-told text (WrongType key) first = inr (first (λ same. cc))
-told text (OutOfRange key) first = inr (first (λ same. cc))
-told text SameName first = inr (first (λ same. cc))
-told text LimitOverPool first = inr (first (λ same. cc))
 told text Memory first = inl refl
+told text fault first = inr (first (λ same. cc))
 
 clash : (text : List ℕ) (fault : ConfigFault) (c : C.Config) → fault_of text ≡ Some fault → GivesConfig text c → ⊥
 clash text fault c has given = let none : None ≡ Some fault = sym (given_has_no_fault text c given) ∙ has in cc

@@ -1,10 +1,10 @@
 -- A text without a fault gives a configuration.
-use Rattle.std.proofs.Common.{◌≡◌, ℕ, ◌≤◌, Bool, true, false, not, ◌&&◌, nat_le, pos, negsuc, int_lt, List, [], ◌∷◌, ◌++◌, length, Option, Some, None, slice_get, refl, sym, ap, ◌∙◌, arith}
-use Rattle.std.specs.List.{list_all, list_any, flat_map, AllByRecursion}
-use Rattle.std.proofs.lemmas.Bool.{and_parts, false≢true}
-use Rattle.std.proofs.lemmas.Bool.Decides.{nat_tests}
+use Rattle.std.proofs.Common.{◌≡◌, ℕ, ◌≤◌, Bool, true, false, not, nat_le, pos, List, [], ◌∷◌, ◌++◌, length, Option, Some, None, slice_get, get_or, All, refl, sym, ap, ◌∙◌, arith}
+use Rattle.std.specs.List.{list_all, flat_map, AllByRecursion}
+use Rattle.std.proofs.lemmas.Bool.{and_parts, false≢true, leb-true, not-false}
 use Rattle.std.proofs.lemmas.List.Elements.{All-from_recursion}
-use Rattle.toml.specs.Data.{Data, string, integer, float, boolean, datetime, array, table, Items, Members}
+use Rattle.std.proofs.lemmas.List.Sums.{AllPass-from_list_all}
+use Rattle.toml.specs.Data.{Data, string, integer, array, table, Items, Members}
 use Rattle.config_values.specs.Config as C
 use Rattle.config_values.specs.Ranges.{IsQueueName, IsWithin, IsConfig}
 use Rattle.spool_config.specs.declared.settings.ConfigFault.{ConfigFault}
@@ -17,8 +17,9 @@ use Rattle.spool_config.specs.Faults.{fault_if, fault_unless, number_faults, nam
 use Rattle.spool_config.specs.Answers.{document_of, first_fault, fault_of, GivesConfig}
 use Rattle.spool_config.proofs.Lists.{limits_within}
 use Rattle.spool_config.proofs.Names.{names, own_names}
-use Rattle.spool_config.proofs.Fitting.{length-told}
-use Rattle.spool_config.proofs.Whole.{KeysFit, limits, faults_told}
+use Rattle.spool_config.proofs.Rows.{range_parts}
+use Rattle.spool_config.proofs.Fitting.{are_told, number_fit, within_more}
+use Rattle.spool_config.proofs.Whole.{KeysFit, Read, faults_told}
 
 no_first : {X : Type 0} (xs : List X) → slice_get xs 0 ≡ None → xs ≡ []
 no_first [] none = refl
@@ -28,68 +29,45 @@ no_parts : {X : Type 0} (xs ys : List X) → xs ++ ys ≡ [] → (xs ≡ []) × 
 no_parts [] ys none = (refl, none)
 no_parts (x ∷ xs) ys none = absurd cc
 
-passed : (b : Bool) (fault : ConfigFault) → fault_unless b fault ≡ [] → b ≡ true
-passed true fault none = refl
-passed false fault none = absurd cc
-
 not_passed : (b : Bool) (fault : ConfigFault) → fault_if b fault ≡ [] → b ≡ false
 not_passed true fault none = absurd cc
 not_passed false fault none = refl
 
-range_parts : (most n : ℕ) → (nat_le 1 n && nat_le n most) ≡ true → (1 ≤ n) × (n ≤ most)
-range_parts most n both =
-    let (low, high) = and_parts (nat_le 1 n) (nat_le n most) both in
-    (grind (arith, nat_tests, low), grind (arith, nat_tests, high))
+passed : (b : Bool) (fault : ConfigFault) → fault_unless b fault ≡ [] → b ≡ true
+passed b fault none = not-false b (not_passed (not b) fault none)
 
 abbrev NumberIn : Key → Option Data → Type 0
 NumberIn key value = (n : ℕ) × (value ≡ Some (integer (pos n))) × (1 ≤ n) × (n ≤ most_of key)
 
 number_found : (key : Key) (value : Option Data) → number_faults key value ≡ [] → NumberIn key value
-number_found key None none = absurd cc
-number_found key (Some (string s)) none = absurd cc
 number_found key (Some (integer (pos n))) none =
-    let (low, high) = range_parts (most_of key) n (passed (is_in_range key n) (OutOfRange key) none) in
+    let (low, high) = range_parts 1 (most_of key) n (passed (is_in_range key n) (OutOfRange key) none) in
     (n, refl, low, high)
-number_found key (Some (integer (negsuc n))) none = absurd cc
-number_found key (Some (float x)) none = absurd cc
-number_found key (Some (boolean b)) none = absurd cc
-number_found key (Some (datetime t)) none = absurd cc
-number_found key (Some (array ds)) none = absurd cc
-number_found key (Some (table ms)) none = absurd cc
+number_found key _ none = absurd cc
 
-printable_found : (name : List ℕ) → list_all is_printable name ≡ true → AllByRecursion (λ octet. (33 ≤ octet) × (octet ≤ 126)) name
-printable_found [] each = tt
-printable_found (octet ∷ name) each =
-    let (here, more) = and_parts (is_printable octet) (list_all is_printable name) each in
-    let (low, high) = and_parts (nat_le 33 octet) (nat_le octet 126) here in
-    ((grind (arith, nat_tests, low), grind (arith, nat_tests, high)), printable_found name more)
+-- the number at a key whose faults stand first, and that the other faults are none
+number_first : (key : Key) (value : Option Data) (rest : List ConfigFault) → number_faults key value ++ rest ≡ [] → NumberIn key value × (rest ≡ [])
+number_first key value rest none = let (here, more) = no_parts (number_faults key value) rest none in (number_found key value here, more)
 
 is_name_found : (name : List ℕ) → is_name name ≡ true → IsQueueName name
 is_name_found name is =
     let (range, each) = and_parts (is_in_range Name (length name)) (list_all is_printable name) is in
-    let (low, high) = range_parts 64 (length name) range in
-    record { low = low; high = high; printable = All-from_recursion (λ octet. (33 ≤ octet) × (octet ≤ 126)) name (printable_found name each) }
+    let (low, high) = range_parts 1 64 (length name) range in
+    record { low = low; high = high; printable = λ k d lt. range_parts 33 126 (get_or name k d) (AllPass-from_list_all is_printable name each k d lt) }
 
 name_found : (value : Option Data) → name_faults value ≡ [] → (name : List ℕ) × (value ≡ Some (string name)) × IsQueueName name
-name_found None none = absurd cc
 name_found (Some (string s)) none = (s, refl, is_name_found s (passed (is_name s) (OutOfRange Name) none))
-name_found (Some (integer z)) none = absurd cc
-name_found (Some (float x)) none = absurd cc
-name_found (Some (boolean b)) none = absurd cc
-name_found (Some (datetime t)) none = absurd cc
-name_found (Some (array ds)) none = absurd cc
-name_found (Some (table ms)) none = absurd cc
+name_found _ none = absurd cc
 
 abbrev QueueIn : Members → Type 0
 QueueIn t = (q : C.Queue) × TellsQueue t q × IsWithin 65536 q
 
 queue_found : (t : Members) → queue_faults t ≡ [] → QueueIn t
 queue_found t none =
-    let (a, more) = no_parts (name_faults (value_at Name t)) (number_faults Limit (value_at Limit t) ++ number_faults Printers (value_at Printers t)) none in
-    let (b, c) = no_parts (number_faults Limit (value_at Limit t)) (number_faults Printers (value_at Printers t)) more in
-    let name = name_found (value_at Name t) a in
-    let limit = number_found Limit (value_at Limit t) b in
-    let printers = number_found Printers (value_at Printers t) c in (
+    let (named, more) = no_parts (name_faults (value_at Name t)) _ none in
+    let (limit, rest) = number_first Limit (value_at Limit t) _ more in
+    let name = name_found (value_at Name t) named in
+    let printers = number_found Printers (value_at Printers t) rest in (
       record { name = name.0; limit = limit.0; printers = printers.0 },
       record { name = name.1; limit = limit.1; printers = printers.1 },
       record { name = name.2; limit_low = limit.2; limit_high = limit.3; printers_low = printers.2; printers_high = printers.3 },
@@ -106,15 +84,10 @@ rows_found [] each none = ([], tt, tt)
 rows_found (table t ∷ rows) each none =
     let (here, more) = no_parts (queue_faults t) (flat_map row_faults rows) none in
     one_more_found t rows (queue_found t here) (rows_found rows each more)
-rows_found (string s ∷ rows) each none = absurd (false≢true each)
-rows_found (integer z ∷ rows) each none = absurd (false≢true each)
-rows_found (float x ∷ rows) each none = absurd (false≢true each)
-rows_found (boolean b ∷ rows) each none = absurd (false≢true each)
-rows_found (datetime w ∷ rows) each none = absurd (false≢true each)
-rows_found (array ds ∷ rows) each none = absurd (false≢true each)
+rows_found (_ ∷ rows) each none = absurd (false≢true each)
 
 abbrev RowsIn : Option Data → Type 0
-RowsIn value = (queues : List C.Queue) × TellsQueues value queues × (1 ≤ length queues) × (length queues ≤ 64) × AllByRecursion (IsWithin 65536) queues
+RowsIn value = (queues : List C.Queue) × TellsQueues value queues × (1 ≤ length queues) × (length queues ≤ 64) × All (IsWithin 65536) queues
 
 array_found : (items : Items) → array_faults (Some (elements items)) ≡ [] → RowsIn (Some (array items))
 array_found items none =
@@ -122,49 +95,34 @@ array_found items none =
     let (tables, more) = no_parts (fault_unless (list_all is_row rows) (WrongType Queue)) (fault_unless (is_in_range Queue (length rows)) (OutOfRange Queue) ++ flat_map row_faults rows) none in
     let (count, each) = no_parts (fault_unless (is_in_range Queue (length rows)) (OutOfRange Queue)) (flat_map row_faults rows) more in
     let found = rows_found rows (passed (list_all is_row rows) (WrongType Queue) tables) each in
-    let (some, few) = range_parts 64 (length rows) (passed (is_in_range Queue (length rows)) (OutOfRange Queue) count) in
-    let same = length-told rows found.0 found.1 in
-    (found.0, (items, refl, found.1), omega (arith, same, some), omega (arith, same, few), found.2)
+    let (some, few) = range_parts 1 64 (length rows) (passed (is_in_range Queue (length rows)) (OutOfRange Queue) count) in
+    let same = (are_told rows found.0 found.1).count in
+    (found.0, (items, refl, found.1), omega (arith, same, some), omega (arith, same, few), All-from_recursion (IsWithin 65536) found.0 found.2)
 
 value_found : (value : Option Data) → rows_faults value ≡ [] → RowsIn value
-value_found None none = absurd cc
-value_found (Some (string s)) none = absurd cc
-value_found (Some (integer z)) none = absurd cc
-value_found (Some (float x)) none = absurd cc
-value_found (Some (boolean b)) none = absurd cc
-value_found (Some (datetime t)) none = absurd cc
 value_found (Some (array items)) none = array_found items none
-value_found (Some (table ms)) none = absurd cc
+value_found _ none = absurd cc
 
-within_pages : (pages : ℕ) (queues : List C.Queue) → AllByRecursion (IsWithin 65536) queues → list_all (λ (q : C.Queue). nat_le q.limit pages) queues ≡ true → AllByRecursion (IsWithin pages) queues
-within_pages pages [] each fit = tt
-within_pages pages (q ∷ queues) each fit =
-    let (here, more) = and_parts (nat_le q.limit pages) (list_all (λ (q : C.Queue). nat_le q.limit pages) queues) fit in (
-      record {
-        name = each.0.name;
-        limit_low = each.0.limit_low;
-        limit_high = grind (arith, nat_tests, here);
-        printers_low = each.0.printers_low;
-        printers_high = each.0.printers_high;
-      },
-      within_pages pages queues each.1 more,
-    )
+within_pages : (pages : ℕ) (queues : List C.Queue) → All (IsWithin 65536) queues → list_all (λ (q : C.Queue). nat_le q.limit pages) queues ≡ true → All (IsWithin pages) queues
+within_pages pages queues each fit = λ k d lt.
+    let q = get_or queues k d in
+    within_more pages q (each k d lt) (leb-true q.limit pages (AllPass-from_list_all (λ (q : C.Queue). nat_le q.limit pages) queues fit k d lt))
 
 document_found : (d : Members) → faults_of d ≡ [] → (c : C.Config) × TellsConfig d c
 document_found d none =
-    let (a, after_pages) = no_parts (number_faults Pages (value_at Pages d)) _ none in
-    let (b, after_size) = no_parts (number_faults PageSize (value_at PageSize d)) _ after_pages in
-    let (c, after_jobs) = no_parts (number_faults MaxJobs (value_at MaxJobs d)) _ after_size in
-    let (e, after_account) = no_parts (number_faults Account (value_at Account d)) _ after_jobs in
-    let (f, after_rows) = no_parts (rows_faults (value_at Queue d)) _ after_account in
-    let pages = number_found Pages (value_at Pages d) a in
-    let page_size = number_found PageSize (value_at PageSize d) b in
-    let max_jobs = number_found MaxJobs (value_at MaxJobs d) c in
-    let account = number_found Account (value_at Account d) e in
-    let rows = value_found (value_at Queue d) f in
-    let keys : KeysFit d = record { pages = a; page_size = b; max_jobs = c; account = e } in
-    let (own, fit) = no_parts (fault_if (has_same (names rows.0)) SameName) (fault_if (list_any (int_lt (pos pages.0)) (limits rows.0)) LimitOverPool)
-    (sym (faults_told d pages.0 rows.0 keys pages.1 rows.1 rows.2 rows.3 rows.4) ∙ none) in
+    let (pages, a) = number_first Pages (value_at Pages d) _ none in
+    let (page_size, b) = number_first PageSize (value_at PageSize d) _ a in
+    let (max_jobs, e) = number_first MaxJobs (value_at MaxJobs d) _ b in
+    let (account, f) = number_first Account (value_at Account d) _ e in
+    let rows = value_found (value_at Queue d) (no_parts (rows_faults (value_at Queue d)) _ f).0 in
+    let keys : KeysFit d = record {
+      pages = number_fit Pages d pages.0 pages.1 pages.2 pages.3;
+      page_size = number_fit PageSize d page_size.0 page_size.1 page_size.2 page_size.3;
+      max_jobs = number_fit MaxJobs d max_jobs.0 max_jobs.1 max_jobs.2 max_jobs.3;
+      account = number_fit Account d account.0 account.1 account.2 account.3;
+    } in
+    let read : Read d pages.0 rows.0 = record { keys = keys; stands = pages.1; told = rows.1; some = rows.2; few = rows.3; within = rows.4 } in
+    let (own, fit) = no_parts (fault_if (has_same (names rows.0)) SameName) _ (sym (faults_told d pages.0 rows.0 read) ∙ none) in
     let within = within_pages pages.0 rows.0 rows.4 (limits_within pages.0 rows.0 ∙ ap not (not_passed _ LimitOverPool fit)) in
     let ranges : IsConfig (record { pages = pages.0; page_size = page_size.0; max_jobs = max_jobs.0; account = account.0; queues = rows.0 }) = record {
       pages_low = pages.2;
@@ -177,7 +135,7 @@ document_found d none =
       account_high = account.3;
       some_queue = rows.2;
       few_queues = rows.3;
-      queues = All-from_recursion (IsWithin pages.0) rows.0 within;
+      queues = within;
       names = own_names rows.0 (not_passed _ SameName own);
     } in (
       record { pages = pages.0; page_size = page_size.0; max_jobs = max_jobs.0; account = account.0; queues = rows.0 },

@@ -1,6 +1,5 @@
 -- Tests of lists.
-use Rattle.std.proofs.Common.{◌≡◌, ℕ, Bool, true, false, not, ◌&&◌, ◌||◌, nat_le, nat_lt, int_lt, pos, List, [], ◌∷◌, ◌++◌, Some, None, slice_get, map, Result, Ok, Err, IfErr, IsErrAnd, subst, sym, refl, ap, arith}
-use Rattle.std.proofs.lemmas.Bool.{false≢true}
+use Rattle.std.proofs.Common.{◌≡◌, ℕ, Bool, true, false, not, ◌&&◌, ◌||◌, nat_le, nat_lt, int_lt, pos, List, [], ◌∷◌, ◌++◌, Some, slice_get, map, Result, Ok, Err, IfErr, IsErrAnd, subst, sym, refl, ap, arith}
 use Rattle.std.proofs.lemmas.Bool.Decides.{nat_tests}
 use Rattle.std.specs.List.{list_all, list_any}
 use Rattle.config_values.specs.Config.{Queue}
@@ -18,23 +17,12 @@ pub limits_within : (pages : ℕ) (queues : List Queue) → list_all (λ (q : Qu
 limits_within pages [] = refl
 limits_within pages (q ∷ queues) = rw (limits_within pages queues) (one_within pages q.limit _)
 
-none_is_no_some : {X : Type 0} (x : X) → None ≡ Some x → ⊥
-none_is_no_some x is = cc
-
 -- the first of two lists is that of the one before, where it has one
 pub first_of : {X : Type 0} (xs ys : List X) (x : X) → slice_get xs 0 ≡ Some x → slice_get (xs ++ ys) 0 ≡ Some x
-first_of [] ys x is = absurd (none_is_no_some x is)
+first_of [] ys x is = absurd cc
 first_of (y ∷ xs) ys x is = is
 
 -- what holds of a fault holds of what is told for it
 pub err_is : {T E : Type 0} (P : E → Type 0) (r : Result T E) (e : E) → IsErrAnd r (λ y. y ≡ e) → P e → IfErr r P
 err_is P (Ok x) e is holds = tt
 err_is P (Err y) e is holds = subst P (sym is) holds
-
-pub not_true : (b : Bool) → not b ≡ true → b ≡ false
-not_true true is = absurd (false≢true is)
-not_true false is = refl
-
-pub not_false : (b : Bool) → not b ≡ false → b ≡ true
-not_false true is = refl
-not_false false is = absurd (false≢true (sym is))

@@ -3,23 +3,15 @@ use Rattle.std.proofs.Common.{◌≡◌, ℕ, ◌+◌, ◌<◌, ◌≤◌, true,
 use Rattle.std.proofs.lemmas.Bool.{and_parts}
 use Rattle.std.proofs.lemmas.List.{append-nil, drop_all, drop_more}
 use Rattle.std.specs.List.{list_all, flat_map}
-use Rattle.toml.specs.Data.{Data, Members, string, integer, float, boolean, datetime, array, table, as_table}
+use Rattle.toml.specs.Data.{Data, Members, as_table}
 use Rattle.toml.specs.View.{view}
 use Rattle.toml.specs.declared.value.Value.{Value}
+use Rattle.toml.proofs.Lines.{data_of_table}
 use Rattle.config_values.specs.Config.{Queue}
 use Rattle.spool_config.specs.declared.settings.ConfigFault.{ConfigFault}
 use Rattle.spool_config.specs.Told.{TellQueues, TellsQueue}
 use Rattle.spool_config.specs.Faults.{is_row, row_faults, queue_faults}
 use Rattle.spool_config.proofs.Lists.{first_of}
-
-pub table_from_as_table : (row : Data) (t : Members) → as_table row ≡ Some t → row ≡ table t
-table_from_as_table (string s) t is = absurd cc
-table_from_as_table (integer z) t is = absurd cc
-table_from_as_table (float x) t is = absurd cc
-table_from_as_table (boolean b) t is = absurd cc
-table_from_as_table (datetime d) t is = absurd cc
-table_from_as_table (array ds) t is = absurd cc
-table_from_as_table (table ms) t is = cc
 
 -- what is left of some rows, as data, begins with the next
 pub rest_of : (rows : List Value) (k : ℕ) (row : Value) → k < length rows → row ≡ get_or rows k row
@@ -39,7 +31,7 @@ pub one_more_told : (rows : List Data) (row : Data) (rest : List Data) (t : Memb
     → (tail : List Queue) → TellQueues rest tail → TellQueues all ((done ++ q ∷ []) ++ tail)
 one_more_told rows row rest t all done q is read tells told tail more =
     rw (append_assoc done (q ∷ []) tail)
-    (told (q ∷ tail) (rw is ((t, table_from_as_table row t read, tells), more)))
+    (told (q ∷ tail) (rw is ((t, data_of_table row t read, tells), more)))
 
 pub all_told : (rows : List Value) (k : ℕ) (all : List Data) (done : List Queue) → length rows ≤ k
     → ((tail : List Queue) → TellQueues (map view (drop k rows)) tail → TellQueues all (done ++ tail)) → TellQueues all done

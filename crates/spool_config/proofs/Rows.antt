@@ -1,6 +1,6 @@
 -- The rows of the array at `queue`.
-use Rattle.std.proofs.Common.{◌≡◌, ℕ, ◌≤◌, ◌<◌, ◌⊎◌, inl, inr, true, false, ◌&&◌, nat_le, List, [], ◌∷◌, length, map, Option, Some, slice_get, option_map, refl, sym, ap, ◌∙◌, arith}
-use Rattle.std.proofs.lemmas.Bool.Decides.{nat_tests}
+use Rattle.std.proofs.Common.{◌≡◌, ℕ, ◌≤◌, ◌<◌, ◌⊎◌, true, false, ◌&&◌, nat_le, List, [], ◌∷◌, length, map, Option, Some, slice_get, option_map, refl, sym, ap, ◌∙◌, arith}
+use Rattle.std.proofs.lemmas.Bool.{and_from, and_parts, false_from_ne_true, le-leb, leb-true}
 use Rattle.std.specs.List.{list_all}
 use Rattle.toml.specs.Data.{Data, as_array}
 use Rattle.toml.specs.View.{view, items_view}
@@ -10,15 +10,17 @@ use Rattle.spool_config.specs.declared.settings.Key.TheVariants.{Queue}
 use Rattle.spool_config.specs.Told.{elements}
 use Rattle.spool_config.specs.Faults.{is_row, is_name, is_printable, rows_faults, array_faults}
 
-pub in_range : (most n : ℕ) → 1 ≤ n → n ≤ most → (nat_le 1 n && nat_le n most) ≡ true
-in_range most n low high = grind (arith, nat_tests)
+pub range_parts : (least most n : ℕ) → (nat_le least n && nat_le n most) ≡ true → (least ≤ n) × (n ≤ most)
+range_parts least most n both = let (low, high) = and_parts (nat_le least n) (nat_le n most) both in (leb-true least n low, leb-true n most high)
+
+pub in_range : (least most n : ℕ) → least ≤ n → n ≤ most → (nat_le least n && nat_le n most) ≡ true
+in_range least most n low high = and_from _ _ (le-leb least n low) (le-leb n most high)
 
 pub out_of_range : (most n : ℕ) → (n ≡ 0) ⊎ (most < n) → (nat_le 1 n && nat_le n most) ≡ false
-out_of_range most n (inl none) = grind (arith, nat_tests)
-out_of_range most n (inr over) = grind (arith, nat_tests)
+out_of_range most n out = false_from_ne_true _ (λ both. let r = range_parts 1 most n both in omega arith)
 
 pub is_name-fit : (name : List ℕ) → 1 ≤ length name → length name ≤ 64 → list_all is_printable name ≡ is_name name
-is_name-fit name low high = ap (λ b. b && list_all is_printable name) (sym (in_range 64 (length name) low high))
+is_name-fit name low high = ap (λ b. b && list_all is_printable name) (sym (in_range 1 64 (length name) low high))
 
 pub elements-view : (vs : List Value) → elements (items_view vs) ≡ map view vs
 elements-view [] = refl

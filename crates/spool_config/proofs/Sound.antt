@@ -1,66 +1,46 @@
 -- A configuration that a text gives is the only one, and the text has no fault.
-use Rattle.std.proofs.Common.{◌≡◌, ℕ, ◌≤◌, true, nat_le, ℤ, unsigned_abs, List, [], ◌∷◌, Option, Some, None, slice_get, unwrap_or, refl, sym, ap, subst, ◌∙◌, arith}
-use Rattle.std.specs.List.{list_all, AllByRecursion}
-use Rattle.std.specs.Option.{option_and_then}
-use Rattle.std.proofs.lemmas.Bool.Decides.{nat_tests}
+use Rattle.std.proofs.Common.{◌≡◌, ℕ, nat_le, List, [], ◌∷◌, Option, Some, None, slice_get, get_or, refl, sym, ap, subst, ◌∙◌, arith}
+use Rattle.std.proofs.lemmas.Bool.{le-leb, not-true}
 use Rattle.std.proofs.lemmas.Option.{same_Some}
-use Rattle.std.proofs.lemmas.List.Elements.{recursion_from_All}
-use Rattle.toml.specs.Data.{Data, Items, no_items, Members, string, as_array, as_table, as_str}
+use Rattle.std.proofs.lemmas.List.Elements.{All-weaker}
+use Rattle.std.proofs.lemmas.List.Sums.{list_all-from_AllPass}
+use Rattle.toml.specs.Data.{Data, Members, string}
 use Rattle.config_values.specs.Config as C
 use Rattle.config_values.specs.Ranges.{IsWithin}
 use Rattle.spool_config.specs.declared.settings.Key.{Key}
 use Rattle.spool_config.specs.declared.settings.Key.TheVariants.{Pages, PageSize, MaxJobs, Account, Queue, Name, Limit, Printers}
 use Rattle.spool_config.specs.Keys.{value_at}
 use Rattle.spool_config.specs.Told.{HasNumber, TellsQueue, TellQueues, TellsQueues, TellsConfig, elements}
-use Rattle.spool_config.specs.Faults.{faults_of, whole_number}
+use Rattle.spool_config.specs.Faults.{faults_of}
 use Rattle.spool_config.specs.Answers.{first_fault, fault_of, GivesConfig}
 use Rattle.spool_config.proofs.Lists.{limits_within}
 use Rattle.spool_config.proofs.Names.{has_same-own}
-use Rattle.spool_config.proofs.Whole.{keys_fit, none_told}
-
-within_most : (pages : ℕ) (queues : List C.Queue) → pages ≤ 65536 → AllByRecursion (IsWithin pages) queues → AllByRecursion (IsWithin 65536) queues
-within_most pages [] few each = tt
-within_most pages (q ∷ queues) few each = (
-  record {
-    name = each.0.name;
-    limit_low = each.0.limit_low;
-    limit_high = omega (arith, few, each.0.limit_high);
-    printers_low = each.0.printers_low;
-    printers_high = each.0.printers_high;
-  },
-  within_most pages queues few each.1,
-)
-
-limits_fit : (pages : ℕ) (queues : List C.Queue) → AllByRecursion (IsWithin pages) queues → list_all (λ (q : C.Queue). nat_le q.limit pages) queues ≡ true
-limits_fit pages [] each = refl
-limits_fit pages (q ∷ queues) each = rw (fit q.limit each.0.limit_high, limits_fit pages queues each.1)
-  where
-    fit : (limit : ℕ) → limit ≤ pages → nat_le limit pages ≡ true
-    fit limit high = grind (arith, nat_tests)
+use Rattle.spool_config.proofs.Fitting.{number_fit, within_more}
+use Rattle.spool_config.proofs.Whole.{KeysFit, faults_told}
 
 pub told_has_no_fault : (d : Members) (c : C.Config) → TellsConfig d c → faults_of d ≡ []
 told_has_no_fault d c tells =
     let r = tells.ranges in
-    let each = recursion_from_All (IsWithin c.pages) c.queues r.queues in
-    let keys = keys_fit d c.pages c.page_size c.max_jobs c.account tells.pages r.pages_low r.pages_high
-    tells.page_size r.page_size_low r.page_size_high tells.max_jobs r.max_jobs_low r.max_jobs_high tells.account r.account_low r.account_high in
-    none_told d c.pages c.queues keys tells.pages tells.queues r.some_queue r.few_queues (within_most c.pages c.queues r.pages_high each)
-    (has_same-own c.queues r.names) (sym (limits_within c.pages c.queues) ∙ limits_fit c.pages c.queues each)
+    let keys : KeysFit d = record {
+      pages = number_fit Pages d c.pages tells.pages r.pages_low r.pages_high;
+      page_size = number_fit PageSize d c.page_size tells.page_size r.page_size_low r.page_size_high;
+      max_jobs = number_fit MaxJobs d c.max_jobs tells.max_jobs r.max_jobs_low r.max_jobs_high;
+      account = number_fit Account d c.account tells.account r.account_low r.account_high;
+    } in
+    let within = All-weaker (IsWithin c.pages) (IsWithin 65536) (λ q w. within_more 65536 q w (omega (arith, w.limit_high, r.pages_high))) c.queues r.queues in
+    let fit = list_all-from_AllPass (λ (q : C.Queue). nat_le q.limit c.pages) c.queues (λ k d lt. le-leb (get_or c.queues k d).limit c.pages (r.queues k d lt).limit_high) in
+    faults_told d c.pages c.queues (record { keys = keys; stands = tells.pages; told = tells.queues; some = r.some_queue; few = r.few_queues; within = within })
+    ∙ rw (has_same-own c.queues r.names, not-true _ (sym (limits_within c.pages c.queues) ∙ fit))
 
 pub given_has_no_fault : (text : List ℕ) (c : C.Config) → GivesConfig text c → fault_of text ≡ None
 given_has_no_fault text c given =
     ap first_fault given.1 ∙ ap (λ faults. slice_get faults 0) (told_has_no_fault given.0 c given.2)
 
--- a number, if there is one
-abbrev number_or : Option ℤ → ℕ
-number_or None = 0
-number_or (Some z) = unsigned_abs z
-
 one_number : (d : Members) (key : Key) (m n : ℕ) → HasNumber d key m → HasNumber d key n → m ≡ n
-one_number d key m n a b = ap (λ v. number_or (whole_number v)) (sym a ∙ b)
+one_number d key m n a b = cc
 
 one_name : (v : Option Data) (m n : List ℕ) → v ≡ Some (string m) → v ≡ Some (string n) → m ≡ n
-one_name v m n a b = ap (λ w. unwrap_or (option_and_then as_str w) []) (sym a ∙ b)
+one_name v m n a b = cc
 
 one_queue : (t : Members) (p q : C.Queue) → TellsQueue t p → TellsQueue t q → p ≡ q
 one_queue t p q a b =
@@ -68,29 +48,21 @@ one_queue t p q a b =
     ∙ ap (λ limit. record { name = q.name; limit = limit; printers = p.printers }) (one_number t Limit p.limit q.limit a.limit b.limit)
     ∙ ap (λ printers. record { name = q.name; limit = q.limit; printers = printers }) (one_number t Printers p.printers q.printers a.printers b.printers)
 
-abbrev table_or : Members → Data → Members
-table_or t row = unwrap_or (as_table row) t
-
 first_queue : (p q : C.Queue) (ps qs : List C.Queue) → p ≡ q → ps ≡ qs → p ∷ ps ≡ q ∷ qs
 first_queue p q ps qs first rest = ap (λ r. r ∷ ps) first ∙ ap (λ rs. q ∷ rs) rest
 
 one_list : (rows : List Data) (ps qs : List C.Queue) → TellQueues rows ps → TellQueues rows qs → ps ≡ qs
 one_list [] [] [] a b = refl
-one_list [] [] (q ∷ qs) a b = absurd b
+one_list (row ∷ rows) (p ∷ ps) (q ∷ qs) a b =
+    let same : a.0.0 ≡ b.0.0 = cc (a.0.1, b.0.1) in
+    first_queue p q ps qs (one_queue b.0.0 p q (subst (λ t. TellsQueue t p) same a.0.2) b.0.2) (one_list rows ps qs a.1 b.1)
 one_list [] (p ∷ ps) qs a b = absurd a
 one_list (row ∷ rows) [] qs a b = absurd a
-one_list (row ∷ rows) (p ∷ ps) [] a b = absurd b
-one_list (row ∷ rows) (p ∷ ps) (q ∷ qs) a b =
-    let same : a.0.0 ≡ b.0.0 = ap (table_or a.0.0) (sym a.0.1 ∙ b.0.1) in
-    first_queue p q ps qs (one_queue b.0.0 p q (subst (λ t. TellsQueue t p) same a.0.2) b.0.2) (one_list rows ps qs a.1 b.1)
-
-abbrev rows_or : Option Data → Items
-rows_or None = no_items
-rows_or (Some value) = unwrap_or (as_array value) no_items
+one_list _ _ _ a b = absurd b
 
 one_array : (value : Option Data) (ps qs : List C.Queue) → TellsQueues value ps → TellsQueues value qs → ps ≡ qs
 one_array value ps qs a b =
-    let same : a.0 ≡ b.0 = ap rows_or (sym a.1 ∙ b.1) in
+    let same : a.0 ≡ b.0 = cc (a.1, b.1) in
     one_list (elements b.0) ps qs (subst (λ rows. TellQueues (elements rows) ps) same a.2) b.2
 
 one_config : (d : Members) (a b : C.Config) → TellsConfig d a → TellsConfig d b → a ≡ b

@@ -1,31 +1,31 @@
-use Rattle.std.proofs.Common.{◌≡◌, Some, Err, sym, ◌∙◌}
+use Rattle.std.proofs.Common.{◌≡◌, ◌≢◌, Some, Err, IfOk, IfErr, sym, ◌∙◌}
 use Rattle.std.proofs.lemmas.Bool.{false≢true}
 use Rattle.toml.specs.View.{table_view}
-use Rattle.spool_config.specs.declared.settings.ConfigFault.TheVariants.{NotToml}
-use Rattle.spool_config.specs.Answers.{fault_of}
+use Rattle.spool_config.specs.declared.settings.ConfigFault.TheVariants.{Memory, NotToml}
+use Rattle.spool_config.specs.Answers.{fault_of, GivesConfig}
 use Rattle.spool_config.proofs.Exact.{given_exactly, faulty_exactly}
 use Rattle.spool_config.proofs.Texts.{document_there, no_document, config_given, fault_given, memory_given}
 use Rattle.spool_config.proofs.reading.read.Goals as goal
+use Rattle.spool_config.proofs.reading.read.Goals.{After-drop-document}
+
+-- what the document tells is what the text gives
+config : (c : After-drop-document) → IfOk c.config.result (GivesConfig c.args.text.now)
+config c = config_given _ (table_view c.in-Ok.document) (document_there _ _ c.in-Ok.ensures.ok) c.config.result c.config.ensures.config
+
+fault : (c : After-drop-document) → IfErr c.config.result (λ fault. fault ≢ Memory → fault_of c.args.text.now ≡ Some fault)
+fault c = fault_given _ (table_view c.in-Ok.document) (document_there _ _ c.in-Ok.ensures.ok) c.config.result c.config.ensures.fault
 
 pub returns-in-Ok-clause-config : goal.returns-in-Ok-clause-config
-returns-in-Ok-clause-config c =
-    config_given c.args.text.now (table_view c.in-Ok.document) (document_there _ _ c.in-Ok.ensures.ok) c.config.result c.config.ensures.config
+returns-in-Ok-clause-config c = config c
 
 pub returns-in-Ok-clause-given : goal.returns-in-Ok-clause-given
-returns-in-Ok-clause-given c =
-    let there = document_there c.args.text.now (table_view c.in-Ok.document) c.in-Ok.ensures.ok in
-    given_exactly c.args.text.now c.config.result (config_given _ _ there c.config.result c.config.ensures.config)
-    (fault_given _ _ there c.config.result c.config.ensures.fault)
+returns-in-Ok-clause-given c = given_exactly c.args.text.now c.config.result (config c) (fault c)
 
 pub returns-in-Ok-clause-fault : goal.returns-in-Ok-clause-fault
-returns-in-Ok-clause-fault c =
-    fault_given c.args.text.now (table_view c.in-Ok.document) (document_there _ _ c.in-Ok.ensures.ok) c.config.result c.config.ensures.fault
+returns-in-Ok-clause-fault c = fault c
 
 pub returns-in-Ok-clause-faulty : goal.returns-in-Ok-clause-faulty
-returns-in-Ok-clause-faulty c =
-    let there = document_there c.args.text.now (table_view c.in-Ok.document) c.in-Ok.ensures.ok in
-    faulty_exactly c.args.text.now c.config.result (config_given _ _ there c.config.result c.config.ensures.config)
-    (fault_given _ _ there c.config.result c.config.ensures.fault)
+returns-in-Ok-clause-faulty c = faulty_exactly c.args.text.now c.config.result (config c) (fault c)
 
 pub returns-in-Ok-clause-memory : goal.returns-in-Ok-clause-memory
 returns-in-Ok-clause-memory c =
