@@ -1,14 +1,14 @@
 -- Carrying a kept order to the rows: what each kept row adds.
 use Rattle.std.proofs.Math.Bool.{or-false, or-true}
-use Rattle.std.proofs.Common.{◌≡◌, ◌≢◌, inl, inr, ℕ, suc, ◌+◌, ◌<◌, ◌≤◌, Bool, true, false, not, ◌||◌, cond, List, [], ◌∷◌, ◌++◌, length, get_or, set, take, drop, refl, subst, ap, ap₂, sym, ◌∙◌, arith, append_assoc, append-nil}
+use Rattle.std.proofs.Common.{below_more, ◌≡◌, ◌≢◌, inl, inr, ℕ, suc, ◌+◌, ◌<◌, ◌≤◌, Bool, true, false, not, ◌||◌, cond, List, [], ◌∷◌, ◌++◌, length, get_or, set, take, drop, refl, subst, ap, ap₂, sym, ◌∙◌, arith, append_assoc, append-nil}
 use Rattle.std.specs.Prelude.{All, ◌==◌, slice_index_or, filter, remove}
 use Rattle.std.specs.List.{AllByRecursion, count_by, list_any}
-use Rattle.std.proofs.lemmas.List.{get_or_default, get_or-set_same, get_or-set_other, get_or-take, get_or-map, length-map, length-set, length-take-le, length_push, map-append, map_more, map_push, drop_more}
-use Rattle.std.proofs.lemmas.List.Elements.{All-append, All-filter, All-map, All-push, All-weaker, All-from_recursion, recursion_from_All, filter-append, filter_more, filter_passes}
+use Rattle.std.proofs.lemmas.List.{get_or_default, get_or-set_same, get_or-set_other, get_or-take, get_or-map, length-map, length-set, length-take-le, length_push, map_more, map_push}
+use Rattle.std.proofs.lemmas.List.Elements.{All-append, All-filter, All-map, All-push, All-from_recursion, recursion_from_All, filter-append, filter_more, filter_passes}
 use Rattle.std.proofs.lemmas.List.Folds.{list_any-append, list_any_none, list_any_at}
-use Rattle.std.proofs.lemmas.List.Sums.{sum_by-set, sum_by-cons}
-use Rattle.std.proofs.lemmas.Bool.{eq-eqb, cases_lt}
-use Rattle.std.proofs.lemmas.Bool.Decides.{Decides-eqb, eqb_tells, nat_tests}
+use Rattle.std.proofs.lemmas.List.Sums.{sum_by-set, sum_by-cons, sum_by-drop_more}
+use Rattle.std.proofs.lemmas.Bool.{eq-eqb, ne_eqb, cases_lt, false_from_ne_true}
+use Rattle.std.proofs.lemmas.Bool.Decides.{eqb_tells, nat_tests}
 use Rattle.claims.specs.declared.row.Row.{Row}
 use Rattle.claims.specs.Claims.{Pairwise, IsLower, row_at, no_row}
 use Rattle.claims.specs.Safety.{IsOrderOf, KeepsLine}
@@ -17,7 +17,7 @@ use Rattle.ordered_safety.specs.Scan.{rows_at}
 use Rattle.ordered_safety.specs.Carried.{StandsAt, has_row, is_among, is_lacked, AreMet, numbers_of}
 use Rattle.ordered_safety.specs.Kept.{kept_numbers, KeepsLines}
 use Rattle.ordered_safety.proofs.Keeps.{others_differ}
-use Rattle.ordered_safety.proofs.Picks.{refuted, same_place, split_at}
+use Rattle.ordered_safety.proofs.Picks.{same_place, split_at}
 use Rattle.claims.proofs.Lowered.{line_last as pairwise_last}
 
 abbrev pub no_kept : Kept
@@ -70,20 +70,12 @@ carried_none rows kept met places empty len none =
       count = let n = count_none met (recursion_from_All (λ mark. mark ≡ false) met none) in omega arith;
     })
 
--- the numbers of one more kept row
-numbers_more : (kept : List Kept) (i : ℕ) → i < length kept → kept_numbers (take (i + 1) kept) ≡ kept_numbers (take i kept) ++ (slice_index_or kept i no_kept).number ∷ []
-numbers_more kept i lt = map_more (λ (k : Kept). k.number) kept i no_kept lt
-
--- a number of another row
-other_number : (n m : ℕ) → n ≢ m → (n == m) ≡ false
-other_number n m ne = refuted (n == m) (λ e. ne ((Decides-eqb n m).0 e))
-
 among_more : (ns : List ℕ) (n : ℕ) (x : Row) → is_among (ns ++ n ∷ []) x ≡ (is_among ns x || ((n == x.number) || false))
 among_more ns n x = list_any-append (λ (k : ℕ). k == x.number) ns (n ∷ [])
 
 among_other : (ns : List ℕ) (n : ℕ) (x : Row) → n ≢ x.number → is_among (ns ++ n ∷ []) x ≡ is_among ns x
 among_other ns n x ne =
-    among_more ns n x ∙ (ap (λ (b : Bool). is_among ns x || (b || false)) (other_number n x.number ne) ∙ or-false (is_among ns x))
+    among_more ns n x ∙ (ap (λ (b : Bool). is_among ns x || (b || false)) (ne_eqb n x.number ne) ∙ or-false (is_among ns x))
 
 among_same : (ns : List ℕ) (n : ℕ) (x : Row) → n ≡ x.number → is_among (ns ++ n ∷ []) x ≡ true
 among_same ns n x e =
@@ -102,35 +94,13 @@ none_has : (rows : List Row) (n : ℕ) → ((place : ℕ) → StandsAt rows n pl
 none_has rows n none = λ k d lt e. none k (record { there = lt; numbered = ap (λ (r : Row). r.number) (get_or_default rows k no_row d lt) ∙ sym e })
 
 has_none : (rows : List Row) (n : ℕ) → All (λ x. n ≢ x.number) rows → has_row rows n ≡ false
-has_none rows n other = list_any_none (λ (row : Row). row.number == n) rows (λ k d lt. other_number (get_or rows k d).number n (λ e. other k d lt (sym e)))
+has_none rows n other = list_any_none (λ (row : Row). row.number == n) rows (λ k d lt. ne_eqb (get_or rows k d).number n (λ e. other k d lt (sym e)))
 
 has_some : (rows : List Row) (n place : ℕ) → StandsAt rows n place → has_row rows n ≡ true
 has_some rows n place h = list_any_at (λ (row : Row). row.number == n) rows place no_row h.there (eq-eqb (row_at rows place).number n h.numbered)
 
 filter_last : (p : ℕ → Bool) (ns : List ℕ) (n : ℕ) (b : Bool) → p n ≡ b → filter p (ns ++ n ∷ []) ≡ filter p ns ++ cond b (n ∷ []) []
 filter_last p ns n b e = filter-append p ns (n ∷ []) ∙ ap (λ (c : Bool). filter p ns ++ cond c (n ∷ []) []) e
-
--- no row has the number of the next kept row
-pub carried_missed : (rows : List Row) (kept : List Kept) (i : ℕ) (places : List ℕ) (met : List Bool) (same : Bool) (greatest more : ℕ) → i < length kept → greatest ≤ more
-    → ((place : ℕ) → StandsAt rows (slice_index_or kept i no_kept).number place → ⊥)
-    → Carrying rows kept i places met same greatest → Carrying rows kept (i + 1) places met same more
-carried_missed rows kept i places met same greatest more lt le none h =
-    let n = (slice_index_or kept i no_kept).number in
-    let ns = kept_numbers (take i kept) in
-    let e : kept_numbers (take (i + 1) kept) ≡ ns ++ n ∷ [] = numbers_more kept i lt in
-    let each = none_has rows n none in
-    record {
-      there = h.there;
-      found = h.found ∙ (sym (append-nil (filter (has_row rows) ns)) ∙ (sym (filter_last (has_row rows) ns n false (has_none rows n each)) ∙ ap (filter (has_row rows)) (sym e)));
-      once = λ others o. h.once others (rw (e, lacked_other ns n rows (recursion_from_All (λ x. n ≢ x.number) rows each)) at o);
-      among = rw e (All-weaker (λ place. is_among ns (row_at rows place) ≡ true) (λ place. is_among (ns ++ n ∷ []) (row_at rows place) ≡ true) (λ place a. among_still ns n (row_at rows place) a) places h.among);
-      below = All-weaker (λ place. (row_at rows place).number ≤ greatest) (λ place. (row_at rows place).number ≤ more) (λ place a. omega arith) places h.below;
-      as_kept = λ s. All-weaker (λ place. HasKept kept i (row_at rows place)) (λ place. HasKept kept (i + 1) (row_at rows place)) (λ place a. (a.0, let l = a.1 in omega arith, a.2)) places (h.as_kept s);
-      line = h.line;
-      marks = λ place there. h.marks place there ∙ (sym (among_other ns n (row_at rows place) (each place no_row there)) ∙ ap (λ (l : List ℕ). is_among l (row_at rows place)) (sym e));
-      len = h.len;
-      count = h.count;
-    }
 
 -- numbers that were kept before are others
 among_none : (kept : List Kept) (i : ℕ) (x : Row) → i < length kept → KeepsLines kept → x.number ≡ (slice_index_or kept i no_kept).number → is_among (kept_numbers (take i kept)) x ≡ false
@@ -141,7 +111,7 @@ among_none kept i x lt lines e =
     let m : length (take i kept) ≡ i = length-take-le i kept (omega arith) in
     let here : get_or ns k d ≡ (get_or kept k no_kept).number = get_or-map (λ (row : Kept). row.number) (take i kept) k no_kept d (omega arith) ∙ ap (λ (row : Kept). row.number) (get_or-take i kept k no_kept (omega arith)) in
     let apart = (lines k i no_kept (omega arith) lt).apart in
-    other_number (get_or ns k d) x.number (λ f. apart (sym here ∙ (f ∙ e))))
+    ne_eqb (get_or ns k d) x.number (λ f. apart (sym here ∙ (f ∙ e))))
 
 -- kept rows keep their line
 kept_line : (kept : List Kept) (i j : ℕ) (x y : Row) → i < j → j < length kept → KeepsLines kept → IsKept (slice_index_or kept i no_kept) x → IsKept (slice_index_or kept j no_kept) y → KeepsLine x y
@@ -187,59 +157,83 @@ count_more met place k n lt unmarked h =
     let e : f (get_or met place false) ≡ 1 = ap f unmarked in
     omega arith
 
--- where the next kept row stands, there is a place more
-pub carried_room : (rows : List Row) (kept : List Kept) (i : ℕ) (places : List ℕ) (met : List Bool) (same : Bool) (greatest place : ℕ) → Pairwise IsLower rows → KeepsLines kept → i < length kept
-    → StandsAt rows (slice_index_or kept i no_kept).number place → Carrying rows kept i places met same greatest → length places < length rows
-carried_room rows kept i places met same greatest place low lines lt stands h =
-    let x = row_at rows place in
-    let none = among_none kept i x lt lines stands.numbered in
-    let unmarked : get_or met place false ≡ false = h.marks place stands.there ∙ none in
-    let len = h.len in
-    let there = stands.there in
-    let f = count_more met place (length places) (length rows) (omega arith) unmarked h.count in
-    omega arith
+-- one more kept row
+module _ {rows : List Row} {kept : List Kept} {i : ℕ} {places : List ℕ} {met : List Bool} {same : Bool} {greatest : ℕ} (lt : i < length kept) (h : Carrying rows kept i places met same greatest) where
+  abbrev next : ℕ
+  next = (slice_index_or kept i no_kept).number
 
--- the next kept row stands at this place
-pub carried_found : (rows : List Row) (kept : List Kept) (i : ℕ) (places : List ℕ) (met : List Bool) (same still : Bool) (greatest more place : ℕ) → Pairwise IsLower rows → KeepsLines kept → i < length kept → greatest ≤ more → (slice_index_or kept i no_kept).number ≤ more
-    → StandsAt rows (slice_index_or kept i no_kept).number place → (still ≡ true → (same ≡ true) × IsKept (slice_index_or kept i no_kept) (row_at rows place))
-    → Carrying rows kept i places met same greatest → Carrying rows kept (i + 1) (places ++ place ∷ []) (set met place true) still more
-carried_found rows kept i places met same still greatest more place low lines lt le high stands still_is h =
-    let n = (slice_index_or kept i no_kept).number in
-    let ns = kept_numbers (take i kept) in
-    let x = row_at rows place in
-    let e : kept_numbers (take (i + 1) kept) ≡ ns ++ n ∷ [] = numbers_more kept i lt in
-    let number : n ≡ x.number = sym stands.numbered in
-    let none : is_among ns x ≡ false = among_none kept i x lt lines stands.numbered in
-    let pushed = map_push (row_at rows) places place in
-    let unmarked : get_or met place false ≡ false = h.marks place stands.there ∙ none in
-    let len = h.len in
-    let there = stands.there in
-    record {
-      there = All-push (λ j. j < length rows) places place h.there stands.there;
-      found = ap numbers_of pushed ∙ (map-append (λ (r : Row). r.number) (rows_at rows places) (x ∷ []) ∙ (ap₂ (λ (l : List ℕ) (k : ℕ). l ++ k ∷ []) h.found (sym number) ∙ (sym (filter_last (has_row rows) ns n true (has_some rows n place stands)) ∙ ap (filter (has_row rows)) (sym e))));
-      once = λ others o.
-          let without = rw (e, lacked_then rows place ns n stands.there number low) at o in
-          let all = h.once (x ∷ others) (filter (is_lacked ns) (take place rows), filter (is_lacked ns) (drop (suc place) rows), lacked_before rows place ns n stands.there number none, without) in
-          subst (IsOrderOf rows) (sym (append_assoc (rows_at rows places) (x ∷ []) others) ∙ ap (λ (l : List Row). l ++ others) (sym pushed)) all;
-      among = rw e (All-push (λ p. is_among (ns ++ n ∷ []) (row_at rows p) ≡ true) places place
-          (All-weaker (λ p. is_among ns (row_at rows p) ≡ true) (λ p. is_among (ns ++ n ∷ []) (row_at rows p) ≡ true) (λ p a. among_still ns n (row_at rows p) a) places h.among)
-          (among_same ns n x number));
-      below = All-push (λ p. (row_at rows p).number ≤ more) places place
-          (All-weaker (λ p. (row_at rows p).number ≤ greatest) (λ p. (row_at rows p).number ≤ more) (λ p a. omega arith) places h.below)
-          (omega arith);
-      as_kept = λ s. All-push (λ p. HasKept kept (i + 1) (row_at rows p)) places place
-          (All-weaker (λ p. HasKept kept i (row_at rows p)) (λ p. HasKept kept (i + 1) (row_at rows p)) (λ p a. (a.0, let l = a.1 in omega arith, a.2)) places (h.as_kept (still_is s).0))
-          (i, omega arith, (still_is s).1);
-      line = λ s. subst (Pairwise KeepsLine) (sym pushed)
-          (pairwise_last (rows_at rows places) x
-          (recursion_from_All (λ r. KeepsLine r x) (rows_at rows places) (All-map (λ r. KeepsLine r x) (row_at rows) places (λ k d below.
-          let kept_there = h.as_kept (still_is s).0 k d below in
-          kept_line kept kept_there.0 i (row_at rows (get_or places k d)) x kept_there.1 lt lines kept_there.2 (still_is s).1)))
-          (h.line (still_is s).0));
-      marks = rw e (marks_more rows ns n place met low stands.there h.len number h.marks);
-      len = length-set met place true ∙ h.len;
-      count = ap (λ (k : ℕ). k + count_by not (set met place true)) (length_push places place) ∙ count_more met place (length places) (length rows) (omega arith) unmarked h.count;
-    }
+  abbrev so_far : List ℕ
+  so_far = kept_numbers (take i kept)
+
+  numbers_more : kept_numbers (take (i + 1) kept) ≡ so_far ++ next ∷ []
+  numbers_more = map_more (λ (k : Kept). k.number) kept i no_kept lt
+
+  -- the rows so far are still among the numbers, and still kept
+  still_among : All (λ place. is_among (so_far ++ next ∷ []) (row_at rows place) ≡ true) places
+  still_among k d there = among_still so_far next (row_at rows (get_or places k d)) (h.among k d there)
+
+  still_kept : same ≡ true → All (λ place. HasKept kept (i + 1) (row_at rows place)) places
+  still_kept s k d there = let a = h.as_kept s k d there in (a.0, omega (arith, a.1), a.2)
+
+  -- no row has its number
+  pub carried_missed : {more : ℕ} → greatest ≤ more → ((place : ℕ) → StandsAt rows next place → ⊥) → Carrying rows kept (i + 1) places met same more
+  carried_missed {more = more} le none =
+      let each = none_has rows next none in
+      record {
+        there = h.there;
+        found = h.found ∙ (sym (append-nil (filter (has_row rows) so_far))
+            ∙ (sym (filter_last (has_row rows) so_far next false (has_none rows next each)) ∙ ap (filter (has_row rows)) (sym numbers_more)));
+        once = λ others o. h.once others (rw (numbers_more, lacked_other so_far next rows (recursion_from_All (λ x. next ≢ x.number) rows each)) at o);
+        among = rw numbers_more still_among;
+        below = λ k d there. omega (arith, h.below k d there, le);
+        as_kept = still_kept;
+        line = h.line;
+        marks = λ place there. h.marks place there
+            ∙ (sym (among_other so_far next (row_at rows place) (each place no_row there)) ∙ ap (λ (l : List ℕ). is_among l (row_at rows place)) (sym numbers_more));
+        len = h.len;
+        count = h.count;
+      }
+
+  -- the row at this place has it
+  module _ (low : Pairwise IsLower rows) (lines : KeepsLines kept) (place : ℕ) (stands : StandsAt rows next place) where
+    none_before : is_among so_far (row_at rows place) ≡ false
+    none_before = among_none kept i (row_at rows place) lt lines stands.numbered
+
+    one_counted : (length places + 1) + count_by not (set met place true) ≡ length rows
+    one_counted = count_more met place (length places) (length rows) (omega (arith, h.len, stands.there)) (h.marks place stands.there ∙ none_before) h.count
+
+    -- so there is a place more
+    pub carried_room : length places < length rows
+    carried_room = omega (arith, one_counted)
+
+    pub carried_found : {still : Bool} {more : ℕ} → greatest ≤ more → next ≤ more → (still ≡ true → (same ≡ true) × IsKept (slice_index_or kept i no_kept) (row_at rows place))
+        → Carrying rows kept (i + 1) (places ++ place ∷ []) (set met place true) still more
+    carried_found {more = more} le high still_is =
+        let x = row_at rows place in
+        let number : next ≡ x.number = sym stands.numbered in
+        let pushed = map_push (row_at rows) places place in
+        record {
+          there = All-push (λ j. j < length rows) places place h.there stands.there;
+          found = ap numbers_of pushed ∙ (map_push (λ (r : Row). r.number) (rows_at rows places) x ∙ (ap₂ (λ (l : List ℕ) (k : ℕ). l ++ k ∷ []) h.found (sym number)
+              ∙ (sym (filter_last (has_row rows) so_far next true (has_some rows next place stands)) ∙ ap (filter (has_row rows)) (sym numbers_more))));
+          once = λ others o.
+              let without = rw (numbers_more, lacked_then rows place so_far next stands.there number low) at o in
+              let before = lacked_before rows place so_far next stands.there number none_before in
+              let all = h.once (x ∷ others) (filter (is_lacked so_far) (take place rows), filter (is_lacked so_far) (drop (suc place) rows), before, without) in
+              subst (IsOrderOf rows) (sym (append_assoc (rows_at rows places) (x ∷ []) others) ∙ ap (λ (l : List Row). l ++ others) (sym pushed)) all;
+          among = rw numbers_more (All-push (λ p. is_among (so_far ++ next ∷ []) (row_at rows p) ≡ true) places place still_among (among_same so_far next x number));
+          below = All-push (λ p. (row_at rows p).number ≤ more) places place (λ k d there. omega (arith, h.below k d there, le)) (omega arith);
+          as_kept = λ s. All-push (λ p. HasKept kept (i + 1) (row_at rows p)) places place (still_kept (still_is s).0) (i, omega arith, (still_is s).1);
+          line = λ s. subst (Pairwise KeepsLine) (sym pushed)
+              (pairwise_last (rows_at rows places) x
+              (recursion_from_All (λ r. KeepsLine r x) (rows_at rows places) (All-map (λ r. KeepsLine r x) (row_at rows) places (λ k d there.
+              let a = h.as_kept (still_is s).0 k d there in
+              kept_line kept a.0 i (row_at rows (get_or places k d)) x a.1 lt lines a.2 (still_is s).1)))
+              (h.line (still_is s).0));
+          marks = rw numbers_more (marks_more rows so_far next place met low stands.there h.len number h.marks);
+          len = length-set met place true ∙ h.len;
+          count = ap (λ (k : ℕ). k + count_by not (set met place true)) (length_push places place) ∙ one_counted;
+        }
 
 -- the places that aren't marked, of the first i, are put after those that were there
 pub record Adding (rows : List Row) (met : List Bool) (before : List ℕ) (greatest i : ℕ) (places : List ℕ) (above : Bool) : Type 0 where
@@ -256,47 +250,39 @@ adding_none rows met before greatest there = record {
   count = refl;
 }
 
--- what is lacked among one more row
-lacked_more : (rows : List Row) (numbers : List ℕ) (met : List Bool) (i : ℕ) (b : Bool) → i < length rows → get_or met i false ≡ b → AreMet rows numbers met
-    → filter (is_lacked numbers) (take (i + 1) rows) ≡ filter (is_lacked numbers) (take i rows) ++ cond (not b) (row_at rows i ∷ []) []
-lacked_more rows numbers met i b lt e m =
-    filter_more (is_lacked numbers) rows i no_row lt
-    ∙ ap (λ (c : Bool). filter (is_lacked numbers) (take i rows) ++ cond (not c) (row_at rows i ∷ []) []) (sym (m i lt) ∙ e)
+-- one more row
+module _ {rows : List Row} {met : List Bool} {before places : List ℕ} {greatest i : ℕ} {above : Bool}
+    (lt : i < length rows) (len : length met ≡ length rows) (h : Adding rows met before greatest i places above) where
+  -- what is lacked then, and how many are left
+  lacked_more : (numbers : List ℕ) (b : Bool) → get_or met i false ≡ b → AreMet rows numbers met
+      → filter (is_lacked numbers) (take (i + 1) rows) ≡ filter (is_lacked numbers) (take i rows) ++ cond (not b) (row_at rows i ∷ []) []
+  lacked_more numbers b e m =
+      filter_more (is_lacked numbers) rows i no_row lt
+      ∙ ap (λ (c : Bool). filter (is_lacked numbers) (take i rows) ++ cond (not c) (row_at rows i ∷ []) []) (sym (m i lt) ∙ e)
 
-count_from : (met : List Bool) (i : ℕ) (b : Bool) → i < length met → get_or met i false ≡ b → count_by not (drop i met) ≡ cond (not b) 1 0 + count_by not (drop (i + 1) met)
-count_from met i b lt e =
-    ap (count_by not) (drop_more met i false lt)
-    ∙ (sum_by-cons (λ (c : Bool). cond (not c) 1 0) (get_or met i false) (drop (i + 1) met)
-    ∙ ap (λ (c : Bool). cond (not c) 1 0 + count_by not (drop (i + 1) met)) e)
+  count_from : (b : Bool) → get_or met i false ≡ b → count_by not (drop i met) ≡ cond (not b) 1 0 + count_by not (drop (i + 1) met)
+  count_from b e = sum_by-drop_more (λ (c : Bool). cond (not c) 1 0) met i false (omega arith) ∙ ap (λ (c : Bool). cond (not c) 1 0 + count_by not (drop (i + 1) met)) e
 
-pub adding_marked : (rows : List Row) (met : List Bool) (before : List ℕ) (greatest i : ℕ) (places : List ℕ) (above : Bool) → i < length rows → length met ≡ length rows → get_or met i false ≡ true
-    → Adding rows met before greatest i places above → Adding rows met before greatest (i + 1) places above
-adding_marked rows met before greatest i places above lt len e h = record {
-  there = h.there;
-  others = λ numbers m. h.others numbers m ∙ ap (λ (l : List Row). rows_at rows before ++ l) (sym (lacked_more rows numbers met i true lt e m ∙ append-nil (filter (is_lacked numbers) (take i rows))));
-  higher = λ a place below unmarked. elim (cases_lt place i) [
-    | inl before ↦ h.higher a place before unmarked
-    | inr now ↦ absurd (let s : place ≡ i = omega arith in let f : get_or met place false ≡ true = ap (λ (k : ℕ). get_or met k false) s ∙ e in cc)
-  ];
-  count = let n = count_from met i true (omega arith) e in let c = h.count in omega arith;
-}
+  pub adding_marked : get_or met i false ≡ true → Adding rows met before greatest (i + 1) places above
+  adding_marked e = record {
+    there = h.there;
+    others = λ numbers m. h.others numbers m ∙ ap (λ (l : List Row). rows_at rows before ++ l) (sym (lacked_more numbers true e m ∙ append-nil (filter (is_lacked numbers) (take i rows))));
+    higher = λ a. below_more _ _ (h.higher a) (λ unmarked. absurd (cc (e, unmarked)));
+    count = omega (arith, count_from true e, h.count);
+  }
 
-pub adding_found : (rows : List Row) (met : List Bool) (before : List ℕ) (greatest i : ℕ) (places : List ℕ) (above still : Bool) → i < length rows → length met ≡ length rows → get_or met i false ≡ false
-    → (still ≡ true → (above ≡ true) × (greatest ≤ (row_at rows i).number))
-    → Adding rows met before greatest i places above → Adding rows met before greatest (i + 1) (places ++ i ∷ []) still
-adding_found rows met before greatest i places above still lt len e still_is h = record {
-  there = All-push (λ j. j < length rows) places i h.there lt;
-  others = λ numbers m.
-      map_push (row_at rows) places i
-      ∙ (ap (λ (l : List Row). l ++ row_at rows i ∷ []) (h.others numbers m)
-      ∙ (append_assoc (rows_at rows before) (filter (is_lacked numbers) (take i rows)) (row_at rows i ∷ [])
-      ∙ ap (λ (l : List Row). rows_at rows before ++ l) (sym (lacked_more rows numbers met i false lt e m))));
-  higher = λ a place below unmarked. elim (cases_lt place i) [
-    | inl before ↦ h.higher (still_is a).0 place before unmarked
-    | inr now ↦ let s : place ≡ i = omega arith in subst (λ (k : ℕ). greatest ≤ (row_at rows k).number) (sym s) (still_is a).1
-  ];
-  count = let n = count_from met i false (omega arith) e in let c = h.count in let p = length_push places i in omega arith;
-}
+  pub adding_found : {still : Bool} → get_or met i false ≡ false → (still ≡ true → (above ≡ true) × (greatest ≤ (row_at rows i).number))
+      → Adding rows met before greatest (i + 1) (places ++ i ∷ []) still
+  adding_found e still_is = record {
+    there = All-push (λ j. j < length rows) places i h.there lt;
+    others = λ numbers m.
+        map_push (row_at rows) places i
+        ∙ (ap (λ (l : List Row). l ++ row_at rows i ∷ []) (h.others numbers m)
+        ∙ (append_assoc (rows_at rows before) (filter (is_lacked numbers) (take i rows)) (row_at rows i ∷ [])
+        ∙ ap (λ (l : List Row). rows_at rows before ++ l) (sym (lacked_more numbers false e m))));
+    higher = λ a. below_more _ _ (h.higher (still_is a).0) (λ unmarked. (still_is a).1);
+    count = omega (arith, count_from false e, h.count, length_push places i);
+  }
 
 order_itself : (rows : List Row) → IsOrderOf rows rows
 order_itself [] = refl
@@ -345,7 +331,7 @@ carried_line rows all places met ns greatest low marks line among below above e 
     let kept = All-map (λ x. (is_among ns x ≡ true) × (x.number ≤ greatest)) (row_at rows) places (λ k d lt. (among k d lt, below k d lt)) in
     let high = All-filter (is_lacked ns) (λ x. is_lacked ns x ≡ true → greatest ≤ x.number) rows (λ k d lt lacked.
     let same : get_or rows k d ≡ row_at rows k = get_or_default rows k d no_row lt in
-    let here : is_among ns (row_at rows k) ≡ false = ap (is_among ns) (sym same) ∙ refuted (is_among ns (get_or rows k d)) (λ there. let u : true ≡ not true = sym lacked ∙ ap not there in cc) in
+    let here = ap (is_among ns) (sym same) ∙ false_from_ne_true (is_among ns (get_or rows k d)) (λ there. let u : true ≡ not true = sym lacked ∙ ap not there in cc) in
     subst (λ (x : Row). greatest ≤ x.number) (sym same) (above k lt (marks k lt ∙ here))) in
     let cross = recursion_from_All (λ x. AllByRecursion (KeepsLine x) others) found (λ k d lt. recursion_from_All (KeepsLine (get_or found k d)) others (λ m o there.
     let lacked = filter_passes (is_lacked ns) rows m o there in

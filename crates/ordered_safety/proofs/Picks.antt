@@ -1,8 +1,8 @@
 -- Rows go one by one out of those that are left: which of them may go, and what is in order before and after.
-use Rattle.std.proofs.Common.{◌≡◌, ℕ, zero, suc, ◌+◌, ◌<◌, ◌↔◌, Bool, true, false, List, [], ◌∷◌, ◌++◌, inl, inr, length, get_or, take, drop, refl, sym, ◌∙◌, ap, ap₂, subst, subst₂, arith, drop-cons, length-append}
+use Rattle.std.proofs.Common.{◌≡◌, ℕ, zero, suc, ◌+◌, ◌<◌, ◌↔◌, List, [], ◌∷◌, ◌++◌, inl, inr, length, get_or, take, drop, refl, sym, ◌∙◌, ap, ap₂, subst, subst₂, arith, drop-cons, length-append}
 use Rattle.std.specs.Prelude.{remove}
 use Rattle.std.specs.List.{AllByRecursion}
-use Rattle.std.proofs.lemmas.Bool.{cases_lt}
+use Rattle.std.proofs.lemmas.Bool.{cases_lt, false_from_ne_true}
 use Rattle.std.proofs.lemmas.List.{get_or-map, length-map, map-append, take-map, drop-map, take-append-drop, get_or_at, get_or_append_left}
 use Rattle.std.proofs.lemmas.List.Elements.{All-from_get_or, All-from_recursion, recursion_from_All}
 use Rattle.std.proofs.lemmas.List.Edits.{length-remove, get_or-remove_below, get_or-remove_above}
@@ -14,11 +14,6 @@ use Rattle.claims.specs.Safety.{freed, KeepsLine, IsFinishingOrder, same_line, H
 use Rattle.claims.proofs.Orders.{all_in_order, safe_without, some_first, numbers_after, number_there}
 use Rattle.ordered_safety.specs.Scan.{rows_at, row_of, MayGoAt, HasTurn}
 use Rattle.ordered_safety.specs.Compared.{HasNoEarlier, CanGo, NoneCanGo, IsNext}
-
--- a test that can't pass fails
-pub refuted : (b : Bool) → (b ≡ true → ⊥) → b ≡ false
-refuted true wrong = absurd (wrong refl)
-refuted false wrong = refl
 
 -- a row at the places is the row of the place
 pub row_there : (rows : List Row) (left : List ℕ) (at : ℕ) → at < length left → row_at (rows_at rows left) at ≡ row_of rows left at
@@ -89,7 +84,7 @@ next_there a x b low keeps =
           let other : row_at (a ++ x ∷ b) j ≡ y = get_or_append_left a (x ∷ b) no_row j lt ∙ sym (get_or_append_left a b no_row j lt) in
           let lower : y.number < x.number = subst₂ IsLower other here (pair_at IsLower (a ++ x ∷ b) j (length a) lt there low) in
           let line : KeepsLine x y = All-from_recursion (KeepsLine x) (a ++ b) keeps j no_row (omega (arith, length-append a b)) in
-          ap₂ same_line here other ∙ refuted (same_line x y) (λ same. let l = line same in omega arith);
+          ap₂ same_line here other ∙ false_from_ne_true (same_line x y) (λ same. let l = line same in omega arith);
     }
 
 -- the row that goes, from rows whose numbers rise

@@ -1,5 +1,5 @@
 -- How many earlier rows of its line each row waits for, how that changes when a row goes, and whose needs are compared.
-use Rattle.std.proofs.Common.{◌≡◌, inl, inr, ℕ, zero, suc, ◌+◌, ◌<◌, ◌≤◌, ◌↔◌, Bool, true, false, cond, List, [], ◌∷◌, ◌++◌, length, length-take, get_or, set, take, drop, refl, subst, ap, ap₂, sym, ◌∙◌, add-one, arith, below_more}
+use Rattle.std.proofs.Common.{◌≡◌, inl, inr, ℕ, zero, suc, ◌+◌, ◌<◌, ◌≤◌, ◌↔◌, Bool, true, false, cond, List, [], ◌∷◌, ◌++◌, length, length-take, get_or, set, take, drop, refl, ap, ap₂, sym, ◌∙◌, add-one, arith, below_more}
 use Rattle.std.specs.Prelude.{slice_index, remove, All}
 use Rattle.std.specs.List.{count_by, list_any, sum_by}
 use Rattle.std.proofs.lemmas.List.{get_or_append_left, get_or_push, get_or-take, get_or-set_same, get_or-set_other, length-set, length-take-le, take-map, take-take, take-append-le}
@@ -7,13 +7,13 @@ use Rattle.std.proofs.lemmas.List.Edits.{length-remove, get_or-remove_below, get
 use Rattle.std.proofs.lemmas.List.Elements.{All-from_get_or}
 use Rattle.std.proofs.lemmas.List.Folds.{list_any_none, list_any_at}
 use Rattle.std.proofs.lemmas.List.Sums.{get_or-le-sum_by, sum_by-le, sum_by-remove}
-use Rattle.std.proofs.lemmas.Bool.{cases_lt, cases_Bool}
+use Rattle.std.proofs.lemmas.Bool.{cases_lt, cases_Bool, false_from_ne_true}
 use Rattle.claims.specs.declared.row.Row.{Row}
 use Rattle.claims.specs.Claims.{row_at, no_row}
 use Rattle.claims.specs.Safety.{same_line}
 use Rattle.ordered_safety.specs.Scan.{rows_at, row_of, ahead_of, CountsAhead}
 use Rattle.ordered_safety.specs.Compared.{HasNoEarlier, compared}
-use Rattle.ordered_safety.proofs.Picks.{refuted, row_there}
+use Rattle.ordered_safety.proofs.Picks.{row_there}
 
 -- one more count
 pub counts_more : (f : ℕ → ℕ) (counts pushed : List ℕ) (n at : ℕ) → pushed ≡ counts ++ n ∷ [] → length counts ≡ at → ((j : ℕ) → j < at → get_or counts j 0 ≡ f j) → n ≡ f at → (j : ℕ) → j < at + 1 → get_or pushed j 0 ≡ f j
@@ -25,12 +25,6 @@ counts_more f counts pushed n at e len each last = below_more _ _
 pub ahead_there : (rows : List Row) (left : List ℕ) (at : ℕ) → at < length left → count_by (same_line (row_of rows left at)) (rows_at rows (take at left)) ≡ ahead_of (rows_at rows left) at
 ahead_there rows left at lt =
     ap₂ (λ (x : Row) (xs : List Row). count_by (same_line x) xs) (sym (row_there rows left at lt)) (sym (take-map (row_at rows) at left))
-
-plus_none : (a b n : ℕ) → n ≡ 0 → a ≡ b → a + n ≡ b
-plus_none a b n e f = omega arith
-
-plus_one : (a b c n : ℕ) → n ≡ 1 → a + 1 ≡ b → b ≡ c → a + n ≡ c
-plus_one a b c n e f g = omega arith
 
 -- where an earlier row is of its line, a row waits
 pub waits : (xs : List Row) (gone at : ℕ) → gone < at → at < length xs → same_line (row_at xs at) (row_at xs gone) ≡ true → 0 < ahead_of xs at
@@ -48,7 +42,7 @@ none_taken xs at none = All-from_get_or (λ y. same_line (row_at xs at) y ≡ fa
 -- the counts tell of which rows none before them is of their line
 pub head_where : (xs : List Row) (counts : List ℕ) (at : ℕ) → CountsAhead xs counts → at < length xs → (slice_index counts at ≡ 0) ↔ HasNoEarlier xs at
 head_where xs counts at h lt = (
-  λ zero j below. refuted (same_line (row_at xs at) (row_at xs j)) (λ same. omega (arith, waits xs j at below lt same, h.each at lt)),
+  λ zero j below. false_from_ne_true (same_line (row_at xs at) (row_at xs j)) (λ same. omega (arith, waits xs j at below lt same, h.each at lt)),
   λ none.
       let most = sum_by-le (λ x. cond (same_line (row_at xs at) x) 1 0) 0 (take at xs) (λ k d there. rw (none_taken xs at none k d there) (omega arith)) in
       omega (arith, h.each at lt),
@@ -62,7 +56,7 @@ compared_head xs at none = rw (add-one at, list_any_none (same_line (row_at xs a
 pub compared_other : (xs : List Row) (at : ℕ) → at < length xs → (HasNoEarlier xs at → ⊥) → compared xs (at + 1) ≡ compared xs at
 compared_other xs at lt some = elim (cases_Bool (list_any (same_line (row_at xs at)) (take at xs))) [
   | inl any ↦ rw (add-one at, any) (omega arith)
-  | inr none ↦ absurd (some (λ j below. refuted (same_line (row_at xs at) (row_at xs j)) (λ same.
+  | inr none ↦ absurd (some (λ j below. false_from_ne_true (same_line (row_at xs at) (row_at xs j)) (λ same.
       let any = list_any_at (same_line (row_at xs at)) (take at xs) j no_row (omega (arith, length-take at xs)) (ap (same_line (row_at xs at)) (get_or-take at xs j no_row below) ∙ same) in
       cc)))
 ]
@@ -71,14 +65,14 @@ compared_other xs at lt some = elim (cases_Bool (list_any (same_line (row_at xs 
 pub record Less (xs : List Row) (counts : List ℕ) (gone at : ℕ) : Type 0 where
   pub len : length counts ≡ length xs
   pub front : (j : ℕ) → j < gone + 1 → slice_index counts j ≡ ahead_of xs j
-  pub done : (j : ℕ) → gone < j → j < at → slice_index counts j + cond (same_line (row_at xs j) (row_at xs gone)) 1 0 ≡ ahead_of xs j
+  pub done : (j : ℕ) → j < at → gone < j → slice_index counts j + cond (same_line (row_at xs j) (row_at xs gone)) 1 0 ≡ ahead_of xs j
   pub rest : (j : ℕ) → at ≤ j → j < length xs → slice_index counts j ≡ ahead_of xs j
 
 pub less_first : (xs : List Row) (counts : List ℕ) (gone : ℕ) → gone < length xs → CountsAhead xs counts → Less xs counts gone (gone + 1)
 less_first xs counts gone lt h = record {
   len = h.all;
   front = λ j below. h.each j (omega arith);
-  done = λ j above below. absurd (omega arith);
+  done = λ j below above. absurd (omega arith);
   rest = λ j le there. h.each j there;
 }
 
@@ -86,14 +80,9 @@ pub less_kept : (xs : List Row) (counts : List ℕ) (gone at : ℕ) → at < len
 less_kept xs counts gone at lt other h = record {
   len = h.len;
   front = h.front;
-  done = λ j above below. elim (cases_lt j at) [
-    | inl before ↦ h.done j above before
-    | inr now ↦
-        let e : j ≡ at = omega arith in
-        let s : slice_index counts at + cond (same_line (row_at xs at) (row_at xs gone)) 1 0 ≡ ahead_of xs at =
-        plus_none (slice_index counts at) (ahead_of xs at) (cond (same_line (row_at xs at) (row_at xs gone)) 1 0) (ap (λ (b : Bool). cond b 1 0) other) (h.rest at (omega arith) lt) in
-        subst (λ (k : ℕ). slice_index counts k + cond (same_line (row_at xs k) (row_at xs gone)) 1 0 ≡ ahead_of xs k) (sym e) s
-  ];
+  done = below_more _ _ h.done (λ above.
+      let none : cond {A = ℕ} (same_line (row_at xs at) (row_at xs gone)) 1 0 ≡ 0 = ap (λ (b : Bool). cond b 1 0) other in
+      omega (arith, h.rest at (omega arith) lt));
   rest = λ j le there. h.rest j (omega arith) there;
 }
 
@@ -102,15 +91,9 @@ less_taken xs counts gone at n above_gone lt less same h =
     let len = h.len in record {
       len = length-set counts at n ∙ h.len;
       front = λ j below. get_or-set_other counts at j n 0 (omega arith) ∙ h.front j below;
-      done = λ j above below. elim (cases_lt j at) [
-        | inl before ↦ rw (get_or-set_other counts at j n 0 (omega arith)) (h.done j above before)
-        | inr now ↦
-            let e : j ≡ at = omega arith in
-            let here : slice_index (set counts at n) at ≡ n = get_or-set_same counts at n 0 (omega arith) in
-            let s : slice_index (set counts at n) at + cond (same_line (row_at xs at) (row_at xs gone)) 1 0 ≡ ahead_of xs at =
-            plus_one (slice_index (set counts at n) at) (slice_index counts at) (ahead_of xs at) (cond (same_line (row_at xs at) (row_at xs gone)) 1 0) (ap (λ (b : Bool). cond b 1 0) same) (ap (λ (k : ℕ). k + 1) here ∙ less) (h.rest at (omega arith) lt) in
-            subst (λ (k : ℕ). slice_index (set counts at n) k + cond (same_line (row_at xs k) (row_at xs gone)) 1 0 ≡ ahead_of xs k) (sym e) s
-      ];
+      done = below_more _ _ (λ j below above. rw (get_or-set_other counts at j n 0 (omega arith)) (h.done j below above)) (λ above.
+          let one : cond {A = ℕ} (same_line (row_at xs at) (row_at xs gone)) 1 0 ≡ 1 = ap (λ (b : Bool). cond b 1 0) same in
+          omega (arith, get_or-set_same counts at n 0 (omega arith), h.rest at (omega arith) lt));
       rest = λ j le there. get_or-set_other counts at j n 0 (omega arith) ∙ h.rest j (omega arith) there;
     }
 

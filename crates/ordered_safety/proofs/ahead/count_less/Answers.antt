@@ -1,5 +1,6 @@
-use Rattle.std.proofs.Common.{◌≡◌, ℕ, ◌<◌, ◌≤◌, ◌+◌, ◌-◌, List, get_or, Bool, true, false, refl, subst, ap₂, sym, ◌∙◌, arith, length}
+use Rattle.std.proofs.Common.{◌≡◌, ℕ, ◌<◌, ◌≤◌, ◌+◌, ◌-◌, List, get_or, false, subst, ap₂, sym, ◌∙◌, arith, length}
 use Rattle.std.specs.Prelude.{remove}
+use Rattle.std.proofs.lemmas.Bool.{false_from_ne_true}
 use Rattle.std.proofs.lemmas.List.{length-map, get_or_default}
 use Rattle.claims.specs.declared.row.Row.{Row}
 use Rattle.claims.specs.Claims.{row_at}
@@ -17,11 +18,8 @@ loop-at-init c =
 
 -- a row that waits for none is of another line
 not_waiting : (xs : List Row) (counts : List ℕ) (gone at n : ℕ) → gone < at → at < length xs → n ≡ get_or counts at 0 → n ≤ 0 → Less xs counts gone at → same_line (row_at xs at) (row_at xs gone) ≡ false
-not_waiting xs counts gone at n lt there count zero h = by (same_line (row_at xs at) (row_at xs gone)) refl
-  where
-    by : (b : Bool) → same_line (row_at xs at) (row_at xs gone) ≡ b → b ≡ false
-    by false e = refl
-    by true e = absurd (let w = waits xs gone at lt there e in let r = h.rest at (omega arith) there in omega arith)
+not_waiting xs counts gone at n lt there count zero h =
+    false_from_ne_true (same_line (row_at xs at) (row_at xs gone)) (λ same. omega (arith, waits xs gone at lt there same, h.rest at (omega arith) there))
 
 pub loop-at-preserved : goal.loop-at-preserved
 loop-at-preserved c =

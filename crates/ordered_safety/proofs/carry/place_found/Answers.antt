@@ -1,15 +1,10 @@
-use Rattle.std.proofs.Common.{◌≡◌, ◌≤◌, ℕ, ◌∷◌, [], List, get_or, true, false, refl, subst, ap, sym, ◌∙◌, arith, nat_cmp}
-use Rattle.std.specs.Prelude.{IsTrue, filter}
+use Rattle.std.proofs.Common.{◌≡◌, ◌≤◌, ℕ, ◌∷◌, [], get_or, true, refl, sym, ◌∙◌, arith, nat_cmp}
+use Rattle.std.specs.Prelude.{IsTrue}
 use Rattle.std.specs.Ordering.{ord_max}
 use Rattle.std.proofs.lemmas.Grind.{common_steps}
 use Rattle.std.proofs.lemmas.List.{nil_from_length, take_all}
 use Rattle.std.proofs.lemmas.Slice.{pushed}
-use Rattle.claims.specs.declared.row.Row.{Row}
 use Rattle.claims.specs.Claims.{row_at}
-use Rattle.claims.specs.Safety.{IsOrderOf}
-use Rattle.ordered_safety.specs.declared.kept.Kept.{Kept}
-use Rattle.ordered_safety.specs.Carried.{is_lacked}
-use Rattle.ordered_safety.specs.Kept.{kept_numbers}
 use Rattle.ordered_safety.proofs.Carries.{IsKept, no_kept, carried_none, carried_missed, carried_found, carried_room}
 use Rattle.ordered_safety.proofs.carry.place_found.Goals as goal
 use Rattle.ordered_safety.proofs.carry.place_found.Goals.{then-not-is_of_line, else-not-is_of_line}
@@ -32,15 +27,14 @@ loop-row-preserved-in_default c =
     let kept = get_or c.args.kept.now c.loop-row.row-index no_kept in
     let old = c.loop-row.invariant in
     record {
-      carrying = carried_missed c.args.rows.now c.args.kept.now c.loop-row.row-index c.loop-row.places.items c.loop-row.met.items c.loop-row.same c.loop-row.greatest c.max-greatest.result c.loop-row-test.true
-          (max_left c.loop-row.greatest kept.number c.max-greatest.result c.max-greatest.ensures) c.in_default.ensures.none old.carrying;
+      carrying = carried_missed c.loop-row-test.true old.carrying (max_left c.loop-row.greatest kept.number c.max-greatest.result c.max-greatest.ensures) c.in_default.ensures.none;
       met = old.met;
       room = old.room;
     }
 
 pub unwrap-requires : goal.unwrap-requires
 unwrap-requires c =
-    let room = carried_room c.args.rows.now c.args.kept.now c.loop-row.row-index c.loop-row.places.items c.loop-row.met.items c.loop-row.same c.loop-row.greatest c.in-Some.place c.requires.rising c.requires.lines c.loop-row-test.true c.in-Some.ensures.found c.loop-row.invariant.carrying in
+    let room = carried_room c.loop-row-test.true c.loop-row.invariant.carrying c.requires.rising c.requires.lines c.in-Some.place c.in-Some.ensures.found in
     let cap = c.loop-row.invariant.room in
     let fits = c.requires.room in
     grind (arith, common_steps)
@@ -53,31 +47,19 @@ loop-row-preserved c =
     let items = pushed (c.in-Some.place ∷ []) refl c.unwrap.ensures c.push.ensures.items in
     let still : c.if-not-is_of_line.same ≡ true → (c.loop-row.same ≡ true) × IsKept kept (row_at c.args.rows.now c.in-Some.place) = λ e.
     elim c.if-not-is_of_line.branch [
-      | then-not-is_of_line w ↦ absurd (let s = w.same-is in let f : true ≡ false = sym e ∙ s in cc)
+      | then-not-is_of_line w ↦ absurd (cc (w.same-is, e))
       | else-not-is_of_line w ↦
           let yes : IsTrue c.is_of_line.result = w.if-not-is_of_line.false in
-          let line = c.is_of_line.ensures.0 yes in
-          let row = c.get.ensures in (
-            sym w.same-is ∙ e,
-            record {
-              number = stands.numbered;
-              sender = ap (λ (r : Row). r.sender) (sym row) ∙ line.0;
-              queue = ap (λ (r : Row). r.queue) (sym row) ∙ line.1;
-            },
-          )
+          let line = rw c.get.ensures at (c.is_of_line.ensures.0 yes) in
+          (sym w.same-is ∙ e, record { number = stands.numbered; sender = line.0; queue = line.1 })
     ] in
     record {
-      carrying = rw items (carried_found c.args.rows.now c.args.kept.now c.loop-row.row-index c.loop-row.places.items c.loop-row.met.items c.loop-row.same c.if-not-is_of_line.same c.loop-row.greatest c.max-greatest.result c.in-Some.place
-          c.requires.rising c.requires.lines c.loop-row-test.true
+      carrying = rw items (carried_found c.loop-row-test.true old.carrying c.requires.rising c.requires.lines c.in-Some.place stands
           (max_left c.loop-row.greatest kept.number c.max-greatest.result c.max-greatest.ensures)
-          (max_right c.loop-row.greatest kept.number c.max-greatest.result c.max-greatest.ensures)
-          stands still old.carrying);
+          (max_right c.loop-row.greatest kept.number c.max-greatest.result c.max-greatest.ensures) still);
       met = old.met;
       room = let e = c.push.ensures.capacity in let r = old.room in omega arith;
     }
 
 pub returns-clause-once : goal.returns-clause-once
-returns-clause-once c =
-    let kept = c.args.kept.now in
-    let all = take_all c.loop-row.row-index kept c.loop-row-test.false in
-    λ others o. c.loop-row.invariant.carrying.once others (subst (λ (l : List Kept). IsOrderOf (filter (is_lacked (kept_numbers l)) c.args.rows.now) others) (sym all) o)
+returns-clause-once c = λ others o. c.loop-row.invariant.carrying.once others (rw (← take_all c.loop-row.row-index c.args.kept.now c.loop-row-test.false) at o)

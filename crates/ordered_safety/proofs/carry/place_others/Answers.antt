@@ -1,4 +1,4 @@
-use Rattle.std.proofs.Common.{◌≡◌, ◌≤◌, ◌∷◌, [], true, false, refl, ap, sym, ◌∙◌, arith}
+use Rattle.std.proofs.Common.{◌≡◌, ◌≤◌, ◌∷◌, [], true, refl, ap, sym, ◌∙◌, arith}
 use Rattle.std.proofs.lemmas.Slice.{pushed}
 use Rattle.claims.specs.declared.row.Row.{Row}
 use Rattle.claims.specs.Claims.{row_at}
@@ -17,7 +17,7 @@ loop-place-preserved-then-met-place c =
     let old = c.loop-place.invariant in
     let lt = c.loop-place-test.true in
     record {
-      adding = adding_marked c.args.rows.now c.args.met.now c.args.places.now.items c.args.greatest c.loop-place.place c.loop-place.places.items c.loop-place.above (let l = c.len-place-end.ensures in omega arith) c.requires.met c.if-met-place.true old.adding;
+      adding = adding_marked (let l = c.len-place-end.ensures in omega arith) c.requires.met old.adding c.if-met-place.true;
       room = old.room;
     }
 
@@ -28,10 +28,10 @@ loop-place-preserved c =
     let lt = c.loop-place-test.true in
     let still : c.if-get-greatest.above ≡ true → (c.loop-place.above ≡ true) × (c.args.greatest ≤ (row_at c.args.rows.now c.loop-place.place).number) = λ e.
     elim c.if-get-greatest.branch [
-      | then-get-greatest w ↦ absurd (let s = w.above-is in let f : true ≡ false = sym e ∙ s in cc)
+      | then-get-greatest w ↦ absurd (cc (w.above-is, e))
       | else-get-greatest w ↦ let n = ap (λ (r : Row). r.number) c.get.ensures in let le = w.if-get-greatest.false in (sym w.above-is ∙ e, omega arith)
     ] in
     record {
-      adding = rw items (adding_found c.args.rows.now c.args.met.now c.args.places.now.items c.args.greatest c.loop-place.place c.loop-place.places.items c.loop-place.above c.if-get-greatest.above (let l = c.len-place-end.ensures in omega arith) c.requires.met c.if-met-place.false still old.adding);
+      adding = rw items (adding_found (let l = c.len-place-end.ensures in omega arith) c.requires.met old.adding c.if-met-place.false still);
       room = let e = c.push.ensures.capacity in let r = old.room in omega arith;
     }
