@@ -25,7 +25,7 @@ use Rattle.spool_calls.specs.Looks.{Detail, What, size}
 use Rattle.spool_calls.specs.Kept.{Kept, Leaves, left_by, look, shown_job, facts_of}
 use Rattle.spool_calls.specs.Calls.{Aborts, CanAbort, IsLent}
 use Rattle.spool_calls.specs.Tickets.{HasLent, MayAbort, count_of}
-use Rattle.core_steps.proofs.Leaving.{Found, closed_free, held_room, jobs_left, leaves_out, none_has, one_stored, standing, tie}
+use Rattle.core_steps.proofs.Leaving.{Found, closed_free, held_room, leaves_out, none_has, one_stored, sees}
 use Rattle.core_steps.proofs.Phases.{ended, facts_tie, phase_ended, phase_receiving, phase_tie, receiving}
 
 gone_by : {C : Type 0} (x : Job C) (b : Bool) → x.handed ≡ x.back → (x.handed == x.back) ≡ b → is_held (acted Aborted x) ≡ false
@@ -35,6 +35,11 @@ gone_by x false e t = absurd (grind (arith, nat_tests))
 lent_count : (lent : Bool) (page_size : ℕ) (ticket : Option Page) → HasLent lent page_size ticket → cond lent 1 0 ≡ count_of ticket
 lent_count lent page_size None e = rw e refl
 lent_count lent page_size (Some page) e = rw e.0 refl
+
+-- the call and its answer say the same of the page that is given
+lent_same : (lent : Bool) (page_size : ℕ) (ticket : Option Page) → HasLent lent page_size ticket ≡ IsLent lent page_size ticket
+lent_same lent page_size None = refl
+lent_same lent page_size (Some page) = refl
 
 pub abort_none : (d : Detail) (b : Base) (h : List (Event (What d))) (k : Kept) (job : ℕ) (ticket : Option Page) (back : ReturnedTicket) → Leaves d b h k → All (λ (j : HeldJob). j.facts.number ≢ job) k.book.jobs → back.ticket ≡ ticket → Aborts d b h k job ticket k (Err back)
 abort_none d b h k job ticket back l none e = ((λ m. none_has d b h k job (CanAbort d (left_by d b h k) ticket) l none m), refl, e)
@@ -60,42 +65,17 @@ module _ (d : Detail) (b : Base) (h : List (Event (What d))) (k : Kept) (l : Lea
   abbrev z : ℕ
   z = k.config.page_size
 
-  s : Stands v.jobs i job
-  s = standing d b h k job i l f
-
-  t : see_job (look d) j ≡ shown_job k.config x
-  t = tie d b h k i l f.there
-
-  has : Has x v.jobs
-  has = has_get v.jobs i no_job s.there
-
-  ft : j.facts ≡ facts_of k.config x
-  ft = facts_tie (look d) k.config j x t
-
-  lent_to : (o : Option Page) (a c : Bool) → a ≡ c → HasLent a z o → IsLent c z o
-  lent_to None a c e m = sym e ∙ m
-  lent_to (Some page) a c e m = (sym e ∙ m.0, m.1)
-
-  lent_from : (o : Option Page) (a c : Bool) → a ≡ c → IsLent c z o → HasLent a z o
-  lent_from None a c e m = e ∙ m
-  lent_from (Some page) a c e m = (e ∙ m.0, m.1)
+  open sees d b h k job i l f use {stands as s, has, facts as ft}
 
   to : MayAbort j.facts z ticket → CanAbort d (left_by d b h k) ticket x
-  to m = (
-    elim m.0 [
-      | inl p ↦ inl (receiving x (sym (phase_tie (look d) k.config j x t) ∙ p))
-      | inr q ↦ inr (ended x (sym (phase_tie (look d) k.config j x t) ∙ q.0), sym (ap (λ (g : Facts). g.lent) ft) ∙ q.1)
-    ],
-    lent_to ticket j.facts.lent x.lent (ap (λ (g : Facts). g.lent) ft) m.1,
-  )
+  to m =
+      let n = subst (λ (g : Facts). MayAbort g z ticket) ft m in
+      (elim n.0 [ inl p ↦ inl (receiving x p) | inr q ↦ inr (ended x q.0, q.1) ], subst (λ (T : Type 0). T) (lent_same x.lent z ticket) n.1)
 
   from : CanAbort d (left_by d b h k) ticket x → MayAbort j.facts z ticket
-  from m = (
-    elim m.0 [
-      | inl r ↦ inl (phase_tie (look d) k.config j x t ∙ phase_receiving x r)
-      | inr q ↦ inr (phase_tie (look d) k.config j x t ∙ phase_ended x q.0, ap (λ (g : Facts). g.lent) ft ∙ q.1)
-    ],
-    lent_from ticket j.facts.lent x.lent (ap (λ (g : Facts). g.lent) ft) m.1,
+  from m = subst (λ (g : Facts). MayAbort g z ticket) (sym ft) (
+    elim m.0 [ inl r ↦ inl (phase_receiving x r) | inr q ↦ inr (phase_ended x q.0, q.1) ],
+    subst (λ (T : Type 0). T) (sym (lent_same x.lent z ticket)) m.1,
   )
 
   pub abort_refused : (back : ReturnedTicket) → (MayAbort j.facts z ticket → ⊥) → back.ticket ≡ ticket → Aborts d b h k job ticket k (Err back)
@@ -121,12 +101,12 @@ module _ (d : Detail) (b : Base) (h : List (Event (What d))) (k : Kept) (l : Lea
       let can = to m in
       let may = has_job v i job (CanAbort d (left_by d b h k) ticket) s can in
       let u = unreceived_unhanded (size d) k.config b h x l.legal has (unreceived can) in
-      let jobs = jobs_left v (OfJob job Aborted) (remove v.jobs i) (act_gone (size d) k.config b h i job Aborted l.legal s (gone_by x (x.handed == x.back) (u.0 ∙ sym u.1) refl)) refl in
       let within = one_stored d b h k i l s.there in
       let pages = aborted_pages m in
       let free : k.pool.free + pages_held x ≡ k.pool.free + n + count_of ticket = omega (arith, pages, en) in (
         may,
-        leaves_out d b h k (OfJob job Aborted) i (k.book.stored - n) (k.pool.free + n + count_of ticket) (closed k.table i) k.printers l (has_job v i job (JobMay (size d) k.config Aborted) s can.0, tt) jobs s.there refl refl
+        leaves_out d b h k (OfJob job Aborted) i (k.book.stored - n) (k.pool.free + n + count_of ticket) (closed k.table i) k.printers l (has_job v i job (JobMay (size d) k.config Aborted) s can.0, tt)
+            (act_gone (size d) k.config b h i job Aborted l.legal s (gone_by x (x.handed == x.back) (u.0 ∙ sym u.1) refl)) s.there refl refl
             (omega (arith, within, en)) (subst (λ (q : ℕ). Rattle.core_rows.proofs.Tables.WithoutRow k.table (closed k.table i) i q) free (closed_free d b h k i l s.there)) l.kept.printers,
       )
 

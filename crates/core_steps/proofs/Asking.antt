@@ -1,6 +1,6 @@
 -- A page is lent to a job.
-use Rattle.std.proofs.Common.{◌≡◌, ◌≢◌, ℕ, ◌+◌, ◌-◌, ◌<◌, ◌≤◌, true, List, [], ◌∷◌, length, get_or, set, refl, sym, ◌∙◌, ap, subst, arith}
-use Rattle.std.specs.Prelude.{All, Ok, Err}
+use Rattle.std.proofs.Common.{◌≡◌, ◌≢◌, ℕ, ◌+◌, ◌-◌, ◌<◌, ◌≤◌, true, List, [], ◌∷◌, length, get_or, set, map, refl, sym, ◌∙◌, ap, subst, arith}
+use Rattle.std.specs.Prelude.{All, Ok, Err, filter}
 use Rattle.counts.specs.Amounts.{amount}
 use Rattle.claims.specs.declared.row.Row.{Row}
 use Rattle.claims.specs.Claims.{IsTable, row_at}
@@ -18,7 +18,7 @@ use Rattle.spool_history.specs.Events.{Event}
 use Rattle.spool_history.specs.Events.Act.{Granted}
 use Rattle.spool_history.specs.Events.Event.{OfJob}
 use Rattle.spool_history.specs.Now.{Job, State, is_held, row_of}
-use Rattle.spool_history.specs.Steps.{acted, after}
+use Rattle.spool_history.specs.Steps.{acted, after, change}
 use Rattle.spool_history.specs.Legal.{HasJob, IsReceiving, IsBelowLimit, CanAsk, JobMay, MayGrant}
 use Rattle.spool_laws.specs.Sums.{chained_of}
 use Rattle.spool_moves.specs.Standing.{no_job}
@@ -31,15 +31,11 @@ use Rattle.lpd_values.specs.declared.refusal.Refusal.TheVariants.{NotOpen, OverC
 use Rattle.spool_calls.specs.Looks.{Detail, What, size}
 use Rattle.spool_calls.specs.Kept.{Kept, Leaves, left_by, look, shown_job}
 use Rattle.spool_calls.specs.Calls.{Asks}
-use Rattle.core_steps.proofs.Leaving.{Found, standing, tie, none_has, jobs_left, leaves_set, pool_even, table_set}
+use Rattle.std.proofs.lemmas.List.{get_or-set_same}
+use Rattle.core_rows.proofs.Tables.{WithRow}
+use Rattle.core_steps.proofs.Stocks.{one_set, stock}
+use Rattle.core_steps.proofs.Leaving.{Found, held_unended, jobs_left, leaves_row, none_has, pool_even, sees, stock_left, stock_moved, stock_of}
 use Rattle.core_steps.proofs.Phases.{facts_tie, can_ask, ask_can}
-
-held_granted : {C : Type 0} (x : Job C) → IsReceiving x → is_held (acted Granted x) ≡ true
-held_granted x r = (let e = r.0 in rw e refl)
-
-free_after : (free : List ℕ) → 0 < length free → amount (set free 0 (amount free 0 - 1)) 0 ≡ amount free 0 - 1
-free_after [] lt = absurd (omega arith)
-free_after (n ∷ free) lt = refl
 
 -- what is kept once a page is lent to the job at a place
 abbrev pub lent_core : Kept → ℕ → Kept
@@ -63,11 +59,7 @@ module _ (d : Detail) (b : Base) (h : List (Event (What d))) (k : Kept) (l : Lea
   abbrev j : HeldJob
   j = job_at k.book i
 
-  s : Stands v.jobs i job
-  s = standing d b h k job i l f
-
-  t : see_job (look d) j ≡ shown_job k.config x
-  t = tie d b h k i l f.there
+  open sees d b h k job i l f use {stands as s, ties as t}
 
   here : (P : Job (What d) → Type 0) → HasJob v.jobs job P → P x
   here P m = has_here (size d) k.config b h i job P l.legal s m
@@ -99,21 +91,35 @@ module _ (d : Detail) (b : Base) (h : List (Event (What d))) (k : Kept) (l : Lea
       let u = limited lt in
       omega (arith, n, e, u)
 
-  jobs_after : IsReceiving x → (after (OfJob job Granted) v).jobs ≡ set v.jobs i (acted Granted x)
-  jobs_after r = jobs_left v (OfJob job Granted) (set v.jobs i (acted Granted x)) (act_set (size d) k.config b h i job Granted l.legal s (held_granted x r)) refl
-
   kind : 0 < length k.table.capacity
   kind = (let e = ap length l.kept.table.capacity in omega (arith, e))
 
-  table : 0 < amount k.table.free 0 → IsTable (granted k.table i 0)
-  table free = (let n = rows_len k.table v l.kept.table in let there = s.there in granted_table k.table i 0 l.kept.table.table (omega (arith, n, there)) kind free)
+  -- the table with the page granted
+  with_row : IsReceiving x → 0 < amount k.table.free 0 → WithRow k.table (granted k.table i 0) i (row_of k.config (acted Granted x)) (k.pool.free - 1)
+  with_row r free =
+      let n = rows_len k.table v l.kept.table in
+      let there = s.there in
+      let some : 0 < length k.table.free = (let e = l.kept.table.table.same_kinds in let n = kind in omega (arith, e, n)) in
+      record {
+        table = granted_table k.table i 0 l.kept.table.table (omega (arith, n, there)) kind free;
+        rows = ap (λ (row : Row). set k.table.rows i (granted_row 0 row)) (row_here k.table v i l.kept.table s.there) ∙ ap (set k.table.rows i) (row_granted k.config x r);
+        capacity = refl;
+        room = refl;
+        free = get_or-set_same k.table.free 0 (amount k.table.free 0 - 1) 0 some ∙ ap (λ (n : ℕ). n - 1) (sym (pool_even d b h k l));
+      }
 
-  rows : IsReceiving x → set k.table.rows i (granted_row 0 (row_at k.table.rows i)) ≡ set k.table.rows i (row_of k.config (acted Granted x))
-  rows r = ap (λ (row : Row). set k.table.rows i (granted_row 0 row)) (row_here k.table v i l.kept.table s.there) ∙ ap (set k.table.rows i) (row_granted k.config x r)
+  jobs : IsReceiving x → filter is_held (map (change (OfJob job Granted)) v.jobs) ≡ set v.jobs i (acted Granted x)
+  jobs r = act_set (size d) k.config b h i job Granted l.legal s (held_unended (acted Granted x) r.0)
+
+  lent : see_job (look d) (told lent_facts j) ≡ shown_job k.config (acted Granted x)
+  lent = ap (λ (y : ShownJob (What d)). record y { facts = lent_facts y.facts }) t
 
   -- the table with the page is that of the state with it
   of : IsReceiving x → 0 < amount k.table.free 0 → IsTableOf (granted k.table i 0) (after (OfJob job Granted) v)
-  of r free = table_set v (OfJob job Granted) k.table (granted k.table i 0) i (acted Granted x) l.kept.table (jobs_after r) (table free) (rows r) refl refl
+  of r free =
+      let u = stock (with_job k.book i (told lent_facts j)) (record k.pool { free = k.pool.free - 1 }) (granted k.table i 0) in
+      (stock_moved d v (OfJob job Granted) (set v.jobs i (acted Granted x)) u (jobs_left v (OfJob job Granted) (set v.jobs i (acted Granted x)) (jobs r) refl)
+      (one_set d v (stock_of k) (stock_left d b h k l) i s.there (acted Granted x) (told lent_facts j) k.book.stored (k.pool.free - 1) (granted k.table i 0) lent refl (with_row r free))).table
 
   grants : IsReceiving x → 0 < amount k.table.free 0 → IsSafe (granted k.table i 0) → MayGrant v job
   grants r free safe =
@@ -123,16 +129,8 @@ module _ (d : Detail) (b : Base) (h : List (Event (What d))) (k : Kept) (l : Lea
   leaves : MayAsk j → j.facts.granted < limit_of k.config j.facts.queue → 0 < amount k.table.free 0 → IsSafe (granted k.table i 0) → Leaves d b (OfJob job Granted ∷ h) (lent_core k i)
   leaves m lt free safe =
       let r = (can_ask (look d) k.config j x t m).0 in
-      let same = pool_even d b h k l in
-      let some : 0 < length k.table.free = (let e = l.kept.table.table.same_kinds in let n = kind in omega (arith, e, n)) in
-      let left : k.pool.free - 1 ≡ amount (granted k.table i 0).free 0 = ap (λ (n : ℕ). n - 1) same ∙ sym (free_after k.table.free some) in
-      let many : k.book.stored + chained_of x ≡ k.book.stored + chained_of (acted Granted x) = refl in
-      leaves_set d b h k (OfJob job Granted) i k.book.stored (acted Granted x) (told lent_facts j) (record k.pool { free = k.pool.free - 1 }) (granted k.table i 0) k.printers l (may m lt, grants r free safe)
-      (jobs_after r) s.there refl refl
-      (ap (λ (y : ShownJob (What d)). record y { facts = lent_facts y.facts }) t)
-      many (table free) (rows r) refl refl
-      (ap (λ (n : ℕ). record k.pool { free = n }) left)
-      l.kept.printers
+      leaves_row d b h k (OfJob job Granted) i k.book.stored (k.pool.free - 1) (acted Granted x) (told lent_facts j) (granted k.table i 0) k.printers l (may m lt, grants r free safe)
+      (jobs r) s.there refl refl lent refl (with_row r free) l.kept.printers
 
   pub ask_none_free : MayAsk j → j.facts.granted < limit_of k.config j.facts.queue → amount k.table.free 0 ≡ 0 → Asks d b h k job k (Ok Later)
   ask_none_free m lt none = (may m lt, (λ g. let e = table_free k.table v l.kept.table 0 in let n = g.0 in omega (arith, e, n, none)), refl)

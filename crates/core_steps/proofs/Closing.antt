@@ -3,6 +3,7 @@ use Rattle.std.proofs.Common.{inl, inr, ◌≡◌, ◌==◌, ℕ, Bool, true, fa
 use Rattle.std.specs.Prelude.{None, count_by}
 use Rattle.std.specs.List.{list_any}
 use Rattle.std.proofs.lemmas.List.{nil_from_length}
+use Rattle.std.proofs.lemmas.Simd.{map-map}
 use Rattle.spool_history.specs.Base.{Base}
 use Rattle.spool_history.specs.Events.{Event}
 use Rattle.spool_history.specs.Events.Event.{Removed, Closed}
@@ -17,9 +18,9 @@ use Rattle.spool_calls.specs.declared.printer.Printer.{Printer}
 use Rattle.spool_calls.specs.Looks.{Detail, What, size}
 use Rattle.spool_calls.specs.Kept.{Kept, IsKeptOf, Leaves, left_by, kept_printer}
 use Rattle.spool_calls.specs.Calls.{Closes, Rotates}
-use Rattle.core_steps.proofs.Leaving.{jobs_len}
-use Rattle.core_steps.proofs.Stocks.{Stock}
-use Rattle.core_steps.proofs.EndingMany.{EndsTo, leaves_ended, stock_of}
+use Rattle.core_steps.proofs.Leaving.{jobs_len, stock_left, stock_of}
+use Rattle.core_steps.proofs.Stocks.{Stock, stock_of_other}
+use Rattle.core_steps.proofs.EndingMany.{EndsTo, leaves_ended}
 
 -- every job ends
 abbrev pub all_end : ℕ → Bool
@@ -56,10 +57,6 @@ stopped_among printers = count_by (λ (p : Printer). p.stopped) printers
 abbrev pub rotated_core : Kept → Kept
 rotated_core k = record k { reserved = stopped_among k.printers; printers = map with_none k.printers }
 
-map_both : {X Y Z : Type 0} (f : X → Y) (g : Y → Z) (xs : List X) → map g (map f xs) ≡ map (λ x. g (f x)) xs
-map_both f g [] = refl
-map_both {X} {Y} {Z} f g (x ∷ xs) = ap (λ (l : List Z). g (f x) ∷ l) (map_both f g xs)
-
 pub rotate_done : (d : Detail) (b : Base) (h : List (Event (What d))) (k : Kept) → Leaves d b h k → k.book.jobs ≡ [] → Rotates d b h k (rotated_core k)
 rotate_done d b h k l none =
     let c = k.config in
@@ -69,15 +66,16 @@ rotate_done d b h k l none =
     let jobs : v.jobs ≡ [] = nil_from_length v.jobs (omega (arith, n, z)) in
     let same : now c (rotated v) [] ≡ recounted v = keeps (size d) c b h l.legal jobs in
     let is = l.kept in
+    let of = stock_of_other d v (recounted v) (stock_of k) (stock_left d b h k l) in
     let forget : N.Printer (What d) → N.Printer (What d) = λ p. record p { began = None } in
     let count : stopped_among k.printers ≡ (recounted v).reserved =
     ap stopped_among is.printers ∙ sum_map (λ (p : Printer). cond p.stopped 1 0) (kept_printer d) v.printers in
     let printers : map with_none k.printers ≡ map (kept_printer d) (map forget v.printers) =
-    ap (map with_none) is.printers ∙ (map_both (kept_printer d) with_none v.printers ∙ sym (map_both forget (kept_printer d) v.printers)) in
+    ap (map with_none) is.printers ∙ (map-map with_none (kept_printer d) v.printers ∙ sym (map-map (kept_printer d) forget v.printers)) in
     let kept : IsKeptOf d (recounted v) (rotated_core k) = record {
-      book = record { jobs = is.book.jobs; stored = is.book.stored; max_jobs = is.book.max_jobs; pages = is.book.pages; page_size = is.book.page_size };
-      table = record { table = is.table.table; rows = is.table.rows; capacity = is.table.capacity; room = is.table.room };
-      pool = is.pool;
+      book = of.book;
+      table = of.table;
+      pool = of.pool;
       accepted = is.accepted;
       reserved = count;
       printers = printers;

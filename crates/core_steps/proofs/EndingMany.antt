@@ -20,8 +20,8 @@ use Rattle.spool_moves.proofs.Claimed.{table_free}
 use Rattle.spool_calls.specs.declared.printer.Printer.{Printer}
 use Rattle.spool_calls.specs.Looks.{Detail, What, size}
 use Rattle.spool_calls.specs.Kept.{Kept, IsBookOf, Leaves, left_by, look, shown_job, kept_printer}
-use Rattle.core_steps.proofs.Leaving.{accepted_same, jobs_left, leaves_with, reserved_same}
-use Rattle.core_steps.proofs.Stocks.{CanEnd, IsStockOf, MayEnd, Stock, can_end, end_place, ended_job, may_end, one_ends, stock_after, tie_at, with_jobs}
+use Rattle.core_steps.proofs.Leaving.{leaves_stock, stock_left, stock_of}
+use Rattle.core_steps.proofs.Stocks.{CanEnd, IsStockOf, MayEnd, Stock, can_end, end_place, ended_job, len_of, may_end, one_ends, stock_after, tie_at, with_jobs}
 
 -- a job ends where the test says yes to its number
 abbrev pub marked : {C : Type 0} → (ℕ → Bool) → Job C → Job C
@@ -97,46 +97,24 @@ module _ {C : Type 0} (ends : ℕ → Bool) (jobs : List (Job C)) (i : ℕ) (lt 
   chosen e =
       ap (λ (l : List (Job C)). end_place l i) split
       ∙ (ap (λ (y : Job C). cond (is_held (ended_job y)) (set (first ++ x ∷ rest) i (ended_job y)) (remove (first ++ x ∷ rest) i)) (get_or_at first x rest no_job i len)
-      ∙ (by (is_held (ended_job x)) refl ∙ sym (next ∙ ap (λ (y : Job C). first ++ filter is_held (y ∷ map (marked ends) (drop (i + 1) jobs))) same)))
+      ∙ (by (is_held (ended_job x)) ∙ (ap (λ (l : List (Job C)). first ++ l) (sym (filter_cons (is_held (ended_job x)) (ended_job x) (map (marked ends) (drop (i + 1) jobs)) refl))
+      ∙ sym (next ∙ ap (λ (y : Job C). first ++ filter is_held (y ∷ map (marked ends) (drop (i + 1) jobs))) same))))
     where
       same : marked ends x ≡ ended_job x
       same = ap (λ (b : Bool). cond b (record x { ended = true }) x) e
 
-      out : remove (first ++ x ∷ rest) i ≡ first ++ rest
-      out = ap (remove (first ++ x ∷ rest)) (sym len) ∙ remove_at first x rest
-
-      by : (b : Bool) → is_held (ended_job x) ≡ b
-          → cond (is_held (ended_job x)) (set (first ++ x ∷ rest) i (ended_job x)) (remove (first ++ x ∷ rest) i) ≡ first ++ filter is_held (ended_job x ∷ map (marked ends) (drop (i + 1) jobs))
-      by true h =
-          ap (λ (b : Bool). cond b (set (first ++ x ∷ rest) i (ended_job x)) (remove (first ++ x ∷ rest) i)) h
-          ∙ (set_at first x rest (ended_job x) i len ∙ ap (λ (l : List (Job C)). first ++ l) (sym (filter_cons true (ended_job x) (map (marked ends) (drop (i + 1) jobs)) h)))
-      by false h =
-          ap (λ (b : Bool). cond b (set (first ++ x ∷ rest) i (ended_job x)) (remove (first ++ x ∷ rest) i)) h
-          ∙ (out ∙ ap (λ (l : List (Job C)). first ++ l) (sym (filter_cons false (ended_job x) (map (marked ends) (drop (i + 1) jobs)) h)))
+      by : (b : Bool) → cond b (set (first ++ x ∷ rest) i (ended_job x)) (remove (first ++ x ∷ rest) i) ≡ first ++ cond b (ended_job x ∷ rest) rest
+      by true = set_at first x rest (ended_job x) i len
+      by false = ap (remove (first ++ x ∷ rest)) (sym len) ∙ remove_at first x rest
 
 -- before the first step nothing has ended
 pub ends_none : (ends : ℕ → Bool) (s : Stock) (n : ℕ) → n ≡ length s.book.jobs → EndsFrom ends n s s
 ends_none ends s n e d v all is =
-    let a = length-map s.book.jobs (see_job (look d)) in
-    let b = ap length is.book.jobs in
-    let c = length-map v.jobs (shown_job v.config) in
-    let le : length v.jobs ≤ n = omega (arith, a, b, c, e) in
+    let le : length v.jobs ≤ n = (let m = len_of d v s is in omega (arith, m, e)) in
     let jobs : partly ends v.jobs n ≡ v.jobs =
     ap (λ (l : List (Job (What d))). l ++ left_when ends (drop n v.jobs)) (take_all n v.jobs le)
     ∙ (ap (λ (l : List (Job (What d))). v.jobs ++ left_when ends l) (drop_all n v.jobs le) ∙ append-nil v.jobs) in
     subst (λ (l : List (Job (What d))). IsStockOf d (with_jobs v l) s) (sym jobs) is
-
--- as many jobs as there were at the start
-len_of : (d : Detail) (v : State (What d)) (s : Stock) → IsStockOf d v s → length s.book.jobs ≡ length v.jobs
-len_of d v s is =
-    let a = length-map s.book.jobs (see_job (look d)) in
-    let b = ap length is.book.jobs in
-    let c = length-map v.jobs (shown_job v.config) in
-    omega (arith, a, b, c)
-
--- the job at a place of the book has the number of the one at that place of the state
-number_at : (d : Detail) (v : State (What d)) (s : Stock) → IsStockOf d v s → (i : ℕ) → i < length v.jobs → (job_at s.book i).facts.number ≡ (get_or v.jobs i no_job).number
-number_at d v s is i lt = ap (λ (j : ShownJob (What d)). j.facts.number) (tie_at d v s is i lt)
 
 module _ (ends : ℕ → Bool) (s t : Stock) (i : ℕ) (e : EndsFrom ends (i + 1) s t) where
   -- the job of the place, among those that are still there
@@ -153,30 +131,19 @@ module _ (ends : ℕ → Bool) (s t : Stock) (i : ℕ) (e : EndsFrom ends (i + 1
     may : MayEnd v.config (get_or w.jobs i no_job)
     may = subst (λ (y : Job (What d)). MayEnd v.config y) (sym (stands ends v.jobs i lt')) (all (get_or v.jobs i no_job) (has_get v.jobs i no_job lt'))
 
-    pub step_can : CanEnd t i
+    step_can : CanEnd t i
     step_can = can_end d w t (e d v all is) i here may
 
-    pub step_ends : ends (get_or v.jobs i no_job).number ≡ true → IsStockOf d (with_jobs v (partly ends v.jobs i)) (stock_after t i)
-    step_ends hit = subst (λ (l : List (Job (What d))). IsStockOf d (with_jobs v l) (stock_after t i)) (chosen ends v.jobs i lt' hit) (one_ends d w t (e d v all is) i here may)
-
-    pub step_keeps : ends (get_or v.jobs i no_job).number ≡ false → IsStockOf d (with_jobs v (partly ends v.jobs i)) t
-    step_keeps miss = subst (λ (l : List (Job (What d))). IsStockOf d (with_jobs v l) t) (unchosen ends v.jobs i lt' (all (get_or v.jobs i no_job) (has_get v.jobs i no_job lt')).held miss) (e d v all is)
-
     -- the job of the place in the stock has the number of the one in the state
-    pub step_number : (job_at t.book i).facts.number ≡ (get_or v.jobs i no_job).number
-    step_number = number_at d w t (e d v all is) i here ∙ ap (λ (y : Job (What d)). y.number) (stands ends v.jobs i lt')
+    number : ends (job_at t.book i).facts.number ≡ ends (get_or v.jobs i no_job).number
+    number = ap ends (ap (λ (j : ShownJob (What d)). j.facts.number) (tie_at d w t (e d v all is) i here) ∙ ap (λ (y : Job (What d)). y.number) (stands ends v.jobs i lt'))
 
-  -- what the next step asks of the stock
-  pub loop_can : IsStocked s → i < length s.book.jobs → CanEnd t i
-  loop_can some lt = step_can some.0 some.1 some.2 some.3 lt
+    step_ends : ends (job_at t.book i).facts.number ≡ true → IsStockOf d (with_jobs v (partly ends v.jobs i)) (stock_after t i)
+    step_ends hit = subst (λ (l : List (Job (What d))). IsStockOf d (with_jobs v l) (stock_after t i)) (chosen ends v.jobs i lt' (sym number ∙ hit)) (one_ends d w t (e d v all is) i here may)
 
-  -- the step where the job of the place is chosen
-  pub loop_ends : i < length s.book.jobs → ends (job_at t.book i).facts.number ≡ true → EndsFrom ends i s (stock_after t i)
-  loop_ends lt hit d v all is = step_ends d v all is lt (ap ends (sym (step_number d v all is lt)) ∙ hit)
-
-  -- and where it isn't
-  pub loop_keeps : i < length s.book.jobs → ends (job_at t.book i).facts.number ≡ false → EndsFrom ends i s t
-  loop_keeps lt miss d v all is = step_keeps d v all is lt (ap ends (sym (step_number d v all is lt)) ∙ miss)
+    step_keeps : ends (job_at t.book i).facts.number ≡ false → IsStockOf d (with_jobs v (partly ends v.jobs i)) t
+    step_keeps miss =
+        subst (λ (l : List (Job (What d))). IsStockOf d (with_jobs v l) t) (unchosen ends v.jobs i lt' (all (get_or v.jobs i no_job) (has_get v.jobs i no_job lt')).held (sym number ∙ miss)) (e d v all is)
 
 -- how far it is: so many of the first places are still to be looked at
 pub record Ending (ends : ℕ → Bool) (s t : Stock) (i : ℕ) : Type 0 where
@@ -199,38 +166,27 @@ module _ (ends : ℕ → Bool) (s t : Stock) (m : ℕ) (g : Ending ends s t m) w
     less = (let w = g.within in omega (arith, w, lt))
 
     pub ending_can : CanEnd t (m - 1)
-    ending_can = loop_can ends s t (m - 1) from g.some less
+    ending_can = step_can ends s t (m - 1) from g.some.0 g.some.1 g.some.2 g.some.3 less
 
     pub ending_hit : (u : Stock) → ends (job_at t.book (m - 1)).facts.number ≡ true → u ≡ stock_after t (m - 1) → Ending ends s u (m - 1)
     ending_hit u hit e = record {
       some = g.some;
       within = (let w = less in omega (arith, w));
-      ends_from = subst (λ (z : Stock). EndsFrom ends (m - 1) s z) (sym e) (loop_ends ends s t (m - 1) from less hit);
+      ends_from = subst (λ (z : Stock). EndsFrom ends (m - 1) s z) (sym e) (λ d v all is. step_ends ends s t (m - 1) from d v all is less hit);
     }
 
     pub ending_miss : ends (job_at t.book (m - 1)).facts.number ≡ false → Ending ends s t (m - 1)
     ending_miss miss = record {
       some = g.some;
       within = (let w = less in omega (arith, w));
-      ends_from = loop_keeps ends s t (m - 1) from less miss;
+      ends_from = λ d v all is. step_keeps ends s t (m - 1) from d v all is less miss;
     }
-
--- what is kept of a core has such a stock
-abbrev pub stock_of : Kept → Stock
-stock_of k = record { book = k.book; pool = k.pool; table = k.table }
-
-pub stock_left : (d : Detail) (b : Base) (h : List (Event (What d))) (k : Kept) → Leaves d b h k → IsStockOf d (left_by d b h k) (stock_of k)
-stock_left d b h k l = record { book = l.kept.book; table = l.kept.table; pool = l.kept.pool }
 
 pub all_may_end : (d : Detail) (b : Base) (h : List (Event (What d))) (k : Kept) → Leaves d b h k → AllMayEnd (left_by d b h k)
 all_may_end d b h k l x has = may_end (size d) k.config b h x l.legal has
 
 pub stocked : (d : Detail) (b : Base) (h : List (Event (What d))) (k : Kept) → Leaves d b h k → IsStocked (stock_of k)
 stocked d b h k l = (d, left_by d b h k, all_may_end d b h k l, stock_left d b h k l)
-
-map_same : {X Y : Type 0} (f g : X → Y) (xs : List X) → ((x : X) → f x ≡ g x) → map f xs ≡ map g xs
-map_same f g [] e = refl
-map_same {X} {Y} f g (x ∷ xs) e = ap (λ (y : Y). y ∷ map f xs) (e x) ∙ ap (λ (ys : List Y). g x ∷ ys) (map_same f g xs e)
 
 -- an event that ends the jobs of chosen numbers
 pub leaves_ended : (d : Detail) (b : Base) (h : List (Event (What d))) (k : Kept) (e : Event (What d)) (ends : ℕ → Bool) (t : Stock) (printers : List Printer) (closed : Bool)
@@ -239,29 +195,9 @@ pub leaves_ended : (d : Detail) (b : Base) (h : List (Event (What d))) (k : Kept
     → EndsTo ends (stock_of k) t
     → Leaves d b (e ∷ h) (record k { pool = t.pool; book = t.book; table = t.table; printers = printers; closed = closed })
 leaves_ended d b h k e ends t printers closed l may none same prs cl to =
-    let c = k.config in
     let v = left_by d b h k in
-    let left = left_when ends v.jobs in
-    let w = with_jobs v left in
-    let is = to d v (all_may_end d b h k l) (stock_left d b h k l) in
-    let jobs : (after e v).jobs ≡ left = jobs_left v e left (ap (filter is_held) (map_same (change e) (marked ends) v.jobs same)) none in
-    let book : IsBookOf d (after e v) t.book = record {
-      jobs = is.book.jobs ∙ sym (ap (map (shown_job c)) jobs);
-      stored = is.book.stored ∙ sym (ap (λ (js : List (Job (What d))). sum_by (λ (y : Job (What d)). chained_of y) js) jobs);
-      max_jobs = is.book.max_jobs;
-      pages = is.book.pages;
-      page_size = is.book.page_size;
-    } in
-    let table : IsTableOf t.table (after e v) = record {
-      table = is.table.table;
-      rows = is.table.rows ∙ sym (ap (map (row_of c)) jobs);
-      capacity = is.table.capacity;
-      room = is.table.room;
-    } in
-    let pool : t.pool ≡ record k.pool { free = amount t.table.free 0 } =
-    is.pool ∙ (ap (λ (n : ℕ). record { page_size = c.page_size; pages = c.pages; free = n }) (sym (table_free t.table w is.table 0)) ∙ sym (ap (λ (p : Pages). record p { free = amount t.table.free 0 }) l.kept.pool)) in
-    leaves_with d b h k e t.pool t.book t.table k.accepted k.reserved printers closed l may book table pool
-    (l.kept.accepted ∙ accepted_same v e none) (l.kept.reserved ∙ reserved_same v e none) prs cl
+    leaves_stock d b h k e (left_when ends v.jobs) t printers closed l may
+    (ap (λ (f : Job (What d) → Job (What d)). filter is_held (map f v.jobs)) (λ i x. same x i)) none (to d v (all_may_end d b h k l) (stock_left d b h k l)) prs cl
 
 -- an event that ends no job, and leaves each job as it is
 pub leaves_same : (d : Detail) (b : Base) (h : List (Event (What d))) (k : Kept) (e : Event (What d)) (printers : List Printer) (closed : Bool)

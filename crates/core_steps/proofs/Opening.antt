@@ -2,8 +2,8 @@
 use Rattle.std.proofs.Common.{inl, inr, ◌≡◌, ◌==◌, ◌≢◌, ℕ, zero, suc, ◌+◌, ◌-◌, ◌<◌, ◌≤◌, ◌^◌, Bool, true, false, List, [], ◌∷◌, ◌++◌, length, get_or, map, replicate, refl, sym, ◌∙◌, ap, subst, arith}
 use Rattle.std.specs.Prelude.{All, Ok, ◌⊎◌, cond, nat_lt, sum_by}
 use Rattle.std.proofs.lemmas.Bool.Decides.{nat_tests}
-use Rattle.std.proofs.lemmas.List.{length-map, length-replicate, map-append, get_or-map, get_or_default, get_or_past}
-use Rattle.std.proofs.lemmas.List.Sums.{sum_by-cons, sum_by-append}
+use Rattle.std.proofs.lemmas.List.{length-map, length-replicate, map_push, get_or-map, get_or_default, get_or_past}
+use Rattle.std.proofs.lemmas.List.Sums.{sum_by-cons, sum_by_push}
 use Rattle.counts.specs.Amounts.{amount, Fits}
 use Rattle.claims.specs.declared.row.Row.{Row}
 use Rattle.claims.specs.Changes.{opened, new_row_of, HasPlace}
@@ -34,7 +34,8 @@ use Rattle.lpd_values.specs.declared.refusal.Refusal.TheVariants.{TableFull, Acc
 use Rattle.spool_calls.specs.Looks.{Detail, What, size}
 use Rattle.spool_calls.specs.Kept.{Kept, IsBookOf, Leaves, left_by, look, shown_job}
 use Rattle.spool_calls.specs.Calls.{Opens}
-use Rattle.core_steps.proofs.Leaving.{jobs_len, leaves_with, pool_even, tie}
+use Rattle.core_steps.proofs.Leaving.{jobs_len, leaves_with, pool_even, stock_left, stock_moved, stock_of, tie}
+use Rattle.core_steps.proofs.Stocks.{becomes, stock}
 use Rattle.core_steps.proofs.Queues.{takes}
 use Rattle.core_steps.proofs.Ranges.{limit_pages}
 
@@ -113,7 +114,9 @@ module _ (d : Detail) (b : Base) (h : List (Event (What d))) (k : Kept) (l : Lea
       let ev : Event (What d) = Opened number sender queue in
       let new : Job (What d) = new_job number sender queue in
       let t0 = l.kept.table in
-      let jobs : (after ev v).jobs ≡ v.jobs ++ new ∷ [] = ap (λ (js : List (Job (What d))). js ++ new ∷ []) (none_changed (change ev) v.jobs (λ z has. refl) (all_held c b h)) in
+      let js : List (Job (What d)) = v.jobs ++ new ∷ [] in
+      let held = new_held number sender queue in
+      let jobs : (after ev v).jobs ≡ js = ap (λ (js : List (Job (What d))). js ++ new ∷ []) (none_changed (change ev) v.jobs (λ z has. refl) (all_held c b h)) in
       let row = new_row (What d) c number sender queue need e in
       let t = opened k.table number sender queue need in
       let len = kinds queue need e in
@@ -121,32 +124,19 @@ module _ (d : Detail) (b : Base) (h : List (Event (What d))) (k : Kept) (l : Lea
       let a : number ≡ v.accepted + 1 = may.4 in
       let ka = l.kept.accepted in
       let up : All (λ (r : Row). r.number < number) k.table.rows = (λ i d' lt. (let g = greater i d' lt in omega (arith, g, a, ka))) in
-      let table : IsTableOf t (after ev v) = record {
-        table = open_table k.table (new_row_of number sender queue need) t0.table place.1 up (none_held (length need)) lr len;
-        rows = ap (λ (rs : List Row). rs ++ new_row_of number sender queue need ∷ []) t0.rows ∙ (ap (λ (r : Row). map (row_of c) v.jobs ++ r ∷ []) row ∙ (sym (map-append (row_of c) v.jobs (new ∷ [])) ∙ sym (ap (map (row_of c)) jobs)));
-        capacity = t0.capacity;
-        room = t0.room;
-      } in
-      let is = l.kept.book in
-      let book : IsBookOf d (after ev v) (record k.book { jobs = k.book.jobs ++ new_held number sender queue ∷ [] }) = record {
-        jobs = map-append (see_job (look d)) k.book.jobs (new_held number sender queue ∷ [])
-            ∙ (ap (λ (js : List (ShownJob (What d))). js ++ shown_job c new ∷ []) is.jobs ∙ (sym (map-append (shown_job c) v.jobs (new ∷ [])) ∙ sym (ap (map (shown_job c)) jobs)));
-        stored = (
-            let s = sum_by-append (λ (y : Job (What d)). chained_of y) v.jobs (new ∷ []) in
-            let one = sum_by-cons (λ (y : Job (What d)). chained_of y) new [] in
-            let none : chained_of new ≡ 0 = refl in
-            let w = is.stored in
-            let z : chained (after ev v) ≡ sum_by (λ (y : Job (What d)). chained_of y) (v.jobs ++ new ∷ []) = ap (sum_by (λ (y : Job (What d)). chained_of y)) jobs in
-            omega (arith, s, one, none, w, z));
-        max_jobs = is.max_jobs;
-        pages = is.pages;
-        page_size = is.page_size;
-      } in
+      let stored : k.book.stored ≡ sum_by (λ (y : Job (What d)). chained_of y) js =
+      (let s = sum_by_push (λ (y : Job (What d)). chained_of y) v.jobs new in let none : chained_of new ≡ 0 = refl in let w = l.kept.book.stored in omega (arith, s, none, w)) in
+      let of =
+      becomes d v (stock_of k) (stock_left d b h k l) js (k.book.jobs ++ held ∷ []) k.book.stored k.pool.free t
+      (map_push (see_job (look d)) k.book.jobs held ∙ (ap (λ (js : List (ShownJob (What d))). js ++ shown_job c new ∷ []) l.kept.book.jobs ∙ sym (map_push (shown_job c) v.jobs new)))
+      stored (open_table k.table (new_row_of number sender queue need) t0.table place.1 up (none_held (length need)) lr len)
+      (ap (λ (rs : List Row). rs ++ new_row_of number sender queue need ∷ []) t0.rows ∙ (ap (λ (r : Row). map (row_of c) v.jobs ++ r ∷ []) row ∙ sym (map_push (row_of c) v.jobs new)))
+      refl refl (sym (pool_even d b h k l)) in
       let s = sum_by-cons (λ (j : Job (What d)). reserve_of c j.queue) new [] in
       let q = l.kept.reserved in
       let r : k.reserved + reserve_of c queue ≡ v.reserved + sum_by (λ (j : Job (What d)). reserve_of c j.queue) (new ∷ []) = omega (arith, s, q) in
-      leaves_with d b h k ev k.pool (record k.book { jobs = k.book.jobs ++ new_held number sender queue ∷ [] }) t number (k.reserved + reserve_of c queue) k.printers k.closed l may book table
-      (ap (λ (n : ℕ). record k.pool { free = n }) (pool_even d b h k l)) a r l.kept.printers l.kept.closed
+      leaves_with d b h k ev (stock (record k.book { jobs = k.book.jobs ++ held ∷ [] }) k.pool t) number (k.reserved + reserve_of c queue) k.printers k.closed l may
+      (stock_moved d v ev js (stock (record k.book { jobs = k.book.jobs ++ held ∷ [] }) k.pool t) jobs of) a r l.kept.printers l.kept.closed
 
   -- the account has room, as it is kept
   abbrev pub Room : ℕ → Type 0

@@ -1,5 +1,8 @@
 -- How far a job is, in the words of its history and of the book.
 use Rattle.std.proofs.Common.{◌≡◌, Bool, true, false, refl, sym, ◌∙◌, ap}
+use Rattle.std.specs.Prelude.{◌&&◌, cond, not}
+use Rattle.held_jobs.specs.Turns as T
+use Rattle.held_jobs.specs.Turns.{is_ended}
 use Rattle.held_jobs.specs.declared.phase.Phase.{Phase}
 use Rattle.held_jobs.specs.declared.phase.Phase.TheVariants.{Receiving, Received, Ended}
 use Rattle.held_jobs.specs.Jobs.{HeldJob, Facts}
@@ -12,24 +15,31 @@ use Rattle.spool_history.specs.Now.{Job, is_received}
 use Rattle.spool_history.specs.Legal.{IsReceiving, CanAsk}
 use Rattle.spool_calls.specs.Kept.{shown_job, facts_of, phase_of, shelf_of, spots}
 
-receiving_by : {C : Type 0} (x : Job C) (e r : Bool) → x.ended ≡ e → is_received x ≡ r → phase_of x ≡ Receiving → IsReceiving x
-receiving_by x true r ee er s = (let t : Ended ≡ Receiving = rw ee at s in absurd cc)
-receiving_by x false true ee er s = (let t : Received ≡ Receiving = rw (ee, er) at s in absurd cc)
-receiving_by x false false ee er s = (ee, er)
+-- a phase says whether its job has ended, and whether it is received and goes on
+pub ended_is : (e r : Bool) → is_ended (cond e Ended (cond r Received Receiving)) ≡ e
+ended_is true r = refl
+ended_is false true = refl
+ended_is false false = refl
+
+pub goes_is : (e r : Bool) → T.is_received (cond e Ended (cond r Received Receiving)) ≡ (r && not e)
+goes_is true true = refl
+goes_is true false = refl
+goes_is false true = refl
+goes_is false false = refl
+
+receiving_by : (e r : Bool) → cond e Ended (cond r Received Receiving) ≡ Receiving → (e ≡ false) × (r ≡ false)
+receiving_by true r s = absurd cc
+receiving_by false true s = absurd cc
+receiving_by false false s = (refl, refl)
 
 pub receiving : {C : Type 0} (x : Job C) → phase_of x ≡ Receiving → IsReceiving x
-receiving x s = receiving_by x x.ended (is_received x) refl refl s
+receiving x s = receiving_by x.ended (is_received x) s
 
 pub phase_receiving : {C : Type 0} (x : Job C) → IsReceiving x → phase_of x ≡ Receiving
 phase_receiving x r = (let e = r.0 in let i = r.1 in rw (e, i) refl)
 
-ended_by : {C : Type 0} (x : Job C) (e r : Bool) → x.ended ≡ e → is_received x ≡ r → phase_of x ≡ Ended → x.ended ≡ true
-ended_by x true r ee er s = ee
-ended_by x false true ee er s = (let t : Received ≡ Ended = rw (ee, er) at s in absurd cc)
-ended_by x false false ee er s = (let t : Receiving ≡ Ended = rw (ee, er) at s in absurd cc)
-
 pub ended : {C : Type 0} (x : Job C) → phase_of x ≡ Ended → x.ended ≡ true
-ended x s = ended_by x x.ended (is_received x) refl refl s
+ended x s = sym (ended_is x.ended (is_received x)) ∙ ap is_ended s
 
 pub phase_ended : {C : Type 0} (x : Job C) → x.ended ≡ true → phase_of x ≡ Ended
 phase_ended x e = rw e refl

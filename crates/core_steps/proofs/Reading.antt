@@ -1,8 +1,8 @@
 -- What the readers of a core say.
 use Rattle.std.proofs.Common.{◌≡◌, ◌≢◌, ◌==◌, ℕ, suc, ◌+◌, ◌-◌, ◌<◌, ◌≤◌, Bool, true, false, cond, List, [], ◌∷◌, ◌++◌, length, filter, get_or, map, refl, sym, ◌∙◌, ap, arith}
 use Rattle.std.specs.Prelude.{◌&&◌, All, Option, None, Some, count_by, is_some}
-use Rattle.std.proofs.lemmas.List.{length-append, length-map}
-use Rattle.std.proofs.lemmas.List.Sums.{count_by-le-length, sum_by-cons}
+use Rattle.std.proofs.lemmas.List.{length_push}
+use Rattle.std.proofs.lemmas.List.Sums.{count_by-le-length, length-filter}
 use Rattle.lpd_values.specs.declared.refusal.Refusal.TheVariants.{ControlTwice, NotOpen}
 use Rattle.page_pool.specs.Page.{Pages}
 use Rattle.held_jobs.specs.declared.file.DataFile.{DataFile}
@@ -22,7 +22,7 @@ use Rattle.spool_history.specs.Legal.{HasOpen, IsReceiving}
 use Rattle.spool_history.specs.Refusals.{MayControl, RefusesControl}
 use Rattle.spool_laws.specs.Sums.{at_printers}
 use Rattle.spool_laws.proofs.Known.{clash}
-use Rattle.spool_laws.proofs.Adding.{sum_map}
+use Rattle.spool_laws.proofs.Adding.{sum_filter, sum_map, sum_same}
 use Rattle.spool_laws.proofs.Apart.{each_has_a_place}
 use Rattle.spool_moves.specs.Standing.{no_job}
 use Rattle.spool_moves.proofs.Standing.{Stands, has_get, has_here, has_job}
@@ -32,9 +32,9 @@ use Rattle.spool_calls.specs.Looks.{Detail, What, size}
 use Rattle.spool_calls.specs.Kept.{Kept, Leaves, left_by, look, shown_job, kept_out, kept_printer, size_of}
 use Rattle.spool_calls.specs.Readers.{ArePlaced, HasOpenFile, IsOpenFile, stopped_for}
 use Rattle.spool_calls.specs.Telling.{stopped_in}
-use Rattle.core_steps.proofs.Leaving.{Found, none_has, standing, tie}
+use Rattle.core_steps.proofs.Leaving.{Found, none_has, sees}
 use Rattle.core_steps.proofs.Phases.{facts_tie, open_tie}
-use Rattle.core_steps.proofs.Filing.{is_receiving, not_receiving}
+use Rattle.core_steps.proofs.Filing.{files_many, is_receiving, left_of, not_receiving, open_last}
 use Rattle.core_steps.proofs.Printers.{printers_len}
 use Rattle.core_steps.proofs.Starting.{is_stopped_for}
 
@@ -56,43 +56,18 @@ out_kept d p = by p.out
     by None = refl
     by (Some s) = refl
 
-count_agree : {X : Type 0} (p q : X → Bool) (xs : List X) → ((x : X) → p x ≡ q x) → count_by p xs ≡ count_by q xs
-count_agree p q [] e = refl
-count_agree p q (x ∷ xs) e =
-    let a = sum_by-cons (λ y. cond (p y) 1 0) x xs in
-    let b = sum_by-cons (λ y. cond (q y) 1 0) x xs in
-    let ih = count_agree p q xs e in
-    let one : Bool → ℕ = λ t. cond t 1 0 in
-    let here : one (p x) ≡ one (q x) = ap one (e x) in
-    omega (arith, a, b, ih, here)
-
 -- the elements that pass both of two tests, one test after the other
 two_tests : {X : Type 0} (p q : X → Bool) (xs : List X) → length (filter p (filter q xs)) ≡ count_by (λ x. q x && p x) xs
-two_tests p q [] = refl
-two_tests {X} p q (x ∷ xs) = by (q x) (p x) refl refl (two_tests p q xs) (sum_by-cons (λ y. cond (q y && p y) 1 0) x xs)
+two_tests p q xs =
+    length-filter p (filter q xs)
+    ∙ (sum_filter (λ y. cond (p y) 1 0) q xs ∙ sum_same (λ y. cond (q y) (cond (p y) 1 0) 0) (λ y. cond (q y && p y) 1 0) xs (λ y. by (q y) (p y)))
   where
-    both : List X → ℕ
-    both ys = length (filter p (filter q ys))
-
     one : Bool → ℕ
     one t = cond t 1 0
 
-    all : List X → ℕ
-    all ys = count_by (λ y. q y && p y) ys
-
-    by : (a b : Bool) → q x ≡ a → p x ≡ b → both xs ≡ all xs → all (x ∷ xs) ≡ one (q x && p x) + all xs → both (x ∷ xs) ≡ all (x ∷ xs)
-    by true true e f ih sum =
-        let l : both (x ∷ xs) ≡ suc (both xs) = rw (e, f) refl in
-        let one : one (q x && p x) ≡ 1 = rw (e, f) refl in
-        omega (arith, l, one, ih, sum)
-    by true false e f ih sum =
-        let l : both (x ∷ xs) ≡ both xs = rw (e, f) refl in
-        let none : one (q x && p x) ≡ 0 = rw (e, f) refl in
-        omega (arith, l, none, ih, sum)
-    by false b e f ih sum =
-        let l : both (x ∷ xs) ≡ both xs = rw e refl in
-        let none : one (q x && p x) ≡ 0 = rw e refl in
-        omega (arith, l, none, ih, sum)
+    by : (a b : Bool) → cond a (one b) 0 ≡ one (a && b)
+    by true b = refl
+    by false b = refl
 
 lents : (d : Detail) (c : Config) (js : List HeldJob) (xs : List (Job (What d))) → map (see_job (look d)) js ≡ map (shown_job c) xs → lent_among js ≡ count_by (λ (x : Job (What d)). x.lent) xs
 lents d c js xs e =
@@ -101,12 +76,6 @@ lents d c js xs e =
 
 stopped_counted : (q : ℕ) (printers : List Printer) → length (stopped_in q printers) ≡ count_by (is_stopped_for q) printers
 stopped_counted q printers = two_tests (λ (p : Printer). p.stopped) (λ (p : Printer). p.queue == q) printers
-
-last_mapped : {C : Type 0} (z : ℕ) (fs : List (File C)) (y : File C) → length (map {A = File C} {B = DataFile} (size_of z) (fs ++ y ∷ [])) ≡ length fs + 1
-last_mapped {C} z fs y =
-    let a = length-map {A = File C} {B = DataFile} (fs ++ y ∷ []) (size_of z) in
-    let b = length-append fs (y ∷ []) in
-    omega (arith, a, b)
 
 module _ (d : Detail) (b : Base) (h : List (Event (What d))) (k : Kept) (l : Leaves d b h k) where
   abbrev v : State (What d)
@@ -122,7 +91,7 @@ module _ (d : Detail) (b : Base) (h : List (Event (What d))) (k : Kept) (l : Lea
   reads_out : out_among k.printers ≡ at_printers v
   reads_out =
       ap out_among l.kept.printers
-      ∙ (count_map (λ (p : Printer). is_some p.out) (kept_printer d) v.printers ∙ count_agree (λ (p : N.Printer (What d)). is_some (kept_printer d p).out) (λ (p : N.Printer (What d)). is_some p.out) v.printers (out_kept d))
+      ∙ (count_map (λ (p : Printer). is_some p.out) (kept_printer d) v.printers ∙ ap (λ (p : N.Printer (What d) → Bool). count_by p v.printers) (λ i p. out_kept d p i))
 
   pub places_read : (free chain session printer : ℕ) → free ≡ k.pool.free → chain ≡ k.book.stored → session ≡ lent_among k.book.jobs → printer ≡ out_among k.printers → ArePlaced d b h k free chain session printer
   places_read free chain session printer ef ec es ep =
@@ -149,22 +118,18 @@ module _ (d : Detail) (b : Base) (h : List (Event (What d))) (k : Kept) (l : Lea
   abbrev j : HeldJob
   j = job_at k.book i
 
-  s : Stands w.jobs i job
-  s = standing d b h k job i l f
-
-  t : see_job (look d) j ≡ shown_job k.config x
-  t = tie d b h k i l f.there
+  open sees d b h k job i l f use {stands as s, ties, facts as ft}
 
   pub may_control : j.facts.phase ≡ Receiving → j.facts.control ≡ None → MayControl (left_by d b h k) job
   may_control p n =
-      has_job w i job (λ y. IsReceiving y × (y.control ≡ None)) s (is_receiving d b h k l job i f p, sym (ap (λ (g : Facts). g.control) (facts_tie (look d) k.config j x t)) ∙ n)
+      has_job w i job (λ y. IsReceiving y × (y.control ≡ None)) s (is_receiving d b h k l job i f p, sym (ap (λ (g : Facts). g.control) ft) ∙ n)
 
   pub refuses_unreceived : (j.facts.phase ≡ Receiving → ⊥) → RefusesControl (left_by d b h k) job NotOpen
   refuses_unreceived never m = not_receiving d b h k l job i f never (has_here (size d) k.config b h i job IsReceiving l.legal s m)
 
   pub refuses_twice : j.facts.phase ≡ Receiving → (j.facts.control ≡ None → ⊥) → RefusesControl (left_by d b h k) job ControlTwice
   refuses_twice p some =
-      has_job w i job (λ y. IsReceiving y × (y.control ≡ None → ⊥)) s (is_receiving d b h k l job i f p, λ n. some (ap (λ (g : Facts). g.control) (facts_tie (look d) k.config j x t) ∙ n))
+      has_job w i job (λ y. IsReceiving y × (y.control ≡ None → ⊥)) s (is_receiving d b h k l job i f p, λ n. some (ap (λ (g : Facts). g.control) ft ∙ n))
 
   here : HasOpenFile d b h k job → IsReceiving x × (is_open_in x.files ≡ true)
   here m = has_here (size d) k.config b h i job (λ y. IsReceiving y × (is_open_in y.files ≡ true)) l.legal s m
@@ -175,7 +140,7 @@ module _ (d : Detail) (b : Base) (h : List (Event (What d))) (k : Kept) (l : Lea
   pub no_file_open : j.chain.is_open ≡ false → HasOpenFile d b h k job → ⊥
   no_file_open e m =
       let r = here m in
-      clash j.chain.is_open (open_tie (look d) k.config j x t r.0 ∙ r.1) e
+      clash j.chain.is_open (open_tie (look d) k.config j x ties r.0 ∙ r.1) e
 
   -- the open file of a job, with which its data files end
   pub record LastFile : Type 0 where
@@ -184,25 +149,15 @@ module _ (d : Detail) (b : Base) (h : List (Event (What d))) (k : Kept) (l : Lea
 
   pub last_file : j.facts.phase ≡ Receiving → j.chain.is_open ≡ true → LastFile
   last_file p o =
-      let r = is_receiving d b h k l job i f p in
-      let g = last_of x.files (job_opens (size d) k.config b h x l.legal (has_get w.jobs i no_job s.there)) (sym (open_tie (look d) k.config j x t r) ∙ o) in
-      let ft = facts_tie (look d) k.config j x t in
-      let many : length j.facts.files ≡ length g.before + 1 =
-      ap (λ (y : Facts). length y.files) ft ∙ (ap (λ (fs : List (File (What d))). length (map {A = File (What d)} {B = DataFile} (size_of k.config.page_size) fs)) g.is ∙ last_mapped k.config.page_size g.before g.last) in
-      let number : length g.before ≡ length j.facts.files - 1 = omega (arith, many) in
-      let last : last_size j.facts.files ≡ size_of k.config.page_size g.last =
-      ap (λ (y : Facts). last_size y.files) ft ∙ (ap (λ (fs : List (File (What d))). last_size (map {A = File (What d)} {B = DataFile} (size_of k.config.page_size) fs)) g.is ∙ sized g.before g.last) in
-      let pages : length g.last.pages ≡ (last_size j.facts.files).pages = sym (ap (λ (y : DataFile). y.pages) last) in
+      let g = open_last d b h k l job i f p o in
+      let m = files_many d b h k l job i f in
+      let n = ap length g.is ∙ length_push g.before g.last in
+      let pages : length g.last.pages ≡ (last_size j.facts.files).pages = sym (ap (λ (y : DataFile). y.pages) (left_of d b h k l job i f g.before g.last g.is)) in
       record {
-        some = omega (arith, many);
+        some = omega (arith, m, n);
         is = has_job w i job (λ y. IsReceiving y × HasOpen y.files (length j.facts.files - 1) (λ e. length e.pages ≡ (last_size j.facts.files).pages)) s
-            (r, (g.before, g.last, g.is, number, g.open', pages));
+            (is_receiving d b h k l job i f p, (g.before, g.last, g.is, omega (arith, m, n), g.open', pages));
       }
-    where
-      sized : (fs : List (File (What d))) (y : File (What d)) → last_size (map {A = File (What d)} {B = DataFile} (size_of k.config.page_size) (fs ++ y ∷ [])) ≡ size_of k.config.page_size y
-      sized [] y = refl
-      sized (a ∷ []) y = refl
-      sized (a ∷ e ∷ fs) y = sized (e ∷ fs) y
 
 -- there aren't many printers
 pub few_stopped : (d : Detail) (b : Base) (h : List (Event (What d))) (k : Kept) → Leaves d b h k → IsConfig k.config → (q : ℕ) → length (stopped_in q k.printers) ≤ 1024

@@ -47,10 +47,10 @@ use Rattle.spool_calls.specs.declared.answers.Receipt.TheVariants.{Stored, Recei
 use Rattle.spool_calls.specs.Looks.{Detail, What, size}
 use Rattle.spool_calls.specs.Kept.{Kept, Leaves, left_by, look, shown_job, facts_of, size_of}
 use Rattle.spool_calls.specs.Calls.{Ends, Controls}
-use Rattle.core_steps.proofs.Leaving.{Found, standing, tie, none_has, jobs_left, leaves_job, leaves_row, one_stored, pool_even, row_stands}
+use Rattle.core_steps.proofs.Leaving.{Found, held_unended, leaves_act, leaves_row, none_has, one_stored, pool_even, row_stands, sees}
 use Rattle.core_steps.proofs.Ranges.{limit_within}
 use Rattle.core_steps.proofs.Phases.{facts_tie, phase_tie, phase_receiving, open_tie}
-use Rattle.core_steps.proofs.Filing.{is_receiving, left_of}
+use Rattle.core_steps.proofs.Filing.{idle, is_receiving, left_of, open_last}
 
 -- whether all that is awaited is there
 
@@ -65,9 +65,6 @@ whole_closed control fs e =
 names_sized : {C : Type 0} (z : ℕ) (fs : List (File C)) → map {A = DataFile} {B = List ℕ} (λ (g : DataFile). g.name) (map {A = File C} {B = DataFile} (size_of z) fs) ≡ names_in fs
 names_sized z [] = refl
 names_sized z (g ∷ fs) = ap (λ (ns : List (List ℕ)). g.name ∷ ns) (names_sized z fs)
-
-held_unended : {C : Type 0} (x : Job C) → x.ended ≡ false → is_held x ≡ true
-held_unended x e = rw e refl
 
 pub end_none : (d : Detail) (b : Base) (h : List (Event (What d))) (k : Kept) (job : ℕ) → Leaves d b h k → All (λ (j : HeldJob). j.facts.number ≢ job) k.book.jobs → Ends d b h k job k (Err NotOpen)
 end_none d b h k job l none = ((λ m. none_has d b h k job (JobMay (size d) k.config (FileEnded m.0 m.1)) l none m.2), refl)
@@ -102,17 +99,7 @@ module _ (d : Detail) (b : Base) (h : List (Event (What d))) (k : Kept) (l : Lea
   abbrev z : ℕ
   z = k.config.page_size
 
-  s : Stands v.jobs i job
-  s = standing d b h k job i l f
-
-  t : see_job (look d) j ≡ shown_job k.config x
-  t = tie d b h k i l f.there
-
-  has : Has x v.jobs
-  has = has_get v.jobs i no_job s.there
-
-  ft : j.facts ≡ facts_of k.config x
-  ft = facts_tie (look d) k.config j x t
+  open sees d b h k job i l f use {stands as s, ties as t, has, facts as ft}
 
   here : (P : Job (What d) → Type 0) → HasJob v.jobs job P → P x
   here P m = has_here (size d) k.config b h i job P l.legal s m
@@ -140,23 +127,12 @@ module _ (d : Detail) (b : Base) (h : List (Event (What d))) (k : Kept) (l : Lea
       let un : unprinted x y ≡ n = omega (arith, filed, count) in
       let chain = received_chain x y becomes in
       let same = pool_even d b h k l in
-      let w = received_leaves' n y un becomes same in
-      let jobs = jobs_left v (OfJob job act) (set v.jobs i y) (act_set (size d) k.config b h i job act l.legal s (held_unended y goes)) refl in
-      let within = one_stored in
-      leaves_row d b h k (OfJob job act) i (k.book.stored - n) (k.pool.free + n) y j' (given_back (need_ended k.table i 0) i 0 n) k.printers l (may, also) jobs s.there refl refl tie'
-      (omega (arith, chain, un, within)) w l.kept.printers
-    where
-      received_leaves' : (n : ℕ) (y : Job (What d)) → unprinted x y ≡ n → Becomes x y → k.pool.free ≡ amount k.table.free 0 → WithRow k.table (given_back (need_ended k.table i 0) i 0 n) i (row_of k.config y) (k.pool.free + n)
-      received_leaves' n y un becomes same =
-          subst (λ (m : ℕ). WithRow k.table (given_back (need_ended k.table i 0) i 0 n) i (row_of k.config y) (m + n)) (sym same)
-          (subst (λ (m : ℕ). WithRow k.table (given_back (need_ended k.table i 0) i 0 m) i (row_of k.config y) (amount k.table.free 0 + m)) un
-          (Rattle.core_rows.proofs.Received.received_leaves k.config k.table i x y (row_stands d b h k i l s.there) becomes))
-
-      one_stored : chained_of x ≤ k.book.stored
-      one_stored =
-          let e = l.kept.book.stored in
-          let g = Rattle.std.proofs.lemmas.List.Sums.get_or-le-sum_by (λ (q : Job (What d)). chained_of q) v.jobs i no_job s.there in
-          omega (arith, e, g)
+      let w : WithRow k.table (given_back (need_ended k.table i 0) i 0 n) i (row_of k.config y) (k.pool.free + n) =
+      rw same (subst (λ (m : ℕ). WithRow k.table (given_back (need_ended k.table i 0) i 0 m) i (row_of k.config y) (amount k.table.free 0 + m)) un
+      (Rattle.core_rows.proofs.Received.received_leaves k.config k.table i x y (row_stands d b h k i l s.there) becomes)) in
+      let within = one_stored d b h k i l s.there in
+      leaves_row d b h k (OfJob job act) i (k.book.stored - n) (k.pool.free + n) y j' (given_back (need_ended k.table i 0) i 0 n) k.printers l (may, also)
+      (act_set (size d) k.config b h i job act l.legal s (held_unended y goes)) s.there refl refl tie' (omega (arith, chain, un, within)) w l.kept.printers
 
   -- a file ends
 
@@ -177,7 +153,7 @@ module _ (d : Detail) (b : Base) (h : List (Event (What d))) (k : Kept) (l : Lea
           let before = m.2.0 in
           let last = m.2.1 in
           let all = all_is_none_left z (length last.pages) last.count (page_some ranges) m.2.5 in
-          let left = ap (λ (g : DataFile). g.left) (left_of d b h k l job i f (record { octets = []; page_size = 0 }) before last m.2.2) in (
+          let left = ap (λ (g : DataFile). g.left) (left_of d b h k l job i f before last m.2.2) in (
             phase_tie (look d) k.config j x t ∙ phase_receiving x m.0,
             ap (λ (g : Facts). g.lent) ft ∙ m.1,
             open_tie (look d) k.config j x t m.0 ∙ (ap is_open_in m.2.2 ∙ Rattle.spool_laws.proofs.PutOff.open_last before last m.2.4),
@@ -193,8 +169,8 @@ module _ (d : Detail) (b : Base) (h : List (Event (What d))) (k : Kept) (l : Lea
   whole_of : IsConfig k.config → CanEnd j → Whole
   whole_of ranges c =
       let r = is_receiving d b h k l job i f c.0 in
-      let o = last_of x.files opens (sym (open_tie (look d) k.config j x t r) ∙ c.2) in
-      let left = ap (λ (g : DataFile). g.left) (left_of d b h k l job i f (record { octets = []; page_size = 0 }) o.before o.last o.is) in
+      let o = open_last d b h k l job i f c.0 c.2 in
+      let left = ap (λ (g : DataFile). g.left) (left_of d b h k l job i f o.before o.last o.is) in
       let none = c.3 in
       let needed = needed_of_last z o.before o.last x.files o.is (job_pages_needed (size d) k.config b h x (page_some ranges) l.legal has) in
       let all = none_left_is_all z (length o.last.pages) o.last.count (page_some ranges) needed (omega (arith, left, none)) in
@@ -216,11 +192,10 @@ module _ (d : Detail) (b : Base) (h : List (Event (What d))) (k : Kept) (l : Lea
       let not' : is_received (acted act x) ≡ false = ended_whole w.file false ∙ e in
       let may = w.may false (sym not') in
       let r = w.receiving' in
-      let jobs = jobs_left v (OfJob job act) (set v.jobs i (acted act x)) (act_set (size d) k.config b h i job act l.legal s (held_unended (acted act x) r.0)) refl in
       let stored = ap (λ (n : ℕ). k.book.stored + n) (sym (file_ended_chain w.file false x r not')) in (
         w.file,
         may,
-        leaves_job d b h k (OfJob job act) i k.book.stored (acted act x) (closed_file j) l (may, tt) jobs s.there refl refl refl
+        leaves_act d b h k job i k.book.stored act (closed_file j) l s (may, tt) r.0
             (ties_closed (look d) k.config j x w.file r opens not' t) stored (file_ended_row k.config w.file false x r not'),
       )
 
@@ -263,10 +238,9 @@ module _ (d : Detail) (b : Base) (h : List (Event (What d))) (k : Kept) (l : Lea
       let act = Controlled control false in
       let may = may_control control false p none (sym not') in
       let r = is_receiving d b h k l job i f p in
-      let jobs = jobs_left v (OfJob job act) (set v.jobs i (acted act x)) (act_set (size d) k.config b h i job act l.legal s (held_unended (acted act x) r.0)) refl in
       let stored = ap (λ (n : ℕ). k.book.stored + n) (sym (controlled_chain control false x r not')) in (
         may,
-        leaves_job d b h k (OfJob job act) i k.book.stored (acted act x) (told (controlled_facts control) j) l (may, fits) jobs s.there refl refl refl
+        leaves_act d b h k job i k.book.stored act (told (controlled_facts control) j) l s (may, fits) r.0
             (ties_controlled (look d) k.config j x control r not' t) stored (controlled_row k.config control false x r not'),
       )
 
@@ -333,4 +307,4 @@ module _ (d : Detail) (b : Base) (h : List (Event (What d))) (k : Kept) (l : Lea
 
   -- a job that is being received with no file open is idle
   pub control_idle : j.facts.phase ≡ Receiving → j.chain.is_open ≡ false → IsIdle j.chain
-  control_idle p o = (let g = fills (look d) k.config j x (is_receiving d b h k l job i f p) t in record { closed = o; placed = g.places; fresh = g.last })
+  control_idle = idle d b h k l job i f

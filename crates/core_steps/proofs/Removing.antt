@@ -28,7 +28,8 @@ use Rattle.spool_calls.specs.Kept.{Kept, Leaves, left_by}
 use Rattle.spool_calls.specs.Calls.{Removes, removed_by}
 use Rattle.core_steps.proofs.Queues.{takes}
 use Rattle.core_steps.proofs.Stocks.{Stock}
-use Rattle.core_steps.proofs.EndingMany.{EndsTo, stock_of}
+use Rattle.core_steps.proofs.EndingMany.{EndsTo}
+use Rattle.core_steps.proofs.Leaving.{stock_of}
 use Rattle.core_steps.proofs.Closing.{listed, removed_leaves, with_stock}
 use Rattle.core_steps.proofs.Telling.{numbers_left, removal_left}
 
