@@ -46,7 +46,8 @@ use Rattle.job_moves.proofs.Stored.{stored}
 use Rattle.job_moves.proofs.Facts.{is_done}
 use Rattle.job_moves.proofs.Awaiting.{awaits_last}
 use Rattle.job_moves.proofs.Printing.{ties_again, ties_back}
-use Rattle.core_rows.proofs.Tables.{WithoutRow}
+use Rattle.claims.specs.Claims.{Claims}
+use Rattle.core_rows.proofs.Tables.{WithRow, WithoutRow}
 use Rattle.core_rows.proofs.Printing.{again, again_chain, again_leaves, going_held, is_out_of, last_chain, last_leaves, out_holds}
 use Rattle.core_rows.proofs.Printing as R
 use Rattle.core_rows.proofs.Ending.{back_ended_gone, back_gone}
@@ -55,9 +56,9 @@ use Rattle.spool_calls.specs.declared.handed.HandedPage.{HandedPage}
 use Rattle.spool_calls.specs.Looks.{Detail, What, outline_of, size}
 use Rattle.spool_calls.specs.Kept.{Kept, Leaves, kept_out, kept_printer, kept_sheet, last_of, left_by, look, phase_of, shown_job, spots}
 use Rattle.spool_calls.specs.Calls.{Fails, IsOut, Prints}
-use Rattle.core_steps.proofs.Leaving.{Found, closed_free, jobs_left, leaves_out, leaves_set, none_has, one_stored, pool_even, row_stands, standing, tie}
-use Rattle.core_steps.proofs.Phases.{facts_tie, phase_tie}
-use Rattle.core_steps.proofs.Printers.{printer_seen, printer_there, printers_set}
+use Rattle.core_steps.proofs.Leaving.{Found, closed_free, every_counted, leaves_out, leaves_row, none_has, one_stored, pool_even, row_stands, sees}
+use Rattle.core_steps.proofs.Phases.{ended_is, phase_tie}
+use Rattle.core_steps.proofs.Printers.{behind, printer_seen, printer_there, printers_many, printers_set}
 use Rattle.core_steps.proofs.Ranges.{some_counted}
 use Rattle.core_steps.proofs.Handing.{handed_few}
 
@@ -100,11 +101,6 @@ gone_core k i printers = record k {
   printers = printers;
 }
 
-ended_by : {C : Type 0} (x : Job C) (e r : Bool) → x.ended ≡ e → is_received x ≡ r → is_ended (phase_of x) ≡ x.ended
-ended_by x true r ee er = rw ee refl
-ended_by x false true ee er = rw (ee, er) refl
-ended_by x false false ee er = rw (ee, er) refl
-
 said_by : (e d d' : Bool) → (e ≡ false → d' ≡ d) → progress_seen (cond e Ended (cond d Done Going)) ≡ cond e E.Progress.Ended (cond d' E.Progress.Done E.Progress.Going)
 said_by true d d' same = refl
 said_by false true d' same = (let s : d' ≡ true = same refl in sym (ap (λ (b : Bool). cond b E.Progress.Done E.Progress.Going) s))
@@ -119,10 +115,6 @@ first_of zero [] later x e = absurd cc
 first_of zero (y ∷ xs) later x e = cc
 first_of (suc n) [] later x e = absurd cc
 first_of (suc n) (y ∷ xs) later x e = first_of n xs later x e
-
-behind : {X : Type 0} (xs : List X) (d : X) (n : ℕ) → 1 ≤ n → get_or (d ∷ xs) n d ≡ get_or xs (n - 1) d
-behind xs d zero le = absurd (omega arith)
-behind xs d (suc n) le = (let e : suc n - 1 ≡ n = omega arith in ap (λ (m : ℕ). get_or xs m d) (sym e))
 
 module _ (d : Detail) (b : Base) (h : List (Event (What d))) (k : Kept) (l : Leaves d b h k) (p : ℕ) (ip : IsPrinter k.config p) (at : Printer) (ia : at ≡ get_or k.printers (p - 1) at) (page : HandedPage) where
   abbrev v : State (What d)
@@ -143,16 +135,11 @@ module _ (d : Detail) (b : Base) (h : List (Event (What d))) (k : Kept) (l : Lea
   pub out_sheet : IsOutOf at.out page k.config.page_size → OutSheet
   out_sheet i = out_by (printer_at v p).out refl (subst (λ (a : Printer). IsOutOf a.out page k.config.page_size) seen i)
 
-  not_out_by : (o : Option (Sheet (What d))) (sheet : Sheet (What d)) → (printer_at v p).out ≡ o → IsOut d b h k p page sheet → IsOutOf (kept_out d o) page k.config.page_size
-  not_out_by None sheet e i = (let t : None ≡ Some sheet = sym e ∙ i.0 in absurd cc)
-  not_out_by (Some s) sheet e i =
-      let t : Some sheet ≡ Some s = sym i.0 ∙ e in
-      let same : sheet ≡ s = cc in
-      subst (λ (z : Sheet (What d)). IsOutOf (Some (kept_sheet d z)) page k.config.page_size) same (i.1, i.2, i.3, i.4)
-
   -- where it isn't the one that is out, no sheet is
   pub foreign : (IsOutOf at.out page k.config.page_size → ⊥) → (sheet : Sheet (What d)) → IsOut d b h k p page sheet → ⊥
-  foreign never sheet i = never (subst (λ (a : Printer). IsOutOf a.out page k.config.page_size) (sym seen) (not_out_by (printer_at v p).out sheet refl i))
+  foreign never sheet i =
+      never (subst (λ (a : Printer). IsOutOf a.out page k.config.page_size) (sym seen)
+      (subst (λ (o : Option (Sheet (What d))). IsOutOf (kept_out d o) page k.config.page_size) (sym i.0) (i.1, i.2, i.3, i.4)))
 
   -- the job of the page that is out is held
   pub job_there : IsOutOf at.out page k.config.page_size → All (λ (j : HeldJob). j.facts.number ≢ page.job) k.book.jobs → ⊥
@@ -177,14 +164,10 @@ module _ (d : Detail) (b : Base) (h : List (Event (What d))) (k : Kept) (l : Lea
     abbrev j : HeldJob
     j = job_at k.book i
 
+    open sees d b h k page.job i l f use {stands as t, has, ties, facts as ft}
+
     s : Stands v.jobs i o.sheet.job
-    s = (let t = standing d b h k page.job i l f in record { there = t.there; number' = t.number' ∙ o.is.1 })
-
-    has : Has x v.jobs
-    has = has_get v.jobs i no_job s.there
-
-    ties : see_job (look d) j ≡ shown_job k.config x
-    ties = tie d b h k i l f.there
+    s = record { there = t.there; number' = t.number' ∙ o.is.1 }
 
     of : OutOf (queue_of k.config p) o.sheet x
     of = out_here (size d) k.config b h i p o.sheet l.legal ip o.is.0 s
@@ -194,8 +177,7 @@ module _ (d : Detail) (b : Base) (h : List (Event (What d))) (k : Kept) (l : Lea
 
     -- so many pages are in its chain
     pub out_chain : length (every_page j.chain.files) ≡ chained_of x
-    out_chain =
-        stored (look d) k.config j x (back_within (size d) k.config b h x l.legal has) (one_is_out (size d) k.config b h x l.legal has) (handed_within (size d) k.config b h x l.legal has) ties
+    out_chain = every_counted d b h k i l f.there
 
     -- and it holds one more
     pub out_held : pages_held x ≡ chained_of x + 1
@@ -210,7 +192,7 @@ module _ (d : Detail) (b : Base) (h : List (Event (What d))) (k : Kept) (l : Lea
     one_out : 0 < Rattle.spool_laws.specs.Sums.at_printers v
     one_out =
         let n = printer_there d b h k l p ip in
-        let m : length k.printers ≡ length v.printers = ap length l.kept.printers ∙ length-map v.printers (kept_printer d) in
+        let m = printers_many d b h k l in
         let e : is_some (get_or v.printers (p - 1) no_printer).out ≡ true =
         ap (λ (q : N.Printer (What d)). is_some q.out) (sym (behind v.printers no_printer p ip.0)) ∙ ap (λ (q : Option (Sheet (What d))). is_some q) o.is.0 in
         some_counted (λ (q : N.Printer (What d)). is_some q.out) v.printers (p - 1) no_printer (omega (arith, n, m)) e
@@ -237,11 +219,7 @@ module _ (d : Detail) (b : Base) (h : List (Event (What d))) (k : Kept) (l : Lea
         omega (arith, all, one, within, c, e, n, m)
 
     pub back_few : IsConfig k.config → j.facts.back + 1 < 2 ^ 64
-    back_few ranges =
-        let n = handed_few d b h k x ranges l has in
-        let e : j.facts.back ≡ x.back = ap (λ (g : Facts). g.back) (facts_tie (look d) k.config j x ties) in
-        let m = of.handed in
-        omega (arith, n, e, m)
+    back_few ranges = (let n = handed_few d b h k x ranges l has in let e = ap (λ (g : Facts). g.back) ft in let m = of.handed in omega (arith, n, e, m))
 
     -- what is said of it
 
@@ -249,7 +227,7 @@ module _ (d : Detail) (b : Base) (h : List (Event (What d))) (k : Kept) (l : Lea
     within = handed_within (size d) k.config b h x l.legal has
 
     ended_same : is_ended j.facts.phase ≡ x.ended
-    ended_same = ap is_ended (phase_tie (look d) k.config j x ties) ∙ ended_by x x.ended (is_received x) refl refl
+    ended_same = ap is_ended (phase_tie (look d) k.config j x ties) ∙ ended_is x.ended (is_received x)
 
     pub said_is : progress_seen (said_of j) ≡ progress_of x
     said_is =
@@ -284,51 +262,52 @@ module _ (d : Detail) (b : Base) (h : List (Event (What d))) (k : Kept) (l : Lea
     may : (said : Progress) → said_of j ≡ said → May (size d) v (AtPrinter p o.sheet (Printed (progress_seen said)))
     may said e = (ip, (o.is.0, has_said said e))
 
-    -- its page is taken back, and comes no more
-    pub prints_last : said_of j ≡ Going → comes_again j.chain.places j.chain.last ≡ false → Prints d b h k p page (back_core k p i at) (Ok Going)
-    prints_last said none =
-        let g = goes_on said in
-        let e : Event (What d) = AtPrinter p o.sheet (Printed E.Progress.Going) in
-        let y : Job (What d) = turned (Printed E.Progress.Going) x in
-        let out' : R.IsOut x = is_out_of (queue_of k.config p) o.sheet x of g in
-        let a : again x ≡ false = sym (again_same g) ∙ none in
-        let w = last_leaves k.config k.table i x (row_stands d b h k i l s.there) out' a in
-        let c = last_chain x out' a in
-        let many : k.book.stored + chained_of x ≡ k.book.stored + chained_of y = omega (arith, c) in
-        let even = pool_even d b h k l in
-        let left : k.pool.free + 1 ≡ amount (given_back k.table i 0 1).free 0 = (let f = w.free in omega (arith, f, even)) in (
-          o.sheet,
-          o.is,
-          has_said Going said,
-          λ came.
-              leaves_set d b h k e i k.book.stored y (told back_facts j) (record k.pool { free = k.pool.free + 1 }) (given_back k.table i 0 1) (set k.printers (p - 1) (idle_printer at)) l (may Going said)
-              (jobs_left v e (set v.jobs i y) (turn_set (size d) k.config b h i p o.sheet (Printed E.Progress.Going) l.legal s (going_held x (of.received, g))) refl) s.there refl refl
-              (ties_back (look d) k.config j x (g, of.received) of.handed none ties) many w.table w.rows w.capacity w.room
-              (ap (λ (m : ℕ). record k.pool { free = m }) left) (printer_back o.sheet E.Progress.Going),
-        )
+    module _ (said : said_of j ≡ Going) where
+      abbrev y : Job (What d)
+      y = turned (Printed E.Progress.Going) x
 
-    -- it comes again: its chain has it back
-    pub prints_again : said_of j ≡ Going → comes_again j.chain.places j.chain.last ≡ true → Prints d b h k p page (again_core k p i at page) (Ok Going)
-    prints_again said comes =
-        let g = goes_on said in
-        let e : Event (What d) = AtPrinter p o.sheet (Printed E.Progress.Going) in
-        let y : Job (What d) = turned (Printed E.Progress.Going) x in
-        let out' : R.IsOut x = is_out_of (queue_of k.config p) o.sheet x of g in
-        let a : again x ≡ true = sym (again_same g) ∙ comes in
-        let w = again_leaves k.config k.table i x (row_stands d b h k i l s.there) out' a in
-        let c = again_chain x out' a in
-        let many : (k.book.stored + 1) + chained_of x ≡ k.book.stored + chained_of y = omega (arith, c) in
-        let sheet_page : o.sheet.page ≡ of.page.page = ap (λ (z : Sheet (What d)). z.page) of.is in (
-          o.sheet,
-          o.is,
-          has_said Going said,
-          λ came.
-              leaves_set d b h k e i (k.book.stored + 1) y (again_job page.page j) k.pool k.table (set k.printers (p - 1) (idle_printer at)) l (may Going said)
-              (jobs_left v e (set v.jobs i y) (turn_set (size d) k.config b h i p o.sheet (Printed E.Progress.Going) l.legal s (going_held x (of.received, g))) refl) s.there refl refl
-              (ties_again (look d) k.config j x page.page of.page (g, of.received) of.handed comes (first_of x.back (places x) of.later of.page of.left) (came ∙ sheet_page) ties)
-              many w.table w.rows w.capacity w.room
-              (ap (λ (m : ℕ). record k.pool { free = m }) (pool_even d b h k l)) (printer_back o.sheet E.Progress.Going),
-        )
+      g : x.ended ≡ false
+      g = goes_on said
+
+      out' : R.IsOut x
+      out' = is_out_of (queue_of k.config p) o.sheet x of g
+
+      -- what changes is the job with its row
+      leaves_going : (n pages : ℕ) (new : HeldJob) (u : Claims) → see_job (look d) new ≡ shown_job k.config y → n + chained_of x ≡ k.book.stored + chained_of y → WithRow k.table u i (row_of k.config y) pages
+          → Leaves d b (AtPrinter p o.sheet (Printed E.Progress.Going) ∷ h) (record k { pool = record k.pool { free = pages }; book = record (with_job k.book i new) { stored = n }; table = u; printers = set k.printers (p - 1) (idle_printer at) })
+      leaves_going n pages new u tie many w =
+          leaves_row d b h k (AtPrinter p o.sheet (Printed E.Progress.Going)) i n pages y new u (set k.printers (p - 1) (idle_printer at)) l (may Going said)
+          (turn_set (size d) k.config b h i p o.sheet (Printed E.Progress.Going) l.legal s (going_held x (of.received, g))) s.there refl refl tie many w (printer_back o.sheet E.Progress.Going)
+
+      -- its page is taken back, and comes no more
+      pub prints_last : comes_again j.chain.places j.chain.last ≡ false → Prints d b h k p page (back_core k p i at) (Ok Going)
+      prints_last none =
+          let a : again x ≡ false = sym (again_same g) ∙ none in
+          let c = last_chain x out' a in
+          let w = last_leaves k.config k.table i x (row_stands d b h k i l s.there) out' a in (
+            o.sheet,
+            o.is,
+            has_said Going said,
+            λ came.
+                leaves_going k.book.stored (k.pool.free + 1) (told back_facts j) (given_back k.table i 0 1) (ties_back (look d) k.config j x (g, of.received) of.handed none ties) (omega (arith, c))
+                (subst (λ (n : ℕ). WithRow k.table (given_back k.table i 0 1) i (row_of k.config y) (n + 1)) (sym (pool_even d b h k l)) w),
+          )
+
+      -- it comes again: its chain has it back
+      pub prints_again : comes_again j.chain.places j.chain.last ≡ true → Prints d b h k p page (again_core k p i at page) (Ok Going)
+      prints_again comes =
+          let a : again x ≡ true = sym (again_same g) ∙ comes in
+          let c = again_chain x out' a in
+          let w = again_leaves k.config k.table i x (row_stands d b h k i l s.there) out' a in
+          let sheet_page : o.sheet.page ≡ of.page.page = ap (λ (z : Sheet (What d)). z.page) of.is in (
+            o.sheet,
+            o.is,
+            has_said Going said,
+            λ came.
+                leaves_going (k.book.stored + 1) k.pool.free (again_job page.page j) k.table
+                (ties_again (look d) k.config j x page.page of.page (g, of.received) of.handed comes (first_of x.back (places x) of.later of.page of.left) (came ∙ sheet_page) ties) (omega (arith, c))
+                (subst (λ (n : ℕ). WithRow k.table k.table i (row_of k.config y) n) (sym (pool_even d b h k l)) w),
+          )
 
     -- its job is held no more
     gone_leaves : (turn : Turn) (printers : List Printer) → is_held (turned turn x) ≡ false → May (size d) v (AtPrinter p o.sheet turn) → printers ≡ map (kept_printer d) (printers_after (AtPrinter p o.sheet turn) v)
@@ -341,7 +320,7 @@ module _ (d : Detail) (b : Base) (h : List (Event (What d))) (k : Kept) (l : Lea
         let within = one_stored d b h k i l s.there in
         let free : k.pool.free + pages_held x ≡ k.pool.free + n + 1 = omega (arith, c, held) in
         leaves_out d b h k e i (k.book.stored - n) (k.pool.free + n + 1) (closed k.table i) printers l m
-        (jobs_left v e (remove v.jobs i) (turn_gone (size d) k.config b h i p o.sheet turn l.legal s gone) refl) s.there refl refl
+        (turn_gone (size d) k.config b h i p o.sheet turn l.legal s gone) s.there refl refl
         (omega (arith, within, c)) (subst (λ (q : ℕ). WithoutRow k.table (closed k.table i) i q) free (closed_free d b h k i l s.there)) ps
 
     done_ended : (e t : Bool) → cond e Ended (cond t Done Going) ≡ Ended → e ≡ true

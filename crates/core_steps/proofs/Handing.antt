@@ -46,7 +46,7 @@ use Rattle.spool_calls.specs.Looks.{Detail, What, outline_in, outline_of, see, s
 use Rattle.spool_calls.specs.Looks.Detail.{Octets, Outlines}
 use Rattle.spool_calls.specs.Kept.{Kept, Leaves, facts_of, kept_printer, left_by, look, place_of, sheet_out, shown_job, spots}
 use Rattle.spool_calls.specs.Calls.{Hands, sheet_of}
-use Rattle.core_steps.proofs.Leaving.{jobs_left, jobs_len, leaves_set, one_stored, pool_even, row_stands, tie}
+use Rattle.core_steps.proofs.Leaving.{jobs_len, leaves_row, one_stored, pool_even, row_stands, tie}
 use Rattle.core_steps.proofs.Phases.{facts_tie}
 use Rattle.core_steps.proofs.Printers.{next_busy, next_stopped, next_turn, printer_seen, printers_set}
 use Rattle.core_steps.proofs.Ranges.{limit_within}
@@ -67,12 +67,7 @@ first_left [] x d e = absurd cc
 first_left (y ∷ xs) x d e = (omega arith, cc)
 
 same_sheet : {C : Type 0} (a b : Sheet C) → a.job ≡ b.job → a.place ≡ b.place → a.file ≡ b.file → a.number ≡ b.number → a.page ≡ b.page → a ≡ b
-same_sheet {C} a b e1 e2 e3 e4 e5 =
-    ap (λ (n : ℕ). record { job = n; place = a.place; file = a.file; number = a.number; page = a.page }) e1
-    ∙ (ap (λ (n : ℕ). record { job = b.job; place = n; file = a.file; number = a.number; page = a.page }) e2
-    ∙ (ap (λ (n : ℕ). record { job = b.job; place = b.place; file = n; number = a.number; page = a.page }) e3
-    ∙ (ap (λ (n : ℕ). record { job = b.job; place = b.place; file = b.file; number = n; page = a.page }) e4
-    ∙ ap (λ (x : C). record { job = b.job; place = b.place; file = b.file; number = b.number; page = x }) e5)))
+same_sheet a b job place file number page i = record { job = job i; place = place i; file = file i; number = number i; page = page i }
 
 -- what is kept once the next page of the job at a place went to a printer
 abbrev pub handed_core : Kept → (p i : ℕ) → Printer → HandedPage → Kept
@@ -166,33 +161,30 @@ module _ (d : Detail) (b : Base) (h : List (Event (What d))) (k : Kept) (l : Lea
       stands' : Stands v.jobs i x.number
       stands' = record { there = ts.there; number' = refl }
 
-      takes : (at' : PlaceAt x x.handed) → Takes k.config (record { job = x.number; place = x.handed; file = at'.page.file; number = at'.page.number; page = at'.page.page }) x
-      takes at' =
-          hands_job (size d) k.config b h p i (record { job = x.number; place = x.handed; file = at'.page.file; number = at'.page.number; page = at'.page.page }) l.legal ip
-          (turn w (Some i) t ∙ ap (hand_first x.number x.handed) at'.left) stands'
+      at' : PlaceAt x x.handed
+      at' = place_at x x.handed some
+
+      abbrev next' : Sheet (What d)
+      next' = record { job = x.number; place = x.handed; file = at'.page.file; number = at'.page.number; page = at'.page.page }
+
+      next_is : next_page v p ≡ HandsOut next'
+      next_is = turn w (Some i) t ∙ ap (hand_first x.number x.handed) at'.left
 
       can : CanHand x
-      can = record { goes = ts.goes; even = (takes (place_at x x.handed some)).even; some = some }
+      can = record { goes = ts.goes; even = (hands_job (size d) k.config b h p i next' l.legal ip next_is stands').even; some = some }
 
       -- so a page is next for the printer
       pub hands_some : (sheet : Sheet (What d)) × (next_page v p ≡ HandsOut sheet)
-      hands_some =
-          let at' = place_at x x.handed some in (
-            record { job = x.number; place = x.handed; file = at'.page.file; number = at'.page.number; page = at'.page.page },
-            turn w (Some i) t ∙ ap (hand_first x.number x.handed) at'.left,
-          )
+      hands_some = (next', next_is)
 
       pub hand_ready : IsReady j.chain
       hand_ready = can_hand (look d) k.config j x can ties
 
-      pub hand_few : IsConfig k.config → j.facts.handed + 1 < 2 ^ 64
-      hand_few ranges =
-          let n = handed_few d b h k x ranges l (has_get v.jobs i no_job ts.there) in
-          let e : j.facts.handed ≡ x.handed = ap (λ (g : Facts). g.handed) facts' in
-          omega (arith, n, e)
-
       handed_same : j.facts.handed ≡ x.handed
       handed_same = ap (λ (g : Facts). g.handed) facts'
+
+      pub hand_few : IsConfig k.config → j.facts.handed + 1 < 2 ^ 64
+      hand_few ranges = (let n = handed_few d b h k x ranges l (has_get v.jobs i no_job ts.there) in let e = handed_same in omega (arith, n, e))
 
       queue_same : j.facts.queue ≡ x.queue
       queue_same = ap (λ (g : Facts). g.queue) facts'
@@ -210,19 +202,17 @@ module _ (d : Detail) (b : Base) (h : List (Event (What d))) (k : Kept) (l : Lea
           let e : amount (row_at k.table.rows i).need x.queue ≡ amount (row_of k.config x).need x.queue = ap (λ (row : Row). amount row.need x.queue) (row_here k.table v i l.kept.table ts.there) in
           subst (λ (q : ℕ). 0 < amount (row_at k.table.rows i).need q) (sym queue_same) (omega (arith, n, e))
 
-      free_by : (at' : PlaceAt x x.handed) → x.handed ≡ 0 → 0 < amount k.table.free x.queue
-      free_by at' z =
-          printer_free (size d) k.config b h k.table p i (record { job = x.number; place = x.handed; file = at'.page.file; number = at'.page.number; page = at'.page.page }) l.legal l.kept.table ip
-          (turn w (Some i) t ∙ ap (hand_first x.number x.handed) at'.left) stands' z
+      free_by : x.handed ≡ 0 → 0 < amount k.table.free x.queue
+      free_by z = printer_free (size d) k.config b h k.table p i next' l.legal l.kept.table ip next_is stands' z
 
       pub free_here : j.facts.handed ≡ 0 → 0 < amount k.table.free j.facts.queue
-      free_here z = subst (λ (q : ℕ). 0 < amount k.table.free q) (sym queue_same) (free_by (place_at x x.handed some) (sym handed_same ∙ z))
+      free_here z = subst (λ (q : ℕ). 0 < amount k.table.free q) (sym queue_same) (free_by (sym handed_same ∙ z))
 
       -- the row of the job, with its printer
       with_row_by : (first' : Bool) → (x.handed == 0) ≡ first' → WithRow k.table (cond first' (granted k.table i x.queue) k.table) i (row_of k.config (turned Handed x)) (amount k.table.free 0)
       with_row_by true e =
           let z : x.handed ≡ 0 = grind (arith, nat_tests) in
-          first_leaves k.config k.table i x (row_stands d b h k i l ts.there) l.kept.table.capacity ts.queue (ts.goes.1, ts.goes.0) z (free_by (place_at x x.handed some) z)
+          first_leaves k.config k.table i x (row_stands d b h k i l ts.there) l.kept.table.capacity ts.queue (ts.goes.1, ts.goes.0) z (free_by z)
       with_row_by false e =
           let z : 0 < x.handed = grind (arith, nat_tests) in
           later_leaves k.config k.table i x (row_stands d b h k i l ts.there) (ts.goes.1, ts.goes.0) z
@@ -254,25 +244,25 @@ module _ (d : Detail) (b : Base) (h : List (Event (What d))) (k : Kept) (l : Lea
           (number_same page tk) (sym (tk.place' ∙ handed_same)) (sym (tk.file ∙ ap (λ (q : Place). q.file) here)) (sym (tk.number ∙ ap (λ (q : Place). q.number) here)) (sym n.page')))
 
       printer_is : (page : HandedPage) → record { queue = at.queue; out = Some (sheet_out page); began = Some page.job; stopped = false } ≡ kept_printer d (printer_turned (sheet_of d b h k page) Handed (printer_at v p))
-      printer_is page =
-          ap (λ (a : Printer). record { queue = a.queue; out = Some (sheet_out page); began = Some page.job; stopped = false }) seen
-          ∙ (ap (λ (o : Rattle.account.specs.declared.entry.Outline.Outline). record { queue = (printer_at v p).queue; out = Some (record (sheet_out page) { page = o }); began = Some page.job; stopped = false }) (sym (outline_see d page.page.octets))
-          ∙ ap (λ (s : Bool). record (kept_printer d (printer_turned (sheet_of d b h k page) Handed (printer_at v p))) { stopped = s }) (sym w.runs ∙ ap (λ (a : Printer). a.stopped) seen))
+      printer_is page i = record {
+        queue = (seen i).queue;
+        out = Some (record (sheet_out page) { page = sym (outline_see d page.page.octets) i });
+        began = Some page.job;
+        stopped = (sym w.runs ∙ ap (λ (a : Printer). a.stopped) seen) i;
+      }
 
       leaves : (page : HandedPage) → Taken page → Leaves d b (AtPrinter p (sheet_of d b h k page) Handed ∷ h) (handed_core k p i at page)
       leaves page tk =
           let sheet : Sheet (What d) = sheet_of d b h k page in
-          let e : Event (What d) = AtPrinter p sheet Handed in
           let s : Stands v.jobs i sheet.job = record { there = ts.there; number' = number_same page tk } in
           let g : (is_received x ≡ true) × (x.ended ≡ false) = (ts.goes.1, ts.goes.0) in
           let chain = handed_chain x g can.even some in
           let within = one_stored d b h k i l ts.there in
-          let row = with_row in
-          leaves_set d b h k e i (k.book.stored - 1) (turned Handed x) (handed_job j) k.pool (cond (j.facts.handed == 0) (granted k.table i j.facts.queue) k.table)
+          let table = cond (j.facts.handed == 0) (granted k.table i j.facts.queue) k.table in
+          leaves_row d b h k (AtPrinter p sheet Handed) i (k.book.stored - 1) k.pool.free (turned Handed x) (handed_job j) table
           (set k.printers (p - 1) (record { queue = at.queue; out = Some (sheet_out page); began = Some page.job; stopped = false })) l (ip, hands page tk)
-          (jobs_left v e (set v.jobs i (turned Handed x)) (turn_set (size d) k.config b h i p sheet Handed l.legal s (handed_held x g)) refl) ts.there refl refl
-          (ties_handed (look d) k.config j x can ties) (omega (arith, chain, within)) row.table row.rows row.capacity row.room
-          (ap (λ (m : ℕ). record k.pool { free = m }) (pool_even d b h k l ∙ sym row.free))
+          (turn_set (size d) k.config b h i p sheet Handed l.legal s (handed_held x g)) ts.there refl refl
+          (ties_handed (look d) k.config j x can ties) (omega (arith, chain, within)) (subst (λ (n : ℕ). WithRow k.table table i (row_of k.config (turned Handed x)) n) (sym (pool_even d b h k l)) with_row)
           (ap (set k.printers (p - 1)) (printer_is page) ∙ printers_set d b h k l p (printer_turned sheet Handed (printer_at v p)))
 
       pub hands_page : (page : HandedPage) → Taken page → Hands d b h k p (handed_core k p i at page) (next.Handed page)

@@ -15,9 +15,18 @@ use Rattle.spool_calls.specs.declared.printer.Printer.{Printer}
 use Rattle.spool_calls.specs.Looks.{Detail, What}
 use Rattle.spool_calls.specs.Kept.{Kept, Leaves, left_by, kept_printer, kept_out}
 
+-- a list behind one more element
+pub behind : {X : Type 0} (xs : List X) (d : X) (n : ℕ) → 1 ≤ n → get_or (d ∷ xs) n d ≡ get_or xs (n - 1) d
+behind xs d zero le = absurd (omega arith)
+behind xs d (suc n) le = (let e : suc n - 1 ≡ n = omega arith in ap (λ (m : ℕ). get_or xs m d) (sym e))
+
 module _ (d : Detail) (b : Base) (h : List (Event (What d))) (k : Kept) (l : Leaves d b h k) where
+  -- as many as in the history
+  pub printers_many : length k.printers ≡ length (left_by d b h k).printers
+  printers_many = ap length l.kept.printers ∙ length-map (left_by d b h k).printers (kept_printer d)
+
   pub printers_len : length k.printers ≡ printer_count k.config
-  printers_len = ap length l.kept.printers ∙ (length-map (left_by d b h k).printers (kept_printer d) ∙ length_up_to (N.printer_of k.config b h) (printer_count k.config))
+  printers_len = printers_many ∙ length_up_to (N.printer_of k.config b h) (printer_count k.config)
 
   pub printer_there : (p : ℕ) → IsPrinter k.config p → p - 1 < length k.printers
   printer_there p is = (let n = printers_len in let a = is.0 in let e = is.1 in omega (arith, n, a, e))
@@ -28,13 +37,9 @@ module _ (d : Detail) (b : Base) (h : List (Event (What d))) (k : Kept) (l : Lea
       let v = left_by d b h k in
       let n = printer_there p is in
       let one = is.0 in
-      let m : length k.printers ≡ length v.printers = ap length l.kept.printers ∙ length-map v.printers (kept_printer d) in
+      let m = printers_many in
       e ∙ (ap (λ (ps : List Printer). get_or ps (p - 1) at) l.kept.printers
-      ∙ (get_or-map (kept_printer d) v.printers (p - 1) no_printer at (omega (arith, n, m)) ∙ ap (kept_printer d) (shifted v.printers p one)))
-    where
-      shifted : (ps : List (N.Printer (What d))) (q : ℕ) → 1 ≤ q → get_or ps (q - 1) no_printer ≡ get_or (no_printer ∷ ps) q no_printer
-      shifted ps zero le = absurd (omega arith)
-      shifted ps (suc q) le = (let e : suc q - 1 ≡ q = omega arith in ap (λ (n : ℕ). get_or ps n no_printer) e)
+      ∙ (get_or-map (kept_printer d) v.printers (p - 1) no_printer at (omega (arith, n, m)) ∙ ap (kept_printer d) (sym (behind v.printers no_printer p one))))
 
   -- one printer changed in the history is one changed in what is kept
   pub printers_set : (p : ℕ) (x : N.Printer (What d)) → set k.printers (p - 1) (kept_printer d x) ≡ map (kept_printer d) (set (left_by d b h k).printers (p - 1) x)
