@@ -48,6 +48,7 @@ use Rattle.spool_calls.specs.Kept.{Kept, Leaves, facts_of, kept_printer, left_by
 use Rattle.spool_calls.specs.Calls.{Hands, sheet_of}
 use Rattle.core_steps.proofs.Leaving.{jobs_len, leaves_row, one_stored, pool_even, row_stands, tie}
 use Rattle.core_steps.proofs.Phases.{facts_tie}
+use Rattle.core_steps.proofs.Queues.{is_open}
 use Rattle.core_steps.proofs.Printers.{next_busy, next_stopped, next_turn, printer_seen, printers_set}
 use Rattle.core_steps.proofs.Ranges.{limit_within}
 use Rattle.core_steps.proofs.Turning.{Turns, at_place, turn_here, turns}
@@ -100,17 +101,14 @@ module _ (d : Detail) (b : Base) (h : List (Event (What d))) (k : Kept) (l : Lea
   seen : at ≡ kept_printer d (printer_at v p)
   seen = printer_seen d b h k l p at ip ia
 
-  is_open : k.closed ≡ false → v.closed ≡ false
-  is_open e = sym l.kept.closed ∙ e
-
   pub hands_stopped : k.closed ≡ false → at.stopped ≡ true → Hands d b h k p k next.Stopped
-  hands_stopped e s = (next_stopped d v p at (is_open e) seen s, refl)
+  hands_stopped e s = (next_stopped d v p at (is_open d b h k l e) seen s, refl)
 
   pub hands_busy : k.closed ≡ false → at.stopped ≡ false → is_some at.out ≡ true → Hands d b h k p k next.Busy
-  hands_busy e s o = (next_busy d v p at (is_open e) seen s o, refl)
+  hands_busy e s o = (next_busy d v p at (is_open d b h k l e) seen s o, refl)
 
   turn : Waits k at → (r : Option ℕ) → TurnAt (facts_in k.book.jobs) at.queue at.began r → next_page v p ≡ hand_of (at_place k.config v.jobs r)
-  turn w r t = next_turn d v p at (is_open w.open') seen w.runs w.idle ∙ ap hand_of (turn_here d b h k l at.queue at.began r t)
+  turn w r t = next_turn d v p at (is_open d b h k l w.open') seen w.runs w.idle ∙ ap hand_of (turn_here d b h k l at.queue at.began r t)
 
   pub hands_none : Waits k at → TurnAt (facts_in k.book.jobs) at.queue at.began None → Hands d b h k p k next.Nothing
   hands_none w t = (turn w None t, refl)

@@ -1,7 +1,7 @@
 -- A job is accepted.
 use Rattle.std.proofs.Common.{inl, inr, ◌≡◌, ◌==◌, ◌≢◌, ℕ, zero, suc, ◌+◌, ◌-◌, ◌<◌, ◌≤◌, ◌^◌, Bool, true, false, List, [], ◌∷◌, ◌++◌, length, get_or, map, replicate, refl, sym, ◌∙◌, ap, subst, arith}
 use Rattle.std.specs.Prelude.{All, Ok, ◌⊎◌, cond, nat_lt, sum_by}
-use Rattle.std.proofs.lemmas.Bool.Decides.{nat_tests}
+use Rattle.std.proofs.lemmas.Bool.{cases_lt}
 use Rattle.std.proofs.lemmas.List.{length-map, length-replicate, map_push, get_or-map, get_or_default, get_or_past}
 use Rattle.std.proofs.lemmas.List.Sums.{sum_by-cons, sum_by_push}
 use Rattle.counts.specs.Amounts.{amount, Fits}
@@ -165,30 +165,19 @@ claim_at : (c : Config) (q : ℕ) → IsConfig c → (n : ℕ) → (b : Bool) �
 claim_at c q ranges n true lt e = (ranges.queues n no_queue lt).printers_low
 claim_at c q ranges n false lt e = omega arith
 
-printers_at : (qs : List Queue) (n : ℕ) → n < length qs → get_or (map (λ (q : Queue). q.printers) qs) n 0 ≡ (get_or qs n no_queue).printers
-printers_at qs n lt = get_or-map (λ (q : Queue). q.printers) qs n no_queue 0 lt
-
-claim_by : (c : Config) (q : ℕ) → IsConfig c → (n : ℕ) → (n < length c.queues) ⊎ (length c.queues ≤ n) → get_or (map (λ (r : ℕ). cond (r == q) 1 0) (up_to (length c.queues))) n 0 ≤ get_or (map (λ (p : Queue). p.printers) c.queues) n 0
-claim_by c q ranges n (inl lt) =
-    let a = get_up_to {P = ℕ} (λ (r : ℕ). cond (r == q) 1 0) (length c.queues) n 0 lt in
-    let e = claim_at c q ranges n (suc n == q) lt refl in
-    let p = printers_at c.queues n lt in
-    omega (arith, a, e, p)
-claim_by c q ranges n (inr ge) =
-    let m = length_up_to {P = ℕ} (λ (r : ℕ). cond (r == q) 1 0) (length c.queues) in
-    let z = get_or_past (map {A = ℕ} {B = ℕ} (λ (r : ℕ). cond (r == q) 1 0) (up_to (length c.queues))) n 0 (omega (arith, m, ge)) in
-    omega (arith, z)
-
-split : (n m : ℕ) → (n < m) ⊎ (m ≤ n)
-split n m = split_by (nat_lt n m) refl
-  where
-    split_by : (b : Bool) → nat_lt n m ≡ b → (n < m) ⊎ (m ≤ n)
-    split_by true e = inl (grind (arith, nat_tests))
-    split_by false e = inr (grind (arith, nat_tests))
-
 pub claim_fits : (c : Config) (q : ℕ) → IsConfig c → Fits (amounts c (limit_of c q) q 1) (amount (capacity c))
 claim_fits c q ranges zero = limit_pages c q ranges
-claim_fits c q ranges (suc n) = claim_by c q ranges n (split n (length c.queues))
+claim_fits c q ranges (suc n) = elim (cases_lt n (length c.queues)) [
+  | inl lt ↦
+      let a = get_up_to {P = ℕ} (λ (r : ℕ). cond (r == q) 1 0) (length c.queues) n 0 lt in
+      let e = claim_at c q ranges n (suc n == q) lt refl in
+      let p = get_or-map (λ (q : Queue). q.printers) c.queues n no_queue 0 lt in
+      omega (arith, a, e, p)
+  | inr ge ↦
+      let m = length_up_to {P = ℕ} (λ (r : ℕ). cond (r == q) 1 0) (length c.queues) in
+      let z = get_or_past (map {A = ℕ} {B = ℕ} (λ (r : ℕ). cond (r == q) 1 0) (up_to (length c.queues))) n 0 (omega (arith, m, ge)) in
+      omega (arith, z)
+]
 
 module _ (d : Detail) (b : Base) (h : List (Event (What d))) (k : Kept) (l : Leaves d b h k) where
   -- no job of the book has the next number

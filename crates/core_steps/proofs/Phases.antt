@@ -32,6 +32,12 @@ receiving_by true r s = absurd cc
 receiving_by false true s = absurd cc
 receiving_by false false s = (refl, refl)
 
+pub received_is : (e r b : Bool) → (T.is_received (cond e Ended (cond r Received Receiving)) && b) ≡ (r && (not e && b))
+received_is true true b = refl
+received_is true false b = refl
+received_is false true b = refl
+received_is false false b = refl
+
 pub receiving : {C : Type 0} (x : Job C) → phase_of x ≡ Receiving → IsReceiving x
 receiving x s = receiving_by x.ended (is_received x) s
 

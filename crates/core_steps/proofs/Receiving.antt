@@ -2,6 +2,7 @@
 use Rattle.std.proofs.Common.{◌≡◌, ◌≢◌, ℕ, ◌+◌, ◌-◌, ◌≤◌, Bool, true, false, List, [], ◌∷◌, length, get_or, set, map, refl, sym, ◌∙◌, ap, subst, arith}
 use Rattle.std.specs.Prelude.{All, Ok, Err, Option, Some, None, IsSome, ◌&&◌, not, is_some}
 use Rattle.std.specs.List.{list_all}
+use Rattle.std.proofs.lemmas.Simd.{map-map}
 use Rattle.counts.specs.Amounts.{amount}
 use Rattle.claims.specs.declared.row.Row.{Row}
 use Rattle.claims.specs.Claims.{row_at}
@@ -62,10 +63,6 @@ whole_closed : {C : Type 0} (control : Option Contents) (fs : List (File C)) →
 whole_closed control fs e =
     ap (λ (o : Bool). is_some control && (not o && list_all (λ name. is_among name (names_in fs)) (prints_in control))) e ∙ sym (has_all_is (names_in fs) control)
 
-names_sized : {C : Type 0} (z : ℕ) (fs : List (File C)) → map {A = DataFile} {B = List ℕ} (λ (g : DataFile). g.name) (map {A = File C} {B = DataFile} (size_of z) fs) ≡ names_in fs
-names_sized z [] = refl
-names_sized z (g ∷ fs) = ap (λ (ns : List (List ℕ)). g.name ∷ ns) (names_sized z fs)
-
 pub end_none : (d : Detail) (b : Base) (h : List (Event (What d))) (k : Kept) (job : ℕ) → Leaves d b h k → All (λ (j : HeldJob). j.facts.number ≢ job) k.book.jobs → Ends d b h k job k (Err NotOpen)
 end_none d b h k job l none = ((λ m. none_has d b h k job (JobMay (size d) k.config (FileEnded m.0 m.1)) l none m.2), refl)
 
@@ -115,7 +112,7 @@ module _ (d : Detail) (b : Base) (h : List (Event (What d))) (k : Kept) (l : Lea
 
   facts_all : has_prints j.facts ≡ has_all (names_in x.files) x.control
   facts_all =
-      ap has_prints ft ∙ ap (λ (ns : List (List ℕ)). has_all ns x.control) (names_sized z x.files)
+      ap has_prints ft ∙ ap (λ (ns : List (List ℕ)). has_all ns x.control) (map-map (λ (g : DataFile). g.name) (size_of z) x.files)
 
   -- what becomes received
   received_leaves : (act : Act (What d)) (j' : HeldJob) (n : ℕ) → IsReceiving x → HasJob v.jobs job (JobMay (size d) k.config act) → Becomes x (acted act x) → (acted act x).ended ≡ false
@@ -230,7 +227,7 @@ module _ (d : Detail) (b : Base) (h : List (Event (What d))) (k : Kept) (l : Lea
   control_whole control whole p o =
       let r = is_receiving d b h k l job i f p in
       whole_closed (Some control) x.files (sym (open_tie (look d) k.config j x t r) ∙ o)
-      ∙ ap (λ (ns : List (List ℕ)). has_all ns (Some control)) (sym (ap (λ (g : Facts). file_names g) ft ∙ names_sized z x.files))
+      ∙ ap (λ (ns : List (List ℕ)). has_all ns (Some control)) (sym (ap (λ (g : Facts). file_names g) ft ∙ map-map (λ (g : DataFile). g.name) (size_of z) x.files))
 
   control_kept : (control : Contents) → IsControl control → j.facts.phase ≡ Receiving → j.facts.control ≡ None → is_received (acted (Controlled control false) x) ≡ false
       → Controls d b h k job control (record k { book = with_job k.book i (told (controlled_facts control) j) }) (Ok Stored)

@@ -1,9 +1,14 @@
 -- Jobs are removed.
-use Rattle.std.proofs.Common.{inl, inr, ◌⊎◌, ◌≡◌, ◌≢◌, ◌==◌, ℕ, zero, suc, ◌+◌, ◌<◌, Bool, true, false, cond, List, [], ◌∷◌, length, map, filter, take, refl, sym, ◌∙◌, ap, subst, arith}
-use Rattle.std.specs.Prelude.{◌&&◌, not, Ok}
+use Rattle.std.proofs.Common.{inl, inr, ◌⊎◌, ◌≡◌, ◌≢◌, ◌==◌, ℕ, ◌+◌, ◌<◌, Bool, true, false, List, [], ◌∷◌, length, get_or, map, filter, take, refl, sym, ◌∙◌, ap, subst, arith}
+use Rattle.std.specs.Prelude.{◌&&◌, not, All, AllPairs, Contains, Ok}
 use Rattle.std.specs.List.{AllByRecursion, list_any}
 use Rattle.std.specs.List.Sorted.{IsStrictlyIncreasing}
-use Rattle.std.proofs.lemmas.Bool.{and_parts}
+use Rattle.std.proofs.lemmas.Bool.{and_parts, not-true}
+use Rattle.std.proofs.lemmas.List.{get_or-map, length-map}
+use Rattle.std.proofs.lemmas.List.Elements.{All-contains_itself, All-filter, All-map, All-take, filter_passes, recursion_from_All}
+use Rattle.std.proofs.lemmas.List.Kept.{AllPairs-cons, AllPairs-filter}
+use Rattle.spool_moves.specs.Standing.{no_job}
+use Rattle.spool_moves.proofs.Standing.{has_get}
 use Rattle.std.proofs.lemmas.Bool.Decides.{nat_tests}
 use Rattle.lpd_values.specs.Choice as K
 use Rattle.lpd_values.specs.Texts.{removal_text}
@@ -26,7 +31,7 @@ use Rattle.spool_laws.proofs.Joined.{contained as contains_has}
 use Rattle.spool_calls.specs.Looks.{Detail, What, size}
 use Rattle.spool_calls.specs.Kept.{Kept, Leaves, left_by}
 use Rattle.spool_calls.specs.Calls.{Removes, removed_by}
-use Rattle.core_steps.proofs.Queues.{takes}
+use Rattle.core_steps.proofs.Queues.{is_open, takes}
 use Rattle.core_steps.proofs.Stocks.{Stock}
 use Rattle.core_steps.proofs.EndingMany.{EndsTo}
 use Rattle.core_steps.proofs.Leaving.{stock_of}
@@ -35,105 +40,63 @@ use Rattle.core_steps.proofs.Telling.{numbers_left, removal_left}
 
 -- the jobs that are chosen
 
--- what passes a test is in the list, and passes it
-has_by : {X : Type 0} (p : X → Bool) (y x : X) (xs : List X) (b : Bool) → p x ≡ b → Has y (filter p (x ∷ xs)) → (Has y (filter p xs) → Has y xs × (p y ≡ true)) → Has y (x ∷ xs) × (p y ≡ true)
-has_by {X} p y x xs true e has ih =
-    let here : (x ≡ y) ⊎ Has y (filter p xs) = subst (λ (t : Bool). Has y (cond t (x ∷ filter p xs) (filter p xs))) e has in
-    elim here [ inl s ↦ (inl s, ap p (sym s) ∙ e) | inr t ↦ let r = ih t in (inr r.0, r.1) ]
-has_by {X} p y x xs false e has ih = (let r = ih (subst (λ (t : Bool). Has y (cond t (x ∷ filter p xs) (filter p xs))) e has) in (inr r.0, r.1))
+-- the first of a list is no pair
+first_pairs : {X : Type 0} (R : X → X → Type 0) (xs : List X) → AllPairs R (take 1 xs)
+first_pairs R [] i j d lt within = absurd (omega arith)
+first_pairs R (x ∷ xs) i j d lt within = absurd (omega arith)
 
-has_filter : {X : Type 0} (p : X → Bool) (y : X) (xs : List X) → Has y (filter p xs) → Has y xs × (p y ≡ true)
-has_filter p y [] has = absurd has
-has_filter p y (x ∷ xs) has = has_by p y x xs (p x) refl has (has_filter p y xs)
+abbrev Rise : {C : Type 0} → List (Job C) → Type 0
+Rise {C} jobs = AllPairs (λ (x y : Job C). x.number < y.number) jobs
 
--- what is among the first of them is in the list
-has_take : {X : Type 0} (n : ℕ) (y : X) (xs : List X) → Has y (take n xs) → Has y xs
-has_take zero y xs has = absurd has
-has_take (suc n) y [] has = absurd has
-has_take (suc n) y (x ∷ xs) has = elim has [ inl s ↦ inl s | inr t ↦ inr (has_take n y xs t) ]
-
-rises_by : {X : Type 0} (name : X → ℕ) (p : X → Bool) (x : X) (xs : List X) (b : Bool) → p x ≡ b → ((y : X) → Has y xs → name x < name y) → Rises name (filter p xs) → Rises name (filter p (x ∷ xs))
-rises_by {X} name p x xs true e lt ih =
-    subst (λ (t : Bool). Rises name (cond t (x ∷ filter p xs) (filter p xs))) (sym e) (λ y has. lt y (has_filter p y xs has).0, ih)
-rises_by {X} name p x xs false e lt ih = subst (λ (t : Bool). Rises name (cond t (x ∷ filter p xs) (filter p xs))) (sym e) ih
-
--- a rising list rises still, once some are left out
-rises_filter : {X : Type 0} (name : X → ℕ) (p : X → Bool) (xs : List X) → Rises name xs → Rises name (filter p xs)
-rises_filter name p [] r = tt
-rises_filter name p (x ∷ xs) r = rises_by name p x xs (p x) refl r.0 (rises_filter name p xs r.1)
-
--- and so do the first of it
-rises_take : {X : Type 0} (name : X → ℕ) (n : ℕ) (xs : List X) → Rises name xs → Rises name (take n xs)
-rises_take name zero xs r = tt
-rises_take name (suc n) [] r = tt
-rises_take name (suc n) (x ∷ xs) r = (λ y has. r.0 y (has_take n y xs has), rises_take name n xs r.1)
+rise : {C : Type 0} (jobs : List (Job C)) → Rises (λ (x : Job C). x.number) jobs → Rise jobs
+rise [] r = λ i j d lt within. absurd (omega arith)
+rise {C} (x ∷ jobs) r = AllPairs-cons (λ (x y : Job C). x.number < y.number) x jobs (λ k d lt. r.0 (get_or jobs k d) (has_get jobs k d lt)) (rise jobs r.1)
 
 -- the numbers of such a list rise
-increasing : {X : Type 0} (name : X → ℕ) (xs : List X) → Rises name xs → IsStrictlyIncreasing (map name xs)
-increasing name [] r k lt = absurd (omega arith)
-increasing name (x ∷ []) r k lt = absurd (omega arith)
-increasing name (x ∷ y ∷ xs) r zero lt = r.0 y (inl refl)
-increasing name (x ∷ y ∷ xs) r (suc k) lt =
-    let e : suc k + 1 ≡ suc (k + 1) = omega arith in
-    let ih = increasing name (y ∷ xs) r.1 k (omega arith) in
-    rw e ih
+increasing : {C : Type 0} (jobs : List (Job C)) → Rise jobs → IsStrictlyIncreasing (map {A = Job C} {B = ℕ} (λ x. x.number) jobs)
+increasing {C} jobs r k lt =
+    let number : Job C → ℕ = λ x. x.number in
+    let n = length-map jobs number in
+    let a = get_or-map number jobs k no_job 0 (omega (arith, n, lt)) in
+    let b = get_or-map number jobs (k + 1) no_job 0 (omega (arith, n, lt)) in
+    let c = r k (k + 1) no_job (omega arith) (omega (arith, n, lt)) in
+    omega (arith, a, b, c)
 
 -- some of the jobs of a state that are listed for a queue, in their order
 record Chosen {C : Type 0} (q : ℕ) (jobs some : List (Job C)) : Type 0 where
-  rises : Rises (λ (x : Job C). x.number) some
-  each : (x : Job C) → Has x some → Has x jobs × (K.is_listed q (told_of x) ≡ true)
+  rises : Rise some
+  each : All (λ (x : Job C). Contains jobs x × (K.is_listed q (told_of x) ≡ true)) some
 
 -- those that pass a test which the listed ones alone pass
-some_of : {C : Type 0} (q : ℕ) (jobs : List (Job C)) (p : Job C → Bool) → ((x : Job C) → p x ≡ true → K.is_listed q (told_of x) ≡ true) → Rises (λ (x : Job C). x.number) jobs → Chosen q jobs (filter p jobs)
+some_of : {C : Type 0} (q : ℕ) (jobs : List (Job C)) (p : Job C → Bool) → ((x : Job C) → p x ≡ true → K.is_listed q (told_of x) ≡ true) → Rise jobs → Chosen q jobs (filter p jobs)
 some_of {C} q jobs p passes r = record {
-  rises = rises_filter (λ (x : Job C). x.number) p jobs r;
-  each = λ x has. let h = has_filter p x jobs has in (h.0, passes x h.1);
-}
-
--- some of such jobs
-some_filter : {C : Type 0} (q : ℕ) (jobs some : List (Job C)) (p : Job C → Bool) → Chosen q jobs some → Chosen q jobs (filter p some)
-some_filter {C} q jobs some p s = record {
-  rises = rises_filter (λ (x : Job C). x.number) p some s.rises;
-  each = λ x has. s.each x (has_filter p x some has).0;
-}
-
--- the first of such jobs
-some_take : {C : Type 0} (q n : ℕ) (jobs some : List (Job C)) → Chosen q jobs some → Chosen q jobs (take n some)
-some_take {C} q n jobs some s = record {
-  rises = rises_take (λ (x : Job C). x.number) n some s.rises;
-  each = λ x has. s.each x (has_take n x some has);
+  rises = AllPairs-filter (λ (x y : Job C). x.number < y.number) p jobs r;
+  each = λ i d lt. (All-filter p (Contains jobs) jobs (All-contains_itself jobs) i d lt, passes (get_or (filter p jobs) i d) (filter_passes p jobs i d lt));
 }
 
 -- those that a removal takes are such
-some_chosen : {C : Type 0} (v : State C) (q : ℕ) (agent : List ℕ) (list : List (List ℕ)) → Rises (λ (x : Job C). x.number) v.jobs → Chosen q v.jobs (H.chosen v q agent list)
+some_chosen : {C : Type 0} (v : State C) (q : ℕ) (agent : List ℕ) (list : List (List ℕ)) → Rise v.jobs → Chosen q v.jobs (H.chosen v q agent list)
 some_chosen {C} v q agent [] r =
     let active : Job C → Bool = λ x. K.is_active q (told_of x) in
-    some_filter q v.jobs (K.active told_of q v.jobs) (λ x. K.may_remove agent (told_of x))
-    (some_take q 1 v.jobs (filter active v.jobs) (some_of q v.jobs active (λ x e. (and_parts (K.is_listed q (told_of x)) (not (x.handed == 0)) e).0) r))
+    let s = some_of q v.jobs active (λ x e. (and_parts (K.is_listed q (told_of x)) (not (x.handed == 0)) e).0) r in
+    let may : Job C → Bool = λ x. K.may_remove agent (told_of x) in
+    let P : Job C → Type 0 = λ x. Contains v.jobs x × (K.is_listed q (told_of x) ≡ true) in
+    let first = take 1 (filter active v.jobs) in
+    record {
+      rises = AllPairs-filter (λ (x y : Job C). x.number < y.number) may first (first_pairs (λ (x y : Job C). x.number < y.number) (filter active v.jobs));
+      each = All-filter may P first (All-take P 1 (filter active v.jobs) s.each);
+    }
 some_chosen {C} v q agent (word ∷ words) r =
     let picked : Job C → Bool = λ x. K.is_picked q agent (word ∷ words) (told_of x) in
     some_of q v.jobs picked (λ x e. (and_parts (K.is_listed q (told_of x)) (K.may_remove agent (told_of x) && list_any (K.picks agent (told_of x)) (word ∷ words)) e).0) r
 
 -- a listed job may be removed
-removable_by : {C : Type 0} (q : ℕ) (x : Job C) (a b c : Bool) → (x.queue == q) ≡ a → is_received x ≡ b → x.ended ≡ c → K.is_listed q (told_of x) ≡ true → MayBeRemoved q x
-removable_by q x true true false ea eb ec e = (let same : x.queue ≡ q = grind (arith, nat_tests) in same, eb, ec)
-removable_by q x false b c ea eb ec e = absurd (clash (K.is_listed q (told_of x)) e (rw ea refl))
-removable_by q x true false c ea eb ec e = absurd (clash (K.is_listed q (told_of x)) e (rw (ea, eb) refl))
-removable_by q x true true true ea eb ec e = absurd (clash (K.is_listed q (told_of x)) e (rw (ea, eb, ec) refl))
-
--- each of them may be removed
-each_removable : {C : Type 0} (q : ℕ) (jobs some : List (Job C)) → ((x : Job C) → Has x some → Has x jobs × (K.is_listed q (told_of x) ≡ true)) → AllByRecursion (λ j. HasJob jobs j (MayBeRemoved q)) (map {A = Job C} {B = ℕ} (λ x. x.number) some)
-each_removable q jobs [] each = tt
-each_removable {C} q jobs (x ∷ some) each =
-    let e = each x (inl refl) in (
-      record {
-        job = x;
-        there = contains_has x jobs e.0;
-        number = refl;
-        is = removable_by q x (x.queue == q) (is_received x) x.ended refl refl refl e.1;
-      },
-      each_removable q jobs some (λ y has. each y (inr has)),
-    )
+removable : {C : Type 0} (q : ℕ) (x : Job C) → K.is_listed q (told_of x) ≡ true → MayBeRemoved q x
+removable q x e =
+    let a = and_parts (x.queue == q) (is_received x && not x.ended) e in
+    let b = and_parts (is_received x) (not x.ended) a.1 in
+    let same : x.queue ≡ q = (let z = a.0 in grind (arith, nat_tests)) in
+    (same, b.0, not-true x.ended b.1)
 
 -- there is a number
 some_numbers : (numbers : List ℕ) → numbers ≢ [] → 0 < length numbers
@@ -144,19 +107,20 @@ module _ (d : Detail) (b : Base) (h : List (Event (What d))) (k : Kept) (l : Lea
   abbrev v : State (What d)
   v = left_by d b h k
 
-  open_now : k.closed ≡ false → v.closed ≡ false
-  open_now c = sym l.kept.closed ∙ c
-
   -- what a removal takes may be removed
   may_remove : (agent : List ℕ) (list : List (List ℕ)) (q : ℕ) → k.closed ≡ false → IsQueue k.config q → removed_by d b h k q agent list ≢ []
       → May (size d) v (Removed q (removed_by d b h k q agent list))
   may_remove agent list q c is ne =
-      let s = some_chosen v q agent list (rising_jobs (size d) k.config b h l.legal) in (
-        open_now c,
+      let number : Job (What d) → ℕ = λ x. x.number in
+      let jobs = H.chosen v q agent list in
+      let s = some_chosen v q agent list (rise v.jobs (rising_jobs (size d) k.config b h l.legal)) in
+      let P : ℕ → Type 0 = λ n. HasJob v.jobs n (MayBeRemoved q) in (
+        is_open d b h k l c,
         is,
         some_numbers (removed_by d b h k q agent list) ne,
-        increasing (λ (x : Job (What d)). x.number) (H.chosen v q agent list) s.rises,
-        each_removable q v.jobs (H.chosen v q agent list) s.each,
+        increasing jobs s.rises,
+        recursion_from_All P (map number jobs) (All-map P number jobs (λ i e lt.
+            record { job = get_or jobs i e; there = (s.each i e lt).0; number = refl; is = removable q (get_or jobs i e) (s.each i e lt).1 })),
       )
 
   module _ (name agent : List ℕ) (list : List (List ℕ)) (q : ℕ) (c : k.closed ≡ false) (e : queue_named k.config name ≡ q) (is : IsQueue k.config q) where

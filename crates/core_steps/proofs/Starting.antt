@@ -2,7 +2,11 @@
 use Rattle.std.proofs.Common.{inl, inr, ◌≡◌, ◌≢◌, ◌==◌, ℕ, zero, suc, ◌+◌, ◌<◌, ◌≤◌, Bool, true, false, cond, List, [], ◌∷◌, ◌++◌, length, get_or, set, take, drop, map, refl, sym, ◌∙◌, ap, subst, arith}
 use Rattle.std.specs.Prelude.{◌&&◌, ◌||◌, ◌⊎◌, Ok, None}
 use Rattle.std.specs.List.{list_any}
-use Rattle.std.proofs.lemmas.List.{append-nil, append_assoc, drop_all, drop_more, get_or-map, get_or_at, length-append, length-drop, length-map, length-take-le, map_more, set_at, take_all}
+use Rattle.std.proofs.lemmas.Bool.{and_parts, cond_both, false_from_ne_true}
+use Rattle.std.proofs.lemmas.List.{append-nil, drop_all, get_or-map, get_or_default, length-append, length-drop, length-map, length-take, take_all}
+use Rattle.std.proofs.lemmas.List.Edits.{map_over_more}
+use Rattle.std.proofs.lemmas.List.Folds.{Any-from_list_any, list_any_at, map_fixed}
+use Rattle.std.proofs.lemmas.Simd.{map-map}
 use Rattle.std.proofs.lemmas.Bool.Decides.{nat_tests}
 use Rattle.config_values.specs.Config.{IsPrinter, IsQueue, printer_count, queue_named}
 use Rattle.spool_history.specs.Base.{Base}
@@ -18,9 +22,9 @@ use Rattle.spool_calls.specs.declared.printer.Printer.{Printer}
 use Rattle.spool_calls.specs.Looks.{Detail, What, size}
 use Rattle.spool_calls.specs.Kept.{Kept, Leaves, left_by, kept_printer}
 use Rattle.spool_calls.specs.Calls.{Starts}
-use Rattle.core_steps.proofs.Queues.{takes}
+use Rattle.core_steps.proofs.Printers.{printers_many}
+use Rattle.core_steps.proofs.Queues.{is_open, takes}
 use Rattle.core_steps.proofs.EndingMany.{leaves_same}
-use Rattle.core_steps.proofs.Turning.{and_true as both_true}
 
 -- the first elements of a list changed, so many
 
@@ -28,20 +32,9 @@ pub record IsMapped {X : Type 0} (f : X → X) (xs ys : List X) (i : ℕ) : Type
   pub is : ys ≡ map f (take i xs) ++ drop i xs
 
 pub mapped_more : {X : Type 0} (f : X → X) (xs ys zs : List X) (i : ℕ) (d : X) → IsMapped f xs ys i → i < length xs → zs ≡ set ys i (f (get_or ys i d)) → IsMapped f xs zs (i + 1)
-mapped_more {X} f xs ys zs i d m there set' =
-    let x : X = get_or xs i d in
-    let first : List X = map f (take i xs) in
-    let rest : List X = drop (i + 1) xs in
-    let len : length first ≡ i = length-map (take i xs) f ∙ length-take-le i xs (omega (arith, there)) in
-    let split : ys ≡ first ++ x ∷ rest = m.is ∙ ap (λ (l : List X). first ++ l) (drop_more xs i d there) in
-    let here : get_or ys i d ≡ x = ap (λ (l : List X). get_or l i d) split ∙ get_or_at first x rest d i len in
-    let push : first ++ f x ∷ rest ≡ map f (take (i + 1) xs) ++ rest = sym (ap (λ (l : List X). l ++ rest) (map_more f xs i d there) ∙ append_assoc first (f x ∷ []) rest) in
-    record {
-      is = set'
-          ∙ (ap (λ (y : X). set ys i (f y)) here
-          ∙ (ap (λ (l : List X). set l i (f x)) split
-          ∙ (set_at first x rest (f x) i len ∙ push)));
-    }
+mapped_more f xs ys zs i d m there set' =
+    let lt : i < length ys = omega (arith, there, ap length m.is, length-append (map f (take i xs)) (drop i xs), length-map (take i xs) f, length-take i xs, length-drop i xs) in
+    record { is = set' ∙ map_over_more f xs ys i (get_or ys i d) there m.is (get_or_default ys i d (get_or ys i d) lt) }
 
 -- a printer of this queue, started
 abbrev pub started : ℕ → Printer → Printer
@@ -82,66 +75,32 @@ abbrev started' : {C : Type 0} → ℕ → N.Printer C → N.Printer C
 started' q p = cond (p.queue == q) (record p { stopped = false }) p
 
 one_kept : (d : Detail) (q : ℕ) (p : N.Printer (What d)) → started q (kept_printer d p) ≡ kept_printer d (started' q p)
-one_kept d q p = by (p.queue == q) refl
+one_kept d q p = by (p.queue == q)
   where
-    by : (b : Bool) → (p.queue == q) ≡ b → started q (kept_printer d p) ≡ kept_printer d (started' q p)
-    by true e = rw e refl
-    by false e = rw e refl
+    by : (b : Bool) → cond b (record (kept_printer d p) { stopped = false }) (kept_printer d p) ≡ kept_printer d (cond b (record p { stopped = false }) p)
+    by true = refl
+    by false = refl
 
 all_kept : (d : Detail) (q : ℕ) (ps : List (N.Printer (What d))) → map (started q) (map (kept_printer d) ps) ≡ map (kept_printer d) (map (started' q) ps)
-all_kept d q [] = refl
-all_kept d q (p ∷ ps) = ap (λ (x : Printer). x ∷ map (started q) (map (kept_printer d) ps)) (one_kept d q p) ∙ ap (λ (l : List Printer). kept_printer d (started' q p) ∷ l) (all_kept d q ps)
+all_kept d q ps =
+    map-map (started q) (kept_printer d) ps ∙ (ap (λ (f : N.Printer (What d) → Printer). map f ps) (λ i p. one_kept d q p i) ∙ sym (map-map (kept_printer d) (started' q) ps))
 
 -- where none is stopped the start changes nothing
 one_same : (q : ℕ) (p : Printer) → is_stopped_for q p ≡ false → started q p ≡ p
-one_same q p e = by (p.queue == q) p.stopped refl refl e
-  where
-    by : (a s : Bool) → (p.queue == q) ≡ a → p.stopped ≡ s → (a && s) ≡ false → started q p ≡ p
-    by true true ea es f = absurd cc
-    by true false ea es f = ap (λ (t : Bool). cond t (record p { stopped = false }) p) ea ∙ ap (λ (t : Bool). record p { stopped = t }) (sym es)
-    by false s ea es f = ap (λ (t : Bool). cond t (record p { stopped = false }) p) ea
-
-or_none : (a b : Bool) → (a || b) ≡ false → (a ≡ false) × (b ≡ false)
-or_none true b e = absurd (clash true refl e)
-or_none false b e = (refl, e)
+one_same q p e =
+    cond_both (p.queue == q) (record p { stopped = false }) p (λ (z : Printer). z ≡ p)
+    (λ yes. ap (λ (t : Bool). record p { stopped = t }) (sym (ap (λ (b : Bool). b && p.stopped) (sym yes) ∙ e))) (λ no. refl)
 
 all_same' : (q : ℕ) (ps : List Printer) → has_stopped q ps ≡ false → map (started q) ps ≡ ps
-all_same' q [] e = refl
-all_same' q (p ∷ ps) e =
-    let n = or_none (is_stopped_for q p) (has_stopped q ps) e in
-    ap (λ (x : Printer). x ∷ map (started q) ps) (one_same q p n.0) ∙ ap (λ (l : List Printer). p ∷ l) (all_same' q ps n.1)
-
--- a stopped printer by its place
-record StoppedAt (q : ℕ) (ps : List Printer) : Type 0 where
-  at : ℕ
-  there : at < length ps
-  is : (p : Printer) → is_stopped_for q (get_or ps at p) ≡ true
-
-find_stopped : (q : ℕ) (ps : List Printer) → has_stopped q ps ≡ true → StoppedAt q ps
-find_stopped q [] e = absurd (clash false e refl)
-find_stopped q (p ∷ ps) e = by (is_stopped_for q p) refl e (find_stopped q ps)
-  where
-    by : (b : Bool) → is_stopped_for q p ≡ b → (b || has_stopped q ps) ≡ true → (has_stopped q ps ≡ true → StoppedAt q ps) → StoppedAt q (p ∷ ps)
-    by true is f g = record { at = 0; there = omega arith; is = λ d. is }
-    by false is f g = (let r = g f in let lt = r.there in record { at = suc r.at; there = omega (arith, lt); is = r.is })
-
-some_stopped : (q : ℕ) (ps : List Printer) (i : ℕ) (p : Printer) → i < length ps → is_stopped_for q (get_or ps i p) ≡ true → has_stopped q ps ≡ true
-some_stopped q [] i p lt e = absurd (omega arith)
-some_stopped q (x ∷ xs) zero p lt e = ap (λ (b : Bool). b || has_stopped q xs) e
-some_stopped q (x ∷ xs) (suc i) p lt e = rw (some_stopped q xs i p (omega (arith, lt)) e) (or_true (is_stopped_for q x))
+all_same' q ps e = map_fixed (started q) ps (λ i p lt. one_same q (get_or ps i p)
+    (false_from_ne_true (is_stopped_for q (get_or ps i p)) (λ t. clash (has_stopped q ps) (list_any_at (is_stopped_for q) ps i p lt t) e)))
 
 module _ (d : Detail) (b : Base) (h : List (Event (What d))) (k : Kept) (l : Leaves d b h k) where
   abbrev v : State (What d)
   v = left_by d b h k
 
-  open' : k.closed ≡ false → v.closed ≡ false
-  open' c = sym l.kept.closed ∙ c
-
   many : length v.printers ≡ printer_count k.config
   many = length_up_to (N.printer_of k.config b h) (printer_count k.config)
-
-  len : length k.printers ≡ length v.printers
-  len = ap length l.kept.printers ∙ length-map v.printers (kept_printer d)
 
   seen : (i : ℕ) → i < length v.printers → (p : Printer) → get_or k.printers i p ≡ kept_printer d (get_or v.printers i no_printer)
   seen i lt p = ap (λ (ps : List Printer). get_or ps i p) l.kept.printers ∙ get_or-map (kept_printer d) v.printers i no_printer p lt
@@ -149,30 +108,32 @@ module _ (d : Detail) (b : Base) (h : List (Event (What d))) (k : Kept) (l : Lea
   no_one : Printer
   no_one = kept_printer d no_printer
 
-  stopped_at : (q : ℕ) → StoppedAt q k.printers → (p : ℕ) × IsPrinter k.config p × IsStoppedFor q (printer_at v p)
-  stopped_at q s =
-      let lt = s.there in
+  stopped_at : (q : ℕ) → has_stopped q k.printers ≡ true → (p : ℕ) × IsPrinter k.config p × IsStoppedFor q (printer_at v p)
+  stopped_at q e =
+      let s = Any-from_list_any (is_stopped_for q) k.printers e in
+      let lt = s.2 in
       let m = many in
-      let n = len in
-      let there : s.at < length v.printers = omega (arith, n, lt) in
-      let t = both_true (((get_or v.printers s.at no_printer).queue) == q) (get_or v.printers s.at no_printer).stopped (sym (ap (is_stopped_for q) (seen s.at there no_one)) ∙ s.is no_one) in
-      let same : (get_or v.printers s.at no_printer).queue ≡ q = (let z = t.0 in grind (arith, nat_tests)) in
-      (suc s.at, (omega arith, omega (arith, m, there)), (same, t.1))
+      let n = printers_many d b h k l in
+      let there : s.0 < length v.printers = omega (arith, n, lt) in
+      let x = get_or v.printers s.0 no_printer in
+      let t = and_parts (x.queue == q) x.stopped (sym (ap (is_stopped_for q) (seen s.0 there s.1)) ∙ (ap (is_stopped_for q) s.3 ∙ s.4)) in
+      let same : x.queue ≡ q = (let z = t.0 in grind (arith, nat_tests)) in
+      (suc s.0, (omega arith, omega (arith, m, there)), (same, t.1))
 
   stopped_is : (q p : ℕ) → IsPrinter k.config p → IsStoppedFor q (printer_at v p) → has_stopped q k.printers ≡ true
   stopped_is q zero is s = absurd (let one = is.0 in omega arith)
   stopped_is q (suc i) is s =
       let le = is.1 in
       let m = many in
-      let n = len in
+      let n = printers_many d b h k l in
       let there : i < length v.printers = omega (arith, m, le) in
       let x = get_or v.printers i no_printer in
       let same : (x.queue == q) ≡ true = (let z = s.0 in grind (arith, nat_tests)) in
       let yes' : is_stopped_for q (kept_printer d x) ≡ true = ap (λ (a : Bool). a && x.stopped) same ∙ s.1 in
-      some_stopped q k.printers i no_one (omega (arith, n, there)) (ap (is_stopped_for q) (seen i there no_one) ∙ yes')
+      list_any_at (is_stopped_for q) k.printers i no_one (omega (arith, n, there)) (ap (is_stopped_for q) (seen i there no_one) ∙ yes')
 
   may : (q : ℕ) → k.closed ≡ false → IsQueue k.config q → has_stopped q k.printers ≡ true → May (size d) v (Started q)
-  may q c is s = (let r = stopped_at q (find_stopped q k.printers s) in (open' c, is, r.0, r.1, r.2))
+  may q c is s = (let r = stopped_at q s in (is_open d b h k l c, is, r.0, r.1, r.2))
 
   never : (q : ℕ) → has_stopped q k.printers ≡ false → May (size d) v (Started q) → ⊥
   never q none m = clash (has_stopped q k.printers) (stopped_is q m.2 m.3 m.4) none

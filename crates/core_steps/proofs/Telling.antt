@@ -30,7 +30,9 @@ use Rattle.spool_calls.specs.Looks.{Detail, What}
 use Rattle.spool_calls.specs.Calls.{Tells, removed_by}
 use Rattle.spool_calls.specs.Telling.{Chooses, serving, stopped_in}
 use Rattle.spool_calls.specs.Kept.{Kept, Leaves, facts_of, kept_printer, left_by, look, shown_job, size_of}
+use Rattle.core_steps.proofs.Phases.{goes_is}
 use Rattle.core_steps.proofs.Queues.{is_queue_named, takes}
+use Rattle.core_steps.proofs.Turning.{facts_kept}
 
 -- what is told of one job
 
@@ -58,13 +60,6 @@ places_counted z fs (name ∷ names) =
     ap₂ (λ (m k : ℕ). m + k) (pages_counted z 0 name fs) (places_counted z fs names)
     ∙ sym (length-append (A.pages_named name 0 fs) (flat_map (λ name. A.pages_named name 0 fs) names))
 
--- it is listed where it is received and goes on
-goes : (ended received : Bool) → T.is_received (cond ended Ended (cond received Received Receiving)) ≡ (received && not ended)
-goes true true = refl
-goes true false = refl
-goes false true = refl
-goes false false = refl
-
 module _ {C : Type 0} (c : Config) where
   -- what is told of a job, as it is kept
   abbrev seen : Job C → Told
@@ -74,7 +69,7 @@ module _ {C : Type 0} (c : Config) where
   same : seen ≡ told_of
   same i v = record {
     queue = v.queue;
-    listed = goes v.ended (is_received v) i;
+    listed = goes_is v.ended (is_received v) i;
     control = v.control;
     files = map-map K.told_file (size_of c.page_size) v.files i;
     handed = v.handed;
@@ -84,14 +79,13 @@ module _ {C : Type 0} (c : Config) where
 -- jobs that are made of others, one of each: what is chosen and told of them is chosen and told of those
 
 -- what passes a test
-filter_by : {X Y : Type 0} (g : X → Y) (p : Y → Bool) (x : X) (xs : List X) (b : Bool) → p (g x) ≡ b → filter p (map g xs) ≡ map g (filter (λ x. p (g x)) xs)
-    → filter p (map g (x ∷ xs)) ≡ map g (filter (λ x. p (g x)) (x ∷ xs))
-filter_by {X} {Y} g p x xs true e ih = rw e (ap (λ (l : List Y). g x ∷ l) ih)
-filter_by g p x xs false e ih = rw e ih
-
 filter_along : {X Y : Type 0} (g : X → Y) (p : Y → Bool) (xs : List X) → filter p (map g xs) ≡ map g (filter (λ x. p (g x)) xs)
 filter_along g p [] = refl
-filter_along g p (x ∷ xs) = filter_by g p x xs (p (g x)) refl (filter_along g p xs)
+filter_along {X} {Y} g p (x ∷ xs) = ap (λ (l : List Y). cond (p (g x)) (g x ∷ l) l) (filter_along g p xs) ∙ by (p (g x)) (filter (λ x. p (g x)) xs)
+  where
+    by : (b : Bool) (ys : List X) → cond b (g x ∷ map g ys) (map g ys) ≡ map g (cond b (x ∷ ys) ys)
+    by true ys = refl
+    by false ys = refl
 
 module _ {X Y : Type 0} (told : Y → Told) (g : X → Y) (q : ℕ) (xs : List X) where
   abbrev told_by : X → Told
@@ -146,23 +140,17 @@ module _ (d : Detail) (b : Base) (h : List (Event (What d))) (k : Kept) (l : Lea
   abbrev kept : Job (What d) → Facts
   kept x = facts_of k.config x
 
-  -- what is known of the jobs of the book
-  facts_left : facts_in k.book.jobs ≡ map kept v.jobs
-  facts_left =
-      let facts : ShownJob (What d) → Facts = λ s. s.facts in
-      sym (map-map facts (see_job (look d)) k.book.jobs) ∙ (ap (map facts) l.kept.book.jobs ∙ map-map facts (shown_job k.config) v.jobs)
-
   -- the text that answers a removal
   pub removal_left : (q : ℕ) (agent : List ℕ) (list : List (List ℕ)) → removal_text told_in q agent list (facts_in k.book.jobs) ≡ X.removal_text v q agent list
   removal_left q agent list =
-      ap (removal_text told_in q agent list) facts_left
+      ap (removal_text told_in q agent list) (facts_kept d b h k l)
       ∙ (removal_along told_in kept q v.jobs agent list ∙ ap (λ (told : Job (What d) → Told). removal_text told q agent list v.jobs) (same k.config))
 
   -- the numbers of the jobs that a removal takes
   pub numbers_left : (q : ℕ) (agent : List ℕ) (list : List (List ℕ)) → map {A = Facts} {B = ℕ} (λ j. j.number) (chosen told_in q agent list (facts_in k.book.jobs)) ≡ removed_by d b h k q agent list
   numbers_left q agent list =
       let numbers = map {A = Facts} {B = ℕ} (λ j. j.number) in
-      ap (λ (js : List Facts). numbers (chosen told_in q agent list js)) facts_left
+      ap (λ (js : List Facts). numbers (chosen told_in q agent list js)) (facts_kept d b h k l)
       ∙ (ap numbers (chosen_along told_in kept q v.jobs agent list)
       ∙ (map-map (λ (j : Facts). j.number) kept (chosen (seen k.config) q agent list v.jobs)
       ∙ ap (λ (told : Job (What d) → Told). map (λ (x : Job (What d)). x.number) (chosen told q agent list v.jobs)) (same k.config)))
@@ -185,7 +173,7 @@ module _ (d : Detail) (b : Base) (h : List (Event (What d))) (k : Kept) (l : Lea
       let p = length (X.printers_in q v.printers) in
       let s = length (X.stopped_in q v.printers) in
       ap₂ (λ (p s : ℕ). state_text told_in q name p s list long (facts_in k.book.jobs)) (serving_left q) (stopped_left q)
-      ∙ (ap (state_text told_in q name p s list long) facts_left
+      ∙ (ap (state_text told_in q name p s list long) (facts_kept d b h k l)
       ∙ (state_along told_in kept q v.jobs name p s list long ∙ ap (λ (told : Job (What d) → Told). state_text told q name p s list long v.jobs) (same k.config)))
 
   -- what a question for the state of a queue is answered with

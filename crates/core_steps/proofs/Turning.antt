@@ -16,7 +16,9 @@ use Rattle.spool_history.specs.Now.{Job, Printer, now, is_received}
 use Rattle.spool_history.specs.Next.{is_preceded_by, is_ready, turn_of, or_first, printer_at}
 use Rattle.spool_history.specs.Legal.{IsLegal}
 use Rattle.spool_laws.proofs.Known.{known}
-use Rattle.std.proofs.lemmas.Bool.{not-true}
+use Rattle.std.proofs.lemmas.Bool.{and_parts, not-true}
+use Rattle.std.proofs.lemmas.List.Recursion.{found_at, found_nowhere}
+use Rattle.std.proofs.lemmas.Simd.{map-map}
 use Rattle.spool_laws.proofs.Facts.{facts}
 use Rattle.spool_laws.proofs.Busy.{received_if}
 use Rattle.spool_laws.proofs.Printers.{at_printer}
@@ -26,22 +28,7 @@ use Rattle.spool_moves.proofs.Queued.{job_queued}
 use Rattle.spool_calls.specs.Looks.{Detail, What, size}
 use Rattle.spool_calls.specs.Kept.{Kept, Leaves, left_by, look, shown_job, facts_of, phase_of}
 use Rattle.core_steps.proofs.Leaving.{jobs_len}
-
-pub and_true : (a b : Bool) → (a && b) ≡ true → (a ≡ true) × (b ≡ true)
-and_true true true e = (refl, refl)
-and_true true false e = absurd cc
-and_true false b e = absurd cc
-
-received_by : {C : Type 0} (x : Job C) (e r b : Bool) → x.ended ≡ e → is_received x ≡ r → (T.is_received (phase_of x) && b) ≡ (is_received x && (not x.ended && b))
-received_by x true true b ee er = rw (ee, er) refl
-received_by x true false b ee er = rw (ee, er) refl
-received_by x false true b ee er = rw (ee, er) refl
-received_by x false false b ee er = rw (ee, er) refl
-
-goes_by : {C : Type 0} (x : Job C) (e r : Bool) → x.ended ≡ e → is_received x ≡ r → not (T.is_ended (phase_of x)) ≡ not x.ended
-goes_by x true r ee er = rw ee refl
-goes_by x false true ee er = rw (ee, er) refl
-goes_by x false false ee er = rw (ee, er) refl
+use Rattle.core_steps.proofs.Phases.{ended_is, received_is}
 
 module _ {C : Type 0} (c : Config) where
   earlier : (w : Job C) (vs : List (Job C)) → list_any (T.is_preceded_by (facts_of c w)) (map (facts_of c) vs) ≡ list_any (is_preceded_by w) vs
@@ -57,40 +44,39 @@ module _ {C : Type 0} (c : Config) where
   ready_same : (vs : List (Job C)) (q : ℕ) (w : Job C) → T.ready_in (map (facts_of c) vs) q (facts_of c w) ≡ is_ready_of vs q w
   ready_same vs q w =
       ap (λ (b : Bool). (w.queue == q) && (T.is_received (phase_of w) && ((w.handed == 0) && not b))) (earlier w vs)
-      ∙ ap (λ (b : Bool). (w.queue == q) && b) (received_by w w.ended (is_received w) ((w.handed == 0) && not (list_any (is_preceded_by w) vs)) refl refl)
+      ∙ ap (λ (b : Bool). (w.queue == q) && b) (received_is w.ended (is_received w) ((w.handed == 0) && not (list_any (is_preceded_by w) vs)))
 
   goes_same : (j : ℕ) (w : Job C) → T.goes_on j (facts_of c w) ≡ is_going j w
-  goes_same j w = ap (λ (b : Bool). (w.number == j) && b) (goes_by w w.ended (is_received w) refl refl)
+  goes_same j w = ap (λ (b : Bool). (w.number == j) && not b) (ended_is w.ended (is_received w))
 
-  find_some : (test : Facts → Bool) (test' : Job C → Bool) (vs : List (Job C)) (i : ℕ) → ((x : Job C) → test (facts_of c x) ≡ test' x) → i < length vs
-      → test (get_or (map (facts_of c) vs) i no_facts) ≡ true → ((k : ℕ) → k < i → test (get_or (map (facts_of c) vs) k no_facts) ≡ false) → find test' vs ≡ Some (get_or vs i no_job)
-  find_some test test' [] i same lt is before = absurd (omega arith)
-  find_some test test' (y ∷ ys) zero same lt is before = (let e : test' y ≡ true = sym (same y) ∙ is in rw e refl)
-  find_some test test' (y ∷ ys) (suc i) same lt is before =
-      let e : test' y ≡ false = sym (same y) ∙ before 0 (omega arith) in
-      rw e (find_some test test' ys i same (omega arith) is (λ k less. before (suc k) (omega arith)))
-
-  find_none : (test : Facts → Bool) (test' : Job C → Bool) (vs : List (Job C)) → ((x : Job C) → test (facts_of c x) ≡ test' x)
-      → ((k : ℕ) → k < length (map (facts_of c) vs) → test (get_or (map (facts_of c) vs) k no_facts) ≡ false) → find test' vs ≡ None
-  find_none test test' [] same none = refl
-  find_none test test' (y ∷ ys) same none =
-      let e : test' y ≡ false = sym (same y) ∙ none 0 (omega arith) in
-      rw e (find_none test test' ys same (λ k less. none (suc k) (omega arith)))
+  facts_at : (vs : List (Job C)) (i : ℕ) → i < length vs → get_or (map (facts_of c) vs) i no_facts ≡ facts_of c (get_or vs i no_job)
+  facts_at vs i lt = get_or-map (facts_of c) vs i no_job no_facts lt
 
   abbrev pub at_place : List (Job C) → Option ℕ → Option (Job C)
   at_place vs None = None
   at_place vs (Some i) = Some (get_or vs i no_job)
 
-  first_is : (test : Facts → Bool) (test' : Job C → Bool) (vs : List (Job C)) (r : Option ℕ) → ((x : Job C) → test (facts_of c x) ≡ test' x) → FirstOf test (map (facts_of c) vs) r → find test' vs ≡ at_place vs r
-  first_is test test' vs None same f = find_none test test' vs same f
-  first_is test test' vs (Some i) same f = (let n = length-map vs (facts_of c) in let g = f.0 in find_some test test' vs i same (omega arith) f.1 f.2)
+  -- what a test says of a job, it says of what is known of it
+  module _ (test : Facts → Bool) (test' : Job C → Bool) (vs : List (Job C)) (same : (x : Job C) → test (facts_of c x) ≡ test' x) where
+    here : (i : ℕ) (b : Bool) → i < length vs → test (get_or (map (facts_of c) vs) i no_facts) ≡ b → test' (get_or vs i no_job) ≡ b
+    here i b lt e = sym (same (get_or vs i no_job)) ∙ (ap test (sym (facts_at vs i lt)) ∙ e)
+
+    first_is : (r : Option ℕ) → FirstOf test (map (facts_of c) vs) r → find test' vs ≡ at_place vs r
+    first_is None f =
+        found_nowhere (find test') test' (λ (x : Job C). Some x) None refl (λ x xs. refl) vs no_job
+        (λ i lt. here i false lt (f i (let n = length-map vs (facts_of c) in omega (arith, n, lt))))
+    first_is (Some i) f =
+        let n = length-map vs (facts_of c) in
+        let lt = f.0 in
+        found_at (find test') test' (λ (x : Job C). Some x) None refl (λ x xs. refl) vs i no_job (omega (arith, n, lt))
+        (λ m less. here m false (omega (arith, n, lt, less)) (f.2 m less)) (here i true (omega (arith, n, lt)) f.1)
 
   -- the place that is found is that of the job whose turn it is
   pub turn_is : (vs : List (Job C)) (q : ℕ) (began r : Option ℕ) → TurnAt (map (facts_of c) vs) q began r → turn_of vs q began ≡ at_place vs r
-  turn_is vs q None r t = first_is (T.ready_in (map (facts_of c) vs) q) (is_ready_of vs q) vs r (ready_same vs q) t
+  turn_is vs q None r t = first_is (T.ready_in (map (facts_of c) vs) q) (is_ready_of vs q) vs (ready_same vs q) r t
   turn_is vs q (Some j) r t = elim t [
-    | inl s ↦ ap (or_first vs q) (first_is (T.goes_on j) (is_going j) vs (Some s.0) (goes_same j) s.2) ∙ ap (at_place vs) (sym s.1)
-    | inr s ↦ ap (or_first vs q) (first_is (T.goes_on j) (is_going j) vs None (goes_same j) s.0) ∙ first_is (T.ready_in (map (facts_of c) vs) q) (is_ready_of vs q) vs r (ready_same vs q) s.1
+    | inl s ↦ ap (or_first vs q) (first_is (T.goes_on j) (is_going j) vs (goes_same j) (Some s.0) s.2) ∙ ap (at_place vs) (sym s.1)
+    | inr s ↦ ap (or_first vs q) (first_is (T.goes_on j) (is_going j) vs (goes_same j) None s.0) ∙ first_is (T.ready_in (map (facts_of c) vs) q) (is_ready_of vs q) vs (ready_same vs q) r s.1
   ]
 
   -- the job whose turn it is is received and hasn't ended
@@ -100,14 +86,11 @@ module _ {C : Type 0} (c : Config) where
 
   ready_goes : (vs : List (Job C)) (q : ℕ) (x : Job C) → is_ready_of vs q x ≡ true → Goes x
   ready_goes vs q x e =
-      let a = and_true (x.queue == q) (is_ready vs x) e in
+      let a = and_parts (x.queue == q) (is_ready vs x) e in
       let rest = (x.handed == 0) && not (list_any (is_preceded_by x) vs) in
-      let b = and_true (is_received x) (not x.ended && rest) a.1 in
-      let d = and_true (not x.ended) rest b.1 in
+      let b = and_parts (is_received x) (not x.ended && rest) a.1 in
+      let d = and_parts (not x.ended) rest b.1 in
       (not-true x.ended d.0, b.0)
-
-  facts_at : (vs : List (Job C)) (i : ℕ) → i < length vs → get_or (map (facts_of c) vs) i no_facts ≡ facts_of c (get_or vs i no_job)
-  facts_at vs i lt = get_or-map (facts_of c) vs i no_job no_facts lt
 
   goes_first : (vs : List (Job C)) (q i : ℕ) → i < length vs → FirstOf (T.ready_in (map (facts_of c) vs) q) (map (facts_of c) vs) (Some i) → Goes (get_or vs i no_job)
   goes_first vs q i lt f = ready_goes vs q (get_or vs i no_job) (sym (ready_same vs q (get_or vs i no_job)) ∙ (ap (T.ready_in (map (facts_of c) vs) q) (sym (facts_at vs i lt)) ∙ f.1))
@@ -116,7 +99,7 @@ module _ {C : Type 0} (c : Config) where
     begun_goes : (p j i : ℕ) → IsPrinter c p → i < length (now c base h).jobs → (printer_at (now c base h) p).began ≡ Some j → is_going j (get_or (now c base h).jobs i no_job) ≡ true → Goes (get_or (now c base h).jobs i no_job)
     begun_goes p j i is lt began e =
         let x = get_or (now c base h).jobs i no_job in
-        let a = and_true (x.number == j) (not x.ended) e in
+        let a = and_parts (x.number == j) (not x.ended) e in
         let n : x.number ≡ j = (let z = a.0 in grind (arith, nat_tests)) in
         let f = facts size c base h l in
         let at : began_at h p ≡ Some j = ap (λ (q : Printer C). q.began) (sym (at_printer c base h p is.0 is.1)) ∙ began in
@@ -140,24 +123,12 @@ turn_there : (jobs : List Facts) (q : ℕ) (began : Option ℕ) (i : ℕ) → Tu
 turn_there jobs q None i t = t.0
 turn_there jobs q (Some j) i t = elim t [ inl s ↦ (let e : Some i ≡ Some s.0 = s.1 in let same : i ≡ s.0 = cc in let lt = s.2.0 in omega arith) | inr s ↦ s.1.0 ]
 
-facts_same : {C : Type 0} (f : Rattle.page_pool.specs.Page.Page → C) (c : Config) (js : List HeldJob) (vs : List (Job C)) → map (see_job f) js ≡ map (shown_job c) vs → facts_in js ≡ map (facts_of c) vs
-facts_same f c [] [] e = refl
-facts_same {C} f c [] (y ∷ ys) e = (let n : 0 ≡ suc (length (map (shown_job c) ys)) = ap length e in absurd (omega arith))
-facts_same {C} f c (x ∷ xs) [] e = (let n : suc (length (map (see_job f) xs)) ≡ 0 = ap length e in absurd (omega arith))
-facts_same {C} f c (x ∷ xs) (y ∷ ys) e =
-    ap (λ (a : Facts). a ∷ facts_in xs) (ap first e) ∙ ap (λ (l : List Facts). facts_of c y ∷ l) (facts_same f c xs ys (ap rest e))
-  where
-    first : List (ShownJob C) → Facts
-    first [] = no_facts
-    first (z ∷ zs) = z.facts
-
-    rest : List (ShownJob C) → List (ShownJob C)
-    rest [] = []
-    rest (z ∷ zs) = zs
-
 module _ (d : Detail) (b : Base) (h : List (Event (What d))) (k : Kept) (l : Leaves d b h k) where
+  -- what is known of the jobs of the book
   pub facts_kept : facts_in k.book.jobs ≡ map (facts_of k.config) (left_by d b h k).jobs
-  facts_kept = facts_same (look d) k.config k.book.jobs (left_by d b h k).jobs l.kept.book.jobs
+  facts_kept =
+      let facts : ShownJob (What d) → Facts = λ s. s.facts in
+      sym (map-map facts (see_job (look d)) k.book.jobs) ∙ (ap (map facts) l.kept.book.jobs ∙ map-map facts (shown_job k.config) (left_by d b h k).jobs)
 
   -- the turn in the words of the history
   pub turn_here : (q : ℕ) (began r : Option ℕ) → TurnAt (facts_in k.book.jobs) q began r → turn_of (left_by d b h k).jobs q began ≡ at_place k.config (left_by d b h k).jobs r
