@@ -1,12 +1,11 @@
 -- A job is aborted, or gives back the page that was lent to it.
 use Rattle.std.proofs.Common.{inl, inr, ◌≡◌, ◌≢◌, ◌==◌, ℕ, ◌+◌, ◌-◌, ◌≤◌, Bool, true, false, List, get_or, refl, sym, ◌∙◌, ap, subst, arith}
-use Rattle.std.specs.Prelude.{All, Ok, Err, Option, Some, None, IfSome, cond, remove}
+use Rattle.std.specs.Prelude.{All, Ok, Err, Option, Some, None, cond, remove}
 use Rattle.std.proofs.lemmas.Bool.Decides.{nat_tests}
 use Rattle.claims.specs.Changes.{closed}
-use Rattle.page_pool.specs.Page.{Page, Pages}
+use Rattle.page_pool.specs.Page.{Page}
 use Rattle.held_jobs.specs.Jobs.{HeldJob, Facts}
 use Rattle.held_jobs.specs.Books.{job_at}
-use Rattle.held_jobs.specs.Shown.{see_job}
 use Rattle.spool_history.specs.Base.{Base}
 use Rattle.spool_history.specs.Events.{Event}
 use Rattle.spool_history.specs.Events.Act.{Aborted}
@@ -15,18 +14,17 @@ use Rattle.spool_history.specs.Now.{Job, State, is_held, is_received, pages_held
 use Rattle.spool_history.specs.Steps.{acted}
 use Rattle.spool_history.specs.Legal.{JobMay}
 use Rattle.spool_laws.specs.Sums.{chained_of}
-use Rattle.spool_laws.proofs.Known.{Has}
 use Rattle.spool_moves.specs.Standing.{no_job}
-use Rattle.spool_moves.proofs.Standing.{Stands, has_get, has_here, has_job}
+use Rattle.spool_moves.proofs.Standing.{has_here, has_job}
 use Rattle.spool_moves.proofs.Moving.{act_gone}
 use Rattle.spool_moves.proofs.Holding.{held_counts, lent_unreceived, unreceived_unhanded}
 use Rattle.spool_calls.specs.declared.answers.ReturnedTicket.{ReturnedTicket}
 use Rattle.spool_calls.specs.Looks.{Detail, What, size}
-use Rattle.spool_calls.specs.Kept.{Kept, Leaves, left_by, look, shown_job, facts_of}
+use Rattle.spool_calls.specs.Kept.{Kept, Leaves, left_by}
 use Rattle.spool_calls.specs.Calls.{Aborts, CanAbort, IsLent}
 use Rattle.spool_calls.specs.Tickets.{HasLent, MayAbort, count_of}
 use Rattle.core_steps.proofs.Leaving.{Found, closed_free, held_room, leaves_out, none_has, one_stored, sees}
-use Rattle.core_steps.proofs.Phases.{ended, facts_tie, phase_ended, phase_receiving, phase_tie, receiving}
+use Rattle.core_steps.proofs.Phases.{ended, phase_ended, phase_receiving, receiving}
 
 gone_by : {C : Type 0} (x : Job C) (b : Bool) → x.handed ≡ x.back → (x.handed == x.back) ≡ b → is_held (acted Aborted x) ≡ false
 gone_by x true e t = rw t refl

@@ -1,9 +1,9 @@
 -- A page is lent to a job.
-use Rattle.std.proofs.Common.{◌≡◌, ◌≢◌, ℕ, ◌+◌, ◌-◌, ◌<◌, ◌≤◌, true, List, [], ◌∷◌, length, get_or, set, map, refl, sym, ◌∙◌, ap, subst, arith}
+use Rattle.std.proofs.Common.{◌≡◌, ◌≢◌, ℕ, ◌-◌, ◌<◌, ◌≤◌, List, [], ◌∷◌, length, get_or, set, map, refl, sym, ◌∙◌, ap, subst, arith}
 use Rattle.std.specs.Prelude.{All, Ok, Err, filter}
 use Rattle.counts.specs.Amounts.{amount}
 use Rattle.claims.specs.declared.row.Row.{Row}
-use Rattle.claims.specs.Claims.{IsTable, row_at}
+use Rattle.claims.specs.Claims.{row_at}
 use Rattle.claims.specs.Changes.{granted, granted_row}
 use Rattle.claims.specs.Safety.{IsSafe}
 use Rattle.claims.proofs.Tables.{granted_table}
@@ -20,10 +20,9 @@ use Rattle.spool_history.specs.Events.Event.{OfJob}
 use Rattle.spool_history.specs.Now.{Job, State, is_held, row_of}
 use Rattle.spool_history.specs.Steps.{acted, after, change}
 use Rattle.spool_history.specs.Legal.{HasJob, IsReceiving, IsBelowLimit, CanAsk, JobMay, MayGrant}
-use Rattle.spool_laws.specs.Sums.{chained_of}
 use Rattle.spool_moves.specs.Standing.{no_job}
 use Rattle.spool_history.specs.Claimed.{IsTableOf}
-use Rattle.spool_moves.proofs.Standing.{Stands, has_here, has_job}
+use Rattle.spool_moves.proofs.Standing.{has_here, has_job}
 use Rattle.spool_moves.proofs.Moving.{act_set}
 use Rattle.spool_moves.proofs.Claimed.{table_free, table_safe, safe_table, row_here, row_granted, need_here, rows_len}
 use Rattle.spool_calls.specs.declared.answers.Asked.TheVariants.{Page as Page', Later}

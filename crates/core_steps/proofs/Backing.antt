@@ -1,7 +1,6 @@
 -- A page comes back from a printer.
 use Rattle.std.proofs.Common.{◌≡◌, ◌==◌, ◌≢◌, ℕ, zero, suc, ◌+◌, ◌-◌, ◌<◌, ◌≤◌, ◌^◌, Bool, true, false, List, [], ◌∷◌, length, drop, get_or, set, map, refl, sym, ◌∙◌, ap, subst, arith}
 use Rattle.std.specs.Prelude.{All, Option, Some, None, Ok, cond, is_some, remove, slice_get}
-use Rattle.std.proofs.lemmas.List.{length-map}
 use Rattle.counts.specs.Amounts.{amount}
 use Rattle.claims.specs.declared.row.Row.{Row}
 use Rattle.claims.specs.Claims.{row_at}
@@ -32,17 +31,15 @@ use Rattle.spool_history.specs.Next.{no_printer, printer_at}
 use Rattle.spool_history.specs.Steps.{printer_turned, printers_after, turned}
 use Rattle.spool_history.specs.Legal.{HasJob, May, progress_of}
 use Rattle.spool_laws.specs.Sums.{chained_of}
-use Rattle.spool_laws.proofs.Known.{Has}
 use Rattle.spool_laws.proofs.Apart.{each_has_a_place}
 use Rattle.spool_moves.specs.Standing.{no_job}
-use Rattle.spool_moves.proofs.Standing.{Stands, has_get, has_job}
+use Rattle.spool_moves.proofs.Standing.{Stands, has_job}
 use Rattle.spool_moves.proofs.Moving.{turn_gone, turn_set}
-use Rattle.spool_moves.proofs.Holding.{back_within, handed_within, held_counts, one_is_out, received_unlent}
+use Rattle.spool_moves.proofs.Holding.{handed_within, held_counts, received_unlent}
 use Rattle.spool_moves.proofs.Files.{job_names_differ}
 use Rattle.spool_moves.proofs.Claimed.{row_here}
 use Rattle.spool_moves.proofs.Out.{OutOf, out_here, out_job}
 use Rattle.job_moves.proofs.Ties.{prints}
-use Rattle.job_moves.proofs.Stored.{stored}
 use Rattle.job_moves.proofs.Facts.{is_done}
 use Rattle.job_moves.proofs.Awaiting.{awaits_last}
 use Rattle.job_moves.proofs.Printing.{ties_again, ties_back}
@@ -54,7 +51,7 @@ use Rattle.core_rows.proofs.Ending.{back_ended_gone, back_gone}
 use Rattle.spool_calls.specs.declared.printer.Printer.{Printer}
 use Rattle.spool_calls.specs.declared.handed.HandedPage.{HandedPage}
 use Rattle.spool_calls.specs.Looks.{Detail, What, outline_of, size}
-use Rattle.spool_calls.specs.Kept.{Kept, Leaves, kept_out, kept_printer, kept_sheet, last_of, left_by, look, phase_of, shown_job, spots}
+use Rattle.spool_calls.specs.Kept.{Kept, Leaves, kept_out, kept_printer, last_of, left_by, look, shown_job, spots}
 use Rattle.spool_calls.specs.Calls.{Fails, IsOut, Prints}
 use Rattle.core_steps.proofs.Leaving.{Found, closed_free, every_counted, leaves_out, leaves_row, none_has, one_stored, pool_even, row_stands, sees}
 use Rattle.core_steps.proofs.Phases.{ended_is, phase_tie}

@@ -1,25 +1,20 @@
 -- Many jobs end, from the last place down to the first.
 use Rattle.std.proofs.Common.{◌≡◌, ℕ, ◌+◌, ◌-◌, ◌<◌, ◌≤◌, Bool, true, false, List, [], ◌∷◌, ◌++◌, length, get_or, set, take, drop, map, refl, sym, ◌∙◌, ap, subst, arith}
-use Rattle.std.specs.Prelude.{cond, filter, remove, sum_by}
+use Rattle.std.specs.Prelude.{cond, filter, remove}
 use Rattle.std.proofs.lemmas.List.{append-nil, append_assoc, drop_all, drop_more, get_or_at, length-take-le, length-map, set_at, take_all, take_more}
-use Rattle.page_pool.specs.Page.{Pages}
-use Rattle.counts.specs.Amounts.{amount}
 use Rattle.held_jobs.specs.Books.{job_at}
-use Rattle.held_jobs.specs.Shown.{ShownJob, see_job}
+use Rattle.held_jobs.specs.Shown.{ShownJob}
 use Rattle.spool_history.specs.Base.{Base}
 use Rattle.spool_history.specs.Events.{Event}
-use Rattle.spool_history.specs.Now.{Job, State, is_held, row_of}
-use Rattle.spool_history.specs.Steps.{after, change, accepted_by, printers_after, closed_after}
+use Rattle.spool_history.specs.Now.{Job, State, is_held}
+use Rattle.spool_history.specs.Steps.{change, accepted_by, printers_after, closed_after}
 use Rattle.spool_history.specs.Legal.{May}
-use Rattle.spool_laws.specs.Sums.{chained_of}
 use Rattle.spool_laws.proofs.Known.{Has, filter_cons}
 use Rattle.spool_moves.specs.Standing.{no_job}
-use Rattle.spool_history.specs.Claimed.{IsTableOf}
 use Rattle.spool_moves.proofs.Standing.{has_get, none_changed}
-use Rattle.spool_moves.proofs.Claimed.{table_free}
 use Rattle.spool_calls.specs.declared.printer.Printer.{Printer}
 use Rattle.spool_calls.specs.Looks.{Detail, What, size}
-use Rattle.spool_calls.specs.Kept.{Kept, IsBookOf, Leaves, left_by, look, shown_job, kept_printer}
+use Rattle.spool_calls.specs.Kept.{Kept, Leaves, left_by, kept_printer}
 use Rattle.core_steps.proofs.Leaving.{leaves_stock, stock_left, stock_of}
 use Rattle.core_steps.proofs.Stocks.{CanEnd, IsStockOf, MayEnd, Stock, can_end, end_place, ended_job, len_of, may_end, one_ends, stock_after, tie_at, with_jobs}
 

@@ -38,7 +38,7 @@ use Rattle.job_moves.proofs.Printing.{CanHand, can_hand, ties_handed}
 use Rattle.job_moves.proofs.Printing as J
 use Rattle.core_rows.proofs.Tables.{WithRow}
 use Rattle.core_rows.proofs.Amounts.{queue_kind}
-use Rattle.core_rows.proofs.Handing.{Takes, first_leaves, handed_chain, handed_held, hands_job, later_leaves, printer_free, printer_needed}
+use Rattle.core_rows.proofs.Handing.{first_leaves, handed_chain, handed_held, hands_job, later_leaves, printer_free, printer_needed}
 use Rattle.spool_calls.specs.declared.printer.Printer.{Printer}
 use Rattle.spool_calls.specs.declared.handed.HandedPage.{HandedPage}
 use Rattle.spool_calls.specs.declared.answers.Next.TheVariants as next

@@ -1,34 +1,28 @@
 -- Where one more event leaves a core.
-use Rattle.std.proofs.Common.{true, false, ◌≡◌, ◌≢◌, ℕ, zero, suc, ◌+◌, ◌<◌, ◌≤◌, Bool, List, [], ◌∷◌, ◌++◌, length, get_or, set, map, refl, sym, ◌∙◌, ap, subst, arith}
+use Rattle.std.proofs.Common.{true, false, ◌≡◌, ◌≢◌, ℕ, ◌+◌, ◌<◌, ◌≤◌, Bool, List, [], ◌∷◌, ◌++◌, length, get_or, set, map, refl, sym, ◌∙◌, ap, subst, arith}
 use Rattle.std.specs.Prelude.{All, filter, remove, sum_by}
-use Rattle.std.specs.List.{AllByRecursion}
 use Rattle.std.proofs.lemmas.List.{append-nil, get_or_default}
 use Rattle.counts.specs.Amounts.{amount}
-use Rattle.claims.specs.declared.row.Row.{Row}
-use Rattle.claims.specs.Claims.{Claims, IsTable}
+use Rattle.claims.specs.Claims.{Claims}
 use Rattle.page_pool.specs.Page.{Pages}
 use Rattle.held_jobs.specs.Jobs.{HeldJob}
 use Rattle.held_jobs.specs.Jobs as J
-use Rattle.held_jobs.specs.Books.{Books, job_at, with_job}
+use Rattle.held_jobs.specs.Books.{job_at, with_job}
 use Rattle.held_jobs.specs.Shown.{ShownJob, see_job}
-use Rattle.config_values.specs.Config.{Config, reserve_of}
+use Rattle.config_values.specs.Config.{reserve_of}
 use Rattle.spool_history.specs.Base.{Base}
 use Rattle.spool_history.specs.Events.{Act, Event}
 use Rattle.spool_history.specs.Events.Event.{OfJob}
 use Rattle.spool_history.specs.Now.{Job, State, is_held, row_of, pages_held}
 use Rattle.spool_history.specs.Steps.{acted, change, after, accepted_by, printers_after, closed_after}
 use Rattle.spool_history.specs.Legal.{HasJob, May}
-use Rattle.spool_laws.specs.Sums.{chained, chained_of}
+use Rattle.spool_laws.specs.Sums.{chained_of}
 use Rattle.spool_laws.proofs.Known.{Has}
 use Rattle.spool_laws.proofs.Moves.{moved}
 use Rattle.spool_moves.specs.Standing.{no_job}
-use Rattle.spool_history.specs.Claimed.{IsTableOf}
 use Rattle.page_chain.specs.Files.{every_page}
 use Rattle.spool_moves.proofs.Standing.{Stands, has_get}
 use Rattle.spool_moves.proofs.Moving.{act_set}
-use Rattle.spool_moves.proofs.Holding.{back_within, handed_within, one_is_out}
-use Rattle.job_moves.proofs.Stored.{stored}
-use Rattle.spool_moves.proofs.Claimed.{table_free}
 use Rattle.claims.specs.Changes.{closed}
 use Rattle.core_rows.proofs.Tables.{Here, WithRow, WithoutRow, closed_drops, same_leaves}
 use Rattle.core_rows.proofs.Receiving.{held_in_row}
@@ -36,7 +30,7 @@ use Rattle.core_rows.proofs.Handing
 use Rattle.core_steps.proofs.Stocks.{IsStockOf, Stock, chain, even, len_of, may_end, one_gone, one_set, stock, stock_of_other, tie_at, with_jobs, within}
 use Rattle.spool_calls.specs.declared.printer.Printer.{Printer}
 use Rattle.spool_calls.specs.Looks.{Detail, What, size}
-use Rattle.spool_calls.specs.Kept.{Kept, IsBookOf, IsKeptOf, Leaves, facts_of, left_by, look, shown_job, kept_printer}
+use Rattle.spool_calls.specs.Kept.{Kept, IsKeptOf, Leaves, facts_of, left_by, look, shown_job, kept_printer}
 
 -- what is kept of a core has such a stock
 abbrev pub stock_of : Kept → Stock

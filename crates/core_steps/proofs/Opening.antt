@@ -1,6 +1,6 @@
 -- A job is accepted.
 use Rattle.std.proofs.Common.{inl, inr, ◌≡◌, ◌==◌, ◌≢◌, ℕ, zero, suc, ◌+◌, ◌-◌, ◌<◌, ◌≤◌, ◌^◌, Bool, true, false, List, [], ◌∷◌, ◌++◌, length, get_or, map, replicate, refl, sym, ◌∙◌, ap, subst, arith}
-use Rattle.std.specs.Prelude.{All, Ok, ◌⊎◌, cond, nat_lt, sum_by}
+use Rattle.std.specs.Prelude.{All, Ok, cond, sum_by}
 use Rattle.std.proofs.lemmas.Bool.{cases_lt}
 use Rattle.std.proofs.lemmas.List.{length-map, length-replicate, map_push, get_or-map, get_or_default, get_or_past}
 use Rattle.std.proofs.lemmas.List.Sums.{sum_by-cons, sum_by_push}
@@ -20,23 +20,19 @@ use Rattle.spool_history.specs.Events.Event.{Opened}
 use Rattle.spool_history.specs.Now.{Job, now, row_of, amounts, capacity, up_to}
 use Rattle.spool_history.specs.Steps.{after, change, new_job}
 use Rattle.spool_history.specs.Legal.{IsLegal, MayOpen}
-use Rattle.spool_history.specs.Refusals.{HasEntries, RefusesJob}
-use Rattle.spool_laws.specs.Sums.{chained, chained_of}
+use Rattle.spool_laws.specs.Sums.{chained_of}
 use Rattle.spool_laws.proofs.Known.{Has, known, test}
 use Rattle.spool_laws.proofs.Facts.{facts}
 use Rattle.spool_laws.proofs.Adding.{length_up_to}
 use Rattle.spool_laws.proofs.Printers.{get_up_to}
 use Rattle.spool_moves.specs.Standing.{no_job}
-use Rattle.spool_history.specs.Claimed.{IsTableOf}
 use Rattle.spool_moves.proofs.Standing.{all_held, has_get, none_changed}
 use Rattle.spool_moves.proofs.Claimed.{rows_len}
-use Rattle.lpd_values.specs.declared.refusal.Refusal.TheVariants.{TableFull, AccountFull}
 use Rattle.spool_calls.specs.Looks.{Detail, What, size}
-use Rattle.spool_calls.specs.Kept.{Kept, IsBookOf, Leaves, left_by, look, shown_job}
+use Rattle.spool_calls.specs.Kept.{Kept, Leaves, left_by, look, shown_job}
 use Rattle.spool_calls.specs.Calls.{Opens}
 use Rattle.core_steps.proofs.Leaving.{jobs_len, leaves_with, pool_even, stock_left, stock_moved, stock_of, tie}
 use Rattle.core_steps.proofs.Stocks.{becomes, stock}
-use Rattle.core_steps.proofs.Queues.{takes}
 use Rattle.core_steps.proofs.Ranges.{limit_pages}
 
 -- the new job's number is above all others

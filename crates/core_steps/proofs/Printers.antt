@@ -8,7 +8,7 @@ use Rattle.spool_history.specs.Events.{Event, Sheet}
 use Rattle.spool_history.specs.Now as N
 use Rattle.spool_history.specs.Now.{Job, State}
 use Rattle.spool_history.specs.Next.{next_page, printer_at, turn_of, hand_of, with_out, no_printer}
-use Rattle.spool_history.specs.Next.Next.{Stops, Busy, Over}
+use Rattle.spool_history.specs.Next.Next.{Stops, Busy}
 use Rattle.spool_laws.proofs.Known.{clash}
 use Rattle.spool_laws.proofs.Adding.{length_up_to}
 use Rattle.spool_calls.specs.declared.printer.Printer.{Printer}

@@ -1,10 +1,9 @@
 -- The queue that a call names.
-use Rattle.std.proofs.Common.{◌≡◌, ℕ, true, false, List, sym, ◌∙◌, subst, arith}
-use Rattle.lpd_values.specs.declared.refusal.Refusal.TheVariants.{UnknownQueue}
+use Rattle.std.proofs.Common.{◌≡◌, ℕ, false, List, sym, ◌∙◌, subst}
 use Rattle.config_values.specs.Config.{Config, IsQueue, queue_named}
 use Rattle.spool_history.specs.Base.{Base}
 use Rattle.spool_history.specs.Events.{Event}
-use Rattle.spool_history.specs.Refusals.{RefusesQueue, TakesJobs}
+use Rattle.spool_history.specs.Refusals.{TakesJobs}
 use Rattle.spool_calls.specs.Looks.{Detail, What}
 use Rattle.spool_calls.specs.Kept.{Kept, Leaves, left_by}
 

@@ -1,5 +1,5 @@
 -- What the readers of a core say.
-use Rattle.std.proofs.Common.{◌≡◌, ◌≢◌, ◌==◌, ℕ, suc, ◌+◌, ◌-◌, ◌<◌, ◌≤◌, Bool, true, false, cond, List, [], ◌∷◌, ◌++◌, length, filter, get_or, map, refl, sym, ◌∙◌, ap, arith}
+use Rattle.std.proofs.Common.{◌≡◌, ◌≢◌, ◌==◌, ℕ, ◌-◌, ◌<◌, ◌≤◌, Bool, true, false, cond, List, length, filter, get_or, map, refl, sym, ◌∙◌, ap, arith}
 use Rattle.std.specs.Prelude.{◌&&◌, All, Option, None, Some, count_by, is_some}
 use Rattle.std.proofs.lemmas.List.{length_push}
 use Rattle.std.proofs.lemmas.List.Sums.{count_by-le-length, length-filter}
@@ -15,7 +15,7 @@ use Rattle.config_values.specs.Ranges.{IsConfig}
 use Rattle.config_values.proofs.Printers.{few_printers}
 use Rattle.spool_history.specs.Base.{Base}
 use Rattle.spool_history.specs.Events.{Event, Sheet}
-use Rattle.spool_history.specs.Acts.{File, is_open_in}
+use Rattle.spool_history.specs.Acts.{is_open_in}
 use Rattle.spool_history.specs.Now as N
 use Rattle.spool_history.specs.Now.{Job, State, free_pages}
 use Rattle.spool_history.specs.Legal.{HasOpen, IsReceiving}
@@ -25,15 +25,14 @@ use Rattle.spool_laws.proofs.Known.{clash}
 use Rattle.spool_laws.proofs.Adding.{sum_filter, sum_map, sum_same}
 use Rattle.spool_laws.proofs.Apart.{each_has_a_place}
 use Rattle.spool_moves.specs.Standing.{no_job}
-use Rattle.spool_moves.proofs.Standing.{Stands, has_get, has_here, has_job}
-use Rattle.spool_moves.proofs.Opens.{job_opens, last_of}
+use Rattle.spool_moves.proofs.Standing.{has_here, has_job}
 use Rattle.spool_calls.specs.declared.printer.Printer.{Printer}
 use Rattle.spool_calls.specs.Looks.{Detail, What, size}
-use Rattle.spool_calls.specs.Kept.{Kept, Leaves, left_by, look, shown_job, kept_out, kept_printer, size_of}
+use Rattle.spool_calls.specs.Kept.{Kept, Leaves, left_by, look, shown_job, kept_out, kept_printer}
 use Rattle.spool_calls.specs.Readers.{ArePlaced, HasOpenFile, IsOpenFile, stopped_for}
 use Rattle.spool_calls.specs.Telling.{stopped_in}
 use Rattle.core_steps.proofs.Leaving.{Found, none_has, sees}
-use Rattle.core_steps.proofs.Phases.{facts_tie, open_tie}
+use Rattle.core_steps.proofs.Phases.{open_tie}
 use Rattle.core_steps.proofs.Filing.{files_many, is_receiving, left_of, not_receiving, open_last}
 use Rattle.core_steps.proofs.Printers.{printers_len}
 use Rattle.core_steps.proofs.Starting.{is_stopped_for}

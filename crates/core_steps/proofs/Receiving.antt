@@ -1,6 +1,6 @@
 -- A data file of a job ends, and its control file comes: with the last of these it is received.
-use Rattle.std.proofs.Common.{◌≡◌, ◌≢◌, ℕ, ◌+◌, ◌-◌, ◌≤◌, Bool, true, false, List, [], ◌∷◌, length, get_or, set, map, refl, sym, ◌∙◌, ap, subst, arith}
-use Rattle.std.specs.Prelude.{All, Ok, Err, Option, Some, None, IsSome, ◌&&◌, not, is_some}
+use Rattle.std.proofs.Common.{◌≡◌, ◌≢◌, ℕ, ◌+◌, ◌-◌, ◌≤◌, Bool, true, false, List, ◌∷◌, length, get_or, refl, sym, ◌∙◌, ap, subst, arith}
+use Rattle.std.specs.Prelude.{All, Ok, Err, Option, Some, None, ◌&&◌, not, is_some}
 use Rattle.std.specs.List.{list_all}
 use Rattle.std.proofs.lemmas.Simd.{map-map}
 use Rattle.counts.specs.Amounts.{amount}
@@ -25,16 +25,14 @@ use Rattle.spool_history.specs.Events.Act.{FileEnded, Controlled}
 use Rattle.spool_history.specs.Events.Event.{OfJob}
 use Rattle.lpd_values.specs.Told.{prints_in}
 use Rattle.spool_history.specs.Acts.{File, at_last, is_open_in, is_whole, names_in}
-use Rattle.spool_history.specs.Now.{Job, State, is_held, is_received, pages_kept, row_of}
+use Rattle.spool_history.specs.Now.{Job, State, is_received, pages_kept, row_of}
 use Rattle.spool_history.specs.Steps.{acted}
 use Rattle.spool_history.specs.Legal.{HasJob, HasOpen, HasPages, IsControl, IsReceiving, JobMay, pages_for}
-use Rattle.spool_laws.specs.Sums.{chained_of}
-use Rattle.spool_laws.proofs.Known.{Has, clash}
 use Rattle.spool_laws.proofs.Apart.{each_has_a_place}
 use Rattle.spool_moves.specs.Standing.{no_job}
-use Rattle.spool_moves.proofs.Standing.{Stands, has_get, has_here, has_job}
+use Rattle.spool_moves.proofs.Standing.{has_here, has_job}
 use Rattle.spool_moves.proofs.Moving.{act_set}
-use Rattle.spool_moves.proofs.Opens.{LastOpen, job_opens, last_of}
+use Rattle.spool_moves.proofs.Opens.{LastOpen, job_opens}
 use Rattle.spool_moves.proofs.Files.{Differ, job_names_differ, job_pages_needed, needed_of_last, none_left_is_all, all_is_none_left}
 use Rattle.spool_moves.proofs.Holding.{closed_unlent, file_pages, granted_filed, granted_within, unreceived_unhanded}
 use Rattle.job_moves.proofs.Ties.{fills}
@@ -46,11 +44,11 @@ use Rattle.core_rows.proofs.Receiving.{chained_receiving, controlled_chain, cont
 use Rattle.core_rows.proofs.Received.{Becomes, by_control, by_file, received_chain, unprinted}
 use Rattle.spool_calls.specs.declared.answers.Receipt.TheVariants.{Stored, Received}
 use Rattle.spool_calls.specs.Looks.{Detail, What, size}
-use Rattle.spool_calls.specs.Kept.{Kept, Leaves, left_by, look, shown_job, facts_of, size_of}
+use Rattle.spool_calls.specs.Kept.{Kept, Leaves, left_by, look, shown_job, size_of}
 use Rattle.spool_calls.specs.Calls.{Ends, Controls}
 use Rattle.core_steps.proofs.Leaving.{Found, held_unended, leaves_act, leaves_row, none_has, one_stored, pool_even, row_stands, sees}
 use Rattle.core_steps.proofs.Ranges.{limit_within}
-use Rattle.core_steps.proofs.Phases.{facts_tie, phase_tie, phase_receiving, open_tie}
+use Rattle.core_steps.proofs.Phases.{phase_tie, phase_receiving, open_tie}
 use Rattle.core_steps.proofs.Filing.{idle, is_receiving, left_of, open_last}
 
 -- whether all that is awaited is there

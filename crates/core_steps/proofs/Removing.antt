@@ -1,7 +1,7 @@
 -- Jobs are removed.
-use Rattle.std.proofs.Common.{inl, inr, ◌⊎◌, ◌≡◌, ◌≢◌, ◌==◌, ℕ, ◌+◌, ◌<◌, Bool, true, false, List, [], ◌∷◌, length, get_or, map, filter, take, refl, sym, ◌∙◌, ap, subst, arith}
+use Rattle.std.proofs.Common.{inl, inr, ◌⊎◌, ◌≡◌, ◌≢◌, ◌==◌, ℕ, ◌+◌, ◌<◌, Bool, true, false, List, [], ◌∷◌, length, get_or, map, filter, take, refl, sym, ◌∙◌, subst, arith}
 use Rattle.std.specs.Prelude.{◌&&◌, not, All, AllPairs, Contains, Ok}
-use Rattle.std.specs.List.{AllByRecursion, list_any}
+use Rattle.std.specs.List.{list_any}
 use Rattle.std.specs.List.Sorted.{IsStrictlyIncreasing}
 use Rattle.std.proofs.lemmas.Bool.{and_parts, not-true}
 use Rattle.std.proofs.lemmas.List.{get_or-map, length-map}
@@ -24,10 +24,8 @@ use Rattle.spool_history.specs.Choice as H
 use Rattle.spool_history.specs.Texts as X
 use Rattle.spool_history.specs.Told.{told_of}
 use Rattle.spool_history.specs.Legal.{HasJob, May, MayBeRemoved}
-use Rattle.spool_laws.proofs.Known.{Has, clash}
 use Rattle.spool_laws.proofs.Pigeons.{Rises}
 use Rattle.spool_laws.proofs.Busy.{rising_jobs}
-use Rattle.spool_laws.proofs.Joined.{contained as contains_has}
 use Rattle.spool_calls.specs.Looks.{Detail, What, size}
 use Rattle.spool_calls.specs.Kept.{Kept, Leaves, left_by}
 use Rattle.spool_calls.specs.Calls.{Removes, removed_by}

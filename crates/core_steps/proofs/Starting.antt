@@ -1,9 +1,9 @@
 -- Sessions are admitted to a queue, and its stopped printers are started.
-use Rattle.std.proofs.Common.{inl, inr, ◌≡◌, ◌≢◌, ◌==◌, ℕ, zero, suc, ◌+◌, ◌<◌, ◌≤◌, Bool, true, false, cond, List, [], ◌∷◌, ◌++◌, length, get_or, set, take, drop, map, refl, sym, ◌∙◌, ap, subst, arith}
-use Rattle.std.specs.Prelude.{◌&&◌, ◌||◌, ◌⊎◌, Ok, None}
+use Rattle.std.proofs.Common.{inl, inr, ◌≡◌, ◌≢◌, ◌==◌, ℕ, zero, suc, ◌+◌, ◌<◌, Bool, true, false, cond, List, ◌∷◌, ◌++◌, length, get_or, set, take, drop, map, refl, sym, ◌∙◌, ap, subst, arith}
+use Rattle.std.specs.Prelude.{◌&&◌, ◌⊎◌, Ok, None}
 use Rattle.std.specs.List.{list_any}
 use Rattle.std.proofs.lemmas.Bool.{and_parts, cond_both, false_from_ne_true}
-use Rattle.std.proofs.lemmas.List.{append-nil, drop_all, get_or-map, get_or_default, length-append, length-drop, length-map, length-take, take_all}
+use Rattle.std.proofs.lemmas.List.{get_or-map, get_or_default, length-append, length-drop, length-map, length-take}
 use Rattle.std.proofs.lemmas.List.Edits.{map_over_more}
 use Rattle.std.proofs.lemmas.List.Folds.{Any-from_list_any, list_any_at, map_fixed}
 use Rattle.std.proofs.lemmas.Simd.{map-map}
@@ -16,7 +16,7 @@ use Rattle.spool_history.specs.Now as N
 use Rattle.spool_history.specs.Now.{State}
 use Rattle.spool_history.specs.Next.{no_printer, printer_at}
 use Rattle.spool_history.specs.Legal.{May, IsStoppedFor}
-use Rattle.spool_laws.proofs.Known.{clash, or_true}
+use Rattle.spool_laws.proofs.Known.{clash}
 use Rattle.spool_laws.proofs.Adding.{length_up_to}
 use Rattle.spool_calls.specs.declared.printer.Printer.{Printer}
 use Rattle.spool_calls.specs.Looks.{Detail, What, size}

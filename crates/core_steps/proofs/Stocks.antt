@@ -38,7 +38,7 @@ use Rattle.core_rows.proofs.Handing.{row_stands}
 use Rattle.core_rows.proofs.Receiving.{held_in_row}
 use Rattle.core_rows.proofs.Ending.{HeldAddsUp, ended_leaves, ended_same, gone_leaves, job_adds_up}
 use Rattle.spool_calls.specs.Looks.{Detail, What}
-use Rattle.spool_calls.specs.Kept.{IsBookOf, look, shown_job, phase_of}
+use Rattle.spool_calls.specs.Kept.{IsBookOf, look, shown_job}
 use Rattle.core_steps.proofs.Phases.{ended_is, facts_tie, phase_tie}
 
 -- the parts of a core in which jobs end

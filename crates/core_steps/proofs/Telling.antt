@@ -1,6 +1,6 @@
 -- What a book tells of its jobs is what the history tells of them.
 use Rattle.std.proofs.Common.{◌≡◌, ◌==◌, ℕ, suc, ◌+◌, ◌-◌, Bool, true, false, cond, List, [], ◌∷◌, ◌++◌, length, map, filter, take, refl, sym, ◌∙◌, ap, ap₂, subst}
-use Rattle.std.specs.Prelude.{◌&&◌, not, Ok, Vec}
+use Rattle.std.specs.Prelude.{Ok, Vec}
 use Rattle.std.specs.Global.{Global}
 use Rattle.std.specs.List.{flat_map}
 use Rattle.std.specs.Str.{bytes_eq}
@@ -10,12 +10,9 @@ use Rattle.std.proofs.lemmas.Simd.{map-map}
 use Rattle.lpd_values.specs.Told.{Told, prints_in}
 use Rattle.lpd_values.specs.Choice.{active, chosen, is_active, is_listed, is_picked, is_shown, listed, may_remove, shown}
 use Rattle.lpd_values.specs.Texts.{job_lines, listing, or_nothing, queue_line, removal_text, removed_line, state_text}
-use Rattle.held_jobs.specs.declared.phase.Phase.TheVariants.{Receiving, Received, Ended}
 use Rattle.held_jobs.specs.Jobs.{Facts}
-use Rattle.held_jobs.specs.Shown.{ShownJob, see_job}
 use Rattle.held_jobs.specs.Told as K
 use Rattle.held_jobs.specs.Told.{told_in}
-use Rattle.held_jobs.specs.Turns as T
 use Rattle.held_jobs.specs.Turns.{facts_in}
 use Rattle.config_values.specs.Config.{Config, IsQueue, queue_at, queue_named}
 use Rattle.spool_history.specs.Base.{Base}
@@ -29,7 +26,7 @@ use Rattle.spool_calls.specs.declared.printer.Printer.{Printer}
 use Rattle.spool_calls.specs.Looks.{Detail, What}
 use Rattle.spool_calls.specs.Calls.{Tells, removed_by}
 use Rattle.spool_calls.specs.Telling.{Chooses, serving, stopped_in}
-use Rattle.spool_calls.specs.Kept.{Kept, Leaves, facts_of, kept_printer, left_by, look, shown_job, size_of}
+use Rattle.spool_calls.specs.Kept.{Kept, Leaves, facts_of, kept_printer, left_by, size_of}
 use Rattle.core_steps.proofs.Phases.{goes_is}
 use Rattle.core_steps.proofs.Queues.{is_queue_named, takes}
 use Rattle.core_steps.proofs.Turning.{facts_kept}
