@@ -19,7 +19,7 @@ use Rattle.job_moves.proofs.Ties.{Prints, Ties, prints}
 use Rattle.job_moves.proofs.Passes.{all_again, passes}
 use Rattle.job_moves.proofs.Placing.{placed_is}
 use Rattle.job_moves.proofs.Seeing.{see_len, seen_len, seen_none, seen_some}
-use Rattle.job_moves.proofs.Shelves.{content_at, given_if, len_of, len_shelved, sizes_of}
+use Rattle.job_moves.proofs.Shelves.{content_at, given_if, given_none, len_of, len_shelved, sizes_of}
 use Rattle.job_moves.proofs.Spots.{PlaceAt, place_at, place_differs, same_place}
 use Rattle.job_moves.proofs.Printing.{Goes, again_is, again_within, alike, last_is, see_place, there_before, there_printed, unlike}
 
@@ -52,11 +52,7 @@ page_out {C} f c j v at e a =
     there_before v at p e ∙ alike (is_same_place p p) (list_any (is_same_place p) (drop (v.back + 1) (spots v))) (same_place p) in
     seen_none f (page_at j.chain.files p)
     (see_place f c j v p a
-    ∙ (ap (λ (b : Bool). given_if (is_printed (spots v) p.file) (given_if b (content_at v.files p.file p.number))) there ∙ none (is_printed (spots v) p.file)))
-  where
-    none : {C : Type 0} (b : Bool) → ◌≡◌ {A = Option C} (given_if b None) None
-    none true = refl
-    none false = refl
+    ∙ (ap (λ (b : Bool). given_if (is_printed (spots v) p.file) (given_if b (content_at v.files p.file p.number))) there ∙ given_none (is_printed (spots v) p.file)))
 
 -- the other pages of its file are, where it comes again
 page_in : {C : Type 0} (f : Page → C) (c : Config) (j : HeldJob) (v : Job C) (at : PlaceAt v v.back) → v.handed ≡ v.back + 1 → Differ (names_in v.files) → comes_again j.chain.places j.chain.last ≡ true → Prints f c j v

@@ -53,17 +53,19 @@ pub count_all : {C : Type 0} (t : A.Page C → Bool) (file n m : ℕ) (pages : L
     → length (filter t (A.numbered file n pages)) ≡ length pages
 count_all t file n m [] e all = refl
 count_all {C} t file n m (page ∷ pages) e all =
-    let x : A.Page C = record { file = file; number = n; page = page } in
-    ap (λ (b : Bool). length (cond b (x ∷ filter t (A.numbered file (n + 1) pages)) (filter t (A.numbered file (n + 1) pages)))) (all n page (omega arith))
-    ∙ ap suc (count_all t file (n + 1) m pages (omega arith) all)
+    rw (all n page (omega arith)) (ap suc (count_all t file (n + 1) m pages (omega arith) all))
 
 -- a test that takes no page of a file
 pub count_none : {C : Type 0} (t : A.Page C → Bool) (file n : ℕ) (pages : List C) → ((k : ℕ) (page : C) → t (record { file = file; number = k; page = page }) ≡ false) → length (filter t (A.numbered file n pages)) ≡ 0
 count_none t file n [] none = refl
 count_none {C} t file n (page ∷ pages) none =
-    let x : A.Page C = record { file = file; number = n; page = page } in
-    ap (λ (b : Bool). length (cond b (x ∷ filter t (A.numbered file (n + 1) pages)) (filter t (A.numbered file (n + 1) pages)))) (none n page)
-    ∙ count_none t file (n + 1) pages none
+    rw (none n page) (count_none t file (n + 1) pages none)
+
+-- a test keeps the pages of the first file that it keeps, and those of the others
+pub count_more : {C : Type 0} (t : A.Page C → Bool) (n : ℕ) (f : A.File C) (fs : List (A.File C)) → length (filter t (all_pages n (f ∷ fs))) ≡ length (filter t (A.numbered n 0 f.pages)) + length (filter t (all_pages (n + 1) fs))
+count_more {C} t n f fs =
+    ap (λ (l : List (A.Page C)). length l) (filter-append t (A.numbered n 0 f.pages) (all_pages (n + 1) fs))
+    ∙ length-append (filter t (A.numbered n 0 f.pages)) (filter t (all_pages (n + 1) fs))
 
 -- what a test keeps is what has a place among those of these files
 abbrev Keeps : {C : Type 0} → (A.Page C → Bool) → (ℕ → ℕ) → List ℕ → Type 0
@@ -95,13 +97,11 @@ counted f t numbers all n m [] (y ∷ ys) nm r w keeps = absurd cc
 counted f t numbers all n m (x ∷ xs) [] nm r w keeps = absurd cc
 counted {C} f t numbers all n m (x ∷ xs) (y ∷ ys) nm r w keeps =
     let a = whole_first f x xs y ys w in
-    let next : n + 1 ≡ suc m = omega arith in
-    let ih = counted f t numbers all (n + 1) (suc m) xs ys next r.1 a.rest keeps in
+    let ih = counted f t numbers all (n + 1) (suc m) xs ys (omega arith) r.1 a.rest keeps in
     let one = count_by f t numbers all n m x xs y ys (is_among numbers m) nm refl r.0 a keeps in
     let p = length-append (cond (is_among numbers m) [] (there x.pages)) (dropped_from (suc m) numbers xs) in
-    let q = ap (λ (l : List (A.Page C)). length l) (filter-append t (A.numbered n 0 y.pages) (all_pages (n + 1) ys)) in
-    let s = length-append (filter t (A.numbered n 0 y.pages)) (filter t (all_pages (n + 1) ys)) in
-    omega (arith, ih, one, p, q, s)
+    let q = count_more t n y ys in
+    omega (arith, ih, one, p, q)
 
 -- the pages that go back and those that are kept are all pages of the files
 pub counts_placed : {C : Type 0} (f : Page → C) (xs : List F.File) (v : Job C) (names : List (List ℕ)) → Whole f xs v.files → Differ (names_in v.files) → names ≡ prints_in v.control → v.back ≡ 0

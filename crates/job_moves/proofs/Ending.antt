@@ -13,12 +13,6 @@ use Rattle.spool_history.specs.Steps.{acted, turned}
 use Rattle.spool_calls.specs.Kept.{phase_of}
 use Rattle.job_moves.proofs.Ties.{AtPhase, Ties, at_phase, facts_at, phase_ended, ties_at}
 
--- what is known of a job, whatever its phase
-known : {C : Type 0} (f : Page → C) (c : Config) (j : HeldJob) (v : Job C) → Ties f c j v → AtPhase f c (phase_of v) j v
-known f c j v t = at_phase f c (phase_of v) j v refl t
-
 -- it ends, and its pages go
 pub ties_ended : {C : Type 0} (f : Page → C) (c : Config) (j : HeldJob) (v : Job C) → Ties f c j v → Ties f c (drained_job j) (record v { ended = true })
-ties_ended {C} f c j v t = ties_at f c Ended (drained_job j) (record v { ended = true }) refl (record { facts = ap ended_facts (known f c j v t).facts; shelf = refl })
-
--- of an ended job
+ties_ended {C} f c j v t = ties_at f c Ended (drained_job j) (record v { ended = true }) refl (record { facts = ap ended_facts (at_phase f c (phase_of v) j v refl t).facts; shelf = refl })

@@ -34,14 +34,6 @@ use Rattle.job_moves.proofs.Spots.{length-spots}
 use Rattle.job_moves.proofs.Printing.{Goes}
 use Rattle.std.proofs.lemmas.Bool.Decides.{nat_tests}
 
--- what each phase says
-
--- while it is being received
-
--- whether it is whole
-
--- once it is received
-
 -- so many places are left
 pub places_left : {C : Type 0} (f : Page → C) (c : Config) (j : HeldJob) (v : Job C) → Goes v → Ties f c j v → length j.chain.places ≡ length (places v) - v.handed
 places_left f c j v g t =
@@ -50,6 +42,4 @@ places_left f c j v g t =
 
 -- a page that comes back is the last where no place is left
 pub is_done : {C : Type 0} (f : Page → C) (c : Config) (j : HeldJob) (v : Job C) → Goes v → v.handed ≡ v.back + 1 → v.handed ≤ length (places v) → Ties f c j v → (v.back + 1 == length (places v)) ≡ (length j.chain.places == 0)
-is_done f c j v g e le t =
-    let l = places_left f c j v g t in
-    grind (arith, nat_tests)
+is_done f c j v g e le t = (let l = places_left f c j v g t in grind (arith, nat_tests))

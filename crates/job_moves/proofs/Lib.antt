@@ -13,4 +13,3 @@ pub mod Printing
 pub mod Awaiting
 pub mod Stored
 pub mod Facts
-pub mod Asking

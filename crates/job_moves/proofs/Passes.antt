@@ -1,6 +1,6 @@
 -- Places of whole files, one pass after the other.
 use Rattle.std.proofs.Common.{inl, inr, ◌≡◌, ◌==◌, ℕ, zero, suc, ◌+◌, ◌-◌, ◌<◌, ◌≤◌, Bool, true, false, List, [], ◌∷◌, ◌++◌, length, drop, refl, sym, ◌∙◌, ap, subst, arith}
-use Rattle.std.specs.Prelude.{◌||◌}
+use Rattle.std.specs.Prelude.{◌||◌, ◌&&◌}
 use Rattle.std.specs.List.{flat_map, list_any}
 use Rattle.std.proofs.lemmas.Bool.{and_from, and_parts, and_right, cases_eq, cases_lt, eq-eqb, eqb-true, ne_eqb, or_cases, or_from, or_left, or_parts, or_right}
 use Rattle.std.proofs.Math.Seq.{drop-append-add}
@@ -11,6 +11,11 @@ use Rattle.page_chain.specs.Files.{numbered}
 use Rattle.spool_calls.specs.Kept.{is_printed}
 use Rattle.spool_laws.proofs.Known.{clash}
 use Rattle.page_chain.proofs.Places.{in_range, length-numbered}
+
+-- a test and nothing more
+pub and_yes : (b : Bool) → (b && true) ≡ b
+and_yes true = refl
+and_yes false = refl
 
 -- the places of these files, each of which has so many pages
 abbrev pub passes : (ℕ → ℕ) → List ℕ → List Place
@@ -29,16 +34,12 @@ numbered_other : (file i n m : ℕ) → (i ≡ file → ⊥) → is_printed (num
 numbered_other file i n zero ne = refl
 numbered_other file i n (suc m) ne = or_from (i == file) (is_printed (numbered i (suc n) m) file) (ne_eqb i file ne) (numbered_other file i (suc n) m ne)
 
--- a file is printed by one list or the other
-printed_both : (xs ys : List Place) (file : ℕ) → is_printed (xs ++ ys) file ≡ (is_printed xs file || is_printed ys file)
-printed_both xs ys file = list_any-append (λ (place : Place). place.file == file) xs ys
-
 -- a file that isn't among those has no place
 pub printed_none : (len : ℕ → ℕ) (numbers : List ℕ) (file : ℕ) → is_among numbers file ≡ false → is_printed (passes len numbers) file ≡ false
 printed_none len [] file e = refl
 printed_none len (i ∷ numbers) file e =
     let o = or_parts (i == file) (is_among numbers file) e in
-    printed_both (numbered i 0 (len i)) (passes len numbers) file
+    list_any-append (λ (place : Place). place.file == file) (numbered i 0 (len i)) (passes len numbers)
     ∙ or_from (is_printed (numbered i 0 (len i)) file) (is_printed (passes len numbers) file)
     (numbered_other file i 0 (len i) (λ s. clash (i == file) (eq-eqb i file s) o.0)) (printed_none len numbers file o.1)
 

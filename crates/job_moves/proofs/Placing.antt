@@ -1,9 +1,10 @@
 -- The places of a job are those of whole files, one pass after the other.
-use Rattle.std.proofs.Common.{inl, inr, ◌≡◌, ℕ, suc, ◌+◌, Bool, true, false, cond, nat_lt, List, [], ◌∷◌, ◌++◌, length, map, refl, sym, ◌∙◌, ap, subst, arith}
+use Rattle.std.proofs.Common.{inl, inr, ◌≡◌, ℕ, suc, ◌+◌, Bool, true, false, cond, nat_lt, List, [], ◌∷◌, ◌++◌, length, map, refl, sym, ◌∙◌, ap, ap₂, subst, arith}
 use Rattle.std.specs.Prelude.{Option, Some, None}
 use Rattle.std.specs.List.{cons_option, flat_map, position_or_len}
 use Rattle.std.specs.Str.{bytes_eq}
-use Rattle.std.proofs.lemmas.Bool.{cases_lt, lt-ltb, le-ltb, or_parts}
+use Rattle.std.proofs.lemmas.Bool.{lt-ltb, le-ltb, or_parts}
+use Rattle.std.proofs.lemmas.Bool.Decides.{nat_tests}
 use Rattle.std.proofs.lemmas.List.{append-nil, map-append}
 use Rattle.std.proofs.lemmas.Slice.Eq.{bytes_eq-Decides}
 use Rattle.lpd_values.specs.Kept.{is_among}
@@ -27,15 +28,10 @@ found_at n k len = cond (nat_lt k len) (Some (n + k)) None
 
 -- the same place, counted from the next
 shift : (n k len : ℕ) → found_at n (1 + k) (suc len) ≡ found_at (suc n) k len
-shift n k len = elim (cases_lt k len) [
-  | inl lt ↦
-      let a : n + (1 + k) ≡ suc n + k = omega arith in
-      ap (λ (b : Bool). cond b (Some (n + (1 + k))) None) (lt-ltb (1 + k) (suc len) (omega (arith, lt)))
-      ∙ (ap (λ (m : ℕ). Some m) a ∙ ap (λ (b : Bool). cond b (Some (suc n + k)) None) (sym (lt-ltb k len lt)))
-  | inr le ↦
-      ap (λ (b : Bool). cond b (Some (n + (1 + k))) None) (le-ltb (1 + k) (suc len) (omega (arith, le)))
-      ∙ ap (λ (b : Bool). cond b (Some (suc n + k)) None) (sym (le-ltb k len le))
-]
+shift n k len =
+    let same : nat_lt (1 + k) (suc len) ≡ nat_lt k len = grind (arith, nat_tests) in
+    let a : n + (1 + k) ≡ suc n + k = omega arith in
+    ap (λ (b : Bool). cond b (Some (n + (1 + k))) None) same ∙ ap (λ (m : ℕ). cond (nat_lt k len) (Some m) None) a
 
 -- whether the first name is that name
 position_by : (n : ℕ) (x name : List ℕ) (names : List (List ℕ)) (b : Bool) → bytes_eq x name ≡ b
@@ -62,9 +58,7 @@ number_is names name =
 numbered_places : {C : Type 0} (file n m : ℕ) (pages : List C) → n ≡ m → map {A = A.Page C} {B = Place} place_of (A.numbered file n pages) ≡ F.numbered file m (length pages)
 numbered_places file n m [] e = refl
 numbered_places {C} file n m (x ∷ pages) e =
-    let next : n + 1 ≡ suc m = omega arith in
-    ap (λ (k : ℕ). record { file = file; number = k } ∷ map {A = A.Page C} {B = Place} place_of (A.numbered file (n + 1) pages)) e
-    ∙ ap (λ (l : List Place). record { file = file; number = m } ∷ l) (numbered_places file (n + 1) (suc m) pages next)
+    ap₂ (λ (k : ℕ) (l : List Place). record { file = file; number = k } ∷ l) e (numbered_places file (n + 1) (suc m) pages (omega arith))
 
 -- a name of no file has no page
 none_named : {C : Type 0} (name : List ℕ) (n : ℕ) (fs : List (A.File C)) → is_among name (names_in fs) ≡ false → A.pages_named name n fs ≡ []
@@ -103,8 +97,7 @@ named_places : {C : Type 0} (len : ℕ → ℕ) (name : List ℕ) (n m : ℕ) (f
     → map {A = A.Page C} {B = Place} place_of (A.pages_named name n fs) ≡ placed_at len (number_from m (names_in fs) name)
 named_places len name n m [] e d s = refl
 named_places len name n m (f ∷ fs) e d s =
-    let next : n + 1 ≡ suc m = omega arith in
-    named_by len name n m f fs (bytes_eq f.name name) e refl d.0 s.0 (named_places len name (n + 1) (suc m) fs next d.1 s.1)
+    named_by len name n m f fs (bytes_eq f.name name) e refl d.0 s.0 (named_places len name (n + 1) (suc m) fs (omega arith) d.1 s.1)
 
 -- one more file
 flat_option : (len : ℕ → ℕ) (o : Option ℕ) (numbers : List ℕ) → passes len (cons_option o numbers) ≡ placed_at len o ++ passes len numbers

@@ -20,9 +20,10 @@ use Rattle.spool_history.specs.Now.{Job, is_received, places}
 use Rattle.spool_history.specs.Steps.{turned}
 use Rattle.spool_calls.specs.Kept.{is_at, is_printed, is_there, last_of, place_of, shelved_files, spots}
 use Rattle.job_moves.proofs.Ties.{Prints, Ties, prints, ties_printing}
-use Rattle.job_moves.proofs.Passes.{printed_some}
+use Rattle.job_moves.proofs.Passes.{and_yes, printed_some}
 use Rattle.job_moves.proofs.Seeing.{see_at, see_with, seen_at, seen_some, seen_with}
 use Rattle.job_moves.proofs.Shelves.{content_at, given_if, same_files, seen_shelved, set_shelved}
+use Rattle.spool_laws.proofs.Known.{and_false}
 use Rattle.job_moves.proofs.Spots.{PlaceAt, any_later, any_within, content_of, length-spots, place_at, place_differs, place_is, same_place, there_even, there_odd}
 
 -- a received job that hasn't ended
@@ -118,7 +119,7 @@ ties_handed {C} f c j v h t =
     ∙ ap (λ (b : Bool). b && not (is_same_place q p)) (sym (there_even s v.handed v.back q e)) in
     let others : (q : Place) → ((q.file ≡ p.file) × (q.number ≡ p.number) → ⊥) → there q ≡ after q =
     λ q ne. sym (tells q ∙ (ap (λ (b : Bool). there q && not b) (place_differs q p ne) ∙ and_yes (there q))) in
-    let gone : after p ≡ false = tells p ∙ (ap (λ (b : Bool). there p && not b) (same_place p) ∙ and_no (there p)) in
+    let gone : after p ≡ false = tells p ∙ (ap (λ (b : Bool). there p && not b) (same_place p) ∙ and_false (there p)) in
     ties_printing f c (handed_job j) (turned Handed v) h.goes.0 h.goes.1 (record {
       facts = ap handed_facts a.facts;
       files =
@@ -130,14 +131,6 @@ ties_handed {C} f c j v h t =
       places = ap (drop 1) a.places ∙ drop-drop 1 v.handed s;
       last = ap (λ (q : Place). Some q) next ∙ (sym at.spot ∙ ap (last_of s) (sym (next_left v.handed)));
     })
-  where
-    and_yes : (b : Bool) → (b && true) ≡ b
-    and_yes true = refl
-    and_yes false = refl
-
-    and_no : (b : Bool) → (b && false) ≡ false
-    and_no true = refl
-    and_no false = refl
 
 -- a page comes back
 
@@ -215,15 +208,14 @@ ties_back {C} f c j v g e none t =
 
 -- a page comes again only while places are left
 pub again_within : {C : Type 0} (f : Page → C) (c : Config) (j : HeldJob) (v : Job C) → comes_again j.chain.places j.chain.last ≡ true → Prints f c j v → v.handed < length (places v)
-again_within f c j v again a =
-    let by : (o : Option Place) → comes_again (drop v.handed (spots v)) o ≡ true → v.handed < length (spots v) = within v in
+again_within {C} f c j v again a =
     let l = length-spots v in
-    let lt = by j.chain.last (ap (λ (x : List Place). comes_again x j.chain.last) (sym a.places) ∙ again) in
+    let lt = within j.chain.last (ap (λ (x : List Place). comes_again x j.chain.last) (sym a.places) ∙ again) in
     omega (arith, l, lt)
   where
-    within : {C : Type 0} (v : Job C) (o : Option Place) → comes_again (drop v.handed (spots v)) o ≡ true → v.handed < length (spots v)
-    within v None e = absurd cc
-    within v (Some place) e = any_within (is_same_place place) v.handed (spots v) e
+    within : (o : Option Place) → comes_again (drop v.handed (spots v)) o ≡ true → v.handed < length (spots v)
+    within None e = absurd cc
+    within (Some place) e = any_within (is_same_place place) v.handed (spots v) e
 
 -- it comes back for a later place
 pub ties_again : {C : Type 0} (f : Page → C) (c : Config) (j : HeldJob) (v : Job C) (page : Page) (x : A.Page C) → Goes v → v.handed ≡ v.back + 1 → comes_again j.chain.places j.chain.last ≡ true

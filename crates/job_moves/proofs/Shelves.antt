@@ -35,7 +35,7 @@ abbrev pub given_if : {C : Type 0} → Bool → Option C → Option C
 given_if b o = cond b o None
 
 -- no page, whatever the test says
-given_none : {C : Type 0} (b : Bool) → ◌≡◌ {A = Option C} (given_if b None) None
+pub given_none : {C : Type 0} (b : Bool) → ◌≡◌ {A = Option C} (given_if b None) None
 given_none true = refl
 given_none false = refl
 

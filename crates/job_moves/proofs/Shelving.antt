@@ -13,7 +13,7 @@ use Rattle.held_jobs.specs.Shown.{see_file, see_page}
 use Rattle.spool_history.specs.Acts as A
 use Rattle.spool_history.specs.Acts.{names_in}
 use Rattle.spool_calls.specs.Kept.{is_at, is_printed, is_there, shelved, shelved_files, whole_file}
-use Rattle.job_moves.proofs.Passes.{passes, passed, printed_none, printed_some}
+use Rattle.job_moves.proofs.Passes.{and_yes, passes, passed, printed_none, printed_some}
 use Rattle.job_moves.proofs.Placing.{Sizes}
 
 -- the files of a chain are these, whole
@@ -91,11 +91,7 @@ pub there_first : (spots : List Place) (handed back : ℕ) (place : Place) → h
 there_first spots handed back place e d =
     ap (λ (n : ℕ). list_any (is_same_place place) (drop back spots) && not (not (n == back) && is_at (slice_get spots back) place)) e
     ∙ (ap (λ (n : ℕ). list_any (is_same_place place) (drop n spots) && not (not (0 == n) && is_at (slice_get spots n) place)) d
-    ∙ and_true' (list_any (is_same_place place) spots))
-  where
-    and_true' : (b : Bool) → (b && true) ≡ b
-    and_true' true = refl
-    and_true' false = refl
+    ∙ and_yes (list_any (is_same_place place) spots))
 
 -- a file that is printed has all its pages, and another none
 file_printed : {C : Type 0} (printed : Bool) (there : Place → Bool) (file : ℕ) (pages : List C) → (0 < length pages → printed ≡ true) → ((k : ℕ) → k < length pages → there (record { file = file; number = k }) ≡ true)

@@ -14,6 +14,7 @@ use Rattle.spool_history.specs.Acts.{names_in}
 use Rattle.spool_history.specs.Now.{Job, places}
 use Rattle.spool_calls.specs.Kept.{is_at, is_there, place_of, spots}
 use Rattle.spool_laws.proofs.Known.{Has, clash}
+use Rattle.job_moves.proofs.Passes.{and_yes}
 use Rattle.job_moves.proofs.Shelves.{content_at}
 use Rattle.spool_laws.proofs.Copies.{has_either, if_has}
 
@@ -155,11 +156,6 @@ any_later t (suc n) [] e = e
 any_later t (suc n) (x ∷ xs) e = or_right (t x) (list_any t xs) (any_later t n xs e)
 
 -- which pages are there
-
--- a test and nothing more
-and_yes : (b : Bool) → (b && true) ≡ b
-and_yes true = refl
-and_yes false = refl
 
 -- where no page is at a printer, those of which some place hasn't come back
 pub there_even : (s : List Place) (handed back : ℕ) (place : Place) → handed ≡ back → is_there s handed back place ≡ list_any (is_same_place place) (drop back s)

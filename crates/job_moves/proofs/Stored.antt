@@ -24,7 +24,7 @@ use Rattle.spool_laws.proofs.Copies.{pages_in}
 use Rattle.job_moves.proofs.Ties.{Prints, Ties, at_phase, fills, phase_ended, prints}
 use Rattle.job_moves.proofs.Passes.{none_there}
 use Rattle.job_moves.proofs.Shelving.{Whole, whole_first}
-use Rattle.job_moves.proofs.Counting.{all_there, any_placed, count_none}
+use Rattle.job_moves.proofs.Counting.{all_there, any_placed, count_more, count_none}
 use Rattle.job_moves.proofs.Shelves.{content_at}
 use Rattle.job_moves.proofs.Spots.{any_later, content_of, place_at, there_even, there_odd}
 use Rattle.std.proofs.lemmas.List.{drop-map}
@@ -54,8 +54,7 @@ count_shelved f is_in file n m (x ∷ xs) [] nm e = absurd cc
 count_shelved {C} f is_in file n m (x ∷ xs) (y ∷ pages) nm e =
     let first : see_page f x ≡ cond (is_in (record { file = file; number = m })) (Some y) None = cc in
     let rest : map {A = Option Page} {B = Option C} (see_page f) xs ≡ shelved is_in file (suc m) pages = cc in
-    let next : n + 1 ≡ suc m = omega arith in
-    let ih = count_shelved f is_in file (n + 1) (suc m) xs pages next rest in
+    let ih = count_shelved f is_in file (n + 1) (suc m) xs pages (omega arith) rest in
     by x (is_in (record { file = file; number = m })) (ap (λ (k : ℕ). is_in (record { file = file; number = k })) nm) first ih
   where
     by : (x : Option Page) (b : Bool) → is_in (record { file = file; number = n }) ≡ b → see_page f x ≡ cond b (Some y) None
@@ -84,14 +83,12 @@ count_files {C} f printed is_in n m (x ∷ xs) (y ∷ ys) nm none e =
     let t : A.Page C → Bool = λ page. is_in (place_of page) in
     let first : see_file f x ≡ record { name = y.name; pages = cond (printed m) (shelved is_in m 0 y.pages) [] } = cc in
     let rest : map {A = F.File} {B = S.File C} (see_file f) xs ≡ shelved_files printed is_in (suc m) ys = cc in
-    let next : n + 1 ≡ suc m = omega arith in
-    let ih = count_files f printed is_in (n + 1) (suc m) xs ys next none rest in
+    let ih = count_files f printed is_in (n + 1) (suc m) xs ys (omega arith) none rest in
     let one = count_file f is_in m x.pages y.pages (printed m) (λ k b. none (record { file = m; number = k }) b) (ap (λ (z : S.File C). z.pages) first) in
     let same = ap (λ (k : ℕ). length (filter t (A.numbered k 0 y.pages))) nm in
     let l = length-append (there x.pages) (every_page xs) in
-    let q = ap (λ (l : List (A.Page C)). length l) (filter-append t (A.numbered n 0 y.pages) (all_pages (n + 1) ys)) in
-    let s = length-append (filter t (A.numbered n 0 y.pages)) (filter t (all_pages (n + 1) ys)) in
-    omega (arith, ih, one, same, l, q, s)
+    let q = count_more t n y ys in
+    omega (arith, ih, one, same, l, q)
 
 -- a page that isn't printed isn't there
 not_printed : {C : Type 0} (v : Job C) (place : Place) → is_printed (spots v) place.file ≡ false → is_there (spots v) v.handed v.back place ≡ false
@@ -148,30 +145,24 @@ in_other {C} p file pages ne = count_none (λ (page : A.Page C). is_same_place (
 in_later : {C : Type 0} (p : Place) (n : ℕ) (fs : List (A.File C)) → p.file < n → length (filter (λ (page : A.Page C). is_same_place (place_of page) p) (all_pages n fs)) ≡ 0
 in_later p n [] lt = refl
 in_later {C} p n (f ∷ fs) lt =
-    let t : A.Page C → Bool = λ page. is_same_place (place_of page) p in
     let a = in_other p n f.pages (λ s. omega (arith, s, lt)) in
     let b = in_later p (n + 1) fs (omega (arith, lt)) in
-    let q = ap (λ (l : List (A.Page C)). length l) (filter-append t (A.numbered n 0 f.pages) (all_pages (n + 1) fs)) in
-    let s = length-append (filter t (A.numbered n 0 f.pages)) (filter t (all_pages (n + 1) fs)) in
-    omega (arith, a, b, q, s)
+    let q = count_more (λ (page : A.Page C). is_same_place (place_of page) p) n f fs in
+    omega (arith, a, b, q)
 
 -- so in all files once
 in_all : {C : Type 0} (p : Place) (n i : ℕ) (fs : List (A.File C)) (x : C) → p.file ≡ n + i → content_at fs i p.number ≡ Some x → length (filter (λ (page : A.Page C). is_same_place (place_of page) p) (all_pages n fs)) ≡ 1
 in_all p n i [] x e is = absurd cc
 in_all {C} p n zero (f ∷ fs) x e is =
-    let t : A.Page C → Bool = λ page. is_same_place (place_of page) p in
     let a = in_numbered p n 0 p.number f.pages x (omega (arith, e)) (omega arith) is in
     let b = in_later p (n + 1) fs (omega (arith, e)) in
-    let q = ap (λ (l : List (A.Page C)). length l) (filter-append t (A.numbered n 0 f.pages) (all_pages (n + 1) fs)) in
-    let s = length-append (filter t (A.numbered n 0 f.pages)) (filter t (all_pages (n + 1) fs)) in
-    omega (arith, a, b, q, s)
+    let q = count_more (λ (page : A.Page C). is_same_place (place_of page) p) n f fs in
+    omega (arith, a, b, q)
 in_all {C} p n (suc i) (f ∷ fs) x e is =
-    let t : A.Page C → Bool = λ page. is_same_place (place_of page) p in
     let a = in_other p n f.pages (λ s. omega (arith, s, e)) in
     let b = in_all p (n + 1) i fs x (omega (arith, e)) is in
-    let q = ap (λ (l : List (A.Page C)). length l) (filter-append t (A.numbered n 0 f.pages) (all_pages (n + 1) fs)) in
-    let s = length-append (filter t (A.numbered n 0 f.pages)) (filter t (all_pages (n + 1) fs)) in
-    omega (arith, a, b, q, s)
+    let q = count_more (λ (page : A.Page C). is_same_place (place_of page) p) n f fs in
+    omega (arith, a, b, q)
 
 -- a test keeps so many more than one that leaves out what another test, which is no wider, takes
 less_by : {X : Type 0} (t m u : X → Bool) (xs : List X) → ((x : X) → m x ≡ true → t x ≡ true) → ((x : X) → u x ≡ (t x && not (m x))) → length (filter t xs) ≡ length (filter u xs) + length (filter m xs)

@@ -38,11 +38,7 @@ facts_at {C} p c v = record {
 
 -- two shelves with the same parts are one
 pub same_shelf : {C : Type 0} (a b : Shelf C) → a.files ≡ b.files → a.is_open ≡ b.is_open → a.places ≡ b.places → a.last ≡ b.last → a ≡ b
-same_shelf {C} a b e1 e2 e3 e4 =
-    ap (λ (x : List (File C)). record { files = x; is_open = a.is_open; places = a.places; last = a.last }) e1
-    ∙ (ap (λ (x : Bool). record { files = b.files; is_open = x; places = a.places; last = a.last }) e2
-    ∙ (ap (λ (x : List Place). record { files = b.files; is_open = b.is_open; places = x; last = a.last }) e3
-    ∙ ap (λ (x : Option Place). record { files = b.files; is_open = b.is_open; places = b.places; last = x }) e4))
+same_shelf a b files is_open places last i = record { files = files i; is_open = is_open i; places = places i; last = last i }
 
 -- what each phase is
 pub phase_receiving : {C : Type 0} (v : Job C) → IsReceiving v → phase_of v ≡ Receiving
@@ -70,22 +66,23 @@ at_phase {C} f c p j v e t = record {
 
 -- and what it has there is its tie
 pub ties_at : {C : Type 0} (f : Page → C) (c : Config) (p : Phase) (j : HeldJob) (v : Job C) → phase_of v ≡ p → AtPhase f c p j v → Ties f c j v
-ties_at {C} f c p j v e a =
-    ap (λ (x : Facts). record { facts = x; shelf = see_files f j.chain }) (a.facts ∙ ap (λ (q : Phase). facts_at q c v) (sym e))
-    ∙ ap (λ (s : Shelf C). record { facts = facts_of c v; shelf = s }) (a.shelf ∙ ap (λ (q : Phase). shelf_of q v.files v.handed v.back (spots v)) (sym e))
+ties_at {C} f c p j v e a i = record {
+  facts = (a.facts ∙ ap (λ (q : Phase). facts_at q c v) (sym e)) i;
+  shelf = (a.shelf ∙ ap (λ (q : Phase). shelf_of q v.files v.handed v.back (spots v)) (sym e)) i;
+}
 
--- what a held job has of a job that is being received
-pub record Fills {C : Type 0} (f : Page → C) (c : Config) (j : HeldJob) (v : Job C) : Type 0 where
-  pub facts : j.facts ≡ facts_at Receiving c v
-  pub files : map {A = F.File} {B = File C} (see_file f) j.chain.files ≡ map {A = A.File C} {B = File C} whole_file v.files
-  pub is_open : j.chain.is_open ≡ is_open_in v.files
-  pub places : j.chain.places ≡ []
-  pub last : j.chain.last ≡ None
+-- the same, part by part
+pub record Parts {C : Type 0} (f : Page → C) (c : Config) (p : Phase) (j : HeldJob) (v : Job C) (shelf : Shelf C) : Type 0 where
+  pub facts : j.facts ≡ facts_at p c v
+  pub files : map {A = F.File} {B = File C} (see_file f) j.chain.files ≡ shelf.files
+  pub is_open : j.chain.is_open ≡ shelf.is_open
+  pub places : j.chain.places ≡ shelf.places
+  pub last : j.chain.last ≡ shelf.last
 
 -- a tie says so
-pub fills : {C : Type 0} (f : Page → C) (c : Config) (j : HeldJob) (v : Job C) → IsReceiving v → Ties f c j v → Fills f c j v
-fills {C} f c j v r t =
-    let a = at_phase f c Receiving j v (phase_receiving v r) t in
+parts : {C : Type 0} (f : Page → C) (c : Config) (p : Phase) (j : HeldJob) (v : Job C) → phase_of v ≡ p → Ties f c j v → Parts f c p j v (shelf_of p v.files v.handed v.back (spots v))
+parts {C} f c p j v e t =
+    let a = at_phase f c p j v e t in
     record {
       facts = a.facts;
       files = ap (λ (s : Shelf C). s.files) a.shelf;
@@ -95,33 +92,32 @@ fills {C} f c j v r t =
     }
 
 -- and this is a tie
-pub ties_filling : {C : Type 0} (f : Page → C) (c : Config) (j : HeldJob) (v : Job C) → IsReceiving v → Fills f c j v → Ties f c j v
-ties_filling {C} f c j v r a =
-    ties_at f c Receiving j v (phase_receiving v r)
-    (record { facts = a.facts; shelf = same_shelf (see_files f j.chain) (shelf_of Receiving v.files v.handed v.back (spots v)) a.files a.is_open a.places a.last })
+ties_by : {C : Type 0} (f : Page → C) (c : Config) (p : Phase) (j : HeldJob) (v : Job C) → phase_of v ≡ p → Parts f c p j v (shelf_of p v.files v.handed v.back (spots v)) → Ties f c j v
+ties_by f c p j v e a =
+    ties_at f c p j v e (record { facts = a.facts; shelf = same_shelf (see_files f j.chain) (shelf_of p v.files v.handed v.back (spots v)) a.files a.is_open a.places a.last })
 
--- what a held job has of a received job that hasn't ended
-pub record Prints {C : Type 0} (f : Page → C) (c : Config) (j : HeldJob) (v : Job C) : Type 0 where
-  pub facts : j.facts ≡ facts_at Received c v
-  pub files : map {A = F.File} {B = File C} (see_file f) j.chain.files ≡ shelved_files (is_printed (spots v)) (is_there (spots v) v.handed v.back) 0 v.files
-  pub is_open : j.chain.is_open ≡ false
-  pub places : j.chain.places ≡ drop v.handed (spots v)
-  pub last : j.chain.last ≡ last_of (spots v) v.handed
+module _ {C : Type 0} (f : Page → C) (c : Config) (j : HeldJob) (v : Job C) where
+  -- what a held job has of a job that is being received
+  abbrev pub Fills : Type 0
+  Fills = Parts f c Receiving j v (record { files = map {A = A.File C} {B = File C} whole_file v.files; is_open = is_open_in v.files; places = []; last = None })
 
--- a tie says so
-pub prints : {C : Type 0} (f : Page → C) (c : Config) (j : HeldJob) (v : Job C) → v.ended ≡ false → is_received v ≡ true → Ties f c j v → Prints f c j v
-prints {C} f c j v e r t =
-    let a = at_phase f c Received j v (phase_received v e r) t in
-    record {
-      facts = a.facts;
-      files = ap (λ (s : Shelf C). s.files) a.shelf;
-      is_open = ap (λ (s : Shelf C). s.is_open) a.shelf;
-      places = ap (λ (s : Shelf C). s.places) a.shelf;
-      last = ap (λ (s : Shelf C). s.last) a.shelf;
-    }
+  pub fills : IsReceiving v → Ties f c j v → Fills
+  fills r t = parts f c Receiving j v (phase_receiving v r) t
 
--- and this is a tie
-pub ties_printing : {C : Type 0} (f : Page → C) (c : Config) (j : HeldJob) (v : Job C) → v.ended ≡ false → is_received v ≡ true → Prints f c j v → Ties f c j v
-ties_printing {C} f c j v e r a =
-    ties_at f c Received j v (phase_received v e r)
-    (record { facts = a.facts; shelf = same_shelf (see_files f j.chain) (shelf_of Received v.files v.handed v.back (spots v)) a.files a.is_open a.places a.last })
+  pub ties_filling : IsReceiving v → Fills → Ties f c j v
+  ties_filling r a = ties_by f c Receiving j v (phase_receiving v r) a
+
+  -- what a held job has of a received job that hasn't ended
+  abbrev pub Prints : Type 0
+  Prints = Parts f c Received j v (record {
+    files = shelved_files (is_printed (spots v)) (is_there (spots v) v.handed v.back) 0 v.files;
+    is_open = false;
+    places = drop v.handed (spots v);
+    last = last_of (spots v) v.handed;
+  })
+
+  pub prints : v.ended ≡ false → is_received v ≡ true → Ties f c j v → Prints
+  prints e r t = parts f c Received j v (phase_received v e r) t
+
+  pub ties_printing : v.ended ≡ false → is_received v ≡ true → Prints → Ties f c j v
+  ties_printing e r a = ties_by f c Received j v (phase_received v e r) a
