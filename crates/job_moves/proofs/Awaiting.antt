@@ -20,29 +20,18 @@ use Rattle.job_moves.proofs.Passes.{all_again, passes}
 use Rattle.job_moves.proofs.Placing.{placed_is}
 use Rattle.job_moves.proofs.Seeing.{see_len, seen_len, seen_none, seen_some}
 use Rattle.job_moves.proofs.Shelves.{content_at, given_if, given_none, len_of, len_shelved, sizes_of}
-use Rattle.job_moves.proofs.Spots.{PlaceAt, place_at, place_differs, same_place}
+use Rattle.job_moves.proofs.Spots.{PlaceAt, nth, place_at, place_differs, same_place}
 use Rattle.job_moves.proofs.Printing.{Goes, again_is, again_within, alike, last_is, see_place, there_before, there_printed, unlike}
 
 -- the places of a job are passes over its files
 pub spots_pass : {C : Type 0} (v : Job C) → Differ (names_in v.files) → spots v ≡ passes (len_of v.files) (numbers_of (names_in v.files) (prints_in v.control))
 spots_pass v d = placed_is (len_of v.files) (prints_in v.control) v.files d (sizes_of v.files)
 
--- a page of a file is there
-record Content {C : Type 0} (fs : List (A.File C)) (i n : ℕ) : Type 0 where
-  page : C
-  is : content_at fs i n ≡ Some page
-
--- an element of a list, where it is long enough
-some_get : {C : Type 0} (pages : List C) (n : ℕ) → n < length pages → (x : C) × (slice_get pages n ≡ Some x)
-some_get [] n lt = absurd (omega arith)
-some_get (x ∷ pages) zero lt = (x, refl)
-some_get (x ∷ pages) (suc n) lt = some_get pages n (omega arith)
-
 -- each number below the length of a file is that of a page
-content : {C : Type 0} (fs : List (A.File C)) (i n : ℕ) → n < len_of fs i → Content fs i n
+content : {C : Type 0} (fs : List (A.File C)) (i n : ℕ) → n < len_of fs i → (page : C) × (content_at fs i n ≡ Some page)
 content [] i n lt = absurd (omega arith)
-content (f ∷ fs) zero n lt = (let s = some_get f.pages n lt in record { page = s.0; is = s.1 })
-content (f ∷ fs) (suc i) n lt = (let c = content fs i n lt in record { page = c.page; is = c.is })
+content (f ∷ fs) zero n lt = (let s = nth f.pages n lt in (s.here, s.is))
+content (f ∷ fs) (suc i) n lt = content fs i n lt
 
 -- the page that is at a printer isn't in the chain
 page_out : {C : Type 0} (f : Page → C) (c : Config) (j : HeldJob) (v : Job C) (at : PlaceAt v v.back) → v.handed ≡ v.back + 1 → Prints f c j v → page_at j.chain.files (place_of at.page) ≡ None
@@ -72,10 +61,10 @@ page_in {C} f c j v at e d again a n lt ne =
     all_again (len_of v.files) (numbers_of (names_in v.files) (prints_in v.control)) v.back p q rest pass (sym (again_is f c j v at e a) ∙ again) refl within in
     let there : is_there s v.handed v.back q ≡ true =
     there_before v at q e ∙ (unlike (is_same_place q p) (list_any (is_same_place q) rest) (place_differs q p (λ m. ne m.1)) ∙ later) in
-    seen_some f (page_at j.chain.files q) x.page
+    seen_some f (page_at j.chain.files q) x.0
     (see_place f c j v q a
     ∙ (ap (λ (b : Bool). given_if b (given_if (is_there s v.handed v.back q) (content_at v.files q.file q.number))) (there_printed v v.back at).1
-    ∙ (ap (λ (b : Bool). given_if b (content_at v.files q.file q.number)) there ∙ x.is)))
+    ∙ (ap (λ (b : Bool). given_if b (content_at v.files q.file q.number)) there ∙ x.1)))
 
 -- so its page is awaited
 pub awaits_last : {C : Type 0} (f : Page → C) (c : Config) (j : HeldJob) (v : Job C) → Goes v → v.handed ≡ v.back + 1 → Differ (names_in v.files) → comes_again j.chain.places j.chain.last ≡ true → Ties f c j v → AwaitsLast j.chain

@@ -13,7 +13,7 @@ use Rattle.page_chain.specs.Changes.{dropped_from, is_among, is_same_place, numb
 use Rattle.held_jobs.specs.Jobs.{HeldJob}
 use Rattle.held_jobs.specs.Books.{prints_of}
 use Rattle.held_jobs.specs.Moves.{closed_file, controlled_facts, told}
-use Rattle.held_jobs.specs.Shown.{see_page}
+use Rattle.held_jobs.specs.Shown.{see_file, see_page}
 use Rattle.config_values.specs.Config.{Config}
 use Rattle.spool_history.specs.Events.Act.{Controlled, FileEnded}
 use Rattle.spool_history.specs.Acts as A
@@ -21,7 +21,7 @@ use Rattle.spool_history.specs.Acts.{all_pages, at_last, is_same_page, names_in}
 use Rattle.spool_history.specs.Now.{Job, pages_kept, places}
 use Rattle.spool_history.specs.Steps.{acted}
 use Rattle.spool_history.specs.Legal.{IsReceiving}
-use Rattle.spool_calls.specs.Kept.{place_of}
+use Rattle.spool_calls.specs.Kept.{place_of, whole_file}
 use Rattle.spool_laws.proofs.Apart.{pages_sum}
 use Rattle.spool_laws.proofs.Copies.{pages_in}
 use Rattle.spool_laws.proofs.Counts.{with_end}
@@ -29,7 +29,7 @@ use Rattle.spool_laws.proofs.Held.{pages_ended}
 use Rattle.spool_moves.proofs.Files.{Differ}
 use Rattle.job_moves.proofs.Ties.{Ties, fills}
 use Rattle.job_moves.proofs.Passes.{none_there, passed, passes, printed_none}
-use Rattle.job_moves.proofs.Shelving.{RestAt, Whole, WholeFirst, len_in, rest_all, whole_first, whole_length}
+use Rattle.job_moves.proofs.Shelving.{AreWhole, RestAt, Whole, are_whole, len_in, no_files, one_more, rest_all, whole_length, whole_pages}
 use Rattle.job_moves.proofs.Received.{names_ended, prints_same, spots_placed, whole_ended}
 
 -- a page is among pages where its place is among theirs
@@ -72,33 +72,30 @@ abbrev Keeps : {C : Type 0} → (A.Page C → Bool) → (ℕ → ℕ) → List �
 Keeps {C} t len numbers = (page : A.Page C) → t page ≡ list_any (is_same_place (place_of page)) (passes len numbers)
 
 -- of one file: its pages go back, or are kept
-count_by : {C : Type 0} (f : Page → C) (t : A.Page C → Bool) (numbers : List ℕ) (all : List F.File) (n m : ℕ) (x : F.File) (xs : List F.File) (y : A.File C) (ys : List (A.File C)) (b : Bool) → n ≡ m → is_among numbers m ≡ b
-    → F.file_at all m ≡ x → WholeFirst f x xs y ys → Keeps t (len_in all) numbers → length (cond b [] (there x.pages)) + length (filter t (A.numbered n 0 y.pages)) ≡ length y.pages
-count_by {C} f t numbers all n m x xs y ys true nm e at a keeps =
-    let size : len_in all m ≡ length y.pages = ap (λ (z : F.File). length z.pages) at ∙ whole_length f x xs y ys a in
+count_by : {C : Type 0} (f : Page → C) (t : A.Page C → Bool) (numbers : List ℕ) (all : List F.File) (n m : ℕ) (x : F.File) (y : A.File C) (b : Bool) → n ≡ m → is_among numbers m ≡ b
+    → F.file_at all m ≡ x → see_file f x ≡ whole_file y → Keeps t (len_in all) numbers → length (cond b [] (there x.pages)) + length (filter t (A.numbered n 0 y.pages)) ≡ length y.pages
+count_by {C} f t numbers all n m x y true nm e at a keeps =
+    let size : len_in all m ≡ length y.pages = ap (λ (z : F.File). length z.pages) at ∙ whole_length f x y a in
     let c : length (filter t (A.numbered m 0 y.pages)) ≡ length y.pages =
     count_all t m 0 (length y.pages) y.pages (omega arith)
     (λ k page lt. keeps (record { file = m; number = k; page = page }) ∙ passed (len_in all) numbers (record { file = m; number = k }) e (subst (λ (i : ℕ). k < i) (sym size) lt)) in
     let d : length (filter t (A.numbered n 0 y.pages)) ≡ length y.pages = ap (λ (i : ℕ). length (filter t (A.numbered i 0 y.pages))) nm ∙ c in
     omega (arith, d)
-count_by {C} f t numbers all n m x xs y ys false nm e at a keeps =
+count_by {C} f t numbers all n m x y false nm e at a keeps =
     let none = printed_none (len_in all) numbers m e in
     let c : length (filter t (A.numbered m 0 y.pages)) ≡ 0 =
     count_none t m 0 y.pages (λ k page. keeps (record { file = m; number = k; page = page }) ∙ none_there (passes (len_in all) numbers) (record { file = m; number = k }) none) in
     let d : length (filter t (A.numbered n 0 y.pages)) ≡ 0 = ap (λ (i : ℕ). length (filter t (A.numbered i 0 y.pages))) nm ∙ c in
-    let g = all_there f x.pages y.pages a.pages in
+    let g = all_there f x.pages y.pages (whole_pages f x y a) in
     omega (arith, d, g)
 
 -- of all files, where the first has the number m
-counted : {C : Type 0} (f : Page → C) (t : A.Page C → Bool) (numbers : List ℕ) (all : List F.File) (n m : ℕ) (xs : List F.File) (ys : List (A.File C)) → n ≡ m → RestAt all m xs → Whole f xs ys → Keeps t (len_in all) numbers
+counted : {C : Type 0} (f : Page → C) (t : A.Page C → Bool) (numbers : List ℕ) (all : List F.File) (n m : ℕ) {xs : List F.File} {ys : List (A.File C)} → AreWhole f xs ys → n ≡ m → RestAt all m xs → Keeps t (len_in all) numbers
     → length (dropped_from m numbers xs) + length (filter t (all_pages n ys)) ≡ pages_in ys
-counted f t numbers all n m [] [] nm r w keeps = refl
-counted f t numbers all n m [] (y ∷ ys) nm r w keeps = absurd cc
-counted f t numbers all n m (x ∷ xs) [] nm r w keeps = absurd cc
-counted {C} f t numbers all n m (x ∷ xs) (y ∷ ys) nm r w keeps =
-    let a = whole_first f x xs y ys w in
-    let ih = counted f t numbers all (n + 1) (suc m) xs ys (omega arith) r.1 a.rest keeps in
-    let one = count_by f t numbers all n m x xs y ys (is_among numbers m) nm refl r.0 a keeps in
+counted f t numbers all n m no_files nm r keeps = refl
+counted {C} f t numbers all n m (one_more x y {xs} {ys} e w) nm r keeps =
+    let ih = counted f t numbers all (n + 1) (suc m) w (omega arith) r.1 keeps in
+    let one = count_by f t numbers all n m x y (is_among numbers m) nm refl r.0 e keeps in
     let p = length-append (cond (is_among numbers m) [] (there x.pages)) (dropped_from (suc m) numbers xs) in
     let q = count_more t n y ys in
     omega (arith, ih, one, p, q)
@@ -113,7 +110,7 @@ counts_placed {C} f xs v names w d e b =
     λ page.
     ap (λ (n : ℕ). list_any (is_same_page page) (drop n (places v))) b
     ∙ (any_placed page (places v) ∙ ap (list_any (is_same_place (place_of page))) (sym (spots_placed f xs v names w d e))) in
-    counted f t numbers xs 0 0 xs v.files refl (rest_all xs) w keeps ∙ sym (pages_sum v.files)
+    counted f t numbers xs 0 0 (are_whole f xs v.files w) refl (rest_all xs) keeps ∙ sym (pages_sum v.files)
 
 -- where the job becomes received by the end of a file
 pub counts_by_file : {C : Type 0} (f : Page → C) (c : Config) (j : HeldJob) (v : Job C) (file : ℕ) → IsReceiving v → v.back ≡ 0 → Differ (names_in v.files) → Ties f c j v

@@ -59,24 +59,22 @@ pub prints_same : {C : Type 0} (f : Page → C) (c : Config) (j : HeldJob) (v : 
 prints_same f c j v a = ap (λ (x : Facts). prints_in x.control) a.facts
 
 -- what the end of a file leaves as it was
+map_ended : {C D : Type 0} (g : A.File C → D) (fs : List (A.File C)) → ((f : A.File C) → g (with_end f) ≡ g f) → map g (at_last with_end fs) ≡ map g fs
+map_ended g [] same = refl
+map_ended g (f ∷ []) same = ap (λ x. x ∷ []) (same f)
+map_ended g (f ∷ h ∷ fs) same = ap (λ l. g f ∷ l) (map_ended g (h ∷ fs) same)
 
 -- the pages of its files
 pub whole_ended : {C : Type 0} (fs : List (A.File C)) → map {A = A.File C} {B = S.File C} whole_file (at_last with_end fs) ≡ map {A = A.File C} {B = S.File C} whole_file fs
-whole_ended [] = refl
-whole_ended (f ∷ []) = refl
-whole_ended {C} (f ∷ g ∷ fs) = ap (λ (l : List (S.File C)). whole_file f ∷ l) (whole_ended (g ∷ fs))
+whole_ended fs = map_ended whole_file fs (λ f. refl)
 
 -- their sizes
 pub sizes_ended : {C : Type 0} (z : ℕ) (fs : List (A.File C)) → map {A = A.File C} {B = DataFile} (size_of z) (at_last with_end fs) ≡ map {A = A.File C} {B = DataFile} (size_of z) fs
-sizes_ended z [] = refl
-sizes_ended z (f ∷ []) = refl
-sizes_ended z (f ∷ g ∷ fs) = ap (λ (l : List DataFile). size_of z f ∷ l) (sizes_ended z (g ∷ fs))
+sizes_ended z fs = map_ended (size_of z) fs (λ f. refl)
 
 -- and their names
 pub names_ended : {C : Type 0} (fs : List (A.File C)) → names_in (at_last with_end fs) ≡ names_in fs
-names_ended [] = refl
-names_ended (f ∷ []) = refl
-names_ended (f ∷ g ∷ fs) = ap (λ (l : List (List ℕ)). f.name ∷ l) (names_ended (g ∷ fs))
+names_ended fs = map_ended (λ f. f.name) fs (λ f. refl)
 
 -- a received job has no open file
 pub received_closed : {C : Type 0} (v : Job C) → is_received v ≡ true → is_open_in v.files ≡ false

@@ -1,9 +1,9 @@
 -- What a job does while it is being received.
-use Rattle.std.proofs.Common.{◌≡◌, ℕ, ◌+◌, ◌-◌, ◌*◌, Bool, true, false, List, [], ◌∷◌, ◌++◌, length, map, refl, sym, ◌∙◌, ap, arith}
+use Rattle.std.proofs.Common.{◌≡◌, ℕ, ◌+◌, ◌-◌, ◌*◌, Bool, true, false, List, [], ◌∷◌, ◌++◌, length, map, refl, sym, ◌∙◌, ap, ap₂, arith}
 use Rattle.std.specs.Prelude.{◌&&◌, ◌||◌, not, is_some, Option, Some}
 use Rattle.std.specs.List.{list_all}
 use Rattle.std.proofs.lemmas.Bool.{and_right, or_right}
-use Rattle.std.proofs.lemmas.List.{length_push, map-append}
+use Rattle.std.proofs.lemmas.List.{length_push, map-append, map_push}
 use Rattle.lpd_values.specs.Contents.{Contents}
 use Rattle.lpd_values.specs.Kept.{is_among}
 use Rattle.lpd_values.specs.Told.{prints_in}
@@ -30,7 +30,7 @@ use Rattle.spool_laws.proofs.Counts.{last_push, with_end}
 use Rattle.spool_laws.proofs.Held.{open_push}
 use Rattle.spool_moves.proofs.Opens.{LastOpen}
 use Rattle.job_moves.proofs.Ties.{Ties, facts_at, fills, ties_filling}
-use Rattle.job_moves.proofs.Shelving.{Whole, whole_first}
+use Rattle.job_moves.proofs.Shelving.{AreWhole, Whole, are_whole, no_files, one_more, whole_pages}
 use Rattle.job_moves.proofs.Received.{sizes_ended, whole_ended}
 
 -- its control file came, and something is still awaited
@@ -105,27 +105,16 @@ open_pushed [] x e = rw e refl
 open_pushed (f ∷ fs) x e = or_right (not f.ended) (is_open_in (fs ++ x ∷ [])) (open_pushed fs x e)
 
 -- the chain's files with one page more
-whole_put : {C : Type 0} (f : Page → C) (page : Page) (content : C) (xs : List F.File) (ys : List (A.File C)) → f page ≡ content → Whole f xs ys → Whole f (with_page xs page) (at_last (with_one content) ys)
-whole_put f page content [] [] e w = refl
-whole_put f page content [] (y ∷ ys) e w = absurd cc
-whole_put f page content (x ∷ []) [] e w = absurd cc
-whole_put f page content (x ∷ x' ∷ xs) [] e w = absurd cc
-whole_put {C} f page content (x ∷ []) (y ∷ []) e w =
-    let a = whole_first f x [] y [] w in
-    let pages : map {A = Option Page} {B = Option C} (see_page f) (x.pages ++ Some page ∷ []) ≡ map {A = C} {B = Option C} (λ p. Some p) (y.pages ++ content ∷ []) =
-    map-append (see_page f) x.pages (Some page ∷ [])
-    ∙ (ap (λ (l : List (Option C)). l ++ Some (f page) ∷ []) a.pages
-    ∙ (ap (λ (p : C). map {A = C} {B = Option C} (λ p. Some p) y.pages ++ Some p ∷ []) e
-    ∙ sym (map-append (λ (p : C). Some p) y.pages (content ∷ [])))) in
-    ap (λ (n : List ℕ). record { name = n; pages = map {A = Option Page} {B = Option C} (see_page f) (x.pages ++ Some page ∷ []) } ∷ []) a.name
-    ∙ ap (λ (p : List (Option C)). record { name = y.name; pages = p } ∷ []) pages
-whole_put {C} f page content (x ∷ []) (y ∷ y' ∷ ys) e w = (let a = whole_first f x [] y (y' ∷ ys) w in let b = a.rest in absurd cc)
-whole_put {C} f page content (x ∷ x' ∷ xs) (y ∷ []) e w = (let a = whole_first f x (x' ∷ xs) y [] w in let b = a.rest in absurd cc)
-whole_put {C} f page content (x ∷ x' ∷ xs) (y ∷ y' ∷ ys) e w =
-    let a = whole_first f x (x' ∷ xs) y (y' ∷ ys) w in
-    let first : see_file f x ≡ whole_file y = cc in
-    ap (λ (z : S.File C). z ∷ map {A = F.File} {B = S.File C} (see_file f) (with_page (x' ∷ xs) page)) first
-    ∙ ap (λ (l : List (S.File C)). whole_file y ∷ l) (whole_put f page content (x' ∷ xs) (y' ∷ ys) e a.rest)
+whole_put : {C : Type 0} (f : Page → C) (page : Page) (content : C) {xs : List F.File} {ys : List (A.File C)} → AreWhole f xs ys → f page ≡ content → Whole f (with_page xs page) (at_last (with_one content) ys)
+whole_put f page content no_files e i = []
+whole_put {C} f page content (one_more x y first no_files) e i =
+    record {
+      name = (first i).name;
+      pages = (map_push (see_page f) x.pages (Some page)
+          ∙ (ap₂ (λ (l : List (Option C)) (p : C). l ++ Some p ∷ []) (whole_pages f x y first) e ∙ sym (map_push (λ (p : C). Some p) y.pages content))) i;
+    }
+    ∷ []
+whole_put f page content (one_more x y first (one_more x' y' second w)) e i = first i ∷ whole_put f page content (one_more x' y' second w) e i
 
 -- its sizes
 size_put : {C : Type 0} (z len number : ℕ) (content : C) (f : A.File C) → IsNextPage z number len f → record (size_of z f) { left = (size_of z f).left - len; pages = (size_of z f).pages + 1 } ≡ size_of z (with_one content f)
@@ -168,7 +157,7 @@ ties_put {C} f c j v file number len page content r o el ec t =
     ties_filling f c (put_job page j) v' (r.0, open_receiving v.control v'.files (open_put content v.files ∙ opened)) (record {
       facts = ap (λ (n : ℕ). put_facts n j.facts) el ∙ (ap (put_facts len) a.facts
           ∙ ap (λ (l : List DataFile). record (facts_at Receiving c v) { lent = false; files = l }) (sizes_put c.page_size len number content o.0 o.1 v.files o.2 o.5));
-      files = whole_put f page content j.chain.files v.files ec a.files;
+      files = whole_put f page content (are_whole f j.chain.files v.files a.files) ec;
       is_open = a.is_open ∙ sym (open_put content v.files);
       places = a.places;
       last = a.last;

@@ -87,19 +87,16 @@ len_shelved printed there n (suc i) (f ∷ fs) = len_shelved printed there (suc 
 -- pages of one file
 same_pages : {C : Type 0} (there after : Place → Bool) (file m : ℕ) (pages : List C) → ((k : ℕ) → m ≤ k → there (record { file = file; number = k }) ≡ after (record { file = file; number = k }))
     → shelved there file m pages ≡ shelved after file m pages
-same_pages there after file m [] same = refl
-same_pages {C} there after file m (x ∷ pages) same =
-    ap (λ (b : Bool). cond b (Some x) None ∷ shelved there file (suc m) pages) (same m (omega arith))
-    ∙ ap (λ (l : List (Option C)). cond (after (record { file = file; number = m })) (Some x) None ∷ l) (same_pages there after file (suc m) pages (λ k le. same k (omega arith)))
+same_pages there after file m [] same i = []
+same_pages there after file m (x ∷ pages) same i = cond (same m (omega arith) i) (Some x) None ∷ same_pages there after file (suc m) pages (λ k le. same k (omega arith)) i
 
 -- leaves the same pages
 pub same_files : {C : Type 0} (printed : ℕ → Bool) (there after : Place → Bool) (n : ℕ) (fs : List (A.File C)) → ((place : Place) → n ≤ place.file → there place ≡ after place)
     → shelved_files printed there n fs ≡ shelved_files printed after n fs
-same_files printed there after n [] same = refl
-same_files {C} printed there after n (f ∷ fs) same =
-    ap (λ (l : List (Option C)). record { name = f.name; pages = cond (printed n) l [] } ∷ shelved_files printed there (suc n) fs)
-    (same_pages there after n 0 f.pages (λ k le. same (record { file = n; number = k }) (omega arith)))
-    ∙ ap (λ (l : List (S.File C)). record { name = f.name; pages = cond (printed n) (shelved after n 0 f.pages) [] } ∷ l) (same_files printed there after (suc n) fs (λ place le. same place (omega arith)))
+same_files printed there after n [] same i = []
+same_files printed there after n (f ∷ fs) same i =
+    record { name = f.name; pages = cond (printed n) (same_pages there after n 0 f.pages (λ k le. same (record { file = n; number = k }) (omega arith)) i) [] }
+    ∷ same_files printed there after (suc n) fs (λ place le. same place (omega arith)) i
 
 -- a test that says the same of all pages but one
 
@@ -108,14 +105,12 @@ set_pages : {C : Type 0} (there after : Place → Bool) (file m k number : ℕ) 
     → ((i : ℕ) → (i ≡ number → ⊥) → there (record { file = file; number = i }) ≡ after (record { file = file; number = i }))
     → (k < length pages → page ≡ given_if (after (record { file = file; number = number })) (slice_get pages k))
     → set (shelved there file m pages) k page ≡ shelved after file m pages
-set_pages there after file m k number [] page e same is = refl
-set_pages {C} there after file m zero number (x ∷ pages) page e same is =
+set_pages there after file m k number [] page e same is i = []
+set_pages {C} there after file m zero number (x ∷ pages) page e same is i =
     let n : number ≡ m = omega arith in
-    ap (λ (p : Option C). p ∷ shelved there file (suc m) pages) (is (omega arith) ∙ ap (λ (i : ℕ). cond (after (record { file = file; number = i })) (Some x) None) n)
-    ∙ ap (λ (l : List (Option C)). cond (after (record { file = file; number = m })) (Some x) None ∷ l) (same_pages there after file (suc m) pages (λ i le. same i (λ s. omega arith)))
-set_pages {C} there after file m (suc k) number (x ∷ pages) page e same is =
-    ap (λ (b : Bool). cond b (Some x) None ∷ set (shelved there file (suc m) pages) k page) (same m (λ s. omega arith))
-    ∙ ap (λ (l : List (Option C)). cond (after (record { file = file; number = m })) (Some x) None ∷ l) (set_pages there after file (suc m) k number pages page (omega arith) same (λ lt. is (omega arith)))
+    (is (omega arith) ∙ ap (λ (i : ℕ). cond (after (record { file = file; number = i })) (Some x) None) n) i ∷ same_pages there after file (suc m) pages (λ i le. same i (λ s. omega arith)) i
+set_pages there after file m (suc k) number (x ∷ pages) page e same is i =
+    cond (same m (λ s. omega arith) i) (Some x) None ∷ set_pages there after file (suc m) k number pages page (omega arith) same (λ lt. is (omega arith)) i
 
 -- a file with another page at one number
 set_printed : {C : Type 0} (b : Bool) (there after : Place → Bool) (file number : ℕ) (pages : List C) (page : Option C)
@@ -130,19 +125,16 @@ set_from : {C : Type 0} (printed : ℕ → Bool) (there after : Place → Bool) 
     → ((place : Place) → ((place.file ≡ at.file) × (place.number ≡ at.number) → ⊥) → there place ≡ after place)
     → page ≡ given_if (after at) (content_at fs i at.number)
     → seen_with (shelved_files printed there n fs) i at.number page ≡ shelved_files printed after n fs
-set_from printed there after n i at [] page e same is = refl
-set_from {C} printed there after n zero at (f ∷ fs) page e same is =
+set_from printed there after n i at [] page e same is p = []
+set_from {C} printed there after n zero at (f ∷ fs) page e same is p =
     let m : at.file ≡ n = omega arith in
     let here : page ≡ given_if (after (record { file = n; number = at.number })) (slice_get f.pages at.number) =
     is ∙ ap (λ (j : ℕ). given_if (after (record { file = j; number = at.number })) (slice_get f.pages at.number)) m in
-    ap (λ (l : List (Option C)). record { name = f.name; pages = l } ∷ shelved_files printed there (suc n) fs)
-    (set_printed (printed n) there after n at.number f.pages page (λ k ne. same (record { file = n; number = k }) (λ s. ne s.1)) (λ lt. here))
-    ∙ ap (λ (l : List (S.File C)). record { name = f.name; pages = cond (printed n) (shelved after n 0 f.pages) [] } ∷ l)
-    (same_files printed there after (suc n) fs (λ place le. same place (λ s. let q = s.0 in omega arith)))
-set_from {C} printed there after n (suc i) at (f ∷ fs) page e same is =
-    ap (λ (l : List (Option C)). record { name = f.name; pages = cond (printed n) l [] } ∷ seen_with (shelved_files printed there (suc n) fs) i at.number page)
-    (same_pages there after n 0 f.pages (λ k le. same (record { file = n; number = k }) (λ s. let q = s.0 in omega arith)))
-    ∙ ap (λ (l : List (S.File C)). record { name = f.name; pages = cond (printed n) (shelved after n 0 f.pages) [] } ∷ l) (set_from printed there after (suc n) i at fs page (omega arith) same is)
+    record { name = f.name; pages = set_printed (printed n) there after n at.number f.pages page (λ k ne. same (record { file = n; number = k }) (λ s. ne s.1)) (λ lt. here) p }
+    ∷ same_files printed there after (suc n) fs (λ place le. same place (λ s. let q = s.0 in omega arith)) p
+set_from printed there after n (suc i) at (f ∷ fs) page e same is p =
+    record { name = f.name; pages = cond (printed n) (same_pages there after n 0 f.pages (λ k le. same (record { file = n; number = k }) (λ s. let q = s.0 in omega arith)) p) [] }
+    ∷ set_from printed there after (suc n) i at fs page (omega arith) same is p
 
 -- leaves the pages with that one as the test says
 pub set_shelved : {C : Type 0} (printed : ℕ → Bool) (there after : Place → Bool) (at : Place) (fs : List (A.File C)) (page : Option C)

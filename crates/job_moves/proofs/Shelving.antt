@@ -3,6 +3,7 @@ use Rattle.std.proofs.Common.{◌≡◌, ◌==◌, ◌<◌, ℕ, suc, ◌+◌, B
 use Rattle.std.specs.Prelude.{◌&&◌, not, Option, Some, None, slice_get}
 use Rattle.std.specs.List.{list_any}
 use Rattle.std.proofs.lemmas.List.{length-map}
+use Rattle.std.proofs.lemmas.Simd.{map-map}
 use Rattle.page_pool.specs.Page.{Page}
 use Rattle.page_chain.specs.declared.place.Place.{Place}
 use Rattle.page_chain.specs.Files as F
@@ -20,31 +21,30 @@ use Rattle.job_moves.proofs.Placing.{Sizes}
 abbrev pub Whole : {C : Type 0} → (Page → C) → List F.File → List (A.File C) → Type 0
 Whole {C} f xs ys = map {A = F.File} {B = S.File C} (see_file f) xs ≡ map {A = A.File C} {B = S.File C} whole_file ys
 
--- so each of them is
-pub record WholeFirst {C : Type 0} (f : Page → C) (x : F.File) (xs : List F.File) (y : A.File C) (ys : List (A.File C)) : Type 0 where
-  pub name : x.name ≡ y.name
-  pub pages : map {A = Option Page} {B = Option C} (see_page f) x.pages ≡ map {A = C} {B = Option C} (λ page. Some page) y.pages
-  pub rest : Whole f xs ys
+-- one by one
+pub data AreWhole {C : Type 0} (f : Page → C) : List F.File → List (A.File C) → Type 0 where
+  no_files : AreWhole f [] []
+  one_more : (x : F.File) (y : A.File C) {xs : List F.File} {ys : List (A.File C)} → see_file f x ≡ whole_file y → AreWhole f xs ys → AreWhole f (x ∷ xs) (y ∷ ys)
 
--- the first file, and the rest
-pub whole_first : {C : Type 0} (f : Page → C) (x : F.File) (xs : List F.File) (y : A.File C) (ys : List (A.File C)) → Whole f (x ∷ xs) (y ∷ ys) → WholeFirst f x xs y ys
-whole_first {C} f x xs y ys w =
-    let first : see_file f x ≡ whole_file y = cc in
-    record { name = ap (λ (z : S.File C). z.name) first; pages = ap (λ (z : S.File C). z.pages) first; rest = cc }
+pub are_whole : {C : Type 0} (f : Page → C) (xs : List F.File) (ys : List (A.File C)) → Whole f xs ys → AreWhole f xs ys
+are_whole f [] [] w = no_files
+are_whole f [] (y ∷ ys) w = absurd cc
+are_whole f (x ∷ xs) [] w = absurd cc
+are_whole f (x ∷ xs) (y ∷ ys) w = (let first : see_file f x ≡ whole_file y = cc in let rest : Whole f xs ys = cc in one_more x y first (are_whole f xs ys rest))
 
--- their names and sizes are the same
+-- a file has the pages of its own
+pub whole_pages : {C : Type 0} (f : Page → C) (x : F.File) (y : A.File C) → see_file f x ≡ whole_file y → map {A = Option Page} {B = Option C} (see_page f) x.pages ≡ map {A = C} {B = Option C} (λ page. Some page) y.pages
+whole_pages {C} f x y e = ap (λ (z : S.File C). z.pages) e
+
+-- and so as many
+pub whole_length : {C : Type 0} (f : Page → C) (x : F.File) (y : A.File C) → see_file f x ≡ whole_file y → length x.pages ≡ length y.pages
+whole_length {C} f x y e =
+    sym (length-map x.pages (see_page f)) ∙ (ap (λ (l : List (Option C)). length l) (whole_pages f x y e) ∙ length-map y.pages (λ (page : C). Some page))
+
+-- their names are the same
 pub whole_names : {C : Type 0} (f : Page → C) (xs : List F.File) (ys : List (A.File C)) → Whole f xs ys → F.names_of xs ≡ names_in ys
-whole_names f [] [] w = refl
-whole_names f [] (y ∷ ys) w = absurd cc
-whole_names f (x ∷ xs) [] w = absurd cc
-whole_names f (x ∷ xs) (y ∷ ys) w =
-    let a = whole_first f x xs y ys w in
-    ap (λ (n : List ℕ). n ∷ F.names_of xs) a.name ∙ ap (λ (l : List (List ℕ)). y.name ∷ l) (whole_names f xs ys a.rest)
-
--- a file and its own have as many pages
-pub whole_length : {C : Type 0} (f : Page → C) (x : F.File) (xs : List F.File) (y : A.File C) (ys : List (A.File C)) → WholeFirst f x xs y ys → length x.pages ≡ length y.pages
-whole_length {C} f x xs y ys a =
-    sym (length-map x.pages (see_page f)) ∙ (ap (λ (l : List (Option C)). length l) a.pages ∙ length-map y.pages (λ (page : C). Some page))
+whole_names {C} f xs ys w =
+    sym (map-map (λ (z : S.File C). z.name) (see_file f) xs) ∙ (ap (map (λ (z : S.File C). z.name)) w ∙ map-map (λ (z : S.File C). z.name) (whole_file {C = C}) ys)
 
 -- the rest of a list from a place on
 abbrev pub RestAt : List F.File → ℕ → List F.File → Type 0
@@ -66,25 +66,19 @@ abbrev pub len_in : List F.File → ℕ → ℕ
 len_in all i = length (file_at all i).pages
 
 -- the sizes of the files from the n-th on
-sizes_from : {C : Type 0} (f : Page → C) (all : List F.File) (n : ℕ) (xs : List F.File) (ys : List (A.File C)) → RestAt all n xs → Whole f xs ys → Sizes (len_in all) n ys
-sizes_from f all n [] [] r w = tt
-sizes_from f all n [] (y ∷ ys) r w = absurd cc
-sizes_from f all n (x ∷ xs) [] r w = tt
-sizes_from f all n (x ∷ xs) (y ∷ ys) r w =
-    let a = whole_first f x xs y ys w in
-    (ap (λ (z : F.File). length z.pages) r.0 ∙ whole_length f x xs y ys a, sizes_from f all (suc n) xs ys r.1 a.rest)
+sizes_from : {C : Type 0} (f : Page → C) (all : List F.File) (n : ℕ) {xs : List F.File} {ys : List (A.File C)} → AreWhole f xs ys → RestAt all n xs → Sizes (len_in all) n ys
+sizes_from f all n no_files r = tt
+sizes_from f all n (one_more x y e w) r = (ap (λ (z : F.File). length z.pages) r.0 ∙ whole_length f x y e, sizes_from f all (suc n) w r.1)
 
 -- the sizes of all files
 pub whole_sizes : {C : Type 0} (f : Page → C) (xs : List F.File) (ys : List (A.File C)) → Whole f xs ys → Sizes (len_in xs) 0 ys
-whole_sizes f xs ys w = sizes_from f xs 0 xs ys (rest_all xs) w
+whole_sizes f xs ys w = sizes_from f xs 0 (are_whole f xs ys w) (rest_all xs)
 
 -- pages that are all there
 pub all_shelved : {C : Type 0} (there : Place → Bool) (file n m : ℕ) (pages : List C) → n + length pages ≡ m → ((k : ℕ) → k < m → there (record { file = file; number = k }) ≡ true)
     → shelved there file n pages ≡ map {A = C} {B = Option C} (λ page. Some page) pages
-all_shelved there file n m [] e all = refl
-all_shelved {C} there file n m (page ∷ pages) e all =
-    ap (λ (b : Bool). cond b (Some page) None ∷ shelved there file (suc n) pages) (all n (omega arith))
-    ∙ ap (λ (l : List (Option C)). Some page ∷ l) (all_shelved there file (suc n) m pages (omega arith) all)
+all_shelved there file n m [] e all i = []
+all_shelved there file n m (page ∷ pages) e all i = cond (all n (omega arith) i) (Some page) None ∷ all_shelved there file (suc n) m pages (omega arith) all i
 
 -- while nothing was handed out a page is there where some place of it is
 pub there_first : (spots : List Place) (handed back : ℕ) (place : Place) → handed ≡ 0 → back ≡ 0 → is_there spots handed back place ≡ list_any (is_same_place place) spots
@@ -101,37 +95,31 @@ file_printed false there file [] some all = refl
 file_printed false there file (page ∷ pages) some all = (let e = some (omega arith) in absurd cc)
 
 -- one file: whole where it is printed, else without a page
-kept_by : {C : Type 0} (f : Page → C) (numbers : List ℕ) (all : List F.File) (there : Place → Bool) (n : ℕ) (x : F.File) (xs : List F.File) (y : A.File C) (ys : List (A.File C)) (b : Bool) → is_among numbers n ≡ b
-    → file_at all n ≡ x → WholeFirst f x xs y ys → ((place : Place) → there place ≡ list_any (is_same_place place) (passes (len_in all) numbers))
+kept_by : {C : Type 0} (f : Page → C) (numbers : List ℕ) (all : List F.File) (there : Place → Bool) (n : ℕ) (x : F.File) (y : A.File C) (b : Bool) → is_among numbers n ≡ b
+    → file_at all n ≡ x → see_file f x ≡ whole_file y → ((place : Place) → there place ≡ list_any (is_same_place place) (passes (len_in all) numbers))
     → see_file f (cond b x (record x { pages = [] })) ≡ record { name = y.name; pages = cond (is_printed (passes (len_in all) numbers) n) (shelved there n 0 y.pages) [] }
-kept_by {C} f numbers all there n x xs y ys true e at a is =
-    let l = whole_length f x xs y ys a in
-    let size : len_in all n ≡ length y.pages = ap (λ (z : F.File). length z.pages) at ∙ l in
+kept_by {C} f numbers all there n x y true e at a is =
+    let size : len_in all n ≡ length y.pages = ap (λ (z : F.File). length z.pages) at ∙ whole_length f x y a in
     let has : (k : ℕ) → k < length y.pages → list_any (is_same_place (record { file = n; number = k })) (passes (len_in all) numbers) ≡ true =
     λ k lt. passed (len_in all) numbers (record { file = n; number = k }) e (subst (λ (m : ℕ). k < m) (sym size) lt) in
-    ap (λ (m : List ℕ). record { name = m; pages = map {A = Option Page} {B = Option C} (see_page f) x.pages }) a.name
-    ∙ (ap (λ (p : List (Option C)). record { name = y.name; pages = p }) a.pages
+    a
     ∙ ap (λ (p : List (Option C)). record { name = y.name; pages = p })
     (sym (file_printed (is_printed (passes (len_in all) numbers) n) there n y.pages
     (λ lt. printed_some (passes (len_in all) numbers) (record { file = n; number = 0 }) (has 0 lt))
-    (λ k lt. is (record { file = n; number = k }) ∙ has k lt))))
-kept_by {C} f numbers all there n x xs y ys false e at a is =
-    ap (λ (m : List ℕ). record { name = m; pages = [] }) a.name
+    (λ k lt. is (record { file = n; number = k }) ∙ has k lt)))
+kept_by {C} f numbers all there n x y false e at a is =
+    ap (λ (z : S.File C). record { name = z.name; pages = [] }) a
     ∙ ap (λ (b : Bool). record { name = y.name; pages = cond b (shelved there n 0 y.pages) [] }) (sym (printed_none (len_in all) numbers n e))
 
 -- the files from the n-th on
-kept_files : {C : Type 0} (f : Page → C) (numbers : List ℕ) (all : List F.File) (there : Place → Bool) (n : ℕ) (xs : List F.File) (ys : List (A.File C)) → RestAt all n xs → Whole f xs ys
+kept_files : {C : Type 0} (f : Page → C) (numbers : List ℕ) (all : List F.File) (there : Place → Bool) (n : ℕ) {xs : List F.File} {ys : List (A.File C)} → AreWhole f xs ys → RestAt all n xs
     → ((place : Place) → there place ≡ list_any (is_same_place place) (passes (len_in all) numbers))
     → map {A = F.File} {B = S.File C} (see_file f) (kept_from n numbers xs) ≡ shelved_files (is_printed (passes (len_in all) numbers)) there n ys
-kept_files f numbers all there n [] [] r w is = refl
-kept_files f numbers all there n [] (y ∷ ys) r w is = absurd cc
-kept_files f numbers all there n (x ∷ xs) [] r w is = absurd cc
-kept_files {C} f numbers all there n (x ∷ xs) (y ∷ ys) r w is =
-    let a = whole_first f x xs y ys w in
-    ap (λ (z : S.File C). z ∷ map {A = F.File} {B = S.File C} (see_file f) (kept_from (suc n) numbers xs)) (kept_by f numbers all there n x xs y ys (is_among numbers n) refl r.0 a is)
-    ∙ ap (λ (l : List (S.File C)). record { name = y.name; pages = cond (is_printed (passes (len_in all) numbers) n) (shelved there n 0 y.pages) [] } ∷ l) (kept_files f numbers all there (suc n) xs ys r.1 a.rest is)
+kept_files f numbers all there n no_files r is i = []
+kept_files f numbers all there n (one_more x y e w) r is i =
+    kept_by f numbers all there n x y (is_among numbers n) refl r.0 e is i ∷ kept_files f numbers all there (suc n) w r.1 is i
 
 -- what is kept of whole files, where those of these numbers are printed
 pub kept_is : {C : Type 0} (f : Page → C) (numbers : List ℕ) (xs : List F.File) (ys : List (A.File C)) (handed back : ℕ) → Whole f xs ys → handed ≡ 0 → back ≡ 0
     → map {A = F.File} {B = S.File C} (see_file f) (kept_from 0 numbers xs) ≡ shelved_files (is_printed (passes (len_in xs) numbers)) (is_there (passes (len_in xs) numbers) handed back) 0 ys
-kept_is f numbers xs ys handed back w e d = kept_files f numbers xs (is_there (passes (len_in xs) numbers) handed back) 0 xs ys (rest_all xs) w (λ place. there_first (passes (len_in xs) numbers) handed back place e d)
+kept_is f numbers xs ys handed back w e d = kept_files f numbers xs (is_there (passes (len_in xs) numbers) handed back) 0 (are_whole f xs ys w) (rest_all xs) (λ place. there_first (passes (len_in xs) numbers) handed back place e d)

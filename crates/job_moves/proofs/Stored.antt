@@ -23,7 +23,7 @@ use Rattle.spool_laws.proofs.Apart.{pages_sum}
 use Rattle.spool_laws.proofs.Copies.{pages_in}
 use Rattle.job_moves.proofs.Ties.{Prints, Ties, at_phase, fills, phase_ended, prints}
 use Rattle.job_moves.proofs.Passes.{none_there}
-use Rattle.job_moves.proofs.Shelving.{Whole, whole_first}
+use Rattle.job_moves.proofs.Shelving.{AreWhole, are_whole, no_files, one_more, whole_pages}
 use Rattle.job_moves.proofs.Counting.{all_there, any_placed, count_more, count_none}
 use Rattle.job_moves.proofs.Shelves.{content_at}
 use Rattle.job_moves.proofs.Spots.{any_later, content_of, place_at, there_even, there_odd}
@@ -32,14 +32,11 @@ use Rattle.std.proofs.lemmas.List.{drop-map}
 -- while it is being received: those of all its files
 
 -- as many as the files have
-stored_whole : {C : Type 0} (f : Page → C) (xs : List F.File) (ys : List (A.File C)) → Whole f xs ys → length (every_page xs) ≡ pages_in ys
-stored_whole f [] [] w = refl
-stored_whole f [] (y ∷ ys) w = absurd cc
-stored_whole f (x ∷ xs) [] w = absurd cc
-stored_whole f (x ∷ xs) (y ∷ ys) w =
-    let a = whole_first f x xs y ys w in
-    let one = all_there f x.pages y.pages a.pages in
-    let ih = stored_whole f xs ys a.rest in
+stored_whole : {C : Type 0} (f : Page → C) {xs : List F.File} {ys : List (A.File C)} → AreWhole f xs ys → length (every_page xs) ≡ pages_in ys
+stored_whole f no_files = refl
+stored_whole f (one_more x y {xs} {ys} e w) =
+    let one = all_there f x.pages y.pages (whole_pages f x y e) in
+    let ih = stored_whole f w in
     let l = length-append (there x.pages) (every_page xs) in
     omega (arith, one, ih, l)
 
@@ -204,7 +201,7 @@ stored_by {C} f c j v true r ee er le one within t =
     none : (xs : List F.File) → map {A = F.File} {B = S.File C} (see_file f) xs ≡ [] → length (every_page xs) ≡ 0
     none [] e = refl
     none (x ∷ xs) e = absurd cc
-stored_by {C} f c j v false false ee er le one within t = stored_whole f j.chain.files v.files (fills f c j v (ee, er) t).files ∙ sym (pages_sum v.files)
+stored_by {C} f c j v false false ee er le one within t = stored_whole f (are_whole f j.chain.files v.files (fills f c j v (ee, er) t).files) ∙ sym (pages_sum v.files)
 stored_by {C} f c j v false true ee er le one within t =
     let here = stored_there f c j v (prints f c j v ee er t) in
     elim (cases_eq v.handed v.back) [
