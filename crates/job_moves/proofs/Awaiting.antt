@@ -1,6 +1,6 @@
 -- The page that is at a printer is the only one of its file that isn't in the chain, where it comes again.
 use Rattle.std.proofs.Common.{◌≡◌, ◌<◌, ℕ, zero, suc, ◌+◌, Bool, true, false, List, [], ◌∷◌, length, drop, refl, sym, ◌∙◌, ap, subst, arith}
-use Rattle.std.specs.Prelude.{Option, Some, None, IsSome, slice_get}
+use Rattle.std.specs.Prelude.{Option, Some, None, IsSome}
 use Rattle.std.specs.List.{list_any}
 use Rattle.page_pool.specs.Page.{Page}
 use Rattle.lpd_values.specs.Told.{prints_in}

@@ -1,17 +1,13 @@
 -- A job ends.
-use Rattle.std.proofs.Common.{◌≡◌, ◌+◌, Bool, true, false, refl, ◌∙◌, ap}
+use Rattle.std.proofs.Common.{true, refl, ap}
 use Rattle.page_pool.specs.Page.{Page}
 use Rattle.held_jobs.specs.declared.phase.Phase.TheVariants.{Ended}
-use Rattle.held_jobs.specs.Jobs.{Facts, HeldJob}
-use Rattle.held_jobs.specs.Moves.{back_facts, drained_job, ended_facts, told, unlent_facts}
+use Rattle.held_jobs.specs.Jobs.{HeldJob}
+use Rattle.held_jobs.specs.Moves.{drained_job, ended_facts}
 use Rattle.config_values.specs.Config.{Config}
-use Rattle.spool_history.specs.Events.Act.{Aborted}
-use Rattle.spool_history.specs.Events as E
-use Rattle.spool_history.specs.Events.Turn.{Failed, Printed}
 use Rattle.spool_history.specs.Now.{Job}
-use Rattle.spool_history.specs.Steps.{acted, turned}
 use Rattle.spool_calls.specs.Kept.{phase_of}
-use Rattle.job_moves.proofs.Ties.{AtPhase, Ties, at_phase, facts_at, phase_ended, ties_at}
+use Rattle.job_moves.proofs.Ties.{Ties, at_phase, ties_at}
 
 -- it ends, and its pages go
 pub ties_ended : {C : Type 0} (f : Page → C) (c : Config) (j : HeldJob) (v : Job C) → Ties f c j v → Ties f c (drained_job j) (record v { ended = true })

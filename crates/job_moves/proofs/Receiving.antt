@@ -12,18 +12,16 @@ use Rattle.page_chain.specs.Files as F
 use Rattle.page_chain.specs.Changes.{with_page}
 use Rattle.held_jobs.specs.declared.file.DataFile.{DataFile}
 use Rattle.held_jobs.specs.declared.phase.Phase.TheVariants.{Receiving}
-use Rattle.held_jobs.specs.Jobs.{Facts, HeldJob}
-use Rattle.held_jobs.specs.Jobs as J
-use Rattle.held_jobs.specs.Moves.{begun_facts, begun_job, closed_file, controlled_facts, filled, lent_facts, put_facts, put_job, told}
+use Rattle.held_jobs.specs.Jobs.{HeldJob}
+use Rattle.held_jobs.specs.Moves.{begun_facts, begun_job, closed_file, controlled_facts, filled, put_facts, put_job, told}
 use Rattle.held_jobs.specs.Shown as S
 use Rattle.held_jobs.specs.Shown.{see_file, see_page}
 use Rattle.config_values.specs.Config.{Config}
-use Rattle.spool_history.specs.Events.Act.{Began, Controlled, FileEnded, Granted, Put}
+use Rattle.spool_history.specs.Events.Act.{Began, Controlled, FileEnded, Put}
 use Rattle.spool_history.specs.Acts as A
 use Rattle.spool_history.specs.Acts.{at_last, is_open_in, is_whole, names_in, new_file}
 use Rattle.spool_history.specs.Now.{Job, is_received}
 use Rattle.spool_history.specs.Steps.{acted}
-use Rattle.spool_history.specs.Steps as N
 use Rattle.spool_history.specs.Legal.{HasOpen, IsNextPage, IsReceiving}
 use Rattle.spool_calls.specs.Kept.{size_of, whole_file}
 use Rattle.spool_laws.proofs.Counts.{last_push, with_end}

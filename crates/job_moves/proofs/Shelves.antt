@@ -2,7 +2,6 @@
 use Rattle.std.proofs.Common.{◌≡◌, ◌<◌, ◌≤◌, ℕ, zero, suc, ◌+◌, Bool, true, false, cond, List, [], ◌∷◌, length, get_or, set, refl, sym, ◌∙◌, ap, arith}
 use Rattle.std.specs.Prelude.{Option, Some, None, slice_get}
 use Rattle.page_chain.specs.declared.place.Place.{Place}
-use Rattle.held_jobs.specs.Shown as S
 use Rattle.spool_history.specs.Acts as A
 use Rattle.spool_calls.specs.Kept.{shelved, shelved_files}
 use Rattle.job_moves.proofs.Placing.{Sizes}

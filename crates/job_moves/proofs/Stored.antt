@@ -3,7 +3,7 @@ use Rattle.std.proofs.Common.{inl, inr, ◌≡◌, ◌==◌, ◌<◌, ◌≤◌,
 use Rattle.std.specs.Prelude.{◌&&◌, ◌||◌, not, filter, sum_by, Option, Some, None, slice_get}
 use Rattle.std.specs.List.{list_any}
 use Rattle.std.proofs.lemmas.Bool.{and_from, and_left, and_right, cases_eq, eq-eqb, ne_eqb}
-use Rattle.std.proofs.lemmas.List.Elements.{filter-append, filter_agree}
+use Rattle.std.proofs.lemmas.List.Elements.{filter_agree}
 use Rattle.page_pool.specs.Page.{Page}
 use Rattle.page_chain.specs.declared.place.Place.{Place}
 use Rattle.page_chain.specs.Files as F

@@ -1,8 +1,7 @@
 -- A held job is what is kept of a job of the history.
-use Rattle.std.proofs.Common.{◌≡◌, Bool, true, false, List, [], map, refl, sym, ◌∙◌, ap}
-use Rattle.std.specs.Prelude.{Option, None, drop}
+use Rattle.std.proofs.Common.{◌≡◌, true, false, [], map, refl, sym, ◌∙◌, ap}
+use Rattle.std.specs.Prelude.{None, drop}
 use Rattle.page_pool.specs.Page.{Page}
-use Rattle.page_chain.specs.declared.place.Place.{Place}
 use Rattle.page_chain.specs.Files as F
 use Rattle.page_chain.specs.Files.{Files}
 use Rattle.held_jobs.specs.declared.file.DataFile.{DataFile}
@@ -15,7 +14,7 @@ use Rattle.spool_history.specs.Acts as A
 use Rattle.spool_history.specs.Acts.{is_open_in}
 use Rattle.spool_history.specs.Now.{Job, is_received}
 use Rattle.spool_history.specs.Legal.{IsReceiving}
-use Rattle.spool_calls.specs.Kept.{facts_of, is_printed, is_there, last_of, phase_of, shelf_of, shelved_files, shown_job, size_of, spots, whole_file}
+use Rattle.spool_calls.specs.Kept.{is_printed, is_there, last_of, phase_of, shelf_of, shelved_files, shown_job, size_of, spots, whole_file}
 
 -- the held job, with each page as the function says, is what is kept of this job
 abbrev pub Ties : {C : Type 0} → (Page → C) → Config → HeldJob → Job C → Type 0
