@@ -1,7 +1,7 @@
 -- An amount for pages and one for each queue's printers, and the row of a job made of them.
 use Rattle.std.proofs.Common.{inl, inr, ◌≡◌, ◌==◌, ◌≢◌, ℕ, zero, suc, ◌-◌, ◌<◌, Bool, true, false, List, [], ◌∷◌, length, get_or, set, map, replicate, refl, sym, ◌∙◌, ap, arith}
 use Rattle.std.specs.Prelude.{cond}
-use Rattle.std.proofs.lemmas.List.{ext_get_or, length-set, length-map, get_or-set_same, get_or-set_other, map-append, get_or-append_right, get_or_append_left}
+use Rattle.std.proofs.lemmas.List.{ext_get_or, length-set, length-map, get_or-set_same, get_or-set_other}
 use Rattle.std.proofs.lemmas.Bool.Decides.{nat_tests}
 use Rattle.counts.specs.Amounts.{amount}
 use Rattle.claims.specs.declared.row.Row.{Row}
@@ -10,24 +10,8 @@ use Rattle.config_values.specs.Config.{Config, Queue, IsQueue}
 use Rattle.spool_history.specs.Now.{Job, amounts, capacity, up_to, row_of, pages_held, pages_needed, printers_held, printers_needed}
 use Rattle.spool_laws.proofs.Known.{test}
 use Rattle.spool_laws.proofs.Adding.{length_up_to}
+use Rattle.spool_laws.proofs.Printers.{get_up_to}
 use Rattle.core_rows.proofs.Tables.{given_row, ended_row}
-
--- the number k + 1 stands at the place k of the numbers from 1 to n
-get_up_to : (f : ℕ → ℕ) (n k : ℕ) → k < n → get_or (map f (up_to n)) k 0 ≡ f (suc k)
-get_up_to f zero k lt = absurd (omega arith)
-get_up_to f (suc n) k lt =
-    let l : length (map f (up_to n)) ≡ n = length_up_to f n in
-    ap (λ (m : List ℕ). get_or m k 0) (map-append f (up_to n) (suc n ∷ []))
-    ∙ elim (test k n) [
-      | inl s ↦
-          let same : k ≡ n = s.0 in
-          let z : k - n ≡ 0 = omega arith in
-          get_or-append_right (map f (up_to n)) (f (suc n) ∷ []) n k 0 l (omega arith) ∙ (ap (λ (m : ℕ). get_or (f (suc n) ∷ []) m 0) z ∙ ap (λ (m : ℕ). f (suc m)) (sym same))
-      | inr s ↦
-          let ne : k ≢ n = s.0 in
-          let less : k < length (map f (up_to n)) = omega arith in
-          get_or_append_left (map f (up_to n)) (f (suc n) ∷ []) 0 k less ∙ get_up_to f n k (omega arith)
-    ]
 
 -- m for the queue q and 0 for all others, of n queues
 abbrev one_queue : (q m n : ℕ) → List ℕ
@@ -45,10 +29,10 @@ other_up_to q m o n d e lt =
       | inl s ↦
           let b : (suc i == q) ≡ true = (let w = s.0 in grind (arith, nat_tests)) in
           let there : d < length (one_queue q m n) = omega arith in
-          ap (λ (j : ℕ). get_or (set (one_queue q m n) d o) j 0) s.0 ∙ (get_or-set_same (one_queue q m n) d o 0 there ∙ sym (get_up_to (λ (r : ℕ). cond (r == q) o 0) n i lt' ∙ ap (λ (t : Bool). cond t o 0) b))
+          ap (λ (j : ℕ). get_or (set (one_queue q m n) d o) j 0) s.0 ∙ (get_or-set_same (one_queue q m n) d o 0 there ∙ sym (get_up_to (λ (r : ℕ). cond (r == q) o 0) n i 0 lt' ∙ ap (λ (t : Bool). cond t o 0) b))
       | inr s ↦
           let b : (suc i == q) ≡ false = (let w = s.0 in grind (arith, nat_tests)) in
-          get_or-set_other (one_queue q m n) d i o 0 s.0 ∙ (get_up_to (λ (r : ℕ). cond (r == q) m 0) n i lt' ∙ (ap (λ (t : Bool). cond t m 0) b ∙ sym (get_up_to (λ (r : ℕ). cond (r == q) o 0) n i lt' ∙ ap (λ (t : Bool). cond t o 0) b)))
+          get_or-set_other (one_queue q m n) d i o 0 s.0 ∙ (get_up_to (λ (r : ℕ). cond (r == q) m 0) n i 0 lt' ∙ (ap (λ (t : Bool). cond t m 0) b ∙ sym (get_up_to (λ (r : ℕ). cond (r == q) o 0) n i 0 lt' ∙ ap (λ (t : Bool). cond t o 0) b)))
     ]))
 
 -- another amount for the printers of the queue
@@ -66,7 +50,7 @@ kind_of c p q m is =
     let b = is.1 in
     let e : suc (q - 1) ≡ q = omega arith in
     let t : (suc (q - 1) == q) ≡ true = grind (arith, nat_tests) in
-    ap (amount (amounts c p q m)) (sym e) ∙ (get_up_to (λ (r : ℕ). cond (r == q) m 0) (length c.queues) (q - 1) (omega arith) ∙ ap (λ (b : Bool). cond b m 0) t)
+    ap (amount (amounts c p q m)) (sym e) ∙ (get_up_to (λ (r : ℕ). cond (r == q) m 0) (length c.queues) (q - 1) 0 (omega arith) ∙ ap (λ (b : Bool). cond b m 0) t)
 
 -- pages are a kind
 pub pages_kind : (c : Config) → 0 < length (capacity c)
@@ -91,27 +75,13 @@ row_with_amounts c x pages printers pages' printers' =
 -- a job's row is the one of what it holds and needs
 pub row_is : {C : Type 0} (c : Config) (x : Job C) (pages printers pages' printers' : ℕ) → pages_held x ≡ pages → printers_held x ≡ printers → pages_needed c x ≡ pages' → printers_needed x ≡ printers'
     → row_of c x ≡ row_with_amounts c x pages printers pages' printers'
-row_is c x pages printers pages' printers' a b d e =
-    ap (λ (n : ℕ). row_with_amounts c x n (printers_held x) (pages_needed c x) (printers_needed x)) a
-    ∙ (ap (λ (n : ℕ). row_with_amounts c x pages n (pages_needed c x) (printers_needed x)) b
-    ∙ (ap (λ (n : ℕ). row_with_amounts c x pages printers n (printers_needed x)) d
-    ∙ ap (λ (n : ℕ). row_with_amounts c x pages printers pages' n) e))
+row_is c x pages printers pages' printers' a b d e i = row_with_amounts c x (a i) (b i) (d i) (e i)
 
 -- jobs of one number, sender and queue that hold and need the same have the same row
 pub row_same : {C : Type 0} (c : Config) (x y : Job C) → y.number ≡ x.number → y.sender ≡ x.sender → y.queue ≡ x.queue
     → pages_held y ≡ pages_held x → printers_held y ≡ printers_held x → pages_needed c y ≡ pages_needed c x → printers_needed y ≡ printers_needed x
     → row_of c y ≡ row_of c x
-row_same {C} c x y n s q a b d e =
-    row_is c y (pages_held x) (printers_held x) (pages_needed c x) (printers_needed x) a b d e
-    ∙ (ap (λ (m : ℕ). record (row_with_amounts c y (pages_held x) (printers_held x) (pages_needed c x) (printers_needed x)) { number = m }) n
-    ∙ (ap (λ (m : ℕ). record (row_with_amounts c y (pages_held x) (printers_held x) (pages_needed c x) (printers_needed x)) { number = x.number; sender = m }) s
-    ∙ ap (λ (m : ℕ). record {
-      number = x.number;
-      sender = x.sender;
-      queue = m;
-      held = amounts c (pages_held x) m (printers_held x);
-      need = amounts c (pages_needed c x) m (printers_needed x);
-    }) q))
+row_same c x y n s q a b d e i = record { number = n i; sender = s i; queue = q i; held = amounts c (a i) (q i) (b i); need = amounts c (d i) (q i) (e i) }
 
 -- a row that needs no more printers
 pub ended_printers : {C : Type 0} (c : Config) (x : Job C) (p m p' m' : ℕ) → IsQueue c x.queue → ended_row x.queue (row_with_amounts c x p m p' m') ≡ row_with_amounts c x p m p' 0

@@ -4,9 +4,9 @@ use Rattle.std.proofs.Common.{◌⊎◌, inl, inr, ◌≡◌, ◌==◌, ◌≢�
 use Rattle.std.specs.Prelude.{cond, filter, ◌&&◌, ◌||◌}
 use Rattle.std.specs.List.{list_any, flat_map}
 use Rattle.std.specs.Str.{bytes_eq}
-use Rattle.std.proofs.lemmas.List.Elements.{filter-append}
+use Rattle.std.proofs.lemmas.List.Elements.{filter-append, filter_agree}
 use Rattle.std.proofs.lemmas.Bool.Decides.{nat_tests}
-use Rattle.std.proofs.lemmas.Bool.{and_parts}
+use Rattle.std.proofs.lemmas.Bool.{and_left, and_parts, and_right, ne_eqb}
 use Rattle.spool_history.specs.Acts.{File, Page, numbered, pages_named, all_pages, is_same_page, pages_among}
 use Rattle.spool_laws.proofs.Known.{Has, test, and_false, or_true}
 use Rattle.spool_laws.proofs.Adding.{has_left}
@@ -27,13 +27,7 @@ how_many_cons t x xs = by (t x) refl
 
 -- tests that agree say yes to as many
 how_many_same : {X : Type 0} (t u : X → Bool) (xs : List X) → ((x : X) → t x ≡ u x) → how_many t xs ≡ how_many u xs
-how_many_same t u [] e = refl
-how_many_same t u (x ∷ xs) e =
-    let a = how_many_cons t x xs in
-    let b = how_many_cons u x xs in
-    let ih = how_many_same t u xs e in
-    let here : one_for (t x) ≡ one_for (u x) = ap one_for (e x) in
-    omega arith
+how_many_same t u xs e = ap length (filter_agree t u e xs)
 
 -- tests that never both say yes
 how_many_either : {X : Type 0} (t u : X → Bool) (xs : List X) → ((x : X) → t x ≡ true → u x ≡ false) → how_many (λ (x : X). t x || u x) xs ≡ how_many t xs + how_many u xs
@@ -67,29 +61,21 @@ is_page file number page = (page.file == file) && (page.number == number)
 -- of pages that are numbered from n on none has a lower number
 none_before : {C : Type 0} (f k file n : ℕ) (pages : List C) → k < n → how_many (is_page f k) (numbered file n pages) ≡ 0
 none_before f k file n [] lt = refl
-none_before {C} f k file n (page ∷ pages) lt =
-    let a = how_many_cons (is_page {C = C} f k) (record { file = file; number = n; page = page }) (numbered file (n + 1) pages) in
-    let ih = none_before f k file (n + 1) pages (omega arith) in
-    let no : (n == k) ≡ false = grind (arith, nat_tests) in
-    let here : ((file == f) && (n == k)) ≡ false = ap (λ (b : Bool). (file == f) && b) no ∙ and_false (file == f) in
-    let zero' : one_for ((file == f) && (n == k)) ≡ 0 = ap one_for here in
-    omega arith
+none_before f k file n (page ∷ pages) lt =
+    rw (and_right (file == f) (n == k) (ne_eqb n k (λ e. omega (arith, e, lt)))) (none_before f k file (n + 1) pages (omega (arith, lt)))
 
 -- and one at most has a number
 one_numbered : {C : Type 0} (f k file n : ℕ) (pages : List C) → how_many (is_page f k) (numbered file n pages) ≤ 1
 one_numbered f k file n [] = omega arith
-one_numbered {C} f k file n (page ∷ pages) =
-    let a = how_many_cons (is_page {C = C} f k) (record { file = file; number = n; page = page }) (numbered file (n + 1) pages) in
-    let few = most ((file == f) && (n == k)) in
-    elim (test n k) [
-      | inl s ↦ let same : n ≡ k = s.0 in let rest = none_before f k file (n + 1) pages (omega arith) in omega arith
-      | inr s ↦
-          let no : (n == k) ≡ false = s.1 in
-          let here : ((file == f) && (n == k)) ≡ false = ap (λ (b : Bool). (file == f) && b) no ∙ and_false (file == f) in
-          let zero' : one_for ((file == f) && (n == k)) ≡ 0 = ap one_for here in
-          let ih = one_numbered f k file (n + 1) pages in
-          omega arith
-    ]
+one_numbered {C} f k file n (page ∷ pages) = elim (test n k) [
+  | inl s ↦
+      let a = how_many_cons (is_page {C = C} f k) (record { file = file; number = n; page = page }) (numbered file (n + 1) pages) in
+      let few = most ((file == f) && (n == k)) in
+      let same : n ≡ k = s.0 in
+      let rest = none_before f k file (n + 1) pages (omega arith) in
+      omega arith
+  | inr s ↦ rw (and_right (file == f) (n == k) s.1) (one_numbered f k file (n + 1) pages)
+]
   where
     most : (b : Bool) → one_for b ≤ 1
     most true = omega arith
@@ -98,19 +84,17 @@ one_numbered {C} f k file n (page ∷ pages) =
 -- none of the pages of another file
 other_file : {C : Type 0} (f k file n : ℕ) (pages : List C) → file ≢ f → how_many (is_page f k) (numbered file n pages) ≡ 0
 other_file f k file n [] ne = refl
-other_file {C} f k file n (page ∷ pages) ne =
-    let a = how_many_cons (is_page {C = C} f k) (record { file = file; number = n; page = page }) (numbered file (n + 1) pages) in
-    let ih = other_file f k file (n + 1) pages ne in
-    let no : (file == f) ≡ false = grind (arith, nat_tests) in
-    let zero' : one_for ((file == f) && (n == k)) ≡ 0 = ap (λ (b : Bool). one_for (b && (n == k))) no in
-    omega arith
+other_file f k file n (page ∷ pages) ne = rw (and_left (file == f) (n == k) (ne_eqb file f ne)) (other_file f k file (n + 1) pages ne)
+
+-- those of the first file, and those of the others
+pub how_many_more : {C : Type 0} (t : Page C → Bool) (n : ℕ) (g : File C) (gs : List (File C)) → how_many t (all_pages n (g ∷ gs)) ≡ how_many t (numbered n 0 g.pages) + how_many t (all_pages (n + 1) gs)
+how_many_more t n g gs = ap length (filter-append t (numbered n 0 g.pages) (all_pages (n + 1) gs)) ∙ length-append (filter t (numbered n 0 g.pages)) (filter t (all_pages (n + 1) gs))
 
 -- nor of those of later files
 none_later : {C : Type 0} (f k n : ℕ) (fs : List (File C)) → f < n → how_many (is_page f k) (all_pages n fs) ≡ 0
 none_later f k n [] lt = refl
 none_later {C} f k n (g ∷ gs) lt =
-    let a = ap length (filter-append (is_page {C = C} f k) (numbered n 0 g.pages) (all_pages (n + 1) gs)) in
-    let b = length-append (filter (is_page {C = C} f k) (numbered n 0 g.pages)) (filter (is_page {C = C} f k) (all_pages (n + 1) gs)) in
+    let a = how_many_more (is_page {C = C} f k) n g gs in
     let first = other_file f k n 0 g.pages (omega arith) in
     let ih = none_later f k (n + 1) gs (omega arith) in
     omega arith
@@ -119,14 +103,11 @@ none_later {C} f k n (g ∷ gs) lt =
 one_at_most : {C : Type 0} (f k n : ℕ) (fs : List (File C)) → how_many (is_page f k) (all_pages n fs) ≤ 1
 one_at_most f k n [] = omega arith
 one_at_most {C} f k n (g ∷ gs) =
-    let a = ap length (filter-append (is_page {C = C} f k) (numbered n 0 g.pages) (all_pages (n + 1) gs)) in
-    let b = length-append (filter (is_page {C = C} f k) (numbered n 0 g.pages)) (filter (is_page {C = C} f k) (all_pages (n + 1) gs)) in
+    let a = how_many_more (is_page {C = C} f k) n g gs in
     elim (test n f) [
       | inl s ↦ let same : n ≡ f = s.0 in let first = one_numbered f k n 0 g.pages in let rest = none_later f k (n + 1) gs (omega arith) in omega arith
       | inr s ↦ let first = other_file f k n 0 g.pages s.0 in let ih = one_at_most f k (n + 1) gs in omega arith
     ]
-
--- each place is a page of a file
 
 -- a page of the files stands among them once
 pub page_once : {C : Type 0} (x : Page C) (fs : List (File C)) → Has x (all_pages 0 fs) → how_many (λ (page : Page C). is_same_page page x) (all_pages 0 fs) ≡ 1

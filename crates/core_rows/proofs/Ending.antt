@@ -22,35 +22,23 @@ use Rattle.core_rows.proofs.Amounts.{row_with_amounts, row_is, queue_kind, ended
 abbrev pub HeldAddsUp : {C : Type 0} → Job C → Type 0
 HeldAddsUp x = pages_held x ≡ chained_of x + pages_out x
 
--- which holds of each held job
-pub job_adds_up : {C : Type 0} (size : C → ℕ) (c : Config) (b : Base) (h : List (Event C)) (x : Job C) → IsLegal size c b h → Has x (now c b h).jobs → HeldAddsUp x
-job_adds_up size c b h x l has = held_counts size c b h x l has
-
 -- the row of an ended job
-pub row_ended : {C : Type 0} (c : Config) (x : Job C) → row_of c (record x { ended = true }) ≡ row_with_amounts c x (pages_out x) (printers_held x) 0 0
+row_ended : {C : Type 0} (c : Config) (x : Job C) → row_of c (record x { ended = true }) ≡ row_with_amounts c x (pages_out x) (printers_held x) 0 0
 row_ended {C} c x = row_is c (record x { ended = true }) (pages_out x) (printers_held x) 0 0 refl refl refl refl
 
 -- a job that has ended already stays as it is
 pub ended_same : {C : Type 0} (x : Job C) → x.ended ≡ true → record x { ended = true } ≡ x
 ended_same {C} x e = sym (ap (λ (b : Bool). record x { ended = b }) e)
 
--- where nothing is needed any more, and what is in the chain is given back
-given_ended : {C : Type 0} (c : Config) (x : Job C) → HeldAddsUp x → given_row 0 (chained_of x) (row_with_amounts c x (pages_held x) (printers_held x) 0 0) ≡ row_of c (record x { ended = true })
-given_ended c x a =
-    let left : pages_held x - chained_of x ≡ pages_out x = omega arith in
-    ap (λ (n : ℕ). row_with_amounts c x n (printers_held x) 0 0) left ∙ sym (row_ended c x)
-
 -- the row that needs no more pages and no printer, and gave back what is in the chain, is that of the ended job
-pub ended_row_is : {C : Type 0} (c : Config) (x : Job C) → IsQueue c x.queue → HeldAddsUp x → given_row 0 (chained_of x) (ended_row x.queue (ended_row 0 (row_of c x))) ≡ row_of c (record x { ended = true })
+ended_row_is : {C : Type 0} (c : Config) (x : Job C) → IsQueue c x.queue → HeldAddsUp x → given_row 0 (chained_of x) (ended_row x.queue (ended_row 0 (row_of c x))) ≡ row_of c (record x { ended = true })
 ended_row_is c x is a =
-    ap (given_row 0 (chained_of x)) (ended_printers c x (pages_held x) (printers_held x) 0 (printers_needed x) is) ∙ given_ended c x a
-
--- what is in the chain is among what the row holds
-pub chained_held : {C : Type 0} (c : Config) (x : Job C) → HeldAddsUp x → chained_of x ≤ amount (ended_row x.queue (ended_row 0 (row_of c x))).held 0
-chained_held c x a = omega arith
+    let left : pages_held x - chained_of x ≡ pages_out x = omega arith in
+    ap (given_row 0 (chained_of x)) (ended_printers c x (pages_held x) (printers_held x) 0 (printers_needed x) is)
+    ∙ (ap (λ (n : ℕ). row_with_amounts c x n (printers_held x) 0 0) left ∙ sym (row_ended c x))
 
 -- the row once both needs ended
-pub needs_ended_here : {C : Type 0} (c : Config) (t : Claims) (i : ℕ) (x : Job C) → Here t i (row_of c x) → t.capacity ≡ capacity c → IsQueue c x.queue → Here (need_ended (need_ended t i 0) i x.queue) i (ended_row x.queue (ended_row 0 (row_of c x)))
+needs_ended_here : {C : Type 0} (c : Config) (t : Claims) (i : ℕ) (x : Job C) → Here t i (row_of c x) → t.capacity ≡ capacity c → IsQueue c x.queue → Here (need_ended (need_ended t i 0) i x.queue) i (ended_row x.queue (ended_row 0 (row_of c x)))
 needs_ended_here c t i x h cap is =
     let k = queue_kind c x.queue is in
     let e = ap length cap in
@@ -64,12 +52,8 @@ ended_leaves c t i x h cap is a =
     let u : Claims = need_ended (need_ended t i 0) i x.queue in
     let row : Row = ended_row x.queue (ended_row 0 (row_of c x)) in
     let y : Row = row_of c (record x { ended = true }) in
-    let all : WithRow u (given_back u i 0 n) i y (amount t.free 0 + n) = given_leaves u i n row y (needs_ended_here c t i x h cap is) (chained_held c x a) (ended_row_is c x is a) in
+    let all : WithRow u (given_back u i 0 n) i y (amount t.free 0 + n) = given_leaves u i n row y (needs_ended_here c t i x h cap is) (omega arith) (ended_row_is c x is a) in
     after_ended t (given_back u i 0 n) i 0 (amount t.free 0 + n) y (after_ended (need_ended t i 0) (given_back u i 0 n) i x.queue (amount t.free 0 + n) y all)
-
--- a job that is held no more: the table without its row, where all that it held is free
-pub gone_leaves : {C : Type 0} (c : Config) (t : Claims) (i : ℕ) (x : Job C) → Here t i (row_of c x) → WithoutRow t (closed t i) i (amount t.free 0 + pages_held x)
-gone_leaves c t i x h = closed_drops t i (row_of c x) h
 
 -- which jobs are held no more
 

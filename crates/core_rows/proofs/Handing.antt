@@ -71,19 +71,13 @@ printer_held {C} c x is =
     let y : Job C = turned Handed x in
     kind_of c (pages_held y) x.queue (printers_held y) is ∙ ap (λ (b : Bool). cond b 0 1) (one_more x.handed)
 
--- the row of a job of which no page was handed
-row_unbegun : {C : Type 0} (c : Config) (x : Job C) → Goes x → x.handed ≡ 0 → row_of c x ≡ row_with_amounts c x (length (pages_kept x)) 0 0 1
-row_unbegun c x g h =
-    let r = g.0 in
-    let e = g.1 in
-    row_is c x (length (pages_kept x)) 0 0 1 (held_received x e r) (rw h refl) (needed_received c x e r) (rw (e, h) refl)
+-- the row of a job that prints, by its printers
+row_goes : {C : Type 0} (c : Config) (x : Job C) (p p' : ℕ) → Goes x → printers_held x ≡ p → printers_needed x ≡ p' → row_of c x ≡ row_with_amounts c x (length (pages_kept x)) p 0 p'
+row_goes c x p p' g held need = row_is c x (length (pages_kept x)) p 0 p' (held_received x g.1 g.0) held (needed_received c x g.1 g.0) need
 
 -- and of one of which a page was handed
 pub row_begun : {C : Type 0} (c : Config) (x : Job C) → Goes x → (x.handed == 0) ≡ false → row_of c x ≡ row_with_amounts c x (length (pages_kept x)) 1 0 0
-row_begun c x g h =
-    let r = g.0 in
-    let e = g.1 in
-    row_is c x (length (pages_kept x)) 1 0 0 (held_received x e r) (rw h refl) (needed_received c x e r) (rw (e, h) refl)
+row_begun c x g h = (let e = g.1 in row_goes c x 1 0 g (rw h refl) (rw (e, h) refl))
 
 -- the first page: the row holds a printer of the queue, and needs none
 pub first_row : {C : Type 0} (c : Config) (x : Job C) → IsQueue c x.queue → Goes x → x.handed ≡ 0 → granted_row x.queue (row_of c x) ≡ row_of c (turned Handed x)
@@ -93,7 +87,8 @@ first_row {C} c x is g h =
     let y : Job C = turned Handed x in
     let held : set (amounts c p q 0) q (amount (amounts c p q 0) q + 1) ≡ amounts c p q 1 = ap (λ (n : ℕ). set (amounts c p q 0) q (n + 1)) (kind_of c p q 0 is) ∙ set_kind c p q 0 1 is in
     let need : set (amounts c 0 q 1) q (amount (amounts c 0 q 1) q - 1) ≡ amounts c 0 q 0 = ap (λ (n : ℕ). set (amounts c 0 q 1) q (n - 1)) (kind_of c 0 q 1 is) ∙ set_kind c 0 q 1 0 is in
-    ap (granted_row q) (row_unbegun c x g h)
+    let e = g.1 in
+    ap (granted_row q) (row_goes c x 0 1 g (rw h refl) (rw (e, h) refl))
     ∙ (ap (λ (l : List ℕ). row_with l (set (amounts c 0 q 1) q (amount (amounts c 0 q 1) q - 1)) (row_with_amounts c x p 0 0 1)) held
     ∙ (ap (λ (l : List ℕ). row_with (amounts c p q 1) l (row_with_amounts c x p 0 0 1)) need ∙ sym (row_begun c y g (one_more x.handed))))
 

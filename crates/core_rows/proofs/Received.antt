@@ -36,12 +36,8 @@ pub record Becomes {C : Type 0} (x y : Job C) : Type 0 where
   pub filed : x.granted ≡ file_pages x
   pub unhanded : x.handed ≡ 0
   pub received : is_received y ≡ true
-  pub number : y.number ≡ x.number
-  pub sender : y.sender ≡ x.sender
-  pub queue : y.queue ≡ x.queue
   pub pages : file_pages y ≡ file_pages x
-  pub ended : y.ended ≡ x.ended
-  pub handed : y.handed ≡ x.handed
+  pub same : y ≡ record x { files = y.files; control = y.control }
 
 -- by the end of a file
 pub by_file : {C : Type 0} (file : ℕ) (whole : Bool) (x : Job C) → IsReceiving x → x.granted ≡ file_pages x → x.handed ≡ 0 → is_received (acted (FileEnded file whole) x) ≡ true → Becomes x (acted (FileEnded file whole) x)
@@ -50,12 +46,8 @@ by_file {C} file whole x r g h is = record {
   filed = g;
   unhanded = h;
   received = is;
-  number = refl;
-  sender = refl;
-  queue = refl;
   pages = (let y : Job C = acted (FileEnded file whole) x in pages_sum y.files ∙ (pages_ended x.files ∙ sym (pages_sum x.files)));
-  ended = refl;
-  handed = refl;
+  same = refl;
 }
 
 -- by its control file
@@ -65,12 +57,8 @@ by_control control whole x r g h is = record {
   filed = g;
   unhanded = h;
   received = is;
-  number = refl;
-  sender = refl;
-  queue = refl;
   pages = refl;
-  ended = refl;
-  handed = refl;
+  same = refl;
 }
 
 -- how many pages it gives back: those of its files of which it has no place
@@ -86,6 +74,10 @@ kept_of_granted x y b =
     let f = b.filed in
     omega arith
 
+-- it goes on, and nothing of it was handed out
+goes_after : {C : Type 0} (x y : Job C) → Becomes x y → (y.ended ≡ false) × (y.handed ≡ 0)
+goes_after {C} x y b = (ap (λ (z : Job C). z.ended) b.same ∙ b.receiving.0, ap (λ (z : Job C). z.handed) b.same ∙ b.unhanded)
+
 -- the row of the job before, in amounts
 row_before : {C : Type 0} (c : Config) (x y : Job C) → Becomes x y → row_of c x ≡ row_with_amounts c x x.granted 0 (limit_of c x.queue - x.granted) 1
 row_before c x y b =
@@ -96,31 +88,17 @@ row_before c x y b =
 -- and after
 row_after : {C : Type 0} (c : Config) (x y : Job C) → Becomes x y → row_of c y ≡ row_with_amounts c y (length (pages_kept y)) 0 0 1
 row_after c x y b =
-    let e : y.ended ≡ false = b.ended ∙ b.receiving.0 in
-    let h : y.handed ≡ 0 = b.handed ∙ b.unhanded in
-    row_is c y (length (pages_kept y)) 0 0 1 (held_received y e b.received) (rw h refl) (needed_received c y e b.received) (rw (e, h) refl)
-
--- jobs of one number, sender and queue have the same rows of the same amounts
-same_named : {C : Type 0} (c : Config) (x y : Job C) (p m p' m' : ℕ) → y.number ≡ x.number → y.sender ≡ x.sender → y.queue ≡ x.queue → row_with_amounts c y p m p' m' ≡ row_with_amounts c x p m p' m'
-same_named c x y p m p' m' n s q =
-    ap (λ (i : ℕ). record (row_with_amounts c y p m p' m') { number = i }) n
-    ∙ (ap (λ (i : ℕ). record (row_with_amounts c y p m p' m') { number = x.number; sender = i }) s
-    ∙ ap (λ (i : ℕ). record {
-      number = x.number;
-      sender = x.sender;
-      queue = i;
-      held = amounts c p i m;
-      need = amounts c p' i m';
-    }) q)
+    let g = goes_after x y b in
+    row_is c y (length (pages_kept y)) 0 0 1 (held_received y g.0 b.received) (rw g.1 refl) (needed_received c y g.0 b.received) (rw (g.0, g.1) refl)
 
 -- the row that needs no more pages and gave those back is the row of the job after
 pub received_row : {C : Type 0} (c : Config) (x y : Job C) → Becomes x y → given_row 0 (unprinted x y) (ended_row 0 (row_of c x)) ≡ row_of c y
-received_row c x y b =
+received_row {C} c x y b =
     let k = kept_of_granted x y b in
     let left : x.granted - (x.granted - length (pages_kept y)) ≡ length (pages_kept y) = omega arith in
     ap (λ r. given_row 0 (unprinted x y) (ended_row 0 r)) (row_before c x y b)
     ∙ (ap (λ (n : ℕ). row_with_amounts c x n 0 0 1) left
-    ∙ (sym (same_named c x y (length (pages_kept y)) 0 0 1 b.number b.sender b.queue) ∙ sym (row_after c x y b)))
+    ∙ (sym (ap (λ (z : Job C). row_with_amounts c z (length (pages_kept y)) 0 0 1) b.same) ∙ sym (row_after c x y b)))
 
 -- those pages are among what its row holds
 pub unprinted_held : {C : Type 0} (c : Config) (x y : Job C) → Becomes x y → unprinted x y ≤ amount (ended_row 0 (row_of c x)).held 0
@@ -136,9 +114,9 @@ received_leaves c t i x y h b =
 pub received_chain : {C : Type 0} (x y : Job C) → Becomes x y → chained_of y + unprinted x y ≡ chained_of x
 received_chain x y b =
     let k = kept_of_granted x y b in
-    let e : y.ended ≡ false = b.ended ∙ b.receiving.0 in
-    let h : y.handed ≡ 0 = b.handed ∙ b.unhanded in
-    let a = chained_received y e b.received in
+    let g = goes_after x y b in
+    let h = g.1 in
+    let a = chained_received y g.0 b.received in
     let d = chained_receiving x b.receiving in
     let f = b.filed in
     omega arith

@@ -1,6 +1,7 @@
 -- While a job is received: what its row and its pages become by each act of its session.
 use Rattle.std.proofs.Common.{◌≡◌, ◌==◌, ℕ, ◌+◌, ◌-◌, ◌<◌, Bool, true, false, List, [], ◌∷◌, ◌++◌, length, refl, sym, ◌∙◌, ap, arith}
-use Rattle.std.specs.Prelude.{cond, not, ◌&&◌, is_some}
+use Rattle.std.specs.Prelude.{cond, not, ◌&&◌, is_some, sum_by}
+use Rattle.std.proofs.lemmas.List.Sums.{sum_by_push}
 use Rattle.std.specs.List.{list_all}
 use Rattle.std.proofs.lemmas.List.{length_push}
 use Rattle.lpd_values.specs.Contents.{Contents}
@@ -62,8 +63,6 @@ row_receiving {C} c x y r r' n s q g h =
     let pn : printers_needed y ≡ printers_needed x = py ∙ (ap (λ (i : ℕ). cond (i == 0) 1 0) h ∙ sym px) in
     row_same c x y n s q (held_receiving y r' ∙ (g ∙ sym (held_receiving x r))) ph (omega arith) pn
 
--- a page is granted
-
 -- a page is put
 
 -- once it is put the job is still being received
@@ -77,24 +76,21 @@ put_receiving {C} file number page P x r o =
 pub put_row : {C : Type 0} (c : Config) (file number : ℕ) (page : C) (P : File C → Type 0) (x : Job C) → IsReceiving x → HasOpen x.files file P → row_of c (acted (Put file number page) x) ≡ row_of c x
 put_row c file number page P x r o = row_receiving c x (acted (Put file number page) x) r (put_receiving file number page P x r o) refl refl refl refl refl
 
--- the pages of the last file count too
-pages_last : {C : Type 0} (before : List (File C)) (last : File C) → pages_in (before ++ last ∷ []) ≡ pages_in before + length last.pages
-pages_last [] last = omega arith
-pages_last (f ∷ fs) last = let ih = pages_last fs last in omega arith
-
 -- and one page more is in its chain
 pub put_chain : {C : Type 0} (file number : ℕ) (page : C) (P : File C → Type 0) (x : Job C) → IsReceiving x → HasOpen x.files file P → chained_of (acted (Put file number page) x) ≡ chained_of x + 1
 put_chain {C} file number page P x r o =
     let y : Job C = acted (Put file number page) x in
-    let files : y.files ≡ o.0 ++ with_page page o.1 ∷ [] = ap (at_last (with_page page)) o.2 ∙ last_push (with_page page) o.0 o.1 in
-    let a = chained_receiving y (put_receiving file number page P x r o) in
-    let b = chained_receiving x r in
-    let sa = pages_sum y.files in
-    let sb = pages_sum x.files in
-    let na = ap pages_in files ∙ pages_last o.0 (with_page page o.1) in
-    let nb = ap pages_in o.2 ∙ pages_last o.0 o.1 in
+    let pages : List (File C) → ℕ = sum_by (λ (g : File C). length g.pages) in
+    let a = chained_receiving y (put_receiving file number page P x r o) ∙ ap pages (ap (at_last (with_page page)) o.2 ∙ last_push (with_page page) o.0 o.1) in
+    let b = chained_receiving x r ∙ ap pages o.2 in
+    let na = sum_by_push (λ (g : File C). length g.pages) o.0 (with_page page o.1) in
+    let nb = sum_by_push (λ (g : File C). length g.pages) o.0 o.1 in
     let p = length_push o.1.pages page in
-    omega arith
+    omega (arith, a, b, na, nb, p)
+
+-- where the files have as many pages, the chain is as it was
+chain_same : {C : Type 0} (x y : Job C) → IsReceiving x → IsReceiving y → pages_in y.files ≡ pages_in x.files → chained_of y ≡ chained_of x
+chain_same x y r r' e = chained_receiving y r' ∙ (pages_sum y.files ∙ (e ∙ (sym (pages_sum x.files) ∙ sym (chained_receiving x r))))
 
 -- a file begins
 
@@ -108,9 +104,7 @@ began_row c name count x r = row_receiving c x (acted (Began name count) x) r (b
 
 -- and so is its chain
 pub began_chain : {C : Type 0} (name : List ℕ) (count : ℕ) (x : Job C) → IsReceiving x → chained_of (acted (Began name count) x) ≡ chained_of x
-began_chain {C} name count x r =
-    let y : Job C = acted (Began name count) x in
-    chained_receiving y (began_receiving name count x r) ∙ (pages_sum y.files ∙ (pages_push x.files name count ∙ (sym (pages_sum x.files) ∙ sym (chained_receiving x r))))
+began_chain name count x r = chain_same x (acted (Began name count) x) r (began_receiving name count x r) (pages_push x.files name count)
 
 -- a file ends, and the job isn't received by that
 
@@ -118,15 +112,9 @@ began_chain {C} name count x r =
 pub file_ended_row : {C : Type 0} (c : Config) (file : ℕ) (whole : Bool) (x : Job C) → IsReceiving x → is_received (acted (FileEnded file whole) x) ≡ false → row_of c (acted (FileEnded file whole) x) ≡ row_of c x
 file_ended_row c file whole x r e = row_receiving c x (acted (FileEnded file whole) x) r (r.0, e) refl refl refl refl refl
 
--- whose pages an end of a file leaves as they are
-ended_pages_same : {C : Type 0} (file : ℕ) (whole : Bool) (x : Job C) → pages_in (acted (FileEnded file whole) x).files ≡ pages_in x.files
-ended_pages_same file whole x = pages_ended x.files
-
 -- and so is its chain
 pub file_ended_chain : {C : Type 0} (file : ℕ) (whole : Bool) (x : Job C) → IsReceiving x → is_received (acted (FileEnded file whole) x) ≡ false → chained_of (acted (FileEnded file whole) x) ≡ chained_of x
-file_ended_chain {C} file whole x r e =
-    let y : Job C = acted (FileEnded file whole) x in
-    chained_receiving y (r.0, e) ∙ (pages_sum y.files ∙ (ended_pages_same file whole x ∙ (sym (pages_sum x.files) ∙ sym (chained_receiving x r))))
+file_ended_chain file whole x r e = chain_same x (acted (FileEnded file whole) x) r (r.0, e) (pages_ended x.files)
 
 -- the control file comes, and the job isn't received by that
 
@@ -136,4 +124,4 @@ controlled_row c control whole x r e = row_receiving c x (acted (Controlled cont
 
 -- and so is its chain
 pub controlled_chain : {C : Type 0} (control : Contents) (whole : Bool) (x : Job C) → IsReceiving x → is_received (acted (Controlled control whole) x) ≡ false → chained_of (acted (Controlled control whole) x) ≡ chained_of x
-controlled_chain {C} control whole x r e = chained_receiving (acted (Controlled control whole) x) (r.0, e) ∙ sym (chained_receiving x r)
+controlled_chain control whole x r e = chain_same x (acted (Controlled control whole) x) r (r.0, e) refl

@@ -27,16 +27,16 @@ use Rattle.spool_laws.proofs.Known.{Has}
 use Rattle.spool_moves.specs.Standing.{no_job}
 use Rattle.spool_history.specs.Claimed.{IsTableOf}
 use Rattle.spool_moves.proofs.Standing.{all_held}
-use Rattle.spool_moves.proofs.Holding.{back_within, handed_within, one_is_out}
+use Rattle.spool_moves.proofs.Holding.{back_within, handed_within, held_counts, one_is_out}
 use Rattle.spool_moves.proofs.Claimed.{table_free, rows_len}
 use Rattle.spool_moves.proofs.Queued.{job_queued}
 use Rattle.job_moves.proofs.Ending.{ties_ended}
 use Rattle.job_moves.proofs.Stored.{stored}
-use Rattle.core_rows.proofs.Tables.{Here, WithRow, WithoutRow, here_held, room_for}
+use Rattle.core_rows.proofs.Tables.{Here, WithRow, WithoutRow, closed_drops, here_held, room_for}
 use Rattle.core_rows.proofs.Amounts.{queue_kind}
 use Rattle.core_rows.proofs.Handing.{row_stands}
 use Rattle.core_rows.proofs.Receiving.{held_in_row}
-use Rattle.core_rows.proofs.Ending.{HeldAddsUp, ended_leaves, ended_same, gone_leaves, job_adds_up}
+use Rattle.core_rows.proofs.Ending.{HeldAddsUp, ended_leaves, ended_same}
 use Rattle.spool_calls.specs.Looks.{Detail, What}
 use Rattle.spool_calls.specs.Kept.{IsBookOf, look, shown_job}
 use Rattle.core_steps.proofs.Phases.{ended_is, facts_tie, phase_tie}
@@ -76,7 +76,7 @@ pub record MayEnd {C : Type 0} (c : Config) (x : Job C) : Type 0 where
 pub may_end : {C : Type 0} (size : C → ℕ) (c : Config) (b : Base) (h : List (Event C)) (x : Job C) → IsLegal size c b h → Has x (now c b h).jobs → MayEnd c x
 may_end size c b h x l has = record {
   held = all_held c b h x has;
-  adds_up = job_adds_up size c b h x l has;
+  adds_up = held_counts size c b h x l has;
   queued = job_queued size c b h x l has;
   back = back_within size c b h x l has;
   out = one_is_out size c b h x l has;
@@ -280,7 +280,7 @@ module _ (d : Detail) (v : State (What d)) (s : Stock) (is : IsStockOf d v s) (i
       let even = same in
       let free : amount s.table.free 0 + pages_held x ≡ s.pool.free + n = omega (arith, e, none, adds, even) in
       let le = within in
-      one_gone (s.book.stored - n) (s.pool.free + n) (closed s.table i) (omega (arith, e, le)) (subst (λ (a : ℕ). WithoutRow s.table (closed s.table i) i a) free (gone_leaves c s.table i x row))
+      one_gone (s.book.stored - n) (s.pool.free + n) (closed s.table i) (omega (arith, e, le)) (subst (λ (a : ℕ). WithoutRow s.table (closed s.table i) i a) free (closed_drops s.table i (row_of c x) row))
 
   -- a job that has ended stays
   stays : MayEnd v.config x → x.ended ≡ true → IsStockOf d (with_jobs v (end_place v.jobs i)) s
