@@ -1,7 +1,10 @@
 -- Each page of a job stands once among the pages of its files, so one place less takes it out of those that are kept exactly
 -- where no later place is of the same page.
-use Rattle.std.proofs.Common.{◌⊎◌, inl, inr, ◌≡◌, ◌==◌, ◌≢◌, ℕ, ◌+◌, ◌<◌, ◌≤◌, Bool, true, false, List, [], ◌∷◌, ◌++◌, length, refl, sym, ◌∙◌, ap, subst, arith, length-append}
-use Rattle.std.specs.Prelude.{cond, filter, ◌&&◌, ◌||◌}
+use Rattle.std.proofs.Common.{◌⊎◌, inl, inr, ◌≡◌, ◌==◌, ◌≢◌, ℕ, zero, suc, ◌+◌, ◌<◌, ◌≤◌, Bool, true, false, List, [], ◌∷◌, ◌++◌, drop, length, map, refl, sym, ◌∙◌, ap, subst, arith, length-append}
+use Rattle.std.specs.Prelude.{Some, cond, filter, slice_get, ◌&&◌, ◌||◌}
+use Rattle.page_chain.specs.declared.place.Place.{Place}
+use Rattle.page_chain.specs.Changes.{is_same_place}
+use Rattle.spool_calls.specs.Kept.{place_of}
 use Rattle.std.specs.List.{list_any, flat_map}
 use Rattle.std.specs.Str.{bytes_eq}
 use Rattle.std.proofs.lemmas.List.Elements.{filter-append, filter_agree}
@@ -12,6 +15,27 @@ use Rattle.spool_laws.proofs.Known.{Has, test, and_false, or_true}
 use Rattle.spool_laws.proofs.Adding.{has_left}
 use Rattle.spool_laws.proofs.Apart.{one_for}
 use Rattle.spool_laws.proofs.Copies.{has_either, has_right, if_has, named_there, places_there, same_page}
+
+-- an element of a list, and what follows it
+pub record Nth {X : Type 0} (xs : List X) (i : ℕ) : Type 0 where
+  pub here : X
+  pub left : drop i xs ≡ here ∷ drop (i + 1) xs
+  pub is : slice_get xs i ≡ Some here
+  pub has : Has here xs
+
+-- each number below the length is that of an element
+pub nth : {X : Type 0} (xs : List X) (i : ℕ) → i < length xs → Nth xs i
+nth [] i lt = absurd (omega arith)
+nth (x ∷ xs) zero lt = record { here = x; left = refl; is = refl; has = inl refl }
+nth {X} (x ∷ xs) (suc i) lt =
+    let n = nth xs i (omega arith) in
+    let e : suc (i + 1) ≡ suc i + 1 = omega arith in
+    record { here = n.here; left = n.left ∙ ap (λ (m : ℕ). n.here ∷ drop m (x ∷ xs)) e; is = n.is; has = inr n.has }
+
+-- a place is among those of pages where its page is among these
+pub any_spot : {C : Type 0} (x : Page C) (ps : List (Page C)) → list_any (is_same_place (place_of x)) (map {A = Page C} {B = Place} place_of ps) ≡ list_any (is_same_page x) ps
+any_spot x [] = refl
+any_spot {C} x (p ∷ ps) = ap (λ (b : Bool). is_same_page x p || b) (any_spot x ps)
 
 -- how many of a list a test says yes to
 abbrev pub how_many : {X : Type 0} → (X → Bool) → List X → ℕ

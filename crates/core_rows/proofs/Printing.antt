@@ -1,7 +1,7 @@
 -- A page comes back from a printer, and its job goes on: where its page doesn't come again it is given back, else it is in the
 -- chain again.
-use Rattle.std.proofs.Common.{inl, inr, ◌≡◌, ◌==◌, ℕ, zero, suc, ◌+◌, ◌-◌, ◌<◌, ◌≤◌, Bool, true, false, List, [], ◌∷◌, length, drop, map, refl, sym, ◌∙◌, ap, arith, length-drop}
-use Rattle.std.specs.Prelude.{◌||◌, slice_get}
+use Rattle.std.proofs.Common.{inl, inr, ◌≡◌, ◌==◌, ℕ, zero, suc, ◌+◌, ◌-◌, ◌<◌, ◌≤◌, Bool, true, false, List, [], ◌∷◌, length, drop, map, refl, sym, ◌∙◌, ap, ap₂, arith}
+use Rattle.std.specs.Prelude.{Option, option_map, slice_get}
 use Rattle.std.specs.List.{list_any}
 use Rattle.std.proofs.lemmas.Bool.Decides.{nat_tests}
 use Rattle.counts.specs.Amounts.{amount}
@@ -26,7 +26,9 @@ use Rattle.core_rows.proofs.Tables.{Here, WithRow, given_row, given_leaves, same
 use Rattle.core_rows.proofs.Amounts.{row_with_amounts}
 use Rattle.core_rows.proofs.Received.{held_received, chained_received}
 use Rattle.core_rows.proofs.Handing.{Goes, row_begun}
-use Rattle.core_rows.proofs.EachPage.{among_again, among_last}
+use Rattle.std.proofs.lemmas.List.{drop-map}
+use Rattle.std.proofs.lemmas.Option.{slice_get-map}
+use Rattle.core_rows.proofs.EachPage.{Nth, among_again, among_last, any_spot, nth}
 use Rattle.spool_laws.proofs.Copies.{places_there}
 
 -- the page of the place that is out comes again: a place that wasn't handed out is of the same page
@@ -43,68 +45,29 @@ pub record IsOut {C : Type 0} (x : Job C) : Type 0 where
 pub is_out_of : {C : Type 0} (q : ℕ) (sheet : Sheet C) (x : Job C) → OutOf q sheet x → x.ended ≡ false → IsOut x
 is_out_of q sheet x o e = record { goes = (o.received, e); one = o.handed; within = (drop_first (places x) x.back o.page o.later o.page o.left).0 }
 
--- the first of the places that didn't come back, and the others
-record First {X : Type 0} (n : ℕ) (xs : List X) : Type 0 where
-  pub first : X
-  pub later : List X
-  pub is : drop n xs ≡ first ∷ later
-  pub next : drop (n + 1) xs ≡ later
-  pub there : Has first xs
-
--- they are there where not all came back
-first_of : {X : Type 0} (n : ℕ) (xs : List X) → n < length xs → First n xs
-first_of n [] lt = absurd (omega arith)
-first_of zero (x ∷ xs) lt = record { first = x; later = xs; is = refl; next = refl; there = inl refl }
-first_of {X} (suc n) (x ∷ xs) lt =
-    let f = first_of n xs (omega arith) in
-    let m : suc n + 1 ≡ suc (n + 1) = omega arith in
-    record { first = f.first; later = f.later; is = f.is; next = ap (λ (i : ℕ). drop i (x ∷ xs)) m ∙ f.next; there = inr f.there }
-
--- a later place is of the same page where its numbers say so
-any_spot : {C : Type 0} (x : Page C) (ps : List (Page C)) → list_any (is_same_place (place_of x)) (map place_of ps) ≡ list_any (is_same_page x) ps
-any_spot x [] = refl
-any_spot {C} x (p ∷ ps) = ap (λ (b : Bool). is_same_page x p || b) (any_spot x ps)
-
--- whether the page of a place comes again, from the numbers of the places
-again_by : {C : Type 0} (n : ℕ) (xs : List (Page C)) (x : Page C) (ps : List (Page C)) → drop n xs ≡ x ∷ ps → comes_again (drop (n + 1) (map place_of xs)) (slice_get (map place_of xs) n) ≡ list_any (is_same_page x) ps
-again_by zero [] x ps e = absurd cc
-again_by (suc n) [] x ps e = absurd cc
-again_by {C} zero (y ∷ ys) x ps e =
-    let a : y ≡ x = cc in
-    let b : ys ≡ ps = cc in
-    any_spot y ys ∙ (ap (λ (z : Page C). list_any (is_same_page z) ys) a ∙ ap (λ (l : List (Page C)). list_any (is_same_page x) l) b)
-again_by {C} (suc n) (y ∷ ys) x ps e =
-    let m : suc n + 1 ≡ suc (n + 1) = omega arith in
-    ap (λ (i : ℕ). comes_again (drop i (map {A = Page C} {B = Place} place_of (y ∷ ys))) (slice_get (map {A = Page C} {B = Place} place_of (y ∷ ys)) (suc n))) m ∙ again_by n ys x ps e
-
 -- whether the page comes again, in pages
-again_is : {C : Type 0} (x : Job C) (o : IsOut x) (f : First x.back (places x)) → again x ≡ list_any (is_same_page f.first) f.later
-again_is {C} x o f =
-    ap (λ (n : ℕ). comes_again (drop n (spots x)) (slice_get (spots x) x.back)) o.one ∙ again_by x.back (places x) f.first f.later f.is
+again_is : {C : Type 0} (x : Job C) → IsOut x → (n : Nth (places x) x.back) → again x ≡ list_any (is_same_page n.here) (drop (x.back + 1) (places x))
+again_is {C} x o n =
+    ap₂ comes_again (ap (λ (m : ℕ). drop m (spots x)) o.one ∙ drop-map (place_of {C = C}) (x.back + 1) (places x))
+    (slice_get-map (place_of {C = C}) (places x) x.back ∙ ap (λ (p : Option (Page C)). option_map place_of p) n.is)
+    ∙ any_spot n.here (drop (x.back + 1) (places x))
 
--- the pages that are kept before and after
-kept_before : {C : Type 0} (x : Job C) (f : First x.back (places x)) → length (pages_kept x) ≡ length (pages_among (f.first ∷ f.later) (all_pages 0 x.files))
-kept_before {C} x f = ap (λ (l : List (Page C)). length (pages_among l (all_pages 0 x.files))) f.is
-
--- and after
-kept_after : {C : Type 0} (x : Job C) (f : First x.back (places x)) → length (pages_kept (turned (Printed Going) x)) ≡ length (pages_among f.later (all_pages 0 x.files))
-kept_after {C} x f = ap (λ (l : List (Page C)). length (pages_among l (all_pages 0 x.files))) f.next
+-- the pages that are kept before
+kept_before : {C : Type 0} (x : Job C) (n : Nth (places x) x.back) → length (pages_kept x) ≡ length (pages_among (n.here ∷ drop (x.back + 1) (places x)) (all_pages 0 x.files))
+kept_before {C} x n = ap (λ (l : List (Page C)). length (pages_among l (all_pages 0 x.files))) n.left
 
 -- a page that comes again is kept
-pub again_kept : {C : Type 0} (x : Job C) → IsOut x → again x ≡ true → length (pages_kept (turned (Printed Going) x)) ≡ length (pages_kept x)
+again_kept : {C : Type 0} (x : Job C) → IsOut x → again x ≡ true → length (pages_kept (turned (Printed Going) x)) ≡ length (pages_kept x)
 again_kept x o e =
-    let f = first_of x.back (places x) o.within in
-    kept_after x f ∙ (sym (among_again f.first f.later (all_pages 0 x.files) (sym (again_is x o f) ∙ e)) ∙ sym (kept_before x f))
+    let n = nth (places x) x.back o.within in
+    sym (kept_before x n ∙ among_again n.here (drop (x.back + 1) (places x)) (all_pages 0 x.files) (sym (again_is x o n) ∙ e))
 
 -- and one that doesn't is kept no more
-pub last_kept : {C : Type 0} (x : Job C) → IsOut x → again x ≡ false → length (pages_kept (turned (Printed Going) x)) + 1 ≡ length (pages_kept x)
+last_kept : {C : Type 0} (x : Job C) → IsOut x → again x ≡ false → length (pages_kept (turned (Printed Going) x)) + 1 ≡ length (pages_kept x)
 last_kept x o e =
-    let f = first_of x.back (places x) o.within in
-    let has = places_there f.first x.files (prints_in x.control) f.there in
-    let a = among_last f.first f.later x.files has (sym (again_is x o f) ∙ e) in
-    let b = kept_before x f in
-    let d = kept_after x f in
-    omega arith
+    let n = nth (places x) x.back o.within in
+    let has = places_there n.here x.files (prints_in x.control) n.has in
+    sym (kept_before x n ∙ among_last n.here (drop (x.back + 1) (places x)) x.files has (sym (again_is x o n) ∙ e))
 
 -- a page of it was handed out
 begun : {C : Type 0} (x : Job C) → IsOut x → (x.handed == 0) ≡ false
