@@ -1,5 +1,5 @@
 -- An amount for pages and one for each queue's printers, and the row of a job made of them.
-use Rattle.std.proofs.Common.{inl, inr, ◌≡◌, ◌==◌, ◌≢◌, ℕ, zero, suc, ◌-◌, ◌<◌, Bool, true, false, List, [], ◌∷◌, length, get_or, set, map, replicate, refl, sym, ◌∙◌, ap, arith}
+use Rattle.std.proofs.Common.{inl, inr, ◌≡◌, ◌==◌, ℕ, suc, ◌-◌, ◌<◌, Bool, true, false, List, ◌∷◌, length, get_or, set, map, sym, ◌∙◌, ap, arith}
 use Rattle.std.specs.Prelude.{cond}
 use Rattle.std.proofs.lemmas.List.{ext_get_or, length-set, length-map, get_or-set_same, get_or-set_other}
 use Rattle.std.proofs.lemmas.Bool.Decides.{nat_tests}
@@ -11,7 +11,7 @@ use Rattle.spool_history.specs.Now.{Job, amounts, capacity, up_to, row_of, pages
 use Rattle.spool_laws.proofs.Known.{test}
 use Rattle.spool_laws.proofs.Adding.{length_up_to}
 use Rattle.spool_laws.proofs.Printers.{get_up_to}
-use Rattle.core_rows.proofs.Tables.{given_row, ended_row}
+use Rattle.core_rows.proofs.Tables.{ended_row}
 
 -- m for the queue q and 0 for all others, of n queues
 abbrev one_queue : (q m n : ℕ) → List ℕ

@@ -1,20 +1,18 @@
 -- Each page of a job stands once among the pages of its files, so one place less takes it out of those that are kept exactly
 -- where no later place is of the same page.
-use Rattle.std.proofs.Common.{◌⊎◌, inl, inr, ◌≡◌, ◌==◌, ◌≢◌, ℕ, zero, suc, ◌+◌, ◌<◌, ◌≤◌, Bool, true, false, List, [], ◌∷◌, ◌++◌, drop, length, map, refl, sym, ◌∙◌, ap, subst, arith, length-append}
-use Rattle.std.specs.Prelude.{Some, cond, filter, slice_get, ◌&&◌, ◌||◌}
+use Rattle.std.proofs.Common.{inl, inr, ◌≡◌, ◌==◌, ◌≢◌, ℕ, zero, suc, ◌+◌, ◌<◌, ◌≤◌, Bool, true, false, List, [], ◌∷◌, drop, length, map, refl, sym, ◌∙◌, ap, subst, arith, length-append}
+use Rattle.std.specs.Prelude.{Some, filter, slice_get, ◌&&◌, ◌||◌}
 use Rattle.page_chain.specs.declared.place.Place.{Place}
 use Rattle.page_chain.specs.Changes.{is_same_place}
 use Rattle.spool_calls.specs.Kept.{place_of}
-use Rattle.std.specs.List.{list_any, flat_map}
-use Rattle.std.specs.Str.{bytes_eq}
+use Rattle.std.specs.List.{list_any}
 use Rattle.std.proofs.lemmas.List.Elements.{filter-append, filter_agree}
 use Rattle.std.proofs.lemmas.Bool.Decides.{nat_tests}
 use Rattle.std.proofs.lemmas.Bool.{and_left, and_parts, and_right, ne_eqb}
-use Rattle.spool_history.specs.Acts.{File, Page, numbered, pages_named, all_pages, is_same_page, pages_among}
-use Rattle.spool_laws.proofs.Known.{Has, test, and_false, or_true}
-use Rattle.spool_laws.proofs.Adding.{has_left}
+use Rattle.spool_history.specs.Acts.{File, Page, numbered, all_pages, is_same_page, pages_among}
+use Rattle.spool_laws.proofs.Known.{Has, test, or_true}
 use Rattle.spool_laws.proofs.Apart.{one_for}
-use Rattle.spool_laws.proofs.Copies.{has_either, has_right, if_has, named_there, places_there, same_page}
+use Rattle.spool_laws.proofs.Copies.{same_page}
 
 -- an element of a list, and what follows it
 pub record Nth {X : Type 0} (xs : List X) (i : ℕ) : Type 0 where
@@ -50,11 +48,11 @@ how_many_cons t x xs = by (t x) refl
     by false e = rw e (omega arith)
 
 -- tests that agree say yes to as many
-how_many_same : {X : Type 0} (t u : X → Bool) (xs : List X) → ((x : X) → t x ≡ u x) → how_many t xs ≡ how_many u xs
+pub how_many_same : {X : Type 0} (t u : X → Bool) (xs : List X) → ((x : X) → t x ≡ u x) → how_many t xs ≡ how_many u xs
 how_many_same t u xs e = ap length (filter_agree t u e xs)
 
 -- tests that never both say yes
-how_many_either : {X : Type 0} (t u : X → Bool) (xs : List X) → ((x : X) → t x ≡ true → u x ≡ false) → how_many (λ (x : X). t x || u x) xs ≡ how_many t xs + how_many u xs
+pub how_many_either : {X : Type 0} (t u : X → Bool) (xs : List X) → ((x : X) → t x ≡ true → u x ≡ false) → how_many (λ (x : X). t x || u x) xs ≡ how_many t xs + how_many u xs
 how_many_either t u [] e = omega arith
 how_many_either {X} t u (x ∷ xs) e =
     let a = how_many_cons (λ (y : X). t y || u y) x xs in

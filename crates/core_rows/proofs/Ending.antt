@@ -1,21 +1,14 @@
 -- A job ends while a page of it is out, or is held no more.
-use Rattle.std.proofs.Common.{◌≡◌, ◌==◌, ℕ, ◌+◌, ◌-◌, ◌<◌, ◌≤◌, Bool, true, false, not, inl, inr, List, length, refl, sym, ◌∙◌, ap, arith}
-use Rattle.std.proofs.lemmas.Bool.Decides.{nat_tests}
+use Rattle.std.proofs.Common.{◌≡◌, ◌==◌, ℕ, ◌+◌, ◌-◌, Bool, true, false, not, inl, inr, length, refl, sym, ◌∙◌, ap, arith}
 use Rattle.counts.specs.Amounts.{amount}
 use Rattle.claims.specs.declared.row.Row.{Row}
 use Rattle.claims.specs.Claims.{Claims}
-use Rattle.claims.specs.Changes.{given_back, need_ended, closed}
+use Rattle.claims.specs.Changes.{given_back, need_ended}
 use Rattle.config_values.specs.Config.{Config, IsQueue}
-use Rattle.spool_history.specs.Now.{Job, now, is_held, pages_held, pages_out, printers_held, printers_needed, row_of, capacity}
-use Rattle.spool_history.specs.Base.{Base}
-use Rattle.spool_history.specs.Events.{Event}
-use Rattle.spool_history.specs.Legal.{IsLegal}
-use Rattle.spool_history.specs.Events.Act.{Aborted}
-use Rattle.spool_history.specs.Steps.{acted}
+use Rattle.spool_history.specs.Now.{Job, is_held, pages_held, pages_out, printers_held, printers_needed, row_of, capacity}
 use Rattle.spool_laws.specs.Sums.{chained_of}
-use Rattle.spool_laws.proofs.Known.{Has, test}
-use Rattle.spool_moves.proofs.Holding.{held_counts}
-use Rattle.core_rows.proofs.Tables.{Here, WithRow, WithoutRow, given_row, ended_row, given_leaves, ended_here, after_ended, closed_drops}
+use Rattle.spool_laws.proofs.Known.{test}
+use Rattle.core_rows.proofs.Tables.{Here, WithRow, given_row, ended_row, given_leaves, ended_here, after_ended}
 use Rattle.core_rows.proofs.Amounts.{row_with_amounts, row_is, queue_kind, ended_printers}
 
 -- the pages that a job holds are those in its chain and those that are out

@@ -1,24 +1,22 @@
 -- A page comes back from a printer, and its job goes on: where its page doesn't come again it is given back, else it is in the
 -- chain again.
-use Rattle.std.proofs.Common.{inl, inr, ◌≡◌, ◌==◌, ℕ, zero, suc, ◌+◌, ◌-◌, ◌<◌, ◌≤◌, Bool, true, false, List, [], ◌∷◌, length, drop, map, refl, sym, ◌∙◌, ap, ap₂, arith}
+use Rattle.std.proofs.Common.{◌≡◌, ◌==◌, ℕ, ◌+◌, ◌-◌, ◌<◌, ◌≤◌, Bool, true, false, List, ◌∷◌, length, drop, refl, sym, ◌∙◌, ap, ap₂, arith}
 use Rattle.std.specs.Prelude.{Option, option_map, slice_get}
 use Rattle.std.specs.List.{list_any}
 use Rattle.std.proofs.lemmas.Bool.Decides.{nat_tests}
 use Rattle.counts.specs.Amounts.{amount}
 use Rattle.claims.specs.Claims.{Claims}
 use Rattle.claims.specs.Changes.{given_back}
-use Rattle.page_chain.specs.declared.place.Place.{Place}
-use Rattle.page_chain.specs.Changes.{is_same_place, comes_again}
+use Rattle.page_chain.specs.Changes.{comes_again}
 use Rattle.config_values.specs.Config.{Config}
 use Rattle.spool_history.specs.Events.{Sheet}
 use Rattle.spool_history.specs.Events.Progress.{Going}
 use Rattle.spool_history.specs.Events.Turn.{Printed}
 use Rattle.lpd_values.specs.Told.{prints_in}
 use Rattle.spool_history.specs.Acts.{Page, all_pages, is_same_page, pages_among}
-use Rattle.spool_history.specs.Now.{Job, is_held, places, pages_kept, pages_held, row_of}
+use Rattle.spool_history.specs.Now.{Job, is_held, places, pages_kept, row_of}
 use Rattle.spool_history.specs.Steps.{turned}
 use Rattle.spool_laws.specs.Sums.{chained_of}
-use Rattle.spool_laws.proofs.Known.{Has}
 use Rattle.spool_laws.proofs.Copies.{kept_some}
 use Rattle.spool_moves.proofs.Out.{OutOf, drop_first}
 use Rattle.spool_calls.specs.Kept.{place_of, spots}

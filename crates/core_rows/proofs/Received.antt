@@ -6,7 +6,7 @@ use Rattle.claims.specs.Claims.{Claims}
 use Rattle.claims.specs.Changes.{given_back, need_ended}
 use Rattle.config_values.specs.Config.{Config, limit_of}
 use Rattle.spool_history.specs.Events.Act.{FileEnded, Controlled}
-use Rattle.spool_history.specs.Now.{Job, is_received, pages_held, pages_needed, pages_kept, row_of, amounts}
+use Rattle.spool_history.specs.Now.{Job, is_received, pages_held, pages_needed, pages_kept, row_of}
 use Rattle.spool_history.specs.Steps.{acted}
 use Rattle.spool_history.specs.Legal.{IsReceiving}
 use Rattle.spool_laws.specs.Sums.{chained_of}

@@ -1,5 +1,5 @@
 -- While a job is received: what its row and its pages become by each act of its session.
-use Rattle.std.proofs.Common.{◌≡◌, ◌==◌, ℕ, ◌+◌, ◌-◌, ◌<◌, Bool, true, false, List, [], ◌∷◌, ◌++◌, length, refl, sym, ◌∙◌, ap, arith}
+use Rattle.std.proofs.Common.{◌≡◌, ◌==◌, ℕ, ◌+◌, ◌-◌, Bool, true, false, List, [], ◌∷◌, ◌++◌, length, refl, sym, ◌∙◌, ap, arith}
 use Rattle.std.specs.Prelude.{cond, not, ◌&&◌, is_some, sum_by}
 use Rattle.std.proofs.lemmas.List.Sums.{sum_by_push}
 use Rattle.std.specs.List.{list_all}
@@ -8,23 +8,19 @@ use Rattle.lpd_values.specs.Contents.{Contents}
 use Rattle.lpd_values.specs.Kept.{is_among}
 use Rattle.lpd_values.specs.Told.{prints_in}
 use Rattle.counts.specs.Amounts.{amount}
-use Rattle.claims.specs.Claims.{Claims}
-use Rattle.claims.specs.Changes.{granted}
 use Rattle.config_values.specs.Config.{Config, limit_of}
-use Rattle.spool_history.specs.Events.Act.{Granted, Began, Put, FileEnded, Controlled}
+use Rattle.spool_history.specs.Events.Act.{Began, Put, FileEnded, Controlled}
 use Rattle.spool_history.specs.Acts.{File, at_last, is_open_in, names_in}
-use Rattle.spool_history.specs.Now.{Job, is_held, is_received, pages_held, pages_needed, printers_held, printers_needed, row_of}
+use Rattle.spool_history.specs.Now.{Job, is_received, pages_held, pages_needed, printers_held, printers_needed, row_of}
 use Rattle.spool_history.specs.Steps.{acted}
-use Rattle.spool_history.specs.Legal.{IsReceiving, IsBelowLimit, HasOpen}
+use Rattle.spool_history.specs.Legal.{IsReceiving, HasOpen}
 use Rattle.spool_laws.specs.Sums.{chained_of}
-use Rattle.spool_laws.proofs.Known.{and_false, or_true}
+use Rattle.spool_laws.proofs.Known.{and_false}
 use Rattle.spool_laws.proofs.Counts.{with_page, last_push}
 use Rattle.spool_laws.proofs.Copies.{pages_in}
 use Rattle.spool_laws.proofs.Held.{pages_push, pages_ended, open_push}
 use Rattle.spool_laws.proofs.Apart.{pages_sum}
-use Rattle.spool_moves.proofs.Claimed.{row_granted}
 use Rattle.spool_moves.proofs.Holding.{file_pages}
-use Rattle.core_rows.proofs.Tables.{Here, WithRow}
 use Rattle.core_rows.proofs.Amounts.{row_same}
 use Rattle.spool_laws.proofs.PutOff.{open_last as last_open}
 

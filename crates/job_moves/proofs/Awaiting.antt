@@ -15,12 +15,13 @@ use Rattle.spool_history.specs.Acts.{names_in}
 use Rattle.spool_history.specs.Now.{Job}
 use Rattle.spool_calls.specs.Kept.{is_printed, is_there, place_of, spots}
 use Rattle.spool_moves.proofs.Files.{Differ}
+use Rattle.core_rows.proofs.EachPage.{nth}
 use Rattle.job_moves.proofs.Ties.{Prints, Ties, prints}
 use Rattle.job_moves.proofs.Passes.{all_again, passes}
 use Rattle.job_moves.proofs.Placing.{placed_is}
 use Rattle.job_moves.proofs.Seeing.{see_len, seen_len, seen_none, seen_some}
 use Rattle.job_moves.proofs.Shelves.{content_at, given_if, given_none, len_of, len_shelved, sizes_of}
-use Rattle.job_moves.proofs.Spots.{PlaceAt, nth, place_at, place_differs, same_place}
+use Rattle.job_moves.proofs.Spots.{PlaceAt, place_at, place_differs, same_place}
 use Rattle.job_moves.proofs.Printing.{Goes, again_is, again_within, alike, last_is, see_place, there_before, there_printed, unlike}
 
 -- the places of a job are passes over its files

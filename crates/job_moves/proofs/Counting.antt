@@ -1,12 +1,10 @@
 -- How many pages a job that becomes received keeps, and how many go back.
 use Rattle.std.proofs.Common.{◌≡◌, ◌<◌, ℕ, suc, ◌+◌, Bool, true, false, cond, List, [], ◌∷◌, length, drop, map, refl, sym, ◌∙◌, ap, subst, arith, length-append}
-use Rattle.std.specs.Prelude.{◌||◌, filter, sum_by, Option, Some, None}
+use Rattle.std.specs.Prelude.{filter, sum_by, Option, Some, None}
 use Rattle.std.specs.List.{list_any}
-use Rattle.std.proofs.lemmas.List.Elements.{filter-append}
 use Rattle.lpd_values.specs.Contents.{Contents}
 use Rattle.lpd_values.specs.Told.{prints_in}
 use Rattle.page_pool.specs.Page.{Page}
-use Rattle.page_chain.specs.declared.place.Place.{Place}
 use Rattle.page_chain.specs.Files as F
 use Rattle.page_chain.specs.Files.{there}
 use Rattle.page_chain.specs.Changes.{dropped_from, is_among, is_same_place, numbers_of, unnamed_pages}
@@ -27,15 +25,11 @@ use Rattle.spool_laws.proofs.Copies.{pages_in}
 use Rattle.spool_laws.proofs.Counts.{with_end}
 use Rattle.spool_laws.proofs.Held.{pages_ended}
 use Rattle.spool_moves.proofs.Files.{Differ}
+use Rattle.core_rows.proofs.EachPage.{any_spot, how_many_more}
 use Rattle.job_moves.proofs.Ties.{Ties, fills}
 use Rattle.job_moves.proofs.Passes.{none_there, passed, passes, printed_none}
 use Rattle.job_moves.proofs.Shelving.{AreWhole, RestAt, Whole, are_whole, len_in, no_files, one_more, rest_all, whole_length, whole_pages}
 use Rattle.job_moves.proofs.Received.{names_ended, prints_same, spots_placed, whole_ended}
-
--- a page is among pages where its place is among theirs
-pub any_placed : {C : Type 0} (page : A.Page C) (pages : List (A.Page C)) → list_any (is_same_page page) pages ≡ list_any (is_same_place (place_of page)) (map {A = A.Page C} {B = Place} place_of pages)
-any_placed page [] = refl
-any_placed page (x ∷ pages) = ap (λ (b : Bool). is_same_page page x || b) (any_placed page pages)
 
 -- pages that are all there are as many
 pub all_there : {C : Type 0} (f : Page → C) (xs : List (Option Page)) (ys : List C) → map {A = Option Page} {B = Option C} (see_page f) xs ≡ map {A = C} {B = Option C} (λ page. Some page) ys → length (there xs) ≡ length ys
@@ -60,12 +54,6 @@ pub count_none : {C : Type 0} (t : A.Page C → Bool) (file n : ℕ) (pages : Li
 count_none t file n [] none = refl
 count_none {C} t file n (page ∷ pages) none =
     rw (none n page) (count_none t file (n + 1) pages none)
-
--- a test keeps the pages of the first file that it keeps, and those of the others
-pub count_more : {C : Type 0} (t : A.Page C → Bool) (n : ℕ) (f : A.File C) (fs : List (A.File C)) → length (filter t (all_pages n (f ∷ fs))) ≡ length (filter t (A.numbered n 0 f.pages)) + length (filter t (all_pages (n + 1) fs))
-count_more {C} t n f fs =
-    ap (λ (l : List (A.Page C)). length l) (filter-append t (A.numbered n 0 f.pages) (all_pages (n + 1) fs))
-    ∙ length-append (filter t (A.numbered n 0 f.pages)) (filter t (all_pages (n + 1) fs))
 
 -- what a test keeps is what has a place among those of these files
 abbrev Keeps : {C : Type 0} → (A.Page C → Bool) → (ℕ → ℕ) → List ℕ → Type 0
@@ -97,7 +85,7 @@ counted {C} f t numbers all n m (one_more x y {xs} {ys} e w) nm r keeps =
     let ih = counted f t numbers all (n + 1) (suc m) w (omega arith) r.1 keeps in
     let one = count_by f t numbers all n m x y (is_among numbers m) nm refl r.0 e keeps in
     let p = length-append (cond (is_among numbers m) [] (there x.pages)) (dropped_from (suc m) numbers xs) in
-    let q = count_more t n y ys in
+    let q = how_many_more t n y ys in
     omega (arith, ih, one, p, q)
 
 -- the pages that go back and those that are kept are all pages of the files
@@ -109,7 +97,7 @@ counts_placed {C} f xs v names w d e b =
     let keeps : Keeps t (len_in xs) numbers =
     λ page.
     ap (λ (n : ℕ). list_any (is_same_page page) (drop n (places v))) b
-    ∙ (any_placed page (places v) ∙ ap (list_any (is_same_place (place_of page))) (sym (spots_placed f xs v names w d e))) in
+    ∙ (sym (any_spot page (places v)) ∙ ap (list_any (is_same_place (place_of page))) (sym (spots_placed f xs v names w d e))) in
     counted f t numbers xs 0 0 (are_whole f xs v.files w) refl (rest_all xs) keeps ∙ sym (pages_sum v.files)
 
 -- where the job becomes received by the end of a file

@@ -14,25 +14,10 @@ use Rattle.spool_history.specs.Acts.{names_in}
 use Rattle.spool_history.specs.Now.{Job, places}
 use Rattle.spool_calls.specs.Kept.{is_at, is_there, place_of, spots}
 use Rattle.spool_laws.proofs.Known.{Has, clash}
+use Rattle.core_rows.proofs.EachPage.{nth}
 use Rattle.job_moves.proofs.Passes.{and_yes}
 use Rattle.job_moves.proofs.Shelves.{content_at}
 use Rattle.spool_laws.proofs.Copies.{has_either, if_has}
-
--- an element of a list, and what follows it
-pub record Nth {X : Type 0} (xs : List X) (i : ℕ) : Type 0 where
-  pub here : X
-  pub left : drop i xs ≡ here ∷ drop (i + 1) xs
-  pub is : slice_get xs i ≡ Some here
-  pub has : Has here xs
-
--- each number below the length is that of an element
-pub nth : {X : Type 0} (xs : List X) (i : ℕ) → i < length xs → Nth xs i
-nth [] i lt = absurd (omega arith)
-nth (x ∷ xs) zero lt = record { here = x; left = refl; is = refl; has = inl refl }
-nth {X} (x ∷ xs) (suc i) lt =
-    let n = nth xs i (omega arith) in
-    let e : suc (i + 1) ≡ suc i + 1 = omega arith in
-    record { here = n.here; left = n.left ∙ ap (λ (m : ℕ). n.here ∷ drop m (x ∷ xs)) e; is = n.is; has = inr n.has }
 
 -- the page at a place is that of its file and number
 

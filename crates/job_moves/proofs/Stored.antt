@@ -1,8 +1,8 @@
 -- How many pages a job has in its chain.
-use Rattle.std.proofs.Common.{inl, inr, ◌≡◌, ◌==◌, ◌<◌, ◌≤◌, ℕ, zero, suc, ◌+◌, ◌-◌, Bool, true, false, cond, List, [], ◌∷◌, length, drop, map, refl, sym, ◌∙◌, ap, arith, length-append}
+use Rattle.std.proofs.Common.{inl, inr, ◌≡◌, ◌==◌, ◌<◌, ◌≤◌, ℕ, suc, ◌+◌, ◌-◌, Bool, true, false, cond, List, [], ◌∷◌, length, drop, map, refl, sym, ◌∙◌, ap, arith, length-append}
 use Rattle.std.specs.Prelude.{◌&&◌, ◌||◌, not, filter, sum_by, Option, Some, None, slice_get}
 use Rattle.std.specs.List.{list_any}
-use Rattle.std.proofs.lemmas.Bool.{and_from, and_left, and_right, cases_eq, eq-eqb, ne_eqb}
+use Rattle.std.proofs.lemmas.Bool.{and_parts, not-true, and_left, cases_eq}
 use Rattle.std.proofs.lemmas.List.Elements.{filter_agree}
 use Rattle.page_pool.specs.Page.{Page}
 use Rattle.page_chain.specs.declared.place.Place.{Place}
@@ -21,12 +21,14 @@ use Rattle.spool_calls.specs.Kept.{is_printed, is_there, place_of, shelved, shel
 use Rattle.spool_laws.specs.Sums.{chained_of}
 use Rattle.spool_laws.proofs.Apart.{pages_sum}
 use Rattle.spool_laws.proofs.Copies.{pages_in}
+use Rattle.lpd_values.specs.Told.{prints_in}
+use Rattle.spool_laws.proofs.Copies.{places_there}
+use Rattle.core_rows.proofs.EachPage.{any_spot, how_many_either, how_many_more, how_many_same, page_once}
 use Rattle.job_moves.proofs.Ties.{Prints, Ties, at_phase, fills, phase_ended, prints}
 use Rattle.job_moves.proofs.Passes.{none_there}
 use Rattle.job_moves.proofs.Shelving.{AreWhole, are_whole, no_files, one_more, whole_pages}
-use Rattle.job_moves.proofs.Counting.{all_there, any_placed, count_more, count_none}
-use Rattle.job_moves.proofs.Shelves.{content_at}
-use Rattle.job_moves.proofs.Spots.{any_later, content_of, place_at, there_even, there_odd}
+use Rattle.job_moves.proofs.Counting.{all_there, count_none}
+use Rattle.job_moves.proofs.Spots.{any_later, place_at, there_even, there_odd}
 use Rattle.std.proofs.lemmas.List.{drop-map}
 
 -- while it is being received: those of all its files
@@ -84,7 +86,7 @@ count_files {C} f printed is_in n m (x ∷ xs) (y ∷ ys) nm none e =
     let one = count_file f is_in m x.pages y.pages (printed m) (λ k b. none (record { file = m; number = k }) b) (ap (λ (z : S.File C). z.pages) first) in
     let same = ap (λ (k : ℕ). length (filter t (A.numbered k 0 y.pages))) nm in
     let l = length-append (there x.pages) (every_page xs) in
-    let q = count_more t n y ys in
+    let q = how_many_more t n y ys in
     omega (arith, ih, one, same, l, q)
 
 -- a page that isn't printed isn't there
@@ -105,7 +107,7 @@ stored_there f c j v a = count_files f (is_printed (spots v)) (is_there (spots v
 -- a page that some place hasn't come back of, by its place
 kept_test : {C : Type 0} (v : Job C) (page : A.Page C) → list_any (is_same_page page) (drop v.back (places v)) ≡ list_any (is_same_place (place_of page)) (drop v.back (spots v))
 kept_test {C} v page =
-    any_placed page (drop v.back (places v))
+    sym (any_spot page (drop v.back (places v)))
     ∙ ap (list_any (is_same_place (place_of page))) (sym (drop-map (place_of {C = C}) v.back (places v)))
 
 -- with no page at a printer, those that are kept
@@ -115,62 +117,17 @@ stored_even {C} v e =
     (filter_agree (λ (page : A.Page C). is_there (spots v) v.handed v.back (place_of page)) (λ (page : A.Page C). list_any (is_same_page page) (drop v.back (places v)))
     (λ page. there_even (spots v) v.handed v.back (place_of page) e ∙ sym (kept_test v page)) (all_pages 0 v.files))
 
--- of all pages one is at a place
-
--- in its file
-in_numbered : {C : Type 0} (p : Place) (file n k : ℕ) (pages : List C) (x : C) → p.file ≡ file → p.number ≡ n + k → slice_get pages k ≡ Some x → length (filter (λ (page : A.Page C). is_same_place (place_of page) p) (A.numbered file n pages)) ≡ 1
-in_numbered p file n k [] x ef en is = absurd cc
-in_numbered {C} p file n zero (y ∷ pages) x ef en is =
-    let t : A.Page C → Bool = λ page. is_same_place (place_of page) p in
-    let here : t (record { file = file; number = n; page = y }) ≡ true = and_from (file == p.file) (n == p.number) (eq-eqb file p.file (sym ef)) (eq-eqb n p.number (omega (arith, en))) in
-    rw here (ap suc (past (n + 1) pages (omega (arith, en))))
-  where
-    past : (m : ℕ) (pages : List C) → p.number < m → length (filter (λ (page : A.Page C). is_same_place (place_of page) p) (A.numbered file m pages)) ≡ 0
-    past m [] lt = refl
-    past m (z ∷ pages) lt =
-        let gone : is_same_place (record { file = file; number = m }) p ≡ false = and_right (file == p.file) (m == p.number) (ne_eqb m p.number (λ s. omega (arith, s, lt))) in
-        rw gone (past (m + 1) pages (omega (arith, lt)))
-in_numbered {C} p file n (suc k) (y ∷ pages) x ef en is =
-    let gone : is_same_place (record { file = file; number = n }) p ≡ false = and_right (file == p.file) (n == p.number) (ne_eqb n p.number (λ s. omega (arith, s, en))) in
-    rw gone (in_numbered p file (n + 1) k pages x ef (omega (arith, en)) is)
-
--- in no other file
-in_other : {C : Type 0} (p : Place) (file : ℕ) (pages : List C) → (file ≡ p.file → ⊥) → length (filter (λ (page : A.Page C). is_same_place (place_of page) p) (A.numbered file 0 pages)) ≡ 0
-in_other {C} p file pages ne = count_none (λ (page : A.Page C). is_same_place (place_of page) p) file 0 pages (λ k page. and_left (file == p.file) (k == p.number) (ne_eqb file p.file ne))
-
--- in no later file
-in_later : {C : Type 0} (p : Place) (n : ℕ) (fs : List (A.File C)) → p.file < n → length (filter (λ (page : A.Page C). is_same_place (place_of page) p) (all_pages n fs)) ≡ 0
-in_later p n [] lt = refl
-in_later {C} p n (f ∷ fs) lt =
-    let a = in_other p n f.pages (λ s. omega (arith, s, lt)) in
-    let b = in_later p (n + 1) fs (omega (arith, lt)) in
-    let q = count_more (λ (page : A.Page C). is_same_place (place_of page) p) n f fs in
-    omega (arith, a, b, q)
-
--- so in all files once
-in_all : {C : Type 0} (p : Place) (n i : ℕ) (fs : List (A.File C)) (x : C) → p.file ≡ n + i → content_at fs i p.number ≡ Some x → length (filter (λ (page : A.Page C). is_same_place (place_of page) p) (all_pages n fs)) ≡ 1
-in_all p n i [] x e is = absurd cc
-in_all {C} p n zero (f ∷ fs) x e is =
-    let a = in_numbered p n 0 p.number f.pages x (omega (arith, e)) (omega arith) is in
-    let b = in_later p (n + 1) fs (omega (arith, e)) in
-    let q = count_more (λ (page : A.Page C). is_same_place (place_of page) p) n f fs in
-    omega (arith, a, b, q)
-in_all {C} p n (suc i) (f ∷ fs) x e is =
-    let a = in_other p n f.pages (λ s. omega (arith, s, e)) in
-    let b = in_all p (n + 1) i fs x (omega (arith, e)) is in
-    let q = count_more (λ (page : A.Page C). is_same_place (place_of page) p) n f fs in
-    omega (arith, a, b, q)
-
 -- a test keeps so many more than one that leaves out what another test, which is no wider, takes
 less_by : {X : Type 0} (t m u : X → Bool) (xs : List X) → ((x : X) → m x ≡ true → t x ≡ true) → ((x : X) → u x ≡ (t x && not (m x))) → length (filter t xs) ≡ length (filter u xs) + length (filter m xs)
-less_by t m u [] up is = refl
-less_by {X} t m u (x ∷ xs) up is = by (t x) (m x) refl refl (less_by t m u xs up is)
+less_by {X} t m u xs up is =
+    how_many_same t (λ (x : X). u x || m x) xs (λ x. by (t x) (m x) (up x) ∙ ap (λ (b : Bool). b || m x) (sym (is x)))
+    ∙ how_many_either u m xs (λ x e. not-true (m x) (and_parts (t x) (not (m x)) (sym (is x) ∙ e)).1)
   where
-    by : (a b : Bool) → t x ≡ a → m x ≡ b → length (filter t xs) ≡ length (filter u xs) + length (filter m xs) → length (filter t (x ∷ xs)) ≡ length (filter u (x ∷ xs)) + length (filter m (x ∷ xs))
-    by true true ta mb ih = (let z : u x ≡ false = is x ∙ (ap (λ (b : Bool). t x && not b) mb ∙ and_right (t x) false refl) in rw (ta, mb, z) (omega (arith, ih)))
-    by true false ta mb ih = (let z : u x ≡ true = is x ∙ (ap (λ (b : Bool). t x && not b) mb ∙ ap (λ (b : Bool). b && true) ta) in rw (ta, mb, z) (omega (arith, ih)))
-    by false true ta mb ih = (let z = sym ta ∙ up x mb in absurd cc)
-    by false false ta mb ih = (let z : u x ≡ false = is x ∙ ap (λ (b : Bool). b && not (m x)) ta in rw (ta, mb, z) ih)
+    by : (a b : Bool) → (b ≡ true → a ≡ true) → a ≡ ((a && not b) || b)
+    by true true up = refl
+    by true false up = refl
+    by false true up = up refl
+    by false false up = refl
 
 -- with a page at a printer, one less than are kept
 stored_odd : {C : Type 0} (v : Job C) → v.handed ≡ v.back + 1 → v.back < length (places v)
@@ -188,7 +145,7 @@ stored_odd {C} v e lt =
     ∙ ap (λ (b : Bool). b || list_any (is_same_place (place_of page)) (drop (v.back + 1) (spots v))) h) in
     let is : (page : A.Page C) → u page ≡ (t page && not (m page)) =
     λ page. there_odd (spots v) v.handed v.back p (place_of page) e at.spot ∙ ap (λ (b : Bool). b && not (m page)) (sym (kept_test v page)) in
-    let one = in_all p 0 p.file v.files at.page.page (omega arith) (content_of v at.page at.has) in
+    let one = page_once at.page v.files (places_there at.page v.files (prints_in v.control) at.has) in
     let all = less_by t m u (all_pages 0 v.files) up is in
     omega (arith, all, one)
 
