@@ -23,7 +23,7 @@ use Rattle.spool_calls.specs.Looks.{Detail, What, size}
 use Rattle.spool_calls.specs.Kept.{Kept, Leaves, left_by}
 use Rattle.spool_calls.specs.Calls.{Aborts, CanAbort, IsLent}
 use Rattle.spool_calls.specs.Tickets.{HasLent, MayAbort, count_of}
-use Rattle.core_steps.proofs.Leaving.{Found, closed_free, held_room, leaves_out, none_has, one_stored, sees}
+use Rattle.core_steps.proofs.Leaving.{Found, closed_free, held_room, leaves_out, none_has, one_stored, sees, look_at}
 use Rattle.core_steps.proofs.Phases.{ended, phase_ended, phase_receiving, receiving}
 
 gone_by : {C : Type 0} (x : Job C) (b : Bool) → x.handed ≡ x.back → (x.handed == x.back) ≡ b → is_held (acted Aborted x) ≡ false
@@ -51,14 +51,7 @@ aborted_core k i n ticket = record k {
 }
 
 module _ (d : Detail) (b : Base) (h : List (Event (What d))) (k : Kept) (l : Leaves d b h k) (job i : ℕ) (f : Found k job i) (ticket : Option Page) where
-  abbrev v : State (What d)
-  v = left_by d b h k
-
-  abbrev x : Job (What d)
-  x = get_or v.jobs i no_job
-
-  abbrev j : HeldJob
-  j = job_at k.book i
+  open look_at d b h k i use {v, x, j}
 
   abbrev z : ℕ
   z = k.config.page_size

@@ -33,7 +33,7 @@ use Rattle.spool_calls.specs.Calls.{Asks}
 use Rattle.std.proofs.lemmas.List.{get_or-set_same}
 use Rattle.core_rows.proofs.Tables.{WithRow}
 use Rattle.core_steps.proofs.Stocks.{one_set, stock}
-use Rattle.core_steps.proofs.Leaving.{Found, held_unended, jobs_left, leaves_row, none_has, pool_even, sees, stock_left, stock_moved, stock_of}
+use Rattle.core_steps.proofs.Leaving.{Found, held_unended, jobs_left, leaves_row, none_has, pool_even, look_at, sees, stock_left, stock_moved, stock_of}
 use Rattle.core_steps.proofs.Phases.{facts_tie, can_ask, ask_can}
 
 -- what is kept once a page is lent to the job at a place
@@ -49,15 +49,7 @@ pub ask_none : (d : Detail) (b : Base) (h : List (Event (What d))) (k : Kept) (j
 ask_none d b h k job l none = ((λ m. none_has d b h k job CanAsk l none m), refl)
 
 module _ (d : Detail) (b : Base) (h : List (Event (What d))) (k : Kept) (l : Leaves d b h k) (job i : ℕ) (f : Found k job i) where
-  abbrev v : State (What d)
-  v = left_by d b h k
-
-  abbrev x : Job (What d)
-  x = get_or v.jobs i no_job
-
-  abbrev j : HeldJob
-  j = job_at k.book i
-
+  open look_at d b h k i use {v, x, j}
   open sees d b h k job i l f use {stands as s, ties as t}
 
   here : (P : Job (What d) → Type 0) → HasJob v.jobs job P → P x

@@ -53,7 +53,7 @@ use Rattle.spool_calls.specs.declared.handed.HandedPage.{HandedPage}
 use Rattle.spool_calls.specs.Looks.{Detail, What, outline_of, size}
 use Rattle.spool_calls.specs.Kept.{Kept, Leaves, kept_out, kept_printer, last_of, left_by, look, shown_job, spots}
 use Rattle.spool_calls.specs.Calls.{Fails, IsOut, Prints}
-use Rattle.core_steps.proofs.Leaving.{Found, closed_free, every_counted, leaves_out, leaves_row, none_has, one_stored, pool_even, row_stands, sees}
+use Rattle.core_steps.proofs.Leaving.{Found, closed_free, every_counted, leaves_out, leaves_row, none_has, one_stored, pool_even, row_stands, sees, look_at}
 use Rattle.core_steps.proofs.Phases.{ended_is, phase_tie}
 use Rattle.core_steps.proofs.Printers.{behind, printer_seen, printer_there, printers_many, printers_set}
 use Rattle.core_steps.proofs.Ranges.{some_counted}
@@ -155,11 +155,7 @@ module _ (d : Detail) (b : Base) (h : List (Event (What d))) (k : Kept) (l : Lea
     o : OutSheet
     o = out_sheet out
 
-    abbrev x : Job (What d)
-    x = get_or v.jobs i no_job
-
-    abbrev j : HeldJob
-    j = job_at k.book i
+    open look_at d b h k i use {x, j}
 
     open sees d b h k page.job i l f use {stands as t, has, ties, facts as ft}
 

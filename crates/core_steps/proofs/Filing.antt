@@ -36,7 +36,7 @@ use Rattle.spool_calls.specs.Looks.{Detail, What, see, size}
 use Rattle.spool_calls.specs.Looks.Detail.{Octets, Outlines}
 use Rattle.spool_calls.specs.Kept.{Kept, Leaves, left_by, look, size_of}
 use Rattle.spool_calls.specs.Calls.{Begins, Puts}
-use Rattle.core_steps.proofs.Leaving.{Found, leaves_act, none_has, sees}
+use Rattle.core_steps.proofs.Leaving.{Found, leaves_act, none_has, sees, look_at}
 use Rattle.core_steps.proofs.Ranges.{limit_within, stored_room}
 use Rattle.core_steps.proofs.Phases.{phase_tie, phase_receiving, open_tie, receiving}
 
@@ -67,14 +67,7 @@ size_see Octets octets = refl
 size_see Outlines octets = refl
 
 module _ (d : Detail) (b : Base) (h : List (Event (What d))) (k : Kept) (l : Leaves d b h k) (job i : ℕ) (f : Found k job i) where
-  abbrev v : State (What d)
-  v = left_by d b h k
-
-  abbrev x : Job (What d)
-  x = get_or v.jobs i no_job
-
-  abbrev j : HeldJob
-  j = job_at k.book i
+  open look_at d b h k i use {v, x, j}
 
   abbrev z : ℕ
   z = k.config.page_size

@@ -46,7 +46,7 @@ use Rattle.spool_calls.specs.Looks.{Detail, What, outline_in, outline_of, see, s
 use Rattle.spool_calls.specs.Looks.Detail.{Octets, Outlines}
 use Rattle.spool_calls.specs.Kept.{Kept, Leaves, facts_of, kept_printer, left_by, look, place_of, sheet_out, shown_job, spots}
 use Rattle.spool_calls.specs.Calls.{Hands, sheet_of}
-use Rattle.core_steps.proofs.Leaving.{jobs_len, leaves_row, one_stored, pool_even, row_stands, tie}
+use Rattle.core_steps.proofs.Leaving.{jobs_len, leaves_row, one_stored, pool_even, row_stands, tie, look_at}
 use Rattle.core_steps.proofs.Phases.{facts_tie}
 use Rattle.core_steps.proofs.Queues.{is_open}
 use Rattle.core_steps.proofs.Printers.{next_busy, next_stopped, next_turn, printer_seen, printers_set}
@@ -114,11 +114,7 @@ module _ (d : Detail) (b : Base) (h : List (Event (What d))) (k : Kept) (l : Lea
   hands_none w t = (turn w None t, refl)
 
   module _ (w : Waits k at) (i : ℕ) (t : TurnAt (facts_in k.book.jobs) at.queue at.began (Some i)) where
-    abbrev x : Job (What d)
-    x = get_or v.jobs i no_job
-
-    abbrev j : HeldJob
-    j = job_at k.book i
+    open look_at d b h k i use {x, j}
 
     ts : Turns d b h k l i
     ts = turns d b h k l p i at.queue at.began ip (sym (ap (λ (a : Printer). a.began) seen)) t

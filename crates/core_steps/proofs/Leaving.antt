@@ -96,6 +96,15 @@ pub record Found (k : Kept) (job i : ℕ) : Type 0 where
 abbrev pub job_of : (d : Detail) → Base → List (Event (What d)) → Kept → ℕ → Job (What d)
 job_of d b h k i = get_or (left_by d b h k).jobs i no_job
 
+-- the state that a history leaves, and the job at a place of it and of the book
+pub record Looked (d : Detail) : Type 0 where
+  pub v : State (What d)
+  pub x : Job (What d)
+  pub j : HeldJob
+
+abbrev pub look_at : (d : Detail) → Base → List (Event (What d)) → Kept → ℕ → Looked d
+look_at d b h k i = record { v = left_by d b h k; x = get_or (left_by d b h k).jobs i no_job; j = job_at k.book i }
+
 -- what the book has of the job at a place is what the history says of it
 pub tie : (d : Detail) (b : Base) (h : List (Event (What d))) (k : Kept) (i : ℕ) → Leaves d b h k → i < length k.book.jobs → see_job (look d) (job_at k.book i) ≡ shown_job k.config (job_of d b h k i)
 tie d b h k i l lt = tie_at d (left_by d b h k) (stock_of k) (stock_left d b h k l) i (let n = jobs_len d b h k l in omega (arith, n, lt))

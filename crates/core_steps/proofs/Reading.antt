@@ -31,7 +31,7 @@ use Rattle.spool_calls.specs.Looks.{Detail, What, size}
 use Rattle.spool_calls.specs.Kept.{Kept, Leaves, left_by, look, shown_job, kept_out, kept_printer}
 use Rattle.spool_calls.specs.Readers.{ArePlaced, HasOpenFile, IsOpenFile, stopped_for}
 use Rattle.spool_calls.specs.Telling.{stopped_in}
-use Rattle.core_steps.proofs.Leaving.{Found, none_has, sees}
+use Rattle.core_steps.proofs.Leaving.{Found, none_has, sees, look_at}
 use Rattle.core_steps.proofs.Phases.{open_tie}
 use Rattle.core_steps.proofs.Filing.{files_many, is_receiving, left_of, not_receiving, open_last}
 use Rattle.core_steps.proofs.Printers.{printers_len}
@@ -108,14 +108,7 @@ module _ (d : Detail) (b : Base) (h : List (Event (What d))) (k : Kept) (l : Lea
   no_file_of job none m = none_has d b h k job (λ x. IsReceiving x × (is_open_in x.files ≡ true)) l none m
 
 module _ (d : Detail) (b : Base) (h : List (Event (What d))) (k : Kept) (l : Leaves d b h k) (job i : ℕ) (f : Found k job i) where
-  abbrev w : State (What d)
-  w = left_by d b h k
-
-  abbrev x : Job (What d)
-  x = get_or w.jobs i no_job
-
-  abbrev j : HeldJob
-  j = job_at k.book i
+  open look_at d b h k i use {v as w, x, j}
 
   open sees d b h k job i l f use {stands as s, ties, facts as ft}
 

@@ -46,7 +46,7 @@ use Rattle.spool_calls.specs.declared.answers.Receipt.TheVariants.{Stored, Recei
 use Rattle.spool_calls.specs.Looks.{Detail, What, size}
 use Rattle.spool_calls.specs.Kept.{Kept, Leaves, left_by, look, shown_job, size_of}
 use Rattle.spool_calls.specs.Calls.{Ends, Controls}
-use Rattle.core_steps.proofs.Leaving.{Found, held_unended, leaves_act, leaves_row, none_has, one_stored, pool_even, row_stands, sees}
+use Rattle.core_steps.proofs.Leaving.{Found, held_unended, leaves_act, leaves_row, none_has, one_stored, pool_even, row_stands, sees, look_at}
 use Rattle.core_steps.proofs.Ranges.{limit_within}
 use Rattle.core_steps.proofs.Phases.{phase_tie, phase_receiving, open_tie}
 use Rattle.core_steps.proofs.Filing.{idle, is_receiving, left_of, open_last}
@@ -82,14 +82,7 @@ received_core k i j n = record k {
 }
 
 module _ (d : Detail) (b : Base) (h : List (Event (What d))) (k : Kept) (l : Leaves d b h k) (job i : ℕ) (f : Found k job i) where
-  abbrev v : State (What d)
-  v = left_by d b h k
-
-  abbrev x : Job (What d)
-  x = get_or v.jobs i no_job
-
-  abbrev j : HeldJob
-  j = job_at k.book i
+  open look_at d b h k i use {v, x, j}
 
   abbrev z : ℕ
   z = k.config.page_size
