@@ -1,20 +1,18 @@
 -- A job is aborted, or gives back the page that was lent to it.
-use Rattle.std.proofs.Common.{inl, inr, ◌≡◌, ◌≢◌, ◌==◌, ℕ, ◌+◌, ◌-◌, ◌≤◌, Bool, true, false, List, get_or, refl, sym, ◌∙◌, ap, subst, arith}
+use Rattle.std.proofs.Common.{inl, inr, ◌≡◌, ◌≢◌, ◌==◌, ℕ, ◌+◌, ◌-◌, ◌≤◌, Bool, true, false, List, refl, sym, ◌∙◌, ap, subst, arith}
 use Rattle.std.specs.Prelude.{All, Ok, Err, Option, Some, None, cond, remove}
 use Rattle.std.proofs.lemmas.Bool.Decides.{nat_tests}
 use Rattle.claims.specs.Changes.{closed}
 use Rattle.page_pool.specs.Page.{Page}
 use Rattle.held_jobs.specs.Jobs.{HeldJob, Facts}
-use Rattle.held_jobs.specs.Books.{job_at}
 use Rattle.spool_history.specs.Base.{Base}
 use Rattle.spool_history.specs.Events.{Event}
 use Rattle.spool_history.specs.Events.Act.{Aborted}
 use Rattle.spool_history.specs.Events.Event.{OfJob}
-use Rattle.spool_history.specs.Now.{Job, State, is_held, is_received, pages_held}
+use Rattle.spool_history.specs.Now.{Job, is_held, is_received, pages_held}
 use Rattle.spool_history.specs.Steps.{acted}
 use Rattle.spool_history.specs.Legal.{JobMay}
 use Rattle.spool_laws.specs.Sums.{chained_of}
-use Rattle.spool_moves.specs.Standing.{no_job}
 use Rattle.spool_moves.proofs.Standing.{has_here, has_job}
 use Rattle.spool_moves.proofs.Moving.{act_gone}
 use Rattle.spool_moves.proofs.Holding.{held_counts, lent_unreceived, unreceived_unhanded}

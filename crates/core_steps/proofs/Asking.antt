@@ -1,5 +1,5 @@
 -- A page is lent to a job.
-use Rattle.std.proofs.Common.{◌≡◌, ◌≢◌, ℕ, ◌-◌, ◌<◌, ◌≤◌, List, [], ◌∷◌, length, get_or, set, map, refl, sym, ◌∙◌, ap, subst, arith}
+use Rattle.std.proofs.Common.{◌≡◌, ◌≢◌, ℕ, ◌-◌, ◌<◌, ◌≤◌, List, [], ◌∷◌, length, set, map, refl, sym, ◌∙◌, ap, subst, arith}
 use Rattle.std.specs.Prelude.{All, Ok, Err, filter}
 use Rattle.counts.specs.Amounts.{amount}
 use Rattle.claims.specs.declared.row.Row.{Row}
@@ -17,10 +17,9 @@ use Rattle.spool_history.specs.Base.{Base}
 use Rattle.spool_history.specs.Events.{Event}
 use Rattle.spool_history.specs.Events.Act.{Granted}
 use Rattle.spool_history.specs.Events.Event.{OfJob}
-use Rattle.spool_history.specs.Now.{Job, State, is_held, row_of}
+use Rattle.spool_history.specs.Now.{is_held, row_of}
 use Rattle.spool_history.specs.Steps.{acted, after, change}
 use Rattle.spool_history.specs.Legal.{HasJob, IsReceiving, IsBelowLimit, CanAsk, JobMay, MayGrant}
-use Rattle.spool_moves.specs.Standing.{no_job}
 use Rattle.spool_history.specs.Claimed.{IsTableOf}
 use Rattle.spool_moves.proofs.Standing.{has_here, has_job}
 use Rattle.spool_moves.proofs.Moving.{act_set}
@@ -28,13 +27,13 @@ use Rattle.spool_moves.proofs.Claimed.{table_free, table_safe, safe_table, row_h
 use Rattle.spool_calls.specs.declared.answers.Asked.TheVariants.{Page as Page', Later}
 use Rattle.lpd_values.specs.declared.refusal.Refusal.TheVariants.{NotOpen, OverClaim}
 use Rattle.spool_calls.specs.Looks.{Detail, What, size}
-use Rattle.spool_calls.specs.Kept.{Kept, Leaves, left_by, look, shown_job}
+use Rattle.spool_calls.specs.Kept.{Kept, Leaves, look, shown_job}
 use Rattle.spool_calls.specs.Calls.{Asks}
 use Rattle.std.proofs.lemmas.List.{get_or-set_same}
 use Rattle.core_rows.proofs.Tables.{WithRow}
 use Rattle.core_steps.proofs.Stocks.{one_set, stock}
 use Rattle.core_steps.proofs.Leaving.{Found, held_unended, jobs_left, leaves_row, none_has, pool_even, look_at, sees, stock_left, stock_moved, stock_of}
-use Rattle.core_steps.proofs.Phases.{facts_tie, can_ask, ask_can}
+use Rattle.core_steps.proofs.Phases.{can_ask, ask_can}
 
 -- what is kept once a page is lent to the job at a place
 abbrev pub lent_core : Kept → ℕ → Kept
@@ -50,19 +49,16 @@ ask_none d b h k job l none = ((λ m. none_has d b h k job CanAsk l none m), ref
 
 module _ (d : Detail) (b : Base) (h : List (Event (What d))) (k : Kept) (l : Leaves d b h k) (job i : ℕ) (f : Found k job i) where
   open look_at d b h k i use {v, x, j}
-  open sees d b h k job i l f use {stands as s, ties as t}
-
-  here : (P : Job (What d) → Type 0) → HasJob v.jobs job P → P x
-  here P m = has_here (size d) k.config b h i job P l.legal s m
+  open sees d b h k job i l f use {stands as s, ties as t, facts as ft}
 
   limited : (j.facts.granted < limit_of k.config j.facts.queue) → IsBelowLimit k.config x
-  limited lt = subst (λ (y : Facts). y.granted < limit_of k.config y.queue) (facts_tie (look d) k.config j x t) lt
+  limited lt = subst (λ (y : Facts). y.granted < limit_of k.config y.queue) ft lt
 
   unlimited : IsBelowLimit k.config x → j.facts.granted < limit_of k.config j.facts.queue
-  unlimited lt = subst (λ (y : Facts). y.granted < limit_of k.config y.queue) (sym (facts_tie (look d) k.config j x t)) lt
+  unlimited lt = subst (λ (y : Facts). y.granted < limit_of k.config y.queue) (sym ft) lt
 
   pub ask_not_open : (MayAsk j → ⊥) → Asks d b h k job k (Err NotOpen)
-  ask_not_open never = ((λ m. never (ask_can (look d) k.config j x t (here CanAsk m))), refl)
+  ask_not_open never = ((λ m. never (ask_can (look d) k.config j x t (has_here (size d) k.config b h i job CanAsk l.legal s m))), refl)
 
   pub ask_over : MayAsk j → limit_of k.config j.facts.queue ≤ j.facts.granted → Asks d b h k job k (Err OverClaim)
   ask_over m le = (
@@ -70,17 +66,21 @@ module _ (d : Detail) (b : Base) (h : List (Event (What d))) (k : Kept) (l : Lea
     refl,
   )
 
-  may : MayAsk j → j.facts.granted < limit_of k.config j.facts.queue → HasJob v.jobs job (JobMay (size d) k.config Granted)
-  may m lt = has_job v i job (JobMay (size d) k.config Granted) s (can_ask (look d) k.config j x t m, limited lt)
+  module _ (m : MayAsk j) where
+    r : IsReceiving x
+    r = (can_ask (look d) k.config j x t m).0
 
-  -- the row of the job needs a page
-  pub row_needs : MayAsk j → j.facts.granted < limit_of k.config j.facts.queue → 0 < amount (row_at k.table.rows i).need 0
-  row_needs m lt =
-      let r = (can_ask (look d) k.config j x t m).0 in
-      let n = need_here k.config x r in
-      let e = ap (λ (row : Row). amount row.need 0) (row_here k.table v i l.kept.table s.there) in
-      let u = limited lt in
-      omega (arith, n, e, u)
+    module _ (lt : j.facts.granted < limit_of k.config j.facts.queue) where
+      may : HasJob v.jobs job (JobMay (size d) k.config Granted)
+      may = has_job v i job (JobMay (size d) k.config Granted) s (can_ask (look d) k.config j x t m, limited lt)
+
+      -- the row of the job needs a page
+      pub row_needs : 0 < amount (row_at k.table.rows i).need 0
+      row_needs =
+          let n = need_here k.config x r in
+          let e = ap (λ (row : Row). amount row.need 0) (row_here k.table v i l.kept.table s.there) in
+          let u = limited lt in
+          omega (arith, n, e, u)
 
   kind : 0 < length k.table.capacity
   kind = (let e = ap length l.kept.table.capacity in omega (arith, e))
@@ -119,25 +119,20 @@ module _ (d : Detail) (b : Base) (h : List (Event (What d))) (k : Kept) (l : Lea
 
   leaves : MayAsk j → j.facts.granted < limit_of k.config j.facts.queue → 0 < amount k.table.free 0 → IsSafe (granted k.table i 0) → Leaves d b (OfJob job Granted ∷ h) (lent_core k i)
   leaves m lt free safe =
-      let r = (can_ask (look d) k.config j x t m).0 in
-      leaves_row d b h k (OfJob job Granted) i k.book.stored (k.pool.free - 1) (acted Granted x) (told lent_facts j) (granted k.table i 0) k.printers l (may m lt, grants r free safe)
-      (jobs r) s.there refl refl lent refl (with_row r free) l.kept.printers
+      leaves_row d b h k (OfJob job Granted) i k.book.stored (k.pool.free - 1) (acted Granted x) (told lent_facts j) (granted k.table i 0) k.printers l (may m lt, grants (r m) free safe)
+      (jobs (r m)) s.there refl refl lent refl (with_row (r m) free) l.kept.printers
 
   pub ask_none_free : MayAsk j → j.facts.granted < limit_of k.config j.facts.queue → amount k.table.free 0 ≡ 0 → Asks d b h k job k (Ok Later)
   ask_none_free m lt none = (may m lt, (λ g. let e = table_free k.table v l.kept.table 0 in let n = g.0 in omega (arith, e, n, none)), refl)
 
   pub ask_not_safe : MayAsk j → j.facts.granted < limit_of k.config j.facts.queue → 0 < amount k.table.free 0 → (IsSafe (granted k.table i 0) → ⊥) → Asks d b h k job k (Ok Later)
-  ask_not_safe m lt free never = (
-    may m lt,
-    (λ g. never (safe_table (granted k.table i 0) (after (OfJob job Granted) v) (of (can_ask (look d) k.config j x t m).0 free) g.1)),
-    refl,
-  )
+  ask_not_safe m lt free never = (may m lt, (λ g. never (safe_table (granted k.table i 0) (after (OfJob job Granted) v) (of (r m) free) g.1)), refl)
 
   pub ask_page : (ticket : Page) → MayAsk j → j.facts.granted < limit_of k.config j.facts.queue → 0 < amount k.table.free 0 → IsSafe (granted k.table i 0) → ticket ≡ record { octets = []; page_size = k.pool.page_size }
       → Asks d b h k job (lent_core k i) (Ok (Page' ticket))
   ask_page ticket m lt free safe is = (
     may m lt,
-    grants (can_ask (look d) k.config j x t m).0 free safe,
+    grants (r m) free safe,
     leaves m lt free safe,
     ap (λ (p : Page). p.octets) is,
     ap (λ (p : Page). p.page_size) is ∙ ap (λ (p : Pages). p.page_size) l.kept.pool,

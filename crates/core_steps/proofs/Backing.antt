@@ -1,5 +1,5 @@
 -- A page comes back from a printer.
-use Rattle.std.proofs.Common.{◌≡◌, ◌==◌, ◌≢◌, ℕ, zero, suc, ◌+◌, ◌-◌, ◌<◌, ◌≤◌, ◌^◌, Bool, true, false, List, [], ◌∷◌, length, drop, get_or, set, map, refl, sym, ◌∙◌, ap, subst, arith}
+use Rattle.std.proofs.Common.{◌≡◌, ◌==◌, ◌≢◌, ℕ, suc, ◌+◌, ◌-◌, ◌<◌, ◌≤◌, ◌^◌, Bool, true, false, List, ◌∷◌, length, drop, get_or, set, map, refl, sym, ◌∙◌, ap, subst, arith}
 use Rattle.std.specs.Prelude.{All, Option, Some, None, Ok, cond, is_some, remove, slice_get}
 use Rattle.counts.specs.Amounts.{amount}
 use Rattle.claims.specs.declared.row.Row.{Row}
@@ -32,7 +32,6 @@ use Rattle.spool_history.specs.Steps.{printer_turned, printers_after, turned}
 use Rattle.spool_history.specs.Legal.{HasJob, May, progress_of}
 use Rattle.spool_laws.specs.Sums.{chained_of}
 use Rattle.spool_laws.proofs.Apart.{each_has_a_place}
-use Rattle.spool_moves.specs.Standing.{no_job}
 use Rattle.spool_moves.proofs.Standing.{Stands, has_job}
 use Rattle.spool_moves.proofs.Moving.{turn_gone, turn_set}
 use Rattle.spool_moves.proofs.Holding.{handed_within, held_counts, received_unlent}
@@ -46,6 +45,7 @@ use Rattle.job_moves.proofs.Printing.{ties_again, ties_back}
 use Rattle.claims.specs.Claims.{Claims}
 use Rattle.core_rows.proofs.Tables.{WithRow, WithoutRow}
 use Rattle.core_rows.proofs.Printing.{again, again_chain, again_leaves, going_held, is_out_of, last_chain, last_leaves, out_holds}
+use Rattle.core_rows.proofs.EachPage.{nth}
 use Rattle.core_rows.proofs.Printing as R
 use Rattle.core_rows.proofs.Ending.{back_ended_gone, back_gone}
 use Rattle.spool_calls.specs.declared.printer.Printer.{Printer}
@@ -107,12 +107,6 @@ going_by : (e d : Bool) → cond e Ended (cond d Done Going) ≡ Going → e ≡
 going_by true d s = absurd cc
 going_by false d s = refl
 
-first_of : {X : Type 0} (n : ℕ) (xs later : List X) (x : X) → drop n xs ≡ x ∷ later → slice_get xs n ≡ Some x
-first_of zero [] later x e = absurd cc
-first_of zero (y ∷ xs) later x e = cc
-first_of (suc n) [] later x e = absurd cc
-first_of (suc n) (y ∷ xs) later x e = first_of n xs later x e
-
 module _ (d : Detail) (b : Base) (h : List (Event (What d))) (k : Kept) (l : Leaves d b h k) (p : ℕ) (ip : IsPrinter k.config p) (at : Printer) (ia : at ≡ get_or k.printers (p - 1) at) (page : HandedPage) where
   abbrev v : State (What d)
   v = left_by d b h k
@@ -156,7 +150,6 @@ module _ (d : Detail) (b : Base) (h : List (Event (What d))) (k : Kept) (l : Lea
     o = out_sheet out
 
     open look_at d b h k i use {x, j}
-
     open sees d b h k page.job i l f use {stands as t, has, ties, facts as ft}
 
     s : Stands v.jobs i o.sheet.job
@@ -292,13 +285,17 @@ module _ (d : Detail) (b : Base) (h : List (Event (What d))) (k : Kept) (l : Lea
           let a : again x ≡ true = sym (again_same g) ∙ comes in
           let c = again_chain x out' a in
           let w = again_leaves k.config k.table i x (row_stands d b h k i l s.there) out' a in
+          let n = nth (places x) x.back out'.within in
+          let both : n.here ∷ drop (x.back + 1) (places x) ≡ of.page ∷ of.later = sym n.left ∙ of.left in
+          let is = n.is in
+          let first : slice_get (places x) x.back ≡ Some of.page = cc in
           let sheet_page : o.sheet.page ≡ of.page.page = ap (λ (z : Sheet (What d)). z.page) of.is in (
             o.sheet,
             o.is,
             has_said Going said,
             λ came.
                 leaves_going (k.book.stored + 1) k.pool.free (again_job page.page j) k.table
-                (ties_again (look d) k.config j x page.page of.page (g, of.received) of.handed comes (first_of x.back (places x) of.later of.page of.left) (came ∙ sheet_page) ties) (omega (arith, c))
+                (ties_again (look d) k.config j x page.page of.page (g, of.received) of.handed comes first (came ∙ sheet_page) ties) (omega (arith, c))
                 (subst (λ (n : ℕ). WithRow k.table k.table i (row_of k.config y) n) (sym (pool_even d b h k l)) w),
           )
 

@@ -1,5 +1,5 @@
 -- A data file of a job begins, and a page of it is put.
-use Rattle.std.proofs.Common.{◌≡◌, ◌≢◌, ℕ, ◌+◌, ◌-◌, ◌*◌, ◌<◌, ◌≤◌, ◌^◌, Bool, true, false, List, [], ◌∷◌, ◌++◌, length, get_or, map, refl, sym, ◌∙◌, ap, subst, arith}
+use Rattle.std.proofs.Common.{◌≡◌, ◌≢◌, ℕ, ◌+◌, ◌-◌, ◌*◌, ◌<◌, ◌≤◌, ◌^◌, Bool, true, false, List, [], ◌∷◌, ◌++◌, length, map, refl, sym, ◌∙◌, ap, subst, arith}
 use Rattle.std.specs.Prelude.{All, Ok, Err, min, sum_by, cond, not}
 use Rattle.std.proofs.lemmas.List.{length_push, length-map}
 use Rattle.std.proofs.lemmas.List.Sums.{sum_by_push}
@@ -13,17 +13,16 @@ use Rattle.held_jobs.specs.declared.file.DataFile.{DataFile}
 use Rattle.held_jobs.specs.declared.phase.Phase.TheVariants.{Receiving}
 use Rattle.held_jobs.specs.Jobs.{HeldJob, Facts, last_size}
 use Rattle.held_jobs.specs.Moves.{Awaits, begun_job, put_job}
-use Rattle.held_jobs.specs.Books.{IsIdle, job_at, with_job}
+use Rattle.held_jobs.specs.Books.{IsIdle, with_job}
 use Rattle.config_values.specs.Config.{limit_of}
 use Rattle.config_values.specs.Ranges.{IsConfig}
 use Rattle.spool_history.specs.Base.{Base}
 use Rattle.spool_history.specs.Events.{Event}
 use Rattle.spool_history.specs.Events.Act.{Began, Put}
 use Rattle.spool_history.specs.Acts.{File, is_open_in, names_in}
-use Rattle.spool_history.specs.Now.{Job, State}
+use Rattle.spool_history.specs.Now.{Job}
 use Rattle.spool_history.specs.Legal.{HasJob, HasOpen, IsNextPage, IsReceiving, HasNoOpen, HasNoFile, HasFileRoom, IsWithinLimit, JobMay, pages_for}
 use Rattle.spool_laws.proofs.Known.{or_true}
-use Rattle.spool_moves.specs.Standing.{no_job}
 use Rattle.spool_moves.proofs.Standing.{has_here, has_job}
 use Rattle.spool_moves.proofs.Opens.{LastOf, job_opens, last_of}
 use Rattle.spool_moves.proofs.Holding.{file_pages, granted_counts, granted_within}
@@ -34,7 +33,7 @@ use Rattle.core_rows.proofs.Receiving.{began_chain, began_row, put_chain, put_re
 use Rattle.spool_calls.specs.declared.answers.ReturnedPage.{ReturnedPage}
 use Rattle.spool_calls.specs.Looks.{Detail, What, see, size}
 use Rattle.spool_calls.specs.Looks.Detail.{Octets, Outlines}
-use Rattle.spool_calls.specs.Kept.{Kept, Leaves, left_by, look, size_of}
+use Rattle.spool_calls.specs.Kept.{Kept, Leaves, look, size_of}
 use Rattle.spool_calls.specs.Calls.{Begins, Puts}
 use Rattle.core_steps.proofs.Leaving.{Found, leaves_act, none_has, sees, look_at}
 use Rattle.core_steps.proofs.Ranges.{limit_within, stored_room}

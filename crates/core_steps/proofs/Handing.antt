@@ -11,7 +11,7 @@ use Rattle.claims.specs.Changes.{granted}
 use Rattle.page_chain.specs.declared.place.Place.{Place}
 use Rattle.page_chain.specs.Files.{no_place, page_at}
 use Rattle.page_chain.specs.Changes.{IsReady, next_place}
-use Rattle.held_jobs.specs.Jobs.{Facts, HeldJob}
+use Rattle.held_jobs.specs.Jobs.{Facts}
 use Rattle.held_jobs.specs.Moves.{handed_job}
 use Rattle.held_jobs.specs.Books.{job_at, with_job}
 use Rattle.held_jobs.specs.Turns.{TurnAt, facts_in}
@@ -46,9 +46,8 @@ use Rattle.spool_calls.specs.Looks.{Detail, What, outline_in, outline_of, see, s
 use Rattle.spool_calls.specs.Looks.Detail.{Octets, Outlines}
 use Rattle.spool_calls.specs.Kept.{Kept, Leaves, facts_of, kept_printer, left_by, look, place_of, sheet_out, shown_job, spots}
 use Rattle.spool_calls.specs.Calls.{Hands, sheet_of}
-use Rattle.core_steps.proofs.Leaving.{jobs_len, leaves_row, one_stored, pool_even, row_stands, tie, look_at}
+use Rattle.core_steps.proofs.Leaving.{is_open, jobs_len, leaves_row, one_stored, pool_even, row_stands, tie, look_at}
 use Rattle.core_steps.proofs.Phases.{facts_tie}
-use Rattle.core_steps.proofs.Queues.{is_open}
 use Rattle.core_steps.proofs.Printers.{next_busy, next_stopped, next_turn, printer_seen, printers_set}
 use Rattle.core_steps.proofs.Ranges.{limit_within}
 use Rattle.core_steps.proofs.Turning.{Turns, at_place, turn_here, turns}

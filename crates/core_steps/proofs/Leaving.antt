@@ -9,12 +9,13 @@ use Rattle.held_jobs.specs.Jobs.{HeldJob}
 use Rattle.held_jobs.specs.Jobs as J
 use Rattle.held_jobs.specs.Books.{job_at, with_job}
 use Rattle.held_jobs.specs.Shown.{ShownJob, see_job}
-use Rattle.config_values.specs.Config.{reserve_of}
+use Rattle.config_values.specs.Config.{Config, IsQueue, queue_named, reserve_of}
 use Rattle.spool_history.specs.Base.{Base}
 use Rattle.spool_history.specs.Events.{Act, Event}
 use Rattle.spool_history.specs.Events.Event.{OfJob}
 use Rattle.spool_history.specs.Now.{Job, State, is_held, row_of, pages_held}
 use Rattle.spool_history.specs.Steps.{acted, change, after, accepted_by, printers_after, closed_after}
+use Rattle.spool_history.specs.Refusals.{TakesJobs}
 use Rattle.spool_history.specs.Legal.{HasJob, May}
 use Rattle.spool_laws.specs.Sums.{chained_of}
 use Rattle.spool_laws.proofs.Known.{Has}
@@ -210,3 +211,14 @@ held_room d b h k i l lt =
     let cap = ap (λ (m : List ℕ). amount m 0) (w.capacity ∙ l.kept.table.capacity) in
     let p = ap (λ (p : Pages). p.pages) l.kept.pool in
     omega (arith, all, free, cap, p)
+
+-- the queue that a call names
+pub is_queue_named : (c : Config) (name : List ℕ) (q : ℕ) → queue_named c name ≡ q → IsQueue c q → IsQueue c (queue_named c name)
+is_queue_named c name q e is = subst (λ (n : ℕ). IsQueue c n) (sym e) is
+
+module _ (d : Detail) (b : Base) (h : List (Event (What d))) (k : Kept) (l : Leaves d b h k) where
+  pub is_open : k.closed ≡ false → (left_by d b h k).closed ≡ false
+  is_open c = sym l.kept.closed ∙ c
+
+  pub takes : (name : List ℕ) (q : ℕ) → k.closed ≡ false → queue_named k.config name ≡ q → IsQueue k.config q → TakesJobs (left_by d b h k) (queue_named k.config name)
+  takes name q c e is = (is_open c, is_queue_named k.config name q e is)

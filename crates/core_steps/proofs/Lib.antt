@@ -4,7 +4,6 @@ pub mod Phases
 pub mod Asking
 pub mod Turning
 pub mod Printers
-pub mod Queues
 pub mod Opening
 pub mod Filing
 pub mod Receiving

@@ -61,11 +61,15 @@ zeros c q p n =
     ap (λ (i : ℕ). replicate i 0) e ∙ ap (λ (l : List ℕ). 0 ∷ l) (sym (zeros_up q (up_to (length c.queues))))
 
 new_row : (C : Type 0) (c : Config) (number sender queue : ℕ) (need : List ℕ) → need ≡ amounts c (limit_of c queue) queue 1 → new_row_of number sender queue need ≡ row_of c (new_job {C = C} number sender queue)
-new_row C c number sender queue need e =
+new_row C c number sender queue need e i =
     let less : limit_of c queue ≡ limit_of c queue - 0 = omega arith in
-    ap (new_row_of number sender queue) e
-    ∙ (ap (λ (l : List ℕ). record { number = number; sender = sender; queue = queue; held = l; need = amounts c (limit_of c queue) queue 1 }) (zeros c queue (limit_of c queue) 1)
-    ∙ ap (λ (n : ℕ). record { number = number; sender = sender; queue = queue; held = amounts c 0 queue 0; need = amounts c n queue 1 }) less)
+    record {
+      number = number;
+      sender = sender;
+      queue = queue;
+      held = (ap (λ (l : List ℕ). replicate (length l) 0) e ∙ zeros c queue (limit_of c queue) 1) i;
+      need = (e ∙ ap (λ (n : ℕ). amounts c n queue 1) less) i;
+    }
 
 none_held : (n k : ℕ) → amount (replicate n 0) k ≡ 0
 none_held zero k = refl

@@ -1,5 +1,5 @@
 -- What a core keeps of its printers.
-use Rattle.std.proofs.Common.{◌≡◌, ℕ, zero, suc, ◌-◌, ◌<◌, ◌≤◌, true, false, List, ◌∷◌, length, get_or, set, map, refl, sym, ◌∙◌, ap, arith}
+use Rattle.std.proofs.Common.{◌≡◌, ℕ, zero, suc, ◌-◌, ◌<◌, ◌≤◌, Bool, true, false, List, ◌∷◌, length, get_or, set, map, refl, sym, ◌∙◌, ap, arith}
 use Rattle.std.specs.Prelude.{Option, Some, None, is_some}
 use Rattle.std.proofs.lemmas.List.{length-map, get_or-map, map-set}
 use Rattle.config_values.specs.Config.{IsPrinter, printer_count}
@@ -48,9 +48,15 @@ module _ (d : Detail) (b : Base) (h : List (Event (What d))) (k : Kept) (l : Lea
 
 -- what is next, case by case
 
-module _ (d : Detail) (v : State (What d)) (p : ℕ) where
-  pub next_stopped : (at : Printer) → v.closed ≡ false → at ≡ kept_printer d (printer_at v p) → at.stopped ≡ true → next_page v p ≡ Stops
-  next_stopped at c e s = (let st : (printer_at v p).stopped ≡ true = ap (λ (x : Printer). x.stopped) (sym e) ∙ s in rw (c, st) refl)
+module _ (d : Detail) (v : State (What d)) (p : ℕ) (at : Printer) (c : v.closed ≡ false) (e : at ≡ kept_printer d (printer_at v p)) where
+  stopped : (b : Bool) → at.stopped ≡ b → (printer_at v p).stopped ≡ b
+  stopped b s = ap (λ (x : Printer). x.stopped) (sym e) ∙ s
+
+  out : (b : Bool) → is_some at.out ≡ b → is_some (kept_out d (printer_at v p).out) ≡ b
+  out b o = ap (λ (x : Printer). is_some x.out) (sym e) ∙ o
+
+  pub next_stopped : at.stopped ≡ true → next_page v p ≡ Stops
+  next_stopped s = rw (c, stopped true s) refl
 
   busy_by : (q : N.Printer (What d)) (o : Option (Sheet (What d))) → is_some (kept_out d o) ≡ true → with_out v.jobs q o ≡ Busy
   busy_by q None e = absurd (clash false e refl)
@@ -60,14 +66,8 @@ module _ (d : Detail) (v : State (What d)) (p : ℕ) where
   idle_by None e = refl
   idle_by (Some s) e = absurd (clash true refl e)
 
-  pub next_busy : (at : Printer) → v.closed ≡ false → at ≡ kept_printer d (printer_at v p) → at.stopped ≡ false → is_some at.out ≡ true → next_page v p ≡ Busy
-  next_busy at c e s o =
-      let st : (printer_at v p).stopped ≡ false = ap (λ (x : Printer). x.stopped) (sym e) ∙ s in
-      let out : is_some (kept_out d (printer_at v p).out) ≡ true = ap (λ (x : Printer). is_some x.out) (sym e) ∙ o in
-      rw (c, st) (busy_by (printer_at v p) (printer_at v p).out out)
+  pub next_busy : at.stopped ≡ false → is_some at.out ≡ true → next_page v p ≡ Busy
+  next_busy s o = rw (c, stopped false s) (busy_by (printer_at v p) (printer_at v p).out (out true o))
 
-  pub next_turn : (at : Printer) → v.closed ≡ false → at ≡ kept_printer d (printer_at v p) → at.stopped ≡ false → is_some at.out ≡ false → next_page v p ≡ hand_of (turn_of v.jobs at.queue at.began)
-  next_turn at c e s o =
-      let st : (printer_at v p).stopped ≡ false = ap (λ (x : Printer). x.stopped) (sym e) ∙ s in
-      let out : (printer_at v p).out ≡ None = idle_by (printer_at v p).out (ap (λ (x : Printer). is_some x.out) (sym e) ∙ o) in
-      rw (c, st, out) (ap (λ (x : Printer). hand_of (turn_of v.jobs x.queue x.began)) (sym e))
+  pub next_turn : at.stopped ≡ false → is_some at.out ≡ false → next_page v p ≡ hand_of (turn_of v.jobs at.queue at.began)
+  next_turn s o = rw (c, stopped false s, idle_by (printer_at v p).out (out false o)) (ap (λ (x : Printer). hand_of (turn_of v.jobs x.queue x.began)) (sym e))

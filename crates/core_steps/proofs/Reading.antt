@@ -1,5 +1,5 @@
 -- What the readers of a core say.
-use Rattle.std.proofs.Common.{◌≡◌, ◌≢◌, ◌==◌, ℕ, ◌-◌, ◌<◌, ◌≤◌, Bool, true, false, cond, List, length, filter, get_or, map, refl, sym, ◌∙◌, ap, arith}
+use Rattle.std.proofs.Common.{◌≡◌, ◌≢◌, ◌==◌, ℕ, ◌-◌, ◌<◌, ◌≤◌, Bool, true, false, cond, List, length, filter, map, refl, sym, ◌∙◌, ap, arith}
 use Rattle.std.specs.Prelude.{◌&&◌, All, Option, None, Some, count_by, is_some}
 use Rattle.std.proofs.lemmas.List.{length_push}
 use Rattle.std.proofs.lemmas.List.Sums.{count_by-le-length, length-filter}
@@ -8,7 +8,6 @@ use Rattle.page_pool.specs.Page.{Pages}
 use Rattle.held_jobs.specs.declared.file.DataFile.{DataFile}
 use Rattle.held_jobs.specs.declared.phase.Phase.TheVariants.{Receiving}
 use Rattle.held_jobs.specs.Jobs.{HeldJob, Facts, last_size}
-use Rattle.held_jobs.specs.Books.{job_at}
 use Rattle.held_jobs.specs.Shown.{ShownJob, see_job}
 use Rattle.config_values.specs.Config.{Config, printer_count}
 use Rattle.config_values.specs.Ranges.{IsConfig}
@@ -24,7 +23,6 @@ use Rattle.spool_laws.specs.Sums.{at_printers}
 use Rattle.spool_laws.proofs.Known.{clash}
 use Rattle.spool_laws.proofs.Adding.{sum_filter, sum_map, sum_same}
 use Rattle.spool_laws.proofs.Apart.{each_has_a_place}
-use Rattle.spool_moves.specs.Standing.{no_job}
 use Rattle.spool_moves.proofs.Standing.{has_here, has_job}
 use Rattle.spool_calls.specs.declared.printer.Printer.{Printer}
 use Rattle.spool_calls.specs.Looks.{Detail, What, size}
@@ -109,7 +107,6 @@ module _ (d : Detail) (b : Base) (h : List (Event (What d))) (k : Kept) (l : Lea
 
 module _ (d : Detail) (b : Base) (h : List (Event (What d))) (k : Kept) (l : Leaves d b h k) (job i : ℕ) (f : Found k job i) where
   open look_at d b h k i use {v as w, x, j}
-
   open sees d b h k job i l f use {stands as s, ties, facts as ft}
 
   pub may_control : j.facts.phase ≡ Receiving → j.facts.control ≡ None → MayControl (left_by d b h k) job

@@ -1,5 +1,5 @@
 -- A data file of a job ends, and its control file comes: with the last of these it is received.
-use Rattle.std.proofs.Common.{◌≡◌, ◌≢◌, ℕ, ◌+◌, ◌-◌, ◌≤◌, Bool, true, false, List, ◌∷◌, length, get_or, refl, sym, ◌∙◌, ap, subst, arith}
+use Rattle.std.proofs.Common.{◌≡◌, ◌≢◌, ℕ, ◌+◌, ◌-◌, ◌≤◌, Bool, true, false, List, ◌∷◌, length, refl, sym, ◌∙◌, ap, subst, arith}
 use Rattle.std.specs.Prelude.{All, Ok, Err, Option, Some, None, ◌&&◌, not, is_some}
 use Rattle.std.specs.List.{list_all}
 use Rattle.std.proofs.lemmas.Simd.{map-map}
@@ -16,7 +16,7 @@ use Rattle.held_jobs.specs.declared.file.DataFile.{DataFile}
 use Rattle.held_jobs.specs.declared.phase.Phase.TheVariants.{Receiving}
 use Rattle.held_jobs.specs.Jobs.{HeldJob, Facts, file_names, has_all, has_prints}
 use Rattle.held_jobs.specs.Moves.{CanEnd, closed_file, controlled_facts, received_job, told}
-use Rattle.held_jobs.specs.Books.{IsIdle, job_at, prints_of, with_job}
+use Rattle.held_jobs.specs.Books.{IsIdle, prints_of, with_job}
 use Rattle.held_jobs.specs.Shown.{see_job}
 use Rattle.config_values.specs.Ranges.{IsConfig}
 use Rattle.spool_history.specs.Base.{Base}
@@ -25,11 +25,10 @@ use Rattle.spool_history.specs.Events.Act.{FileEnded, Controlled}
 use Rattle.spool_history.specs.Events.Event.{OfJob}
 use Rattle.lpd_values.specs.Told.{prints_in}
 use Rattle.spool_history.specs.Acts.{File, at_last, is_open_in, is_whole, names_in}
-use Rattle.spool_history.specs.Now.{Job, State, is_received, pages_kept, row_of}
+use Rattle.spool_history.specs.Now.{Job, is_received, pages_kept, row_of}
 use Rattle.spool_history.specs.Steps.{acted}
 use Rattle.spool_history.specs.Legal.{HasJob, HasOpen, HasPages, IsControl, IsReceiving, JobMay, pages_for}
 use Rattle.spool_laws.proofs.Apart.{each_has_a_place}
-use Rattle.spool_moves.specs.Standing.{no_job}
 use Rattle.spool_moves.proofs.Standing.{has_here, has_job}
 use Rattle.spool_moves.proofs.Moving.{act_set}
 use Rattle.spool_moves.proofs.Opens.{LastOpen, job_opens}
@@ -44,12 +43,12 @@ use Rattle.core_rows.proofs.Receiving.{chained_receiving, controlled_chain, cont
 use Rattle.core_rows.proofs.Received.{Becomes, by_control, by_file, received_chain, unprinted}
 use Rattle.spool_calls.specs.declared.answers.Receipt.TheVariants.{Stored, Received}
 use Rattle.spool_calls.specs.Looks.{Detail, What, size}
-use Rattle.spool_calls.specs.Kept.{Kept, Leaves, left_by, look, shown_job, size_of}
+use Rattle.spool_calls.specs.Kept.{Kept, Leaves, look, shown_job, size_of}
 use Rattle.spool_calls.specs.Calls.{Ends, Controls}
 use Rattle.core_steps.proofs.Leaving.{Found, held_unended, leaves_act, leaves_row, none_has, one_stored, pool_even, row_stands, sees, look_at}
 use Rattle.core_steps.proofs.Ranges.{limit_within}
 use Rattle.core_steps.proofs.Phases.{phase_tie, phase_receiving, open_tie}
-use Rattle.core_steps.proofs.Filing.{idle, is_receiving, left_of, open_last}
+use Rattle.core_steps.proofs.Filing.{idle, is_receiving, left_of, no_open, open_is, open_last}
 
 -- whether all that is awaited is there
 
@@ -106,21 +105,23 @@ module _ (d : Detail) (b : Base) (h : List (Event (What d))) (k : Kept) (l : Lea
       ap has_prints ft ∙ ap (λ (ns : List (List ℕ)). has_all ns x.control) (map-map (λ (g : DataFile). g.name) (size_of z) x.files)
 
   -- what becomes received
-  received_leaves : (act : Act (What d)) (j' : HeldJob) (n : ℕ) → IsReceiving x → HasJob v.jobs job (JobMay (size d) k.config act) → Becomes x (acted act x) → (acted act x).ended ≡ false
-      → see_job (look d) j' ≡ shown_job k.config (acted act x) → n + length (pages_kept (acted act x)) ≡ file_pages x
+  received_leaves : (act : Act (What d)) (j' : HeldJob) (n : ℕ) → IsReceiving x → x.lent ≡ false → HasJob v.jobs job (JobMay (size d) k.config act) → (x.granted ≡ file_pages x → x.handed ≡ 0 → Becomes x (acted act x)) → (acted act x).ended ≡ false
+      → (x.handed ≡ 0 → x.back ≡ 0 → see_job (look d) j' ≡ shown_job k.config (acted act x)) → (x.back ≡ 0 → n + length (pages_kept (acted act x)) ≡ file_pages x)
       → Rattle.spool_history.specs.Legal.ActMay v job act → Leaves d b (OfJob job act ∷ h) (received_core k i j' n)
-  received_leaves act j' n r may becomes goes tie' count also =
+  received_leaves act j' n r lent may becomes goes tie' count also =
       let y = acted act x in
-      let filed = becomes.filed in
-      let un : unprinted x y ≡ n = omega (arith, filed, count) in
-      let chain = received_chain x y becomes in
-      let same = pool_even d b h k l in
+      let u = unhanded r in
+      let filed = granted_filed (size d) k.config b h x l.legal has r.0 lent in
+      let is = becomes (sym filed) u.0 in
+      let kept = count u.1 in
+      let un : unprinted x y ≡ n = omega (arith, filed, kept) in
+      let chain = received_chain x y is in
       let w : WithRow k.table (given_back (need_ended k.table i 0) i 0 n) i (row_of k.config y) (k.pool.free + n) =
-      rw same (subst (λ (m : ℕ). WithRow k.table (given_back (need_ended k.table i 0) i 0 m) i (row_of k.config y) (amount k.table.free 0 + m)) un
-      (Rattle.core_rows.proofs.Received.received_leaves k.config k.table i x y (row_stands d b h k i l s.there) becomes)) in
+      rw (pool_even d b h k l) (subst (λ (m : ℕ). WithRow k.table (given_back (need_ended k.table i 0) i 0 m) i (row_of k.config y) (amount k.table.free 0 + m)) un
+      (Rattle.core_rows.proofs.Received.received_leaves k.config k.table i x y (row_stands d b h k i l s.there) is)) in
       let within = one_stored d b h k i l s.there in
       leaves_row d b h k (OfJob job act) i (k.book.stored - n) (k.pool.free + n) y j' (given_back (need_ended k.table i 0) i 0 n) k.printers l (may, also)
-      (act_set (size d) k.config b h i job act l.legal s (held_unended y goes)) s.there refl refl tie' (omega (arith, chain, un, within)) w l.kept.printers
+      (act_set (size d) k.config b h i job act l.legal s (held_unended y goes)) s.there refl refl (tie' u.0 u.1) (omega (arith, chain, un, within)) w l.kept.printers
 
   -- a file ends
 
@@ -194,15 +195,11 @@ module _ (d : Detail) (b : Base) (h : List (Event (What d))) (k : Kept) (l : Lea
       let act = FileEnded w.file true in
       let is : is_received (acted act x) ≡ true = ended_whole w.file true ∙ e in
       let may = w.may true (sym is) in
-      let r = w.receiving' in
-      let u = unhanded r in
-      let lent : x.lent ≡ false = sym (ap (λ (g : Facts). g.lent) ft) ∙ c.1 in
-      let filed = granted_filed (size d) k.config b h x l.legal has r.0 lent in
-      let count = counts_by_file (look d) k.config j x w.file r u.1 differ t in (
+      let r = w.receiving' in (
         w.file,
         may,
-        received_leaves act (received_job (prints_of j) (closed_file j)) n r may (by_file w.file true x r (sym filed) u.0 is) r.0
-            (received_by_file (look d) k.config j x w.file r u.0 u.1 is differ t) (omega (arith, en, count)) tt,
+        received_leaves act (received_job (prints_of j) (closed_file j)) n r (sym (ap (λ (g : Facts). g.lent) ft) ∙ c.1) may (λ g z. by_file w.file true x r g z is) r.0
+            (λ z e. received_by_file (look d) k.config j x w.file r z e is differ t) (λ e. let count = counts_by_file (look d) k.config j x w.file r e differ t in omega (arith, en, count)) tt,
       )
 
   -- before that it is idle
@@ -211,52 +208,48 @@ module _ (d : Detail) (b : Base) (h : List (Event (What d))) (k : Kept) (l : Lea
 
   -- the control file comes
 
-  may_control : (control : Contents) (whole : Bool) → j.facts.phase ≡ Receiving → j.facts.control ≡ None → whole ≡ is_received (acted (Controlled control whole) x) → HasJob v.jobs job (JobMay (size d) k.config (Controlled control whole))
-  may_control control whole p none e = has_job v i job (JobMay (size d) k.config (Controlled control whole)) s (is_receiving d b h k l job i f p, sym (ap (λ (g : Facts). g.control) ft) ∙ none, e)
+  module _ (control : Contents) (p : j.facts.phase ≡ Receiving) where
+    r : IsReceiving x
+    r = is_receiving d b h k l job i f p
 
-  control_whole : (control : Contents) (whole : Bool) → j.facts.phase ≡ Receiving → j.chain.is_open ≡ false → is_received (acted (Controlled control whole) x) ≡ has_prints (controlled_facts control j.facts)
-  control_whole control whole p o =
-      let r = is_receiving d b h k l job i f p in
-      whole_closed (Some control) x.files (sym (open_tie (look d) k.config j x t r) ∙ o)
-      ∙ ap (λ (ns : List (List ℕ)). has_all ns (Some control)) (sym (ap (λ (g : Facts). file_names g) ft ∙ map-map (λ (g : DataFile). g.name) (size_of z) x.files))
+    may_control : (whole : Bool) → j.facts.control ≡ None → whole ≡ is_received (acted (Controlled control whole) x) → HasJob v.jobs job (JobMay (size d) k.config (Controlled control whole))
+    may_control whole none e = has_job v i job (JobMay (size d) k.config (Controlled control whole)) s (r, sym (ap (λ (g : Facts). g.control) ft) ∙ none, e)
 
-  control_kept : (control : Contents) → IsControl control → j.facts.phase ≡ Receiving → j.facts.control ≡ None → is_received (acted (Controlled control false) x) ≡ false
-      → Controls d b h k job control (record k { book = with_job k.book i (told (controlled_facts control) j) }) (Ok Stored)
-  control_kept control fits p none not' =
-      let act = Controlled control false in
-      let may = may_control control false p none (sym not') in
-      let r = is_receiving d b h k l job i f p in
-      let stored = ap (λ (n : ℕ). k.book.stored + n) (sym (controlled_chain control false x r not')) in (
-        may,
-        leaves_act d b h k job i k.book.stored act (told (controlled_facts control) j) l s (may, fits) r.0
-            (ties_controlled (look d) k.config j x control r not' t) stored (controlled_row k.config control false x r not'),
-      )
+    control_whole : (whole : Bool) → j.chain.is_open ≡ false → is_received (acted (Controlled control whole) x) ≡ has_prints (controlled_facts control j.facts)
+    control_whole whole o =
+        whole_closed (Some control) x.files (no_open d b h k l job i f p o)
+        ∙ ap (λ (ns : List (List ℕ)). has_all ns (Some control)) (sym (ap (λ (g : Facts). file_names g) ft ∙ map-map (λ (g : DataFile). g.name) (size_of z) x.files))
 
-  pub control_open : (control : Contents) → IsControl control → j.facts.phase ≡ Receiving → j.facts.control ≡ None → j.chain.is_open ≡ true
-      → Controls d b h k job control (record k { book = with_job k.book i (told (controlled_facts control) j) }) (Ok Stored)
-  control_open control fits p none o =
-      let r = is_receiving d b h k l job i f p in
-      control_kept control fits p none (open_unreceived (acted (Controlled control false) x) (sym (open_tie (look d) k.config j x t r) ∙ o))
+  module _ (control : Contents) (fits : IsControl control) (p : j.facts.phase ≡ Receiving) (none : j.facts.control ≡ None) where
+    abbrev Keeps : Type 0
+    Keeps = Controls d b h k job control (record k { book = with_job k.book i (told (controlled_facts control) j) }) (Ok Stored)
 
-  pub control_stored : (control : Contents) → IsControl control → j.facts.phase ≡ Receiving → j.facts.control ≡ None → j.chain.is_open ≡ false → has_prints (controlled_facts control j.facts) ≡ false
-      → Controls d b h k job control (record k { book = with_job k.book i (told (controlled_facts control) j) }) (Ok Stored)
-  control_stored control fits p none o e = control_kept control fits p none (control_whole control false p o ∙ e)
+    control_kept : is_received (acted (Controlled control false) x) ≡ false → Keeps
+    control_kept not' =
+        let may = may_control control p false none (sym not') in
+        let stored = ap (λ (n : ℕ). k.book.stored + n) (sym (controlled_chain control false x (r control p) not')) in (
+          may,
+          leaves_act d b h k job i k.book.stored (Controlled control false) (told (controlled_facts control) j) l s (may, fits) (r control p).0
+              (ties_controlled (look d) k.config j x control (r control p) not' t) stored (controlled_row k.config control false x (r control p) not'),
+        )
+
+    pub control_open : j.chain.is_open ≡ true → Keeps
+    control_open o = control_kept (open_unreceived (acted (Controlled control false) x) (sym (open_is d b h k l job i f p) ∙ o))
+
+    pub control_stored : j.chain.is_open ≡ false → has_prints (controlled_facts control j.facts) ≡ false → Keeps
+    control_stored o e = control_kept (control_whole control p false o ∙ e)
 
   pub control_received : (control : Contents) (n : ℕ) → IsControl control → j.facts.phase ≡ Receiving → j.facts.control ≡ None → j.chain.is_open ≡ false → has_prints (controlled_facts control j.facts) ≡ true
       → n ≡ length (unnamed_pages j.chain.files control.prints)
       → Controls d b h k job control (received_core k i (received_job control.prints (told (controlled_facts control) j)) n) (Ok Received)
   control_received control n fits p none o e en =
       let act = Controlled control true in
-      let is : is_received (acted act x) ≡ true = control_whole control true p o ∙ e in
-      let may = may_control control true p none (sym is) in
-      let r = is_receiving d b h k l job i f p in
-      let u = unhanded r in
-      let lent = closed_unlent (size d) k.config b h x l.legal has (sym (open_tie (look d) k.config j x t r) ∙ o) in
-      let filed = granted_filed (size d) k.config b h x l.legal has r.0 lent in
-      let count = counts_by_control (look d) k.config j x control r u.1 differ t in (
+      let is : is_received (acted act x) ≡ true = control_whole control p true o ∙ e in
+      let may = may_control control p true none (sym is) in
+      let q = r control p in (
         may,
-        received_leaves act (received_job control.prints (told (controlled_facts control) j)) n r may (by_control control true x r (sym filed) u.0 is) r.0
-            (received_by_control (look d) k.config j x control r u.0 u.1 is differ t) (omega (arith, en, count)) fits,
+        received_leaves act (received_job control.prints (told (controlled_facts control) j)) n q (closed_unlent (size d) k.config b h x l.legal has (no_open d b h k l job i f p o)) may (λ g z. by_control control true x q g z is) q.0
+            (λ z e. received_by_control (look d) k.config j x control q z e is differ t) (λ e. let count = counts_by_control (look d) k.config j x control q e differ t in omega (arith, en, count)) fits,
       )
 
   -- what goes back to the pool is stored, held by the job's row, and not much
@@ -291,7 +284,7 @@ module _ (d : Detail) (b : Base) (h : List (Event (What d))) (k : Kept) (l : Lea
   control_counted ranges control n p o en =
       let r = is_receiving d b h k l job i f p in
       let count = counts_by_control (look d) k.config j x control r (unhanded r).1 differ t in
-      counted ranges n r (closed_unlent (size d) k.config b h x l.legal has (sym (open_tie (look d) k.config j x t r) ∙ o)) (omega (arith, en, count))
+      counted ranges n r (closed_unlent (size d) k.config b h x l.legal has (no_open d b h k l job i f p o)) (omega (arith, en, count))
 
   -- a job that is being received with no file open is idle
   pub control_idle : j.facts.phase ≡ Receiving → j.chain.is_open ≡ false → IsIdle j.chain

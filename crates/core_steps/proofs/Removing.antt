@@ -29,10 +29,9 @@ use Rattle.spool_laws.proofs.Busy.{rising_jobs}
 use Rattle.spool_calls.specs.Looks.{Detail, What, size}
 use Rattle.spool_calls.specs.Kept.{Kept, Leaves, left_by}
 use Rattle.spool_calls.specs.Calls.{Removes, removed_by}
-use Rattle.core_steps.proofs.Queues.{is_open, takes}
 use Rattle.core_steps.proofs.Stocks.{Stock}
 use Rattle.core_steps.proofs.EndingMany.{EndsTo}
-use Rattle.core_steps.proofs.Leaving.{stock_of}
+use Rattle.core_steps.proofs.Leaving.{is_open, takes, stock_of}
 use Rattle.core_steps.proofs.Closing.{listed, removed_leaves, with_stock}
 use Rattle.core_steps.proofs.Telling.{numbers_left, removal_left}
 

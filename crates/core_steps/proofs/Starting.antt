@@ -22,8 +22,8 @@ use Rattle.spool_calls.specs.declared.printer.Printer.{Printer}
 use Rattle.spool_calls.specs.Looks.{Detail, What, size}
 use Rattle.spool_calls.specs.Kept.{Kept, Leaves, left_by, kept_printer}
 use Rattle.spool_calls.specs.Calls.{Starts}
+use Rattle.core_steps.proofs.Leaving.{is_open, takes}
 use Rattle.core_steps.proofs.Printers.{printers_many}
-use Rattle.core_steps.proofs.Queues.{is_open, takes}
 use Rattle.core_steps.proofs.EndingMany.{leaves_same}
 
 -- the first elements of a list changed, so many

@@ -27,8 +27,8 @@ use Rattle.spool_calls.specs.Looks.{Detail, What}
 use Rattle.spool_calls.specs.Calls.{Tells, removed_by}
 use Rattle.spool_calls.specs.Telling.{Chooses, serving, stopped_in}
 use Rattle.spool_calls.specs.Kept.{Kept, Leaves, facts_of, kept_printer, left_by, size_of}
+use Rattle.core_steps.proofs.Leaving.{is_queue_named, takes}
 use Rattle.core_steps.proofs.Phases.{goes_is}
-use Rattle.core_steps.proofs.Queues.{is_queue_named, takes}
 use Rattle.core_steps.proofs.Turning.{facts_kept}
 
 -- what is told of one job
