@@ -39,9 +39,8 @@ use Rattle.spool_moves.proofs.Files.{job_names_differ}
 use Rattle.spool_moves.proofs.Claimed.{row_here}
 use Rattle.spool_moves.proofs.Out.{OutOf, out_here, out_job}
 use Rattle.job_moves.proofs.Ties.{prints}
-use Rattle.job_moves.proofs.Facts.{is_done}
 use Rattle.job_moves.proofs.Awaiting.{awaits_last}
-use Rattle.job_moves.proofs.Printing.{ties_again, ties_back}
+use Rattle.job_moves.proofs.Printing.{is_done, ties_again, ties_back}
 use Rattle.claims.specs.Claims.{Claims}
 use Rattle.core_rows.proofs.Tables.{WithRow, WithoutRow}
 use Rattle.core_rows.proofs.Printing.{again, again_chain, again_leaves, going_held, is_out_of, last_chain, last_leaves, out_holds}

@@ -1,6 +1,6 @@
 -- A data file of a job begins, and a page of it is put.
 use Rattle.std.proofs.Common.{◌≡◌, ◌≢◌, ℕ, ◌+◌, ◌-◌, ◌*◌, ◌<◌, ◌≤◌, ◌^◌, Bool, true, false, List, [], ◌∷◌, ◌++◌, length, map, refl, sym, ◌∙◌, ap, subst, arith}
-use Rattle.std.specs.Prelude.{All, Ok, Err, min, sum_by, cond, not}
+use Rattle.std.specs.Prelude.{All, Ok, Err, min, sum_by, cond}
 use Rattle.std.proofs.lemmas.List.{length_push, length-map}
 use Rattle.std.proofs.lemmas.List.Sums.{sum_by_push}
 use Rattle.page_pool.specs.Page.{Page}
@@ -22,7 +22,7 @@ use Rattle.spool_history.specs.Events.Act.{Began, Put}
 use Rattle.spool_history.specs.Acts.{File, is_open_in, names_in}
 use Rattle.spool_history.specs.Now.{Job}
 use Rattle.spool_history.specs.Legal.{HasJob, HasOpen, IsNextPage, IsReceiving, HasNoOpen, HasNoFile, HasFileRoom, IsWithinLimit, JobMay, pages_for}
-use Rattle.spool_laws.proofs.Known.{or_true}
+use Rattle.spool_laws.proofs.PutOff.{open_last as open_last'}
 use Rattle.spool_moves.proofs.Standing.{has_here, has_job}
 use Rattle.spool_moves.proofs.Opens.{LastOf, job_opens, last_of}
 use Rattle.spool_moves.proofs.Holding.{file_pages, granted_counts, granted_within}
@@ -52,10 +52,6 @@ last_mapped : {C : Type 0} (z : ℕ) (fs : List (File C)) (y : File C) → last_
 last_mapped z [] y = refl
 last_mapped z (g ∷ []) y = refl
 last_mapped z (g ∷ e ∷ fs) y = last_mapped z (e ∷ fs) y
-
-open_pushed : {C : Type 0} (fs : List (File C)) (y : File C) → y.ended ≡ false → is_open_in (fs ++ y ∷ []) ≡ true
-open_pushed [] y e = rw e refl
-open_pushed (g ∷ fs) y e = rw (open_pushed fs y e) (or_true (not g.ended))
 
 -- the job takes a page of so many octets as the next one of its open file
 abbrev Takes : {C : Type 0} → ℕ → ℕ → (file number : ℕ) → Job C → Type 0
@@ -173,7 +169,7 @@ module _ (d : Detail) (b : Base) (h : List (Event (What d))) (k : Kept) (l : Lea
         let left : (last_size j.facts.files).left ≡ m.2.1.count - number * z = ap (λ (g : DataFile). g.left) (left_of m.2.0 m.2.1 m.2.2) ∙ ap (λ (q : ℕ). m.2.1.count - q * z) n.0 in (
           phase_tie (look d) k.config j x t ∙ phase_receiving x m.0,
           ap (λ (g : Facts). g.lent) ft ∙ m.1,
-          open_tie (look d) k.config j x t m.0 ∙ (ap is_open_in m.2.2 ∙ open_pushed m.2.0 m.2.1 m.2.4),
+          open_tie (look d) k.config j x t m.0 ∙ (ap is_open_in m.2.2 ∙ open_last' m.2.0 m.2.1 m.2.4),
           omega (arith, left, some),
           n.2 ∙ ap (min z) (sym left),
         )

@@ -30,7 +30,7 @@ use Rattle.spool_moves.proofs.Standing.{all_held}
 use Rattle.spool_moves.proofs.Holding.{back_within, handed_within, held_counts, one_is_out}
 use Rattle.spool_moves.proofs.Claimed.{table_free, rows_len}
 use Rattle.spool_moves.proofs.Queued.{job_queued}
-use Rattle.job_moves.proofs.Ending.{ties_ended}
+use Rattle.job_moves.proofs.Ties.{ties_ended}
 use Rattle.job_moves.proofs.Stored.{stored}
 use Rattle.core_rows.proofs.Tables.{Here, WithRow, WithoutRow, closed_drops, here_held, room_for}
 use Rattle.core_rows.proofs.Amounts.{queue_kind}

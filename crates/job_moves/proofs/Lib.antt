@@ -5,11 +5,9 @@ pub mod Shelving
 pub mod Received
 pub mod Counting
 pub mod Receiving
-pub mod Ending
 pub mod Seeing
 pub mod Shelves
 pub mod Spots
 pub mod Printing
 pub mod Awaiting
 pub mod Stored
-pub mod Facts

@@ -1,9 +1,10 @@
 -- The places of a received job are handed out and come back.
-use Rattle.std.proofs.Common.{inl, inr, ◌≡◌, ◌==◌, ◌<◌, ◌≤◌, ℕ, suc, ◌+◌, Bool, true, false, List, [], ◌∷◌, length, drop, get_or, refl, sym, ◌∙◌, ap, arith}
+use Rattle.std.proofs.Common.{inl, inr, ◌≡◌, ◌==◌, ◌<◌, ◌≤◌, ℕ, suc, ◌+◌, Bool, true, false, List, [], ◌∷◌, length, drop, get_or, refl, sym, ◌∙◌, ap, arith, ◌-◌}
 use Rattle.std.specs.Prelude.{◌&&◌, ◌||◌, not, Option, Some, None, slice_get}
 use Rattle.std.specs.List.{list_any}
 use Rattle.std.proofs.lemmas.Bool.{cases_lt}
-use Rattle.std.proofs.lemmas.List.{drop-drop, drop_all}
+use Rattle.std.proofs.lemmas.List.{drop-drop, drop_all, length-drop}
+use Rattle.std.proofs.lemmas.Bool.Decides.{nat_tests}
 use Rattle.page_pool.specs.Page.{Page}
 use Rattle.page_chain.specs.declared.place.Place.{Place}
 use Rattle.page_chain.specs.Files.{no_place, page_at}
@@ -252,3 +253,15 @@ ties_again {C} f c j v page x g e again is same t =
       places = a.places;
       last = a.last;
     })
+
+-- when it is done
+
+-- so many places are left
+pub places_left : {C : Type 0} (f : Page → C) (c : Config) (j : HeldJob) (v : Job C) → Goes v → Ties f c j v → length j.chain.places ≡ length (places v) - v.handed
+places_left f c j v g t =
+    let a = prints f c j v g.0 g.1 t in
+    ap (λ (l : List Place). length l) a.places ∙ (length-drop v.handed (spots v) ∙ ap (λ (n : ℕ). n - v.handed) (length-spots v))
+
+-- a page that comes back is the last where no place is left
+pub is_done : {C : Type 0} (f : Page → C) (c : Config) (j : HeldJob) (v : Job C) → Goes v → v.handed ≡ v.back + 1 → v.handed ≤ length (places v) → Ties f c j v → (v.back + 1 == length (places v)) ≡ (length j.chain.places == 0)
+is_done f c j v g e le t = (let l = places_left f c j v g t in grind (arith, nat_tests))

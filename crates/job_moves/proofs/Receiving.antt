@@ -1,12 +1,8 @@
 -- What a job does while it is being received.
-use Rattle.std.proofs.Common.{◌≡◌, ℕ, ◌+◌, ◌-◌, ◌*◌, Bool, true, false, List, [], ◌∷◌, ◌++◌, length, map, refl, sym, ◌∙◌, ap, ap₂, arith}
-use Rattle.std.specs.Prelude.{◌&&◌, ◌||◌, not, is_some, Option, Some}
-use Rattle.std.specs.List.{list_all}
-use Rattle.std.proofs.lemmas.Bool.{and_right, or_right}
+use Rattle.std.proofs.Common.{◌≡◌, ℕ, ◌+◌, ◌-◌, ◌*◌, Bool, false, List, [], ◌∷◌, ◌++◌, length, map, refl, sym, ◌∙◌, ap, ap₂, arith}
+use Rattle.std.specs.Prelude.{◌||◌, not, Option, Some}
 use Rattle.std.proofs.lemmas.List.{length_push, map-append, map_push}
 use Rattle.lpd_values.specs.Contents.{Contents}
-use Rattle.lpd_values.specs.Kept.{is_among}
-use Rattle.lpd_values.specs.Told.{prints_in}
 use Rattle.page_pool.specs.Page.{Page}
 use Rattle.page_chain.specs.Files as F
 use Rattle.page_chain.specs.Changes.{with_page}
@@ -24,7 +20,8 @@ use Rattle.spool_history.specs.Now.{Job, is_received}
 use Rattle.spool_history.specs.Steps.{acted}
 use Rattle.spool_history.specs.Legal.{HasOpen, IsNextPage, IsReceiving}
 use Rattle.spool_calls.specs.Kept.{size_of, whole_file}
-use Rattle.spool_laws.proofs.Counts.{last_push, with_end}
+use Rattle.spool_laws.proofs.Counts.{last_push, with_end, with_page as with_one}
+use Rattle.core_rows.proofs.Receiving.{began_receiving, put_receiving}
 use Rattle.spool_laws.proofs.Held.{open_push}
 use Rattle.spool_moves.proofs.Opens.{LastOpen}
 use Rattle.job_moves.proofs.Ties.{Ties, facts_at, fills, ties_filling}
@@ -58,12 +55,6 @@ ties_closed {C} f c j v file r l is t =
       last = a.last;
     })
 
--- while a file is open a job isn't received
-pub open_receiving : {C : Type 0} (control : Option Contents) (fs : List (A.File C)) → is_open_in fs ≡ true → is_whole control fs ≡ false
-open_receiving control fs e =
-    let all = list_all (λ name. is_among name (names_in fs)) (prints_in control) in
-    ap (λ (b : Bool). is_some control && (not b && all)) e ∙ and_right (is_some control) false refl
-
 -- a file begins
 pub ties_begun : {C : Type 0} (f : Page → C) (c : Config) (j : HeldJob) (v : Job C) (name : List ℕ) (count : ℕ) → IsReceiving v → Ties f c j v → Ties f c (begun_job name count j) (acted (Began name count) v)
 ties_begun {C} f c j v name count r t =
@@ -77,7 +68,7 @@ ties_begun {C} f c j v name count r t =
     ap (λ (n : ℕ). map {A = A.File C} {B = DataFile} (size_of z) v.files ++ record { name = name; count = count; left = n; pages = 0 } ∷ []) left
     ∙ sym (map-append (size_of {C = C} z) v.files (new ∷ [])) in
     let x : F.File = record { name = name; pages = [] } in
-    ties_filling f c (begun_job name count j) v' (r.0, open_receiving v.control v'.files opened) (record {
+    ties_filling f c (begun_job name count j) v' (began_receiving name count v r) (record {
       facts = ap (begun_facts name count) a.facts ∙ ap (λ (l : List DataFile). record (facts_at Receiving c v) { files = l }) sizes;
       files = map-append (see_file f) j.chain.files (x ∷ []) ∙ (ap (λ (l : List (S.File C)). l ++ record { name = name; pages = [] } ∷ []) a.files ∙ sym (map-append (whole_file {C = C}) v.files (new ∷ [])));
       is_open = sym opened;
@@ -87,20 +78,11 @@ ties_begun {C} f c j v name count r t =
 
 -- a page comes
 
--- a file with one page more
-abbrev pub with_one : {C : Type 0} → C → A.File C → A.File C
-with_one content f = record f { pages = f.pages ++ content ∷ [] }
-
 -- whether a file is open
 pub open_put : {C : Type 0} (content : C) (fs : List (A.File C)) → is_open_in (at_last (with_one content) fs) ≡ is_open_in fs
 open_put content [] = refl
 open_put content (f ∷ []) = refl
 open_put content (f ∷ g ∷ fs) = ap (λ (b : Bool). not f.ended || b) (open_put content (g ∷ fs))
-
--- where the last file hasn't ended one is open
-pub open_pushed : {C : Type 0} (fs : List (A.File C)) (x : A.File C) → x.ended ≡ false → is_open_in (fs ++ x ∷ []) ≡ true
-open_pushed [] x e = rw e refl
-open_pushed (f ∷ fs) x e = or_right (not f.ended) (is_open_in (fs ++ x ∷ [])) (open_pushed fs x e)
 
 -- the chain's files with one page more
 whole_put : {C : Type 0} (f : Page → C) (page : Page) (content : C) {xs : List F.File} {ys : List (A.File C)} → AreWhole f xs ys → f page ≡ content → Whole f (with_page xs page) (at_last (with_one content) ys)
@@ -150,9 +132,7 @@ pub ties_put : {C : Type 0} (f : Page → C) (c : Config) (j : HeldJob) (v : Job
     → length page.octets ≡ len → f page ≡ content → Ties f c j v → Ties f c (put_job page j) (acted (Put file number content) v)
 ties_put {C} f c j v file number len page content r o el ec t =
     let a = fills f c j v r t in
-    let v' : Job C = acted (Put file number content) v in
-    let opened : is_open_in v.files ≡ true = ap is_open_in o.2 ∙ open_pushed o.0 o.1 o.4 in
-    ties_filling f c (put_job page j) v' (r.0, open_receiving v.control v'.files (open_put content v.files ∙ opened)) (record {
+    ties_filling f c (put_job page j) (acted (Put file number content) v) (put_receiving file number content (IsNextPage c.page_size number len) v r o) (record {
       facts = ap (λ (n : ℕ). put_facts n j.facts) el ∙ (ap (put_facts len) a.facts
           ∙ ap (λ (l : List DataFile). record (facts_at Receiving c v) { lent = false; files = l }) (sizes_put c.page_size len number content o.0 o.1 v.files o.2 o.5));
       files = whole_put f page content (are_whole f j.chain.files v.files a.files) ec;

@@ -1,8 +1,7 @@
 -- The places of a job, and the page at each.
-use Rattle.std.proofs.Common.{inl, inr, ◌≡◌, ◌==◌, ◌<◌, ℕ, zero, suc, ◌+◌, Bool, true, false, cond, List, [], ◌∷◌, length, drop, map, refl, sym, ◌∙◌, ap, arith}
+use Rattle.std.proofs.Common.{inl, inr, ◌≡◌, ◌==◌, ◌<◌, ℕ, zero, suc, ◌+◌, Bool, true, false, List, [], ◌∷◌, length, drop, map, refl, sym, ◌∙◌, ap, arith}
 use Rattle.std.specs.Prelude.{◌&&◌, not, Option, Some, slice_get, option_map}
-use Rattle.std.specs.List.{flat_map, list_any}
-use Rattle.std.specs.Str.{bytes_eq}
+use Rattle.std.specs.List.{list_any}
 use Rattle.std.proofs.lemmas.Bool.{and_from, and_left, and_parts, and_right, cases_eq, eq-eqb, eqb-true, ne_eqb, or_right}
 use Rattle.std.proofs.lemmas.List.{drop-map, length-map}
 use Rattle.std.proofs.lemmas.Option.{slice_get-map}
@@ -17,7 +16,7 @@ use Rattle.spool_laws.proofs.Known.{Has, clash}
 use Rattle.core_rows.proofs.EachPage.{nth}
 use Rattle.job_moves.proofs.Passes.{and_yes}
 use Rattle.job_moves.proofs.Shelves.{content_at}
-use Rattle.spool_laws.proofs.Copies.{has_either, if_has}
+use Rattle.spool_laws.proofs.Copies.{has_either, places_there}
 
 -- the page at a place is that of its file and number
 
@@ -47,37 +46,29 @@ record OfFiles {C : Type 0} (x : A.Page C) (n : ℕ) (fs : List (A.File C)) : Ty
   file : x.file ≡ n + i
   is : content_at fs i x.number ≡ Some x.page
 
--- each page of a name is one
-of_files : {C : Type 0} (x : A.Page C) (name : List ℕ) (n : ℕ) (fs : List (A.File C)) → Has x (A.pages_named name n fs) → OfFiles x n fs
-of_files x name n [] has = absurd has
-of_files {C} x name n (f ∷ fs) has = elim (has_either x (cond (bytes_eq f.name name) (A.numbered n 0 f.pages) []) (A.pages_named name (n + 1) fs) has) [
+-- each page of these files is one
+of_files : {C : Type 0} (x : A.Page C) (n : ℕ) (fs : List (A.File C)) → Has x (A.all_pages n fs) → OfFiles x n fs
+of_files x n [] has = absurd has
+of_files {C} x n (f ∷ fs) has = elim (has_either x (A.numbered n 0 f.pages) (A.all_pages (n + 1) fs) has) [
   | inl a ↦
-      let o = of_file x n 0 f.pages (if_has x (bytes_eq f.name name) (A.numbered n 0 f.pages) a) in
+      let o = of_file x n 0 f.pages a in
       let m = o.file in
       let k = o.at in
       let same : x.number ≡ o.k = omega (arith, k) in
       record { i = 0; file = omega (arith, m); is = ap (slice_get f.pages) same ∙ o.is }
   | inr b ↦
-      let o = of_files x name (n + 1) fs b in
+      let o = of_files x (n + 1) fs b in
       let m = o.file in
       record { i = suc o.i; file = omega (arith, m); is = o.is }
 ]
 
--- the same of a list of names
-of_places : {C : Type 0} (x : A.Page C) (names : List (List ℕ)) (fs : List (A.File C)) → Has x (flat_map (λ name. A.pages_named name 0 fs) names) → content_at fs x.file x.number ≡ Some x.page
-of_places x [] fs has = absurd has
-of_places x (name ∷ names) fs has = elim (has_either x (A.pages_named name 0 fs) (flat_map (λ name. A.pages_named name 0 fs) names) has) [
-  | inl a ↦
-      let o = of_files x name 0 fs a in
-      let m = o.file in
-      let same : x.file ≡ o.i = omega (arith, m) in
-      ap (λ (i : ℕ). content_at fs i x.number) same ∙ o.is
-  | inr b ↦ of_places x names fs b
-]
-
 -- each place of a job has the page of its file and number
 pub content_of : {C : Type 0} (v : Job C) (x : A.Page C) → Has x (places v) → content_at v.files x.file x.number ≡ Some x.page
-content_of v x has = of_places x (prints_in v.control) v.files has
+content_of v x has =
+    let o = of_files x 0 v.files (places_there x v.files (prints_in v.control) has) in
+    let m = o.file in
+    let same : x.file ≡ o.i = omega (arith, m) in
+    ap (λ (i : ℕ). content_at v.files i x.number) same ∙ o.is
 
 -- places
 

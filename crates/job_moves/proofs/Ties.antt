@@ -8,6 +8,7 @@ use Rattle.held_jobs.specs.declared.file.DataFile.{DataFile}
 use Rattle.held_jobs.specs.declared.phase.Phase.{Phase}
 use Rattle.held_jobs.specs.declared.phase.Phase.TheVariants.{Receiving, Received, Ended}
 use Rattle.held_jobs.specs.Jobs.{Facts, HeldJob}
+use Rattle.held_jobs.specs.Moves.{drained_job, ended_facts}
 use Rattle.held_jobs.specs.Shown.{File, Shelf, ShownJob, see_file, see_files, see_job}
 use Rattle.config_values.specs.Config.{Config}
 use Rattle.spool_history.specs.Acts as A
@@ -120,3 +121,7 @@ module _ {C : Type 0} (f : Page → C) (c : Config) (j : HeldJob) (v : Job C) wh
 
   pub ties_printing : v.ended ≡ false → is_received v ≡ true → Prints → Ties f c j v
   ties_printing e r a = ties_by f c Received j v (phase_received v e r) a
+
+-- it ends, and its pages go
+pub ties_ended : {C : Type 0} (f : Page → C) (c : Config) (j : HeldJob) (v : Job C) → Ties f c j v → Ties f c (drained_job j) (record v { ended = true })
+ties_ended {C} f c j v t = ties_at f c Ended (drained_job j) (record v { ended = true }) refl (record { facts = ap ended_facts (at_phase f c (phase_of v) j v refl t).facts; shelf = refl })
