@@ -1,5 +1,5 @@
 -- Many jobs end, from the last place down to the first.
-use Rattle.std.proofs.Common.{◌≡◌, ℕ, ◌+◌, ◌-◌, ◌<◌, ◌≤◌, Bool, true, false, List, [], ◌∷◌, ◌++◌, length, get_or, set, take, drop, map, refl, sym, ◌∙◌, ap, subst, arith}
+use Rattle.std.proofs.Common.{◌≡◌, ℕ, zero, suc, ◌+◌, ◌-◌, ◌<◌, ◌≤◌, Bool, true, false, List, [], ◌∷◌, ◌++◌, length, get_or, set, take, drop, map, refl, sym, ◌∙◌, ap, subst, arith}
 use Rattle.std.specs.Prelude.{cond, filter, remove}
 use Rattle.std.proofs.lemmas.List.{append-nil, append_assoc, drop_all, drop_more, get_or_at, length-take-le, length-map, set_at, take_all, take_more}
 use Rattle.held_jobs.specs.Books.{job_at}
@@ -28,7 +28,9 @@ left_when ends jobs = filter is_held (map (marked ends) jobs)
 
 -- the same, where only those from a place on have ended yet
 abbrev pub partly : {C : Type 0} → (ℕ → Bool) → List (Job C) → ℕ → List (Job C)
-partly ends jobs i = take i jobs ++ left_when ends (drop i jobs)
+partly ends jobs zero = left_when ends jobs
+partly ends [] (suc i) = []
+partly ends (x ∷ jobs) (suc i) = x ∷ partly ends jobs i
 
 -- each of these jobs may end
 abbrev pub AllMayEnd : {C : Type 0} → State C → Type 0
@@ -47,75 +49,55 @@ EndsFrom ends i s t =
 abbrev pub EndsTo : (ℕ → Bool) → Stock → Stock → Type 0
 EndsTo ends s t = (d : Detail) (v : State (What d)) → AllMayEnd v → IsStockOf d v s → IsStockOf d (with_jobs v (left_when ends v.jobs)) t
 
-remove_at : {X : Type 0} (p : List X) (y : X) (ys : List X) → remove (p ++ y ∷ ys) (length p) ≡ p ++ ys
-remove_at [] y ys = refl
-remove_at {X} (x ∷ p) y ys = ap (λ (l : List X). x ∷ l) (remove_at p y ys)
+cond_cons : {X : Type 0} (b : Bool) (x : X) (xs ys : List X) → cond b (x ∷ xs) (x ∷ ys) ≡ x ∷ cond b xs ys
+cond_cons true x xs ys = refl
+cond_cons false x xs ys = refl
 
-module _ {C : Type 0} (ends : ℕ → Bool) (jobs : List (Job C)) (i : ℕ) (lt : i < length jobs) where
-  abbrev x : Job C
-  x = get_or jobs i no_job
-
-  abbrev first : List (Job C)
-  first = take i jobs
-
-  abbrev rest : List (Job C)
-  rest = left_when ends (drop (i + 1) jobs)
-
-  len : length first ≡ i
-  len = length-take-le i jobs (omega (arith, lt))
+module _ {C : Type 0} (ends : ℕ → Bool) where
+  -- past the last place none has ended yet
+  none_yet : (jobs : List (Job C)) (n : ℕ) → length jobs ≤ n → partly ends jobs n ≡ jobs
+  none_yet [] zero le = refl
+  none_yet [] (suc n) le = refl
+  none_yet (x ∷ jobs) zero le = absurd (omega arith)
+  none_yet (x ∷ jobs) (suc n) le = ap (λ (l : List (Job C)). x ∷ l) (none_yet jobs n (omega arith))
 
   -- the job of the place stands there still
-  split : partly ends jobs (i + 1) ≡ first ++ x ∷ rest
-  split = ap (λ (l : List (Job C)). l ++ rest) (take_more jobs i no_job lt) ∙ append_assoc first (x ∷ []) rest
+  stands : (jobs : List (Job C)) (i : ℕ) → i < length jobs → get_or (partly ends jobs (suc i)) i no_job ≡ get_or jobs i no_job
+  stands [] i lt = absurd (omega arith)
+  stands (x ∷ jobs) zero lt = refl
+  stands (x ∷ jobs) (suc i) lt = stands jobs i (omega arith)
 
-  pub stands : get_or (partly ends jobs (i + 1)) i no_job ≡ x
-  stands = ap (λ (l : List (Job C)). get_or l i no_job) split ∙ get_or_at first x rest no_job i len
-
-  pub many : i < length (partly ends jobs (i + 1))
-  many =
-      let a = ap length split in
-      let b = Rattle.std.proofs.lemmas.List.length-append first (x ∷ rest) in
-      let c = len in
-      omega (arith, a, b, c)
-
-  next : partly ends jobs i ≡ first ++ filter is_held (marked ends x ∷ map (marked ends) (drop (i + 1) jobs))
-  next = ap (λ (l : List (Job C)). first ++ left_when ends l) (drop_more jobs i no_job lt)
+  many : (jobs : List (Job C)) (i : ℕ) → i < length jobs → i < length (partly ends jobs (suc i))
+  many [] i lt = absurd (omega arith)
+  many (x ∷ jobs) zero lt = omega arith
+  many (x ∷ jobs) (suc i) lt = (let m = many jobs i (omega arith) in omega arith)
 
   -- where it isn't chosen nothing changes
-  pub unchosen : is_held x ≡ true → ends x.number ≡ false → partly ends jobs (i + 1) ≡ partly ends jobs i
-  unchosen h e =
-      let same : marked ends x ≡ x = ap (λ (b : Bool). cond b (record x { ended = true }) x) e in
-      split ∙ (ap (λ (l : List (Job C)). first ++ l) (sym (ap (λ (y : Job C). filter is_held (y ∷ map (marked ends) (drop (i + 1) jobs))) same ∙ filter_cons true x (map (marked ends) (drop (i + 1) jobs)) h)) ∙ sym next)
+  unchosen : (jobs : List (Job C)) (i : ℕ) → i < length jobs → is_held (get_or jobs i no_job) ≡ true → ends (get_or jobs i no_job).number ≡ false → partly ends jobs (suc i) ≡ partly ends jobs i
+  unchosen [] i lt h e = absurd (omega arith)
+  unchosen (x ∷ jobs) zero lt h e = rw (e, h) refl
+  unchosen (x ∷ jobs) (suc i) lt h e = ap (λ (l : List (Job C)). x ∷ l) (unchosen jobs i (omega arith) h e)
 
   -- where it is chosen it ends
-  pub chosen : ends x.number ≡ true → end_place (partly ends jobs (i + 1)) i ≡ partly ends jobs i
-  chosen e =
-      ap (λ (l : List (Job C)). end_place l i) split
-      ∙ (ap (λ (y : Job C). cond (is_held (ended_job y)) (set (first ++ x ∷ rest) i (ended_job y)) (remove (first ++ x ∷ rest) i)) (get_or_at first x rest no_job i len)
-      ∙ (by (is_held (ended_job x)) ∙ (ap (λ (l : List (Job C)). first ++ l) (sym (filter_cons (is_held (ended_job x)) (ended_job x) (map (marked ends) (drop (i + 1) jobs)) refl))
-      ∙ sym (next ∙ ap (λ (y : Job C). first ++ filter is_held (y ∷ map (marked ends) (drop (i + 1) jobs))) same))))
-    where
-      same : marked ends x ≡ ended_job x
-      same = ap (λ (b : Bool). cond b (record x { ended = true }) x) e
-
-      by : (b : Bool) → cond b (set (first ++ x ∷ rest) i (ended_job x)) (remove (first ++ x ∷ rest) i) ≡ first ++ cond b (ended_job x ∷ rest) rest
-      by true = set_at first x rest (ended_job x) i len
-      by false = ap (remove (first ++ x ∷ rest)) (sym len) ∙ remove_at first x rest
+  chosen : (jobs : List (Job C)) (i : ℕ) → i < length jobs → ends (get_or jobs i no_job).number ≡ true → end_place (partly ends jobs (suc i)) i ≡ partly ends jobs i
+  chosen [] i lt e = absurd (omega arith)
+  chosen (x ∷ jobs) zero lt e = rw e refl
+  chosen (x ∷ jobs) (suc i) lt e =
+      let left = partly ends jobs (suc i) in
+      let y : Job C = ended_job (get_or left i no_job) in
+      cond_cons (is_held y) x (set left i y) (remove left i) ∙ ap (λ (l : List (Job C)). x ∷ l) (chosen jobs i (omega arith) e)
 
 -- before the first step nothing has ended
 pub ends_none : (ends : ℕ → Bool) (s : Stock) (n : ℕ) → n ≡ length s.book.jobs → EndsFrom ends n s s
 ends_none ends s n e d v all is =
     let le : length v.jobs ≤ n = (let m = len_of d v s is in omega (arith, m, e)) in
-    let jobs : partly ends v.jobs n ≡ v.jobs =
-    ap (λ (l : List (Job (What d))). l ++ left_when ends (drop n v.jobs)) (take_all n v.jobs le)
-    ∙ (ap (λ (l : List (Job (What d))). v.jobs ++ left_when ends l) (drop_all n v.jobs le) ∙ append-nil v.jobs) in
-    subst (λ (l : List (Job (What d))). IsStockOf d (with_jobs v l) s) (sym jobs) is
+    subst (λ (l : List (Job (What d))). IsStockOf d (with_jobs v l) s) (sym (none_yet ends v.jobs n le)) is
 
-module _ (ends : ℕ → Bool) (s t : Stock) (i : ℕ) (e : EndsFrom ends (i + 1) s t) where
+module _ (ends : ℕ → Bool) (s t : Stock) (i : ℕ) (e : EndsFrom ends (suc i) s t) where
   -- the job of the place, among those that are still there
   module _ (d : Detail) (v : State (What d)) (all : AllMayEnd v) (is : IsStockOf d v s) (lt : i < length s.book.jobs) where
     abbrev w : State (What d)
-    w = with_jobs v (partly ends v.jobs (i + 1))
+    w = with_jobs v (partly ends v.jobs (suc i))
 
     lt' : i < length v.jobs
     lt' = (let n = len_of d v s is in omega (arith, n, lt))
@@ -154,8 +136,8 @@ module _ (ends : ℕ → Bool) (s t : Stock) (m : ℕ) (g : Ending ends s t m) w
   ending_done le = (let z : m ≡ 0 = omega arith in subst (λ (i : ℕ). EndsFrom ends i s t) z g.ends_from)
 
   module _ (lt : 0 < m) where
-    from : EndsFrom ends (m - 1 + 1) s t
-    from = (let e : m ≡ m - 1 + 1 = omega arith in subst (λ (i : ℕ). EndsFrom ends i s t) e g.ends_from)
+    from : EndsFrom ends (suc (m - 1)) s t
+    from = (let e : m ≡ suc (m - 1) = omega arith in subst (λ (i : ℕ). EndsFrom ends i s t) e g.ends_from)
 
     less : m - 1 < length s.book.jobs
     less = (let w = g.within in omega (arith, w, lt))
