@@ -58,10 +58,7 @@ pages_kind c = omega arith
 
 -- the printers of each queue are a kind
 pub queue_kind : (c : Config) (q : ℕ) → IsQueue c q → q < length (capacity c)
-queue_kind c q is =
-    let a = is.1 in
-    let b = length-map c.queues (λ (r : Queue). r.printers) in
-    omega arith
+queue_kind c q is = omega (arith, is.1, length-map c.queues (λ (r : Queue). r.printers))
 
 -- and not the first, which are the pages
 pub queue_later : (c : Config) (q : ℕ) → IsQueue c q → 0 < q

@@ -55,12 +55,7 @@ how_many_same t u xs e = ap length (filter_agree t u e xs)
 pub how_many_either : {X : Type 0} (t u : X → Bool) (xs : List X) → ((x : X) → t x ≡ true → u x ≡ false) → how_many (λ (x : X). t x || u x) xs ≡ how_many t xs + how_many u xs
 how_many_either t u [] e = omega arith
 how_many_either {X} t u (x ∷ xs) e =
-    let a = how_many_cons (λ (y : X). t y || u y) x xs in
-    let b = how_many_cons t x xs in
-    let d = how_many_cons u x xs in
-    let ih = how_many_either t u xs e in
-    let here = by (t x) refl in
-    omega arith
+    omega (arith, how_many_cons (λ (y : X). t y || u y) x xs, how_many_cons t x xs, how_many_cons u x xs, how_many_either t u xs e, by (t x) refl)
   where
     by : (b : Bool) → t x ≡ b → one_for (t x || u x) ≡ one_for (t x) + one_for (u x)
     by true is = (let no = e x is in rw (is, no) (omega arith))
@@ -116,10 +111,7 @@ how_many_more t n g gs = ap length (filter-append t (numbered n 0 g.pages) (all_
 none_later : {C : Type 0} (f k n : ℕ) (fs : List (File C)) → f < n → how_many (is_page f k) (all_pages n fs) ≡ 0
 none_later f k n [] lt = refl
 none_later {C} f k n (g ∷ gs) lt =
-    let a = how_many_more (is_page {C = C} f k) n g gs in
-    let first = other_file f k n 0 g.pages (omega arith) in
-    let ih = none_later f k (n + 1) gs (omega arith) in
-    omega arith
+    omega (arith, how_many_more (is_page {C = C} f k) n g gs, other_file f k n 0 g.pages (omega arith), none_later f k (n + 1) gs (omega arith))
 
 -- so of all pages one at most has these numbers
 one_at_most : {C : Type 0} (f k n : ℕ) (fs : List (File C)) → how_many (is_page f k) (all_pages n fs) ≤ 1
@@ -133,10 +125,7 @@ one_at_most {C} f k n (g ∷ gs) =
 
 -- a page of the files stands among them once
 pub page_once : {C : Type 0} (x : Page C) (fs : List (File C)) → Has x (all_pages 0 fs) → how_many (λ (page : Page C). is_same_page page x) (all_pages 0 fs) ≡ 1
-page_once {C} x fs has =
-    let most = one_at_most x.file x.number 0 fs in
-    let some = some_there (λ (page : Page C). is_same_page page x) x (all_pages 0 fs) (same_page x) has in
-    omega arith
+page_once {C} x fs has = omega (arith, one_at_most x.file x.number 0 fs, some_there (λ (page : Page C). is_same_page page x) x (all_pages 0 fs) (same_page x) has)
 
 -- where two are the same page, the same places are theirs
 same_any : {C : Type 0} (page x : Page C) (ps : List (Page C)) → is_same_page page x ≡ true → list_any (is_same_page page) ps ≡ list_any (is_same_page x) ps

@@ -115,10 +115,7 @@ later_leaves c t i x h g pos = same_leaves t i (row_of c x) (row_of c (turned Ha
 pub handed_chain : {C : Type 0} (x : Job C) → Goes x → x.handed ≡ x.back → x.handed < length (places x) → chained_of (turned Handed x) + 1 ≡ chained_of x
 handed_chain {C} x g even lt =
     let y : Job C = turned Handed x in
-    let some = kept_some x (omega arith) in
-    let a = chained_received x g.1 g.0 in
-    let b = chained_received y g.1 g.0 in
-    omega arith
+    omega (arith, kept_some x (omega arith), chained_received x g.1 g.0, chained_received y g.1 g.0)
 
 -- the job is held after that
 pub handed_held : {C : Type 0} (x : Job C) → Goes x → is_held (turned Handed x) ≡ true

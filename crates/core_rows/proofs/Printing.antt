@@ -85,12 +85,7 @@ again_leaves c t i x h o e = same_leaves t i (row_of c x) (row_of c (turned (Pri
 pub again_chain : {C : Type 0} (x : Job C) → IsOut x → again x ≡ true → chained_of (turned (Printed Going) x) ≡ chained_of x + 1
 again_chain {C} x o e =
     let y : Job C = turned (Printed Going) x in
-    let k = again_kept x o e in
-    let some = kept_some x o.within in
-    let one = o.one in
-    let a = chained_received x o.goes.1 o.goes.0 in
-    let b = chained_received y o.goes.1 o.goes.0 in
-    omega arith
+    omega (arith, again_kept x o e, kept_some x o.within, o.one, chained_received x o.goes.1 o.goes.0, chained_received y o.goes.1 o.goes.0)
 
 -- where its page doesn't come again the row that gave a page back is that of the job after
 pub last_row : {C : Type 0} (c : Config) (x : Job C) → IsOut x → again x ≡ false → given_row 0 1 (row_of c x) ≡ row_of c (turned (Printed Going) x)
@@ -102,10 +97,7 @@ last_row {C} c x o e =
 
 -- the row of a job of which a page is out holds a page
 pub out_holds : {C : Type 0} (c : Config) (x : Job C) → IsOut x → 1 ≤ amount (row_of c x).held 0
-out_holds c x o =
-    let some = kept_some x o.within in
-    let h = held_received x o.goes.1 o.goes.0 in
-    omega arith
+out_holds c x o = omega (arith, kept_some x o.within, held_received x o.goes.1 o.goes.0)
 
 -- the table after it gave that back
 pub last_leaves : {C : Type 0} (c : Config) (t : Claims) (i : ℕ) (x : Job C) → Here t i (row_of c x) → IsOut x → again x ≡ false → WithRow t (given_back t i 0 1) i (row_of c (turned (Printed Going) x)) (amount t.free 0 + 1)
@@ -115,11 +107,7 @@ last_leaves c t i x h o e = given_leaves t i 1 (row_of c x) (row_of c (turned (P
 pub last_chain : {C : Type 0} (x : Job C) → IsOut x → again x ≡ false → chained_of (turned (Printed Going) x) ≡ chained_of x
 last_chain {C} x o e =
     let y : Job C = turned (Printed Going) x in
-    let k = last_kept x o e in
-    let one = o.one in
-    let a = chained_received x o.goes.1 o.goes.0 in
-    let b = chained_received y o.goes.1 o.goes.0 in
-    omega arith
+    omega (arith, last_kept x o e, o.one, chained_received x o.goes.1 o.goes.0, chained_received y o.goes.1 o.goes.0)
 
 -- the job is held after that
 pub going_held : {C : Type 0} (x : Job C) → Goes x → is_held (turned (Printed Going) x) ≡ true

@@ -67,12 +67,7 @@ unprinted x y = x.granted - length (pages_kept y)
 
 -- it keeps no more than was lent to it
 pub kept_of_granted : {C : Type 0} (x y : Job C) → Becomes x y → length (pages_kept y) ≤ x.granted
-kept_of_granted x y b =
-    let w = kept_within y in
-    let s = pages_sum y.files in
-    let p = b.pages in
-    let f = b.filed in
-    omega arith
+kept_of_granted x y b = omega (arith, kept_within y, pages_sum y.files, b.pages, b.filed)
 
 -- it goes on, and nothing of it was handed out
 goes_after : {C : Type 0} (x y : Job C) → Becomes x y → (y.ended ≡ false) × (y.handed ≡ 0)
@@ -113,10 +108,5 @@ received_leaves c t i x y h b =
 -- so many pages less are in its chain
 pub received_chain : {C : Type 0} (x y : Job C) → Becomes x y → chained_of y + unprinted x y ≡ chained_of x
 received_chain x y b =
-    let k = kept_of_granted x y b in
     let g = goes_after x y b in
-    let h = g.1 in
-    let a = chained_received y g.0 b.received in
-    let d = chained_receiving x b.receiving in
-    let f = b.filed in
-    omega arith
+    omega (arith, kept_of_granted x y b, g.1, chained_received y g.0 b.received, chained_receiving x b.receiving, b.filed)

@@ -66,11 +66,7 @@ here_held t i row k h = ap (λ (r : Row). amount r.held k) h.is
 
 -- what it holds is not free: given back, it is no more than there is
 pub room_for : (t : Claims) (i : ℕ) (row : Row) (k n : ℕ) → Here t i row → n ≤ amount row.held k → amount t.free k + n ≤ amount t.capacity k
-room_for t i row k n h le =
-    let all = h.table.adds_up k in
-    let one = get_or-le-sum_by (λ (r : Row). amount r.held k) t.rows i no_row h.there in
-    let e = here_held t i row k h in
-    omega arith
+room_for t i row k n h le = omega (arith, h.table.adds_up k, get_or-le-sum_by (λ (r : Row). amount r.held k) t.rows i no_row h.there, here_held t i row k h)
 
 -- the first amount of a list that has one
 set_first : (xs : List ℕ) (n : ℕ) → 0 < length xs → amount (set xs 0 n) 0 ≡ n

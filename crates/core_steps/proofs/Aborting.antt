@@ -77,13 +77,9 @@ module _ (d : Detail) (b : Base) (h : List (Event (What d))) (k : Kept) (l : Lea
   pub aborted_pages : MayAbort j.facts z ticket → pages_held x ≡ chained_of x + count_of ticket
   aborted_pages m =
       let u = unreceived_unhanded (size d) k.config b h x l.legal has (unreceived (to m)) in
-      let u0 = u.0 in
-      let u1 = u.1 in
-      let held = held_counts (size d) k.config b h x l.legal has in
-      let c = lent_count j.facts.lent z ticket m.1 in
       let one : Bool → ℕ = (λ o. cond o 1 0) in
       let same : one x.lent ≡ one j.facts.lent = ap one (sym (ap (λ (g : Facts). g.lent) ft)) in
-      omega (arith, u0, u1, held, c, same)
+      omega (arith, u.0, u.1, held_counts (size d) k.config b h x l.legal has, lent_count j.facts.lent z ticket m.1, same)
 
   pub abort_done : (n : ℕ) → MayAbort j.facts z ticket → n ≡ chained_of x → Aborts d b h k job ticket (aborted_core k i n ticket) (Ok tt)
   abort_done n m en =

@@ -76,11 +76,7 @@ module _ (d : Detail) (b : Base) (h : List (Event (What d))) (k : Kept) (l : Lea
 
       -- the row of the job needs a page
       pub row_needs : 0 < amount (row_at k.table.rows i).need 0
-      row_needs =
-          let n = need_here k.config x r in
-          let e = ap (λ (row : Row). amount row.need 0) (row_here k.table v i l.kept.table s.there) in
-          let u = limited lt in
-          omega (arith, n, e, u)
+      row_needs = omega (arith, need_here k.config x r, ap (λ (row : Row). amount row.need 0) (row_here k.table v i l.kept.table s.there), limited lt)
 
   kind : 0 < length k.table.capacity
   kind = (let e = ap length l.kept.table.capacity in omega (arith, e))

@@ -167,11 +167,9 @@ module _ (d : Detail) (b : Base) (h : List (Event (What d))) (k : Kept) (l : Lea
     -- and it holds one more
     pub out_held : pages_held x ≡ chained_of x + 1
     out_held =
-        let c = held_counts (size d) k.config b h x l.legal has in
         let count : Bool → ℕ = (λ q. cond q 1 0) in
         let u : count x.lent ≡ 0 = ap count unlent in
-        let e = of.handed in
-        omega (arith, c, u, e)
+        omega (arith, held_counts (size d) k.config b h x l.legal has, u, of.handed)
 
     -- a printer has a page
     one_out : 0 < Rattle.spool_laws.specs.Sums.at_printers v
@@ -184,24 +182,14 @@ module _ (d : Detail) (b : Base) (h : List (Event (What d))) (k : Kept) (l : Lea
 
     -- there is room in the book for it
     pub room_stored : k.book.stored < k.book.pages
-    room_stored =
-        let all = each_has_a_place (size d) k.config b h l.legal in
-        let one = one_out in
-        let n = l.kept.book.stored in
-        let m = l.kept.book.pages in
-        omega (arith, all, one, n, m)
+    room_stored = omega (arith, each_has_a_place (size d) k.config b h l.legal, one_out, l.kept.book.stored, l.kept.book.pages)
 
     -- and in the pool, with those of its chain
     pub room_free : k.pool.free + length (every_page j.chain.files) + 1 ≤ k.pool.pages
     room_free =
-        let all = each_has_a_place (size d) k.config b h l.legal in
-        let one = one_out in
-        let within = one_stored d b h k i l s.there in
-        let c = out_chain in
-        let e = l.kept.book.stored in
         let n : k.pool.free ≡ N.free_pages v = ap (λ (q : Pages). q.free) l.kept.pool in
         let m : k.pool.pages ≡ k.config.pages = ap (λ (q : Pages). q.pages) l.kept.pool in
-        omega (arith, all, one, within, c, e, n, m)
+        omega (arith, each_has_a_place (size d) k.config b h l.legal, one_out, one_stored d b h k i l s.there, out_chain, l.kept.book.stored, n, m)
 
     pub back_few : IsConfig k.config → j.facts.back + 1 < 2 ^ 64
     back_few ranges = (let n = handed_few d b h k x ranges l has in let e = ap (λ (g : Facts). g.back) ft in let m = of.handed in omega (arith, n, e, m))
@@ -238,9 +226,8 @@ module _ (d : Detail) (b : Base) (h : List (Event (What d))) (k : Kept) (l : Lea
 
     pub back_held : said_of j ≡ Going → 1 ≤ amount (row_at k.table.rows i).held 0
     back_held e =
-        let n = out_holds k.config x (is_out_of (queue_of k.config p) o.sheet x of (goes_on e)) in
         let m : amount (row_at k.table.rows i).held 0 ≡ amount (row_of k.config x).held 0 = ap (λ (row : Row). amount row.held 0) (row_here k.table v i l.kept.table s.there) in
-        omega (arith, n, m)
+        omega (arith, out_holds k.config x (is_out_of (queue_of k.config p) o.sheet x of (goes_on e)), m)
 
     -- where it leaves the core
 

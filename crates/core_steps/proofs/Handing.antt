@@ -87,11 +87,7 @@ pub record Waits (k : Kept) (at : Printer) : Type 0 where
 pub handed_few : (d : Detail) (b : Base) (h : List (Event (What d))) (k : Kept) (x : Job (What d)) → IsConfig k.config → Leaves d b h k → Has x (left_by d b h k).jobs → x.handed + 1 < 2 ^ 64
 handed_few d b h k x ranges l has =
     let s = job_sound (size d) k.config b h x l.legal has in
-    let a = s.handed in
-    let m = s.many in
-    let g = granted_within (size d) k.config b h x l.legal has in
-    let w = limit_within k.config x.queue ranges in
-    omega (arith, a, m, g, w)
+    omega (arith, s.handed, s.many, granted_within (size d) k.config b h x l.legal has, limit_within k.config x.queue ranges)
 
 module _ (d : Detail) (b : Base) (h : List (Event (What d))) (k : Kept) (l : Leaves d b h k) (p : ℕ) (ip : IsPrinter k.config p) (at : Printer) (ia : at ≡ get_or k.printers (p - 1) at) where
   abbrev v : State (What d)
@@ -183,11 +179,7 @@ module _ (d : Detail) (b : Base) (h : List (Event (What d))) (k : Kept) (l : Lea
       queue_same = ap (λ (g : Facts). g.queue) facts'
 
       pub kind_there : j.facts.queue < length k.table.capacity
-      kind_there =
-          let n = queue_kind k.config x.queue ts.queue in
-          let e = ap length l.kept.table.capacity in
-          let s = queue_same in
-          omega (arith, n, e, s)
+      kind_there = omega (arith, queue_kind k.config x.queue ts.queue, ap length l.kept.table.capacity, queue_same)
 
       pub need_here : j.facts.handed ≡ 0 → 0 < amount (row_at k.table.rows i).need j.facts.queue
       need_here z =

@@ -206,11 +206,7 @@ every_counted d b h k i l lt =
 pub held_room : (d : Detail) (b : Base) (h : List (Event (What d))) (k : Kept) (i : ℕ) → Leaves d b h k → i < length (left_by d b h k).jobs → k.pool.free + pages_held (job_of d b h k i) ≤ k.pool.pages
 held_room d b h k i l lt =
     let w = closed_free d b h k i l lt in
-    let all = w.table.adds_up 0 in
-    let free = w.free in
-    let cap = ap (λ (m : List ℕ). amount m 0) (w.capacity ∙ l.kept.table.capacity) in
-    let p = ap (λ (p : Pages). p.pages) l.kept.pool in
-    omega (arith, all, free, cap, p)
+    omega (arith, w.table.adds_up 0, w.free, ap (λ (m : List ℕ). amount m 0) (w.capacity ∙ l.kept.table.capacity), ap (λ (p : Pages). p.pages) l.kept.pool)
 
 -- the queue that a call names
 pub is_queue_named : (c : Config) (name : List ℕ) (q : ℕ) → queue_named c name ≡ q → IsQueue c q → IsQueue c (queue_named c name)

@@ -44,9 +44,7 @@ numbers {C} size c b h x l has =
     subst (λ (v : Job C). v.number ≤ (now c b h).accepted) (sym k.is) m
 
 amounts_len : (c : Config) (p q n : ℕ) → length (amounts c p q n) ≡ suc (length c.queues)
-amounts_len c p q n =
-    let a = length_up_to (λ (r : ℕ). cond (r == q) n 0) (length c.queues) in
-    omega (arith, a)
+amounts_len c p q n = omega (arith, length_up_to (λ (r : ℕ). cond (r == q) n 0) (length c.queues))
 
 -- a row that holds nothing
 
@@ -93,10 +91,8 @@ module _ (d : Detail) (b : Base) (h : List (Event (What d))) (k : Kept) (l : Lea
       let n = rows_len k.table v l.kept.table in
       let there : i < length v.jobs = omega (arith, n, lt) in
       let is : get_or k.table.rows i d' ≡ row_of k.config (get_or v.jobs i no_job) = ap (λ (r : List Row). get_or r i d') l.kept.table.rows ∙ get_or-map (row_of k.config) v.jobs i no_job d' there in
-      let m = numbers (size d) k.config b h (get_or v.jobs i no_job) l.legal (has_get v.jobs i no_job there) in
-      let a = l.kept.accepted in
       let e : (get_or k.table.rows i d').number ≡ (get_or v.jobs i no_job).number = ap (λ (r : Row). r.number) is in
-      omega (arith, m, a, e)
+      omega (arith, numbers (size d) k.config b h (get_or v.jobs i no_job) l.legal (has_get v.jobs i no_job there), l.kept.accepted, e)
 
   -- a claim has as many kinds as the table
   pub kinds : (queue : ℕ) (need : List ℕ) → need ≡ amounts k.config (limit_of k.config queue) queue 1 → length need ≡ length k.table.capacity
@@ -175,8 +171,7 @@ claim_fits c q ranges (suc n) = elim (cases_lt n (length c.queues)) [
       omega (arith, a, e, p)
   | inr ge ↦
       let m = length_up_to {P = ℕ} (λ (r : ℕ). cond (r == q) 1 0) (length c.queues) in
-      let z = get_or_past (map {A = ℕ} {B = ℕ} (λ (r : ℕ). cond (r == q) 1 0) (up_to (length c.queues))) n 0 (omega (arith, m, ge)) in
-      omega (arith, z)
+      omega (arith, get_or_past (map {A = ℕ} {B = ℕ} (λ (r : ℕ). cond (r == q) 1 0) (up_to (length c.queues))) n 0 (omega (arith, m, ge)))
 ]
 
 module _ (d : Detail) (b : Base) (h : List (Event (What d))) (k : Kept) (l : Leaves d b h k) where
@@ -194,8 +189,4 @@ module _ (d : Detail) (b : Base) (h : List (Event (What d))) (k : Kept) (l : Lea
 
   -- there is a row for one more job, where there is room for a job
   pub row_room : length k.book.jobs < k.config.max_jobs → length k.table.rows < k.table.room
-  row_room few =
-      let n = jobs_len d b h k l in
-      let r = rows_len k.table (left_by d b h k) l.kept.table in
-      let m = l.kept.table.room in
-      omega (arith, few, n, r, m)
+  row_room few = omega (arith, few, jobs_len d b h k l, rows_len k.table (left_by d b h k) l.kept.table, l.kept.table.room)

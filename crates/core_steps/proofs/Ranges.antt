@@ -31,8 +31,7 @@ pub some_counted : {X : Type 0} (p : X → Bool) (xs : List X) (i : ℕ) (d : X)
 some_counted {X} p xs i d lt e =
     let one : Bool → ℕ = λ b. cond b 1 0 in
     let n : one (p (get_or xs i d)) ≡ 1 = ap one e in
-    let m = get_or-le-sum_by (λ (x : X). one (p x)) xs i d lt in
-    omega (arith, n, m)
+    omega (arith, n, get_or-le-sum_by (λ (x : X). one (p x)) xs i d lt)
 
 -- where a page is lent there is room for it among those that are stored
 pub stored_room : (d : Detail) (b : Base) (h : List (Event (What d))) (k : Kept) → Leaves d b h k → (i : ℕ) → i < length k.book.jobs → (job_of d b h k i).lent ≡ true → k.book.stored < k.book.pages

@@ -202,10 +202,7 @@ module _ (d : Detail) (v : State (What d)) (s : Stock) (is : IsStockOf d v s) (i
 
   -- they are among those that are stored
   pub within : chained_of x ≤ s.book.stored
-  within =
-      let e = is.book.stored in
-      let g = get_or-le-sum_by (λ (q : Job (What d)). chained_of q) v.jobs i no_job lt in
-      omega (arith, e, g)
+  within = omega (arith, is.book.stored, get_or-le-sum_by (λ (q : Job (What d)). chained_of q) v.jobs i no_job lt)
 
   pub can_end : MayEnd v.config x → CanEnd s i
   can_end m =

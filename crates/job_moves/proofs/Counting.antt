@@ -74,8 +74,7 @@ count_by {C} f t numbers all n m x y false nm e at a keeps =
     let c : length (filter t (A.numbered m 0 y.pages)) ≡ 0 =
     count_none t m 0 y.pages (λ k page. keeps (record { file = m; number = k; page = page }) ∙ none_there (passes (len_in all) numbers) (record { file = m; number = k }) none) in
     let d : length (filter t (A.numbered n 0 y.pages)) ≡ 0 = ap (λ (i : ℕ). length (filter t (A.numbered i 0 y.pages))) nm ∙ c in
-    let g = all_there f x.pages y.pages (whole_pages f x y a) in
-    omega (arith, d, g)
+    omega (arith, d, all_there f x.pages y.pages (whole_pages f x y a))
 
 -- of all files, where the first has the number m
 counted : {C : Type 0} (f : Page → C) (t : A.Page C → Bool) (numbers : List ℕ) (all : List F.File) (n m : ℕ) {xs : List F.File} {ys : List (A.File C)} → AreWhole f xs ys → n ≡ m → RestAt all m xs → Keeps t (len_in all) numbers

@@ -209,10 +209,7 @@ ties_back {C} f c j v g e none t =
 
 -- a page comes again only while places are left
 pub again_within : {C : Type 0} (f : Page → C) (c : Config) (j : HeldJob) (v : Job C) → comes_again j.chain.places j.chain.last ≡ true → Prints f c j v → v.handed < length (places v)
-again_within {C} f c j v again a =
-    let l = length-spots v in
-    let lt = within j.chain.last (ap (λ (x : List Place). comes_again x j.chain.last) (sym a.places) ∙ again) in
-    omega (arith, l, lt)
+again_within {C} f c j v again a = omega (arith, length-spots v, within j.chain.last (ap (λ (x : List Place). comes_again x j.chain.last) (sym a.places) ∙ again))
   where
     within : (o : Option Place) → comes_again (drop v.handed (spots v)) o ≡ true → v.handed < length (spots v)
     within None e = absurd cc

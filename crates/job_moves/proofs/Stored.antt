@@ -37,10 +37,7 @@ use Rattle.std.proofs.lemmas.List.{drop-map}
 stored_whole : {C : Type 0} (f : Page → C) {xs : List F.File} {ys : List (A.File C)} → AreWhole f xs ys → length (every_page xs) ≡ pages_in ys
 stored_whole f no_files = refl
 stored_whole f (one_more x y {xs} {ys} e w) =
-    let one = all_there f x.pages y.pages (whole_pages f x y e) in
-    let ih = stored_whole f w in
-    let l = length-append (there x.pages) (every_page xs) in
-    omega (arith, one, ih, l)
+    omega (arith, all_there f x.pages y.pages (whole_pages f x y e), stored_whole f w, length-append (there x.pages) (every_page xs))
 
 -- once it is received: those that are there
 
@@ -145,9 +142,7 @@ stored_odd {C} v e lt =
     ∙ ap (λ (b : Bool). b || list_any (is_same_place (place_of page)) (drop (v.back + 1) (spots v))) h) in
     let is : (page : A.Page C) → u page ≡ (t page && not (m page)) =
     λ page. there_odd (spots v) v.handed v.back p (place_of page) e at.spot ∙ ap (λ (b : Bool). b && not (m page)) (sym (kept_test v page)) in
-    let one = page_once at.page v.files (places_there at.page v.files (prints_in v.control) at.has) in
-    let all = less_by t m u (all_pages 0 v.files) up is in
-    omega (arith, all, one)
+    omega (arith, less_by t m u (all_pages 0 v.files) up is, page_once at.page v.files (places_there at.page v.files (prints_in v.control) at.has))
 
 -- phase by phase
 stored_by : {C : Type 0} (f : Page → C) (c : Config) (j : HeldJob) (v : Job C) (e r : Bool) → v.ended ≡ e → is_received v ≡ r → v.back ≤ v.handed → v.handed ≤ v.back + 1 → v.handed ≤ length (places v) → Ties f c j v
@@ -165,8 +160,7 @@ stored_by {C} f c j v false true ee er le one within t =
       | inl even ↦ let n = stored_even v even in omega (arith, here, n, even)
       | inr odd ↦
           let out : v.handed ≡ v.back + 1 = omega (arith, odd, le, one) in
-          let n = stored_odd v out (omega (arith, out, within)) in
-          omega (arith, here, n, out)
+          omega (arith, here, stored_odd v out (omega (arith, out, within)), out)
     ]
 
 -- of each job the chain has as many pages as the history says
