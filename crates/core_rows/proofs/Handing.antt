@@ -87,8 +87,7 @@ first_row {C} c x is g h =
     let y : Job C = turned Handed x in
     let held : set (amounts c p q 0) q (amount (amounts c p q 0) q + 1) ≡ amounts c p q 1 = ap (λ (n : ℕ). set (amounts c p q 0) q (n + 1)) (kind_of c p q 0 is) ∙ set_kind c p q 0 1 is in
     let need : set (amounts c 0 q 1) q (amount (amounts c 0 q 1) q - 1) ≡ amounts c 0 q 0 = ap (λ (n : ℕ). set (amounts c 0 q 1) q (n - 1)) (kind_of c 0 q 1 is) ∙ set_kind c 0 q 1 0 is in
-    let e = g.1 in
-    ap (granted_row q) (row_goes c x 0 1 g (rw h refl) (rw (e, h) refl))
+    ap (granted_row q) (row_goes c x 0 1 g (rw h refl) (rw (g.1, h) refl))
     ∙ (ap (λ (l : List ℕ). row_with l (set (amounts c 0 q 1) q (amount (amounts c 0 q 1) q - 1)) (row_with_amounts c x p 0 0 1)) held
     ∙ (ap (λ (l : List ℕ). row_with (amounts c p q 1) l (row_with_amounts c x p 0 0 1)) need ∙ sym (row_begun c y g (one_more x.handed))))
 
@@ -169,9 +168,8 @@ printer_free {C} size c b h t p i sheet l table ip next s none =
     let rows : map (row_of c) (now c b (e ∷ h)).jobs ≡ set (map (row_of c) v.jobs) i (row_of c y) = ap (map (row_of c)) jobs ∙ map-set (row_of c) v.jobs i y in
     let held : held_of q (map (row_of c) (now c b (e ∷ h)).jobs) ≡ held_of q (set (map (row_of c) v.jobs) i (row_of c y)) = ap (held_of q) rows in
     let lm = length-map v.jobs (row_of c) in
-    let there = s.there in
     let one = sum_by-set (λ (r : Row). amount r.held q) (map (row_of c) v.jobs) i (row_of c y) no_row (omega arith) in
-    let at : get_or (map (row_of c) v.jobs) i no_row ≡ row_of c x = get_or-map (row_of c) v.jobs i no_job no_row there in
+    let at : get_or (map (row_of c) v.jobs) i no_row ≡ row_of c x = get_or-map (row_of c) v.jobs i no_job no_row s.there in
     let at' : amount (get_or (map (row_of c) v.jobs) i no_row).held q ≡ amount (row_of c x).held q = ap (λ (r : Row). amount r.held q) at in
     let a0 = printer_unheld c x k.queue none in
     let a1 = printer_held c x k.queue in

@@ -78,11 +78,8 @@ put_chain {C} file number page P x r o =
     let y : Job C = acted (Put file number page) x in
     let pages : List (File C) → ℕ = sum_by (λ (g : File C). length g.pages) in
     let a = chained_receiving y (put_receiving file number page P x r o) ∙ ap pages (ap (at_last (with_page page)) o.2 ∙ last_push (with_page page) o.0 o.1) in
-    let b = chained_receiving x r ∙ ap pages o.2 in
     let na = sum_by_push (λ (g : File C). length g.pages) o.0 (with_page page o.1) in
-    let nb = sum_by_push (λ (g : File C). length g.pages) o.0 o.1 in
-    let p = length_push o.1.pages page in
-    omega (arith, a, b, na, nb, p)
+    omega (arith, a, chained_receiving x r ∙ ap pages o.2, na, sum_by_push (λ (g : File C). length g.pages) o.0 o.1, length_push o.1.pages page)
 
 -- where the files have as many pages, the chain is as it was
 chain_same : {C : Type 0} (x y : Job C) → IsReceiving x → IsReceiving y → pages_in y.files ≡ pages_in x.files → chained_of y ≡ chained_of x

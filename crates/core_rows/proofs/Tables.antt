@@ -142,11 +142,10 @@ pub record WithoutRow (t u : Claims) (i pages : ℕ) : Type 0 where
 pub closed_drops : (t : Claims) (i : ℕ) (row : Row) → Here t i row → WithoutRow t (closed t i) i (amount t.free 0 + amount row.held 0)
 closed_drops t i row h =
     let k = row_kinds t i h.table h.there in
-    let s = h.table.same_kinds in
     record {
       table = close_table t i h.table h.there;
       rows = refl;
       capacity = refl;
       room = refl;
-      free = amount-sum_of t.free (row_at t.rows i).held 0 (k.0 ∙ sym s) ∙ ap (λ (r : Row). amount t.free 0 + amount r.held 0) h.is;
+      free = amount-sum_of t.free (row_at t.rows i).held 0 (k.0 ∙ sym h.table.same_kinds) ∙ ap (λ (r : Row). amount t.free 0 + amount r.held 0) h.is;
     }

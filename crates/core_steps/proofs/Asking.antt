@@ -85,10 +85,9 @@ module _ (d : Detail) (b : Base) (h : List (Event (What d))) (k : Kept) (l : Lea
   with_row : IsReceiving x → 0 < amount k.table.free 0 → WithRow k.table (granted k.table i 0) i (row_of k.config (acted Granted x)) (k.pool.free - 1)
   with_row r free =
       let n = rows_len k.table v l.kept.table in
-      let there = s.there in
       let some : 0 < length k.table.free = (let e = l.kept.table.table.same_kinds in let n = kind in omega (arith, e, n)) in
       record {
-        table = granted_table k.table i 0 l.kept.table.table (omega (arith, n, there)) kind free;
+        table = granted_table k.table i 0 l.kept.table.table (omega (arith, n, s.there)) kind free;
         rows = ap (λ (row : Row). set k.table.rows i (granted_row 0 row)) (row_here k.table v i l.kept.table s.there) ∙ ap (set k.table.rows i) (row_granted k.config x r);
         capacity = refl;
         room = refl;
@@ -110,8 +109,7 @@ module _ (d : Detail) (b : Base) (h : List (Event (What d))) (k : Kept) (l : Lea
 
   grants : IsReceiving x → 0 < amount k.table.free 0 → IsSafe (granted k.table i 0) → MayGrant v job
   grants r free safe =
-      let e = table_free k.table v l.kept.table 0 in
-      (omega (arith, e, free), table_safe (granted k.table i 0) (after (OfJob job Granted) v) (of r free) safe)
+      (omega (arith, table_free k.table v l.kept.table 0, free), table_safe (granted k.table i 0) (after (OfJob job Granted) v) (of r free) safe)
 
   leaves : MayAsk j → j.facts.granted < limit_of k.config j.facts.queue → 0 < amount k.table.free 0 → IsSafe (granted k.table i 0) → Leaves d b (OfJob job Granted ∷ h) (lent_core k i)
   leaves m lt free safe =

@@ -136,8 +136,7 @@ module _ (d : Detail) (b : Base) (h : List (Event (What d))) (k : Kept) (l : Lea
   job_there i none =
       let o = out_sheet i in
       let P : Job (What d) → Type 0 = OutOf (queue_of k.config p) o.sheet in
-      let m = out_job (size d) k.config b h p o.sheet l.legal ip o.is.0 in
-      none_has d b h k page.job P l none (subst (λ (n : ℕ). HasJob v.jobs n P) (sym o.is.1) m)
+      none_has d b h k page.job P l none (subst (λ (n : ℕ). HasJob v.jobs n P) (sym o.is.1) (out_job (size d) k.config b h p o.sheet l.legal ip o.is.0))
 
   -- the printer that its page left
   pub printer_back : (sheet : Sheet (What d)) (progress : E.Progress) → set k.printers (p - 1) (idle_printer at) ≡ map (kept_printer d) (printers_after (AtPrinter p sheet (Printed progress)) v)
@@ -174,11 +173,10 @@ module _ (d : Detail) (b : Base) (h : List (Event (What d))) (k : Kept) (l : Lea
     -- a printer has a page
     one_out : 0 < Rattle.spool_laws.specs.Sums.at_printers v
     one_out =
-        let n = printer_there d b h k l p ip in
         let m = printers_many d b h k l in
         let e : is_some (get_or v.printers (p - 1) no_printer).out ≡ true =
         ap (λ (q : N.Printer (What d)). is_some q.out) (sym (behind v.printers no_printer p ip.0)) ∙ ap (λ (q : Option (Sheet (What d))). is_some q) o.is.0 in
-        some_counted (λ (q : N.Printer (What d)). is_some q.out) v.printers (p - 1) no_printer (omega (arith, n, m)) e
+        some_counted (λ (q : N.Printer (What d)). is_some q.out) v.printers (p - 1) no_printer (omega (arith, printer_there d b h k l p ip, m)) e
 
     -- there is room in the book for it
     pub room_stored : k.book.stored < k.book.pages
@@ -292,9 +290,8 @@ module _ (d : Detail) (b : Base) (h : List (Event (What d))) (k : Kept) (l : Lea
         let e : Event (What d) = AtPrinter p o.sheet turn in
         let n : ℕ = length (every_page j.chain.files) in
         let c = out_chain in
-        let held = out_held in
         let within = one_stored d b h k i l s.there in
-        let free : k.pool.free + pages_held x ≡ k.pool.free + n + 1 = omega (arith, c, held) in
+        let free : k.pool.free + pages_held x ≡ k.pool.free + n + 1 = omega (arith, c, out_held) in
         leaves_out d b h k e i (k.book.stored - n) (k.pool.free + n + 1) (closed k.table i) printers l m
         (turn_gone (size d) k.config b h i p o.sheet turn l.legal s gone) s.there refl refl
         (omega (arith, within, c)) (subst (λ (q : ℕ). WithoutRow k.table (closed k.table i) i q) free (closed_free d b h k i l s.there)) ps

@@ -61,9 +61,7 @@ pub rotate_done : (d : Detail) (b : Base) (h : List (Event (What d))) (k : Kept)
 rotate_done d b h k l none =
     let c = k.config in
     let v = left_by d b h k in
-    let n = jobs_len d b h k l in
-    let z = ap length none in
-    let jobs : v.jobs ≡ [] = nil_from_length v.jobs (omega (arith, n, z)) in
+    let jobs : v.jobs ≡ [] = nil_from_length v.jobs (omega (arith, jobs_len d b h k l, ap length none)) in
     let same : now c (rotated v) [] ≡ recounted v = keeps (size d) c b h l.legal jobs in
     let is = l.kept in
     let of = stock_of_other d v (recounted v) (stock_of k) (stock_left d b h k l) in

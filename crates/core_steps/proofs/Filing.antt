@@ -165,12 +165,11 @@ module _ (d : Detail) (b : Base) (h : List (Event (What d))) (k : Kept) (l : Lea
     awaits_if : (file number : ℕ) → Takes z len file number x → Awaits j len z
     awaits_if file number m =
         let n = m.2.5 in
-        let some = n.1 in
         let left : (last_size j.facts.files).left ≡ m.2.1.count - number * z = ap (λ (g : DataFile). g.left) (left_of m.2.0 m.2.1 m.2.2) ∙ ap (λ (q : ℕ). m.2.1.count - q * z) n.0 in (
           phase_tie (look d) k.config j x t ∙ phase_receiving x m.0,
           ap (λ (g : Facts). g.lent) ft ∙ m.1,
           open_tie (look d) k.config j x t m.0 ∙ (ap is_open_in m.2.2 ∙ open_last' m.2.0 m.2.1 m.2.4),
-          omega (arith, left, some),
+          omega (arith, left, n.1),
           n.2 ∙ ap (min z) (sym left),
         )
 
@@ -197,8 +196,7 @@ module _ (d : Detail) (b : Base) (h : List (Event (What d))) (k : Kept) (l : Lea
       takes : Takes z len (length o.before) (length o.last.pages) x
       takes =
           let left = ap (λ (g : DataFile). g.left) last in
-          let some = a.3 in
-          (r, lent, (o.before, o.last, o.is, refl, o.open', (refl, omega (arith, left, some), a.4 ∙ ap (min z) left)))
+          (r, lent, (o.before, o.last, o.is, refl, o.open', (refl, omega (arith, left, a.3), a.4 ∙ ap (min z) left)))
 
       pub put_done : page.page_size ≡ z → Puts d b h k job page (record k { book = record (with_job k.book i (put_job page j)) { stored = k.book.stored + 1 } }) (Ok tt)
       put_done same =
@@ -227,20 +225,16 @@ module _ (d : Detail) (b : Base) (h : List (Event (What d))) (k : Kept) (l : Lea
     pub can_put : IsConfig k.config → Awaits j len z → CanPut
     can_put ranges a =
         let g = o a in
-        let pages = ap (λ (g : DataFile). g.pages) (last a) in
         let q : file_pages x ≡ sum_by (λ (g : File (What d)). length g.pages) g.before + length g.last.pages = ap (sum_by (λ (g : File (What d)). length g.pages)) g.is ∙ sum_by_push (λ (g : File (What d)). length g.pages) g.before g.last in
-        let granted = granted_counts (size d) k.config b h x l.legal has (r a).0 in
         let count : Bool → ℕ = (λ b. cond b 1 0) in
         let one : count x.lent ≡ 1 = ap count (lent a) in
         let m = granted_within (size d) k.config b h x l.legal has in
         let within = limit_within k.config x.queue ranges in
-        let many = files_many in
         let some = ap length g.is ∙ length_push g.before g.last in
-        let much = a.4 in
         record {
           opened = a.2;
-          some = omega (arith, many, some);
-          fits = omega (arith, much);
-          few = omega (arith, pages, q, granted, one, m, within);
+          some = omega (arith, files_many, some);
+          fits = omega (arith, a.4);
+          few = omega (arith, ap (λ (g : DataFile). g.pages) (last a), q, granted_counts (size d) k.config b h x l.legal has (r a).0, one, m, within);
           room = stored_room d b h k l i f.there (lent a);
         }

@@ -131,9 +131,7 @@ module _ (d : Detail) (b : Base) (h : List (Event (What d))) (k : Kept) (l : Lea
         let none : drop x.handed (spots x) ≡ [] = none_left (drop x.handed (spots x)) (ap (λ (l : List Place). slice_get l 0) (sym spots_left) ∙ e) in
         let gone : drop x.handed (places x) ≡ [] = elim (cases_lt x.handed (length (places x))) [
           | inl lt ↦
-              let s = (place_at x x.handed lt).spots_left in
-              let n = ap length (sym s ∙ none) in
-              absurd (omega (arith, n))
+              absurd (omega (arith, ap length (sym ((place_at x x.handed lt).spots_left) ∙ none)))
           | inr le ↦ drop_all x.handed (places x) le
         ] in
         (turn w (Some i) t ∙ ap (hand_first x.number x.handed) gone, refl)
@@ -141,11 +139,8 @@ module _ (d : Detail) (b : Base) (h : List (Event (What d))) (k : Kept) (l : Lea
     module _ (place : Place) (first : slice_get j.chain.places 0 ≡ Some place) where
       some : x.handed < length (places x)
       some =
-          let n = (first_left j.chain.places place no_place first).0 in
-          let m = ap length spots_left in
-          let o = length-spots x in
           let r = Rattle.std.proofs.Common.length-drop x.handed (spots x) in
-          omega (arith, n, m, o, r)
+          omega (arith, (first_left j.chain.places place no_place first).0, ap length spots_left, length-spots x, r)
 
       stands' : Stands v.jobs i x.number
       stands' = record { there = ts.there; number' = refl }

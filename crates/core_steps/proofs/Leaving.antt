@@ -133,9 +133,8 @@ pub none_has : (d : Detail) (b : Base) (h : List (Event (What d))) (k : Kept) (n
 none_has d b h k number P l a m =
     let jobs = (left_by d b h k).jobs in
     let i = m.there.0 in
-    let n = jobs_len d b h k l in
     let there : i < length jobs = m.there.1 in
-    let lt : i < length k.book.jobs = omega (arith, n, there) in
+    let lt : i < length k.book.jobs = omega (arith, jobs_len d b h k l, there) in
     let at : get_or jobs i no_job ≡ m.job = get_or_default jobs i no_job m.job there ∙ m.there.2 in
     a i J.no_job lt (ap (λ (j : ShownJob (What d)). j.facts.number) (tie d b h k i l lt) ∙ (ap (λ (x : Job (What d)). x.number) at ∙ m.number))
 
@@ -186,9 +185,8 @@ pub closed_free : (d : Detail) (b : Base) (h : List (Event (What d))) (k : Kept)
 closed_free d b h k i l lt =
     let x = job_of d b h k i in
     let w = closed_drops k.table i (row_of k.config x) (row_stands d b h k i l lt) in
-    let same = pool_even d b h k l in
     let held = held_in_row k.config x in
-    let e : amount k.table.free 0 + amount (row_of k.config x).held 0 ≡ k.pool.free + pages_held x = omega (arith, same, held) in
+    let e : amount k.table.free 0 + amount (row_of k.config x).held 0 ≡ k.pool.free + pages_held x = omega (arith, pool_even d b h k l, held) in
     subst (λ (m : ℕ). WithoutRow k.table (closed k.table i) i m) e w
 
 -- the pages of one job are among those that are stored

@@ -40,8 +40,7 @@ pub numbers : {C : Type 0} (size : C → ℕ) (c : Config) (b : Base) (h : List 
 numbers {C} size c b h x l has =
     let k = known c b h x has in
     let n = (facts size c b h l).numbers k.opening k.there in
-    let m = n.1 in
-    subst (λ (v : Job C). v.number ≤ (now c b h).accepted) (sym k.is) m
+    subst (λ (v : Job C). v.number ≤ (now c b h).accepted) (sym k.is) n.1
 
 amounts_len : (c : Config) (p q n : ℕ) → length (amounts c p q n) ≡ suc (length c.queues)
 amounts_len c p q n = omega (arith, length_up_to (λ (r : ℕ). cond (r == q) n 0) (length c.queues))
@@ -88,8 +87,7 @@ module _ (d : Detail) (b : Base) (h : List (Event (What d))) (k : Kept) (l : Lea
   pub greater : All (λ (r : Row). r.number < k.accepted + 1) k.table.rows
   greater i d' lt =
       let v = left_by d b h k in
-      let n = rows_len k.table v l.kept.table in
-      let there : i < length v.jobs = omega (arith, n, lt) in
+      let there : i < length v.jobs = omega (arith, rows_len k.table v l.kept.table, lt) in
       let is : get_or k.table.rows i d' ≡ row_of k.config (get_or v.jobs i no_job) = ap (λ (r : List Row). get_or r i d') l.kept.table.rows ∙ get_or-map (row_of k.config) v.jobs i no_job d' there in
       let e : (get_or k.table.rows i d').number ≡ (get_or v.jobs i no_job).number = ap (λ (r : Row). r.number) is in
       omega (arith, numbers (size d) k.config b h (get_or v.jobs i no_job) l.legal (has_get v.jobs i no_job there), l.kept.accepted, e)
@@ -98,9 +96,7 @@ module _ (d : Detail) (b : Base) (h : List (Event (What d))) (k : Kept) (l : Lea
   pub kinds : (queue : ℕ) (need : List ℕ) → need ≡ amounts k.config (limit_of k.config queue) queue 1 → length need ≡ length k.table.capacity
   kinds queue need e =
       let a = ap length e ∙ amounts_len k.config (limit_of k.config queue) queue 1 in
-      let c = ap length l.kept.table.capacity in
-      let m = length-map k.config.queues (λ (q : Queue). q.printers) in
-      omega (arith, a, c, m)
+      omega (arith, a, ap length l.kept.table.capacity, length-map k.config.queues (λ (q : Queue). q.printers))
 
   opened_leaves : (number sender queue : ℕ) (need : List ℕ) → MayOpen (left_by d b h k) number queue → HasPlace k.table need → need ≡ amounts k.config (limit_of k.config queue) queue 1
       → Leaves d b (Opened number sender queue ∷ h) (opened_core k number sender queue need)
@@ -118,8 +114,7 @@ module _ (d : Detail) (b : Base) (h : List (Event (What d))) (k : Kept) (l : Lea
       let len = kinds queue need e in
       let lr : length (replicate (length need) 0) ≡ length k.table.capacity = length-replicate (length need) 0 ∙ len in
       let a : number ≡ v.accepted + 1 = may.4 in
-      let ka = l.kept.accepted in
-      let up : All (λ (r : Row). r.number < number) k.table.rows = (λ i d' lt. (let g = greater i d' lt in omega (arith, g, a, ka))) in
+      let up : All (λ (r : Row). r.number < number) k.table.rows = (λ i d' lt. (let g = greater i d' lt in omega (arith, g, a, l.kept.accepted))) in
       let stored : k.book.stored ≡ sum_by (λ (y : Job (What d)). chained_of y) js =
       (let s = sum_by_push (λ (y : Job (What d)). chained_of y) v.jobs new in let none : chained_of new ≡ 0 = refl in let w = l.kept.book.stored in omega (arith, s, none, w)) in
       let of =
@@ -140,12 +135,7 @@ module _ (d : Detail) (b : Base) (h : List (Event (What d))) (k : Kept) (l : Lea
 
   may_open : (q : ℕ) → k.closed ≡ false → IsQueue k.config q → length k.book.jobs < k.config.max_jobs → Room q → MayOpen (left_by d b h k) (k.accepted + 1) q
   may_open q c is few room =
-      let n = jobs_len d b h k l in
-      let a = l.kept.accepted in
-      let r = l.kept.reserved in
-      let r0 = room.0 in
-      let r1 = room.1 in
-      (sym l.kept.closed ∙ c, is, omega (arith, n, few), omega (arith, r, r0), omega (arith, a), r1)
+      (sym l.kept.closed ∙ c, is, omega (arith, jobs_len d b h k l, few), omega (arith, l.kept.reserved, room.0), omega (arith, l.kept.accepted), room.1)
 
   module _ (name : List ℕ) (q : ℕ) (e : queue_named k.config name ≡ q) (c : k.closed ≡ false) (is : IsQueue k.config q) where
     pub open_done : (sender : ℕ) (need : List ℕ) → length k.book.jobs < k.config.max_jobs → Room q → HasPlace k.table need → need ≡ amounts k.config (limit_of k.config q) q 1
@@ -166,9 +156,7 @@ claim_fits c q ranges zero = limit_pages c q ranges
 claim_fits c q ranges (suc n) = elim (cases_lt n (length c.queues)) [
   | inl lt ↦
       let a = get_up_to {P = ℕ} (λ (r : ℕ). cond (r == q) 1 0) (length c.queues) n 0 lt in
-      let e = claim_at c q ranges n (suc n == q) lt refl in
-      let p = get_or-map (λ (q : Queue). q.printers) c.queues n no_queue 0 lt in
-      omega (arith, a, e, p)
+      omega (arith, a, claim_at c q ranges n (suc n == q) lt refl, get_or-map (λ (q : Queue). q.printers) c.queues n no_queue 0 lt)
   | inr ge ↦
       let m = length_up_to {P = ℕ} (λ (r : ℕ). cond (r == q) 1 0) (length c.queues) in
       omega (arith, get_or_past (map {A = ℕ} {B = ℕ} (λ (r : ℕ). cond (r == q) 1 0) (up_to (length c.queues))) n 0 (omega (arith, m, ge)))
@@ -179,13 +167,10 @@ module _ (d : Detail) (b : Base) (h : List (Event (What d))) (k : Kept) (l : Lea
   pub unused : All (λ (j : HeldJob). j.facts.number ≢ k.accepted + 1) k.book.jobs
   unused i d' lt e =
       let v = left_by d b h k in
-      let n = jobs_len d b h k l in
       let same : get_or k.book.jobs i d' ≡ job_at k.book i = get_or_default k.book.jobs i d' J.no_job lt in
       let t = ap (λ (s : ShownJob (What d)). s.facts.number) (tie d b h k i l lt) in
-      let m = numbers (size d) k.config b h (get_or v.jobs i no_job) l.legal (has_get v.jobs i no_job (omega (arith, n, lt))) in
-      let a = l.kept.accepted in
-      let f = ap (λ (j : HeldJob). j.facts.number) same in
-      omega (arith, t, m, a, f, e)
+      let m = numbers (size d) k.config b h (get_or v.jobs i no_job) l.legal (has_get v.jobs i no_job (omega (arith, jobs_len d b h k l, lt))) in
+      omega (arith, t, m, l.kept.accepted, ap (λ (j : HeldJob). j.facts.number) same, e)
 
   -- there is a row for one more job, where there is room for a job
   pub row_room : length k.book.jobs < k.config.max_jobs → length k.table.rows < k.table.room

@@ -36,10 +36,9 @@ module _ (d : Detail) (b : Base) (h : List (Event (What d))) (k : Kept) (l : Lea
   printer_seen p at is e =
       let v = left_by d b h k in
       let n = printer_there p is in
-      let one = is.0 in
       let m = printers_many in
       e ∙ (ap (λ (ps : List Printer). get_or ps (p - 1) at) l.kept.printers
-      ∙ (get_or-map (kept_printer d) v.printers (p - 1) no_printer at (omega (arith, n, m)) ∙ ap (kept_printer d) (sym (behind v.printers no_printer p one))))
+      ∙ (get_or-map (kept_printer d) v.printers (p - 1) no_printer at (omega (arith, n, m)) ∙ ap (kept_printer d) (sym (behind v.printers no_printer p is.0))))
 
   -- one printer changed in the history is one changed in what is kept
   pub printers_set : (p : ℕ) (x : N.Printer (What d)) → set k.printers (p - 1) (kept_printer d x) ≡ map (kept_printer d) (set (left_by d b h k).printers (p - 1) x)

@@ -37,9 +37,5 @@ some_counted {X} p xs i d lt e =
 pub stored_room : (d : Detail) (b : Base) (h : List (Event (What d))) (k : Kept) → Leaves d b h k → (i : ℕ) → i < length k.book.jobs → (job_of d b h k i).lent ≡ true → k.book.stored < k.book.pages
 stored_room d b h k l i lt e =
     let v = left_by d b h k in
-    let n = jobs_len d b h k l in
-    let one = some_counted (λ (x : Job (What d)). x.lent) v.jobs i no_job (omega (arith, lt, n)) e in
-    let all = each_has_a_place (size d) k.config b h l.legal in
-    let s = l.kept.book.stored in
-    let p = l.kept.book.pages in
-    omega (arith, one, all, s, p)
+    let one = some_counted (λ (x : Job (What d)). x.lent) v.jobs i no_job (omega (arith, lt, jobs_len d b h k l)) e in
+    omega (arith, one, each_has_a_place (size d) k.config b h l.legal, l.kept.book.stored, l.kept.book.pages)

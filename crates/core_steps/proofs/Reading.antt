@@ -151,8 +151,5 @@ module _ (d : Detail) (b : Base) (h : List (Event (What d))) (k : Kept) (l : Lea
 -- there aren't many printers
 pub few_stopped : (d : Detail) (b : Base) (h : List (Event (What d))) (k : Kept) → Leaves d b h k → IsConfig k.config → (q : ℕ) → length (stopped_in q k.printers) ≤ 1024
 few_stopped d b h k l ranges q =
-    let n = printers_len d b h k l in
     let m = few_printers k.config.pages k.config.queues k.config.queues (printer_count k.config) ranges.queues ranges.few_queues refl refl in
-    let e = stopped_counted q k.printers in
-    let le = count_by-le-length (is_stopped_for q) k.printers in
-    omega (arith, n, m, e, le)
+    omega (arith, printers_len d b h k l, m, stopped_counted q k.printers, count_by-le-length (is_stopped_for q) k.printers)

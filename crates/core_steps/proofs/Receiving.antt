@@ -66,11 +66,8 @@ end_none d b h k job l none = ((λ m. none_has d b h k job (JobMay (size d) k.co
 -- so many pages fit into the pool beside those that are free, if they are stored
 pub pool_room : (d : Detail) (b : Base) (h : List (Event (What d))) (k : Kept) → Leaves d b h k → (n : ℕ) → n ≤ k.book.stored → k.pool.free + n ≤ k.pool.pages
 pool_room d b h k l n le =
-    let all = each_has_a_place (size d) k.config b h l.legal in
-    let s = l.kept.book.stored in
     let f = ap (λ (p : Pages). p.free) l.kept.pool in
-    let p = ap (λ (p : Pages). p.pages) l.kept.pool in
-    omega (arith, all, s, f, p, le)
+    omega (arith, each_has_a_place (size d) k.config b h l.legal, l.kept.book.stored, f, ap (λ (p : Pages). p.pages) l.kept.pool, le)
 
 -- what is kept once the job at a place is received, where so many pages went back to the pool
 abbrev pub received_core : Kept → ℕ → HeldJob → ℕ → Kept
@@ -113,8 +110,7 @@ module _ (d : Detail) (b : Base) (h : List (Event (What d))) (k : Kept) (l : Lea
       let u = unhanded r in
       let filed = granted_filed (size d) k.config b h x l.legal has r.0 lent in
       let is = becomes (sym filed) u.0 in
-      let kept = count u.1 in
-      let un : unprinted x y ≡ n = omega (arith, filed, kept) in
+      let un : unprinted x y ≡ n = omega (arith, filed, count u.1) in
       let chain = received_chain x y is in
       let w : WithRow k.table (given_back (need_ended k.table i 0) i 0 n) i (row_of k.config y) (k.pool.free + n) =
       rw (pool_even d b h k l) (subst (λ (m : ℕ). WithRow k.table (given_back (need_ended k.table i 0) i 0 m) i (row_of k.config y) (amount k.table.free 0 + m)) un
@@ -160,9 +156,8 @@ module _ (d : Detail) (b : Base) (h : List (Event (What d))) (k : Kept) (l : Lea
       let r = is_receiving d b h k l job i f c.0 in
       let o = open_last d b h k l job i f c.0 c.2 in
       let left = ap (λ (g : DataFile). g.left) (left_of d b h k l job i f o.before o.last o.is) in
-      let none = c.3 in
       let needed = needed_of_last z o.before o.last x.files o.is (job_pages_needed (size d) k.config b h x (page_some ranges) l.legal has) in
-      let all = none_left_is_all z (length o.last.pages) o.last.count (page_some ranges) needed (omega (arith, left, none)) in
+      let all = none_left_is_all z (length o.last.pages) o.last.count (page_some ranges) needed (omega (arith, left, c.3)) in
       record {
         receiving' = r;
         file = length o.before;
@@ -261,24 +256,18 @@ module _ (d : Detail) (b : Base) (h : List (Event (What d))) (k : Kept) (l : Lea
   counted : IsConfig k.config → (n : ℕ) → IsReceiving x → x.lent ≡ false → n ≤ file_pages x → Counted n
   counted ranges n r lent le =
       let filed = granted_filed (size d) k.config b h x l.legal has r.0 lent in
-      let within = granted_within (size d) k.config b h x l.legal has in
-      let limit = limit_within k.config x.queue ranges in
-      let one = one_stored d b h k i l s.there in
-      let chain = chained_receiving x r in
       let row = ap (λ (q : Row). amount q.held 0) (row_stands d b h k i l s.there).is in
       let held = held_in_row k.config x in
-      let all = held_receiving x r in
       record {
-        stored = omega (arith, le, one, chain);
-        held = omega (arith, le, row, held, all, filed);
-        few = omega (arith, le, filed, within, limit);
+        stored = omega (arith, le, one_stored d b h k i l s.there, chained_receiving x r);
+        held = omega (arith, le, row, held, held_receiving x r, filed);
+        few = omega (arith, le, filed, granted_within (size d) k.config b h x l.legal has, limit_within k.config x.queue ranges);
       }
 
   pub end_counted : IsConfig k.config → (n : ℕ) → CanEnd j → n ≡ length (unnamed_pages (closed_file j).chain.files (prints_of j)) → Counted n
   end_counted ranges n c en =
       let r = is_receiving d b h k l job i f c.0 in
-      let count = counts_by_file (look d) k.config j x 0 r (unhanded r).1 differ t in
-      counted ranges n r (sym (ap (λ (g : Facts). g.lent) ft) ∙ c.1) (omega (arith, en, count))
+      counted ranges n r (sym (ap (λ (g : Facts). g.lent) ft) ∙ c.1) (omega (arith, en, counts_by_file (look d) k.config j x 0 r (unhanded r).1 differ t))
 
   pub control_counted : IsConfig k.config → (control : Contents) (n : ℕ) → j.facts.phase ≡ Receiving → j.chain.is_open ≡ false → n ≡ length (unnamed_pages j.chain.files control.prints) → Counted n
   control_counted ranges control n p o en =

@@ -54,10 +54,8 @@ increasing : {C : Type 0} (jobs : List (Job C)) → Rise jobs → IsStrictlyIncr
 increasing {C} jobs r k lt =
     let number : Job C → ℕ = λ x. x.number in
     let n = length-map jobs number in
-    let a = get_or-map number jobs k no_job 0 (omega (arith, n, lt)) in
-    let b = get_or-map number jobs (k + 1) no_job 0 (omega (arith, n, lt)) in
     let c = r k (k + 1) no_job (omega arith) (omega (arith, n, lt)) in
-    omega (arith, a, b, c)
+    omega (arith, get_or-map number jobs k no_job 0 (omega (arith, n, lt)), get_or-map number jobs (k + 1) no_job 0 (omega (arith, n, lt)), c)
 
 -- some of the jobs of a state that are listed for a queue, in their order
 record Chosen {C : Type 0} (q : ℕ) (jobs some : List (Job C)) : Type 0 where

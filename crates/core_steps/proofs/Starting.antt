@@ -111,26 +111,20 @@ module _ (d : Detail) (b : Base) (h : List (Event (What d))) (k : Kept) (l : Lea
   stopped_at : (q : ℕ) → has_stopped q k.printers ≡ true → (p : ℕ) × IsPrinter k.config p × IsStoppedFor q (printer_at v p)
   stopped_at q e =
       let s = Any-from_list_any (is_stopped_for q) k.printers e in
-      let lt = s.2 in
-      let m = many in
-      let n = printers_many d b h k l in
-      let there : s.0 < length v.printers = omega (arith, n, lt) in
+      let there : s.0 < length v.printers = omega (arith, printers_many d b h k l, s.2) in
       let x = get_or v.printers s.0 no_printer in
       let t = and_parts (x.queue == q) x.stopped (sym (ap (is_stopped_for q) (seen s.0 there s.1)) ∙ (ap (is_stopped_for q) s.3 ∙ s.4)) in
       let same : x.queue ≡ q = (let z = t.0 in grind (arith, nat_tests)) in
-      (suc s.0, (omega arith, omega (arith, m, there)), (same, t.1))
+      (suc s.0, (omega arith, omega (arith, many, there)), (same, t.1))
 
   stopped_is : (q p : ℕ) → IsPrinter k.config p → IsStoppedFor q (printer_at v p) → has_stopped q k.printers ≡ true
   stopped_is q zero is s = absurd (let one = is.0 in omega arith)
   stopped_is q (suc i) is s =
-      let le = is.1 in
-      let m = many in
-      let n = printers_many d b h k l in
-      let there : i < length v.printers = omega (arith, m, le) in
+      let there : i < length v.printers = omega (arith, many, is.1) in
       let x = get_or v.printers i no_printer in
       let same : (x.queue == q) ≡ true = (let z = s.0 in grind (arith, nat_tests)) in
       let yes' : is_stopped_for q (kept_printer d x) ≡ true = ap (λ (a : Bool). a && x.stopped) same ∙ s.1 in
-      list_any_at (is_stopped_for q) k.printers i no_one (omega (arith, n, there)) (ap (is_stopped_for q) (seen i there no_one) ∙ yes')
+      list_any_at (is_stopped_for q) k.printers i no_one (omega (arith, printers_many d b h k l, there)) (ap (is_stopped_for q) (seen i there no_one) ∙ yes')
 
   may : (q : ℕ) → k.closed ≡ false → IsQueue k.config q → has_stopped q k.printers ≡ true → May (size d) v (Started q)
   may q c is s = (let r = stopped_at q s in (is_open d b h k l c, is, r.0, r.1, r.2))

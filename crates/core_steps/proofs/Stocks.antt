@@ -207,27 +207,18 @@ module _ (d : Detail) (v : State (What d)) (s : Stock) (is : IsStockOf d v s) (i
   pub can_end : MayEnd v.config x → CanEnd s i
   can_end m =
       let c = v.config in
-      let e = chain m in
-      let adds = m.adds_up in
       let held = here_held s.table i (row_of c x) 0 row in
-      let mine = held_in_row c x in
-      let fits : n ≤ amount (row_of c x).held 0 = omega (arith, e, adds, mine) in
+      let fits : n ≤ amount (row_of c x).held 0 = omega (arith, chain m, m.adds_up, held_in_row c x) in
       let room = room_for s.table i (row_of c x) 0 n row fits in
-      let even = same in
       let all : amount s.table.capacity 0 ≡ c.pages = ap (λ (l : List ℕ). amount l 0) is.table.capacity in
-      let pages = ap (λ (p : Pages). p.pages) is.pool in
       let small = is.table.table.small 0 in
-      let many = rows_len s.table v is.table in
-      let kinds = ap length is.table.capacity in
-      let k = queue_kind c x.queue m.queued in
-      let q = ap (λ (g : Facts). g.queue) (facts_tie (look d) c j x tie_at) in
       record {
         here = there;
         size = ap (λ (p : Pages). p.page_size) is.pool ∙ sym is.book.page_size;
-        room = omega (arith, room, even, all, pages);
-        row = omega (arith, many, lt);
+        room = omega (arith, room, same, all, ap (λ (p : Pages). p.pages) is.pool);
+        row = omega (arith, rows_len s.table v is.table, lt);
         kind = row.pages;
-        queue = omega (arith, kinds, k, q);
+        queue = omega (arith, ap length is.table.capacity, queue_kind c x.queue m.queued, ap (λ (g : Facts). g.queue) (facts_tie (look d) c j x tie_at));
         held = omega (arith, fits, held);
         small = omega (arith, room, small);
       }
@@ -263,19 +254,15 @@ module _ (d : Detail) (v : State (What d)) (s : Stock) (is : IsStockOf d v s) (i
       let q : j.facts.queue ≡ x.queue = ap (λ (g : Facts). g.queue) (facts_tie (look d) c j x tie_at) in
       let w : WithRow s.table (given_back (need_ended (need_ended s.table i 0) i j.facts.queue) i 0 n) i (row_of c (ended_job x)) (s.pool.free + n) =
       rw (q, e, same) (ended_leaves c s.table i x row is.table.capacity m.queued m.adds_up) in
-      let le = within in
       let z : chained_of (ended_job x) ≡ 0 = refl in
-      let many : (s.book.stored - n) + chained_of x ≡ s.book.stored + chained_of (ended_job x) = omega (arith, e, le, z) in
+      let many : (s.book.stored - n) + chained_of x ≡ s.book.stored + chained_of (ended_job x) = omega (arith, e, within, z) in
       one_set (ended_job x) (drained_job j) (s.book.stored - n) (s.pool.free + n) (given_back (need_ended (need_ended s.table i 0) i j.facts.queue) i 0 n) (ties_ended (look d) c j x tie_at) many w
 
   goes : MayEnd v.config x → has_page_out x ≡ false → IsStockOf d (with_jobs v (remove v.jobs i)) (stock_gone s i)
   goes m o =
       let c = v.config in
       let e = chain m in
-      let none = none_out x o in
-      let adds = m.adds_up in
-      let even = same in
-      let free : amount s.table.free 0 + pages_held x ≡ s.pool.free + n = omega (arith, e, none, adds, even) in
+      let free : amount s.table.free 0 + pages_held x ≡ s.pool.free + n = omega (arith, e, none_out x o, m.adds_up, same) in
       let le = within in
       one_gone (s.book.stored - n) (s.pool.free + n) (closed s.table i) (omega (arith, e, le)) (subst (λ (a : ℕ). WithoutRow s.table (closed s.table i) i a) free (closed_drops s.table i (row_of c x) row))
 

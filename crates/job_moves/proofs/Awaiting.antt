@@ -52,10 +52,8 @@ page_in {C} f c j v at e d again a n lt ne =
     let s = spots v in
     let rest = drop (v.back + 1) s in
     let q : Place = record { file = p.file; number = n } in
-    let seen = see_len f j.chain.files p.file in
-    let shown = ap (λ (l : List (S.File C)). seen_len l p.file) a.files in
     let most = len_shelved (is_printed s) (is_there s v.handed v.back) 0 p.file v.files in
-    let within : n < len_of v.files p.file = omega (arith, lt, seen, shown, most) in
+    let within : n < len_of v.files p.file = omega (arith, lt, see_len f j.chain.files p.file, ap (λ (l : List (S.File C)). seen_len l p.file) a.files, most) in
     let x = content v.files p.file n within in
     let pass : drop v.back (passes (len_of v.files) (numbers_of (names_in v.files) (prints_in v.control))) ≡ p ∷ rest = ap (drop v.back) (sym (spots_pass v d)) ∙ at.spots_left in
     let later : list_any (is_same_place q) rest ≡ true =
@@ -71,8 +69,7 @@ page_in {C} f c j v at e d again a n lt ne =
 pub awaits_last : {C : Type 0} (f : Page → C) (c : Config) (j : HeldJob) (v : Job C) → Goes v → v.handed ≡ v.back + 1 → Differ (names_in v.files) → comes_again j.chain.places j.chain.last ≡ true → Ties f c j v → AwaitsLast j.chain
 awaits_last {C} f c j v g e d again t =
     let a = prints f c j v g.0 g.1 t in
-    let lt = again_within f c j v again a in
-    let at = place_at v v.back (omega (arith, e, lt)) in
+    let at = place_at v v.back (omega (arith, e, again_within f c j v again a)) in
     let last = last_is f c j v at e a in
     let gap : IsOnlyGap j.chain (place_of at.page) = record { out = page_out f c j v at e a; others = page_in f c j v at e d again a } in
     record {

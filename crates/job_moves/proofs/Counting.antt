@@ -84,8 +84,7 @@ counted {C} f t numbers all n m (one_more x y {xs} {ys} e w) nm r keeps =
     let ih = counted f t numbers all (n + 1) (suc m) w (omega arith) r.1 keeps in
     let one = count_by f t numbers all n m x y (is_among numbers m) nm refl r.0 e keeps in
     let p = length-append (cond (is_among numbers m) [] (there x.pages)) (dropped_from (suc m) numbers xs) in
-    let q = how_many_more t n y ys in
-    omega (arith, ih, one, p, q)
+    omega (arith, ih, one, p, how_many_more t n y ys)
 
 -- the pages that go back and those that are kept are all pages of the files
 pub counts_placed : {C : Type 0} (f : Page → C) (xs : List F.File) (v : Job C) (names : List (List ℕ)) → Whole f xs v.files → Differ (names_in v.files) → names ≡ prints_in v.control → v.back ≡ 0

@@ -52,9 +52,8 @@ passed len (i ∷ numbers) place e lt =
     list_any-append (is_same_place place) here rest
     ∙ elim (or_cases (i == place.file) (is_among numbers place.file) e) [
       | inl h ↦
-          let same = eqb-true i place.file h in
           or_left (list_any (is_same_place place) here) (list_any (is_same_place place) rest)
-          (ap (λ (k : ℕ). list_any (is_same_place place) (numbered k 0 (len k))) same
+          (ap (λ (k : ℕ). list_any (is_same_place place) (numbered k 0 (len k))) (eqb-true i place.file h)
           ∙ in_range 0 (len place.file) place (omega arith) (omega (arith, lt)))
       | inr later ↦ or_right (list_any (is_same_place place) here) (list_any (is_same_place place) rest) (passed len numbers place later lt)
     ]
@@ -127,8 +126,7 @@ all_again len (i ∷ numbers) k place other later e h same lt = elim (cases_lt k
       subst (λ (l : List Place). list_any (is_same_place other) l ≡ true) (sym is)
       (later_pass len i (suc (0 + k)) (len i - suc k) numbers place other (omega (arith, number)) (subst (λ (l : List Place). list_any (is_same_place place) l ≡ true) is h) same lt)
   | inr past ↦
-      let l = length-numbered i 0 (len i) in
-      let n : k ≡ length (numbered i 0 (len i)) + (k - len i) = omega (arith, l, past) in
+      let n : k ≡ length (numbered i 0 (len i)) + (k - len i) = omega (arith, length-numbered i 0 (len i), past) in
       let skip : drop k (numbered i 0 (len i) ++ passes len numbers) ≡ drop (k - len i) (passes len numbers) =
       ap (λ (m : ℕ). drop m (numbered i 0 (len i) ++ passes len numbers)) n ∙ drop-append-add (numbered i 0 (len i)) (passes len numbers) (k - len i) in
       all_again len numbers (k - len i) place other later (sym skip ∙ e) h same lt

@@ -110,8 +110,7 @@ pub placed_is : {C : Type 0} (len : ℕ → ℕ) (names : List (List ℕ)) (fs :
 placed_is len [] fs d s = refl
 placed_is {C} len (name ∷ names) fs d s =
     let rest = flat_map (λ name. A.pages_named name 0 fs) names in
-    let numbers = numbers_of (names_in fs) names in
     map-append (place_of {C = C}) (A.pages_named name 0 fs) rest
     ∙ (ap (λ (l : List Place). l ++ map {A = A.Page C} {B = Place} place_of rest) (named_places len name 0 0 fs refl d s ∙ ap (placed_at len) (sym (number_is (names_in fs) name)))
     ∙ (ap (λ (l : List Place). placed_at len (number_of (names_in fs) name) ++ l) (placed_is len names fs d s)
-    ∙ sym (flat_option len (number_of (names_in fs) name) numbers)))
+    ∙ sym (flat_option len (number_of (names_in fs) name) (numbers_of (names_in fs) names))))

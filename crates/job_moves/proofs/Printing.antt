@@ -75,9 +75,8 @@ pub can_hand : {C : Type 0} (f : Page → C) (c : Config) (j : HeldJob) (v : Job
 can_hand {C} f c j v h t =
     let a = prints f c j v h.goes.0 h.goes.1 t in
     let at = place_at v v.handed h.some in
-    let l = ap (λ (l : List Place). length l) (a.places ∙ at.spots_left) in
     record {
-      some = omega (arith, l);
+      some = omega (arith, ap (λ (l : List Place). length l) (a.places ∙ at.spots_left));
       here = seen_some f (page_at j.chain.files (next_place j.chain)) at.page.page (see_next f c j v at h.even a);
     }
 
@@ -220,8 +219,7 @@ pub ties_again : {C : Type 0} (f : Page → C) (c : Config) (j : HeldJob) (v : J
     → slice_get (places v) v.back ≡ Some x → f page ≡ x.page → Ties f c j v → Ties f c (again_job page j) (turned (Printed Going) v)
 ties_again {C} f c j v page x g e again is same t =
     let a = prints f c j v g.0 g.1 t in
-    let lt = again_within f c j v again a in
-    let at = place_at v v.back (omega (arith, e, lt)) in
+    let at = place_at v v.back (omega (arith, e, again_within f c j v again a)) in
     let here : Some x ≡ Some at.page = sym is ∙ at.is in
     let x_is : x ≡ at.page = cc in
     let p = place_of at.page in

@@ -62,7 +62,6 @@ ties_begun {C} f c j v name count r t =
     let v' : Job C = acted (Began name count) v in
     let z = c.page_size in
     let new : A.File C = new_file name count in
-    let opened = open_push v.files name count in
     let left : count ≡ count - 0 * z = omega arith in
     let sizes : map {A = A.File C} {B = DataFile} (size_of z) v.files ++ record { name = name; count = count; left = count; pages = 0 } ∷ [] ≡ map {A = A.File C} {B = DataFile} (size_of z) (v.files ++ new ∷ []) =
     ap (λ (n : ℕ). map {A = A.File C} {B = DataFile} (size_of z) v.files ++ record { name = name; count = count; left = n; pages = 0 } ∷ []) left
@@ -71,7 +70,7 @@ ties_begun {C} f c j v name count r t =
     ties_filling f c (begun_job name count j) v' (began_receiving name count v r) (record {
       facts = ap (begun_facts name count) a.facts ∙ ap (λ (l : List DataFile). record (facts_at Receiving c v) { files = l }) sizes;
       files = map-append (see_file f) j.chain.files (x ∷ []) ∙ (ap (λ (l : List (S.File C)). l ++ record { name = name; pages = [] } ∷ []) a.files ∙ sym (map-append (whole_file {C = C}) v.files (new ∷ [])));
-      is_open = sym opened;
+      is_open = sym (open_push v.files name count);
       places = a.places;
       last = a.last;
     })

@@ -36,8 +36,7 @@ of_file {C} x file n (page ∷ pages) has = elim has [
       record { k = 0; file = ap (λ (y : A.Page C). y.file) (sym e); at = ap (λ (y : A.Page C). y.number) (sym e) ∙ z; is = ap (λ (y : A.Page C). Some y.page) e }
   | inr t ↦
       let o = of_file x file (n + 1) pages t in
-      let m = o.at in
-      record { k = suc o.k; file = o.file; at = omega (arith, m); is = o.is }
+      record { k = suc o.k; file = o.file; at = omega (arith, o.at); is = o.is }
 ]
 
 -- a page of one of these files, counted from n
@@ -52,22 +51,18 @@ of_files x n [] has = absurd has
 of_files {C} x n (f ∷ fs) has = elim (has_either x (A.numbered n 0 f.pages) (A.all_pages (n + 1) fs) has) [
   | inl a ↦
       let o = of_file x n 0 f.pages a in
-      let m = o.file in
-      let k = o.at in
-      let same : x.number ≡ o.k = omega (arith, k) in
-      record { i = 0; file = omega (arith, m); is = ap (slice_get f.pages) same ∙ o.is }
+      let same : x.number ≡ o.k = omega (arith, o.at) in
+      record { i = 0; file = omega (arith, o.file); is = ap (slice_get f.pages) same ∙ o.is }
   | inr b ↦
       let o = of_files x (n + 1) fs b in
-      let m = o.file in
-      record { i = suc o.i; file = omega (arith, m); is = o.is }
+      record { i = suc o.i; file = omega (arith, o.file); is = o.is }
 ]
 
 -- each place of a job has the page of its file and number
 pub content_of : {C : Type 0} (v : Job C) (x : A.Page C) → Has x (places v) → content_at v.files x.file x.number ≡ Some x.page
 content_of v x has =
     let o = of_files x 0 v.files (places_there x v.files (prints_in v.control) has) in
-    let m = o.file in
-    let same : x.file ≡ o.i = omega (arith, m) in
+    let same : x.file ≡ o.i = omega (arith, o.file) in
     ap (λ (i : ℕ). content_at v.files i x.number) same ∙ o.is
 
 -- places

@@ -81,10 +81,7 @@ count_files {C} f printed is_in n m (x ∷ xs) (y ∷ ys) nm none e =
     let rest : map {A = F.File} {B = S.File C} (see_file f) xs ≡ shelved_files printed is_in (suc m) ys = cc in
     let ih = count_files f printed is_in (n + 1) (suc m) xs ys (omega arith) none rest in
     let one = count_file f is_in m x.pages y.pages (printed m) (λ k b. none (record { file = m; number = k }) b) (ap (λ (z : S.File C). z.pages) first) in
-    let same = ap (λ (k : ℕ). length (filter t (A.numbered k 0 y.pages))) nm in
-    let l = length-append (there x.pages) (every_page xs) in
-    let q = how_many_more t n y ys in
-    omega (arith, ih, one, same, l, q)
+    omega (arith, ih, one, ap (λ (k : ℕ). length (filter t (A.numbered k 0 y.pages))) nm, length-append (there x.pages) (every_page xs), how_many_more t n y ys)
 
 -- a page that isn't printed isn't there
 not_printed : {C : Type 0} (v : Job C) (place : Place) → is_printed (spots v) place.file ≡ false → is_there (spots v) v.handed v.back place ≡ false
