@@ -104,7 +104,8 @@ other_file f k file n [] ne = refl
 other_file f k file n (page ∷ pages) ne = rw (and_left (file == f) (n == k) (ne_eqb file f ne)) (other_file f k file (n + 1) pages ne)
 
 -- those of the first file, and those of the others
-pub how_many_more : {C : Type 0} (t : Page C → Bool) (n : ℕ) (g : File C) (gs : List (File C)) → how_many t (all_pages n (g ∷ gs)) ≡ how_many t (numbered n 0 g.pages) + how_many t (all_pages (n + 1) gs)
+pub how_many_more : {C : Type 0} (t : Page C → Bool) (n : ℕ) (g : File C) (gs : List (File C))
+    → how_many t (all_pages n (g ∷ gs)) ≡ how_many t (numbered n 0 g.pages) + how_many t (all_pages (n + 1) gs)
 how_many_more t n g gs = ap length (filter-append t (numbered n 0 g.pages) (all_pages (n + 1) gs)) ∙ length-append (filter t (numbered n 0 g.pages)) (filter t (all_pages (n + 1) gs))
 
 -- nor of those of later files

@@ -24,14 +24,16 @@ pub ended_same : {C : Type 0} (x : Job C) → x.ended ≡ true → record x { en
 ended_same {C} x e = sym (ap (λ (b : Bool). record x { ended = b }) e)
 
 -- the row that needs no more pages and no printer, and gave back what is in the chain, is that of the ended job
-ended_row_is : {C : Type 0} (c : Config) (x : Job C) → IsQueue c x.queue → HeldAddsUp x → given_row 0 (chained_of x) (ended_row x.queue (ended_row 0 (row_of c x))) ≡ row_of c (record x { ended = true })
+ended_row_is : {C : Type 0} (c : Config) (x : Job C) → IsQueue c x.queue → HeldAddsUp x
+    → given_row 0 (chained_of x) (ended_row x.queue (ended_row 0 (row_of c x))) ≡ row_of c (record x { ended = true })
 ended_row_is c x is a =
     let left : pages_held x - chained_of x ≡ pages_out x = omega arith in
     ap (given_row 0 (chained_of x)) (ended_printers c x (pages_held x) (printers_held x) 0 (printers_needed x) is)
     ∙ (ap (λ (n : ℕ). row_with_amounts c x n (printers_held x) 0 0) left ∙ sym (row_ended c x))
 
 -- the row once both needs ended
-needs_ended_here : {C : Type 0} (c : Config) (t : Claims) (i : ℕ) (x : Job C) → Here t i (row_of c x) → t.capacity ≡ capacity c → IsQueue c x.queue → Here (need_ended (need_ended t i 0) i x.queue) i (ended_row x.queue (ended_row 0 (row_of c x)))
+needs_ended_here : {C : Type 0} (c : Config) (t : Claims) (i : ℕ) (x : Job C) → Here t i (row_of c x) → t.capacity ≡ capacity c → IsQueue c x.queue
+    → Here (need_ended (need_ended t i 0) i x.queue) i (ended_row x.queue (ended_row 0 (row_of c x)))
 needs_ended_here c t i x h cap is =
     let k = queue_kind c x.queue is in
     let e = ap length cap in

@@ -88,7 +88,8 @@ module _ (d : Detail) (b : Base) (h : List (Event (What d))) (k : Kept) (l : Lea
       let within = one_stored d b h k i l s.there in
       let free : k.pool.free + pages_held x ≡ k.pool.free + n + count_of ticket = omega (arith, aborted_pages m, en) in (
         has_job v i job (CanAbort d (left_by d b h k) ticket) s can,
-        leaves_out d b h k (OfJob job Aborted) i (k.book.stored - n) (k.pool.free + n + count_of ticket) (closed k.table i) k.printers l (has_job v i job (JobMay (size d) k.config Aborted) s can.0, tt)
+        leaves_out d b h k (OfJob job Aborted) i (k.book.stored - n) (k.pool.free + n + count_of ticket) (closed k.table i) k.printers l
+            (has_job v i job (JobMay (size d) k.config Aborted) s can.0, tt)
             (act_gone (size d) k.config b h i job Aborted l.legal s (gone_by x (x.handed == x.back) (u.0 ∙ sym u.1) refl)) s.there refl refl
             (omega (arith, within, en)) (subst (λ (q : ℕ). Rattle.core_rows.proofs.Tables.WithoutRow k.table (closed k.table i) i q) free (closed_free d b h k i l s.there)) l.kept.printers,
       )

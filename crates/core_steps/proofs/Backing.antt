@@ -243,8 +243,10 @@ module _ (d : Detail) (b : Base) (h : List (Event (What d))) (k : Kept) (l : Lea
       out' = is_out_of (queue_of k.config p) o.sheet x of g
 
       -- what changes is the job with its row
-      leaves_going : (n pages : ℕ) (new : HeldJob) (u : Claims) → see_job (look d) new ≡ shown_job k.config y → n + chained_of x ≡ k.book.stored + chained_of y → WithRow k.table u i (row_of k.config y) pages
-          → Leaves d b (AtPrinter p o.sheet (Printed E.Progress.Going) ∷ h) (record k { pool = record k.pool { free = pages }; book = record (with_job k.book i new) { stored = n }; table = u; printers = set k.printers (p - 1) (idle_printer at) })
+      leaves_going : (n pages : ℕ) (new : HeldJob) (u : Claims) → see_job (look d) new ≡ shown_job k.config y → n + chained_of x ≡ k.book.stored + chained_of y
+          → WithRow k.table u i (row_of k.config y) pages
+          → Leaves d b (AtPrinter p o.sheet (Printed E.Progress.Going) ∷ h)
+          (record k { pool = record k.pool { free = pages }; book = record (with_job k.book i new) { stored = n }; table = u; printers = set k.printers (p - 1) (idle_printer at) })
       leaves_going n pages new u tie many w =
           leaves_row d b h k (AtPrinter p o.sheet (Printed E.Progress.Going)) i n pages y new u (set k.printers (p - 1) (idle_printer at)) l (may Going said)
           (turn_set (size d) k.config b h i p o.sheet (Printed E.Progress.Going) l.legal s (going_held x (of.received, g))) s.there refl refl tie many w (printer_back o.sheet E.Progress.Going)

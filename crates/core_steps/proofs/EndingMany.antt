@@ -120,7 +120,8 @@ module _ (ends : ℕ → Bool) (s t : Stock) (i : ℕ) (e : EndsFrom ends (suc i
 
     step_keeps : ends (job_at t.book i).facts.number ≡ false → IsStockOf d (with_jobs v (partly ends v.jobs i)) t
     step_keeps miss =
-        subst (λ (l : List (Job (What d))). IsStockOf d (with_jobs v l) t) (unchosen ends v.jobs i lt' (all (get_or v.jobs i no_job) (has_get v.jobs i no_job lt')).held (sym number ∙ miss)) (e d v all is)
+        subst (λ (l : List (Job (What d))). IsStockOf d (with_jobs v l) t)
+        (unchosen ends v.jobs i lt' (all (get_or v.jobs i no_job) (has_get v.jobs i no_job lt')).held (sym number ∙ miss)) (e d v all is)
 
 -- how far it is: so many of the first places are still to be looked at
 pub record Ending (ends : ℕ → Bool) (s t : Stock) (i : ℕ) : Type 0 where

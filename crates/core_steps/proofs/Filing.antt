@@ -137,7 +137,8 @@ module _ (d : Detail) (b : Base) (h : List (Event (What d))) (k : Kept) (l : Lea
             refl,
           )
 
-      pub begin_over : CanBegin (names_of j.chain.files) 52 name → limit_of k.config j.facts.queue < j.facts.granted + pages_for k.config.page_size count → Begins d b h k job name count k (Err OverClaim)
+      pub begin_over : CanBegin (names_of j.chain.files) 52 name → limit_of k.config j.facts.queue < j.facts.granted + pages_for k.config.page_size count
+          → Begins d b h k job name count k (Err OverClaim)
       begin_over can over =
           let r = room name p can in
           let over' : limit_of k.config x.queue < x.granted + pages_for z count = subst (λ (y : Facts). limit_of k.config y.queue < y.granted + pages_for z count) ft over in (
@@ -225,7 +226,8 @@ module _ (d : Detail) (b : Base) (h : List (Event (What d))) (k : Kept) (l : Lea
     pub can_put : IsConfig k.config → Awaits j len z → CanPut
     can_put ranges a =
         let g = o a in
-        let q : file_pages x ≡ sum_by (λ (g : File (What d)). length g.pages) g.before + length g.last.pages = ap (sum_by (λ (g : File (What d)). length g.pages)) g.is ∙ sum_by_push (λ (g : File (What d)). length g.pages) g.before g.last in
+        let pages : File (What d) → ℕ = λ g. length g.pages in
+        let q : file_pages x ≡ sum_by pages g.before + length g.last.pages = ap (sum_by pages) g.is ∙ sum_by_push pages g.before g.last in
         let count : Bool → ℕ = (λ b. cond b 1 0) in
         let one : count x.lent ≡ 1 = ap count (lent a) in
         let m = granted_within (size d) k.config b h x l.legal has in

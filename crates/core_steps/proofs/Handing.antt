@@ -242,7 +242,8 @@ module _ (d : Detail) (b : Base) (h : List (Event (What d))) (k : Kept) (l : Lea
           leaves_row d b h k (AtPrinter p sheet Handed) i (k.book.stored - 1) k.pool.free (turned Handed x) (handed_job j) table
           (set k.printers (p - 1) (record { queue = at.queue; out = Some (sheet_out page); began = Some page.job; stopped = false })) l (ip, hands page tk)
           (turn_set (size d) k.config b h i p sheet Handed l.legal s (handed_held x g)) ts.there refl refl
-          (ties_handed (look d) k.config j x can ties) (omega (arith, chain, within)) (subst (λ (n : ℕ). WithRow k.table table i (row_of k.config (turned Handed x)) n) (sym (pool_even d b h k l)) with_row)
+          (ties_handed (look d) k.config j x can ties) (omega (arith, chain, within))
+          (subst (λ (n : ℕ). WithRow k.table table i (row_of k.config (turned Handed x)) n) (sym (pool_even d b h k l)) with_row)
           (ap (set k.printers (p - 1)) (printer_is page) ∙ printers_set d b h k l p (printer_turned sheet Handed (printer_at v p)))
 
       pub hands_page : (page : HandedPage) → Taken page → Hands d b h k p (handed_core k p i at page) (next.Handed page)

@@ -66,7 +66,8 @@ jobs_left {C} v e jobs is none =
     ap (λ (l : List (Job C)). filter is_held (map (change e) v.jobs) ++ l) none ∙ (append-nil (filter is_held (map (change e) v.jobs)) ∙ is)
 
 -- a stock that is kept of the jobs after an event is kept of the state after it
-pub stock_moved : (d : Detail) (v : State (What d)) (e : Event (What d)) (jobs : List (Job (What d))) (s : Stock) → (after e v).jobs ≡ jobs → IsStockOf d (with_jobs v jobs) s → IsStockOf d (after e v) s
+pub stock_moved : (d : Detail) (v : State (What d)) (e : Event (What d)) (jobs : List (Job (What d))) (s : Stock) → (after e v).jobs ≡ jobs → IsStockOf d (with_jobs v jobs) s
+    → IsStockOf d (after e v) s
 stock_moved d v e jobs s is of =
     subst (λ (js : List (Job (What d))). IsStockOf d (record (after e v) { jobs = js }) s) (sym is) (stock_of_other d (with_jobs v jobs) (after e v) s of)
 
@@ -145,7 +146,8 @@ row_stands d b h k i l lt = Rattle.core_rows.proofs.Handing.row_stands k.table (
 -- an event that changes one job and its row
 pub leaves_row : (d : Detail) (b : Base) (h : List (Event (What d))) (k : Kept) (e : Event (What d)) (i n pages : ℕ) (x : Job (What d)) (j : HeldJob) (t : Claims) (printers : List Printer)
     → Leaves d b h k → May (size d) (left_by d b h k) e
-    → filter is_held (map (change e) (left_by d b h k).jobs) ≡ set (left_by d b h k).jobs i x → i < length (left_by d b h k).jobs → accepted_by e ≡ [] → closed_after e (left_by d b h k).closed ≡ (left_by d b h k).closed
+    → filter is_held (map (change e) (left_by d b h k).jobs) ≡ set (left_by d b h k).jobs i x → i < length (left_by d b h k).jobs → accepted_by e ≡ []
+    → closed_after e (left_by d b h k).closed ≡ (left_by d b h k).closed
     → see_job (look d) j ≡ shown_job k.config x → n + chained_of (job_of d b h k i) ≡ k.book.stored + chained_of x
     → WithRow k.table t i (row_of k.config x) pages
     → printers ≡ map (kept_printer d) (printers_after e (left_by d b h k))
@@ -164,13 +166,15 @@ pub leaves_act : (d : Detail) (b : Base) (h : List (Event (What d))) (k : Kept) 
 leaves_act d b h k job i n act j l s may goes tie many row =
     let x = job_of d b h k i in
     let w = same_leaves k.table i (row_of k.config x) (row_of k.config (acted act x)) (row_stands d b h k i l s.there) row in
-    leaves_row d b h k (OfJob job act) i n k.pool.free (acted act x) j k.table k.printers l may (act_set (size d) k.config b h i job act l.legal s (held_unended (acted act x) goes)) s.there refl refl tie many
+    leaves_row d b h k (OfJob job act) i n k.pool.free (acted act x) j k.table k.printers l may
+    (act_set (size d) k.config b h i job act l.legal s (held_unended (acted act x) goes)) s.there refl refl tie many
     (subst (λ (m : ℕ). WithRow k.table k.table i (row_of k.config (acted act x)) m) (sym (pool_even d b h k l)) w) l.kept.printers
 
 -- an event by which one job goes with its row
 pub leaves_out : (d : Detail) (b : Base) (h : List (Event (What d))) (k : Kept) (e : Event (What d)) (i n pages : ℕ) (t : Claims) (printers : List Printer)
     → Leaves d b h k → May (size d) (left_by d b h k) e
-    → filter is_held (map (change e) (left_by d b h k).jobs) ≡ remove (left_by d b h k).jobs i → i < length (left_by d b h k).jobs → accepted_by e ≡ [] → closed_after e (left_by d b h k).closed ≡ (left_by d b h k).closed
+    → filter is_held (map (change e) (left_by d b h k).jobs) ≡ remove (left_by d b h k).jobs i → i < length (left_by d b h k).jobs → accepted_by e ≡ []
+    → closed_after e (left_by d b h k).closed ≡ (left_by d b h k).closed
     → n + chained_of (job_of d b h k i) ≡ k.book.stored
     → WithoutRow k.table t i pages
     → printers ≡ map (kept_printer d) (printers_after e (left_by d b h k))

@@ -102,7 +102,8 @@ module _ (d : Detail) (b : Base) (h : List (Event (What d))) (k : Kept) (l : Lea
       ap has_prints ft ∙ ap (λ (ns : List (List ℕ)). has_all ns x.control) (map-map (λ (g : DataFile). g.name) (size_of z) x.files)
 
   -- what becomes received
-  received_leaves : (act : Act (What d)) (j' : HeldJob) (n : ℕ) → IsReceiving x → x.lent ≡ false → HasJob v.jobs job (JobMay (size d) k.config act) → (x.granted ≡ file_pages x → x.handed ≡ 0 → Becomes x (acted act x)) → (acted act x).ended ≡ false
+  received_leaves : (act : Act (What d)) (j' : HeldJob) (n : ℕ) → IsReceiving x → x.lent ≡ false → HasJob v.jobs job (JobMay (size d) k.config act)
+      → (x.granted ≡ file_pages x → x.handed ≡ 0 → Becomes x (acted act x)) → (acted act x).ended ≡ false
       → (x.handed ≡ 0 → x.back ≡ 0 → see_job (look d) j' ≡ shown_job k.config (acted act x)) → (x.back ≡ 0 → n + length (pages_kept (acted act x)) ≡ file_pages x)
       → Rattle.spool_history.specs.Legal.ActMay v job act → Leaves d b (OfJob job act ∷ h) (received_core k i j' n)
   received_leaves act j' n r lent may becomes goes tie' count also =
@@ -194,7 +195,7 @@ module _ (d : Detail) (b : Base) (h : List (Event (What d))) (k : Kept) (l : Lea
         w.file,
         may,
         received_leaves act (received_job (prints_of j) (closed_file j)) n r (sym (ap (λ (g : Facts). g.lent) ft) ∙ c.1) may (λ g z. by_file w.file true x r g z is) r.0
-            (λ z e. received_by_file (look d) k.config j x w.file r z e is differ t) (λ e. let count = counts_by_file (look d) k.config j x w.file r e differ t in omega (arith, en, count)) tt,
+            (λ z e. received_by_file (look d) k.config j x w.file r z e is differ t) (λ e. omega (arith, en, counts_by_file (look d) k.config j x w.file r e differ t)) tt,
       )
 
   -- before that it is idle
@@ -243,8 +244,9 @@ module _ (d : Detail) (b : Base) (h : List (Event (What d))) (k : Kept) (l : Lea
       let may = may_control control p true none (sym is) in
       let q = r control p in (
         may,
-        received_leaves act (received_job control.prints (told (controlled_facts control) j)) n q (closed_unlent (size d) k.config b h x l.legal has (no_open d b h k l job i f p o)) may (λ g z. by_control control true x q g z is) q.0
-            (λ z e. received_by_control (look d) k.config j x control q z e is differ t) (λ e. let count = counts_by_control (look d) k.config j x control q e differ t in omega (arith, en, count)) fits,
+        received_leaves act (received_job control.prints (told (controlled_facts control) j)) n q (closed_unlent (size d) k.config b h x l.legal has (no_open d b h k l job i f p o)) may
+            (λ g z. by_control control true x q g z is) q.0
+            (λ z e. received_by_control (look d) k.config j x control q z e is differ t) (λ e. omega (arith, en, counts_by_control (look d) k.config j x control q e differ t)) fits,
       )
 
   -- what goes back to the pool is stored, held by the job's row, and not much

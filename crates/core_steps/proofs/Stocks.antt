@@ -224,7 +224,8 @@ module _ (d : Detail) (v : State (What d)) (s : Stock) (is : IsStockOf d v s) (i
       }
 
   -- one job changes with its row
-  pub one_set : (y : Job (What d)) (k : HeldJob) (m pages : ℕ) (u : Claims) → see_job (look d) k ≡ shown_job v.config y → m + chained_of x ≡ s.book.stored + chained_of y → WithRow s.table u i (row_of v.config y) pages
+  pub one_set : (y : Job (What d)) (k : HeldJob) (m pages : ℕ) (u : Claims) → see_job (look d) k ≡ shown_job v.config y → m + chained_of x ≡ s.book.stored + chained_of y
+      → WithRow s.table u i (row_of v.config y) pages
       → IsStockOf d (with_jobs v (set v.jobs i y)) (stock (record (with_job s.book i k) { stored = m }) (record s.pool { free = pages }) u)
   one_set y k m pages u tie many w =
       let c = v.config in
@@ -264,7 +265,8 @@ module _ (d : Detail) (v : State (What d)) (s : Stock) (is : IsStockOf d v s) (i
       let e = chain m in
       let free : amount s.table.free 0 + pages_held x ≡ s.pool.free + n = omega (arith, e, none_out x o, m.adds_up, same) in
       let le = within in
-      one_gone (s.book.stored - n) (s.pool.free + n) (closed s.table i) (omega (arith, e, le)) (subst (λ (a : ℕ). WithoutRow s.table (closed s.table i) i a) free (closed_drops s.table i (row_of c x) row))
+      one_gone (s.book.stored - n) (s.pool.free + n) (closed s.table i) (omega (arith, e, le))
+      (subst (λ (a : ℕ). WithoutRow s.table (closed s.table i) i a) free (closed_drops s.table i (row_of c x) row))
 
   -- a job that has ended stays
   stays : MayEnd v.config x → x.ended ≡ true → IsStockOf d (with_jobs v (end_place v.jobs i)) s

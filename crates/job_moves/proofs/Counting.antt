@@ -77,7 +77,8 @@ count_by {C} f t numbers all n m x y false nm e at a keeps =
     omega (arith, d, all_there f x.pages y.pages (whole_pages f x y a))
 
 -- of all files, where the first has the number m
-counted : {C : Type 0} (f : Page → C) (t : A.Page C → Bool) (numbers : List ℕ) (all : List F.File) (n m : ℕ) {xs : List F.File} {ys : List (A.File C)} → AreWhole f xs ys → n ≡ m → RestAt all m xs → Keeps t (len_in all) numbers
+counted : {C : Type 0} (f : Page → C) (t : A.Page C → Bool) (numbers : List ℕ) (all : List F.File) (n m : ℕ) {xs : List F.File} {ys : List (A.File C)} → AreWhole f xs ys → n ≡ m
+    → RestAt all m xs → Keeps t (len_in all) numbers
     → length (dropped_from m numbers xs) + length (filter t (all_pages n ys)) ≡ pages_in ys
 counted f t numbers all n m no_files nm r keeps = refl
 counted {C} f t numbers all n m (one_more x y {xs} {ys} e w) nm r keeps =

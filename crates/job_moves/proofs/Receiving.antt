@@ -84,7 +84,8 @@ open_put content (f ∷ []) = refl
 open_put content (f ∷ g ∷ fs) = ap (λ (b : Bool). not f.ended || b) (open_put content (g ∷ fs))
 
 -- the chain's files with one page more
-whole_put : {C : Type 0} (f : Page → C) (page : Page) (content : C) {xs : List F.File} {ys : List (A.File C)} → AreWhole f xs ys → f page ≡ content → Whole f (with_page xs page) (at_last (with_one content) ys)
+whole_put : {C : Type 0} (f : Page → C) (page : Page) (content : C) {xs : List F.File} {ys : List (A.File C)} → AreWhole f xs ys → f page ≡ content
+    → Whole f (with_page xs page) (at_last (with_one content) ys)
 whole_put f page content no_files e i = []
 whole_put {C} f page content (one_more x y first no_files) e i =
     record {

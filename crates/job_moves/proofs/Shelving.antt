@@ -33,7 +33,8 @@ are_whole f (x ∷ xs) [] w = absurd cc
 are_whole f (x ∷ xs) (y ∷ ys) w = (let first : see_file f x ≡ whole_file y = cc in let rest : Whole f xs ys = cc in one_more x y first (are_whole f xs ys rest))
 
 -- a file has the pages of its own
-pub whole_pages : {C : Type 0} (f : Page → C) (x : F.File) (y : A.File C) → see_file f x ≡ whole_file y → map {A = Option Page} {B = Option C} (see_page f) x.pages ≡ map {A = C} {B = Option C} (λ page. Some page) y.pages
+pub whole_pages : {C : Type 0} (f : Page → C) (x : F.File) (y : A.File C) → see_file f x ≡ whole_file y
+    → map {A = Option Page} {B = Option C} (see_page f) x.pages ≡ map {A = C} {B = Option C} (λ page. Some page) y.pages
 whole_pages {C} f x y e = ap (λ (z : S.File C). z.pages) e
 
 -- and so as many
