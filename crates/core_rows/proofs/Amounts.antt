@@ -17,6 +17,10 @@ use Rattle.core_rows.proofs.Tables.{ended_row}
 abbrev one_queue : (q m n : ℕ) → List ℕ
 one_queue q m n = map {A = ℕ} {B = ℕ} (λ (r : ℕ). cond (r == q) m 0) (up_to n)
 
+-- what it has for each queue
+one_at : (q m n i : ℕ) (b : Bool) → i < n → (suc i == q) ≡ b → get_or (one_queue q m n) i 0 ≡ cond b m 0
+one_at q m n i b lt e = get_up_to (λ (r : ℕ). cond (r == q) m 0) n i 0 lt ∙ ap (λ (t : Bool). cond t m 0) e
+
 -- the same list with another amount for the queue
 other_up_to : (q m o n d : ℕ) → suc d ≡ q → d < n → set (one_queue q m n) d o ≡ one_queue q o n
 other_up_to q m o n d e lt =
@@ -29,10 +33,10 @@ other_up_to q m o n d e lt =
       | inl s ↦
           let b : (suc i == q) ≡ true = (let w = s.0 in grind (arith, nat_tests)) in
           let there : d < length (one_queue q m n) = omega arith in
-          ap (λ (j : ℕ). get_or (set (one_queue q m n) d o) j 0) s.0 ∙ (get_or-set_same (one_queue q m n) d o 0 there ∙ sym (get_up_to (λ (r : ℕ). cond (r == q) o 0) n i 0 lt' ∙ ap (λ (t : Bool). cond t o 0) b))
+          ap (λ (j : ℕ). get_or (set (one_queue q m n) d o) j 0) s.0 ∙ (get_or-set_same (one_queue q m n) d o 0 there ∙ sym (one_at q o n i true lt' b))
       | inr s ↦
           let b : (suc i == q) ≡ false = (let w = s.0 in grind (arith, nat_tests)) in
-          get_or-set_other (one_queue q m n) d i o 0 s.0 ∙ (get_up_to (λ (r : ℕ). cond (r == q) m 0) n i 0 lt' ∙ (ap (λ (t : Bool). cond t m 0) b ∙ sym (get_up_to (λ (r : ℕ). cond (r == q) o 0) n i 0 lt' ∙ ap (λ (t : Bool). cond t o 0) b)))
+          get_or-set_other (one_queue q m n) d i o 0 s.0 ∙ (one_at q m n i false lt' b ∙ sym (one_at q o n i false lt' b))
     ]))
 
 -- another amount for the printers of the queue
@@ -50,7 +54,7 @@ kind_of c p q m is =
     let b = is.1 in
     let e : suc (q - 1) ≡ q = omega arith in
     let t : (suc (q - 1) == q) ≡ true = grind (arith, nat_tests) in
-    ap (amount (amounts c p q m)) (sym e) ∙ (get_up_to (λ (r : ℕ). cond (r == q) m 0) (length c.queues) (q - 1) 0 (omega arith) ∙ ap (λ (b : Bool). cond b m 0) t)
+    ap (amount (amounts c p q m)) (sym e) ∙ one_at q m (length c.queues) (q - 1) true (omega arith) t
 
 -- pages are a kind
 pub pages_kind : (c : Config) → 0 < length (capacity c)

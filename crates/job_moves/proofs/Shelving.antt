@@ -123,4 +123,6 @@ kept_files f numbers all there n (one_more x y e w) r is i =
 -- what is kept of whole files, where those of these numbers are printed
 pub kept_is : {C : Type 0} (f : Page → C) (numbers : List ℕ) (xs : List F.File) (ys : List (A.File C)) (handed back : ℕ) → Whole f xs ys → handed ≡ 0 → back ≡ 0
     → map {A = F.File} {B = S.File C} (see_file f) (kept_from 0 numbers xs) ≡ shelved_files (is_printed (passes (len_in xs) numbers)) (is_there (passes (len_in xs) numbers) handed back) 0 ys
-kept_is f numbers xs ys handed back w e d = kept_files f numbers xs (is_there (passes (len_in xs) numbers) handed back) 0 (are_whole f xs ys w) (rest_all xs) (λ place. there_first (passes (len_in xs) numbers) handed back place e d)
+kept_is f numbers xs ys handed back w e d =
+    kept_files f numbers xs (is_there (passes (len_in xs) numbers) handed back) 0 (are_whole f xs ys w) (rest_all xs)
+    (λ place. there_first (passes (len_in xs) numbers) handed back place e d)
