@@ -42,19 +42,15 @@ other_up_to q m o n d e lt =
 -- another amount for the printers of the queue
 pub set_kind : (c : Config) (p q m o : ℕ) → IsQueue c q → set (amounts c p q m) q o ≡ amounts c p q o
 set_kind c p q m o is =
-    let a = is.0 in
-    let b = is.1 in
-    let e : suc (q - 1) ≡ q = omega arith in
-    ap (λ (j : ℕ). set (amounts c p q m) j o) (sym e) ∙ ap (λ (l : List ℕ). p ∷ l) (other_up_to q m o (length c.queues) (q - 1) e (omega arith))
+    let e : suc (q - 1) ≡ q = omega (arith, is.0) in
+    ap (λ (j : ℕ). set (amounts c p q m) j o) (sym e) ∙ ap (λ (l : List ℕ). p ∷ l) (other_up_to q m o (length c.queues) (q - 1) e (omega (arith, is.0, is.1)))
 
 -- the amount for the printers of the queue
 pub kind_of : (c : Config) (p q m : ℕ) → IsQueue c q → amount (amounts c p q m) q ≡ m
 kind_of c p q m is =
-    let a = is.0 in
-    let b = is.1 in
-    let e : suc (q - 1) ≡ q = omega arith in
+    let e : suc (q - 1) ≡ q = omega (arith, is.0) in
     let t : (suc (q - 1) == q) ≡ true = grind (arith, nat_tests) in
-    ap (amount (amounts c p q m)) (sym e) ∙ one_at q m (length c.queues) (q - 1) true (omega arith) t
+    ap (amount (amounts c p q m)) (sym e) ∙ one_at q m (length c.queues) (q - 1) true (omega (arith, is.0, is.1)) t
 
 -- pages are a kind
 pub pages_kind : (c : Config) → 0 < length (capacity c)

@@ -89,8 +89,7 @@ one_numbered {C} f k file n (page ∷ pages) = elim (test n k) [
       let a = how_many_cons (is_page {C = C} f k) (record { file = file; number = n; page = page }) (numbered file (n + 1) pages) in
       let few = most ((file == f) && (n == k)) in
       let same : n ≡ k = s.0 in
-      let rest = none_before f k file (n + 1) pages (omega arith) in
-      omega arith
+      omega (arith, none_before f k file (n + 1) pages (omega arith))
   | inr s ↦ rw (and_right (file == f) (n == k) s.1) (one_numbered f k file (n + 1) pages)
 ]
   where
@@ -149,5 +148,4 @@ among_again {C} x ps all e = how_many_same (λ (page : Page C). list_any (is_sam
 pub among_last : {C : Type 0} (x : Page C) (ps : List (Page C)) (fs : List (File C)) → Has x (all_pages 0 fs) → list_any (is_same_page x) ps ≡ false → length (pages_among (x ∷ ps) (all_pages 0 fs)) ≡ length (pages_among ps (all_pages 0 fs)) + 1
 among_last {C} x ps fs has e =
     let either = how_many_either (λ (page : Page C). is_same_page page x) (λ (page : Page C). list_any (is_same_page page) ps) (all_pages 0 fs) (λ page is. same_any page x ps is ∙ e) in
-    let once = page_once x fs has in
-    omega arith
+    omega (arith, page_once x fs has)

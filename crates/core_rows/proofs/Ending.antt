@@ -36,8 +36,7 @@ needs_ended_here : {C : Type 0} (c : Config) (t : Claims) (i : ℕ) (x : Job C) 
     → Here (need_ended (need_ended t i 0) i x.queue) i (ended_row x.queue (ended_row 0 (row_of c x)))
 needs_ended_here c t i x h cap is =
     let k = queue_kind c x.queue is in
-    let e = ap length cap in
-    ended_here (need_ended t i 0) i x.queue (ended_row 0 (row_of c x)) (ended_here t i 0 (row_of c x) h h.pages) (omega arith)
+    ended_here (need_ended t i 0) i x.queue (ended_row 0 (row_of c x)) (ended_here t i 0 (row_of c x) h h.pages) (omega (arith, ap length cap))
 
 -- the table after a job ended of which a page is out
 pub ended_leaves : {C : Type 0} (c : Config) (t : Claims) (i : ℕ) (x : Job C) → Here t i (row_of c x) → t.capacity ≡ capacity c → IsQueue c x.queue → HeldAddsUp x

@@ -171,9 +171,6 @@ printer_free {C} size c b h t p i sheet l table ip next s none =
     let one = sum_by-set (λ (r : Row). amount r.held q) (map (row_of c) v.jobs) i (row_of c y) no_row (omega arith) in
     let at : get_or (map (row_of c) v.jobs) i no_row ≡ row_of c x = get_or-map (row_of c) v.jobs i no_job no_row s.there in
     let at' : amount (get_or (map (row_of c) v.jobs) i no_row).held q ≡ amount (row_of c x).held q = ap (λ (r : Row). amount r.held q) at in
-    let a0 = printer_unheld c x k.queue none in
-    let a1 = printer_held c x k.queue in
-    let all = table.table.adds_up q in
     let rs : held_of q t.rows ≡ held_of q (map (row_of c) v.jobs) = ap (held_of q) table.rows in
     let cap : amount t.capacity q ≡ amount (capacity c) q = ap (λ (m : List ℕ). amount m q) table.capacity in
-    omega arith
+    omega (arith, printer_unheld c x k.queue none, printer_held c x k.queue, table.table.adds_up q)

@@ -91,8 +91,7 @@ again_chain {C} x o e =
 pub last_row : {C : Type 0} (c : Config) (x : Job C) → IsOut x → again x ≡ false → given_row 0 1 (row_of c x) ≡ row_of c (turned (Printed Going) x)
 last_row {C} c x o e =
     let y : Job C = turned (Printed Going) x in
-    let k = last_kept x o e in
-    let less : length (pages_kept x) - 1 ≡ length (pages_kept y) = omega arith in
+    let less : length (pages_kept x) - 1 ≡ length (pages_kept y) = omega (arith, last_kept x o e) in
     ap (given_row 0 1) (row_begun c x o.goes (begun x o)) ∙ (ap (λ (n : ℕ). row_with_amounts c x n 1 0 0) less ∙ sym (row_begun c y o.goes (begun x o)))
 
 -- the row of a job of which a page is out holds a page

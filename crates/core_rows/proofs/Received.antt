@@ -89,8 +89,7 @@ row_after c x y b =
 -- the row that needs no more pages and gave those back is the row of the job after
 pub received_row : {C : Type 0} (c : Config) (x y : Job C) → Becomes x y → given_row 0 (unprinted x y) (ended_row 0 (row_of c x)) ≡ row_of c y
 received_row {C} c x y b =
-    let k = kept_of_granted x y b in
-    let left : x.granted - (x.granted - length (pages_kept y)) ≡ length (pages_kept y) = omega arith in
+    let left : x.granted - (x.granted - length (pages_kept y)) ≡ length (pages_kept y) = omega (arith, kept_of_granted x y b) in
     ap (λ r. given_row 0 (unprinted x y) (ended_row 0 r)) (row_before c x y b)
     ∙ (ap (λ (n : ℕ). row_with_amounts c x n 0 0 1) left
     ∙ (sym (ap (λ (z : Job C). row_with_amounts c z (length (pages_kept y)) 0 0 1) b.same) ∙ sym (row_after c x y b)))

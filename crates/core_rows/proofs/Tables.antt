@@ -97,25 +97,22 @@ other_leaves t i kind row row' h pos kc some e =
 -- pages given back
 pub given_leaves : (t : Claims) (i n : ℕ) (row row' : Row) → Here t i row → n ≤ amount row.held 0 → given_row 0 n row ≡ row' → WithRow t (given_back t i 0 n) i row' (amount t.free 0 + n)
 given_leaves t i n row row' h le e =
-    let s = h.table.same_kinds in
-    let p = h.pages in
     let le' : n ≤ amount (row_at t.rows i).held 0 = subst (λ (r : Row). n ≤ amount r.held 0) (sym h.is) le in
     record {
       table = given_table t i 0 n h.table h.there h.pages le';
       rows = ap (set t.rows i) (ap (given_row 0 n) h.is ∙ e);
       capacity = refl;
       room = refl;
-      free = set_first t.free (amount t.free 0 + n) (omega arith);
+      free = set_first t.free (amount t.free 0 + n) (omega (arith, h.table.same_kinds, h.pages));
     }
 
 -- a need ended leaves the row that needs no more, and all else as it was
 pub ended_here : (t : Claims) (i kind : ℕ) (row : Row) → Here t i row → kind < length t.capacity → Here (need_ended t i kind) i (ended_row kind row)
 ended_here t i kind row h kc =
-    let l = length-set t.rows i (ended_row kind (row_at t.rows i)) in
     let there = h.there in
     record {
       table = ended_table t i kind h.table h.there kc;
-      there = omega arith;
+      there = omega (arith, length-set t.rows i (ended_row kind (row_at t.rows i)));
       pages = h.pages;
       is = row_put t.rows i (ended_row kind (row_at t.rows i)) h.there ∙ ap (ended_row kind) h.is;
     }

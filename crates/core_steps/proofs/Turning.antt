@@ -144,9 +144,7 @@ module _ (d : Detail) (b : Base) (h : List (Event (What d))) (k : Kept) (l : Lea
   turns p i q began is eb t =
       let v = left_by d b h k in
       let n = jobs_len d b h k l in
-      let lt = turn_there (facts_in k.book.jobs) q began i t in
-      let m = length-map k.book.jobs (λ (j : HeldJob). j.facts) in
-      let there : i < length v.jobs = omega arith in
+      let there : i < length v.jobs = omega (arith, turn_there (facts_in k.book.jobs) q began i t, length-map k.book.jobs (λ (j : HeldJob). j.facts)) in
       record {
         there = there;
         goes = goes_turn k.config (size d) b h l.legal p i began q is there eb (subst (λ (js : List Facts). TurnAt js q began (Some i)) facts_kept t);

@@ -103,9 +103,7 @@ size_put z len number content f n =
     let m : (length f.pages + 1) * z ≡ length f.pages * z + z = omega arith in
     let q : length (f.pages ++ content ∷ []) * z ≡ length f.pages * z + z = ap (λ (k : ℕ). k * z) p ∙ m in
     let s : number * z ≡ length f.pages * z = ap (λ (k : ℕ). k * z) (sym n.0) in
-    let some = n.1 in
-    let much = n.2 in
-    let left : f.count - length f.pages * z - len ≡ f.count - length (f.pages ++ content ∷ []) * z = omega arith in
+    let left : f.count - length f.pages * z - len ≡ f.count - length (f.pages ++ content ∷ []) * z = omega (arith, n.1, n.2) in
     ap (λ (k : ℕ). record (size_of z f) { left = k; pages = length f.pages + 1 }) left
     ∙ ap (λ (k : ℕ). record (size_of z f) { left = f.count - length (f.pages ++ content ∷ []) * z; pages = k }) (sym p)
 
