@@ -77,9 +77,7 @@ filled_step size c base h (OfJob k Aborted) m f = filled_act h k Aborted (λ g o
     aborted_ends : {C : Type 0} (h : List (Event C)) (k : ℕ) → has_ended (OfJob k Aborted ∷ h) k ≡ true
     aborted_ends h k = elim (test k k) [ inl s ↦ rw s.1 refl | inr s ↦ absurd (s.0 refl) ]
 filled_step size c base h (AtPrinter p sheet turn) m f = λ j g. f j (ended_before h (AtPrinter p sheet turn) j g)
-filled_step size c base h (Removed q jobs) m f = λ j g. f j (ended_before h (Removed q jobs) j g)
-filled_step size c base h (Started q) m f = λ j g. f j (ended_before h (Started q) j g)
-filled_step size c base h Closed m f = λ j g. f j (ended_before h Closed j g)
+filled_step size c base h e m f = λ j g. f j (ended_before h e j g)
 
 filled : {C : Type 0} (size : C → ℕ) (c : Config) (base : Base) (h : List (Event C)) → IsLegal size c base h → (j : ℕ) → FilledAt h j
 filled size c base [] l j = λ goes_on. refl
@@ -201,14 +199,11 @@ balanced_back {C} c base h p sheet turn back f one le out b =
 balanced : {C : Type 0} (size : C → ℕ) (c : Config) (base : Base) (h : List (Event C)) → IsLegal size c base h → Balanced c base h
 balanced {C} size c base [] l = up_none (outs (no_events C)) (last base (no_events C)) (λ j. refl) ∙ sym (up_none (out_of (no_events C)) (printer_count c) (λ p. refl))
 balanced size c base (Opened k s q ∷ h) l = balanced_opened c base h k s q (facts size c base h l.1) (balanced size c base h l.1)
-balanced size c base (OfJob k act ∷ h) l = balanced size c base h l.1
 balanced size c base (AtPrinter p sheet Handed ∷ h) l =
     balanced_handed c base h p sheet (facts size c base h l.1) l.0.0.0 l.0.0.1 (turn_of_page c base h p sheet l.0.0.0 l.0.0.1 l.0.1) (balanced size c base h l.1)
 balanced size c base (AtPrinter p sheet (Printed x) ∷ h) l = balanced_back c base h p sheet (Printed x) refl (facts size c base h l.1) l.0.0.0 l.0.0.1 (is_out c base h p sheet l.0.0 l.0.1.0) (balanced size c base h l.1)
 balanced size c base (AtPrinter p sheet Failed ∷ h) l = balanced_back c base h p sheet Failed refl (facts size c base h l.1) l.0.0.0 l.0.0.1 (is_out c base h p sheet l.0.0 l.0.1) (balanced size c base h l.1)
-balanced size c base (Removed q jobs ∷ h) l = balanced size c base h l.1
-balanced size c base (Started q ∷ h) l = balanced size c base h l.1
-balanced size c base (Closed ∷ h) l = balanced size c base h l.1
+balanced size c base (_ ∷ h) l = balanced size c base h l.1
 
 pub each_has_a_place : {C : Type 0} (size : C → ℕ) (c : Config) (base : Base) (h : List (Event C)) → IsLegal size c base h
     → chained (now c base h) + lent (now c base h) + at_printers (now c base h) + free_pages (now c base h) ≡ c.pages

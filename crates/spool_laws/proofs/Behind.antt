@@ -90,13 +90,9 @@ behind_back h p sheet turn not' st b o k is pos = st o (b o k is (let m = ap len
 
 behind_step : {C : Type 0} (size : C → ℕ) (c : Config) (base : Base) (h : List (Event C)) (e : Event C) → IsLegal size c base h → May size (now c base h) e → Behind h → Behind (e ∷ h)
 behind_step size c base h (Opened k s q) l m b = behind_opened h k s q (facts size c base h l) m.4 (steady size c base h (Opened k s q) l m) b
-behind_step size c base h (OfJob j act) l m b = λ o k is pos. steady size c base h (OfJob j act) l m o (b o k is pos)
 behind_step size c base h (AtPrinter p sheet Handed) l m b = behind_handed c base h p sheet (facts size c base h l) m.0 m.1 (steady size c base h (AtPrinter p sheet Handed) l m) b
-behind_step size c base h (AtPrinter p sheet (Printed x)) l m b = behind_back h p sheet (Printed x) refl (steady size c base h (AtPrinter p sheet (Printed x)) l m) b
-behind_step size c base h (AtPrinter p sheet Failed) l m b = behind_back h p sheet Failed refl (steady size c base h (AtPrinter p sheet Failed) l m) b
-behind_step size c base h (Removed q jobs) l m b = λ o k is pos. steady size c base h (Removed q jobs) l m o (b o k is pos)
-behind_step size c base h (Started q) l m b = λ o k is pos. steady size c base h (Started q) l m o (b o k is pos)
-behind_step size c base h Closed l m b = λ o k is pos. steady size c base h Closed l m o (b o k is pos)
+behind_step size c base h (AtPrinter p sheet turn) l m b = behind_back h p sheet turn refl (steady size c base h (AtPrinter p sheet turn) l m) b
+behind_step size c base h e l m b = λ o k is pos. steady size c base h e l m o (b o k is pos)
 
 pub behind : {C : Type 0} (size : C → ℕ) (c : Config) (base : Base) (h : List (Event C)) → IsLegal size c base h → Behind h
 behind size c base [] l = λ o k is pos. absurd is.0
@@ -108,11 +104,5 @@ gone_before size c base h p sheet l m o k has also same lt s q =
 
 pub each_in_order : {C : Type 0} (size : C → ℕ) (c : Config) (base : Base) (h : List (Event C)) → IsLegal size c base h → EachHanded EarlierAreGone h
 each_in_order size c base [] l = tt
-each_in_order size c base (Opened k s q ∷ h) l = each_in_order size c base h l.1
-each_in_order size c base (OfJob k act ∷ h) l = each_in_order size c base h l.1
 each_in_order size c base (AtPrinter p sheet Handed ∷ h) l = (gone_before size c base h p sheet l.1 l.0, each_in_order size c base h l.1)
-each_in_order size c base (AtPrinter p sheet (Printed x) ∷ h) l = each_in_order size c base h l.1
-each_in_order size c base (AtPrinter p sheet Failed ∷ h) l = each_in_order size c base h l.1
-each_in_order size c base (Removed q jobs ∷ h) l = each_in_order size c base h l.1
-each_in_order size c base (Started q ∷ h) l = each_in_order size c base h l.1
-each_in_order size c base (Closed ∷ h) l = each_in_order size c base h l.1
+each_in_order size c base (_ ∷ h) l = each_in_order size c base h l.1

@@ -171,13 +171,9 @@ busy_same c base h e os hs bs st b o has held pos =
 
 busy_step : {C : Type 0} (size : C → ℕ) (c : Config) (base : Base) (h : List (Event C)) (e : Event C) → IsLegal size c base h → May size (now c base h) e → AreBusy c base h → AreBusy c base (e ∷ h)
 busy_step size c base h (Opened k s q) l m b = busy_opened c base h k s q (facts size c base h l) m.4 (steady size c base h (Opened k s q) l m) b
-busy_step size c base h (OfJob k act) l m b = busy_same c base h (OfJob k act) refl (λ j. refl) (λ p. refl) (steady size c base h (OfJob k act) l m) b
 busy_step size c base h (AtPrinter p sheet Handed) l m b = busy_handed c base h p sheet (facts size c base h l) (keeps size c base h l) m.0 m.1 (steady size c base h (AtPrinter p sheet Handed) l m) b
-busy_step size c base h (AtPrinter p sheet (Printed x)) l m b = busy_back c base h p sheet (Printed x) refl (steady size c base h (AtPrinter p sheet (Printed x)) l m) b
-busy_step size c base h (AtPrinter p sheet Failed) l m b = busy_back c base h p sheet Failed refl (steady size c base h (AtPrinter p sheet Failed) l m) b
-busy_step size c base h (Removed q jobs) l m b = busy_same c base h (Removed q jobs) refl (λ j. refl) (λ p. refl) (steady size c base h (Removed q jobs) l m) b
-busy_step size c base h (Started q) l m b = busy_same c base h (Started q) refl (λ j. refl) (λ p. refl) (steady size c base h (Started q) l m) b
-busy_step size c base h Closed l m b = busy_same c base h Closed refl (λ j. refl) (λ p. refl) (steady size c base h Closed l m) b
+busy_step size c base h (AtPrinter p sheet turn) l m b = busy_back c base h p sheet turn refl (steady size c base h (AtPrinter p sheet turn) l m) b
+busy_step size c base h e l m b = busy_same c base h e refl (λ j. refl) (λ p. refl) (steady size c base h e l m) b
 
 pub busy : {C : Type 0} (size : C → ℕ) (c : Config) (base : Base) (h : List (Event C)) → IsLegal size c base h → AreBusy c base h
 busy size c base [] l = λ o has held pos. absurd has
@@ -190,11 +186,7 @@ rising_openings size c base [] l = tt
 rising_openings size c base (Opened k s q ∷ h) l =
     rises_push (λ (o : Opening). o.job) (openings h) (record { job = k; sender = s; queue = q }) (rising_openings size c base h l.1)
     (λ y t. let n = (facts size c base h l.1).numbers y t in let is = l.0.4 in omega arith)
-rising_openings size c base (OfJob k act ∷ h) l = rising_openings size c base h l.1
-rising_openings size c base (AtPrinter p sheet turn ∷ h) l = rising_openings size c base h l.1
-rising_openings size c base (Removed q jobs ∷ h) l = rising_openings size c base h l.1
-rising_openings size c base (Started q ∷ h) l = rising_openings size c base h l.1
-rising_openings size c base (Closed ∷ h) l = rising_openings size c base h l.1
+rising_openings size c base (_ ∷ h) l = rising_openings size c base h l.1
 
 abbrev Comes : {C : Type 0} → List (Event C) → List Opening → Job C → Type 0
 Comes h os x = (o : Opening) × Has o os × (x ≡ job_of h o)

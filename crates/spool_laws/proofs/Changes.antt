@@ -17,19 +17,13 @@ Changes h e = (o : Opening) → job_of (e ∷ h) o ≡ change e (job_of h o)
 
 act_by : {C : Type 0} (h : List (Event C)) (k : ℕ) (act : Act C) (o : Opening) (b : Bool) → (k == o.job) ≡ b → job_of (OfJob k act ∷ h) o ≡ change (OfJob k act) (job_of h o)
 act_by h k Granted o true e = rw e refl
-act_by h k (Began name count) o true e = rw e refl
-act_by h k (Put file number page) o true e = rw e refl
-act_by h k (FileEnded file whole) o true e = rw e refl
-act_by h k (Controlled control whole) o true e = rw e refl
-act_by h k Aborted o true e = rw e refl
+act_by h k _ o true e = rw e refl
 act_by h k act o false e = rw e refl
 
 turn_by : {C : Type 0} (h : List (Event C)) (p : ℕ) (sheet : Sheet C) (turn : Turn) (o : Opening) (b : Bool) → (sheet.job == o.job) ≡ b → job_of (AtPrinter p sheet turn ∷ h) o ≡ change (AtPrinter p sheet turn) (job_of h o)
 turn_by {C} h p sheet Handed o true e = rw e (ap (λ (n : ℕ). record (job_of h o) { handed = n }) (length_push (handed_of h o.job) sheet))
 turn_by h p sheet (Printed Going) o true e = rw e refl
-turn_by h p sheet (Printed Done) o true e = rw e refl
-turn_by h p sheet (Printed Ended) o true e = rw e refl
-turn_by h p sheet Failed o true e = rw e refl
+turn_by h p sheet _ o true e = rw e refl
 turn_by h p sheet turn o false e = rw e refl
 
 removed_by : {C : Type 0} (h : List (Event C)) (q : ℕ) (jobs : List ℕ) (o : Opening) (b : Bool) → list_any (λ k. k == o.job) jobs ≡ b → job_of (Removed q jobs ∷ h) o ≡ change (Removed q jobs) (job_of h o)
@@ -37,9 +31,7 @@ removed_by h q jobs o true e = rw e refl
 removed_by h q jobs o false e = rw e refl
 
 pub changes : {C : Type 0} (h : List (Event C)) (e : Event C) → Changes h e
-changes h (Opened k s q) o = refl
 changes h (OfJob k act) o = act_by h k act o (k == o.job) refl
 changes h (AtPrinter p sheet turn) o = turn_by h p sheet turn o (sheet.job == o.job) refl
 changes h (Removed q jobs) o = removed_by h q jobs o (list_any (λ k. k == o.job) jobs) refl
-changes h (Started q) o = refl
-changes h Closed o = refl
+changes h _ o = refl

@@ -40,11 +40,7 @@ aborted_in (_ ∷ a) = aborted_in a
 pub all_counted : {C : Type 0} (a : List (Act C)) → length a ≡ granted_by a + (began_in a + (put_in a + (ended_in a + (controlled_in a + aborted_in a))))
 all_counted [] = refl
 all_counted (Granted ∷ a) = let ih = all_counted a in omega arith
-all_counted (Began name count ∷ a) = let ih = all_counted a in omega arith
-all_counted (Put file number page ∷ a) = let ih = all_counted a in omega arith
-all_counted (FileEnded file whole ∷ a) = let ih = all_counted a in omega arith
-all_counted (Controlled control whole ∷ a) = let ih = all_counted a in omega arith
-all_counted (Aborted ∷ a) = let ih = all_counted a in omega arith
+all_counted (_ ∷ a) = let ih = all_counted a in omega arith
 
 -- files
 
@@ -96,21 +92,15 @@ count_le (f ∷ fs) = let ih = count_le fs in let o = one_le f.ended in omega ar
 
 pub began_files : {C : Type 0} (a : List (Act C)) → length (files_by a) ≡ began_in a
 began_files [] = refl
-began_files (Granted ∷ a) = began_files a
 began_files (Began name count ∷ a) = let ih = began_files a in let n = length_push (files_by a) (new_file name count) in omega arith
 began_files (Put file number page ∷ a) = length_last (with_page page) (files_by a) ∙ began_files a
 began_files (FileEnded file whole ∷ a) = length_last with_end (files_by a) ∙ began_files a
-began_files (Controlled control whole ∷ a) = began_files a
-began_files (Aborted ∷ a) = began_files a
+began_files (_ ∷ a) = began_files a
 
 uncontrolled : {C : Type 0} (a : List (Act C)) → control_by a ≡ None → controlled_in a ≡ 0
 uncontrolled [] e = refl
-uncontrolled (Granted ∷ a) e = uncontrolled a e
-uncontrolled (Began name count ∷ a) e = uncontrolled a e
-uncontrolled (Put file number page ∷ a) e = uncontrolled a e
-uncontrolled (FileEnded file whole ∷ a) e = uncontrolled a e
 uncontrolled (Controlled control whole ∷ a) e = absurd cc
-uncontrolled (Aborted ∷ a) e = uncontrolled a e
+uncontrolled (_ ∷ a) e = uncontrolled a e
 
 -- what a session did is within its bounds; b says whether the job has ended
 pub record Fits {C : Type 0} (a : List (Act C)) (b : Bool) : Type 0 where

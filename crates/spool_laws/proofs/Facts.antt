@@ -34,12 +34,8 @@ pub record Unknown {C : Type 0} (h : List (Event C)) (j : ℕ) : Type 0 where
 -- what isn't closed from a base isn't closed from the first one
 pub open_first : {C : Type 0} (base : Base) (h : List (Event C)) → is_closed base h ≡ false → is_closed first_base h ≡ false
 open_first base [] e = refl
-open_first base (Opened k s q ∷ h) e = open_first base h e
-open_first base (OfJob k act ∷ h) e = open_first base h e
-open_first base (AtPrinter p sheet turn ∷ h) e = open_first base h e
-open_first base (Removed q jobs ∷ h) e = open_first base h e
-open_first base (Started q ∷ h) e = open_first base h e
 open_first base (Closed ∷ h) e = absurd (clash true refl e)
+open_first base (_ ∷ h) e = open_first base h e
 
 -- the last acceptance number
 abbrev pub last : {C : Type 0} → Base → List (Event C) → ℕ
@@ -456,21 +452,12 @@ facts_step size c base h (Opened k s q) f m = facts_opened h k s q f m.4
 facts_step size c base h (OfJob k Granted) f m =
     let a = has_at c base h k _ m.0 in
     facts_act h k Granted f (number_at h k _ f a) (λ e. a.is.0.0.1)
-facts_step size c base h (OfJob k (Began name count)) f m =
-    let a = has_at c base h k _ m.0 in
-    facts_act h k (Began name count) f (number_at h k _ f a) (λ e. a.is.0.1)
-facts_step size c base h (OfJob k (Put file number page)) f m =
-    let a = has_at c base h k _ m.0 in
-    facts_act h k (Put file number page) f (number_at h k _ f a) (λ e. a.is.0.1)
-facts_step size c base h (OfJob k (FileEnded file whole)) f m =
-    let a = has_at c base h k _ m.0 in
-    facts_act h k (FileEnded file whole) f (number_at h k _ f a) (λ e. a.is.0.1)
-facts_step size c base h (OfJob k (Controlled control whole)) f m =
-    let a = has_at c base h k _ m.0 in
-    facts_act h k (Controlled control whole) f (number_at h k _ f a) (λ e. a.is.0.1)
 facts_step size c base h (OfJob k Aborted) f m =
     let a = has_at c base h k _ m.0 in
     facts_act h k Aborted f (number_at h k _ f a) (received_aborted h k)
+facts_step size c base h (OfJob k act) f m =
+    let a = has_at c base h k _ m.0 in
+    facts_act h k act f (number_at h k _ f a) (λ e. a.is.0.1)
 facts_step size c base h (AtPrinter p sheet Handed) f m = facts_handed h p sheet f (turn_of_page c base h p sheet m.0.0 m.0.1 m.1)
 facts_step size c base h (AtPrinter p sheet (Printed x)) f m = facts_back h p sheet (Printed x) refl f (is_out c base h p sheet m.0 m.1.0)
 facts_step size c base h (AtPrinter p sheet Failed) f m = facts_back h p sheet Failed refl f (is_out c base h p sheet m.0 m.1)

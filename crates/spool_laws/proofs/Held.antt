@@ -80,17 +80,13 @@ keeps_act {C} h k act f new j = elim (test k j) [
 ]
 
 keeps_step : {C : Type 0} (size : C → ℕ) (c : Config) (base : Base) (h : List (Event C)) (e : Event C) → May size (now c base h) e → ((j : ℕ) → Keeps (acts_of h j)) → (j : ℕ) → Keeps (acts_of (e ∷ h) j)
-keeps_step size c base h (Opened k s q) m f = f
 keeps_step size c base h (OfJob k Granted) m f = keeps_act h k Granted f (keeps_granted (acts_of h k) (f k) (has_at c base h k _ m.0).is.0.1)
 keeps_step size c base h (OfJob k (Began name count)) m f = keeps_act h k (Began name count) f (keeps_began (acts_of h k) name count (f k))
 keeps_step size c base h (OfJob k (Put file number page)) m f = keeps_act h k (Put file number page) f (keeps_put (acts_of h k) file number page (f k) (has_at c base h k _ m.0).is.1)
 keeps_step size c base h (OfJob k (FileEnded file whole)) m f = keeps_act h k (FileEnded file whole) f (keeps_ended (acts_of h k) file whole (f k) (has_at c base h k _ m.0).is.1)
 keeps_step size c base h (OfJob k (Controlled control whole)) m f = keeps_act h k (Controlled control whole) f (keeps_controlled (acts_of h k) control whole (f k) m.1.prints)
 keeps_step size c base h (OfJob k Aborted) m f = keeps_act h k Aborted f (keeps_aborted (acts_of h k) (f k))
-keeps_step size c base h (AtPrinter p sheet turn) m f = f
-keeps_step size c base h (Removed q jobs) m f = f
-keeps_step size c base h (Started q) m f = f
-keeps_step size c base h Closed m f = f
+keeps_step size c base h _ m f = f
 
 pub keeps : {C : Type 0} (size : C → ℕ) (c : Config) (base : Base) (h : List (Event C)) → IsLegal size c base h → (j : ℕ) → Keeps (acts_of h j)
 keeps size c base [] l = λ j. record { lent = λ e. absurd (clash false e refl); count = omega arith; prints = omega arith }

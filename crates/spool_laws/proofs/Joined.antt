@@ -45,11 +45,7 @@ accepted_rise size c base (Opened k s q ∷ h) l = rising_push (openings h) (rec
     let n : o.job ≤ last base h = ((facts size c base h l.1).numbers o has).1 in
     let m : k ≡ last base h + 1 = l.0.4 in
     omega arith)
-accepted_rise size c base (OfJob k act ∷ h) l = accepted_rise size c base h l.1
-accepted_rise size c base (AtPrinter p sheet turn ∷ h) l = accepted_rise size c base h l.1
-accepted_rise size c base (Removed q jobs ∷ h) l = accepted_rise size c base h l.1
-accepted_rise size c base (Started q ∷ h) l = accepted_rise size c base h l.1
-accepted_rise size c base (Closed ∷ h) l = accepted_rise size c base h l.1
+accepted_rise size c base (_ ∷ h) l = accepted_rise size c base h l.1
 
 has_filtered_by : {X : Type 0} (p : X → Bool) (x y : X) (ys : List X) (b : Bool) → p y ≡ b → Has x (cond b (y ∷ filter p ys) (filter p ys)) → (Has x (filter p ys) → Has x ys × (p x ≡ true)) → Has x (y ∷ ys) × (p x ≡ true)
 has_filtered_by {X} p x y ys true e has rest = elim has [
@@ -145,14 +141,10 @@ handed_has_by {C} h p s sheet has rest = elim (test s.job sheet.job) [
 -- a page that was handed is among those of its job
 handed_has : {C : Type 0} (h : List (Event C)) (sheet : Sheet C) → Has sheet (handed h) → Has sheet (handed_of h sheet.job)
 handed_has [] sheet has = absurd has
-handed_has (Opened k s q ∷ h) sheet has = handed_has h sheet has
-handed_has (OfJob k act ∷ h) sheet has = handed_has h sheet has
 handed_has (AtPrinter p s Handed ∷ h) sheet has = handed_has_by h p s sheet has (handed_has h sheet)
 handed_has {C} (AtPrinter p s (Printed x) ∷ h) sheet has = subst (λ (l : List (Sheet C)). Has sheet l) (sym (handed_same h p s (Printed x) sheet.job refl)) (handed_has h sheet has)
 handed_has {C} (AtPrinter p s Failed ∷ h) sheet has = subst (λ (l : List (Sheet C)). Has sheet l) (sym (handed_same h p s Failed sheet.job refl)) (handed_has h sheet has)
-handed_has (Removed q jobs ∷ h) sheet has = handed_has h sheet has
-handed_has (Started q ∷ h) sheet has = handed_has h sheet has
-handed_has (Closed ∷ h) sheet has = handed_has h sheet has
+handed_has (_ ∷ h) sheet has = handed_has h sheet has
 
 -- a job is accepted, of which nothing was handed
 
@@ -256,14 +248,10 @@ joins_step : {C : Type 0} (size : C → ℕ) (c : Config) (base : Base) (h : Lis
 joins_step size c base h (Opened k s q) sender queue l m j =
     let new : k ≡ last base h + 1 = m.4 in
     joins_opened h k s q sender queue ((facts size c base h l).fresh k (inr (omega arith))).handed j
-joins_step size c base h (OfJob k act) sender queue l m j = j
 joins_step size c base h (AtPrinter p sheet Handed) sender queue l m j =
     joins_handed h p sheet sender queue (accepted_rise size c base h l) (behind size c base h l) (turn_of_page c base h p sheet m.0.0 m.0.1 m.1) j
-joins_step size c base h (AtPrinter p sheet (Printed x)) sender queue l m j = joins_back h p sheet (Printed x) (jobs_from h sender queue) refl j
-joins_step size c base h (AtPrinter p sheet Failed) sender queue l m j = joins_back h p sheet Failed (jobs_from h sender queue) refl j
-joins_step size c base h (Removed q jobs) sender queue l m j = j
-joins_step size c base h (Started q) sender queue l m j = j
-joins_step size c base h Closed sender queue l m j = j
+joins_step size c base h (AtPrinter p sheet turn) sender queue l m j = joins_back h p sheet turn (jobs_from h sender queue) refl j
+joins_step size c base h _ sender queue l m j = j
 
 joins : {C : Type 0} (size : C → ℕ) (c : Config) (base : Base) (h : List (Event C)) (sender queue : ℕ) → IsLegal size c base h → Joins h (jobs_from h sender queue)
 joins size c base [] sender queue l = refl
@@ -296,11 +284,5 @@ was_accepted h p sheet t =
 
 pub each_accepted : {C : Type 0} (size : C → ℕ) (c : Config) (base : Base) (h : List (Event C)) → IsLegal size c base h → EachHanded WasAccepted h
 each_accepted size c base [] l = tt
-each_accepted size c base (Opened k s q ∷ h) l = each_accepted size c base h l.1
-each_accepted size c base (OfJob k act ∷ h) l = each_accepted size c base h l.1
 each_accepted size c base (AtPrinter p sheet Handed ∷ h) l = (was_accepted h p sheet (turn_of_page c base h p sheet l.0.0.0 l.0.0.1 l.0.1), each_accepted size c base h l.1)
-each_accepted size c base (AtPrinter p sheet (Printed x) ∷ h) l = each_accepted size c base h l.1
-each_accepted size c base (AtPrinter p sheet Failed ∷ h) l = each_accepted size c base h l.1
-each_accepted size c base (Removed q jobs ∷ h) l = each_accepted size c base h l.1
-each_accepted size c base (Started q ∷ h) l = each_accepted size c base h l.1
-each_accepted size c base (Closed ∷ h) l = each_accepted size c base h l.1
+each_accepted size c base (_ ∷ h) l = each_accepted size c base h l.1

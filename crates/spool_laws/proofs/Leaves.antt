@@ -13,23 +13,11 @@ use Rattle.spool_laws.proofs.Turns.{given, given_at}
 
 pub each_open : {C : Type 0} (size : C → ℕ) (c : Config) (base : Base) (h : List (Event C)) → IsLegal size c base h → EachHanded (IsOpen base) h
 each_open size c base [] l = tt
-each_open size c base (Opened k s q ∷ h) l = each_open size c base h l.1
-each_open size c base (OfJob k act ∷ h) l = each_open size c base h l.1
 each_open size c base (AtPrinter p sheet Handed ∷ h) l = ((given (now c base h) p sheet l.0.1).0, each_open size c base h l.1)
-each_open size c base (AtPrinter p sheet (Printed x) ∷ h) l = each_open size c base h l.1
-each_open size c base (AtPrinter p sheet Failed ∷ h) l = each_open size c base h l.1
-each_open size c base (Removed q jobs ∷ h) l = each_open size c base h l.1
-each_open size c base (Started q ∷ h) l = each_open size c base h l.1
-each_open size c base (Closed ∷ h) l = each_open size c base h l.1
+each_open size c base (_ ∷ h) l = each_open size c base h l.1
 
 pub each_going : {C : Type 0} (size : C → ℕ) (c : Config) (base : Base) (h : List (Event C)) → IsLegal size c base h → EachHanded HasNotEnded h
 each_going size c base [] l = tt
-each_going size c base (Opened k s q ∷ h) l = each_going size c base h l.1
-each_going size c base (OfJob k act ∷ h) l = each_going size c base h l.1
 each_going size c base (AtPrinter p sheet Handed ∷ h) l =
     ((given_at c base h (printer_at (now c base h) p) sheet (given (now c base h) p sheet l.0.1).1).is.goes_on, each_going size c base h l.1)
-each_going size c base (AtPrinter p sheet (Printed x) ∷ h) l = each_going size c base h l.1
-each_going size c base (AtPrinter p sheet Failed ∷ h) l = each_going size c base h l.1
-each_going size c base (Removed q jobs ∷ h) l = each_going size c base h l.1
-each_going size c base (Started q ∷ h) l = each_going size c base h l.1
-each_going size c base (Closed ∷ h) l = each_going size c base h l.1
+each_going size c base (_ ∷ h) l = each_going size c base h l.1

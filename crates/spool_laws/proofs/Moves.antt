@@ -61,7 +61,6 @@ out_held h k e =
     rw ne (rw (or_true (is_lent_by (acts_of h k))) (or_true (not (has_ended h k))))
 
 pub stays : {C : Type 0} (size : C → ℕ) (c : Config) (base : Base) (h : List (Event C)) (e : Event C) → IsLegal size c base h → May size (now c base h) e → StaysGone h e
-stays size c base h (Opened k s q) l m = λ o gone. gone
 stays size c base h (OfJob k act) l m = stays_named h (OfJob k act) (acted act) k (λ v. refl) (has_at c base h k _ m.0).held
 stays size c base h (AtPrinter p sheet Handed) l m =
     stays_named h (AtPrinter p sheet Handed) (turned Handed) sheet.job (λ v. refl) (turn_of_page c base h p sheet m.0.0 m.0.1 m.1).at.held
@@ -70,8 +69,8 @@ stays size c base h (AtPrinter p sheet (Printed x)) l m =
 stays size c base h (AtPrinter p sheet Failed) l m =
     stays_named h (AtPrinter p sheet Failed) (turned Failed) sheet.job (λ v. refl) (out_held h sheet.job ((facts size c base h l).out p sheet (is_out c base h p sheet m.0 m.1)).1)
 stays size c base h (Removed q jobs) l m = λ o gone. stays_removed h q jobs o (list_any (λ (k : ℕ). k == o.job) jobs) refl gone
-stays size c base h (Started q) l m = λ o gone. gone
 stays size c base h Closed l m = λ o gone. gone_ended (has_ended h o.job) (has_page_out (job_of h o)) gone
+stays size c base h _ l m = λ o gone. gone
 
 -- what is gone stays gone
 pub steady : {C : Type 0} (size : C → ℕ) (c : Config) (base : Base) (h : List (Event C)) (e : Event C) → IsLegal size c base h → May size (now c base h) e → (o : Opening) → is_held (job_of h o) ≡ false → is_held (job_of (e ∷ h) o) ≡ false
@@ -125,11 +124,9 @@ moved_opened {C} c base h j s q f open' is =
 
 pub moved : {C : Type 0} (size : C → ℕ) (c : Config) (base : Base) (h : List (Event C)) (e : Event C) → IsLegal size c base h → May size (now c base h) e → now c base (e ∷ h) ≡ after e (now c base h)
 moved size c base h (Opened k s q) l m = moved_opened c base h k s q (facts size c base h l) m.0 m.4
-moved size c base h (OfJob k act) l m = moved_by c base h (OfJob k act) refl refl (stays size c base h (OfJob k act) l m) refl refl
 moved size c base h (AtPrinter p sheet turn) l m = moved_by c base h (AtPrinter p sheet turn) refl refl (stays size c base h (AtPrinter p sheet turn) l m) (printers_turned c base h p sheet turn m.0.0 m.0.1) refl
-moved size c base h (Removed q jobs) l m = moved_by c base h (Removed q jobs) refl refl (stays size c base h (Removed q jobs) l m) refl refl
 moved size c base h (Started q) l m = moved_by c base h (Started q) refl refl (stays size c base h (Started q) l m) (printers_started c base h q) refl
-moved size c base h Closed l m = moved_by c base h Closed refl refl (stays size c base h Closed l m) refl refl
+moved size c base h e l m = moved_by c base h e refl refl (stays size c base h e l m) refl refl
 
 pub left_by : {C : Type 0} (size : C → ℕ) (base : Base) (h : List (Event C)) (e : Event C) (v : State C) → IsLeftBy size base h v → May size v e → IsLeftBy size base (e ∷ h) (after e v)
 left_by {C} size base h e v l m =

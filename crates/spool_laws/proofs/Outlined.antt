@@ -70,27 +70,21 @@ acts_in {A} {B} f (Put file number page) v =
 acts_in {A} {B} f (FileEnded file whole) v =
     ap (λ (fs : List (File B)). record (job_in f v) { files = fs })
     (last_in (file_in f) (λ (x : File A). record x { ended = true }) (λ (x : File B). record x { ended = true }) v.files (λ x. refl))
-acts_in f (Controlled control whole) v = refl
-acts_in f Aborted v = refl
+acts_in f _ v = refl
 
 turns_in : {A B : Type 0} (f : A → B) (turn : Turn) (v : Job A) → turned turn (job_in f v) ≡ job_in f (turned turn v)
-turns_in f Handed v = refl
 turns_in f (Printed Going) v = refl
-turns_in f (Printed Done) v = refl
-turns_in f (Printed Ended) v = refl
-turns_in f Failed v = refl
+turns_in f _ v = refl
 
 if_in : {X Y : Type 0} (g : X → Y) (b : Bool) (x y : X) (x' : Y) → x' ≡ g x → cond b x' (g y) ≡ g (cond b x y)
 if_in g true x y x' e = e
 if_in g false x y x' e = refl
 
 pub change_in : {A B : Type 0} (f : A → B) (e : Event A) (v : Job A) → change (outline_event f e) (job_in f v) ≡ job_in f (change e v)
-change_in f (Opened k s q) v = refl
 change_in f (OfJob k act) v = if_in (job_in f) (k == v.number) (acted act v) v _ (acts_in f act v)
 change_in f (AtPrinter p sheet turn) v = if_in (job_in f) (sheet.job == v.number) (turned turn v) v _ (turns_in f turn v)
 change_in f (Removed q jobs) v = if_in (job_in f) (list_any (λ k. k == v.number) jobs) (record v { ended = true }) v _ refl
-change_in f (Started q) v = refl
-change_in f Closed v = refl
+change_in f _ v = refl
 
 pub keep_in : {X Y : Type 0} (g : X → Y) (b : Bool) (x : X) (xs : List X) (ys : List Y) → ys ≡ map g xs → cond b (g x ∷ ys) ys ≡ map g (cond b (x ∷ xs) xs)
 keep_in g true x xs ys e = ap (λ l. g x ∷ l) e
@@ -102,22 +96,14 @@ held_in f (v ∷ vs) = keep_in (job_in f) (is_held v) v (filter is_held vs) _ (h
 
 accepted_in : {A B : Type 0} (f : A → B) (e : Event A) → accepted_by (outline_event f e) ≡ map (job_in f) (accepted_by e)
 accepted_in f (Opened k s q) = refl
-accepted_in f (OfJob k act) = refl
-accepted_in f (AtPrinter p sheet turn) = refl
-accepted_in f (Removed q jobs) = refl
-accepted_in f (Started q) = refl
-accepted_in f Closed = refl
+accepted_in f _ = refl
 
 accepted_count : {A B : Type 0} (f : A → B) (e : Event A) → length (accepted_by (outline_event f e)) ≡ length (accepted_by e)
 accepted_count f e = ap length (accepted_in f e) ∙ length-map (accepted_by e) (job_in f)
 
 accepted_reserve : {A B : Type 0} (f : A → B) (c : Config) (e : Event A) → sum_by (λ (j : Job B). reserve_of c j.queue) (accepted_by (outline_event f e)) ≡ sum_by (λ (j : Job A). reserve_of c j.queue) (accepted_by e)
 accepted_reserve f c (Opened k s q) = refl
-accepted_reserve f c (OfJob k act) = refl
-accepted_reserve f c (AtPrinter p sheet turn) = refl
-accepted_reserve f c (Removed q jobs) = refl
-accepted_reserve f c (Started q) = refl
-accepted_reserve f c Closed = refl
+accepted_reserve f c _ = refl
 
 -- the printers
 pub printer_at_in : {A B : Type 0} (f : A → B) (v : State A) (p : ℕ) → printer_at (state_in f v) p ≡ printer_in f (printer_at v p)
@@ -125,27 +111,19 @@ printer_at_in f v p = get_in (printer_in f) (no_printer ∷ v.printers) p no_pri
 
 printer_turned_in : {A B : Type 0} (f : A → B) (sheet : Sheet A) (turn : Turn) (p : Printer A) → printer_turned (outline_sheet f sheet) turn (printer_in f p) ≡ printer_in f (printer_turned sheet turn p)
 printer_turned_in f sheet Handed p = refl
-printer_turned_in f sheet (Printed x) p = refl
-printer_turned_in f sheet Failed p = refl
+printer_turned_in f sheet _ p = refl
 
 printers_in : {A B : Type 0} (f : A → B) (e : Event A) (v : State A) → printers_after (outline_event f e) (state_in f v) ≡ map (printer_in f) (printers_after e v)
-printers_in f (Opened k s q) v = refl
-printers_in f (OfJob k act) v = refl
 printers_in {A} {B} f (AtPrinter p sheet turn) v =
     ap (λ (x : Printer B). set (map (printer_in f) v.printers) (p - 1) (printer_turned (outline_sheet f sheet) turn x)) (printer_at_in f v p)
     ∙ (ap (λ (x : Printer B). set (map (printer_in f) v.printers) (p - 1) x) (printer_turned_in f sheet turn (printer_at v p))
     ∙ sym (map-set (printer_in f) v.printers (p - 1) (printer_turned sheet turn (printer_at v p))))
-printers_in f (Removed q jobs) v = refl
 printers_in f (Started q) v = map_both _ (printer_in f) (printer_in f) _ v.printers (λ p. if_in (printer_in f) (p.queue == q) (record p { stopped = false }) p _ refl)
-printers_in f Closed v = refl
+printers_in f _ v = refl
 
 closed_in : {A B : Type 0} (f : A → B) (e : Event A) (b : Bool) → closed_after (outline_event f e) b ≡ closed_after e b
 closed_in f (Opened k s q) b = refl
-closed_in f (OfJob k act) b = refl
-closed_in f (AtPrinter p sheet turn) b = refl
-closed_in f (Removed q jobs) b = refl
-closed_in f (Started q) b = refl
-closed_in f Closed b = refl
+closed_in f _ b = refl
 
 same_state : {C : Type 0} (c : Config) (j j' : List (Job C)) (a a' r r' : ℕ) (p p' : List (Printer C)) (b b' : Bool) → j ≡ j' → a ≡ a' → r ≡ r' → p ≡ p' → b ≡ b'
     → ◌≡◌ {A = State C} (record { config = c; jobs = j; accepted = a; reserved = r; printers = p; closed = b }) (record { config = c; jobs = j'; accepted = a'; reserved = r'; printers = p'; closed = b' })

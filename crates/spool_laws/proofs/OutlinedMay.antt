@@ -80,10 +80,8 @@ grant_in {A} {B} f v j m = (
 act_may_in : {A B : Type 0} (f : A → B) (v : State A) (j : ℕ) (act : Act A) → ActMay v j act → ActMay (state_in f v) j (outline_act f act)
 act_may_in f v j Granted m = grant_in f v j m
 act_may_in f v j (Began name count) m = m
-act_may_in f v j (Put file number page) m = tt
-act_may_in f v j (FileEnded file whole) m = tt
 act_may_in f v j (Controlled control whole) m = m
-act_may_in f v j Aborted m = tt
+act_may_in f v j _ m = tt
 
 act_in : {A B : Type 0} (f : A → B) (size : A → ℕ) (short : B → ℕ) → ((page : A) → short (f page) ≡ size page) → (v : State A) (j : ℕ) (act : Act A) → MayAct size v j act → MayAct short (state_in f v) j (outline_act f act)
 act_in f size short same v j act m = (has_in f v.jobs j _ _ (job_in_may f size short same v.config act) m.0, act_may_in f v j act m.1)

@@ -85,19 +85,12 @@ placed_back : {C : Type 0} (h : List (Event C)) (p : ℕ) (sheet : Sheet C) (tur
 placed_back {C} h p sheet turn is f j = subst (λ (l : List (Sheet C)). PlacedAs l j (places_of h j)) (sym (handed_same h p sheet turn j is)) (f j)
 
 placed_step : {C : Type 0} (size : C → ℕ) (c : Config) (base : Base) (h : List (Event C)) (e : Event C) → IsLegal size c base h → May size (now c base h) e → Placed h → Placed (e ∷ h)
-placed_step size c base h (Opened k s q) l m f = f
 placed_step size c base h (OfJob k Granted) l m f = placed_act h k Granted ((facts size c base h l).begun k (has_at c base h k _ m.0).is.0.0.1) f
-placed_step size c base h (OfJob k (Began name count)) l m f = placed_act h k (Began name count) ((facts size c base h l).begun k (has_at c base h k _ m.0).is.0.1) f
-placed_step size c base h (OfJob k (Put file number page)) l m f = placed_act h k (Put file number page) ((facts size c base h l).begun k (has_at c base h k _ m.0).is.0.1) f
-placed_step size c base h (OfJob k (FileEnded file whole)) l m f = placed_act h k (FileEnded file whole) ((facts size c base h l).begun k (has_at c base h k _ m.0).is.0.1) f
-placed_step size c base h (OfJob k (Controlled control whole)) l m f = placed_act h k (Controlled control whole) ((facts size c base h l).begun k (has_at c base h k _ m.0).is.0.1) f
 placed_step size c base h (OfJob k Aborted) l m f = placed_aborted h k f
+placed_step size c base h (OfJob k act) l m f = placed_act h k act ((facts size c base h l).begun k (has_at c base h k _ m.0).is.0.1) f
 placed_step size c base h (AtPrinter p sheet Handed) l m f = placed_handed h p sheet (turn_of_page c base h p sheet m.0.0 m.0.1 m.1) f
-placed_step size c base h (AtPrinter p sheet (Printed x)) l m f = placed_back h p sheet (Printed x) refl f
-placed_step size c base h (AtPrinter p sheet Failed) l m f = placed_back h p sheet Failed refl f
-placed_step size c base h (Removed q jobs) l m f = f
-placed_step size c base h (Started q) l m f = f
-placed_step size c base h Closed l m f = f
+placed_step size c base h (AtPrinter p sheet turn) l m f = placed_back h p sheet turn refl f
+placed_step size c base h _ l m f = f
 
 pub placed : {C : Type 0} (size : C → ℕ) (c : Config) (base : Base) (h : List (Event C)) → IsLegal size c base h → (j : ℕ) → handed_of h j ≡ sheets j 0 (take (length (handed_of h j)) (places_of h j))
 placed size c base [] l = λ j. refl

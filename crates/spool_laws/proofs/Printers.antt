@@ -55,8 +55,7 @@ turned_other c base h p sheet turn q false e ne = rw e refl
 
 turned_here : {C : Type 0} (c : Config) (base : Base) (h : List (Event C)) (p : ℕ) (sheet : Sheet C) (turn : Turn) (b : Bool) → (p == p) ≡ b → printer_of c base (AtPrinter p sheet turn ∷ h) p ≡ printer_turned sheet turn (printer_of c base h p)
 turned_here c base h p sheet Handed true e = rw e refl
-turned_here c base h p sheet (Printed x) true e = rw e refl
-turned_here c base h p sheet Failed true e = rw e refl
+turned_here c base h p sheet _ true e = rw e refl
 turned_here c base h p sheet turn false e = absurd (grind (arith, nat_tests))
 
 pub printers_turned : {C : Type 0} (c : Config) (base : Base) (h : List (Event C)) (p : ℕ) (sheet : Sheet C) (turn : Turn) → 1 ≤ p → p ≤ printer_count c → (now c base (AtPrinter p sheet turn ∷ h)).printers ≡ printers_after (AtPrinter p sheet turn) (now c base h)

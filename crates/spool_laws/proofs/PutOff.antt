@@ -179,7 +179,6 @@ not_whole : {C : Type 0} (control : Rattle.std.specs.Prelude.Option Contents) (f
 not_whole control files e = rw e (and_false (is_some control))
 
 pub takes : {C : Type 0} (size : C → ℕ) (c : Config) (base : Base) (h : List (Event C)) (e : Event C) → may_help e ≡ false → IsLegal size c base h → May size (now c base h) e → (u : Job C) → Has u (now c base h).jobs → Takes u (change e u)
-takes size c base h (Opened k s q) quiet l m = λ u has. inl refl
 takes size c base h (OfJob k Granted) quiet l m = act_takes size c base h k Granted l m.0 (λ u a.
     inr (inl record { number = refl; sender = refl; queue = refl; was = a.0.0.0; is = a.0.0.0; before = a.0.0.1; after = a.0.0.1; granted = omega arith; handed = refl }))
 takes {C} size c base h (OfJob k (Began name count)) quiet l m = act_takes size c base h k (Began name count) l m.0 (λ u a.
@@ -193,7 +192,6 @@ takes size c base h (OfJob k (FileEnded file whole)) quiet l m = act_takes size 
     inr (inl record { number = refl; sender = refl; queue = refl; was = a.0.0; is = a.0.0; before = a.0.1; after = sym a.3 ∙ quiet; granted = omega arith; handed = refl }))
 takes size c base h (OfJob k (Controlled control whole)) quiet l m = act_takes size c base h k (Controlled control whole) l m.0 (λ u a.
     inr (inl record { number = refl; sender = refl; queue = refl; was = a.0.0; is = a.0.0; before = a.0.1; after = sym a.2 ∙ quiet; granted = omega arith; handed = refl }))
-takes size c base h (OfJob k Aborted) quiet l m = absurd (clash true refl quiet)
 takes {C} size c base h (AtPrinter p sheet Handed) quiet l m = λ u has.
     (let f = facts size c base h l in
     let t = turn_of_page c base h p sheet m.0.0 m.0.1 m.1 in
@@ -202,11 +200,9 @@ takes {C} size c base h (AtPrinter p sheet Handed) quiet l m = λ u has.
       | inl s ↦ rw s.1 (inr (inr record { is = refl; was = at_job h sheet.job (λ (v : Job C). v.ended ≡ false) u f going (known c base h u has) s.0 }))
       | inr s ↦ rw s.1 (inl refl)
     ])
-takes size c base h (AtPrinter p sheet (Printed x)) quiet l m = absurd (clash true refl quiet)
-takes size c base h (AtPrinter p sheet Failed) quiet l m = absurd (clash true refl quiet)
-takes size c base h (Removed q jobs) quiet l m = absurd (clash true refl quiet)
+takes size c base h (Opened k s q) quiet l m = λ u has. inl refl
 takes size c base h (Started q) quiet l m = λ u has. inl refl
-takes size c base h Closed quiet l m = absurd (clash true refl quiet)
+takes size c base h _ quiet l m = absurd (clash true refl quiet)
 
 -- the held jobs
 

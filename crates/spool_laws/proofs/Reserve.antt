@@ -28,16 +28,12 @@ accepted_step : {C : Type 0} (size : C → ℕ) (c : Config) (base : Base) (h : 
 accepted_step size c base h (Opened k s q) l m a j pos =
     let o = a j pos in
     (o.0, has_left o.0 (openings h) (record { job = k; sender = s; queue = q } ∷ []) o.1, o.2)
-accepted_step size c base h (OfJob k act) l m a j pos = a j pos
 accepted_step size c base h (AtPrinter p sheet Handed) l m a j pos = elim (test sheet.job j) [
   | inl s ↦ (let t = (turn_of_page c base h p sheet m.0.0 m.0.1 m.1).at in (record { job = sheet.job; sender = t.sender; queue = t.queue }, t.there, s.0))
   | inr s ↦ a j (let n = ap length (handed_more h p sheet j s.0) in omega arith)
 ]
-accepted_step size c base h (AtPrinter p sheet (Printed x)) l m a j pos = a j (let n = ap length (handed_same h p sheet (Printed x) j refl) in omega arith)
-accepted_step size c base h (AtPrinter p sheet Failed) l m a j pos = a j (let n = ap length (handed_same h p sheet Failed j refl) in omega arith)
-accepted_step size c base h (Removed q jobs) l m a j pos = a j pos
-accepted_step size c base h (Started q) l m a j pos = a j pos
-accepted_step size c base h Closed l m a j pos = a j pos
+accepted_step size c base h (AtPrinter p sheet turn) l m a j pos = a j (let n = ap length (handed_same h p sheet turn j refl) in omega arith)
+accepted_step size c base h _ l m a j pos = a j pos
 
 pub accepted : {C : Type 0} (size : C → ℕ) (c : Config) (base : Base) (h : List (Event C)) → IsLegal size c base h → (j : ℕ) → 0 < handed_at h j → Accepted h j
 accepted size c base [] l j pos = absurd (omega arith)

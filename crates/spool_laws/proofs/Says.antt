@@ -38,11 +38,5 @@ says {C} size c base h p sheet x l m =
 
 pub each_says : {C : Type 0} (size : C → ℕ) (c : Config) (base : Base) (h : List (Event C)) → IsLegal size c base h → EachPrinted SaysWhatIs h
 each_says size c base [] l = tt
-each_says size c base (Opened k s q ∷ h) l = each_says size c base h l.1
-each_says size c base (OfJob k act ∷ h) l = each_says size c base h l.1
-each_says size c base (AtPrinter p sheet Handed ∷ h) l = each_says size c base h l.1
 each_says size c base (AtPrinter p sheet (Printed x) ∷ h) l = (says size c base h p sheet x l.1 l.0, each_says size c base h l.1)
-each_says size c base (AtPrinter p sheet Failed ∷ h) l = each_says size c base h l.1
-each_says size c base (Removed q jobs ∷ h) l = each_says size c base h l.1
-each_says size c base (Started q ∷ h) l = each_says size c base h l.1
-each_says size c base (Closed ∷ h) l = each_says size c base h l.1
+each_says size c base (_ ∷ h) l = each_says size c base h l.1

@@ -83,28 +83,22 @@ goes_on {C} h j a =
     record { sender = a.sender; queue = a.queue; there = a.there; held = a.held; is = going_by v v.ended refl a.is }
 
 stays : {C : Type 0} (size : C → ℕ) (c : Config) (base : Base) (h : List (Event C)) (e : Event C) (q : ℕ) → may_serve (now c base h) q e ≡ false → IsLegal size c base h → May size (now c base h) e → (u : Job C) → Has u (now c base h).jobs → u.queue ≡ q → Stays u (change e u)
-stays size c base h (Opened k s r) q quiet l m u has is = inl (inl refl)
-stays size c base h (OfJob k Granted) q quiet l m u has is = inl (takes size c base h (OfJob k Granted) refl l m u has)
-stays size c base h (OfJob k (Began name count)) q quiet l m u has is = inl (takes size c base h (OfJob k (Began name count)) refl l m u has)
-stays size c base h (OfJob k (Put file number page)) q quiet l m u has is = inl (takes size c base h (OfJob k (Put file number page)) refl l m u has)
 stays size c base h (OfJob k (FileEnded file whole)) q quiet l m u has is = inl (whole_act size c base h k (FileEnded file whole) whole q refl quiet l m u has is)
 stays size c base h (OfJob k (Controlled control whole)) q quiet l m u has is = inl (whole_act size c base h k (Controlled control whole) whole q refl quiet l m u has is)
 stays size c base h (OfJob k Aborted) q quiet l m u has is = inl (inl (other (acted Aborted u) u k (not_of (now c base h).jobs q k u has is quiet)))
-stays size c base h (AtPrinter p sheet Handed) q quiet l m u has is = inl (takes size c base h (AtPrinter p sheet Handed) refl l m u has)
 stays {C} size c base h (AtPrinter p sheet (Printed Going)) q quiet l m u has is = elim (test sheet.job u.number) [
   | inl s ↦
       let a = goes_on h sheet.job (has_at c base h sheet.job (λ (v : Job C). Going ≡ progress_of v) m.1.1) in
       rw s.1 (inr (refl, at_job h sheet.job (λ (v : Job C). v.ended ≡ false) u (facts size c base h l) a (known c base h u has) s.0))
   | inr s ↦ inl (inl (other _ u sheet.job s.0))
 ]
-stays size c base h (AtPrinter p sheet (Printed Done)) q quiet l m u has is = inl (inl (other _ u sheet.job (not_of (now c base h).jobs q sheet.job u has is quiet)))
-stays size c base h (AtPrinter p sheet (Printed Ended)) q quiet l m u has is = inl (inl (other _ u sheet.job (not_of (now c base h).jobs q sheet.job u has is quiet)))
-stays size c base h (AtPrinter p sheet Failed) q quiet l m u has is = inl (inl (other _ u sheet.job (not_of (now c base h).jobs q sheet.job u has is quiet)))
+stays size c base h (AtPrinter p sheet Handed) q quiet l m u has is = inl (takes size c base h (AtPrinter p sheet Handed) refl l m u has)
+stays size c base h (AtPrinter p sheet _) q quiet l m u has is = inl (inl (other _ u sheet.job (not_of (now c base h).jobs q sheet.job u has is quiet)))
 stays size c base h (Removed r jobs) q quiet l m u has is =
     let ne : u.queue ≡ r → ⊥ = λ same. (let z : r ≡ q = sym same ∙ is in clash (r == q) (grind (arith, nat_tests)) quiet) in
     rw (removed_queue c base h r u jobs (facts size c base h l) (known c base h u has) m.4 ne) (inl (inl refl))
-stays size c base h (Started r) q quiet l m u has is = inl (inl refl)
 stays size c base h Closed q quiet l m u has is = absurd (clash true refl quiet)
+stays size c base h e q quiet l m u has is = inl (takes size c base h e refl l m u has)
 
 -- what stays of such a job
 record Same {C : Type 0} (u w : Job C) : Type 0 where
@@ -163,31 +157,25 @@ same_named : {C : Type 0} (u : Job C) → Named u u
 same_named u = record { number = refl; queue = refl; ended = λ e. e }
 
 acted_named : {C : Type 0} (act : Act C) (u : Job C) → Named u (acted act u)
-acted_named Granted u = record { number = refl; queue = refl; ended = λ e. e }
-acted_named (Began name count) u = record { number = refl; queue = refl; ended = λ e. e }
 acted_named (Put file number page) u = record { number = refl; queue = refl; ended = λ e. e }
-acted_named (FileEnded file whole) u = record { number = refl; queue = refl; ended = λ e. e }
-acted_named (Controlled control whole) u = record { number = refl; queue = refl; ended = λ e. e }
 acted_named Aborted u = record { number = refl; queue = refl; ended = λ e. absurd (clash true refl e) }
+acted_named _ u = record { number = refl; queue = refl; ended = λ e. e }
 
 turned_named : {C : Type 0} (turn : Turn) (u : Job C) → Named u (turned turn u)
-turned_named Handed u = record { number = refl; queue = refl; ended = λ e. e }
-turned_named (Printed Going) u = record { number = refl; queue = refl; ended = λ e. e }
 turned_named (Printed Done) u = record { number = refl; queue = refl; ended = λ e. absurd (clash true refl e) }
-turned_named (Printed Ended) u = record { number = refl; queue = refl; ended = λ e. e }
 turned_named Failed u = record { number = refl; queue = refl; ended = λ e. absurd (clash true refl e) }
+turned_named _ u = record { number = refl; queue = refl; ended = λ e. e }
 
 named_if : {C : Type 0} (u w : Job C) (b : Bool) → Named u w → Named u (cond b w u)
 named_if u w true n = n
 named_if u w false n = same_named u
 
 named : {C : Type 0} (e : Event C) (u : Job C) → Named u (change e u)
-named (Opened k s q) u = same_named u
 named (OfJob k act) u = named_if u (acted act u) (k == u.number) (acted_named act u)
 named (AtPrinter p sheet turn) u = named_if u (turned turn u) (sheet.job == u.number) (turned_named turn u)
 named (Removed q jobs) u = named_if u (record u { ended = true }) (list_any (λ (k : ℕ). k == u.number) jobs) record { number = refl; queue = refl; ended = λ e. absurd (clash true refl e) }
-named (Started q) u = same_named u
 named Closed u = record { number = refl; queue = refl; ended = λ e. absurd (clash true refl e) }
+named _ u = same_named u
 
 -- the job that is found before and after
 
@@ -281,19 +269,12 @@ new_one {C} size v (Opened j s q) w m has = elim has [
   | inr n ↦ absurd n
 ]
 new_one size v (OfJob k act) w m has = absurd has
-new_one size v (AtPrinter p sheet turn) w m has = absurd has
-new_one size v (Removed q jobs) w m has = absurd has
-new_one size v (Started q) w m has = absurd has
-new_one size v Closed w m has = absurd has
+new_one size v _ w m has = absurd has
 
 -- so none of these begins
 new_unready : {C : Type 0} (ws : List (Job C)) (q : ℕ) (e : Event C) → find (λ (w : Job C). (w.queue == q) && is_ready ws w) (accepted_by e) ≡ None
 new_unready ws q (Opened j s r) = rw (and_false (r == q)) refl
-new_unready ws q (OfJob k act) = refl
-new_unready ws q (AtPrinter p sheet turn) = refl
-new_unready ws q (Removed r jobs) = refl
-new_unready ws q (Started r) = refl
-new_unready ws q Closed = refl
+new_unready ws q _ = refl
 
 found_new : {C : Type 0} (ws : List (Job C)) (q j s r : ℕ) (b : Bool) → hand_of (first_ready ws q) ≡ Nothing → hand_of (or_first ws q (cond b (Some (new_job j s r)) None)) ≡ Nothing
 found_new ws q j s r true e = refl
@@ -301,11 +282,7 @@ found_new ws q j s r false e = e
 
 new_bound : {C : Type 0} (ws : List (Job C)) (q j : ℕ) (e : Event C) → hand_of (first_ready ws q) ≡ Nothing → hand_of (or_first ws q (find (λ (v : Job C). (v.number == j) && not v.ended) (accepted_by e))) ≡ Nothing
 new_bound ws q j (Opened k s r) n = found_new ws q k s r ((k == j) && true) n
-new_bound ws q j (OfJob k act) n = n
-new_bound ws q j (AtPrinter p sheet turn) n = n
-new_bound ws q j (Removed r jobs) n = n
-new_bound ws q j (Started r) n = n
-new_bound ws q j Closed n = n
+new_bound ws q j _ n = n
 
 -- nothing is left to hand
 
@@ -325,15 +302,11 @@ Rests u w = (w ≡ u) ⊎ (w ≡ record u { back = u.back + 1 })
 
 rests_act : {C : Type 0} (size : C → ℕ) (c : Config) (act : Act C) (u : Job C) → JobMay size c act u → is_received u ≡ true → u.ended ≡ false → ⊥
 rests_act size c Granted u m r e = clash (is_received u) r m.0.0.1
-rests_act size c (Began name count) u m r e = clash (is_received u) r m.0.1
-rests_act size c (Put file number page) u m r e = clash (is_received u) r m.0.1
-rests_act size c (FileEnded file whole) u m r e = clash (is_received u) r m.0.1
-rests_act size c (Controlled control whole) u m r e = clash (is_received u) r m.0.1
 rests_act size c Aborted u m r e = elim m [ inl a ↦ clash (is_received u) r a.1 | inr a ↦ clash u.ended a.0 e ]
+rests_act size c _ u m r e = clash (is_received u) r m.0.1
 
 rests : {C : Type 0} (size : C → ℕ) (c : Config) (base : Base) (h : List (Event C)) (e : Event C) (q : ℕ) → may_serve (now c base h) q e ≡ false → IsLegal size c base h → May size (now c base h) e
     → (u : Job C) → Has u (now c base h).jobs → u.queue ≡ q → is_received u ≡ true → u.ended ≡ false → IsSpent u → Rests u (change e u)
-rests size c base h (Opened k s r) q quiet l m u has is re en sp = inl refl
 rests {C} size c base h (OfJob k act) q quiet l m u has is re en sp = elim (test k u.number) [
   | inl s ↦ absurd (rests_act size c act u (at_job h k (JobMay size c act) u (facts size c base h l) (has_at c base h k (JobMay size c act) m.0) (known c base h u has) s.0) re en)
   | inr s ↦ inl (other (acted act u) u k s.0)
@@ -345,14 +318,12 @@ rests {C} size c base h (AtPrinter p sheet Handed) q quiet l m u has is re en sp
   | inr s ↦ inl (other _ u sheet.job s.0)
 ]
 rests size c base h (AtPrinter p sheet (Printed Going)) q quiet l m u has is re en sp = elim (test sheet.job u.number) [ inl s ↦ rw s.1 (inr refl) | inr s ↦ inl (other _ u sheet.job s.0) ]
-rests size c base h (AtPrinter p sheet (Printed Done)) q quiet l m u has is re en sp = inl (other _ u sheet.job (not_of (now c base h).jobs q sheet.job u has is quiet))
-rests size c base h (AtPrinter p sheet (Printed Ended)) q quiet l m u has is re en sp = inl (other _ u sheet.job (not_of (now c base h).jobs q sheet.job u has is quiet))
-rests size c base h (AtPrinter p sheet Failed) q quiet l m u has is re en sp = inl (other _ u sheet.job (not_of (now c base h).jobs q sheet.job u has is quiet))
+rests size c base h (AtPrinter p sheet _) q quiet l m u has is re en sp = inl (other _ u sheet.job (not_of (now c base h).jobs q sheet.job u has is quiet))
 rests size c base h (Removed r jobs) q quiet l m u has is re en sp =
     let ne : u.queue ≡ r → ⊥ = λ same. (let z : r ≡ q = sym same ∙ is in clash (r == q) (grind (arith, nat_tests)) quiet) in
     rw (removed_queue c base h r u jobs (facts size c base h l) (known c base h u has) m.4 ne) (inl refl)
-rests size c base h (Started r) q quiet l m u has is re en sp = inl refl
 rests size c base h Closed q quiet l m u has is re en sp = absurd (clash true refl quiet)
+rests size c base h _ q quiet l m u has is re en sp = inl refl
 
 -- and so it stays
 record Rested {C : Type 0} (u w : Job C) : Type 0 where
@@ -552,20 +523,13 @@ nothing_for jobs x false e s = elim s [
 -- the printer after the event
 
 open_still : {C : Type 0} (base : Base) (h : List (Event C)) (v : State C) (q : ℕ) (e : Event C) → may_serve v q e ≡ false → is_closed base h ≡ false → is_closed base (e ∷ h) ≡ false
-open_still base h v q (Opened j s r) quiet o = o
-open_still base h v q (OfJob k act) quiet o = o
-open_still base h v q (AtPrinter p sheet turn) quiet o = o
-open_still base h v q (Removed r jobs) quiet o = o
-open_still base h v q (Started r) quiet o = o
 open_still base h v q Closed quiet o = absurd (clash true refl quiet)
+open_still base h v q _ quiet o = o
 
 stopped_still : {C : Type 0} (base : Base) (h : List (Event C)) (v : State C) (q p : ℕ) (e : Event C) → may_serve v q e ≡ false → is_stopped_at base h q p ≡ true → is_stopped_at base (e ∷ h) q p ≡ true
-stopped_still base h v q p (Opened j s r) quiet o = o
-stopped_still base h v q p (OfJob k act) quiet o = o
 stopped_still base h v q p (AtPrinter r sheet turn) quiet o = rw o (or_true ((r == p) && is_failed turn))
-stopped_still base h v q p (Removed r jobs) quiet o = o
 stopped_still base h v q p (Started r) quiet o = rw quiet o
-stopped_still base h v q p Closed quiet o = o
+stopped_still base h v q p _ quiet o = o
 
 -- a page neither comes to a printer that has nothing, nor from it
 not_here : {C : Type 0} (size : C → ℕ) (c : Config) (base : Base) (h : List (Event C)) (p : ℕ) (sheet : Sheet C) (turn : Turn) → HasNothing (now c base h) p → out_at h p ≡ None → May size (now c base h) (AtPrinter p sheet turn) → ⊥
@@ -575,14 +539,11 @@ not_here size c base h p sheet Failed n out m = (let z : ◌≡◌ {A = Option _
 
 idle_still : {C : Type 0} (size : C → ℕ) (c : Config) (base : Base) (h : List (Event C)) (p : ℕ) (e : Event C) → HasNothing (now c base h) p → out_at h p ≡ None → May size (now c base h) e → (out_at (e ∷ h) p ≡ None) × (began_at (e ∷ h) p ≡ began_at h p)
 idle_still size c base h p (Opened j s r) n out m = (out, refl)
-idle_still size c base h p (OfJob k act) n out m = (out, refl)
 idle_still {C} size c base h p (AtPrinter r sheet turn) n out m = elim (test r p) [
   | inl s ↦ absurd (not_here size c base h p sheet turn n out (subst (λ (i : ℕ). May size (now c base h) (AtPrinter i sheet turn)) s.0 m))
   | inr s ↦ (rw s.1 out, rw s.1 refl)
 ]
-idle_still size c base h p (Removed r jobs) n out m = (out, refl)
-idle_still size c base h p (Started r) n out m = (out, refl)
-idle_still size c base h p Closed n out m = (out, refl)
+idle_still size c base h p _ n out m = (out, refl)
 
 nothing_step : {C : Type 0} (size : C → ℕ) (c : Config) (base : Base) (h : List (Event C)) (e : Event C) (p : ℕ) → IsPrinter c p → May size (now c base h) e → IsLegal size c base h → may_serve (now c base h) (queue_of c p) e ≡ false → HasNothing (now c base h) p → HasNothing (now c base (e ∷ h)) p
 nothing_step {C} size c base h e p is m l quiet n =

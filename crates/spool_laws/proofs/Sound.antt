@@ -48,8 +48,6 @@ more_back h p sheet turn is j le =
 
 one_out : {C : Type 0} (size : C → ℕ) (c : Config) (base : Base) (h : List (Event C)) → IsLegal size c base h → (j : ℕ) → handed_at h j ≤ back_of h j + 1
 one_out size c base [] l j = omega arith
-one_out size c base (Opened k s q ∷ h) l j = one_out size c base h l.1 j
-one_out size c base (OfJob k act ∷ h) l j = one_out size c base h l.1 j
 one_out size c base (AtPrinter p sheet Handed ∷ h) l j =
     let ih = one_out size c base h l.1 j in
     let b = back_same h p sheet j in
@@ -61,11 +59,8 @@ one_out size c base (AtPrinter p sheet Handed ∷ h) l j =
           omega arith
       | inr s ↦ let n = count_more h p sheet j s.0 in omega arith
     ]
-one_out size c base (AtPrinter p sheet (Printed x) ∷ h) l j = more_back h p sheet (Printed x) refl j (one_out size c base h l.1 j)
-one_out size c base (AtPrinter p sheet Failed ∷ h) l j = more_back h p sheet Failed refl j (one_out size c base h l.1 j)
-one_out size c base (Removed q jobs ∷ h) l j = one_out size c base h l.1 j
-one_out size c base (Started q ∷ h) l j = one_out size c base h l.1 j
-one_out size c base (Closed ∷ h) l j = one_out size c base h l.1 j
+one_out size c base (AtPrinter p sheet turn ∷ h) l j = more_back h p sheet turn refl j (one_out size c base h l.1 j)
+one_out size c base (_ ∷ h) l j = one_out size c base h l.1 j
 
 length_sheets : {C : Type 0} (j n k : ℕ) (xs : List (Page C)) → length (sheets j n (take k xs)) ≤ length xs
 length_sheets j n zero xs = omega arith
@@ -205,35 +200,22 @@ lowers_act : {C : Type 0} (size : C → ℕ) (c : Config) (base : Base) (h : Lis
 lowers_act {C} size c base h k act l m f o has = elim (test k o.job) [
   | inl s ↦
       let e : change (OfJob k act) (job_of h o) ≡ acted act (job_of h o) = rw s.1 refl in
-      subst (λ (v : Job C). Lower (row_of c (job_of h o)) (row_of c v)) (sym e) (f o has s.0 (subst (λ (v : Job C). Sound v) e (sound_after size c base h (OfJob k act) l m o)))
-  | inr s ↦
-      let e : change (OfJob k act) (job_of h o) ≡ job_of h o = rw s.1 refl in
-      subst (λ (v : Job C). Lower (row_of c (job_of h o)) (row_of c v)) (sym e) (lower_same c (job_of h o))
+      rw s.1 (f o has s.0 (subst (λ (v : Job C). Sound v) e (sound_after size c base h (OfJob k act) l m o)))
+  | inr s ↦ rw s.1 (lower_same c (job_of h o))
 ]
 
 lowers_turn : {C : Type 0} (size : C → ℕ) (c : Config) (base : Base) (h : List (Event C)) (p : ℕ) (sheet : Sheet C) (turn : Turn) → ((o : Opening) → sheet.job ≡ o.job → Lower (row_of c (job_of h o)) (row_of c (turned turn (job_of h o)))) → LowersAll c base h (AtPrinter p sheet turn)
 lowers_turn {C} size c base h p sheet turn f o has = elim (test sheet.job o.job) [
-  | inl s ↦
-      let e : change (AtPrinter p sheet turn) (job_of h o) ≡ turned turn (job_of h o) = rw s.1 refl in
-      subst (λ (v : Job C). Lower (row_of c (job_of h o)) (row_of c v)) (sym e) (f o s.0)
-  | inr s ↦
-      let e : change (AtPrinter p sheet turn) (job_of h o) ≡ job_of h o = rw s.1 refl in
-      subst (λ (v : Job C). Lower (row_of c (job_of h o)) (row_of c v)) (sym e) (lower_same c (job_of h o))
+  | inl s ↦ rw s.1 (f o s.0)
+  | inr s ↦ rw s.1 (lower_same c (job_of h o))
 ]
 
 lower_removed : {C : Type 0} (c : Config) (v : Job C) → Sound v → Lower (row_of c v) (row_of c (record v { ended = true }))
 lower_removed c v s = lower_ended c v (record v { ended = true }) s (omega arith) refl refl refl refl refl
 
-lower_aborted : {C : Type 0} (c : Config) (v : Job C) → Sound v → Lower (row_of c v) (row_of c (acted Aborted v))
-lower_aborted c v s = lower_ended c v (acted Aborted v) s (omega arith) refl refl refl refl refl
-
 lowers_removed_by : {C : Type 0} (c : Config) (base : Base) (h : List (Event C)) (q : ℕ) (jobs : List ℕ) (o : Opening) (b : Bool) → list_any (λ (k : ℕ). k == o.job) jobs ≡ b → Sound (job_of h o) → Lower (row_of c (job_of h o)) (row_of c (change (Removed q jobs) (job_of h o)))
-lowers_removed_by {C} c base h q jobs o true e s =
-    let is : change (Removed q jobs) (job_of h o) ≡ record (job_of h o) { ended = true } = rw e refl in
-    subst (λ (v : Job C). Lower (row_of c (job_of h o)) (row_of c v)) (sym is) (lower_removed c (job_of h o) s)
-lowers_removed_by {C} c base h q jobs o false e s =
-    let is : change (Removed q jobs) (job_of h o) ≡ job_of h o = rw e refl in
-    subst (λ (v : Job C). Lower (row_of c (job_of h o)) (row_of c v)) (sym is) (lower_same c (job_of h o))
+lowers_removed_by c base h q jobs o true e s = rw e (lower_removed c (job_of h o) s)
+lowers_removed_by c base h q jobs o false e s = rw e (lower_same c (job_of h o))
 
 -- the events by which no job gets or accepts anything
 abbrev pub is_quiet : {C : Type 0} → Event C → Bool
@@ -245,22 +227,14 @@ is_quiet e = true
 pub lowers_all : {C : Type 0} (size : C → ℕ) (c : Config) (base : Base) (h : List (Event C)) (e : Event C) → is_quiet e ≡ true → IsLegal size c base h → May size (now c base h) e → LowersAll c base h e
 lowers_all size c base h (Opened k s q) is l m = absurd (clash false is refl)
 lowers_all size c base h (OfJob k Granted) is l m = absurd (clash false is refl)
-lowers_all size c base h (OfJob k (Began name count)) is l m = lowers_act size c base h k (Began name count) l m (λ o has e s.
-    (let a = at_is h k _ o (facts size c base h l) (has_at c base h k _ m.0) has e in lower_receiving c (job_of h o) (acted (Began name count) (job_of h o)) a.0.0 a.0.1 s refl refl refl refl refl refl))
-lowers_all size c base h (OfJob k (Put file number page)) is l m = lowers_act size c base h k (Put file number page) l m (λ o has e s.
-    (let a = at_is h k _ o (facts size c base h l) (has_at c base h k _ m.0) has e in lower_receiving c (job_of h o) (acted (Put file number page) (job_of h o)) a.0.0 a.0.1 s refl refl refl refl refl refl))
-lowers_all size c base h (OfJob k (FileEnded file whole)) is l m = lowers_act size c base h k (FileEnded file whole) l m (λ o has e s.
-    (let a = at_is h k _ o (facts size c base h l) (has_at c base h k _ m.0) has e in lower_receiving c (job_of h o) (acted (FileEnded file whole) (job_of h o)) a.0.0 a.0.1 s refl refl refl refl refl refl))
-lowers_all size c base h (OfJob k (Controlled control whole)) is l m = lowers_act size c base h k (Controlled control whole) l m (λ o has e s.
-    (let a = at_is h k _ o (facts size c base h l) (has_at c base h k _ m.0) has e in lower_receiving c (job_of h o) (acted (Controlled control whole) (job_of h o)) a.0.0 a.0.1 s refl refl refl refl refl refl))
-lowers_all size c base h (OfJob k Aborted) is l m = lowers_act size c base h k Aborted l m (λ o has e s. lower_aborted c (job_of h o) (sound size c base h l o))
+lowers_all size c base h (OfJob k Aborted) is l m = lowers_act size c base h k Aborted l m (λ o has e s. lower_ended c (job_of h o) (acted Aborted (job_of h o)) (sound size c base h l o) (omega arith) refl refl refl refl refl)
+lowers_all size c base h (OfJob k act) is l m = lowers_act size c base h k act l m (λ o has e s.
+    (let a = at_is h k _ o (facts size c base h l) (has_at c base h k _ m.0) has e in lower_receiving c (job_of h o) (acted act (job_of h o)) a.0.0 a.0.1 s refl refl refl refl refl refl))
 lowers_all size c base h (AtPrinter p sheet Handed) is l m = absurd (clash false is refl)
 lowers_all size c base h (AtPrinter p sheet (Printed Going)) is l m = lowers_turn size c base h p sheet (Printed Going) (λ o e. lower_back c (job_of h o))
 lowers_all size c base h (AtPrinter p sheet (Printed Ended)) is l m = lowers_turn size c base h p sheet (Printed Ended) (λ o e. lower_back c (job_of h o))
-lowers_all size c base h (AtPrinter p sheet (Printed Done)) is l m = lowers_turn size c base h p sheet (Printed Done) (λ o e.
-    lower_ended c (job_of h o) (turned (Printed Done) (job_of h o)) (sound size c base h l o) (omega arith) refl refl refl refl refl)
-lowers_all size c base h (AtPrinter p sheet Failed) is l m = lowers_turn size c base h p sheet Failed (λ o e.
-    lower_ended c (job_of h o) (turned Failed (job_of h o)) (sound size c base h l o) (omega arith) refl refl refl refl refl)
+lowers_all size c base h (AtPrinter p sheet turn) is l m = lowers_turn size c base h p sheet turn (λ o e.
+    lower_ended c (job_of h o) (turned turn (job_of h o)) (sound size c base h l o) (omega arith) refl refl refl refl refl)
 lowers_all size c base h (Removed q jobs) is l m = λ o has. lowers_removed_by c base h q jobs o (list_any (λ (k : ℕ). k == o.job) jobs) refl (sound size c base h l o)
 lowers_all size c base h (Started q) is l m = λ o has. lower_same c (job_of h o)
 lowers_all size c base h Closed is l m = λ o has. lower_removed c (job_of h o) (sound size c base h l o)

@@ -48,11 +48,7 @@ of_safe v g = safe_more (free_amount v) (free v.config v.jobs) (rows v.config v.
 
 quiet_accepts : {C : Type 0} (e : Event C) → is_quiet e ≡ true → accepted_by e ≡ []
 quiet_accepts (Opened k s q) is = absurd (clash false is refl)
-quiet_accepts (OfJob k act) is = refl
-quiet_accepts (AtPrinter p sheet turn) is = refl
-quiet_accepts (Removed q jobs) is = refl
-quiet_accepts (Started q) is = refl
-quiet_accepts Closed is = refl
+quiet_accepts _ is = refl
 
 jobs_after : {C : Type 0} (size : C → ℕ) (c : Config) (base : Base) (h : List (Event C)) (e : Event C) → IsLegal size c base h → May size (now c base h) e → accepted_by e ≡ [] → (now c base (e ∷ h)).jobs ≡ left (change e) (now c base h).jobs
 jobs_after {C} size c base h e l m none =
@@ -267,17 +263,8 @@ handed {C} size c base h p sheet l m st =
 step : {C : Type 0} (size : C → ℕ) (c : Config) (base : Base) (h : List (Event C)) (e : Event C) → EachCouldFinish c → IsLegal size c base h → May size (now c base h) e → IsGood c (now c base h).jobs → IsGood c (now c base (e ∷ h)).jobs
 step size c base h (Opened k s q) each l m st = opened size c base h k s q each l m st
 step size c base h (OfJob k Granted) each l m st = granted size c base h k l m
-step size c base h (OfJob k (Began name count)) each l m st = quiet size c base h (OfJob k (Began name count)) refl l m st
-step size c base h (OfJob k (Put file number page)) each l m st = quiet size c base h (OfJob k (Put file number page)) refl l m st
-step size c base h (OfJob k (FileEnded file whole)) each l m st = quiet size c base h (OfJob k (FileEnded file whole)) refl l m st
-step size c base h (OfJob k (Controlled control whole)) each l m st = quiet size c base h (OfJob k (Controlled control whole)) refl l m st
-step size c base h (OfJob k Aborted) each l m st = quiet size c base h (OfJob k Aborted) refl l m st
 step size c base h (AtPrinter p sheet Handed) each l m st = handed size c base h p sheet l m st
-step size c base h (AtPrinter p sheet (Printed x)) each l m st = quiet size c base h (AtPrinter p sheet (Printed x)) refl l m st
-step size c base h (AtPrinter p sheet Failed) each l m st = quiet size c base h (AtPrinter p sheet Failed) refl l m st
-step size c base h (Removed q jobs) each l m st = quiet size c base h (Removed q jobs) refl l m st
-step size c base h (Started q) each l m st = quiet size c base h (Started q) refl l m st
-step size c base h Closed each l m st = quiet size c base h Closed refl l m st
+step size c base h e each l m st = quiet size c base h e refl l m st
 
 stays_by : {C : Type 0} (size : C → ℕ) (c : Config) (base : Base) (h : List (Event C)) → EachCouldFinish c → IsLegal size c base h → IsGood c (now c base h).jobs
 stays_by size c base [] each l = ([], record { each_once = refl; in_line = tt; fits = tt })

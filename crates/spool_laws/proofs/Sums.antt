@@ -66,11 +66,7 @@ all_numbers size c base [] l f = (let e = ap (λ (i : ℕ). sum_by f (up_to i)) 
     and_none : (n : ℕ) → n + 0 ≡ n
     and_none n = omega arith
 all_numbers size c base (Opened k s q ∷ h) l f = more_numbers f base.accepted (openings h) (record { job = k; sender = s; queue = q }) l.0.4 (all_numbers size c base h l.1 f)
-all_numbers size c base (OfJob k act ∷ h) l f = all_numbers size c base h l.1 f
-all_numbers size c base (AtPrinter p sheet turn ∷ h) l f = all_numbers size c base h l.1 f
-all_numbers size c base (Removed q jobs ∷ h) l f = all_numbers size c base h l.1 f
-all_numbers size c base (Started q ∷ h) l f = all_numbers size c base h l.1 f
-all_numbers size c base (Closed ∷ h) l f = all_numbers size c base h l.1 f
+all_numbers size c base (_ ∷ h) l f = all_numbers size c base h l.1 f
 
 -- of jobs that the history doesn't know there is nothing to add
 pub numbers : {C : Type 0} (size : C → ℕ) (c : Config) (base : Base) (h : List (Event C)) → IsLegal size c base h → (f : ℕ → ℕ) → ((j : ℕ) → IsOther base h j → f j ≡ 0) → sum_by (λ (p : Opening). f p.job) (openings h) ≡ sum_by f (up_to (last base h))
@@ -215,9 +211,8 @@ turn_less {C} h p sheet turn le j = elim (test sheet.job j) [
 ]
 
 printed_less : {C : Type 0} (size : C → ℕ) (c : Config) (base : Base) (h : List (Event C)) (sheet : Sheet C) (x : Progress) → IsLegal size c base h → weight (turned (Printed x) (job_of h (numbered sheet.job))) ≤ weight_at h sheet.job
-printed_less size c base h sheet Going l = back_going (job_of h (numbered sheet.job)) _ _ refl refl
 printed_less size c base h sheet Done l = back_ended (job_of h (numbered sheet.job)) (sound size c base h l (numbered sheet.job))
-printed_less size c base h sheet Ended l = back_going (job_of h (numbered sheet.job)) _ _ refl refl
+printed_less size c base h sheet _ l = back_going (job_of h (numbered sheet.job)) _ _ refl refl
 
 removed_less : {C : Type 0} (h : List (Event C)) (q : ℕ) (jobs : List ℕ) (j : ℕ) (b : Bool) → list_any (λ (k : ℕ). k == j) jobs ≡ b → Sound (job_of h (numbered j)) → weight_at (Removed q jobs ∷ h) j ≤ weight_at h j
 removed_less h q jobs j true e s =
@@ -266,32 +261,17 @@ step_weights size c base h (OfJob k Granted) l m w =
     let one = act_granted size c base h k Granted 1 (m, l) refl refl a.is.0.0.0 a.is.0.0.1 in
     let s = up_one (weight_at h) (weight_at (OfJob k Granted ∷ h)) k (last base h) (λ j ne. (let o = other_act h k Granted j (λ x. ne (sym x)) in omega arith)) one in
     omega arith
-step_weights size c base h (OfJob k (Began name count)) l m w =
-    let a = has_at c base h k _ m.0 in
-    let here = act_granted size c base h k (Began name count) 0 (m, l) refl (omega arith) a.is.0.0 a.is.0.1 in
-    let s = up_less (weight_at h) (weight_at (OfJob k (Began name count) ∷ h)) (last base h) (act_less h k (Began name count) (omega arith)) in
-    omega arith
-step_weights size c base h (OfJob k (Put file number page)) l m w =
-    let a = has_at c base h k _ m.0 in
-    let here = act_granted size c base h k (Put file number page) 0 (m, l) refl (omega arith) a.is.0.0 a.is.0.1 in
-    let s = up_less (weight_at h) (weight_at (OfJob k (Put file number page) ∷ h)) (last base h) (act_less h k (Put file number page) (omega arith)) in
-    omega arith
-step_weights size c base h (OfJob k (FileEnded file whole)) l m w =
-    let a = has_at c base h k _ m.0 in
-    let here = act_granted size c base h k (FileEnded file whole) 0 (m, l) refl (omega arith) a.is.0.0 a.is.0.1 in
-    let s = up_less (weight_at h) (weight_at (OfJob k (FileEnded file whole) ∷ h)) (last base h) (act_less h k (FileEnded file whole) (omega arith)) in
-    omega arith
-step_weights size c base h (OfJob k (Controlled control whole)) l m w =
-    let a = has_at c base h k _ m.0 in
-    let here = act_granted size c base h k (Controlled control whole) 0 (m, l) refl (omega arith) a.is.0.0 a.is.0.1 in
-    let s = up_less (weight_at h) (weight_at (OfJob k (Controlled control whole) ∷ h)) (last base h) (act_less h k (Controlled control whole) (omega arith)) in
-    omega arith
 step_weights {C} size c base h (OfJob k Aborted) l m w =
     let v : Job C = job_of h (numbered k) in
     let a = aborted_here h k in
     let b = abort_less v in
     let d = ending v (sound size c base h l (numbered k)) in
     let s = up_less (weight_at h) (weight_at (OfJob k Aborted ∷ h)) (last base h) (act_less h k Aborted (omega arith)) in
+    omega arith
+step_weights size c base h (OfJob k act) l m w =
+    let a = has_at c base h k _ m.0 in
+    let here = act_granted size c base h k act 0 (m, l) refl (omega arith) a.is.0.0 a.is.0.1 in
+    let s = up_less (weight_at h) (weight_at (OfJob k act ∷ h)) (last base h) (act_less h k act (omega arith)) in
     omega arith
 step_weights {C} size c base h (AtPrinter p sheet Handed) l m w =
     let t = turn_of_page c base h p sheet m.0.0 m.0.1 m.1 in

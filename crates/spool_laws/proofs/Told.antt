@@ -228,15 +228,8 @@ within_opened {C} c base h k s q f is w o has =
 within_step : {C : Type 0} (size : C → ℕ) (c : Config) (base : Base) (h : List (Event C)) (e : Event C) → IsLegal size c base h → May size (now c base h) e → Within c base h → Within c base (e ∷ h)
 within_step size c base h (Opened k s q) l m w = within_opened c base h k s q (facts size c base h l) m.4 w
 within_step size c base h (OfJob k Granted) l m w = let a = has_at c base h k _ m.0 in within_granted c base h k _ (facts size c base h l) a a.is.1 w
-within_step size c base h (OfJob k (Began name count)) l m w = within_act c base h k (Began name count) (λ o has e. w o has) w
-within_step size c base h (OfJob k (Put file number page)) l m w = within_act c base h k (Put file number page) (λ o has e. w o has) w
-within_step size c base h (OfJob k (FileEnded file whole)) l m w = within_act c base h k (FileEnded file whole) (λ o has e. w o has) w
-within_step size c base h (OfJob k (Controlled control whole)) l m w = within_act c base h k (Controlled control whole) (λ o has e. w o has) w
-within_step size c base h (OfJob k Aborted) l m w = within_act c base h k Aborted (λ o has e. w o has) w
-within_step size c base h (AtPrinter p sheet turn) l m w = w
-within_step size c base h (Removed q jobs) l m w = w
-within_step size c base h (Started q) l m w = w
-within_step size c base h Closed l m w = w
+within_step size c base h (OfJob k act) l m w = within_act c base h k act (λ o has e. w o has) w
+within_step size c base h _ l m w = w
 
 pub within : {C : Type 0} (size : C → ℕ) (c : Config) (base : Base) (h : List (Event C)) → IsLegal size c base h → Within c base h
 within size c base [] l = λ o has. absurd has

@@ -67,21 +67,15 @@ whole_done {C} size c base h p sheet l m w j e =
     ]
 
 whole_step : {C : Type 0} (size : C → ℕ) (c : Config) (base : Base) (h : List (Event C)) (e : Event C) → IsLegal size c base h → May size (now c base h) e → Whole h → Whole (e ∷ h)
-whole_step size c base h (Opened k s q) l m w = w
 whole_step size c base h (OfJob k Granted) l m w = whole_act h k Granted (λ e. absurd (clash (has_ended h k) e (has_at c base h k _ m.0).is.0.0.0)) w
-whole_step size c base h (OfJob k (Began name count)) l m w = whole_act h k (Began name count) (λ e. absurd (clash (has_ended h k) e (has_at c base h k _ m.0).is.0.0)) w
-whole_step size c base h (OfJob k (Put file number page)) l m w = whole_act h k (Put file number page) (λ e. absurd (clash (has_ended h k) e (has_at c base h k _ m.0).is.0.0)) w
-whole_step size c base h (OfJob k (FileEnded file whole)) l m w = whole_act h k (FileEnded file whole) (λ e. absurd (clash (has_ended h k) e (has_at c base h k _ m.0).is.0.0)) w
-whole_step size c base h (OfJob k (Controlled control whole)) l m w = whole_act h k (Controlled control whole) (λ e. absurd (clash (has_ended h k) e (has_at c base h k _ m.0).is.0.0)) w
 whole_step size c base h (OfJob k Aborted) l m w = whole_act h k Aborted (λ e. aborted_places h k) w
+whole_step size c base h (OfJob k act) l m w = whole_act h k act (λ e. absurd (clash (has_ended h k) e (has_at c base h k _ m.0).is.0.0)) w
 whole_step size c base h (AtPrinter p sheet Handed) l m w = whole_handed h p sheet (turn_of_page c base h p sheet m.0.0 m.0.1 m.1) w
-whole_step size c base h (AtPrinter p sheet (Printed Going)) l m w = λ j e. whole_back h p sheet (Printed Going) j refl (w j e)
 whole_step size c base h (AtPrinter p sheet (Printed Done)) l m w = whole_done size c base h p sheet l m w
-whole_step size c base h (AtPrinter p sheet (Printed Ended)) l m w = λ j e. whole_back h p sheet (Printed Ended) j refl (w j e)
-whole_step size c base h (AtPrinter p sheet Failed) l m w = λ j e. whole_back h p sheet Failed j refl (w j e)
+whole_step size c base h (AtPrinter p sheet turn) l m w = λ j e. whole_back h p sheet turn j refl (w j e)
 whole_step size c base h (Removed q jobs) l m w = λ j e. (still_ended h (Removed q jobs) j (w j e).0, (w j e).1)
-whole_step size c base h (Started q) l m w = w
 whole_step size c base h Closed l m w = λ j e. (refl, (w j e).1)
+whole_step size c base h _ l m w = w
 
 pub whole : {C : Type 0} (size : C → ℕ) (c : Config) (base : Base) (h : List (Event C)) → IsLegal size c base h → Whole h
 whole size c base [] l = λ j e. absurd cc
