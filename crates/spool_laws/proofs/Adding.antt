@@ -10,12 +10,7 @@ use Rattle.spool_laws.proofs.Known.{Has, test}
 
 pub sum_less : {X : Type 0} (f g : X → ℕ) (xs : List X) → ((y : X) → Has y xs → f y ≤ g y) → sum_by f xs ≤ sum_by g xs
 sum_less f g [] le = omega arith
-sum_less f g (x ∷ xs) le =
-    let a = le x (inl refl) in
-    let ih = sum_less f g xs (λ y has. le y (inr has)) in
-    let k = sum_by-cons f x xs in
-    let l = sum_by-cons g x xs in
-    omega arith
+sum_less f g (x ∷ xs) le = omega (arith, le x (inl refl), sum_less f g xs (λ y has. le y (inr has)), sum_by-cons f x xs, sum_by-cons g x xs)
 
 pub sum_more : {X : Type 0} (f g : X → ℕ) (n : ℕ) (x : X) (xs : List X) → Has x xs → ((y : X) → f y ≤ g y) → f x + n ≤ g x → sum_by f xs + n ≤ sum_by g xs
 sum_more f g n x [] has le more = absurd has
@@ -25,39 +20,22 @@ sum_more {X} f g n x (y ∷ ys) has le more =
     elim has [
       | inl s ↦
           let here : f y + n ≤ g y = subst (λ (z : X). f z + n ≤ g z) (sym s) more in
-          let rest = sum_less f g ys (λ z t. le z) in
-          omega arith
+          omega (arith, sum_less f g ys (λ z t. le z))
       | inr t ↦ let a = le y in let ih = sum_more f g n x ys t le more in omega arith
     ]
 
 pub sum_same : {X : Type 0} (f g : X → ℕ) (xs : List X) → ((y : X) → f y ≡ g y) → sum_by f xs ≡ sum_by g xs
 sum_same f g [] e = refl
-sum_same f g (x ∷ xs) e =
-    let here = e x in
-    let ih = sum_same f g xs e in
-    let k = sum_by-cons f x xs in
-    let l = sum_by-cons g x xs in
-    omega arith
+sum_same f g (x ∷ xs) e = omega (arith, e x, sum_same f g xs e, sum_by-cons f x xs, sum_by-cons g x xs)
 
 -- where each is the sum of three, so is the sum
 pub sum_parts : {X : Type 0} (f a b d : X → ℕ) (xs : List X) → ((y : X) → Has y xs → f y ≡ a y + (b y + d y)) → sum_by f xs ≡ sum_by a xs + (sum_by b xs + sum_by d xs)
 sum_parts f a b d [] e = omega arith
-sum_parts f a b d (x ∷ xs) e =
-    let here = e x (inl refl) in
-    let ih = sum_parts f a b d xs (λ y has. e y (inr has)) in
-    let k = sum_by-cons f x xs in
-    let l = sum_by-cons a x xs in
-    let m = sum_by-cons b x xs in
-    let n = sum_by-cons d x xs in
-    omega arith
+sum_parts f a b d (x ∷ xs) e = omega (arith, e x (inl refl), sum_parts f a b d xs (λ y has. e y (inr has)), sum_by-cons f x xs, sum_by-cons a x xs, sum_by-cons b x xs, sum_by-cons d x xs)
 
 pub sum_map : {X Y : Type 0} (f : Y → ℕ) (g : X → Y) (xs : List X) → sum_by f (map g xs) ≡ sum_by (λ (x : X). f (g x)) xs
 sum_map f g [] = refl
-sum_map {X} f g (x ∷ xs) =
-    let ih = sum_map f g xs in
-    let k = sum_by-cons f (g x) (map g xs) in
-    let l = sum_by-cons (λ (y : X). f (g y)) x xs in
-    omega arith
+sum_map {X} f g (x ∷ xs) = omega (arith, sum_map f g xs, sum_by-cons f (g x) (map g xs), sum_by-cons (λ (y : X). f (g y)) x xs)
 
 sum_filter_by : {X : Type 0} (f : X → ℕ) (t : X → Bool) (x : X) (xs : List X) (b : Bool) → t x ≡ b → sum_by f (filter t xs) ≡ sum_by (λ (y : X). cond (t y) (f y) 0) xs
     → sum_by f (filter t (x ∷ xs)) ≡ sum_by (λ (y : X). cond (t y) (f y) 0) (x ∷ xs)
@@ -85,12 +63,7 @@ length_up_to f (suc n) = ap length (map-append f (up_to n) (suc n ∷ [])) ∙ (
 
 pub up_below : (f g : ℕ → ℕ) (n : ℕ) → ((q : ℕ) → q ≤ n → g q ≤ f q) → sum_by g (up_to n) ≤ sum_by f (up_to n)
 up_below f g zero le = omega arith
-up_below f g (suc n) le =
-    let ih = up_below f g n (λ q l. le q (omega arith)) in
-    let a = le (suc n) (omega arith) in
-    let k = sum_by_push f (up_to n) (suc n) in
-    let l = sum_by_push g (up_to n) (suc n) in
-    omega arith
+up_below f g (suc n) le = omega (arith, up_below f g n (λ q l. le q (omega arith)), le (suc n) (omega arith), sum_by_push f (up_to n) (suc n), sum_by_push g (up_to n) (suc n))
 
 pub up_less : (f g : ℕ → ℕ) (n : ℕ) → ((q : ℕ) → g q ≤ f q) → sum_by g (up_to n) ≤ sum_by f (up_to n)
 up_less f g n le = up_below f g n (λ q l. le q)
@@ -102,20 +75,14 @@ up_one f g p (suc n) le one =
     let l = sum_by_push g (up_to n) (suc n) in
     elim (test (suc n) p) [
       | inl s ↦
-          let s0 = s.0 in
-          let rest = up_below f g n (λ q l. le q (λ e. (let z : q ≡ p = e in omega arith))) in
           let here : g (suc n) ≤ f (suc n) + 1 = subst (λ (i : ℕ). g i ≤ f i + 1) (sym s.0) one in
-          omega arith
+          omega (arith, s.0, up_below f g n (λ q l. le q (λ e. (let z : q ≡ p = e in omega arith))))
       | inr s ↦ let a = le (suc n) s.0 in let ih = up_one f g p n le one in omega arith
     ]
 
 pub up_none : (f : ℕ → ℕ) (n : ℕ) → ((q : ℕ) → f q ≡ 0) → sum_by f (up_to n) ≡ 0
 up_none f zero none = refl
-up_none f (suc n) none =
-    let ih = up_none f n none in
-    let a = none (suc n) in
-    let k = sum_by_push f (up_to n) (suc n) in
-    omega arith
+up_none f (suc n) none = omega (arith, up_none f n none, none (suc n), sum_by_push f (up_to n) (suc n))
 
 pub has_left : {X : Type 0} (x : X) (xs ys : List X) → Has x xs → Has x (xs ++ ys)
 has_left x [] ys has = absurd has

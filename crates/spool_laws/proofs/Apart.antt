@@ -57,10 +57,7 @@ filled_put : {C : Type 0} (a : List (Act C)) (file number : ℕ) (page : C) (bef
 filled_put {C} a file number page before last e was f =
     let one : one_for (is_lent_by a) ≡ 1 = rw was refl in
     let now' : files_by (Put file number page ∷ a) ≡ before ++ with_page page last ∷ [] = ap (λ (l : List (File C)). at_last (with_page page) l) e ∙ last_push (with_page page) before last in
-    let n = ap pages_in now' ∙ pages_last before (with_page page last) in
-    let m = ap pages_in e ∙ pages_last before last in
-    let p = length_push last.pages page in
-    omega arith
+    omega (arith, ap pages_in now' ∙ pages_last before (with_page page last), ap pages_in e ∙ pages_last before last, length_push last.pages page)
 
 filled_step : {C : Type 0} (size : C → ℕ) (c : Config) (base : Base) (h : List (Event C)) (e : Event C) → May size (now c base h) e → ((j : ℕ) → FilledAt h j) → (j : ℕ) → FilledAt (e ∷ h) j
 filled_step size c base h (Opened k s q) m f = λ j g. f j (ended_before h (Opened k s q) j g)
@@ -176,8 +173,7 @@ balanced_handed {C} c base h p sheet f one le t b =
     omega arith)) (omega arith) in
     let was : out_of h p ≡ 0 = ap (λ (x : Option (Sheet C)). one_for (is_some x)) t.idle in
     let is : out_of (e ∷ h) p ≡ 1 = ap (λ (x : Option (Sheet C)). one_for (is_some x)) (handed_out h p sheet) in
-    let printers = up_once (out_of h) (out_of (e ∷ h)) p (printer_count c) one le (λ q ne. out_other h p sheet Handed q ne) (omega arith) in
-    omega arith
+    omega (arith, up_once (out_of h) (out_of (e ∷ h)) p (printer_count c) one le (λ q ne. out_other h p sheet Handed q ne) (omega arith))
 
 balanced_back : {C : Type 0} (c : Config) (base : Base) (h : List (Event C)) (p : ℕ) (sheet : Sheet C) (turn : Turn) → is_handed turn ≡ false → Facts base h → 1 ≤ p → p ≤ printer_count c → out_at h p ≡ Some sheet → Balanced c base h → Balanced c base (AtPrinter p sheet turn ∷ h)
 balanced_back {C} c base h p sheet turn back f one le out b =
@@ -193,8 +189,7 @@ balanced_back {C} c base h p sheet turn back f one le out b =
     omega arith)) (omega arith) in
     let was : out_of h p ≡ 1 = ap (λ (x : Option (Sheet C)). one_for (is_some x)) out in
     let is : out_of (e ∷ h) p ≡ 0 = ap (λ (x : Option (Sheet C)). one_for (is_some x)) (out_here h p sheet turn p back refl) in
-    let printers = up_once (out_of (e ∷ h)) (out_of h) p (printer_count c) one le (λ q ne. sym (out_other h p sheet turn q ne)) (omega arith) in
-    omega arith
+    omega (arith, up_once (out_of (e ∷ h)) (out_of h) p (printer_count c) one le (λ q ne. sym (out_other h p sheet turn q ne)) (omega arith))
 
 balanced : {C : Type 0} (size : C → ℕ) (c : Config) (base : Base) (h : List (Event C)) → IsLegal size c base h → Balanced c base h
 balanced {C} size c base [] l = up_none (outs (no_events C)) (last base (no_events C)) (λ j. refl) ∙ sym (up_none (out_of (no_events C)) (printer_count c) (λ p. refl))

@@ -21,11 +21,7 @@ length_numbered file n (x ∷ xs) = ap suc (length_numbered file (n + 1) xs)
 
 length_all : {C : Type 0} (n : ℕ) (fs : List (File C)) → length (all_pages n fs) ≡ pages_in fs
 length_all n [] = refl
-length_all n (f ∷ fs) =
-    let a = length-append (numbered n 0 f.pages) (all_pages (n + 1) fs) in
-    let l = length_numbered n 0 f.pages in
-    let ih = length_all (n + 1) fs in
-    omega arith
+length_all n (f ∷ fs) = omega (arith, length-append (numbered n 0 f.pages) (all_pages (n + 1) fs), length_numbered n 0 f.pages, length_all (n + 1) fs)
 
 -- what a test keeps of a list
 
@@ -66,10 +62,7 @@ any_later t (suc n) (x ∷ xs) e = any_later t n xs (subst (λ (m : ℕ). list_a
 pub kept_within : {C : Type 0} (v : Job C) → length (pages_kept v) ≤ pages_in v.files
 kept_within {C} v =
     let is_kept : Page C → Bool = λ page. list_any (is_same_page page) (drop v.back (places v)) in
-    let n = length-filter is_kept (all_pages 0 v.files) in
-    let le = count_by-le-length is_kept (all_pages 0 v.files) in
-    let all = length_all 0 v.files in
-    omega arith
+    omega (arith, length-filter is_kept (all_pages 0 v.files), count_by-le-length is_kept (all_pages 0 v.files), length_all 0 v.files)
 
 -- and no more of them once one more place came back
 pub kept_fewer : {C : Type 0} (v : Job C) → length (pages_kept (record v { back = v.back + 1 })) ≤ length (pages_kept v)
@@ -148,10 +141,7 @@ places_times : {C : Type 0} (n : ℕ) (fs : List (File C)) (names : List (List �
 places_times n fs [] le = omega arith
 places_times zero fs (name ∷ names) le = absurd (omega arith)
 places_times (suc n) fs (name ∷ names) le =
-    let ih = places_times n fs names (omega arith) in
-    let a = named_within name 0 fs in
-    let e = length-append (pages_named name 0 fs) (flat_map (λ name. pages_named name 0 fs) names) in
-    omega arith
+    omega (arith, places_times n fs names (omega arith), named_within name 0 fs, length-append (pages_named name 0 fs) (flat_map (λ name. pages_named name 0 fs) names))
 
 pub places_many : {C : Type 0} (v : Job C) → length (prints_in v.control) ≤ 99 → length (places v) ≤ 99 * pages_in v.files
 places_many v le = let a = places_times 99 v.files (prints_in v.control) le in omega arith

@@ -76,11 +76,9 @@ count_page page (f ∷ g ∷ fs) = ap (λ (n : ℕ). one_if f.ended + n) (count_
 count_end : {C : Type 0} (fs before : List (File C)) (last : File C) → fs ≡ before ++ last ∷ [] → last.ended ≡ false → ended_count (at_last with_end fs) ≡ ended_count fs + 1
 count_end fs before last e open' =
     let a : ended_count (at_last with_end fs) ≡ ended_count (before ++ with_end last ∷ []) = ap (λ l. ended_count (at_last with_end l)) e ∙ ap ended_count (last_push with_end before last) in
-    let b = count_push before (with_end last) in
     let d : ended_count fs ≡ ended_count (before ++ last ∷ []) = ap ended_count e in
-    let g = count_push before last in
     let z : one_if last.ended ≡ 0 = ap one_if open' in
-    omega arith
+    omega (arith, count_push before (with_end last), count_push before last)
 
 pub one_le : (b : Bool) → one_if b ≤ 1
 one_le true = omega arith

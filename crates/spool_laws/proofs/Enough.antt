@@ -34,10 +34,7 @@ weight_small i v = elim (test (suc i) v.queue) [ inl s ↦ rw s.1 (printers_smal
 
 holds_weight : {C : Type 0} (c : Config) (i : ℕ) (jobs : List (Job C)) → holds (suc i) (rows c jobs) ≤ tally (weight i) jobs
 holds_weight c i [] = omega arith
-holds_weight c i (v ∷ vs) =
-    let ih = holds_weight c i vs in
-    let a = at_most (λ (r : ℕ). cond (r == v.queue) (printers_held v) 0) (length c.queues) i in
-    omega arith
+holds_weight c i (v ∷ vs) = omega (arith, holds_weight c i vs, at_most (λ (r : ℕ). cond (r == v.queue) (printers_held v) 0) (length c.queues) i)
 
 begun_if : {C : Type 0} (i : ℕ) (v : Job C) → 0 < weight i v → (v.queue ≡ suc i) × (0 < v.handed)
 begun_if i v pos = elim (test (suc i) v.queue) [
@@ -86,10 +83,7 @@ printers_counted {C} size c base h i l =
     omega arith
 
 printers_within : {C : Type 0} (size : C → ℕ) (c : Config) (base : Base) (h : List (Event C)) (i : ℕ) → IsLegal size c base h → holds (suc i) (rows c (now c base h).jobs) ≤ amount (capacity c) (suc i)
-printers_within {C} size c base h i l =
-    let a = holds_weight c i (now c base h).jobs in
-    let b = printers_counted size c base h i l in
-    omega arith
+printers_within {C} size c base h i l = omega (arith, holds_weight c i (now c base h).jobs, printers_counted size c base h i l)
 
 pub get_printers : (qs : List Queue) (i : ℕ) → get_or (map (λ (q : Queue). q.printers) qs) i 0 ≡ (slice_index_or qs i no_queue).printers
 get_printers [] i = refl
@@ -99,11 +93,7 @@ get_printers (q ∷ qs) (suc i) = get_printers qs i
 -- each kind
 
 pub kind_within : {C : Type 0} (size : C → ℕ) (c : Config) (base : Base) (h : List (Event C)) → IsLegal size c base h → (k : ℕ) → holds k (rows c (now c base h).jobs) ≤ amount (capacity c) k
-kind_within size c base h l zero =
-    let e = holds_sum 0 (rows c (now c base h).jobs) in
-    let r = rows_held c (now c base h).jobs in
-    let w = (pages_add_up size c base h l).within in
-    omega arith
+kind_within size c base h l zero = omega (arith, holds_sum 0 (rows c (now c base h).jobs), rows_held c (now c base h).jobs, (pages_add_up size c base h l).within)
 kind_within size c base h l (suc i) = printers_within size c base h i l
 
 of_queue : {C : Type 0} (q i : ℕ) (v : Job C) → suc i ≡ q → cond (v.queue == q) (printers_held v) 0 ≤ weight i v
@@ -114,11 +104,7 @@ of_queue q i v e = elim (test v.queue q) [
 
 of_queues : {C : Type 0} (q i : ℕ) (jobs : List (Job C)) → suc i ≡ q → sum_by (λ (v : Job C). cond (v.queue == q) (printers_held v) 0) jobs ≤ tally (weight i) jobs
 of_queues q i [] e = omega arith
-of_queues {C} q i (v ∷ vs) e =
-    let ih = of_queues q i vs e in
-    let one = of_queue q i v e in
-    let k = sum_by-cons (λ (v : Job C). cond (v.queue == q) (printers_held v) 0) v vs in
-    omega arith
+of_queues {C} q i (v ∷ vs) e = omega (arith, of_queues q i vs e, of_queue q i v e, sum_by-cons (λ (v : Job C). cond (v.queue == q) (printers_held v) 0) v vs)
 
 enough_printers : {C : Type 0} (size : C → ℕ) (c : Config) (base : Base) (h : List (Event C)) (q : ℕ) → IsLegal size c base h → IsQueue c q → held_printers (now c base h) q ≤ (queue_at c q).printers
 enough_printers size c base h zero l is = absurd (omega (arith, is.0))

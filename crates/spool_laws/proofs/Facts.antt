@@ -253,10 +253,7 @@ facts_handed {C} h p sheet f t =
         | inr s ↦
             let b' : began_at h q ≡ Some j = rw s.1 at b in
             let ne : sheet.job ≢ j = λ same. others h p sheet f t q (λ z. s.0 (sym z)) (subst (λ (i : ℕ). began_at h q ≡ Some i) (sym same) b') in
-            let i = f.idle q j (rw s.1 at e) b' in
-            let m = count_more h p sheet j ne in
-            let d = back_same h p sheet j in
-            omega arith
+            omega (arith, f.idle q j (rw s.1 at e) b', count_more h p sheet j ne, back_same h p sheet j)
       ];
       began = λ q j b. elim (test sheet.job j) [
         | inl s ↦ let m = count_one h p sheet j s.0 in omega arith
@@ -338,9 +335,8 @@ facts_back {C} h p sheet turn is f o =
           let s = ap length (handed_same h p sheet turn j is) in
           elim (test sheet.job j) [
             | inl r ↦
-                let m = back_one h p sheet turn j is r.0 in
                 let w : handed_at h j ≡ back_of h j + 1 = subst (λ (i : ℕ). handed_at h i ≡ back_of h i + 1) r.0 was.1 in
-                omega arith
+                omega (arith, back_one h p sheet turn j is r.0)
             | inr r ↦ let m = back_more h p sheet turn j r.0 in let b = f.back j in omega arith
           ]);
       out = λ q x e. elim (test p q) [
@@ -360,19 +356,14 @@ facts_back {C} h p sheet turn is f o =
           elim (test p q) [
             | inl s ↦
                 let j' : sheet.job ≡ j = some_is sheet.job j (sym was.0 ∙ subst (λ (r : ℕ). began_at h r ≡ Some j) (sym s.0) b') in
-                let m = back_one h p sheet turn j is j' in
                 let w : handed_at h j ≡ back_of h j + 1 = subst (λ (i : ℕ). handed_at h i ≡ back_of h i + 1) j' was.1 in
-                omega arith
+                omega (arith, back_one h p sheet turn j is j')
             | inr s ↦
                 let ne : sheet.job ≢ j = λ same. s.0 (f.alone p q sheet.job was.0 (subst (λ (i : ℕ). began_at h q ≡ Some i) (sym same) b')) in
-                let i = f.idle q j (sym (out_there h p sheet turn q s.0) ∙ e) b' in
-                let m = back_more h p sheet turn j ne in
-                omega arith
+                omega (arith, f.idle q j (sym (out_there h p sheet turn q s.0) ∙ e) b', back_more h p sheet turn j ne)
           ]);
       began = λ q j b. (
-          let n = ap length (handed_same h p sheet turn j is) in
-          let o' = f.began q j (sym (began_same h p sheet turn q is) ∙ b) in
-          omega arith);
+          omega (arith, ap length (handed_same h p sheet turn j is), f.began q j (sym (began_same h p sheet turn q is) ∙ b)));
       alone = λ q r j b d. f.alone q r j (sym (began_same h p sheet turn q is) ∙ b) (sym (began_same h p sheet turn r is) ∙ d);
     }
 

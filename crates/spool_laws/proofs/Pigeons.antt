@@ -44,24 +44,17 @@ without_here p f r e = elim (test r p) [ inl s ↦ rw s.1 refl | inr s ↦ absur
 
 total_below : (p n : ℕ) (f : ℕ → ℕ) → n < p → total (without p f) n ≡ total f n
 total_below p zero f lt = refl
-total_below p (suc n) f lt =
-    let ih = total_below p n f (omega arith) in
-    let o = without_other p f (suc n) (λ e. omega arith) in
-    omega arith
+total_below p (suc n) f lt = omega (arith, total_below p n f (omega arith), without_other p f (suc n) (λ e. omega arith))
 
 total_without : (p n : ℕ) (f : ℕ → ℕ) → 1 ≤ p → p ≤ n → total f n ≡ f p + total (without p f) n
 total_without p zero f one le = absurd (omega arith)
 total_without p (suc n) f one le = elim (test p (suc n)) [
   | inl s ↦
-      let b = total_below p n f (let e : p ≡ suc n = s.0 in omega arith) in
-      let z = without_here p f (suc n) (sym s.0) in
       let e : f p ≡ f (suc n) = ap f s.0 in
-      omega arith
+      omega (arith, total_below p n f (let e : p ≡ suc n = s.0 in omega arith), without_here p f (suc n) (sym s.0))
   | inr s ↦
       let ne : p ≢ suc n = s.0 in
-      let ih = total_without p n f one (omega arith) in
-      let o = without_other p f (suc n) (λ e. ne (sym e)) in
-      omega arith
+      omega (arith, total_without p n f one (omega arith), without_other p f (suc n) (λ e. ne (sym e)))
 ]
 
 -- a place of 1 to n that counts, and that is the one of this number
@@ -90,10 +83,7 @@ pigeons {X} T one w name n f (x ∷ xs) small r has = elim (test (w x) 0) [
       let same = without_other p.at f q.at ne' in
       let counts = q.counts in
       record { at = q.at; one = q.one; le = q.le; counts = omega arith; tied = q.tied } in
-      let ih = pigeons T one w name n (without p.at f) xs small r.1 rest in
-      let split = total_without p.at n f p.one p.le in
-      let counts = p.counts in
-      omega arith
+      omega (arith, pigeons T one w name n (without p.at f) xs small r.1 rest, total_without p.at n f p.one p.le, p.counts)
 ]
 
 -- how many printers serve a queue
@@ -131,13 +121,11 @@ first_total : (n : ℕ) (q : Queue) (qs : List Queue) (k a : ℕ) (b : Bool) →
 first_total n q qs k zero true e le = refl
 first_total n q qs k zero false e le = refl
 first_total n q qs k (suc a) true e le =
-    let ih = first_total n q qs k a true e (omega arith) in
     let s : serves n (q ∷ qs) k (suc a) ≡ 1 = serves_first n q qs k (suc a) le ∙ rw e refl in
-    omega arith
+    omega (arith, first_total n q qs k a true e (omega arith))
 first_total n q qs k (suc a) false e le =
-    let ih = first_total n q qs k a false e (omega arith) in
     let s : serves n (q ∷ qs) k (suc a) ≡ 0 = serves_first n q qs k (suc a) le ∙ rw e refl in
-    omega arith
+    omega (arith, first_total n q qs k a false e (omega arith))
 
 later_total : (n : ℕ) (q : Queue) (qs : List Queue) (k m : ℕ) (b : Bool) → (n == k) ≡ b → total (serves n (q ∷ qs) k) (q.printers + m) ≡ cond b q.printers 0 + total (serves (n + 1) qs k) m
 later_total n q qs k zero b is =
@@ -188,9 +176,7 @@ get_last f n i ih = by (nat_le n i) refl
     by : (b : Bool) → nat_le n i ≡ b → get_or (map f (up_to n) ++ f (suc n) ∷ []) i 0 ≤ f (suc i)
     by false e =
         let lt : i < n = grind (arith, nat_tests) in
-        let l' = l in
-        let g = get_or_append_left (map f (up_to n)) (f (suc n) ∷ []) 0 i (omega arith) in
-        omega arith
+        omega (arith, l, get_or_append_left (map f (up_to n)) (f (suc n) ∷ []) 0 i (omega (arith, l)))
     by true e = elim (test n i) [
       | inl s ↦
           let g : get_or (map f (up_to n) ++ f (suc n) ∷ []) i 0 ≡ f (suc n) = get_or_at (map f (up_to n)) (f (suc n)) [] 0 i (l ∙ s.0) in
@@ -199,15 +185,9 @@ get_last f n i ih = by (nat_le n i) refl
       | inr s ↦
           let le : n ≤ i = grind (arith, nat_tests) in
           let ne : n ≢ i = s.0 in
-          let p = length_push (map f (up_to n)) (f (suc n)) in
-          let l' = l in
-          let g = beyond (map f (up_to n) ++ f (suc n) ∷ []) i (omega arith) in
-          omega arith
+          omega (arith, beyond (map f (up_to n) ++ f (suc n) ∷ []) i (omega (arith, length_push (map f (up_to n)) (f (suc n)), l)))
     ]
 
 pub at_most : (f : ℕ → ℕ) (n i : ℕ) → get_or (map f (up_to n)) i 0 ≤ f (suc i)
 at_most f zero i = omega arith
-at_most f (suc n) i =
-    let e = ap (λ (l : List ℕ). get_or l i 0) (map-append f (up_to n) (suc n ∷ [])) in
-    let l = get_last f n i (at_most f n i) in
-    omega arith
+at_most f (suc n) i = omega (arith, ap (λ (l : List ℕ). get_or l i 0) (map-append f (up_to n) (suc n ∷ [])), get_last f n i (at_most f n i))

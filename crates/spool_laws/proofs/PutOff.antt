@@ -270,14 +270,8 @@ held_printers c j i [] = refl
 held_printers c j i (u ∷ us) = let ih = held_printers c j i us in let p = granted_printers c j i u in omega arith
 
 within : {C : Type 0} (size : C → ℕ) (c : Config) (base : Base) (h : List (Event C)) (j : ℕ) → IsLegal size c base h → holds 0 (rows c (now c base h).jobs) < amount (capacity c) 0 → (k : ℕ) → holds k (rows c (map (grant j) (now c base h).jobs)) ≤ amount (capacity c) k
-within size c base h j l lt zero =
-    let p = held_pages c j (now c base h).jobs in
-    let o = one_of j (now c base h).jobs (rising_jobs size c base h l) in
-    omega arith
-within size c base h j l lt (suc i) =
-    let p = held_printers c j i (now c base h).jobs in
-    let w = kind_within size c base h l (suc i) in
-    omega arith
+within size c base h j l lt zero = omega (arith, held_pages c j (now c base h).jobs, one_of j (now c base h).jobs (rising_jobs size c base h l))
+within size c base h j l lt (suc i) = omega (arith, held_printers c j i (now c base h).jobs, kind_within size c base h l (suc i))
 
 -- rows may be taken away that give back what they hold
 safe_first_ones : (f : ℕ → ℕ) (a b : List Row) → HasFinishingOrder f (a ++ b) → HasFinishingOrder (λ k. f k + holds k b) a

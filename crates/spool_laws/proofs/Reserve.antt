@@ -68,11 +68,7 @@ more_handed h p sheet j =
     ]
 
 one_handed : {C : Type 0} (h : List (Event C)) (p : ℕ) (sheet : Sheet C) (j : ℕ) → sheet.job ≡ j → used h j + 1 ≤ used (AtPrinter p sheet Handed ∷ h) j
-one_handed h p sheet j e =
-    let b = back_same h p sheet j in
-    let f = failed_less h p sheet Handed j (sheet.job == j) false refl refl in
-    let n = count_one h p sheet j e in
-    omega arith
+one_handed h p sheet j e = omega (arith, back_same h p sheet j, failed_less h p sheet Handed j (sheet.job == j) false refl refl, count_one h p sheet j e)
 
 more_back : {C : Type 0} (h : List (Event C)) (p : ℕ) (sheet : Sheet C) (turn : Turn) → is_handed turn ≡ false → (j : ℕ) → used h j ≤ used (AtPrinter p sheet turn ∷ h) j
 more_back h p sheet turn is j =
@@ -84,18 +80,10 @@ more_back h p sheet turn is j =
     ]
 
 one_back : {C : Type 0} (h : List (Event C)) (p : ℕ) (sheet : Sheet C) (turn : Turn) → is_handed turn ≡ false → (j : ℕ) → sheet.job ≡ j → used h j + 1 ≤ used (AtPrinter p sheet turn ∷ h) j
-one_back h p sheet turn is j e =
-    let n = ap length (handed_same h p sheet turn j is) in
-    let f = failed_less h p sheet turn j (sheet.job == j) (is_failed turn) refl refl in
-    let b = back_one h p sheet turn j is e in
-    omega arith
+one_back h p sheet turn is j e = omega (arith, ap length (handed_same h p sheet turn j is), failed_less h p sheet turn j (sheet.job == j) (is_failed turn) refl refl, back_one h p sheet turn j is e)
 
 two_failed : {C : Type 0} (h : List (Event C)) (p : ℕ) (sheet : Sheet C) (j : ℕ) → sheet.job ≡ j → used h j + 2 ≤ used (AtPrinter p sheet Failed ∷ h) j
-two_failed h p sheet j e =
-    let n = ap length (handed_same h p sheet Failed j refl) in
-    let f = failed_one h p sheet j e in
-    let b = back_one h p sheet Failed j refl e in
-    omega arith
+two_failed h p sheet j e = omega (arith, ap length (handed_same h p sheet Failed j refl), failed_one h p sheet j e, back_one h p sheet Failed j refl e)
 
 more_removed : {C : Type 0} (h : List (Event C)) (q : ℕ) (jobs : List ℕ) (j : ℕ) (b : Bool) → list_any (λ (k : ℕ). k == j) jobs ≡ b → used h j + one_if b ≤ used (Removed q jobs ∷ h) j
 more_removed h q jobs j true e = let n : removed_of (Removed q jobs ∷ h) j ≡ removed_of h j + 1 = rw e refl in omega arith
@@ -153,9 +141,7 @@ opened_told : {C : Type 0} (c : Config) (base : Base) (h : List (Event C)) (k s 
 opened_told {C} c base h k s q t =
     let e : Event C = Opened k s q in
     let x : Opening = record { job = k; sender = s; queue = q } in
-    let p = sum_by_push (used_by (e ∷ h)) (openings h) x in
-    let m = sum_less (used_by h) (used_by (e ∷ h)) (openings h) (λ o has. omega arith) in
-    omega arith
+    omega (arith, sum_by_push (used_by (e ∷ h)) (openings h) x, sum_less (used_by h) (used_by (e ∷ h)) (openings h) (λ o has. omega arith))
 
 turn_told : {C : Type 0} (c : Config) (base : Base) (h : List (Event C)) (p : ℕ) (sheet : Sheet C) (turn : Turn) (o : Opening) → Has o (openings h) → is_failed turn ≡ false → ((j : ℕ) → used h j ≤ used (AtPrinter p sheet turn ∷ h) j) → used h o.job + 1 ≤ used (AtPrinter p sheet turn ∷ h) o.job → Told' c base h → Told' c base (AtPrinter p sheet turn ∷ h)
 turn_told c base h p sheet turn o has is le one t =
@@ -176,8 +162,7 @@ removed_told {C} c base h P q (k ∷ ks) pos all t =
     let a = has_at c base h k P all.0 in
     let le : (o : Opening) → used h o.job ≤ used (Removed q (k ∷ ks) ∷ h) o.job = λ o. (let m = more_removed h q (k ∷ ks) o.job (list_any (λ (i : ℕ). i == o.job) (k ∷ ks)) refl in omega arith) in
     let one : used h k + 1 ≤ used (Removed q (k ∷ ks) ∷ h) k = more_removed h q (k ∷ ks) k true (any_first k k ks refl) in
-    let s = sum_more (used_by h) (used_by (Removed q (k ∷ ks) ∷ h)) 1 (record { job = k; sender = a.sender; queue = a.queue }) (openings h) a.there le one in
-    omega arith
+    omega (arith, sum_more (used_by h) (used_by (Removed q (k ∷ ks) ∷ h)) 1 (record { job = k; sender = a.sender; queue = a.queue }) (openings h) a.there le one)
 
 started_told : {C : Type 0} (c : Config) (base : Base) (h : List (Event C)) (q p : ℕ) → 1 ≤ p → p ≤ printer_count c → queue_of c p ≡ q → is_stopped_at base h (queue_of c p) p ≡ true → Told' c base h → Told' c base (Started q ∷ h)
 started_told c base h q p one le e is t =
@@ -188,8 +173,7 @@ started_told c base h q p one le e is t =
 closed_told : {C : Type 0} (c : Config) (base : Base) (h : List (Event C)) → is_closed base h ≡ false → Told' c base h → Told' c base (Closed ∷ h)
 closed_told c base h e t =
     let z : one_if (is_closed base h) ≡ 0 = ap one_if e in
-    let m = sum_less (used_by h) (used_by (Closed ∷ h)) (openings h) (λ o has. omega arith) in
-    omega arith
+    omega (arith, sum_less (used_by h) (used_by (Closed ∷ h)) (openings h) (λ o has. omega arith))
 
 abbrev pub no_events : (C : Type 0) → List (Event C)
 no_events C = []
@@ -224,7 +208,4 @@ told_of size c base (e ∷ h) k l = told_step size c base h e l.1 l.0 (told_of s
 
 pub reserve_is_enough : {C : Type 0} (size : C → ℕ) (c : Config) (base : Base) (h : List (Event C)) → CountsStops c base → IsLegal size c base h → length h ≤ (now c base h).reserved + 1
 reserve_is_enough size c base h k l =
-    let t = told_of size c base h k l in
-    let s = sum_less (used_by h) (λ (o : Opening). reserve_of c o.queue) (openings h) (λ o has. reserved size c base h l o has) in
-    let one = one_le (is_closed base h) in
-    omega arith
+    omega (arith, told_of size c base h k l, sum_less (used_by h) (λ (o : Opening). reserve_of c o.queue) (openings h) (λ o has. reserved size c base h l o has), one_le (is_closed base h))

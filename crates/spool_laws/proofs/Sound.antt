@@ -53,10 +53,9 @@ one_out size c base (AtPrinter p sheet Handed ∷ h) l j =
     let b = back_same h p sheet j in
     elim (test sheet.job j) [
       | inl s ↦
-          let n = count_one h p sheet j s.0 in
           let here = handed_now h p sheet (facts size c base h l.1) (turn_of_page c base h p sheet l.0.0.0 l.0.0.1 l.0.1) in
           let here' : handed_at h j ≡ back_of h j = subst (λ (i : ℕ). handed_at h i ≡ back_of h i) s.0 here in
-          omega arith
+          omega (arith, count_one h p sheet j s.0)
       | inr s ↦ let n = count_more h p sheet j s.0 in omega arith
     ]
 one_out size c base (AtPrinter p sheet turn ∷ h) l j = more_back h p sheet turn refl j (one_out size c base h l.1 j)
@@ -138,13 +137,10 @@ out_kept v s = by (nat_lt v.back (length (places v))) refl
     by : (b : Bool) → nat_lt v.back (length (places v)) ≡ b → v.handed - v.back ≤ length (pages_kept v)
     by true e =
         let lt : v.back < length (places v) = grind (arith, nat_tests) in
-        let one = kept_some v lt in
-        let out = s.out in
-        omega arith
+        omega (arith, kept_some v lt, s.out)
     by false e =
         let le : length (places v) ≤ v.back = grind (arith, nat_tests) in
-        let handed = s.handed in
-        omega arith
+        omega (arith, s.handed)
 
 -- the pages of it that are out are among those that it holds
 pub out_within_by : {C : Type 0} (v : Job C) (e r l : Bool) → v.ended ≡ e → is_received v ≡ r → v.lent ≡ l → Sound v → pages_out v ≤ pages_held v

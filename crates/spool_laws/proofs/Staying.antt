@@ -135,9 +135,8 @@ could c w q is (suc i) =
     elim (test (suc i) q) [
       | inl s ↦
           let a' : get_or (map (λ (r : ℕ). cond (r == q) 1 0) (up_to (length c.queues))) i 0 ≤ 1 = rw s.1 at a in
-          let one = w.printers q is in
           let same : (queue_at c q).printers ≡ (slice_index_or c.queues i no_queue).printers = ap (λ (n : ℕ). (slice_index_or (no_queue ∷ c.queues) n no_queue).printers) (sym s.0) in
-          omega arith
+          omega (arith, w.printers q is)
       | inr s ↦
           let a' : get_or (map (λ (r : ℕ). cond (r == q) 1 0) (up_to (length c.queues))) i 0 ≤ 0 = rw s.1 at a in
           omega arith
@@ -185,8 +184,7 @@ line_true u w e = (let a = and_parts (w.sender == u.sender) (w.queue == u.queue)
 nothing_more : {C : Type 0} (c : Config) (v : Job C) → pages_needed c v ≡ 0 → printers_needed v ≡ 0 → (k : ℕ) → amount (row_of c v).need k ≡ 0
 nothing_more c v p n k =
     let a : amount (row_of c v).need k ≤ amount (amounts c 0 v.queue 0) k = amount_le c v.queue (pages_needed c v) 0 (printers_needed v) 0 (omega arith) (omega arith) k in
-    let z = nothing_of c v.queue k in
-    omega arith
+    omega (arith, nothing_of c v.queue k)
 
 contains_at : {X : Type 0} (x : X) (xs : List X) → Has x xs → Rattle.std.specs.Prelude.Contains xs x
 contains_at x [] has = absurd has

@@ -51,14 +51,11 @@ Numbers f n os = sum_by f (up_to n) + sum_by (λ (p : Opening). f p.job) os ≡ 
 
 more_numbers : (f : ℕ → ℕ) (n : ℕ) (os : List Opening) (x : Opening) → x.job ≡ n + length os + 1 → Numbers f n os → Numbers f n (os ++ x ∷ [])
 more_numbers f n os x e ih =
-    let l = length_push os x in
-    let m : n + length (os ++ x ∷ []) ≡ suc (n + length os) = omega arith in
+    let m : n + length (os ++ x ∷ []) ≡ suc (n + length os) = omega (arith, length_push os x) in
     let j : x.job ≡ suc (n + length os) = omega arith in
     let fj : f x.job ≡ f (suc (n + length os)) = ap f j in
-    let a = sum_by_push (λ (p : Opening). f p.job) os x in
-    let b = sum_by_push f (up_to (n + length os)) (suc (n + length os)) in
     let u : sum_by f (up_to (n + length (os ++ x ∷ []))) ≡ sum_by f (up_to (n + length os) ++ suc (n + length os) ∷ []) = ap (λ (i : ℕ). sum_by f (up_to i)) m in
-    omega arith
+    omega (arith, sum_by_push (λ (p : Opening). f p.job) os x, sum_by_push f (up_to (n + length os)) (suc (n + length os)))
 
 all_numbers : {C : Type 0} (size : C → ℕ) (c : Config) (base : Base) (h : List (Event C)) → IsLegal size c base h → (f : ℕ → ℕ) → Numbers f base.accepted (openings h)
 all_numbers size c base [] l f = (let e = ap (λ (i : ℕ). sum_by f (up_to i)) (sym (and_none base.accepted)) in omega arith)
@@ -71,11 +68,8 @@ all_numbers size c base (_ ∷ h) l f = all_numbers size c base h l.1 f
 -- of jobs that the history doesn't know there is nothing to add
 pub numbers : {C : Type 0} (size : C → ℕ) (c : Config) (base : Base) (h : List (Event C)) → IsLegal size c base h → (f : ℕ → ℕ) → ((j : ℕ) → IsOther base h j → f j ≡ 0) → sum_by (λ (p : Opening). f p.job) (openings h) ≡ sum_by f (up_to (last base h))
 numbers size c base h l f none =
-    let all = all_numbers size c base h l f in
     let nothing : ℕ → ℕ = λ (j : ℕ). 0 in
-    let below = up_below nothing f base.accepted (λ j le. (let z = none j (inl le) in omega arith)) in
-    let zero' = up_none nothing base.accepted (λ j. refl) in
-    omega arith
+    omega (arith, all_numbers size c base h l f, up_below nothing f base.accepted (λ j le. (let z = none j (inl le) in omega arith)), up_none nothing base.accepted (λ j. refl))
 
 -- nothing is held of a job of which nothing is said
 weight_unknown_by : {C : Type 0} (h : List (Event C)) (j : ℕ) (b : Bool) → has_ended h j ≡ b → Unknown h j → weight_at h j ≡ 0
@@ -121,15 +115,11 @@ out_least : {C : Type 0} (v : Job C) (e : Bool) → v.ended ≡ e → Sound v �
 out_least v true e s = let w = weight_ended v e in omega arith
 out_least v false e s =
     let w : weight v ≡ pages_held v = rw e refl in
-    let o = out_within v s in
-    omega arith
+    omega (arith, out_within v s)
 
 -- a job that is ended holds no more than before
 ending : {C : Type 0} (v : Job C) → Sound v → weight (record v { ended = true }) ≤ weight v
-ending v s =
-    let w = weight_ended (record v { ended = true }) refl in
-    let o = out_least v v.ended refl s in
-    omega arith
+ending v s = omega (arith, weight_ended (record v { ended = true }) refl, out_least v v.ended refl s)
 
 changed : {C : Type 0} (h : List (Event C)) (e : Event C) (j : ℕ) → weight_at (e ∷ h) j ≡ weight (change e (job_of h (numbered j)))
 changed {C} h e j = ap (λ (v : Job C). weight v) (changes h e (numbered j))
@@ -161,10 +151,7 @@ act_granted {C} size c base h k act n l ends is goes_on receiving =
     omega arith
 
 abort_less : {C : Type 0} (v : Job C) → weight (record v { lent = false; ended = true }) ≤ weight (record v { ended = true })
-abort_less v =
-    let w = weight_ended (record v { ended = true }) refl in
-    let u = weight_ended (record v { lent = false; ended = true }) refl in
-    omega arith
+abort_less v = omega (arith, weight_ended (record v { ended = true }) refl, weight_ended (record v { lent = false; ended = true }) refl)
 
 aborted_here : {C : Type 0} (h : List (Event C)) (k : ℕ) → weight_at (OfJob k Aborted ∷ h) k ≡ weight (record (job_of h (numbered k)) { lent = false; ended = true })
 aborted_here h k = changed h (OfJob k Aborted) k ∙ elim (test k k) [ inl s ↦ rw s.1 refl | inr s ↦ absurd (s.0 refl) ]
@@ -175,25 +162,12 @@ handed_less : {C : Type 0} (v : Job C) → v.ended ≡ false → weight (record 
 handed_less v e = let a = weight_going v e in let b = weight_going (record v { handed = v.handed + 1 }) e in omega arith
 
 back_ended : {C : Type 0} (v : Job C) → Sound v → weight (record v { back = v.back + 1; ended = true }) ≤ weight v
-back_ended v s =
-    let w = weight_ended (record v { back = v.back + 1; ended = true }) refl in
-    let l = out_least v v.ended refl s in
-    omega arith
+back_ended v s = omega (arith, weight_ended (record v { back = v.back + 1; ended = true }) refl, out_least v v.ended refl s)
 
 back_going : {C : Type 0} (v : Job C) (e r : Bool) → v.ended ≡ e → is_received v ≡ r → weight (record v { back = v.back + 1 }) ≤ weight v
-back_going v true r is re =
-    let a = weight_ended v is in
-    let b = weight_ended (record v { back = v.back + 1 }) is in
-    omega arith
-back_going v false true is re =
-    let a = weight_received v is re in
-    let b = weight_received (record v { back = v.back + 1 }) is re in
-    let n = kept_fewer v in
-    omega arith
-back_going v false false is re =
-    let a = weight_receiving v is re in
-    let b = weight_receiving (record v { back = v.back + 1 }) is re in
-    omega arith
+back_going v true r is re = omega (arith, weight_ended v is, weight_ended (record v { back = v.back + 1 }) is)
+back_going v false true is re = omega (arith, weight_received v is re, weight_received (record v { back = v.back + 1 }) is re, kept_fewer v)
+back_going v false false is re = omega (arith, weight_receiving v is re, weight_receiving (record v { back = v.back + 1 }) is re)
 
 other_turn : {C : Type 0} (h : List (Event C)) (p : ℕ) (sheet : Sheet C) (turn : Turn) (j : ℕ) → sheet.job ≢ j → weight_at (AtPrinter p sheet turn ∷ h) j ≡ weight_at h j
 other_turn h p sheet turn j ne = changed h (AtPrinter p sheet turn) j ∙ elim (test sheet.job j) [ inl s ↦ absurd (ne s.0) | inr s ↦ rw s.1 refl ]
@@ -217,8 +191,7 @@ printed_less size c base h sheet _ l = back_going (job_of h (numbered sheet.job)
 removed_less : {C : Type 0} (h : List (Event C)) (q : ℕ) (jobs : List ℕ) (j : ℕ) (b : Bool) → list_any (λ (k : ℕ). k == j) jobs ≡ b → Sound (job_of h (numbered j)) → weight_at (Removed q jobs ∷ h) j ≤ weight_at h j
 removed_less h q jobs j true e s =
     let w : weight_at (Removed q jobs ∷ h) j ≡ weight (record (job_of h (numbered j)) { ended = true }) = changed h (Removed q jobs) j ∙ rw e refl in
-    let n = ending (job_of h (numbered j)) s in
-    omega arith
+    omega (arith, ending (job_of h (numbered j)) s)
 removed_less h q jobs j false e s =
     let w : weight_at (Removed q jobs ∷ h) j ≡ weight_at h j = changed h (Removed q jobs) j ∙ rw e refl in
     omega arith
@@ -228,11 +201,8 @@ removed_less h q jobs j false e s =
 pub rows_held : {C : Type 0} (c : Config) (vs : List (Job C)) → sum_by (λ (row : Row). amount row.held 0) (map (row_of c) vs) ≡ sum_by (λ (v : Job C). pages_held v) vs
 rows_held c [] = refl
 rows_held {C} c (v ∷ vs) =
-    let ih = rows_held c vs in
-    let k = sum_by-cons (λ (row : Row). amount row.held 0) (row_of c v) (map (row_of c) vs) in
-    let l = sum_by-cons (λ (v : Job C). pages_held v) v vs in
     let a : amount (row_of c v).held 0 ≡ pages_held v = refl in
-    omega arith
+    omega (arith, rows_held c vs, sum_by-cons (λ (row : Row). amount row.held 0) (row_of c v) (map (row_of c) vs), sum_by-cons (λ (v : Job C). pages_held v) v vs)
 
 pub free_rest : {C : Type 0} (c : Config) (base : Base) (h : List (Event C)) → free_pages (now c base h) ≡ c.pages - held_pages c base h
 free_rest c base h = ap (λ (n : ℕ). c.pages - n) (rows_held c (now c base h).jobs)
@@ -242,57 +212,35 @@ free_rest c base h = ap (λ (n : ℕ). c.pages - n) (rows_held c (now c base h).
 opened_weights : {C : Type 0} (base : Base) (h : List (Event C)) (k s q : ℕ) → weight_at h (suc (last base h)) ≡ 0 → weights base (Opened k s q ∷ h) ≤ weights base h
 opened_weights {C} base h k s q none =
     let e : Event C = Opened k s q in
-    let l = length_push (openings h) (record { job = k; sender = s; queue = q }) in
-    let m : last base (e ∷ h) ≡ suc (last base h) = omega arith in
+    let m : last base (e ∷ h) ≡ suc (last base h) = omega (arith, length_push (openings h) (record { job = k; sender = s; queue = q })) in
     let u : weights base (e ∷ h) ≡ sum_by (weight_at h) (up_to (last base h) ++ suc (last base h) ∷ []) = ap (λ (i : ℕ). sum_by (weight_at (e ∷ h)) (up_to i)) m in
-    let b = sum_by_push (weight_at h) (up_to (last base h)) (suc (last base h)) in
-    omega arith
+    omega (arith, sum_by_push (weight_at h) (up_to (last base h)) (suc (last base h)))
+
+-- where no job holds more than before, they all hold no more
+less : {C : Type 0} (c : Config) (base : Base) (h : List (Event C)) (e : Event C) → last base (e ∷ h) ≡ last base h → weights base h ≤ c.pages → ((j : ℕ) → weight_at (e ∷ h) j ≤ weight_at h j) → weights base (e ∷ h) ≤ c.pages
+less c base h e same w le = omega (arith, ap (λ (n : ℕ). sum_by (weight_at (e ∷ h)) (up_to n)) same, up_less (weight_at h) (weight_at (e ∷ h)) (last base h) le)
 
 step_weights : {C : Type 0} (size : C → ℕ) (c : Config) (base : Base) (h : List (Event C)) (e : Event C) → IsLegal size c base h → May size (now c base h) e → weights base h ≤ c.pages → weights base (e ∷ h) ≤ c.pages
 step_weights size c base h (Opened k s q) l m w =
-    let u = (facts size c base h l).fresh (suc (last base h)) (inr (omega arith)) in
-    let o = opened_weights base h k s q (weight_unknown h (suc (last base h)) u) in
-    omega arith
+    omega (arith, opened_weights base h k s q (weight_unknown h (suc (last base h)) ((facts size c base h l).fresh (suc (last base h)) (inr (omega arith)))))
 step_weights size c base h (OfJob k Granted) l m w =
     let a = has_at c base h k _ m.0 in
-    let free = m.1.0 in
-    let f = free_rest c base h in
-    let held = held_weights size c base h l in
     let one = act_granted size c base h k Granted 1 (m, l) refl refl a.is.0.0.0 a.is.0.0.1 in
-    let s = up_one (weight_at h) (weight_at (OfJob k Granted ∷ h)) k (last base h) (λ j ne. (let o = other_act h k Granted j (λ x. ne (sym x)) in omega arith)) one in
-    omega arith
-step_weights {C} size c base h (OfJob k Aborted) l m w =
-    let v : Job C = job_of h (numbered k) in
-    let a = aborted_here h k in
-    let b = abort_less v in
-    let d = ending v (sound size c base h l (numbered k)) in
-    let s = up_less (weight_at h) (weight_at (OfJob k Aborted ∷ h)) (last base h) (act_less h k Aborted (omega arith)) in
-    omega arith
+    omega (arith, m.1.0, free_rest c base h, held_weights size c base h l, up_one (weight_at h) (weight_at (OfJob k Granted ∷ h)) k (last base h) (λ j ne. omega (arith, other_act h k Granted j (λ x. ne (sym x)))) one)
+step_weights size c base h (OfJob k Aborted) l m w =
+    let v = job_of h (numbered k) in
+    less c base h (OfJob k Aborted) refl w (act_less h k Aborted (omega (arith, aborted_here h k, abort_less v, ending v (sound size c base h l (numbered k)))))
 step_weights size c base h (OfJob k act) l m w =
     let a = has_at c base h k _ m.0 in
-    let here = act_granted size c base h k act 0 (m, l) refl (omega arith) a.is.0.0 a.is.0.1 in
-    let s = up_less (weight_at h) (weight_at (OfJob k act ∷ h)) (last base h) (act_less h k act (omega arith)) in
-    omega arith
-step_weights {C} size c base h (AtPrinter p sheet Handed) l m w =
-    let t = turn_of_page c base h p sheet m.0.0 m.0.1 m.1 in
-    let v : Job C = job_of h (numbered sheet.job) in
-    let s = up_less (weight_at h) (weight_at (AtPrinter p sheet Handed ∷ h)) (last base h) (turn_less h p sheet Handed (handed_less v t.at.is.goes_on)) in
-    omega arith
-step_weights size c base h (AtPrinter p sheet (Printed x)) l m w =
-    let s = up_less (weight_at h) (weight_at (AtPrinter p sheet (Printed x) ∷ h)) (last base h) (turn_less h p sheet (Printed x) (printed_less size c base h sheet x l)) in
-    omega arith
+    less c base h (OfJob k act) refl w (act_less h k act (omega (arith, act_granted size c base h k act 0 (m, l) refl (omega arith) a.is.0.0 a.is.0.1)))
+step_weights size c base h (AtPrinter p sheet Handed) l m w =
+    less c base h (AtPrinter p sheet Handed) refl w (turn_less h p sheet Handed (handed_less (job_of h (numbered sheet.job)) (turn_of_page c base h p sheet m.0.0 m.0.1 m.1).at.is.goes_on))
+step_weights size c base h (AtPrinter p sheet (Printed x)) l m w = less c base h (AtPrinter p sheet (Printed x)) refl w (turn_less h p sheet (Printed x) (printed_less size c base h sheet x l))
 step_weights size c base h (AtPrinter p sheet Failed) l m w =
-    let s = up_less (weight_at h) (weight_at (AtPrinter p sheet Failed ∷ h)) (last base h) (turn_less h p sheet Failed (back_ended (job_of h (numbered sheet.job)) (sound size c base h l (numbered sheet.job)))) in
-    omega arith
-step_weights size c base h (Removed q jobs) l m w =
-    let s = up_less (weight_at h) (weight_at (Removed q jobs ∷ h)) (last base h) (λ j. removed_less h q jobs j (list_any (λ (k : ℕ). k == j) jobs) refl (sound size c base h l (numbered j))) in
-    omega arith
-step_weights size c base h (Started q) l m w =
-    let s = up_less (weight_at h) (weight_at (Started q ∷ h)) (last base h) (λ j. (let e = changed h (Started q) j in omega arith)) in
-    omega arith
-step_weights size c base h Closed l m w =
-    let s = up_less (weight_at h) (weight_at (Closed ∷ h)) (last base h) (λ j. (let e = changed h Closed j in let d = ending (job_of h (numbered j)) (sound size c base h l (numbered j)) in omega arith)) in
-    omega arith
+    less c base h (AtPrinter p sheet Failed) refl w (turn_less h p sheet Failed (back_ended (job_of h (numbered sheet.job)) (sound size c base h l (numbered sheet.job))))
+step_weights size c base h (Removed q jobs) l m w = less c base h (Removed q jobs) refl w (λ j. removed_less h q jobs j (list_any (λ (k : ℕ). k == j) jobs) refl (sound size c base h l (numbered j)))
+step_weights size c base h (Started q) l m w = less c base h (Started q) refl w (λ j. omega (arith, changed h (Started q) j))
+step_weights size c base h Closed l m w = less c base h Closed refl w (λ j. omega (arith, changed h Closed j, ending (job_of h (numbered j)) (sound size c base h l (numbered j))))
 
 weights_within : {C : Type 0} (size : C → ℕ) (c : Config) (base : Base) (h : List (Event C)) → IsLegal size c base h → weights base h ≤ c.pages
 weights_within {C} size c base [] l = (let z = up_none (weight_at (no_events C)) (last base (no_events C)) (λ j. refl) in omega arith)
