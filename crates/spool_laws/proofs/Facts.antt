@@ -75,32 +75,44 @@ acts_other h k act j ne = elim (test k j) [ inl s ↦ absurd (ne s.0) | inr s �
 ended_other : {C : Type 0} (h : List (Event C)) (k : ℕ) (act : Act C) (j : ℕ) → k ≢ j → has_ended h j ≡ false → has_ended (OfJob k act ∷ h) j ≡ false
 ended_other h k act j ne e = elim (test k j) [ inl s ↦ absurd (ne s.0) | inr s ↦ rw s.1 e ]
 
-unknown_act : {C : Type 0} (h : List (Event C)) (k : ℕ) (act : Act C) (j : ℕ) → k ≢ j → Unknown h j → Unknown (OfJob k act ∷ h) j
-unknown_act h k act j ne u = record {
-  acts = acts_other h k act j ne ∙ u.acts;
-  handed = u.handed;
-  back = u.back;
-  ended = λ open'. ended_other h k act j ne (u.ended open');
-}
-
 begun_act : {C : Type 0} {base : Base} (h : List (Event C)) (k : ℕ) (act : Act C) → Facts base h → (received_at (OfJob k act ∷ h) k ≡ false → received_at h k ≡ false) → (j : ℕ) → received_at (OfJob k act ∷ h) j ≡ false → handed_at h j ≡ 0
 begun_act {C} h k act f before j e = elim (test k j) [
   | inl s ↦ subst (λ (i : ℕ). handed_at h i ≡ 0) s.0 (f.begun k (before (subst (λ (i : ℕ). received_at (OfJob k act ∷ h) i ≡ false) (sym s.0) e)))
   | inr s ↦ f.begun j (rw s.1 at e)
 ]
 
-facts_act : {C : Type 0} {base : Base} (h : List (Event C)) (k : ℕ) (act : Act C) → Facts base h → IsNumber base h k → (received_at (OfJob k act ∷ h) k ≡ false → received_at h k ≡ false) → Facts base (OfJob k act ∷ h)
-facts_act {base = base} h k act f le before = record {
+-- the events by which no job is accepted and no page moves
+abbrev is_still : {C : Type 0} → Event C → Bool
+is_still (Opened k s q) = false
+is_still (AtPrinter p sheet turn) = false
+is_still _ = true
+
+open_before : {C : Type 0} (base : Base) (h : List (Event C)) (e : Event C) → is_closed base (e ∷ h) ≡ false → is_closed base h ≡ false
+open_before base h Closed o = absurd (clash true refl o)
+open_before base h _ o = o
+
+facts_still : {C : Type 0} {base : Base} (h : List (Event C)) (e : Event C) → is_still e ≡ true → Facts base h → ((j : ℕ) → IsOther base h j → acts_of (e ∷ h) j ≡ acts_of h j)
+    → ((j : ℕ) → IsOther base h j → is_closed first_base (e ∷ h) ≡ false → has_ended h j ≡ false → has_ended (e ∷ h) j ≡ false)
+    → ((j : ℕ) → received_at (e ∷ h) j ≡ false → handed_at h j ≡ 0) → Facts base (e ∷ h)
+facts_still h (Opened k s q) is f acts ended begun = absurd (clash false is refl)
+facts_still h (AtPrinter p sheet turn) is f acts ended begun = absurd (clash false is refl)
+facts_still h e is f acts ended begun = record {
   numbers = f.numbers;
   once = f.once;
-  fresh = λ j lt. unknown_act h k act j (other_number base h k j le lt) (f.fresh j lt);
-  begun = begun_act h k act f before;
+  fresh = λ j other. (
+      let u = f.fresh j other in
+      record { acts = acts j other ∙ u.acts; handed = u.handed; back = u.back; ended = λ open'. ended j other open' (u.ended (open_before first_base h e open')) });
+  begun = begun;
   back = f.back;
   out = f.out;
   idle = f.idle;
   began = f.began;
   alone = f.alone;
 }
+
+facts_act : {C : Type 0} {base : Base} (h : List (Event C)) (k : ℕ) (act : Act C) → Facts base h → IsNumber base h k → (received_at (OfJob k act ∷ h) k ≡ false → received_at h k ≡ false) → Facts base (OfJob k act ∷ h)
+facts_act {base = base} h k act f is before = facts_still h (OfJob k act) refl f (λ j other. acts_other h k act j (other_number base h k j is other))
+    (λ j other open' e. ended_other h k act j (other_number base h k j is other) e) (begun_act h k act f before)
 
 facts_opened : {C : Type 0} {base : Base} (h : List (Event C)) (k s q : ℕ) → Facts base h → k ≡ last base h + 1 → Facts base (Opened k s q ∷ h)
 facts_opened {C} {base = base} h k s q f is =
@@ -196,11 +208,8 @@ back_same h p sheet j = elim (test sheet.job j) [ inl s ↦ rw s.1 refl | inr s 
 ended_turn : {C : Type 0} (h : List (Event C)) (p : ℕ) (sheet : Sheet C) (turn : Turn) (j : ℕ) → sheet.job ≢ j → has_ended h j ≡ false → has_ended (AtPrinter p sheet turn ∷ h) j ≡ false
 ended_turn h p sheet turn j ne e = elim (test sheet.job j) [ inl s ↦ absurd (ne s.0) | inr s ↦ rw s.1 e ]
 
-some_is : (k j : ℕ) → ◌≡◌ {A = Option ℕ} (Some k) (Some j) → k ≡ j
-some_is k j e = cc
-
-some_sheet : {C : Type 0} (s t : Sheet C) → ◌≡◌ {A = Option (Sheet C)} (Some s) (Some t) → s ≡ t
-some_sheet s t e = cc
+some_same : {X : Type 0} (x y : X) → ◌≡◌ {A = Option X} (Some x) (Some y) → x ≡ y
+some_same x y e = cc
 
 none_some : {C : Type 0} (s : Sheet C) → ◌≡◌ {A = Option (Sheet C)} None (Some s) → ⊥
 none_some s e = cc
@@ -232,7 +241,7 @@ facts_handed {C} h p sheet f t =
       ];
       out = λ q x e. elim (test p q) [
         | inl s ↦
-            let x' : sheet ≡ x = some_sheet sheet x (rw s.1 at e) in
+            let x' : sheet ≡ x = some_same sheet x (rw s.1 at e) in
             let j' : sheet.job ≡ x.job = ap (λ (y : Sheet C). y.job) x' in
             let now' : handed_at h x.job ≡ back_of h x.job = subst (λ (i : ℕ). handed_at h i ≡ back_of h i) j' here in
             let m = count_one h p sheet x.job j' in
@@ -258,7 +267,7 @@ facts_handed {C} h p sheet f t =
       began = λ q j b. elim (test sheet.job j) [
         | inl s ↦ let m = count_one h p sheet j s.0 in omega arith
         | inr s ↦ elim (test p q) [
-          | inl r ↦ absurd (s.0 (some_is sheet.job j (rw r.1 at b)))
+          | inl r ↦ absurd (s.0 (some_same sheet.job j (rw r.1 at b)))
           | inr r ↦ let m = count_more h p sheet j s.0 in let o = f.began q j (rw r.1 at b) in omega arith
         ]
       ];
@@ -266,12 +275,12 @@ facts_handed {C} h p sheet f t =
         | inl s ↦ elim (test p r) [
           | inl u ↦ sym s.0 ∙ u.0
           | inr u ↦
-              let same : sheet.job ≡ j = some_is sheet.job j (rw s.1 at b) in
+              let same : sheet.job ≡ j = some_same sheet.job j (rw s.1 at b) in
               absurd (others h p sheet f t r (λ z. u.0 (sym z)) (subst (λ (i : ℕ). began_at h r ≡ Some i) (sym same) (rw u.1 at d)))
         ]
         | inr s ↦ elim (test p r) [
           | inl u ↦
-              let same : sheet.job ≡ j = some_is sheet.job j (rw u.1 at d) in
+              let same : sheet.job ≡ j = some_same sheet.job j (rw u.1 at d) in
               absurd (others h p sheet f t q (λ z. s.0 (sym z)) (subst (λ (i : ℕ). began_at h q ≡ Some i) (sym same) (rw s.1 at b)))
           | inr u ↦ f.alone q r j (rw s.1 at b) (rw u.1 at d)
         ]
@@ -355,7 +364,7 @@ facts_back {C} h p sheet turn is f o =
           let n = ap length (handed_same h p sheet turn j is) in
           elim (test p q) [
             | inl s ↦
-                let j' : sheet.job ≡ j = some_is sheet.job j (sym was.0 ∙ subst (λ (r : ℕ). began_at h r ≡ Some j) (sym s.0) b') in
+                let j' : sheet.job ≡ j = some_same sheet.job j (sym was.0 ∙ subst (λ (r : ℕ). began_at h r ≡ Some j) (sym s.0) b') in
                 let w : handed_at h j ≡ back_of h j + 1 = subst (λ (i : ℕ). handed_at h i ≡ back_of h i + 1) j' was.1 in
                 omega (arith, back_one h p sheet turn j is j')
             | inr s ↦
@@ -375,48 +384,6 @@ none_named c base h P j (k ∷ ks) f lt all =
     let n = number_at h k P f (has_at c base h k P all.0) in
     let rest = none_named c base h P j ks f lt all.1 in
     elim (test k j) [ inl s ↦ absurd (other_number base h k j n lt s.0) | inr s ↦ rw s.1 rest ]
-
-facts_removed : {C : Type 0} (c : Config) (base : Base) (h : List (Event C)) (P : Job C → Type 0) (q : ℕ) (jobs : List ℕ) → Facts base h → AllByRecursion (λ k. HasJob (now c base h).jobs k P) jobs → Facts base (Removed q jobs ∷ h)
-facts_removed c base h P q jobs f all = record {
-  numbers = f.numbers;
-  once = f.once;
-  fresh = λ j lt. (
-      let u = f.fresh j lt in
-      let none = none_named c base h P j jobs f lt all in
-      record { acts = u.acts; handed = u.handed; back = u.back; ended = λ open'. rw none (u.ended open') });
-  begun = f.begun;
-  back = f.back;
-  out = f.out;
-  idle = f.idle;
-  began = f.began;
-  alone = f.alone;
-}
-
-facts_started : {C : Type 0} {base : Base} (h : List (Event C)) (q : ℕ) → Facts base h → Facts base (Started q ∷ h)
-facts_started h q f = record {
-  numbers = f.numbers;
-  once = f.once;
-  fresh = λ j lt. (let u = f.fresh j lt in record { acts = u.acts; handed = u.handed; back = u.back; ended = u.ended });
-  begun = f.begun;
-  back = f.back;
-  out = f.out;
-  idle = f.idle;
-  began = f.began;
-  alone = f.alone;
-}
-
-facts_closed : {C : Type 0} {base : Base} (h : List (Event C)) → Facts base h → Facts base (Closed ∷ h)
-facts_closed h f = record {
-  numbers = f.numbers;
-  once = f.once;
-  fresh = λ j lt. (let u = f.fresh j lt in record { acts = u.acts; handed = u.handed; back = u.back; ended = λ open'. absurd (clash true refl open') });
-  begun = f.begun;
-  back = f.back;
-  out = f.out;
-  idle = f.idle;
-  began = f.began;
-  alone = f.alone;
-}
 
 no_facts : {C : Type 0} (base : Base) → Facts {C = C} base []
 no_facts base = record {
@@ -452,9 +419,9 @@ facts_step size c base h (OfJob k act) f m =
 facts_step size c base h (AtPrinter p sheet Handed) f m = facts_handed h p sheet f (turn_of_page c base h p sheet m.0.0 m.0.1 m.1)
 facts_step size c base h (AtPrinter p sheet (Printed x)) f m = facts_back h p sheet (Printed x) refl f (is_out c base h p sheet m.0 m.1.0)
 facts_step size c base h (AtPrinter p sheet Failed) f m = facts_back h p sheet Failed refl f (is_out c base h p sheet m.0 m.1)
-facts_step size c base h (Removed q jobs) f m = facts_removed c base h _ q jobs f m.4
-facts_step size c base h (Started q) f m = facts_started h q f
-facts_step size c base h Closed f m = facts_closed h f
+facts_step size c base h (Removed q jobs) f m = facts_still h (Removed q jobs) refl f (λ j other. refl) (λ j other open' e. rw (none_named c base h _ j jobs f other m.4) e) f.begun
+facts_step size c base h (Started q) f m = facts_still h (Started q) refl f (λ j other. refl) (λ j other open' e. e) f.begun
+facts_step size c base h Closed f m = facts_still h Closed refl f (λ j other. refl) (λ j other open' e. absurd (clash true refl open')) f.begun
 
 pub facts : {C : Type 0} (size : C → ℕ) (c : Config) (base : Base) (h : List (Event C)) → IsLegal size c base h → Facts base h
 facts size c base [] l = no_facts base
