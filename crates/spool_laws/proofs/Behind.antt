@@ -20,6 +20,7 @@ use Rattle.spool_laws.proofs.Printers.{at_printer}
 use Rattle.spool_laws.proofs.Turns.{given}
 use Rattle.spool_laws.proofs.Facts.{Facts, facts, last, handed_at, handed_more, handed_same}
 use Rattle.spool_laws.proofs.Moves.{steady}
+use Rattle.spool_laws.proofs.Leaves.{each_handed}
 
 abbrev pub IsBehind : {C : Type 0} → List (Event C) → Opening → Opening → Type 0
 IsBehind h o k = Has o (openings h) × Has k (openings h) × (o.job < k.job) × (o.sender ≡ k.sender) × (o.queue ≡ k.queue)
@@ -98,11 +99,6 @@ pub behind : {C : Type 0} (size : C → ℕ) (c : Config) (base : Base) (h : Lis
 behind size c base [] l = λ o k is pos. absurd is.0
 behind size c base (e ∷ h) l = behind_step size c base h e l.1 l.0 (behind size c base h l.1)
 
-gone_before : {C : Type 0} (size : C → ℕ) (c : Config) (base : Base) (h : List (Event C)) (p : ℕ) (sheet : Sheet C) → IsLegal size c base h → May size (now c base h) (AtPrinter p sheet Handed) → EarlierAreGone h sheet
-gone_before size c base h p sheet l m o k has also same lt s q =
-    now_gone c base h p sheet (facts size c base h l) (behind size c base h l) m.0 m.1 o k (has_contained o (openings h) has, has_contained k (openings h) also, lt, s, q) same
-
 pub each_in_order : {C : Type 0} (size : C → ℕ) (c : Config) (base : Base) (h : List (Event C)) → IsLegal size c base h → EachHanded EarlierAreGone h
-each_in_order size c base [] l = tt
-each_in_order size c base (AtPrinter p sheet Handed ∷ h) l = (gone_before size c base h p sheet l.1 l.0, each_in_order size c base h l.1)
-each_in_order size c base (_ ∷ h) l = each_in_order size c base h l.1
+each_in_order size c base h l = each_handed size c base EarlierAreGone h (λ h p sheet l m o k has also same lt s q.
+    now_gone c base h p sheet (facts size c base h l) (behind size c base h l) m.0 m.1 o k (has_contained o (openings h) has, has_contained k (openings h) also, lt, s, q) same) l

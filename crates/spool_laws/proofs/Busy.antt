@@ -21,7 +21,7 @@ use Rattle.spool_laws.proofs.Turns.{given, open_by, runs_by, idle_by}
 use Rattle.spool_laws.proofs.Facts.{Facts, facts, last, began_same, turn_of_page, handed_at, received_at, handed_more, handed_same}
 use Rattle.spool_laws.proofs.Moves.{steady}
 use Rattle.spool_laws.proofs.Held.{Keeps, keeps}
-use Rattle.spool_laws.proofs.Pigeons.{Rises, rises_push}
+use Rattle.spool_laws.proofs.Pigeons.{Rises, rises_push, rises_filter, rises_map}
 
 -- a job to which a page is lent isn't received
 pub lent_unreceived : {C : Type 0} (h : List (Event C)) (j : ℕ) → Keeps (acts_of h j) → is_lent_by (acts_of h j) ≡ true → received_at h j ≡ false
@@ -181,39 +181,14 @@ busy size c base (e ∷ h) l = busy_step size c base h e l.1 l.0 (busy size c ba
 
 -- the numbers of the jobs rise
 
-rising_openings : {C : Type 0} (size : C → ℕ) (c : Config) (base : Base) (h : List (Event C)) → IsLegal size c base h → Rises (λ (o : Opening). o.job) (openings h)
+pub rising_openings : {C : Type 0} (size : C → ℕ) (c : Config) (base : Base) (h : List (Event C)) → IsLegal size c base h → Rises (λ (o : Opening). o.job) (openings h)
 rising_openings size c base [] l = tt
 rising_openings size c base (Opened k s q ∷ h) l =
     rises_push (λ (o : Opening). o.job) (openings h) (record { job = k; sender = s; queue = q }) (rising_openings size c base h l.1)
     (λ y t. let n = (facts size c base h l.1).numbers y t in let is = l.0.4 in omega arith)
 rising_openings size c base (_ ∷ h) l = rising_openings size c base h l.1
 
-abbrev Comes : {C : Type 0} → List (Event C) → List Opening → Job C → Type 0
-Comes h os x = (o : Opening) × Has o os × (x ≡ job_of h o)
-
-comes_by : {C : Type 0} (h : List (Event C)) (o : Opening) (os : List Opening) (x : Job C) (b : Bool) → is_held (job_of h o) ≡ b → Has x (filter is_held (map (job_of h) (o ∷ os))) → (Has x (filter is_held (map (job_of h) os)) → Comes h os x) → Comes h (o ∷ os) x
-comes_by {C} h o os x true e has ih =
-    let here : (job_of h o ≡ x) ⊎ Has x (filter is_held (map (job_of h) os)) = subst (λ (l : List (Job C)). Has x l) (filter_cons true (job_of h o) (map (job_of h) os) e) has in
-    elim here [ inl s ↦ (o, inl refl, sym s) | inr t ↦ let r = ih t in (r.0, inr r.1, r.2) ]
-comes_by {C} h o os x false e has ih = (let r = ih (subst (λ (l : List (Job C)). Has x l) (filter_cons false (job_of h o) (map (job_of h) os) e) has) in (r.0, inr r.1, r.2))
-
-comes : {C : Type 0} (h : List (Event C)) (os : List Opening) (x : Job C) → Has x (filter is_held (map (job_of h) os)) → Comes h os x
-comes h [] x has = absurd has
-comes h (o ∷ os) x has = comes_by h o os x (is_held (job_of h o)) refl has (comes h os x)
-
-abbrev Rising : {C : Type 0} → List (Job C) → Type 0
-Rising {C} jobs = Rises (λ (v : Job C). v.number) jobs
-
-rising_by : {C : Type 0} (h : List (Event C)) (o : Opening) (os : List Opening) (b : Bool) → is_held (job_of h o) ≡ b → ((y : Opening) → Has y os → o.job < y.job) → Rising (filter is_held (map (job_of h) os)) → Rising (filter is_held (map (job_of h) (o ∷ os)))
-rising_by {C} h o os true e lt ih = subst (λ (l : List (Job C)). Rising l) (sym (filter_cons true (job_of h o) (map (job_of h) os) e)) (
-  λ y t. (let r = comes h os y t in subst (λ (v : Job C). o.job < v.number) (sym r.2) (lt r.0 r.1)),
-  ih,
-)
-rising_by {C} h o os false e lt ih = subst (λ (l : List (Job C)). Rising l) (sym (filter_cons false (job_of h o) (map (job_of h) os) e)) ih
-
-rising_in : {C : Type 0} (h : List (Event C)) (os : List Opening) → Rises (λ (o : Opening). o.job) os → Rising (filter is_held (map (job_of h) os))
-rising_in h [] r = tt
-rising_in h (o ∷ os) r = rising_by h o os (is_held (job_of h o)) refl r.0 (rising_in h os r.1)
-
 pub rising_jobs : {C : Type 0} (size : C → ℕ) (c : Config) (base : Base) (h : List (Event C)) → IsLegal size c base h → Rises (λ (v : Job C). v.number) (now c base h).jobs
-rising_jobs size c base h l = rising_in h (openings h) (rising_openings size c base h l)
+rising_jobs {C} size c base h l =
+    let name = λ (v : Job C). v.number in
+    rises_filter name is_held (map (job_of h) (openings h)) (rises_map (job_of h) name (openings h) (rising_openings size c base h l))

@@ -1,5 +1,5 @@
 -- What was handed of one sender's jobs in a queue is the join of the first places of each.
-use Rattle.std.proofs.Common.{inl, inr, ◌≡◌, ◌≢◌, ◌==◌, ℕ, zero, suc, ◌+◌, ◌<◌, ◌≤◌, Bool, true, false, List, [], ◌∷◌, ◌++◌, length, map, refl, sym, ◌∙◌, ap, subst, arith}
+use Rattle.std.proofs.Common.{inl, inr, ◌≡◌, ◌≢◌, ◌==◌, ℕ, zero, suc, ◌+◌, ◌<◌, ◌≤◌, Bool, true, false, List, [], ◌∷◌, ◌++◌, length, map, refl, sym, ◌∙◌, ap, subst, arith, append_assoc}
 use Rattle.std.specs.Prelude.{◌&&◌, ◌||◌, cond, filter, Contains}
 use Rattle.std.specs.List.{flat_map, list_any}
 use Rattle.std.specs.List.Sorted.{IsStrictlyIncreasing}
@@ -18,53 +18,21 @@ use Rattle.spool_history.specs.Now.{now, job_of, is_held}
 use Rattle.spool_history.specs.Legal.{IsLegal, May}
 use Rattle.spool_history.specs.Joined.{LeavesJoined, handed, jobs_from, is_of_one, handed_from, first_places}
 use Rattle.spool_laws.specs.Leaving.{EachHanded, WasAccepted}
-use Rattle.spool_laws.proofs.Known.{Has, has_contained, has_last, held_at, none_of, test, clash}
+use Rattle.spool_laws.proofs.Known.{Has, has_contained, has_filtered, has_last, held_at, none_of, test, clash}
 use Rattle.spool_laws.proofs.Facts.{facts, last, Turn', turn_of_page, handed_at, handed_more, handed_one, handed_same}
 use Rattle.spool_laws.proofs.Places.{placed, none_by}
 use Rattle.spool_laws.proofs.Behind.{Behind, behind}
 use Rattle.spool_laws.proofs.Whole.{whole}
-use Rattle.spool_laws.proofs.Adding.{has_left}
+use Rattle.spool_laws.proofs.Adding.{has_left, has_end}
+use Rattle.spool_laws.proofs.Busy.{rising_openings}
+use Rattle.spool_laws.proofs.Pigeons.{Rises, rises_filter}
+use Rattle.spool_laws.proofs.Leaves.{each_handed}
 
 -- jobs by rising number
 
 -- each number is below all later ones
 abbrev Rising : List Opening → Type 0
-Rising [] = Unit {0}
-Rising (o ∷ os) = ((k : Opening) → Has k os → o.job < k.job) × Rising os
-
-rising_push : (os : List Opening) (x : Opening) → Rising os → ((o : Opening) → Has o os → o.job < x.job) → Rising (os ++ x ∷ [])
-rising_push [] x r f = (λ k has. absurd has, tt)
-rising_push (o ∷ os) x r f = (
-  λ k has. elim (has_last k os x has) [ inl t ↦ r.0 k t | inr e ↦ subst (λ (y : Opening). o.job < y.job) e (f o (inl refl)) ],
-  rising_push os x r.1 (λ y has. f y (inr has)),
-)
-
-accepted_rise : {C : Type 0} (size : C → ℕ) (c : Config) (base : Base) (h : List (Event C)) → IsLegal size c base h → Rising (openings h)
-accepted_rise size c base [] l = tt
-accepted_rise size c base (Opened k s q ∷ h) l = rising_push (openings h) (record { job = k; sender = s; queue = q }) (accepted_rise size c base h l.1) (λ o has.
-    let n : o.job ≤ last base h = ((facts size c base h l.1).numbers o has).1 in
-    let m : k ≡ last base h + 1 = l.0.4 in
-    omega arith)
-accepted_rise size c base (_ ∷ h) l = accepted_rise size c base h l.1
-
-has_filtered_by : {X : Type 0} (p : X → Bool) (x y : X) (ys : List X) (b : Bool) → p y ≡ b → Has x (cond b (y ∷ filter p ys) (filter p ys)) → (Has x (filter p ys) → Has x ys × (p x ≡ true)) → Has x (y ∷ ys) × (p x ≡ true)
-has_filtered_by {X} p x y ys true e has rest = elim has [
-  | inl s ↦ (inl s, subst (λ (z : X). p z ≡ true) s e)
-  | inr t ↦ let r = rest t in (inr r.0, r.1)
-]
-has_filtered_by p x y ys false e has rest = let r = rest has in (inr r.0, r.1)
-
-has_filtered : {X : Type 0} (p : X → Bool) (x : X) (xs : List X) → Has x (filter p xs) → Has x xs × (p x ≡ true)
-has_filtered p x [] has = absurd has
-has_filtered p x (y ∷ ys) has = has_filtered_by p x y ys (p y) refl has (has_filtered p x ys)
-
-rising_by : (p : Opening → Bool) (o : Opening) (os : List Opening) (b : Bool) → p o ≡ b → ((k : Opening) → Has k os → o.job < k.job) → Rising (filter p os) → Rising (cond b (o ∷ filter p os) (filter p os))
-rising_by p o os true e below r = (λ k has. below k (has_filtered p k os has).0, r)
-rising_by p o os false e below r = r
-
-rising_filter : (p : Opening → Bool) (os : List Opening) → Rising os → Rising (filter p os)
-rising_filter p [] r = tt
-rising_filter p (o ∷ os) r = rising_by p o os (p o) refl r.0 (rising_filter p os r.1)
+Rising os = Rises (λ (o : Opening). o.job) os
 
 increasing : (os : List Opening) → Rising os → IsStrictlyIncreasing (map (λ (o : Opening). o.job) os)
 increasing [] r k lt = absurd (omega (arith, lt))
@@ -84,10 +52,6 @@ join_same {X} {A} f g (x ∷ xs) e =
 join_none : {X A : Type 0} (f : X → List A) (xs : List X) → ((x : X) → Has x xs → f x ≡ []) → flat_map f xs ≡ []
 join_none f [] e = refl
 join_none {X} {A} f (x ∷ xs) e = ap (λ (l : List A). l ++ flat_map f xs) (e x (inl refl)) ∙ join_none f xs (λ y has. e y (inr has))
-
-append_three : {X : Type 0} (xs ys zs : List X) → (xs ++ ys) ++ zs ≡ xs ++ (ys ++ zs)
-append_three [] ys zs = refl
-append_three {X} (x ∷ xs) ys zs = ap (λ (l : List X). x ∷ l) (append_three xs ys zs)
 
 -- a page that is handed of one of these jobs, after which nothing of a later one was handed, comes last
 joined_more : {C : Type 0} (h : List (Event C)) (p : ℕ) (sheet : Sheet C) (o : Opening) (js : List Opening) → Rising js → Has o js → o.job ≡ sheet.job
@@ -115,22 +79,18 @@ joined_more {C} h p sheet o (y ∷ ys) r has same none =
           let ne : sheet.job ≢ y.job = λ e. (let j : o.job ≡ y.job = same ∙ e in omega arith) in
           ap (λ (l : List (Sheet C)). l ++ flat_map now' ys) (handed_more h p sheet y.job ne)
           ∙ (ap (λ (l : List (Sheet C)). was y ++ l) (joined_more h p sheet o ys r.1 t same (λ k there lt. none k (inr there) lt))
-          ∙ sym (append_three (was y) (flat_map was ys) (sheet ∷ [])))
+          ∙ sym (append_assoc (was y) (flat_map was ys) (sheet ∷ [])))
     ]
 
 -- what was handed is of these jobs, one after the other
 abbrev Joins : {C : Type 0} → List (Event C) → List Opening → Type 0
 Joins h js = handed_from h js ≡ flat_map (λ (o : Opening). handed_of h o.job) js
 
-has_pushed : {X : Type 0} (x y : X) (xs : List X) → y ≡ x → Has x (xs ++ y ∷ [])
-has_pushed x y [] e = inl e
-has_pushed x y (z ∷ xs) e = inr (has_pushed x y xs e)
-
 handed_has_by : {C : Type 0} (h : List (Event C)) (p : ℕ) (s sheet : Sheet C) → Has sheet (handed h ++ s ∷ []) → (Has sheet (handed h) → Has sheet (handed_of h sheet.job)) → Has sheet (handed_of (AtPrinter p s Handed ∷ h) sheet.job)
 handed_has_by {C} h p s sheet has rest = elim (test s.job sheet.job) [
   | inl e ↦ subst (λ (l : List (Sheet C)). Has sheet l) (sym (handed_one h p s sheet.job e.0)) (elim (has_last sheet (handed h) s has) [
     | inl t ↦ has_left sheet (handed_of h sheet.job) (s ∷ []) (rest t)
-    | inr d ↦ has_pushed sheet s (handed_of h sheet.job) d
+    | inr d ↦ subst (λ (z : Sheet C). Has sheet (handed_of h sheet.job ++ z ∷ [])) (sym d) (has_end sheet (handed_of h sheet.job))
   ])
   | inr e ↦ subst (λ (l : List (Sheet C)). Has sheet l) (sym (handed_more h p s sheet.job e.0)) (elim (has_last sheet (handed h) s has) [
     | inl t ↦ rest t
@@ -236,7 +196,7 @@ joins_handed : {C : Type 0} (h : List (Event C)) (p : ℕ) (sheet : Sheet C) (se
 joins_handed {C} h p sheet sender queue r b t j =
     let js = jobs_from h sender queue in
     filter-append (is_of_one js) (handed h) (sheet ∷ [])
-    ∙ joins_of h p sheet js (is_of_one js sheet) refl (rising_filter (λ (o : Opening). (o.sender == sender) && (o.queue == queue)) (openings h) r)
+    ∙ joins_of h p sheet js (is_of_one js sheet) refl (rises_filter (λ (o : Opening). o.job) (λ (o : Opening). (o.sender == sender) && (o.queue == queue)) (openings h) r)
     (λ o k has same also lt. none_by (handed_of h k.job) (none_after h sender queue o k b has also lt (subst (λ (i : ℕ). held_at h i ≡ true) (sym same) t.at.held))) j
 
 joins_back : {C : Type 0} (h : List (Event C)) (p : ℕ) (sheet : Sheet C) (turn : Turn) (js : List Opening) → is_handed turn ≡ false → Joins h js
@@ -249,7 +209,7 @@ joins_step size c base h (Opened k s q) sender queue l m j =
     let new : k ≡ last base h + 1 = m.4 in
     joins_opened h k s q sender queue ((facts size c base h l).fresh k (inr (omega arith))).handed j
 joins_step size c base h (AtPrinter p sheet Handed) sender queue l m j =
-    joins_handed h p sheet sender queue (accepted_rise size c base h l) (behind size c base h l) (turn_of_page c base h p sheet m.0.0 m.0.1 m.1) j
+    joins_handed h p sheet sender queue (rising_openings size c base h l) (behind size c base h l) (turn_of_page c base h p sheet m.0.0 m.0.1 m.1) j
 joins_step size c base h (AtPrinter p sheet turn) sender queue l m j = joins_back h p sheet turn (jobs_from h sender queue) refl j
 joins_step size c base h _ sender queue l m j = j
 
@@ -261,7 +221,7 @@ pub joined : {C : Type 0} (size : C → ℕ) (c : Config) (base : Base) (h : Lis
 joined {C} size c base h l sender queue =
     let js = jobs_from h sender queue in
     record {
-      rising = increasing js (rising_filter (λ (o : Opening). (o.sender == sender) && (o.queue == queue)) (openings h) (accepted_rise size c base h l));
+      rising = increasing js (rises_filter (λ (o : Opening). o.job) (λ (o : Opening). (o.sender == sender) && (o.queue == queue)) (openings h) (rising_openings size c base h l));
       join = joins size c base h sender queue l ∙ join_same (λ (o : Opening). handed_of h o.job) (first_places h) js (λ o has. placed size c base h l o.job);
       all_of_done = λ o has done. (whole size c base h l o.job done).1;
       none_unreceived = λ o has not'. (facts size c base h l).begun o.job not';
@@ -277,12 +237,8 @@ contained x (y ∷ ys) has = elim has [
   | inr t ↦ let c = contained x ys t in (suc c.0, (let lt = c.1 in omega arith), c.2)
 ]
 
-was_accepted : {C : Type 0} (h : List (Event C)) (p : ℕ) (sheet : Sheet C) → Turn' h p sheet → WasAccepted h sheet
-was_accepted h p sheet t =
-    let o : Opening = record { job = sheet.job; sender = t.at.sender; queue = t.at.queue } in
-    (o, contained o (openings h) t.at.there, refl)
-
 pub each_accepted : {C : Type 0} (size : C → ℕ) (c : Config) (base : Base) (h : List (Event C)) → IsLegal size c base h → EachHanded WasAccepted h
-each_accepted size c base [] l = tt
-each_accepted size c base (AtPrinter p sheet Handed ∷ h) l = (was_accepted h p sheet (turn_of_page c base h p sheet l.0.0.0 l.0.0.1 l.0.1), each_accepted size c base h l.1)
-each_accepted size c base (_ ∷ h) l = each_accepted size c base h l.1
+each_accepted size c base h l = each_handed size c base WasAccepted h (λ h p sheet l m.
+    let t = (turn_of_page c base h p sheet m.0.0 m.0.1 m.1).at in
+    let o : Opening = record { job = sheet.job; sender = t.sender; queue = t.queue } in
+    (o, contained o (openings h) t.there, refl)) l

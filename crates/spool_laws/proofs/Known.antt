@@ -3,7 +3,7 @@ use Rattle.std.proofs.Common.{◌⊎◌, inl, inr, ◌≡◌, ◌==◌, ◌≢�
 use Rattle.std.specs.Prelude.{◌&&◌, ◌||◌, cond, filter, find, Contains, Some}
 use Rattle.std.specs.List.{list_any}
 use Rattle.std.proofs.lemmas.Bool.Decides.{nat_tests}
-use Rattle.std.proofs.lemmas.Bool.{or_parts}
+use Rattle.std.proofs.lemmas.Bool.{or_parts, cases_Bool}
 use Rattle.spool_history.specs.Base.{Base}
 use Rattle.spool_history.specs.Events.{Event}
 use Rattle.config_values.specs.Config.{Config}
@@ -72,6 +72,29 @@ none_of {X} test' y (x ∷ xs) e has = elim has [
 pub filter_cons : {C : Type 0} (b : Bool) (x : Job C) (xs : List (Job C)) → is_held x ≡ b → filter is_held (x ∷ xs) ≡ cond b (x ∷ filter is_held xs) (filter is_held xs)
 filter_cons b x xs e = rw e refl
 
+-- what a filtered and a mapped list have
+pub has_filtered : {X : Type 0} (p : X → Bool) (x : X) (xs : List X) → Has x (filter p xs) → Has x xs × (p x ≡ true)
+has_filtered p x [] has = absurd has
+has_filtered {X} p x (y ∷ ys) has = elim (cases_Bool (p y)) [
+  | inl e ↦ elim (rw e at has) [ inl s ↦ (inl s, subst (λ (z : X). p z ≡ true) s e) | inr t ↦ let r = has_filtered p x ys t in (inr r.0, r.1) ]
+  | inr e ↦ let r = has_filtered p x ys (rw e at has) in (inr r.0, r.1)
+]
+
+pub has_mapped : {X Y : Type 0} (f : X → Y) (y : Y) (xs : List X) → Has y (map f xs) → (x : X) × Has x xs × (y ≡ f x)
+has_mapped f y [] has = absurd has
+has_mapped f y (x ∷ xs) has = elim has [ inl s ↦ (x, inl refl, sym s) | inr t ↦ let r = has_mapped f y xs t in (r.0, inr r.1, r.2) ]
+
+pub filter_has : {X : Type 0} (p : X → Bool) (x : X) (xs : List X) → p x ≡ true → Has x xs → Has x (filter p xs)
+filter_has p x [] is has = absurd has
+filter_has {X} p x (y ∷ ys) is has = elim (cases_Bool (p y)) [
+  | inl e ↦ rw e (elim has [ inl s ↦ inl s | inr t ↦ inr (filter_has p x ys is t) ])
+  | inr e ↦ rw e (elim has [ inl s ↦ absurd (clash (p x) is (subst (λ (z : X). p z ≡ false) s e)) | inr t ↦ filter_has p x ys is t ])
+]
+
+pub map_has : {X Y : Type 0} (f : X → Y) (x : X) (xs : List X) → Has x xs → Has (f x) (map f xs)
+map_has f x [] has = absurd has
+map_has f x (y ∷ ys) has = elim has [ inl s ↦ inl (ap f s) | inr t ↦ inr (map_has f x ys t) ]
+
 -- a held job is an accepted one, of which the history says that
 pub record Known {C : Type 0} (h : List (Event C)) (os : List Opening) (x : Job C) : Type 0 where
   pub opening : Opening
@@ -79,21 +102,11 @@ pub record Known {C : Type 0} (h : List (Event C)) (os : List Opening) (x : Job 
   pub held : is_held x ≡ true
   pub there : Has opening os
 
-known_step : {C : Type 0} (h : List (Event C)) (o : Opening) (os : List Opening) (x : Job C) (b : Bool) → is_held (job_of h o) ≡ b → Has x (filter is_held (map (job_of h) (o ∷ os)))
-    → (Has x (filter is_held (map (job_of h) os)) → Known h os x) → Known h (o ∷ os) x
-known_step {C} h o os x false e has rest =
-    let r = rest (subst (λ (l : List (Job C)). Has x l) (filter_cons false (job_of h o) (map (job_of h) os) e) has) in
-    record { opening = r.opening; is = r.is; held = r.held; there = inr r.there }
-known_step {C} h o os x true e has rest =
-    let here : (job_of h o ≡ x) ⊎ Has x (filter is_held (map (job_of h) os)) = subst (λ (l : List (Job C)). Has x l) (filter_cons true (job_of h o) (map (job_of h) os) e) has in
-    elim here [
-      | inl s ↦ record { opening = o; is = sym s; held = subst (λ (v : Job C). is_held v ≡ true) s e; there = inl refl }
-      | inr t ↦ let r = rest t in record { opening = r.opening; is = r.is; held = r.held; there = inr r.there }
-    ]
-
 known_in : {C : Type 0} (h : List (Event C)) (os : List Opening) (x : Job C) → Has x (filter is_held (map (job_of h) os)) → Known h os x
-known_in h [] x has = absurd has
-known_in h (o ∷ os) x has = known_step h o os x (is_held (job_of h o)) refl has (known_in h os x)
+known_in h os x has =
+    let a = has_filtered is_held x (map (job_of h) os) has in
+    let b = has_mapped (job_of h) x os a.0 in
+    record { opening = b.0; is = b.2; held = a.1; there = b.1 }
 
 pub known : {C : Type 0} (c : Config) (base : Base) (h : List (Event C)) (x : Job C) → Has x (now c base h).jobs → Known h (openings h) x
 known c base h x there = known_in h (openings h) x there
@@ -126,10 +139,6 @@ pub has_at : {C : Type 0} (c : Config) (base : Base) (h : List (Event C)) (j : �
 has_at c base h j P m = known_at h m.job j P (known c base h m.job (has_contained m.job (now c base h).jobs m.there)) m.number m.is
 
 -- an accepted job that is held is among the held ones
-has_kept_by : {C : Type 0} (h : List (Event C)) (o q : Opening) (os : List Opening) (b : Bool) → is_held (job_of h q) ≡ b → is_held (job_of h o) ≡ true → (q ≡ o) ⊎ Has o os → (Has o os → Has (job_of h o) (filter is_held (map (job_of h) os))) → Has (job_of h o) (filter is_held (map (job_of h) (q ∷ os)))
-has_kept_by h o q os true e held has ih = rw e (elim has [ inl s ↦ inl (ap (job_of h) s) | inr t ↦ inr (ih t) ])
-has_kept_by h o q os false e held has ih = rw e (elim has [ inl s ↦ absurd (clash (is_held (job_of h o)) held (subst (λ (y : Opening). is_held (job_of h y) ≡ false) s e)) | inr t ↦ ih t ])
 
 pub has_kept : {C : Type 0} (h : List (Event C)) (o : Opening) (os : List Opening) → is_held (job_of h o) ≡ true → Has o os → Has (job_of h o) (filter is_held (map (job_of h) os))
-has_kept h o [] held has = absurd has
-has_kept h o (q ∷ os) held has = has_kept_by h o q os (is_held (job_of h q)) refl held has (has_kept h o os held)
+has_kept h o os held has = filter_has is_held (job_of h o) (map (job_of h) os) held (map_has (job_of h) o os has)

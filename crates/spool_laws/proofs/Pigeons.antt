@@ -1,13 +1,14 @@
 -- Where each of some things has a place of its own, there are no more of them than places.
 use Rattle.std.proofs.Common.{◌⊎◌, inl, inr, ◌≡◌, ◌==◌, ◌≢◌, ℕ, zero, suc, ◌+◌, ◌-◌, ◌<◌, ◌≤◌, Bool, true, false, List, [], ◌∷◌, ◌++◌, length, get_or, map, refl, sym, ◌∙◌, ap, subst, arith}
-use Rattle.std.specs.Prelude.{cond, nat_le, sum_by}
+use Rattle.std.specs.Prelude.{cond, filter, nat_le, sum_by}
 use Rattle.std.proofs.lemmas.Bool.Decides.{nat_tests}
 use Rattle.std.proofs.lemmas.List.{map-append, get_or_append_left, get_or_at, length_push}
 use Rattle.std.proofs.lemmas.List.Sums.{sum_by-cons}
 use Rattle.config_values.specs.Config.{Queue, served_from}
 use Rattle.spool_history.specs.Now.{up_to}
-use Rattle.spool_laws.proofs.Known.{Has, has_last, test}
+use Rattle.spool_laws.proofs.Known.{Has, has_filtered, has_last, has_mapped, test}
 use Rattle.spool_laws.proofs.Adding.{length_up_to}
+use Rattle.std.proofs.lemmas.Bool.{cases_Bool}
 
 -- the sum over 1 to n
 abbrev pub total : (ℕ → ℕ) → ℕ → ℕ
@@ -32,6 +33,17 @@ rises_push {X} name (o ∷ os) x r lt = (
   ],
   rises_push name os x r.1 (λ y t. lt y (inr t)),
 )
+
+pub rises_filter : {X : Type 0} (name : X → ℕ) (t : X → Bool) (xs : List X) → Rises name xs → Rises name (filter t xs)
+rises_filter name t [] r = tt
+rises_filter name t (x ∷ xs) r = elim (cases_Bool (t x)) [
+  | inl e ↦ rw e (λ y has. r.0 y (has_filtered t y xs has).0, rises_filter name t xs r.1)
+  | inr e ↦ rw e (rises_filter name t xs r.1)
+]
+
+pub rises_map : {X Y : Type 0} (f : X → Y) (name : Y → ℕ) (xs : List X) → Rises (λ (x : X). name (f x)) xs → Rises name (map f xs)
+rises_map f name [] r = tt
+rises_map {X} {Y} f name (x ∷ xs) r = (λ y has. let a = has_mapped f y xs has in subst (λ (z : Y). name (f x) < name z) (sym a.2) (r.0 a.0 a.1), rises_map f name xs r.1)
 
 abbrev without : ℕ → (ℕ → ℕ) → ℕ → ℕ
 without p f r = cond (r == p) 0 (f r)

@@ -20,7 +20,7 @@ use Rattle.spool_history.specs.Steps.{acted, turned, change, accepted_by, new_jo
 use Rattle.spool_history.specs.Legal.{HasJob, IsLegal, JobMay, May, MayBeRemoved, progress_of}
 use Rattle.spool_laws.specs.PutOff.{may_help}
 use Rattle.spool_laws.specs.Served.{HasNothing, NoneMayServe, has_of, may_serve}
-use Rattle.spool_laws.proofs.Known.{Has, Known, At, known, has_at, find_has, none_of, test, clash, or_true, and_false, filter_cons}
+use Rattle.spool_laws.proofs.Known.{Has, Known, At, known, has_at, has_filtered, has_mapped, filter_has, map_has, find_has, none_of, test, clash, or_true, and_false, filter_cons}
 use Rattle.spool_laws.proofs.Printers.{at_printer}
 use Rattle.spool_laws.proofs.Turns.{Gets, Begins, begins_by, ready_by, given, given_at}
 use Rattle.spool_laws.proofs.Facts.{Facts, facts, is_out}
@@ -29,6 +29,8 @@ use Rattle.spool_laws.proofs.Busy.{busy, received_if}
 use Rattle.spool_laws.proofs.StillHeld.{left}
 use Rattle.spool_laws.proofs.PutOff.{Takes, takes, still_held, at_job}
 use Rattle.spool_laws.proofs.Behind.{bool_cases as false_if}
+use Rattle.spool_laws.proofs.Adding.{has_left}
+use Rattle.spool_laws.proofs.Copies.{has_either}
 
 -- what an event that doesn't serve a queue makes of a job of that queue: it takes something or nothing, or a page of it comes
 -- back, and it goes on
@@ -221,37 +223,14 @@ lift_none t t' g (u ∷ us) new keep f = lift_none_by t t' g u us new (t u) (is_
 
 -- what a list has after the event
 
-has_more : {C : Type 0} (y : Job C) (xs ys : List (Job C)) → Has y xs → Has y (xs ++ ys)
-has_more y [] ys has = absurd has
-has_more y (x ∷ xs) ys has = elim has [ inl s ↦ inl s | inr t ↦ inr (has_more y xs ys t) ]
-
-left_has_by : {C : Type 0} (g : Job C → Job C) (y u : Job C) (us : List (Job C)) (b : Bool) → is_held (g u) ≡ b → is_held (g y) ≡ true → (u ≡ y) ⊎ Has y us → (Has y us → Has (g y) (left g us)) → Has (g y) (left g (u ∷ us))
-left_has_by {C} g y u us true e held has ih = subst (λ (l : List (Job C)). Has (g y) l) (sym (filter_cons true (g u) (map g us) e)) (elim has [ inl s ↦ inl (ap g s) | inr t ↦ inr (ih t) ])
-left_has_by {C} g y u us false e held has ih = subst (λ (l : List (Job C)). Has (g y) l) (sym (filter_cons false (g u) (map g us) e)) (elim has [
-  | inl s ↦ absurd (clash (is_held (g y)) held (subst (λ (x : Job C). is_held (g x) ≡ false) s e))
-  | inr t ↦ ih t
-])
-
 left_has : {C : Type 0} (g : Job C → Job C) (y : Job C) (us : List (Job C)) → is_held (g y) ≡ true → Has y us → Has (g y) (left g us)
-left_has g y [] held has = absurd has
-left_has g y (u ∷ us) held has = left_has_by g y u us (is_held (g u)) refl held has (left_has g y us held)
+left_has g y us held has = filter_has is_held (g y) (map g us) held (map_has g y us has)
 
 abbrev Was : {C : Type 0} → (Job C → Job C) → List (Job C) → Job C → Type 0
 Was {C} g us w = (u : Job C) × Has u us × (w ≡ g u)
 
-was_by : {C : Type 0} (g : Job C → Job C) (w u : Job C) (us : List (Job C)) (b : Bool) → is_held (g u) ≡ b → Has w (left g (u ∷ us)) → (Has w (left g us) → Was g us w) → Was g (u ∷ us) w
-was_by {C} g w u us true e has ih =
-    let h : (g u ≡ w) ⊎ Has w (left g us) = subst (λ (l : List (Job C)). Has w l) (filter_cons true (g u) (map g us) e) has in
-    elim h [ inl s ↦ (u, inl refl, sym s) | inr t ↦ let r = ih t in (r.0, inr r.1, r.2) ]
-was_by {C} g w u us false e has ih = (let r = ih (subst (λ (l : List (Job C)). Has w l) (filter_cons false (g u) (map g us) e) has) in (r.0, inr r.1, r.2))
-
 was : {C : Type 0} (g : Job C → Job C) (w : Job C) (us : List (Job C)) → Has w (left g us) → Was g us w
-was g w [] has = absurd has
-was g w (u ∷ us) has = was_by g w u us (is_held (g u)) refl has (was g w us)
-
-either : {C : Type 0} (w : Job C) (xs ys : List (Job C)) → Has w (xs ++ ys) → Has w xs ⊎ Has w ys
-either w [] ys has = inr has
-either w (x ∷ xs) ys has = elim has [ inl s ↦ inl (inl s) | inr t ↦ elim (either w xs ys t) [ inl a ↦ inl (inr a) | inr b ↦ inr b ] ]
+was g w us has = has_mapped g w us (has_filtered is_held w (map g us) has).0
 
 none_if : {X : Type 0} (t : X → Bool) (xs : List X) → ((x : X) → Has x xs → t x ≡ false) → list_any t xs ≡ false
 none_if t [] f = refl
@@ -369,7 +348,7 @@ begins_before {C} size c base h e q quiet l m u has b goes =
     let none : list_any (is_preceded_by u) us ≡ false = none_if (is_preceded_by u) us (λ y there. false_if (is_preceded_by u y) (λ yes.
     let p = before_parts u y yes in
     let t = same y (change e y) (stays size c base h e q quiet l m y there (p.0 ∙ queue)) in
-    let there' : Has (change e y) (all e us) = has_more (change e y) (left (change e) us) (accepted_by e) (left_has (change e) y us (t.held (known c base h y there).held) there) in
+    let there' : Has (change e y) (all e us) = has_left (change e y) (left (change e) us) (accepted_by e) (left_has (change e) y us (t.held (known c base h y there).held) there) in
     let no' : is_preceded_by (change e u) (change e y) ≡ false = none_of (is_preceded_by (change e u)) (change e y) (all e us) b.first there' in
     clash (is_preceded_by u y) yes (sym (is_before (change e u) (change e y) u y s.number s.sender s.queue t.number t.sender t.queue) ∙ no'))) in
     (record { queue = queue; received = s.received b.received; unhanded = s.unhanded b.unhanded; first = none }, sym s.ended ∙ goes)
@@ -388,7 +367,7 @@ begins_still {C} size c base h e q quiet l m u has b r =
       unhanded = r.handed ∙ b.unhanded;
       first = none_if (is_preceded_by (change e u)) (all e us) (λ w there. false_if (is_preceded_by (change e u) w) (λ yes.
           let p = before_parts (change e u) w yes in
-          elim (either w (left (change e) us) (accepted_by e) there) [
+          elim (has_either w (left (change e) us) (accepted_by e) there) [
             | inl old ↦
                 let x = was (change e) w us old in
                 let queue : x.0.queue ≡ q = sym (named e x.0).queue ∙ (ap (λ (v : Job C). v.queue) (sym x.2) ∙ (p.0 ∙ (r.queue ∙ b.queue))) in
