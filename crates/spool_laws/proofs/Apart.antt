@@ -16,7 +16,7 @@ use Rattle.spool_history.specs.Now.{Job, Printer, now, job_of, is_held, is_recei
 use Rattle.spool_history.specs.Legal.{IsLegal, May}
 use Rattle.spool_laws.specs.Sums.{chained_of, chained, lent, at_printers}
 use Rattle.spool_laws.proofs.Known.{Has, has_at, known, test, clash}
-use Rattle.spool_laws.proofs.Facts.{Facts, Unknown, facts, last, Turn', turn_of_page, handed_now, handed_number, handed_at, handed_same, is_out, count_one, count_more, back_same, back_more, back_one, out_here, out_there}
+use Rattle.spool_laws.proofs.Facts.{Facts, Unknown, ended_aborted, facts, last, Turn', turn_of_page, handed_now, handed_number, handed_at, handed_same, is_out, count_one, count_more, back_same, back_more, back_one, out_here, out_there}
 use Rattle.spool_laws.proofs.Counts.{with_page, last_push}
 use Rattle.spool_laws.proofs.Copies.{pages_in}
 use Rattle.spool_laws.proofs.Held.{pages_push, pages_ended}
@@ -60,7 +60,6 @@ filled_put {C} a file number page before last e was f =
     omega (arith, ap pages_in now' ∙ pages_last before (with_page page last), ap pages_in e ∙ pages_last before last, length_push last.pages page)
 
 filled_step : {C : Type 0} (size : C → ℕ) (c : Config) (base : Base) (h : List (Event C)) (e : Event C) → May size (now c base h) e → ((j : ℕ) → FilledAt h j) → (j : ℕ) → FilledAt (e ∷ h) j
-filled_step size c base h (Opened k s q) m f = λ j g. f j (ended_before h (Opened k s q) j g)
 filled_step size c base h (OfJob k Granted) m f = filled_act h k Granted (λ g old. (let z : one_for (is_lent_by (acts_of h k)) ≡ 0 = rw (has_at c base h k _ m.0).is.0.2 refl in omega arith)) f
 filled_step size c base h (OfJob k (Began name count)) m f = filled_act h k (Began name count) (λ g old. (let p = pages_push (files_by (acts_of h k)) name count in omega arith)) f
 filled_step size c base h (OfJob k (Put file number page)) m f =
@@ -69,11 +68,7 @@ filled_step size c base h (OfJob k (Put file number page)) m f =
     filled_act h k (Put file number page) (λ g old. filled_put (acts_of h k) file number page o.0 o.1 o.2 a.1 old) f
 filled_step size c base h (OfJob k (FileEnded file whole)) m f = filled_act h k (FileEnded file whole) (λ g old. (let p = pages_ended (files_by (acts_of h k)) in omega arith)) f
 filled_step size c base h (OfJob k (Controlled control whole)) m f = filled_act h k (Controlled control whole) (λ g old. old) f
-filled_step size c base h (OfJob k Aborted) m f = filled_act h k Aborted (λ g old. absurd (clash (has_ended (OfJob k Aborted ∷ h) k) (aborted_ends h k) g)) f
-  where
-    aborted_ends : {C : Type 0} (h : List (Event C)) (k : ℕ) → has_ended (OfJob k Aborted ∷ h) k ≡ true
-    aborted_ends h k = elim (test k k) [ inl s ↦ rw s.1 refl | inr s ↦ absurd (s.0 refl) ]
-filled_step size c base h (AtPrinter p sheet turn) m f = λ j g. f j (ended_before h (AtPrinter p sheet turn) j g)
+filled_step size c base h (OfJob k Aborted) m f = filled_act h k Aborted (λ g old. absurd (clash (has_ended (OfJob k Aborted ∷ h) k) (ended_aborted h k) g)) f
 filled_step size c base h e m f = λ j g. f j (ended_before h e j g)
 
 filled : {C : Type 0} (size : C → ℕ) (c : Config) (base : Base) (h : List (Event C)) → IsLegal size c base h → (j : ℕ) → FilledAt h j

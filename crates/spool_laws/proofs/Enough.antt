@@ -17,6 +17,7 @@ use Rattle.claims.proofs.Lowered.{holds, holds_sum}
 use Rattle.spool_laws.proofs.Pigeons.{Place, pigeons, tally, serves, served_total, at_most}
 use Rattle.spool_laws.proofs.Busy.{busy, rising_jobs}
 use Rattle.spool_laws.proofs.Sums.{pages_add_up, rows_held}
+use Rattle.spool_laws.proofs.Facts.{some_same}
 
 abbrev pub rows : {C : Type 0} → Config → List (Job C) → List Row
 rows c jobs = map (row_of c) jobs
@@ -48,9 +49,6 @@ begun_if i v pos = elim (test (suc i) v.queue) [
   | inr s ↦ (let q : 0 < 0 = rw s.1 at pos in absurd (omega arith))
 ]
 
-some_one : (j k : ℕ) → ◌≡◌ {A = Option ℕ} (Some j) (Some k) → j ≡ k
-some_one j k e = cc
-
 abbrev Tied : {C : Type 0} → List (Event C) → ℕ → ℕ → Type 0
 Tied h p j = began_at h p ≡ Some j
 
@@ -78,7 +76,7 @@ printers_counted {C} size c base h i l =
     (let k = known c base h v has in
     subst (λ (u : Job C). Place (Tied h) (serves 1 c.queues (1 + i)) (printer_count c) u.number) (sym k.is)
     (place_at size c base h i l k.opening k.there (subst (λ (u : Job C). is_held u ≡ true) k.is k.held) (subst (λ (u : Job C). 0 < weight i u) k.is pos))) in
-    let b = pigeons (Tied h) (λ p j k x y. some_one j k (sym x ∙ y)) (weight i) (λ (v : Job C). v.number) (printer_count c) (serves 1 c.queues (1 + i)) jobs (weight_small i) (rising_jobs size c base h l) place in
+    let b = pigeons (Tied h) (λ p j k x y. some_same j k (sym x ∙ y)) (weight i) (λ (v : Job C). v.number) (printer_count c) (serves 1 c.queues (1 + i)) jobs (weight_small i) (rising_jobs size c base h l) place in
     let d = served_total 1 c.queues i (omega arith) in
     omega arith
 

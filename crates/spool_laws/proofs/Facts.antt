@@ -72,6 +72,12 @@ number_at h k P f a = f.numbers (record { job = k; sender = a.sender; queue = a.
 pub acts_other : {C : Type 0} (h : List (Event C)) (k : ℕ) (act : Act C) (j : ℕ) → k ≢ j → acts_of (OfJob k act ∷ h) j ≡ acts_of h j
 acts_other h k act j ne = elim (test k j) [ inl s ↦ absurd (ne s.0) | inr s ↦ rw s.1 refl ]
 
+pub acts_here : {C : Type 0} (h : List (Event C)) (k : ℕ) (act : Act C) → acts_of (OfJob k act ∷ h) k ≡ act ∷ acts_of h k
+acts_here h k act = elim (test k k) [ inl s ↦ rw s.1 refl | inr s ↦ absurd (s.0 refl) ]
+
+pub ended_aborted : {C : Type 0} (h : List (Event C)) (k : ℕ) → has_ended (OfJob k Aborted ∷ h) k ≡ true
+ended_aborted h k = elim (test k k) [ inl s ↦ rw s.1 refl | inr s ↦ absurd (s.0 refl) ]
+
 ended_other : {C : Type 0} (h : List (Event C)) (k : ℕ) (act : Act C) (j : ℕ) → k ≢ j → has_ended h j ≡ false → has_ended (OfJob k act ∷ h) j ≡ false
 ended_other h k act j ne e = elim (test k j) [ inl s ↦ absurd (ne s.0) | inr s ↦ rw s.1 e ]
 
@@ -208,7 +214,7 @@ back_same h p sheet j = elim (test sheet.job j) [ inl s ↦ rw s.1 refl | inr s 
 ended_turn : {C : Type 0} (h : List (Event C)) (p : ℕ) (sheet : Sheet C) (turn : Turn) (j : ℕ) → sheet.job ≢ j → has_ended h j ≡ false → has_ended (AtPrinter p sheet turn ∷ h) j ≡ false
 ended_turn h p sheet turn j ne e = elim (test sheet.job j) [ inl s ↦ absurd (ne s.0) | inr s ↦ rw s.1 e ]
 
-some_same : {X : Type 0} (x y : X) → ◌≡◌ {A = Option X} (Some x) (Some y) → x ≡ y
+pub some_same : {X : Type 0} (x y : X) → ◌≡◌ {A = Option X} (Some x) (Some y) → x ≡ y
 some_same x y e = cc
 
 none_some : {C : Type 0} (s : Sheet C) → ◌≡◌ {A = Option (Sheet C)} None (Some s) → ⊥

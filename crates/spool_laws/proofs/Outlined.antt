@@ -14,6 +14,7 @@ use Rattle.spool_history.specs.Now.{Job, Printer, State, is_held}
 use Rattle.spool_history.specs.Next.{no_printer, printer_at}
 use Rattle.spool_history.specs.Steps.{change, acted, turned, accepted_by, printer_turned, printers_after, closed_after, after}
 use Rattle.spool_laws.specs.Outline.{outline_act, outline_event, outline_sheet}
+use Rattle.spool_laws.proofs.Moves.{all_same}
 
 abbrev pub file_in : {A B : Type 0} → (A → B) → File A → File B
 file_in f x = record { name = x.name; count = x.count; pages = map f x.pages; ended = x.ended }
@@ -125,10 +126,6 @@ closed_in : {A B : Type 0} (f : A → B) (e : Event A) (b : Bool) → closed_aft
 closed_in f (Opened k s q) b = refl
 closed_in f _ b = refl
 
-same_state : {C : Type 0} (c : Config) (j j' : List (Job C)) (a a' r r' : ℕ) (p p' : List (Printer C)) (b b' : Bool) → j ≡ j' → a ≡ a' → r ≡ r' → p ≡ p' → b ≡ b'
-    → ◌≡◌ {A = State C} (record { config = c; jobs = j; accepted = a; reserved = r; printers = p; closed = b }) (record { config = c; jobs = j'; accepted = a'; reserved = r'; printers = p'; closed = b' })
-same_state c j j' a a' r r' p p' b b' ej ea er ep eb = cc (ej, ea, er, ep, eb)
-
 jobs_in : {A B : Type 0} (f : A → B) (e : Event A) (v : State A) → filter is_held (map (change (outline_event f e)) (map (job_in f) v.jobs)) ++ accepted_by (outline_event f e) ≡ map (job_in f) (filter is_held (map (change e) v.jobs) ++ accepted_by e)
 jobs_in f e v =
     ap₂ (λ xs ys. xs ++ ys) (ap (filter is_held) (map_both (change (outline_event f e)) (job_in f) (job_in f) (change e) v.jobs (change_in f e)) ∙ held_in f (map (change e) v.jobs)) (accepted_in f e)
@@ -137,4 +134,4 @@ jobs_in f e v =
 -- the step of an event
 pub after_in : {A B : Type 0} (f : A → B) (e : Event A) (v : State A) → after (outline_event f e) (state_in f v) ≡ state_in f (after e v)
 after_in f e v =
-    same_state v.config _ _ _ _ _ _ _ _ _ _ (jobs_in f e v) (ap (λ n. v.accepted + n) (accepted_count f e)) (ap (λ n. v.reserved + n) (accepted_reserve f v.config e)) (printers_in f e v) (closed_in f e v.closed)
+    all_same v.config _ _ _ _ _ _ _ _ _ _ (jobs_in f e v) (ap (λ n. v.accepted + n) (accepted_count f e)) (ap (λ n. v.reserved + n) (accepted_reserve f v.config e)) (printers_in f e v) (closed_in f e v.closed)

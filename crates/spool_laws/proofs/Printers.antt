@@ -76,7 +76,7 @@ started_one c base h q p = elim (test q (queue_of c p)) [
   | inr s ↦ elim (test (queue_of c p) q) [ inl t ↦ absurd (s.0 (sym t.0)) | inr t ↦ rw (s.1, t.1) refl ]
 ]
 
-pub map_twice : {X Y : Type 0} (f : X → Y) (g : Y → Y) (k : X → Y) (xs : List X) → ((x : X) → k x ≡ g (f x)) → map k xs ≡ map g (map f xs)
+pub map_twice : {X Y Z : Type 0} (f : X → Y) (g : Y → Z) (k : X → Z) (xs : List X) → ((x : X) → k x ≡ g (f x)) → map k xs ≡ map g (map f xs)
 map_twice f g k [] e = refl
 map_twice f g k (x ∷ xs) e = cc (e x, map_twice f g k xs e)
 

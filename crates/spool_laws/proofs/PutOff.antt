@@ -29,9 +29,11 @@ use Rattle.spool_laws.proofs.Moves.{moved}
 use Rattle.spool_laws.proofs.Pigeons.{Rises, tally}
 use Rattle.spool_laws.proofs.Busy.{rising_jobs}
 use Rattle.spool_laws.proofs.StillHeld.{left}
-use Rattle.spool_laws.proofs.Sound.{amount_le}
+use Rattle.spool_laws.proofs.Sound.{amount_le, at_is}
 use Rattle.spool_laws.proofs.Enough.{rows, kind_within, printers_small}
 use Rattle.spool_laws.proofs.Taken.{Took, AllTook, took_more, safe_before}
+use Rattle.spool_laws.proofs.Staying.{free, IsGood, to_safe, of_safe}
+use Rattle.spool_laws.proofs.Printers.{map_twice}
 
 -- what a job holds and may still need
 
@@ -160,10 +162,7 @@ held_granted j u held = elim (test j u.number) [ inl s ↦ rw s.1 (or_true (not 
 -- each held job, after such an event
 
 pub at_job : {C : Type 0} {base : Base} (h : List (Event C)) (k : ℕ) (P : Job C → Type 0) (u : Job C) → Facts base h → At h k P → Known h (openings h) u → k ≡ u.number → P u
-at_job {C} h k P u f a kn e =
-    let x : Opening = record { job = k; sender = a.sender; queue = a.queue } in
-    let n : k ≡ kn.opening.job = e ∙ ap (λ (v : Job C). v.number) kn.is in
-    subst P (sym kn.is) (subst (λ (y : Opening). P (job_of h y)) (f.once x kn.opening a.there kn.there n) a.is)
+at_job {C} h k P u f a kn e = subst P (sym kn.is) (at_is h k P kn.opening f a kn.there (e ∙ ap (λ (v : Job C). v.number) kn.is))
 
 act_takes : {C : Type 0} (size : C → ℕ) (c : Config) (base : Base) (h : List (Event C)) (k : ℕ) (act : Act C) → IsLegal size c base h → HasJob (now c base h).jobs k (JobMay size c act) → ((u : Job C) → JobMay size c act u → Takes u (acted act u)) → (u : Job C) → Has u (now c base h).jobs → Takes u (change (OfJob k act) u)
 act_takes {C} size c base h k act l m f u has = elim (test k u.number) [
@@ -212,20 +211,6 @@ kept {C} g (u ∷ us) held = filter_cons true (g u) (map g us) (held u (inl refl
 
 granted_jobs : {C : Type 0} (c : Config) (base : Base) (h : List (Event C)) (j : ℕ) → (after (OfJob j Granted) (now c base h)).jobs ≡ map (grant j) (now c base h).jobs
 granted_jobs {C} c base h j = append-nil (left (grant j) (now c base h).jobs) ∙ kept (grant j) (now c base h).jobs (λ u has. held_granted j u (known c base h u has).held)
-
--- what is free
-
-abbrev room : {C : Type 0} → Config → List (Job C) → ℕ → ℕ
-room c jobs k = amount (capacity c) k - holds k (rows c jobs)
-
-abbrev IsGood : {C : Type 0} → Config → List (Job C) → Type 0
-IsGood c jobs = HasFinishingOrder (room c jobs) (rows c jobs)
-
-to_safe : {C : Type 0} (v : State C) → IsGood v.config v.jobs → IsSafeNow v
-to_safe v g = safe_more (room v.config v.jobs) (free_amount v) (rows v.config v.jobs) (λ k. let e = holds_sum k (rows v.config v.jobs) in omega arith) g
-
-of_safe : {C : Type 0} (v : State C) → IsSafeNow v → IsGood v.config v.jobs
-of_safe v g = safe_more (free_amount v) (room v.config v.jobs) (rows v.config v.jobs) (λ k. let e = holds_sum k (rows v.config v.jobs) in omega arith) g
 
 -- by one grant one page more is held at most
 
@@ -291,22 +276,22 @@ granted_before {C} size c base h e j quiet l g =
     let plain : AllTook (rows c (map (λ (u : Job C). u) us)) (rows c vs) = all_took c (λ (u : Job C). u) (change e) us each in
     let plain' : AllTook (rows c us) (rows c vs) = subst (λ (r : List (Job C)). AllTook (rows c r) (rows c vs)) (map_id us) plain in
     let lent : AllTook (rows c (map (grant j) us)) (rows c (map (λ (u : Job C). grant j (change e u)) us)) = all_took c (grant j) (λ (u : Job C). grant j (change e u)) us (λ u has. takes_granted j u (change e u) (each u has)) in
-    let lent' : AllTook (rows c (map (grant j) us)) (rows c (map (grant j) vs)) = subst (λ (r : List (Job C)). AllTook (rows c (map (grant j) us)) (rows c r)) (map_twice' (change e) (grant j) us) lent in
+    let lent' : AllTook (rows c (map (grant j) us)) (rows c (map (grant j) vs)) = subst (λ (r : List (Job C)). AllTook (rows c (map (grant j) us)) (rows c r)) (map_twice (change e) (grant j) (λ (u : Job C). grant j (change e u)) us (λ u. refl)) lent in
     let s0 = holds_sum 0 (rows c us) in
     let s1 = holds_sum 0 (rows c ws) in
     let h0 : holds 0 (rows c ws) ≡ holds 0 (rows c vs) + holds 0 (rows c new) = ap (λ (r : List (Job C)). holds 0 (rows c r)) is ∙ (ap (holds 0) (map-append (row_of c) vs new) ∙ holds_append 0 (rows c vs) (rows c new)) in
     let more = took_more 0 (rows c us) (rows c vs) plain' in
     let pos = g.0 in
     let lt : holds 0 (rows c ws) < amount (capacity c) 0 = omega arith in
-    let free : 0 < amount (capacity c) 0 - holds 0 (rows c us) = omega arith in
+    let some : 0 < amount (capacity c) 0 - holds 0 (rows c us) = omega arith in
     let small = within size c base (e ∷ h) j l lt in
     let A = rows c (map (grant j) vs) in
     let B = rows c (map (grant j) new) in
     let parts : rows c (map (grant j) ws) ≡ A ++ B = ap (λ (r : List (Job C)). rows c (map (grant j) r)) is ∙ (ap (rows c) (map-append (grant j) vs new) ∙ map-append (row_of c) (map (grant j) vs) (map (grant j) new)) in
-    let f = room c (map (grant j) ws) in
+    let f = free c (map (grant j) ws) in
     let safe : HasFinishingOrder f (rows c (map (grant j) ws)) = subst (λ (r : List (Job C)). IsGood c r) (granted_jobs c base (e ∷ h) j) (of_safe (after (OfJob j Granted) (now c base (e ∷ h))) g.1) in
     let first : HasFinishingOrder (λ k. f k + holds k B) A = safe_first_ones f A B (subst (HasFinishingOrder f) parts safe) in
-    let good : IsGood c (map (grant j) us) = safe_before (room c (map (grant j) us)) (λ k. f k + holds k B) (rows c (map (grant j) us)) A lent' (λ k.
+    let good : IsGood c (map (grant j) us) = safe_before (free c (map (grant j) us)) (λ k. f k + holds k B) (rows c (map (grant j) us)) A lent' (λ k.
     (let w = small k in
     let sum = ap (holds k) parts ∙ holds_append k A B in
     omega arith)) first in
@@ -315,10 +300,6 @@ granted_before {C} size c base h e j quiet l g =
     map_id : {X : Type 0} (xs : List X) → map (λ (x : X). x) xs ≡ xs
     map_id [] = refl
     map_id {X} (x ∷ xs) = ap (λ (l : List X). x ∷ l) (map_id xs)
-
-    map_twice' : {X : Type 0} (f g : X → X) (xs : List X) → map (λ (x : X). g (f x)) xs ≡ map g (map f xs)
-    map_twice' f g [] = refl
-    map_twice' {X} f g (x ∷ xs) = ap (λ (l : List X). g (f x) ∷ l) (map_twice' f g xs)
 
 pub put_off_stays : {C : Type 0} (size : C → ℕ) (c : Config) (base : Base) (h later : List (Event C)) (j : ℕ) → IsLegal size c base (later ++ h) → NoneMayHelp later → ¬ (MayGrant (now c base h) j) → ¬ (MayGrant (now c base (later ++ h)) j)
 put_off_stays size c base h [] j l none quiet = quiet

@@ -14,7 +14,7 @@ use Rattle.spool_history.specs.Legal.{HasJob, IsLegal, May}
 use Rattle.spool_laws.specs.Reserve.{CountsStops}
 use Rattle.spool_laws.proofs.Known.{Has, At, has_at, test}
 use Rattle.spool_laws.proofs.Printers.{at_printer}
-use Rattle.spool_laws.proofs.Facts.{facts, is_out, turn_of_page, handed_at, handed_more, handed_same, count_one, acts_other, back_same, back_more, back_one}
+use Rattle.spool_laws.proofs.Facts.{facts, is_out, turn_of_page, handed_at, handed_more, handed_same, count_one, acts_here, acts_other, back_same, back_more, back_one}
 use Rattle.spool_laws.proofs.Counts.{one_if, one_le}
 use Rattle.spool_laws.proofs.Adding.{sum_less, sum_more, sum_same, up_less, up_one, has_left, has_up_to}
 use Rattle.spool_laws.proofs.Told.{failed_of, removed_of, used, failed_one, reserved}
@@ -42,16 +42,10 @@ accepted size c base (e ∷ h) l j pos = accepted_step size c base h e l.1 l.0 (
 -- what is told of one job more
 
 more_act : {C : Type 0} (h : List (Event C)) (k : ℕ) (act : Act C) (j : ℕ) → used h j ≤ used (OfJob k act ∷ h) j
-more_act h k act j = elim (test k j) [
-  | inl s ↦ (let n : length (acts_of (OfJob k act ∷ h) j) ≡ suc (length (acts_of h j)) = rw s.1 refl in omega arith)
-  | inr s ↦ (let n = ap length (acts_other h k act j s.0) in omega arith)
-]
+more_act h k act j = elim (test k j) [ inl s ↦ rw s.1 (omega arith) | inr s ↦ omega (arith, ap length (acts_other h k act j s.0)) ]
 
-one_act : {C : Type 0} (h : List (Event C)) (k : ℕ) (act : Act C) (j : ℕ) → k ≡ j → used h j + 1 ≤ used (OfJob k act ∷ h) j
-one_act h k act j e = elim (test k j) [
-  | inl s ↦ (let n : length (acts_of (OfJob k act ∷ h) j) ≡ suc (length (acts_of h j)) = rw s.1 refl in omega arith)
-  | inr s ↦ absurd (s.0 e)
-]
+one_act : {C : Type 0} (h : List (Event C)) (k : ℕ) (act : Act C) → used h k + 1 ≤ used (OfJob k act ∷ h) k
+one_act h k act = omega (arith, ap length (acts_here h k act))
 
 failed_less : {C : Type 0} (h : List (Event C)) (p : ℕ) (sheet : Sheet C) (turn : Turn) (j : ℕ) (b d : Bool) → (sheet.job == j) ≡ b → is_failed turn ≡ d → failed_of h j ≤ failed_of (AtPrinter p sheet turn ∷ h) j
 failed_less h p sheet turn j true true e f = let n : failed_of (AtPrinter p sheet turn ∷ h) j ≡ failed_of h j + 1 = rw (e, f) refl in omega arith
@@ -134,7 +128,7 @@ Told' c base h = length h + stops c base h ≤ base.reserved + all_used h (openi
 
 act_told : {C : Type 0} (c : Config) (base : Base) (h : List (Event C)) (k : ℕ) (act : Act C) (P : Job C → Type 0) → At h k P → Told' c base h → Told' c base (OfJob k act ∷ h)
 act_told c base h k act P a t =
-    let s = sum_more (used_by h) (used_by (OfJob k act ∷ h)) 1 (record { job = k; sender = a.sender; queue = a.queue }) (openings h) a.there (λ o. more_act h k act o.job) (one_act h k act k refl) in
+    let s = sum_more (used_by h) (used_by (OfJob k act ∷ h)) 1 (record { job = k; sender = a.sender; queue = a.queue }) (openings h) a.there (λ o. more_act h k act o.job) (one_act h k act) in
     omega arith
 
 opened_told : {C : Type 0} (c : Config) (base : Base) (h : List (Event C)) (k s q : ℕ) → Told' c base h → Told' c base (Opened k s q ∷ h)

@@ -12,11 +12,12 @@ use Rattle.spool_history.specs.Legal.{IsLegal, MayOpen}
 use Rattle.spool_laws.specs.Reserve.{CountsStops}
 use Rattle.spool_laws.specs.Rotating.{recounted}
 use Rattle.spool_laws.proofs.Known.{Has, has_kept, held_at}
-use Rattle.spool_laws.proofs.Printers.{get_up_to}
+use Rattle.spool_laws.proofs.Printers.{get_up_to, map_twice}
 use Rattle.spool_laws.proofs.Facts.{facts}
 use Rattle.spool_laws.proofs.Moves.{out_held, all_same}
 use Rattle.spool_laws.proofs.Adding.{sum_map, up_below}
 use Rattle.spool_laws.proofs.Reserve.{accepted}
+use Rattle.std.proofs.Math.Nat.{add-zero}
 
 -- lists over the numbers from 1 to n
 same_up_to : {X : Type 0} (f g : ℕ → X) (n : ℕ) → ((p : ℕ) → 1 ≤ p → p ≤ n → f p ≡ g p) → map f (up_to n) ≡ map g (up_to n)
@@ -27,14 +28,10 @@ same_up_to {X} f g (suc n) same =
     map-append f (up_to n) (suc n ∷ []) ∙ (ap (λ (l : List X). l ++ f (suc n) ∷ []) ih
     ∙ (ap (λ (x : X). map g (up_to n) ++ x ∷ []) here ∙ sym (map-append g (up_to n) (suc n ∷ []))))
 
-map_map : {X Y Z : Type 0} (g : Y → Z) (f : X → Y) (xs : List X) → map g (map f xs) ≡ map (λ x. g (f x)) xs
-map_map g f [] = refl
-map_map {X} {Y} {Z} g f (x ∷ xs) = ap (λ (l : List Z). g (f x) ∷ l) (map_map g f xs)
-
 still_stopped : {C : Type 0} (c : Config) (b : Base) (h : List (Event C)) (p : ℕ) → 1 ≤ p → p ≤ printer_count c → was_stopped (rotated (now c b h)) p ≡ is_stopped_at b h (queue_of c p) p
 still_stopped c b h zero one le = absurd (omega arith)
 still_stopped {C} c b h (suc p) one le =
-    ap (λ (l : List Bool). get_or l p false) (map_map (λ (x : Printer C). x.stopped) (printer_of c b h) (up_to (printer_count c)))
+    ap (λ (l : List Bool). get_or l p false) (sym (map_twice (printer_of c b h) (λ (x : Printer C). x.stopped) (λ (q : ℕ). is_stopped_at b h (queue_of c q) q) (up_to (printer_count c)) (λ q. refl)))
     ∙ get_up_to (λ (q : ℕ). is_stopped_at b h (queue_of c q) q) (printer_count c) p false le
 
 -- no page is out where no job is held
@@ -62,11 +59,8 @@ pub keeps : {C : Type 0} (size : C → ℕ) (c : Config) (b : Base) (h : List (E
 keeps {C} size c b h l e =
     let v = now c b h in
     let printers = same_up_to (printer_of c (rotated v) []) (λ (p : ℕ). record (printer_of c b h p) { began = None }) (printer_count c) (printer_kept size c b h l e) in
-    let twice = map_map (λ (x : Printer C). record x { began = None }) (printer_of c b h) (up_to (printer_count c)) in
-    all_same c _ _ _ _ _ _ _ _ _ _ (sym e) (and_none v.accepted) (and_none (stopped_in v)) (printers ∙ sym twice) refl
-  where
-    and_none : (n : ℕ) → n + 0 ≡ n
-    and_none n = omega arith
+    let twice = map_twice (printer_of c b h) (λ (x : Printer C). record x { began = None }) (λ (p : ℕ). record (printer_of c b h p) { began = None }) (up_to (printer_count c)) (λ p. refl) in
+    all_same c _ _ _ _ _ _ _ _ _ _ (sym e) (add-zero v.accepted) (add-zero (stopped_in v)) (printers ∙ twice) refl
 
 pub counts : {C : Type 0} (c : Config) (b : Base) (h : List (Event C)) → CountsStops c (rotated (now c b h))
 counts {C} c b h =

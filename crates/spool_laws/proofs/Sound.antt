@@ -184,7 +184,7 @@ lower_back c v = lower_row c v (record v { back = v.back + 1 }) refl refl refl (
 abbrev pub LowersAll : {C : Type 0} → Config → Base → List (Event C) → Event C → Type 0
 LowersAll {C} c base h e = (o : Opening) → Has o (openings h) → Lower (row_of c (job_of h o)) (row_of c (change e (job_of h o)))
 
-at_is : {C : Type 0} {base : Base} (h : List (Event C)) (k : ℕ) (P : Job C → Type 0) (o : Opening) → Facts base h → At h k P → Has o (openings h) → k ≡ o.job → P (job_of h o)
+pub at_is : {C : Type 0} {base : Base} (h : List (Event C)) (k : ℕ) (P : Job C → Type 0) (o : Opening) → Facts base h → At h k P → Has o (openings h) → k ≡ o.job → P (job_of h o)
 at_is {C} h k P o f a has e =
     let x : Opening = record { job = k; sender = a.sender; queue = a.queue } in
     subst (λ (y : Opening). P (job_of h y)) (f.once x o a.there has e) a.is

@@ -31,17 +31,18 @@ use Rattle.spool_laws.proofs.Pigeons.{Rises, at_most}
 use Rattle.spool_laws.proofs.Busy.{rising_jobs, received_if}
 use Rattle.spool_laws.proofs.Enough.{rows, printers_small, get_printers, kind_within}
 use Rattle.spool_laws.proofs.Sound.{amount_le, is_quiet, lowers_all}
+use Rattle.spool_laws.proofs.Joined.{contained}
 
-abbrev free : {C : Type 0} → Config → List (Job C) → ℕ → ℕ
+abbrev pub free : {C : Type 0} → Config → List (Job C) → ℕ → ℕ
 free c jobs k = amount (capacity c) k - holds k (rows c jobs)
 
-abbrev IsGood : {C : Type 0} → Config → List (Job C) → Type 0
+abbrev pub IsGood : {C : Type 0} → Config → List (Job C) → Type 0
 IsGood c jobs = HasFinishingOrder (free c jobs) (rows c jobs)
 
-to_safe : {C : Type 0} (v : State C) → IsGood v.config v.jobs → IsSafeNow v
+pub to_safe : {C : Type 0} (v : State C) → IsGood v.config v.jobs → IsSafeNow v
 to_safe v g = safe_more (free v.config v.jobs) (free_amount v) (rows v.config v.jobs) (λ k. let e = holds_sum k (rows v.config v.jobs) in omega arith) g
 
-of_safe : {C : Type 0} (v : State C) → IsSafeNow v → IsGood v.config v.jobs
+pub of_safe : {C : Type 0} (v : State C) → IsSafeNow v → IsGood v.config v.jobs
 of_safe v g = safe_more (free_amount v) (free v.config v.jobs) (rows v.config v.jobs) (λ k. let e = holds_sum k (rows v.config v.jobs) in omega arith) g
 
 -- an event by which no job gets or accepts anything
@@ -186,13 +187,6 @@ nothing_more c v p n k =
     let a : amount (row_of c v).need k ≤ amount (amounts c 0 v.queue 0) k = amount_le c v.queue (pages_needed c v) 0 (printers_needed v) 0 (omega arith) (omega arith) k in
     omega (arith, nothing_of c v.queue k)
 
-contains_at : {X : Type 0} (x : X) (xs : List X) → Has x xs → Rattle.std.specs.Prelude.Contains xs x
-contains_at x [] has = absurd has
-contains_at x (y ∷ ys) has = elim has [
-  | inl e ↦ (0, omega arith, e)
-  | inr t ↦ let r = contains_at x ys t in (suc r.0, (let lt = r.1 in omega arith), r.2)
-]
-
 -- of its sender and queue each other held job has a higher number
 line_of : {C : Type 0} (size : C → ℕ) (c : Config) (base : Base) (h : List (Event C)) (sheet : Sheet C) → IsLegal size c base h → (o : Opening) → Has o (openings h) → o.job ≡ sheet.job → EarlierAreGone h sheet
     → (u : Job C) → Has u (now c base h).jobs → u.number ≢ o.job → (o.sender ≡ u.sender) × (o.queue ≡ u.queue) → o.job < u.number
@@ -209,7 +203,7 @@ line_of {C} size c base h sheet l o there is gone u has ne line = by (nat_lt o.j
         let le : u.number ≤ o.job = grind (arith, nat_tests) in
         let ne' : u.number ≢ o.job = ne in
         let lt : x.job < o.job = omega arith in
-        let g : is_held (job_of h x) ≡ false = gone x o (contains_at x (openings h) k.there) (contains_at o (openings h) there) is lt (sym s ∙ sym line.0) (sym q ∙ sym line.1) in
+        let g : is_held (job_of h x) ≡ false = gone x o (contained x (openings h) k.there) (contained o (openings h) there) is lt (sym s ∙ sym line.0) (sym q ∙ sym line.1) in
         absurd (clash (is_held (job_of h x)) (subst (λ (v : Job C). is_held v ≡ true) k.is k.held) g)
 
 handed : {C : Type 0} (size : C → ℕ) (c : Config) (base : Base) (h : List (Event C)) (p : ℕ) (sheet : Sheet C) → IsLegal size c base h → May size (now c base h) (AtPrinter p sheet Handed) → IsGood c (now c base h).jobs → IsGood c (now c base (AtPrinter p sheet Handed ∷ h)).jobs

@@ -21,11 +21,12 @@ use Rattle.spool_history.specs.Legal.{IsLegal, May}
 use Rattle.spool_laws.specs.Sums.{held_pages, AddUp}
 use Rattle.spool_laws.proofs.Known.{has_at, test}
 use Rattle.spool_laws.proofs.Changes.{changes}
-use Rattle.spool_laws.proofs.Facts.{Unknown, facts, last, IsOther, turn_of_page, received_at}
+use Rattle.spool_laws.proofs.Facts.{Unknown, acts_here, facts, last, IsOther, turn_of_page, received_at}
 use Rattle.spool_laws.proofs.Adding.{sum_filter, sum_map, up_below, up_less, up_none, up_one}
 use Rattle.spool_laws.proofs.Copies.{kept_fewer}
 use Rattle.spool_laws.proofs.Reserve.{no_events}
 use Rattle.spool_laws.proofs.Sound.{Sound, sound, out_within}
+use Rattle.std.proofs.Math.Nat.{add-zero}
 
 -- the pages that a job holds, if it is held
 
@@ -58,10 +59,7 @@ more_numbers f n os x e ih =
     omega (arith, sum_by_push (λ (p : Opening). f p.job) os x, sum_by_push f (up_to (n + length os)) (suc (n + length os)))
 
 all_numbers : {C : Type 0} (size : C → ℕ) (c : Config) (base : Base) (h : List (Event C)) → IsLegal size c base h → (f : ℕ → ℕ) → Numbers f base.accepted (openings h)
-all_numbers size c base [] l f = (let e = ap (λ (i : ℕ). sum_by f (up_to i)) (sym (and_none base.accepted)) in omega arith)
-  where
-    and_none : (n : ℕ) → n + 0 ≡ n
-    and_none n = omega arith
+all_numbers size c base [] l f = omega (arith, ap (λ (i : ℕ). sum_by f (up_to i)) (sym (add-zero base.accepted)))
 all_numbers size c base (Opened k s q ∷ h) l f = more_numbers f base.accepted (openings h) (record { job = k; sender = s; queue = q }) l.0.4 (all_numbers size c base h l.1 f)
 all_numbers size c base (_ ∷ h) l f = all_numbers size c base h l.1 f
 
@@ -82,12 +80,6 @@ weight_unknown h j u = weight_unknown_by h j (has_ended h j) refl u
 held_weights : {C : Type 0} (size : C → ℕ) (c : Config) (base : Base) (h : List (Event C)) → IsLegal size c base h → held_pages c base h ≡ weights base h
 held_weights size c base h l = sum_held h (openings h) ∙ numbers size c base h l (weight_at h) (λ j is. weight_unknown h j ((facts size c base h l).fresh j is))
 
-cond_true : (b : Bool) (n m : ℕ) → b ≡ true → cond b n m ≡ n
-cond_true b n m e = rw e refl
-
-cond_false : (b : Bool) (n m : ℕ) → b ≡ false → cond b n m ≡ m
-cond_false b n m e = rw e refl
-
 -- what has ended and has no page out is held no more
 out_alone : (l : Bool) (a b : ℕ) → cond (l || not (a == b)) (cond l 1 0 + (a - b)) 0 ≡ cond l 1 0 + (a - b)
 out_alone true a b = refl
@@ -100,10 +92,10 @@ weight_going : {C : Type 0} (v : Job C) → v.ended ≡ false → weight v ≡ c
 weight_going v e = rw e refl
 
 weight_received : {C : Type 0} (v : Job C) → v.ended ≡ false → is_received v ≡ true → weight v ≡ length (pages_kept v)
-weight_received v e r = weight_going v e ∙ cond_true (is_received v) (length (pages_kept v)) v.granted r
+weight_received v e r = rw (e, r) refl
 
 weight_receiving : {C : Type 0} (v : Job C) → v.ended ≡ false → is_received v ≡ false → weight v ≡ v.granted
-weight_receiving v e r = weight_going v e ∙ cond_false (is_received v) (length (pages_kept v)) v.granted r
+weight_receiving v e r = rw (e, r) refl
 
 -- a job that hasn't ended holds no more than was lent to it
 weight_granted : {C : Type 0} (v : Job C) (b : Bool) → is_received v ≡ b → v.ended ≡ false → Sound v → weight v ≤ v.granted
@@ -138,15 +130,12 @@ act_less {C} h k act here j = elim (test k j) [
 ended_same : {C : Type 0} (h : List (Event C)) (k : ℕ) (act : Act C) → ends_by_act act ≡ false → has_ended (OfJob k act ∷ h) k ≡ has_ended h k
 ended_same h k act e = elim (test k k) [ inl s ↦ rw (s.1, e) refl | inr s ↦ rw s.1 refl ]
 
-granted_here : {C : Type 0} (h : List (Event C)) (k : ℕ) (act : Act C) → granted_by (acts_of (OfJob k act ∷ h) k) ≡ granted_by (act ∷ acts_of h k)
-granted_here h k act = elim (test k k) [ inl s ↦ rw s.1 refl | inr s ↦ absurd (s.0 refl) ]
-
 -- an act on a job that is being received
 act_granted : {C : Type 0} (size : C → ℕ) (c : Config) (base : Base) (h : List (Event C)) (k : ℕ) (act : Act C) (n : ℕ) → IsLegal size c base (OfJob k act ∷ h) → ends_by_act act ≡ false → granted_by (act ∷ acts_of h k) ≡ granted_by (acts_of h k) + n → has_ended h k ≡ false → received_at h k ≡ false → weight_at (OfJob k act ∷ h) k ≤ weight_at h k + n
 act_granted {C} size c base h k act n l ends is goes_on receiving =
     let v : Job C = job_of (OfJob k act ∷ h) (numbered k) in
     let w = weight_receiving (job_of h (numbered k)) goes_on receiving in
-    let g = granted_here h k act in
+    let g = ap granted_by (acts_here h k act) in
     let u = weight_granted v (is_received v) refl (ended_same h k act ends ∙ goes_on) (sound size c base (OfJob k act ∷ h) l (numbered k)) in
     omega arith
 

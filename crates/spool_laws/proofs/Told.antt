@@ -13,7 +13,7 @@ use Rattle.spool_history.specs.Said.{Opening, openings, acts_of, is_failed, back
 use Rattle.spool_history.specs.Now.{Job, now}
 use Rattle.spool_history.specs.Legal.{HasJob, IsLegal, May}
 use Rattle.spool_laws.proofs.Known.{Has, At, has_at, has_last, test, clash}
-use Rattle.spool_laws.proofs.Facts.{Facts, facts, last, is_out, Turn', turn_of_page, handed_at, handed_more, handed_same, acts_other, back_same, back_more, back_one}
+use Rattle.spool_laws.proofs.Facts.{Facts, facts, last, is_out, Turn', turn_of_page, handed_at, handed_more, handed_same, acts_other, acts_here, ended_aborted, back_same, back_more, back_one}
 use Rattle.spool_laws.proofs.Whole.{still_ended}
 use Rattle.spool_laws.proofs.Counts.{none_by, Fits, fits_none, fits_later, fits_granted, fits_began, fits_put, fits_ended, fits_controlled, fits_aborted, all_counted, began_files, count_le}
 use Rattle.spool_laws.proofs.Sound.{sound}
@@ -35,9 +35,6 @@ pub record Told {C : Type 0} (h : List (Event C)) (j : ℕ) : Type 0 where
   pub after : 0 < failed_of h j → (has_ended h j ≡ true) × (handed_at h j ≡ back_of h j)
   pub removed : removed_of h j ≤ 1
   pub gone : 0 < removed_of h j → has_ended h j ≡ true
-
-acts_here : {C : Type 0} (h : List (Event C)) (k : ℕ) (act : Act C) → acts_of (OfJob k act ∷ h) k ≡ act ∷ acts_of h k
-acts_here h k act = elim (test k k) [ inl s ↦ rw s.1 refl | inr s ↦ absurd (s.0 refl) ]
 
 told_act : {C : Type 0} (h : List (Event C)) (k : ℕ) (act : Act C) → Fits (act ∷ acts_of h k) (has_ended (OfJob k act ∷ h) k) → ((j : ℕ) → Told h j) → (j : ℕ) → Told (OfJob k act ∷ h) j
 told_act {C} h k act fits t j =
@@ -165,9 +162,6 @@ told_opened h k s q j u = record { acts = u.acts; failed = u.failed; after = u.a
 
 told_started : {C : Type 0} (h : List (Event C)) (q j : ℕ) → Told h j → Told (Started q ∷ h) j
 told_started h q j u = record { acts = u.acts; failed = u.failed; after = u.after; removed = u.removed; gone = u.gone }
-
-ended_aborted : {C : Type 0} (h : List (Event C)) (k : ℕ) → has_ended (OfJob k Aborted ∷ h) k ≡ true
-ended_aborted h k = elim (test k k) [ inl s ↦ rw s.1 refl | inr s ↦ absurd (s.0 refl) ]
 
 told_step : {C : Type 0} (size : C → ℕ) (c : Config) (base : Base) (h : List (Event C)) (e : Event C) → IsLegal size c base h → May size (now c base h) e → ((j : ℕ) → Told h j) → (j : ℕ) → Told (e ∷ h) j
 told_step size c base h (Opened k s q) l m t = λ j. told_opened h k s q j (t j)
