@@ -96,11 +96,8 @@ pub has_up_to : (p n : ℕ) → 1 ≤ p → p ≤ n → Has p (up_to n)
 has_up_to p zero one le = absurd (omega arith)
 has_up_to p (suc n) one le = elim (test (suc n) p) [
   | inl s ↦ subst (λ (i : ℕ). Has i (up_to n ++ suc n ∷ [])) s.0 (has_end (suc n) (up_to n))
-  | inr s ↦ let ne = s.0 in has_left p (up_to n) (suc n ∷ []) (has_up_to p n one (below n p ne le))
+  | inr s ↦ let ne : suc n ≢ p = s.0 in has_left p (up_to n) (suc n ∷ []) (has_up_to p n one (omega arith))
 ]
-  where
-    below : (m p : ℕ) → suc m ≢ p → p ≤ suc m → p ≤ m
-    below m p ne le = omega arith
 
 -- one of them counts one more, and no other counts anything else
 pub up_once : (f g : ℕ → ℕ) (p n : ℕ) → 1 ≤ p → p ≤ n → ((q : ℕ) → q ≢ p → g q ≡ f q) → g p ≡ f p + 1 → sum_by g (up_to n) ≡ sum_by f (up_to n) + 1

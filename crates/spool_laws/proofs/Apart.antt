@@ -88,14 +88,8 @@ pages_sum {C} (f ∷ fs) = let ih = pages_sum fs in let k = sum_by-cons (λ (g :
 apart_by : {C : Type 0} (v : Job C) (e r l : Bool) → v.ended ≡ e → is_received v ≡ r → v.lent ≡ l → Apart v → pages_held v ≡ chained_of v + (one_for v.lent + (v.handed - v.back))
 apart_by v true r l ended received is_lent a = rw ended (omega arith)
 apart_by v false true true ended received is_lent a = absurd (clash (is_received v) received (a.sound.lent is_lent))
-apart_by v false true false ended received is_lent a =
-    let out = out_kept v a.sound in
-    rw (ended, received, is_lent) (omega arith)
-apart_by v false false l ended received is_lent a =
-    let none = a.sound.begun received in
-    let all = a.filled ended in
-    let sum = pages_sum v.files in
-    rw (ended, received) (omega arith)
+apart_by v false true false ended received is_lent a = rw (ended, received, is_lent) (omega (arith, out_kept v a.sound))
+apart_by v false false l ended received is_lent a = rw (ended, received) (omega (arith, a.sound.begun received, a.filled ended, pages_sum v.files))
 
 pub apart : {C : Type 0} (size : C → ℕ) (c : Config) (base : Base) (h : List (Event C)) → IsLegal size c base h → (o : Opening) → Apart (job_of h o)
 apart size c base h l o = record { sound = sound size c base h l o; filled = filled size c base h l o.job }

@@ -22,6 +22,7 @@ use Rattle.spool_laws.proofs.Facts.{Facts, facts, last, began_same, turn_of_page
 use Rattle.spool_laws.proofs.Moves.{steady}
 use Rattle.spool_laws.proofs.Held.{Keeps, keeps}
 use Rattle.spool_laws.proofs.Pigeons.{Rises, rises_push, rises_filter, rises_map}
+use Rattle.std.proofs.lemmas.Bool.{true_from_ne_false}
 
 -- a job to which a page is lent isn't received
 pub lent_unreceived : {C : Type 0} (h : List (Event C)) (j : ℕ) → Keeps (acts_of h j) → is_lent_by (acts_of h j) ≡ true → received_at h j ≡ false
@@ -36,9 +37,8 @@ pub record Busy {C : Type 0} (c : Config) (base : Base) (h : List (Event C)) (o 
 abbrev pub AreBusy : {C : Type 0} → Config → Base → List (Event C) → Type 0
 AreBusy c base h = (o : Opening) → Has o (openings h) → is_held (job_of h o) ≡ true → 0 < handed_at h o.job → Busy c base h o
 
-held_by : {C : Type 0} (v w : Job C) (b : Bool) → is_held v ≡ b → (is_held v ≡ false → is_held w ≡ false) → is_held w ≡ true → is_held v ≡ true
-held_by v w true e st held = e
-held_by v w false e st held = absurd (clash (is_held w) held (st e))
+held_by : {C : Type 0} (v w : Job C) → (is_held v ≡ false → is_held w ≡ false) → is_held w ≡ true → is_held v ≡ true
+held_by v w st held = true_from_ne_false (is_held v) (λ gone. clash (is_held w) held (st gone))
 
 abbrev Steady : {C : Type 0} → List (Event C) → Event C → Type 0
 Steady h e = (o : Opening) → is_held (job_of h o) ≡ false → is_held (job_of (e ∷ h) o) ≡ false
@@ -46,7 +46,7 @@ Steady h e = (o : Opening) → is_held (job_of h o) ≡ false → is_held (job_o
 busy_opened : {C : Type 0} (c : Config) (base : Base) (h : List (Event C)) (j s q : ℕ) → Facts base h → j ≡ last base h + 1 → Steady h (Opened j s q) → AreBusy c base h → AreBusy c base (Opened j s q ∷ h)
 busy_opened {C} c base h j s q f new st b o has held pos = elim (has_last o (openings h) (record { job = j; sender = s; queue = q }) has) [
   | inl t ↦
-      let x = b o t (held_by (job_of h o) (job_of (Opened j s q ∷ h) o) (is_held (job_of h o)) refl (st o) held) pos in
+      let x = b o t (held_by (job_of h o) (job_of (Opened j s q ∷ h) o) (st o) held) pos in
       record { at = x.at; is = x.is; began = x.began; queue = x.queue }
   | inr e ↦
       let m : j ≡ o.job = ap (λ (y : Opening). y.job) e in
@@ -57,7 +57,7 @@ busy_opened {C} c base h j s q f new st b o has held pos = elim (has_last o (ope
 busy_back : {C : Type 0} (c : Config) (base : Base) (h : List (Event C)) (p : ℕ) (sheet : Sheet C) (turn : Turn) → is_handed turn ≡ false → Steady h (AtPrinter p sheet turn) → AreBusy c base h → AreBusy c base (AtPrinter p sheet turn ∷ h)
 busy_back c base h p sheet turn not' st b o has held pos =
     let m = ap length (handed_same h p sheet turn o.job not') in
-    let x = b o has (held_by (job_of h o) (job_of (AtPrinter p sheet turn ∷ h) o) (is_held (job_of h o)) refl (st o) held) (omega arith) in
+    let x = b o has (held_by (job_of h o) (job_of (AtPrinter p sheet turn ∷ h) o) (st o) held) (omega arith) in
     record { at = x.at; is = x.is; began = began_same h p sheet turn x.at not' ∙ x.began; queue = x.queue }
 
 -- a printer goes on with the job that it began while that one goes on
@@ -138,7 +138,7 @@ began_here h p sheet j e = elim (test p p) [ inl s ↦ rw s.1 (ap (λ (i : ℕ).
 
 busy_handed : {C : Type 0} (c : Config) (base : Base) (h : List (Event C)) (p : ℕ) (sheet : Sheet C) → Facts base h → ((j : ℕ) → Keeps (acts_of h j)) → IsPrinter c p → next_page (now c base h) p ≡ Hands sheet → Steady h (AtPrinter p sheet Handed) → AreBusy c base h → AreBusy c base (AtPrinter p sheet Handed ∷ h)
 busy_handed {C} c base h p sheet f k is e st b o has held' pos =
-    let held = held_by (job_of h o) (job_of (AtPrinter p sheet Handed ∷ h) o) (is_held (job_of h o)) refl (st o) held' in
+    let held = held_by (job_of h o) (job_of (AtPrinter p sheet Handed ∷ h) o) (st o) held' in
     elim (test sheet.job o.job) [
       | inl s ↦
           let g = (given (now c base h) p sheet e).1 in
@@ -166,7 +166,7 @@ busy_handed {C} c base h p sheet f k is e st b o has held' pos =
 busy_same : {C : Type 0} (c : Config) (base : Base) (h : List (Event C)) (e : Event C) → openings (e ∷ h) ≡ openings h → ((j : ℕ) → handed_at (e ∷ h) j ≡ handed_at h j) → ((p : ℕ) → began_at (e ∷ h) p ≡ began_at h p) → Steady h e → AreBusy c base h → AreBusy c base (e ∷ h)
 busy_same c base h e os hs bs st b o has held pos =
     let m = hs o.job in
-    let x = b o (subst (λ (l : List Opening). Has o l) os has) (held_by (job_of h o) (job_of (e ∷ h) o) (is_held (job_of h o)) refl (st o) held) (omega arith) in
+    let x = b o (subst (λ (l : List Opening). Has o l) os has) (held_by (job_of h o) (job_of (e ∷ h) o) (st o) held) (omega arith) in
     record { at = x.at; is = x.is; began = bs x.at ∙ x.began; queue = x.queue }
 
 busy_step : {C : Type 0} (size : C → ℕ) (c : Config) (base : Base) (h : List (Event C)) (e : Event C) → IsLegal size c base h → May size (now c base h) e → AreBusy c base h → AreBusy c base (e ∷ h)

@@ -1,5 +1,5 @@
 -- What one more event makes of what a history says of a job.
-use Rattle.std.proofs.Common.{◌≡◌, ◌==◌, ℕ, Bool, true, false, List, ◌∷◌, refl, ap}
+use Rattle.std.proofs.Common.{inl, inr, ◌≡◌, ◌==◌, ℕ, Bool, true, false, List, ◌∷◌, refl, ap}
 use Rattle.std.specs.List.{list_any}
 use Rattle.std.proofs.lemmas.List.{length_push}
 use Rattle.spool_history.specs.Events.{Act, Event, Sheet, Turn}
@@ -10,6 +10,7 @@ use Rattle.spool_history.specs.Events.Event.{Opened, OfJob, AtPrinter, Removed, 
 use Rattle.spool_history.specs.Said.{Opening, handed_of}
 use Rattle.spool_history.specs.Now.{job_of}
 use Rattle.spool_history.specs.Steps.{change}
+use Rattle.std.proofs.lemmas.Bool.{cases_Bool}
 
 -- one more event makes of each job what change says
 abbrev pub Changes : {C : Type 0} → List (Event C) → Event C → Type 0
@@ -26,12 +27,8 @@ turn_by h p sheet (Printed Going) o true e = rw e refl
 turn_by h p sheet _ o true e = rw e refl
 turn_by h p sheet turn o false e = rw e refl
 
-removed_by : {C : Type 0} (h : List (Event C)) (q : ℕ) (jobs : List ℕ) (o : Opening) (b : Bool) → list_any (λ k. k == o.job) jobs ≡ b → job_of (Removed q jobs ∷ h) o ≡ change (Removed q jobs) (job_of h o)
-removed_by h q jobs o true e = rw e refl
-removed_by h q jobs o false e = rw e refl
-
 pub changes : {C : Type 0} (h : List (Event C)) (e : Event C) → Changes h e
 changes h (OfJob k act) o = act_by h k act o (k == o.job) refl
 changes h (AtPrinter p sheet turn) o = turn_by h p sheet turn o (sheet.job == o.job) refl
-changes h (Removed q jobs) o = removed_by h q jobs o (list_any (λ k. k == o.job) jobs) refl
+changes h (Removed q jobs) o = elim (cases_Bool (list_any (λ k. k == o.job) jobs)) [ inl e ↦ rw e refl | inr e ↦ rw e refl ]
 changes h _ o = refl

@@ -7,7 +7,7 @@ use Rattle.std.proofs.lemmas.List.Sums.{length-filter, count_by-le-length}
 use Rattle.lpd_values.specs.Told.{prints_in}
 use Rattle.spool_history.specs.Acts.{File, Page, all_pages, is_same_page, numbered, pages_among, pages_named}
 use Rattle.spool_history.specs.Now.{Job, pages_kept, places}
-use Rattle.spool_laws.proofs.Known.{Has, clash, or_true, test}
+use Rattle.spool_laws.proofs.Known.{Has, filter_has, clash, or_true, test}
 use Rattle.spool_laws.proofs.Adding.{has_left}
 
 -- how many pages files have
@@ -35,16 +35,9 @@ filter_fewer : {X : Type 0} (t u : X → Bool) (xs : List X) → ((x : X) → t 
 filter_fewer t u [] up = omega arith
 filter_fewer t u (x ∷ xs) up = filter_one t u x xs (t x) (u x) refl refl (up x) (filter_fewer t u xs up)
 
-filter_has_by : {X : Type 0} (t : X → Bool) (x y : X) (xs : List X) (a : Bool) → t y ≡ a → t x ≡ true → (y ≡ x) ⊎ Has x xs → (Has x xs → 1 ≤ length (filter t xs)) → 1 ≤ length (filter t (y ∷ xs))
-filter_has_by t x y xs true e is has ih = rw e (omega arith)
-filter_has_by {X} t x y xs false e is has ih = rw e (elim has [
-  | inl s ↦ absurd (clash (t x) is (subst (λ (z : X). t z ≡ false) s e))
-  | inr h ↦ ih h
-])
-
-filter_has : {X : Type 0} (t : X → Bool) (x : X) (xs : List X) → t x ≡ true → Has x xs → 1 ≤ length (filter t xs)
-filter_has t x [] is has = absurd has
-filter_has t x (y ∷ ys) is has = filter_has_by t x y ys (t y) refl is has (filter_has t x ys is)
+has_some : {X : Type 0} (x : X) (xs : List X) → Has x xs → 1 ≤ length xs
+has_some x [] has = absurd has
+has_some x (y ∷ ys) has = omega arith
 
 none_left : {X : Type 0} (t : X → Bool) (n : ℕ) → list_any t (drop n []) ≡ false
 none_left t zero = refl
@@ -53,10 +46,9 @@ none_left t (suc n) = refl
 any_later : {X : Type 0} (t : X → Bool) (n : ℕ) (xs : List X) → list_any t (drop (n + 1) xs) ≡ true → list_any t (drop n xs) ≡ true
 any_later {X} t n [] e = absurd (clash (list_any t (drop (n + 1) [])) e (none_left t (n + 1)))
 any_later t zero (x ∷ xs) e = (let z : list_any t xs ≡ true = e in rw z (or_true (t x)))
-any_later t (suc n) (x ∷ xs) e = any_later t n xs (subst (λ (m : ℕ). list_any t (drop m (x ∷ xs)) ≡ true) (next n) e)
-  where
-    next : (n : ℕ) → suc n + 1 ≡ suc (n + 1)
-    next n = omega arith
+any_later t (suc n) (x ∷ xs) e =
+    let next : suc n + 1 ≡ suc (n + 1) = omega arith in
+    any_later t n xs (subst (λ (m : ℕ). list_any t (drop m (x ∷ xs)) ≡ true) next e)
 
 -- the pages that a job keeps are among the pages of its files
 pub kept_within : {C : Type 0} (v : Job C) → length (pages_kept v) ≤ pages_in v.files
@@ -110,7 +102,7 @@ same_page x = elim (test x.file x.file) [
 some_later : {C : Type 0} (n : ℕ) (ps all : List (Page C)) → n < length ps → ((x : Page C) → Has x ps → Has x all) → 1 ≤ length (pages_among (drop n ps) all)
 some_later n [] all lt there = absurd (omega arith)
 some_later {C} zero (x ∷ xs) all lt there =
-    filter_has (λ (page : Page C). list_any (is_same_page page) (x ∷ xs)) x all (rw (same_page x) refl) (there x (inl refl))
+    has_some x _ (filter_has (λ (page : Page C). list_any (is_same_page page) (x ∷ xs)) x all (rw (same_page x) refl) (there x (inl refl)))
 some_later (suc n) (x ∷ xs) all lt there = some_later n xs all (omega arith) (λ y has. there y (inr has))
 
 -- while a place is to come a page is kept

@@ -1,11 +1,11 @@
 -- What a job holds: no more pages than were lent to it.
 use Rattle.std.proofs.Common.{inl, inr, ◌≡◌, ℕ, ◌+◌, ◌≤◌, Bool, true, false, List, [], ◌∷◌, ◌++◌, length, refl, ap, subst, arith, length-append}
-use Rattle.std.specs.Prelude.{not, cond, nat_le}
+use Rattle.std.specs.Prelude.{◌&&◌, not, cond, nat_le}
 use Rattle.lpd_values.specs.Contents.{Contents}
 use Rattle.lpd_values.specs.Kept.{is_print_list}
 use Rattle.lpd_values.specs.declared.limits.TheConstants.{MAX_PRINTS}
 use Rattle.lpd_values.specs.Told.{prints_in}
-use Rattle.std.proofs.lemmas.Bool.{leb-true}
+use Rattle.std.proofs.lemmas.Bool.{and_parts, leb-true}
 use Rattle.spool_history.specs.Base.{Base}
 use Rattle.spool_history.specs.Events.{Act, Event}
 use Rattle.spool_history.specs.Events.Act.{Granted, Began, Put, FileEnded, Controlled, Aborted}
@@ -47,13 +47,10 @@ less_lent : (b : Bool) (n m : ℕ) → n + cond b 1 0 ≤ m → n ≤ m
 less_lent true n m le = omega arith
 less_lent false n m le = omega arith
 
-few_by : (names : List (List ℕ)) (a b : Bool) → nat_le 1 (length names) ≡ a → nat_le (length names) MAX_PRINTS ≡ b → is_print_list names ≡ true → length names ≤ 99
-few_by names a true e d is = (let le = leb-true (length names) MAX_PRINTS d in omega arith)
-few_by names true false e d is = (let z : false ≡ true = rw (e, d) at is in absurd (clash false z refl))
-few_by names false false e d is = (let z : false ≡ true = rw e at is in absurd (clash false z refl))
-
 few : (names : List (List ℕ)) → is_print_list names ≡ true → length names ≤ 99
-few names is = few_by names (nat_le 1 (length names)) (nat_le (length names) MAX_PRINTS) refl refl is
+few names is =
+    let parts = and_parts (nat_le 1 (length names) && nat_le (length names) MAX_PRINTS) _ is in
+    omega (arith, leb-true (length names) MAX_PRINTS (and_parts (nat_le 1 (length names)) (nat_le (length names) MAX_PRINTS) parts.0).1)
 
 keeps_granted : {C : Type 0} (acts : List (Act C)) → Keeps acts → is_open_in (files_by acts) ≡ true → Keeps (Granted ∷ acts)
 keeps_granted acts k open' = record { lent = λ e. open'; count = (let n = less_lent (is_lent_by acts) (pages_in (files_by acts)) (granted_by acts) k.count in omega arith); prints = k.prints }

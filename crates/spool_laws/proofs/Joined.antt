@@ -5,7 +5,7 @@ use Rattle.std.specs.List.{flat_map, list_any}
 use Rattle.std.specs.List.Sorted.{IsStrictlyIncreasing}
 use Rattle.std.proofs.lemmas.Bool.Decides.{nat_tests}
 use Rattle.std.proofs.lemmas.Bool.{and_parts}
-use Rattle.std.proofs.lemmas.List.{append-nil}
+use Rattle.std.proofs.lemmas.List.{append-nil, nil_from_length}
 use Rattle.std.proofs.lemmas.List.Concat.{flat_map-append}
 use Rattle.std.proofs.lemmas.List.Elements.{filter-append}
 use Rattle.config_values.specs.Config.{Config}
@@ -20,7 +20,7 @@ use Rattle.spool_history.specs.Joined.{LeavesJoined, handed, jobs_from, is_of_on
 use Rattle.spool_laws.specs.Leaving.{EachHanded, WasAccepted}
 use Rattle.spool_laws.proofs.Known.{Has, has_contained, has_filtered, has_last, held_at, none_of, test, clash}
 use Rattle.spool_laws.proofs.Facts.{facts, last, Turn', turn_of_page, handed_at, handed_more, handed_one, handed_same}
-use Rattle.spool_laws.proofs.Places.{placed, none_by}
+use Rattle.spool_laws.proofs.Places.{placed}
 use Rattle.spool_laws.proofs.Behind.{Behind, behind}
 use Rattle.spool_laws.proofs.Whole.{whole}
 use Rattle.spool_laws.proofs.Adding.{has_left, has_end}
@@ -197,7 +197,7 @@ joins_handed {C} h p sheet sender queue r b t j =
     let js = jobs_from h sender queue in
     filter-append (is_of_one js) (handed h) (sheet ∷ [])
     ∙ joins_of h p sheet js (is_of_one js sheet) refl (rises_filter (λ (o : Opening). o.job) (λ (o : Opening). (o.sender == sender) && (o.queue == queue)) (openings h) r)
-    (λ o k has same also lt. none_by (handed_of h k.job) (none_after h sender queue o k b has also lt (subst (λ (i : ℕ). held_at h i ≡ true) (sym same) t.at.held))) j
+    (λ o k has same also lt. nil_from_length (handed_of h k.job) (none_after h sender queue o k b has also lt (subst (λ (i : ℕ). held_at h i ≡ true) (sym same) t.at.held))) j
 
 joins_back : {C : Type 0} (h : List (Event C)) (p : ℕ) (sheet : Sheet C) (turn : Turn) (js : List Opening) → is_handed turn ≡ false → Joins h js
     → handed_from h js ≡ flat_map (λ (o : Opening). handed_of (AtPrinter p sheet turn ∷ h) o.job) js

@@ -14,12 +14,8 @@ use Rattle.spool_history.specs.Legal.{HasJob}
 abbrev Same : ℕ → ℕ → Type 0
 Same k j = ((k ≡ j) × ((k == j) ≡ true)) ⊎ ((k ≢ j) × ((k == j) ≡ false))
 
-test_by : (k j : ℕ) (b : Bool) → (k == j) ≡ b → Same k j
-test_by k j true e = inl (grind (arith, nat_tests), e)
-test_by k j false e = inr (grind (arith, nat_tests), e)
-
 pub test : (k j : ℕ) → Same k j
-test k j = test_by k j (k == j) refl
+test k j = elim (cases_Bool (k == j)) [ inl e ↦ inl (grind (arith, nat_tests), e) | inr e ↦ inr (grind (arith, nat_tests), e) ]
 
 pub clash : (b : Bool) → b ≡ true → b ≡ false → ⊥
 clash b e f = cc
@@ -49,18 +45,12 @@ pub has_last : {X : Type 0} (o : X) (os : List X) (x : X) → Has o (os ++ x ∷
 has_last o [] x h = elim h [ inl e ↦ inr e | inr n ↦ absurd n ]
 has_last o (y ∷ os) x h = elim h [ inl e ↦ inl (inl e) | inr t ↦ elim (has_last o os x t) [ inl a ↦ inl (inr a) | inr b ↦ inr b ] ]
 
-find_step : {X : Type 0} (test : X → Bool) (x y : X) (ys : List X) (b : Bool) → test y ≡ b → find test (y ∷ ys) ≡ Some x → (find test ys ≡ Some x → Has x ys × (test x ≡ true)) → Has x (y ∷ ys) × (test x ≡ true)
-find_step {X} test x y ys true is e rest =
-    let first : Some y ≡ Some x = rw is at e in
-    let same : y ≡ x = cc in
-    (inl same, subst (λ (v : X). test v ≡ true) same is)
-find_step {X} test x y ys false is e rest =
-    let more : find test ys ≡ Some x = rw is at e in
-    (inr (rest more).0, (rest more).1)
-
 pub find_has : {X : Type 0} (test : X → Bool) (x : X) (xs : List X) → find test xs ≡ Some x → Has x xs × (test x ≡ true)
 find_has test x [] e = absurd cc
-find_has test x (y ∷ ys) e = find_step test x y ys (test y) refl e (find_has test x ys)
+find_has {X} test x (y ∷ ys) e = elim (cases_Bool (test y)) [
+  | inl is ↦ (let first : Some y ≡ Some x = rw is at e in let same : y ≡ x = cc in (inl same, subst (λ (v : X). test v ≡ true) same is))
+  | inr is ↦ let r = find_has test x ys (rw is at e) in (inr r.0, r.1)
+]
 
 pub none_of : {X : Type 0} (test' : X → Bool) (y : X) (xs : List X) → list_any test' xs ≡ false → Has y xs → test' y ≡ false
 none_of test' y [] e has = absurd has

@@ -20,6 +20,7 @@ use Rattle.spool_laws.proofs.Known.{has_at, held_at, filter_cons, clash, or_true
 use Rattle.spool_laws.proofs.Changes.{changes}
 use Rattle.spool_laws.proofs.Printers.{map_twice, printers_turned, printers_started}
 use Rattle.spool_laws.proofs.Facts.{Facts, facts, last, open_first, turn_of_page, is_out, handed_at}
+use Rattle.std.proofs.lemmas.Bool.{cases_Bool}
 
 -- a job that is gone stays gone
 abbrev pub StaysGone : {C : Type 0} → List (Event C) → Event C → Type 0
@@ -50,10 +51,6 @@ gone_ended : (e p : Bool) → (not e || p) ≡ false → (not true || p) ≡ fal
 gone_ended true p g = g
 gone_ended false p g = absurd cc
 
-stays_removed : {C : Type 0} (h : List (Event C)) (q : ℕ) (jobs : List ℕ) (o : Opening) (b : Bool) → list_any (λ (k : ℕ). k == o.job) jobs ≡ b → is_held (job_of h o) ≡ false → is_held (change (Removed q jobs) (job_of h o)) ≡ false
-stays_removed h q jobs o true e gone = rw e (gone_ended (has_ended h o.job) (has_page_out (job_of h o)) gone)
-stays_removed h q jobs o false e gone = rw e gone
-
 -- a job of which a page is out is held
 pub out_held : {C : Type 0} (h : List (Event C)) (k : ℕ) → handed_at h k ≡ back_of h k + 1 → held_at h k ≡ true
 out_held h k e =
@@ -68,7 +65,10 @@ stays size c base h (AtPrinter p sheet (Printed x)) l m =
     stays_named h (AtPrinter p sheet (Printed x)) (turned (Printed x)) sheet.job (λ v. refl) (out_held h sheet.job ((facts size c base h l).out p sheet (is_out c base h p sheet m.0 m.1.0)).1)
 stays size c base h (AtPrinter p sheet Failed) l m =
     stays_named h (AtPrinter p sheet Failed) (turned Failed) sheet.job (λ v. refl) (out_held h sheet.job ((facts size c base h l).out p sheet (is_out c base h p sheet m.0 m.1)).1)
-stays size c base h (Removed q jobs) l m = λ o gone. stays_removed h q jobs o (list_any (λ (k : ℕ). k == o.job) jobs) refl gone
+stays size c base h (Removed q jobs) l m = λ o gone. elim (cases_Bool (list_any (λ (k : ℕ). k == o.job) jobs)) [
+  | inl e ↦ rw e (gone_ended (has_ended h o.job) (has_page_out (job_of h o)) gone)
+  | inr e ↦ rw e gone
+]
 stays size c base h Closed l m = λ o gone. gone_ended (has_ended h o.job) (has_page_out (job_of h o)) gone
 stays size c base h _ l m = λ o gone. gone
 

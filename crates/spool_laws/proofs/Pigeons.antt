@@ -2,13 +2,13 @@
 use Rattle.std.proofs.Common.{◌⊎◌, inl, inr, ◌≡◌, ◌==◌, ◌≢◌, ℕ, zero, suc, ◌+◌, ◌-◌, ◌<◌, ◌≤◌, Bool, true, false, List, [], ◌∷◌, ◌++◌, length, get_or, map, refl, sym, ◌∙◌, ap, subst, arith}
 use Rattle.std.specs.Prelude.{cond, filter, nat_le, sum_by}
 use Rattle.std.proofs.lemmas.Bool.Decides.{nat_tests}
-use Rattle.std.proofs.lemmas.List.{map-append, get_or_append_left, get_or_at, length_push}
+use Rattle.std.proofs.lemmas.List.{map-append, get_or_append_left, get_or_at, get_or_past, length_push}
 use Rattle.std.proofs.lemmas.List.Sums.{sum_by-cons}
 use Rattle.config_values.specs.Config.{Queue, served_from}
 use Rattle.spool_history.specs.Now.{up_to}
 use Rattle.spool_laws.proofs.Known.{Has, has_filtered, has_last, has_mapped, test}
 use Rattle.spool_laws.proofs.Adding.{length_up_to}
-use Rattle.std.proofs.lemmas.Bool.{cases_Bool}
+use Rattle.std.proofs.lemmas.Bool.{cases_Bool, cases_order}
 
 -- the sum over 1 to n
 abbrev pub total : (ℕ → ℕ) → ℕ → ℕ
@@ -173,31 +173,15 @@ served_total n (q ∷ qs) (suc i) one =
     let ih' : total (serves (n + 1) qs (n + suc i)) m ≤ get_or (map (λ (q : Queue). q.printers) qs) i 0 = subst (λ (k : ℕ). total (serves (n + 1) qs k) m ≤ get_or (map (λ (q : Queue). q.printers) qs) i 0) (sym same) ih in
     rw sum (omega arith)
 
--- beyond a list there is nothing
-beyond : (xs : List ℕ) (i : ℕ) → length xs ≤ i → get_or xs i 0 ≡ 0
-beyond [] i le = refl
-beyond (x ∷ xs) zero le = absurd (omega arith)
-beyond (x ∷ xs) (suc i) le = beyond xs i (omega arith)
-
 get_last : (f : ℕ → ℕ) (n i : ℕ) → get_or (map f (up_to n)) i 0 ≤ f (suc i) → get_or (map f (up_to n) ++ f (suc n) ∷ []) i 0 ≤ f (suc i)
-get_last f n i ih = by (nat_le n i) refl
-  where
-    l : length (map f (up_to n)) ≡ n
-    l = length_up_to f n
-
-    by : (b : Bool) → nat_le n i ≡ b → get_or (map f (up_to n) ++ f (suc n) ∷ []) i 0 ≤ f (suc i)
-    by false e =
-        let lt : i < n = grind (arith, nat_tests) in
-        omega (arith, l, get_or_append_left (map f (up_to n)) (f (suc n) ∷ []) 0 i (omega (arith, l)))
-    by true e = elim (test n i) [
-      | inl s ↦
-          let g : get_or (map f (up_to n) ++ f (suc n) ∷ []) i 0 ≡ f (suc n) = get_or_at (map f (up_to n)) (f (suc n)) [] 0 i (l ∙ s.0) in
-          let same : f (suc n) ≡ f (suc i) = ap (λ (m : ℕ). f (suc m)) s.0 in
-          omega arith
-      | inr s ↦
-          let le : n ≤ i = grind (arith, nat_tests) in
-          let ne : n ≢ i = s.0 in
-          omega (arith, beyond (map f (up_to n) ++ f (suc n) ∷ []) i (omega (arith, length_push (map f (up_to n)) (f (suc n)), l)))
+get_last f n i ih =
+    let l : length (map f (up_to n)) ≡ n = length_up_to f n in
+    elim (cases_order i n) [
+      | inl e ↦ omega (arith, get_or_at (map f (up_to n)) (f (suc n)) [] 0 i (l ∙ sym e), ap (λ (m : ℕ). f (suc m)) e)
+      | inr r ↦ elim r [
+        | inl lt ↦ omega (arith, get_or_append_left (map f (up_to n)) (f (suc n) ∷ []) 0 i (omega arith))
+        | inr lt ↦ omega (arith, get_or_past (map f (up_to n) ++ f (suc n) ∷ []) i 0 (omega (arith, length_push (map f (up_to n)) (f (suc n)))))
+      ]
     ]
 
 pub at_most : (f : ℕ → ℕ) (n i : ℕ) → get_or (map f (up_to n)) i 0 ≤ f (suc i)

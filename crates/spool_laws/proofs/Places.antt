@@ -1,6 +1,6 @@
 -- The places of a job leave in order.
 use Rattle.std.proofs.Common.{inl, inr, ◌≡◌, ℕ, zero, suc, ◌+◌, false, List, [], ◌∷◌, ◌++◌, length, take, drop, refl, sym, ◌∙◌, ap, subst, arith}
-use Rattle.std.proofs.lemmas.List.{length_push}
+use Rattle.std.proofs.lemmas.List.{length_push, nil_from_length}
 use Rattle.spool_history.specs.Base.{Base}
 use Rattle.spool_history.specs.Events.{Act, Event, Sheet, Turn}
 use Rattle.spool_history.specs.Events.Act.{Granted, Began, Put, FileEnded, Controlled, Aborted}
@@ -34,25 +34,18 @@ take_one {X} (suc n) (x ∷ xs) page rest e =
     let m : suc n + 1 ≡ suc (n + 1) = omega arith in
     (rw m (ap (λ (l : List X). x ∷ l) ih.0), ap suc ih.1)
 
-pub none_by : {X : Type 0} (xs : List X) → length xs ≡ 0 → xs ≡ []
-none_by [] e = refl
-none_by (x ∷ xs) e = absurd (omega arith)
-
 abbrev Placed : {C : Type 0} → List (Event C) → Type 0
 Placed h = (j : ℕ) → handed_of h j ≡ sheets j 0 (take (handed_at h j) (places_of h j))
 
 abbrev PlacedAs : {C : Type 0} → List (Sheet C) → ℕ → List (Page C) → Type 0
 PlacedAs l j ps = l ≡ sheets j 0 (take (length l) ps)
 
-placed_none : {C : Type 0} (j : ℕ) (ps : List (Page C)) → PlacedAs [] j ps
-placed_none j ps = refl
-
 -- while a job is received nothing of it is handed
 placed_act : {C : Type 0} (h : List (Event C)) (k : ℕ) (act : Act C) → handed_at h k ≡ 0 → Placed h → Placed (OfJob k act ∷ h)
 placed_act {C} h k act none f j = elim (test k j) [
   | inl s ↦
-      let z : handed_of h j ≡ [] = none_by (handed_of h j) (subst (λ (i : ℕ). handed_at h i ≡ 0) s.0 none) in
-      subst (λ (l : List (Sheet C)). PlacedAs l j (places_of (OfJob k act ∷ h) j)) (sym z) (placed_none j (places_of (OfJob k act ∷ h) j))
+      let z : handed_of h j ≡ [] = nil_from_length (handed_of h j) (subst (λ (i : ℕ). handed_at h i ≡ 0) s.0 none) in
+      subst (λ (l : List (Sheet C)). PlacedAs l j (places_of (OfJob k act ∷ h) j)) (sym z) refl
   | inr s ↦ rw s.1 (f j)
 ]
 

@@ -3,7 +3,7 @@ use Rattle.std.proofs.Common.{◌⊎◌, inl, inr, ◌≡◌, ◌==◌, ℕ, zer
 use Rattle.std.specs.Prelude.{◌&&◌, ◌||◌, not, cond, filter, is_some}
 use Rattle.std.specs.List.{list_any, list_all}
 use Rattle.std.proofs.lemmas.Bool.Decides.{nat_tests}
-use Rattle.std.proofs.lemmas.List.{append-nil, map-append}
+use Rattle.std.proofs.lemmas.List.{append-nil, map-append, map-id}
 use Rattle.lpd_values.specs.Contents.{Contents}
 use Rattle.counts.specs.Amounts.{amount}
 use Rattle.claims.specs.declared.row.Row.{Row}
@@ -274,7 +274,7 @@ granted_before {C} size c base h e j quiet l g =
     let each = takes size c base h e quiet l.1 l.0 in
     let is : ws ≡ vs ++ new = ap (λ (v : State C). v.jobs) (moved size c base h e l.1 l.0) ∙ ap (λ (r : List (Job C)). r ++ new) (kept (change e) us (λ u has. still_held u (change e u) (each u has) (known c base h u has).held)) in
     let plain : AllTook (rows c (map (λ (u : Job C). u) us)) (rows c vs) = all_took c (λ (u : Job C). u) (change e) us each in
-    let plain' : AllTook (rows c us) (rows c vs) = subst (λ (r : List (Job C)). AllTook (rows c r) (rows c vs)) (map_id us) plain in
+    let plain' : AllTook (rows c us) (rows c vs) = subst (λ (r : List (Job C)). AllTook (rows c r) (rows c vs)) (map-id us) plain in
     let lent : AllTook (rows c (map (grant j) us)) (rows c (map (λ (u : Job C). grant j (change e u)) us)) = all_took c (grant j) (λ (u : Job C). grant j (change e u)) us (λ u has. takes_granted j u (change e u) (each u has)) in
     let lent' : AllTook (rows c (map (grant j) us)) (rows c (map (grant j) vs)) = subst (λ (r : List (Job C)). AllTook (rows c (map (grant j) us)) (rows c r)) (map_twice (change e) (grant j) (λ (u : Job C). grant j (change e u)) us (λ u. refl)) lent in
     let s0 = holds_sum 0 (rows c us) in
@@ -296,10 +296,6 @@ granted_before {C} size c base h e j quiet l g =
     let sum = ap (holds k) parts ∙ holds_append k A B in
     omega arith)) first in
     ((let z = s0 in omega arith), to_safe (after (OfJob j Granted) (now c base h)) (subst (λ (r : List (Job C)). IsGood c r) (sym (granted_jobs c base h j)) good))
-  where
-    map_id : {X : Type 0} (xs : List X) → map (λ (x : X). x) xs ≡ xs
-    map_id [] = refl
-    map_id {X} (x ∷ xs) = ap (λ (l : List X). x ∷ l) (map_id xs)
 
 pub put_off_stays : {C : Type 0} (size : C → ℕ) (c : Config) (base : Base) (h later : List (Event C)) (j : ℕ) → IsLegal size c base (later ++ h) → NoneMayHelp later → ¬ (MayGrant (now c base h) j) → ¬ (MayGrant (now c base (later ++ h)) j)
 put_off_stays size c base h [] j l none quiet = quiet

@@ -1,6 +1,6 @@
 -- The entries of a history are within the reserves of its accepted jobs, and one.
 use Rattle.std.proofs.Common.{inl, inr, ◌≡◌, ◌==◌, ◌≢◌, ℕ, suc, ◌+◌, ◌<◌, ◌≤◌, Bool, true, false, List, [], ◌∷◌, length, refl, sym, ◌∙◌, ap, arith}
-use Rattle.std.specs.Prelude.{cond, sum_by}
+use Rattle.std.specs.Prelude.{◌&&◌, cond, sum_by}
 use Rattle.std.specs.List.{list_any, AllByRecursion}
 use Rattle.std.proofs.lemmas.List.Sums.{sum_by_push}
 use Rattle.spool_history.specs.Base.{Base, was_stopped}
@@ -18,6 +18,7 @@ use Rattle.spool_laws.proofs.Facts.{facts, is_out, turn_of_page, handed_at, hand
 use Rattle.spool_laws.proofs.Counts.{one_if, one_le}
 use Rattle.spool_laws.proofs.Adding.{sum_less, sum_more, sum_same, up_less, up_one, has_left, has_up_to}
 use Rattle.spool_laws.proofs.Told.{failed_of, removed_of, used, failed_one, reserved}
+use Rattle.std.proofs.lemmas.Bool.{cases_Bool}
 
 -- a job of which a page was handed was accepted
 
@@ -47,41 +48,32 @@ more_act h k act j = elim (test k j) [ inl s ↦ rw s.1 (omega arith) | inr s �
 one_act : {C : Type 0} (h : List (Event C)) (k : ℕ) (act : Act C) → used h k + 1 ≤ used (OfJob k act ∷ h) k
 one_act h k act = omega (arith, ap length (acts_here h k act))
 
-failed_less : {C : Type 0} (h : List (Event C)) (p : ℕ) (sheet : Sheet C) (turn : Turn) (j : ℕ) (b d : Bool) → (sheet.job == j) ≡ b → is_failed turn ≡ d → failed_of h j ≤ failed_of (AtPrinter p sheet turn ∷ h) j
-failed_less h p sheet turn j true true e f = let n : failed_of (AtPrinter p sheet turn ∷ h) j ≡ failed_of h j + 1 = rw (e, f) refl in omega arith
-failed_less h p sheet turn j true false e f = let n : failed_of (AtPrinter p sheet turn ∷ h) j ≡ failed_of h j = rw (e, f) refl in omega arith
-failed_less h p sheet turn j false d e f = let n : failed_of (AtPrinter p sheet turn ∷ h) j ≡ failed_of h j = rw e refl in omega arith
+failed_less : {C : Type 0} (h : List (Event C)) (p : ℕ) (sheet : Sheet C) (turn : Turn) (j : ℕ) → failed_of h j ≤ failed_of (AtPrinter p sheet turn ∷ h) j
+failed_less h p sheet turn j = elim (cases_Bool ((sheet.job == j) && is_failed turn)) [ inl e ↦ rw e (omega arith) | inr e ↦ rw e (omega arith) ]
 
-more_handed : {C : Type 0} (h : List (Event C)) (p : ℕ) (sheet : Sheet C) (j : ℕ) → used h j ≤ used (AtPrinter p sheet Handed ∷ h) j
-more_handed h p sheet j =
+-- a turn of a printer tells no less of any job, and one thing more of its own
+turn_used : {C : Type 0} (h : List (Event C)) (p : ℕ) (sheet : Sheet C) (turn : Turn) (j : ℕ) → (used h j ≤ used (AtPrinter p sheet turn ∷ h) j) × (sheet.job ≡ j → used h j + 1 ≤ used (AtPrinter p sheet turn ∷ h) j)
+turn_used h p sheet Handed j =
     let b = back_same h p sheet j in
-    let f = failed_less h p sheet Handed j (sheet.job == j) false refl refl in
+    let f = failed_less h p sheet Handed j in
     elim (test sheet.job j) [
-      | inl s ↦ let n = count_one h p sheet j s.0 in omega arith
-      | inr s ↦ let n = ap length (handed_more h p sheet j s.0) in omega arith
+      | inl s ↦ let n = count_one h p sheet j s.0 in (omega arith, λ e. omega arith)
+      | inr s ↦ let n = ap length (handed_more h p sheet j s.0) in (omega arith, λ e. absurd (s.0 e))
     ]
-
-one_handed : {C : Type 0} (h : List (Event C)) (p : ℕ) (sheet : Sheet C) (j : ℕ) → sheet.job ≡ j → used h j + 1 ≤ used (AtPrinter p sheet Handed ∷ h) j
-one_handed h p sheet j e = omega (arith, back_same h p sheet j, failed_less h p sheet Handed j (sheet.job == j) false refl refl, count_one h p sheet j e)
-
-more_back : {C : Type 0} (h : List (Event C)) (p : ℕ) (sheet : Sheet C) (turn : Turn) → is_handed turn ≡ false → (j : ℕ) → used h j ≤ used (AtPrinter p sheet turn ∷ h) j
-more_back h p sheet turn is j =
-    let n = ap length (handed_same h p sheet turn j is) in
-    let f = failed_less h p sheet turn j (sheet.job == j) (is_failed turn) refl refl in
+turn_used h p sheet turn j =
+    let n = ap length (handed_same h p sheet turn j refl) in
+    let f = failed_less h p sheet turn j in
     elim (test sheet.job j) [
-      | inl s ↦ let b = back_one h p sheet turn j is s.0 in omega arith
-      | inr s ↦ let b = back_more h p sheet turn j s.0 in omega arith
+      | inl s ↦ let b = back_one h p sheet turn j refl s.0 in (omega arith, λ e. omega arith)
+      | inr s ↦ let b = back_more h p sheet turn j s.0 in (omega arith, λ e. absurd (s.0 e))
     ]
-
-one_back : {C : Type 0} (h : List (Event C)) (p : ℕ) (sheet : Sheet C) (turn : Turn) → is_handed turn ≡ false → (j : ℕ) → sheet.job ≡ j → used h j + 1 ≤ used (AtPrinter p sheet turn ∷ h) j
-one_back h p sheet turn is j e = omega (arith, ap length (handed_same h p sheet turn j is), failed_less h p sheet turn j (sheet.job == j) (is_failed turn) refl refl, back_one h p sheet turn j is e)
 
 two_failed : {C : Type 0} (h : List (Event C)) (p : ℕ) (sheet : Sheet C) (j : ℕ) → sheet.job ≡ j → used h j + 2 ≤ used (AtPrinter p sheet Failed ∷ h) j
 two_failed h p sheet j e = omega (arith, ap length (handed_same h p sheet Failed j refl), failed_one h p sheet j e, back_one h p sheet Failed j refl e)
 
 more_removed : {C : Type 0} (h : List (Event C)) (q : ℕ) (jobs : List ℕ) (j : ℕ) (b : Bool) → list_any (λ (k : ℕ). k == j) jobs ≡ b → used h j + one_if b ≤ used (Removed q jobs ∷ h) j
-more_removed h q jobs j true e = let n : removed_of (Removed q jobs ∷ h) j ≡ removed_of h j + 1 = rw e refl in omega arith
-more_removed h q jobs j false e = let n : removed_of (Removed q jobs ∷ h) j ≡ removed_of h j = rw e refl in omega arith
+more_removed h q jobs j true e = rw e (omega arith)
+more_removed h q jobs j false e = rw e (omega arith)
 
 any_first : (k j : ℕ) (ks : List ℕ) → k ≡ j → list_any (λ (i : ℕ). i == j) (k ∷ ks) ≡ true
 any_first k j ks e = elim (test k j) [ inl s ↦ rw s.1 refl | inr s ↦ absurd (s.0 e) ]
@@ -101,26 +93,16 @@ abbrev all_used : {C : Type 0} → List (Event C) → List Opening → ℕ
 all_used h os = sum_by (used_by h) os
 
 stop_same : {C : Type 0} (c : Config) (base : Base) (h : List (Event C)) (r : ℕ) (sheet : Sheet C) (turn : Turn) (p : ℕ) → is_failed turn ≡ false → stop c base (AtPrinter r sheet turn ∷ h) p ≤ stop c base h p
-stop_same c base h r sheet turn p e =
-    let n : stop c base (AtPrinter r sheet turn ∷ h) p ≡ stop c base h p = elim (test r p) [ inl s ↦ rw (s.1, e) refl | inr s ↦ rw s.1 refl ] in
-    omega arith
+stop_same c base h r sheet turn p e = elim (test r p) [ inl s ↦ rw (s.1, e) (omega arith) | inr s ↦ rw s.1 (omega arith) ]
 
 stop_other : {C : Type 0} (c : Config) (base : Base) (h : List (Event C)) (r : ℕ) (sheet : Sheet C) (turn : Turn) (p : ℕ) → p ≢ r → stop c base (AtPrinter r sheet turn ∷ h) p ≤ stop c base h p
-stop_other c base h r sheet turn p ne =
-    let n : stop c base (AtPrinter r sheet turn ∷ h) p ≡ stop c base h p = elim (test r p) [ inl s ↦ absurd (ne (sym s.0)) | inr s ↦ rw s.1 refl ] in
-    omega arith
+stop_other c base h r sheet turn p ne = elim (test r p) [ inl s ↦ absurd (ne (sym s.0)) | inr s ↦ rw s.1 (omega arith) ]
 
 stop_started : {C : Type 0} (c : Config) (base : Base) (h : List (Event C)) (q p : ℕ) → stop c base (Started q ∷ h) p ≤ stop c base h p
-stop_started c base h q p = elim (test q (queue_of c p)) [
-  | inl s ↦ (let n : stop c base (Started q ∷ h) p ≡ 0 = rw s.1 refl in omega arith)
-  | inr s ↦ (let n : stop c base (Started q ∷ h) p ≡ stop c base h p = rw s.1 refl in omega arith)
-]
+stop_started c base h q p = elim (test q (queue_of c p)) [ inl s ↦ rw s.1 (omega arith) | inr s ↦ rw s.1 (omega arith) ]
 
 starts_one : {C : Type 0} (c : Config) (base : Base) (h : List (Event C)) (q p : ℕ) → queue_of c p ≡ q → is_stopped_at base h (queue_of c p) p ≡ true → stop c base (Started q ∷ h) p + 1 ≤ stop c base h p
-starts_one c base h q p e is = elim (test q (queue_of c p)) [
-  | inl s ↦ (let n : stop c base (Started q ∷ h) p ≡ 0 = rw s.1 refl in let m : stop c base h p ≡ 1 = ap one_if is in omega arith)
-  | inr s ↦ absurd (s.0 (sym e))
-]
+starts_one c base h q p e is = elim (test q (queue_of c p)) [ inl s ↦ rw (s.1, is) (omega arith) | inr s ↦ absurd (s.0 (sym e)) ]
 
 -- the entries and the stopped printers are among what is told of the jobs, and the close
 abbrev Told' : {C : Type 0} → Config → Base → List (Event C) → Type 0
@@ -137,15 +119,14 @@ opened_told {C} c base h k s q t =
     let x : Opening = record { job = k; sender = s; queue = q } in
     omega (arith, sum_by_push (used_by (e ∷ h)) (openings h) x, sum_less (used_by h) (used_by (e ∷ h)) (openings h) (λ o has. omega arith))
 
-turn_told : {C : Type 0} (c : Config) (base : Base) (h : List (Event C)) (p : ℕ) (sheet : Sheet C) (turn : Turn) (o : Opening) → Has o (openings h) → is_failed turn ≡ false → ((j : ℕ) → used h j ≤ used (AtPrinter p sheet turn ∷ h) j) → used h o.job + 1 ≤ used (AtPrinter p sheet turn ∷ h) o.job → Told' c base h → Told' c base (AtPrinter p sheet turn ∷ h)
-turn_told c base h p sheet turn o has is le one t =
-    let s = sum_more (used_by h) (used_by (AtPrinter p sheet turn ∷ h)) 1 o (openings h) has (λ x. le x.job) one in
-    let z = up_less (stop c base h) (stop c base (AtPrinter p sheet turn ∷ h)) (printer_count c) (λ q. stop_same c base h p sheet turn q is) in
-    omega arith
+turn_told : {C : Type 0} (c : Config) (base : Base) (h : List (Event C)) (p : ℕ) (sheet : Sheet C) (turn : Turn) (o : Opening) → Has o (openings h) → sheet.job ≡ o.job → is_failed turn ≡ false → Told' c base h → Told' c base (AtPrinter p sheet turn ∷ h)
+turn_told c base h p sheet turn o has same is t =
+    let s = sum_more (used_by h) (used_by (AtPrinter p sheet turn ∷ h)) 1 o (openings h) has (λ x. (turn_used h p sheet turn x.job).0) ((turn_used h p sheet turn o.job).1 same) in
+    omega (arith, up_less (stop c base h) (stop c base (AtPrinter p sheet turn ∷ h)) (printer_count c) (λ q. stop_same c base h p sheet turn q is))
 
 failed_told : {C : Type 0} (c : Config) (base : Base) (h : List (Event C)) (p : ℕ) (sheet : Sheet C) (o : Opening) → Has o (openings h) → sheet.job ≡ o.job → Told' c base h → Told' c base (AtPrinter p sheet Failed ∷ h)
 failed_told c base h p sheet o has same t =
-    let s = sum_more (used_by h) (used_by (AtPrinter p sheet Failed ∷ h)) 2 o (openings h) has (λ x. more_back h p sheet Failed refl x.job) (two_failed h p sheet o.job same) in
+    let s = sum_more (used_by h) (used_by (AtPrinter p sheet Failed ∷ h)) 2 o (openings h) has (λ x. (turn_used h p sheet Failed x.job).0) (two_failed h p sheet o.job same) in
     let one = one_le (is_stopped_at base (AtPrinter p sheet Failed ∷ h) (queue_of c p) p) in
     let z = up_one (stop c base h) (stop c base (AtPrinter p sheet Failed ∷ h)) p (printer_count c) (λ q ne. stop_other c base h p sheet Failed q ne) (omega arith) in
     omega arith
@@ -177,11 +158,11 @@ told_step size c base h (Opened k s q) l m t = opened_told c base h k s q t
 told_step size c base h (OfJob k act) l m t = act_told c base h k act _ (has_at c base h k _ m.0) t
 told_step size c base h (AtPrinter p sheet Handed) l m t =
     let a = (turn_of_page c base h p sheet m.0.0 m.0.1 m.1).at in
-    turn_told c base h p sheet Handed (record { job = sheet.job; sender = a.sender; queue = a.queue }) a.there refl (more_handed h p sheet) (one_handed h p sheet sheet.job refl) t
+    turn_told c base h p sheet Handed (record { job = sheet.job; sender = a.sender; queue = a.queue }) a.there refl refl t
 told_step size c base h (AtPrinter p sheet (Printed x)) l m t =
     let n = ((facts size c base h l).out p sheet (is_out c base h p sheet m.0 m.1.0)).1 in
     let o = accepted size c base h l sheet.job (omega arith) in
-    turn_told c base h p sheet (Printed x) o.0 o.1 refl (more_back h p sheet (Printed x) refl) (one_back h p sheet (Printed x) refl o.0.job (sym o.2)) t
+    turn_told c base h p sheet (Printed x) o.0 o.1 (sym o.2) refl t
 told_step size c base h (AtPrinter p sheet Failed) l m t =
     let n = ((facts size c base h l).out p sheet (is_out c base h p sheet m.0 m.1)).1 in
     let o = accepted size c base h l sheet.job (omega arith) in

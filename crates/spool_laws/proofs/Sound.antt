@@ -25,6 +25,7 @@ use Rattle.spool_laws.proofs.Copies.{pages_in, kept_within, kept_fewer, kept_som
 use Rattle.spool_laws.proofs.Held.{keeps, files_within}
 use Rattle.spool_laws.proofs.Busy.{lent_unreceived}
 use Rattle.claims.proofs.Lowered.{Lower}
+use Rattle.std.proofs.lemmas.Bool.{cases_Bool, cases_lt}
 
 pub record Sound {C : Type 0} (v : Job C) : Type 0 where
   pub within : length (pages_kept v) ≤ v.granted
@@ -132,32 +133,15 @@ lower_receiving {C} c v w e r s we wg wh n s' q =
 
 -- the page of it that is at a printer is among those that it keeps
 pub out_kept : {C : Type 0} (v : Job C) → Sound v → v.handed - v.back ≤ length (pages_kept v)
-out_kept v s = by (nat_lt v.back (length (places v))) refl
-  where
-    by : (b : Bool) → nat_lt v.back (length (places v)) ≡ b → v.handed - v.back ≤ length (pages_kept v)
-    by true e =
-        let lt : v.back < length (places v) = grind (arith, nat_tests) in
-        omega (arith, kept_some v lt, s.out)
-    by false e =
-        let le : length (places v) ≤ v.back = grind (arith, nat_tests) in
-        omega (arith, s.handed)
+out_kept v s = elim (cases_lt v.back (length (places v))) [ inl lt ↦ omega (arith, kept_some v lt, s.out) | inr le ↦ omega (arith, s.handed) ]
 
 -- the pages of it that are out are among those that it holds
 pub out_within_by : {C : Type 0} (v : Job C) (e r l : Bool) → v.ended ≡ e → is_received v ≡ r → v.lent ≡ l → Sound v → pages_out v ≤ pages_held v
 out_within_by v true r l e is le s = rw e (omega arith)
 out_within_by v false true true e is le s = absurd (clash (is_received v) is (s.lent le))
-out_within_by v false true false e is le s =
-    let a = out_kept v s in
-    rw (e, is, le) (omega arith)
-out_within_by v false false true e is le s =
-    let z = s.begun is in
-    let b = s.back in
-    let one = s.one le in
-    rw (e, is, le) (omega arith)
-out_within_by v false false false e is le s =
-    let z = s.begun is in
-    let b = s.back in
-    rw (e, is, le) (omega arith)
+out_within_by v false true false e is le s = rw (e, is, le) (omega (arith, out_kept v s))
+out_within_by v false false true e is le s = rw (e, is, le) (omega (arith, s.begun is, s.back, s.one le))
+out_within_by v false false false e is le s = rw (e, is, le) (omega (arith, s.begun is, s.back))
 
 pub out_within : {C : Type 0} (v : Job C) → Sound v → pages_out v ≤ pages_held v
 out_within v s = out_within_by v v.ended (is_received v) v.lent refl refl refl s
@@ -209,10 +193,6 @@ lowers_turn {C} size c base h p sheet turn f o has = elim (test sheet.job o.job)
 lower_removed : {C : Type 0} (c : Config) (v : Job C) → Sound v → Lower (row_of c v) (row_of c (record v { ended = true }))
 lower_removed c v s = lower_ended c v (record v { ended = true }) s (omega arith) refl refl refl refl refl
 
-lowers_removed_by : {C : Type 0} (c : Config) (base : Base) (h : List (Event C)) (q : ℕ) (jobs : List ℕ) (o : Opening) (b : Bool) → list_any (λ (k : ℕ). k == o.job) jobs ≡ b → Sound (job_of h o) → Lower (row_of c (job_of h o)) (row_of c (change (Removed q jobs) (job_of h o)))
-lowers_removed_by c base h q jobs o true e s = rw e (lower_removed c (job_of h o) s)
-lowers_removed_by c base h q jobs o false e s = rw e (lower_same c (job_of h o))
-
 -- the events by which no job gets or accepts anything
 abbrev pub is_quiet : {C : Type 0} → Event C → Bool
 is_quiet (Opened k s q) = false
@@ -231,6 +211,9 @@ lowers_all size c base h (AtPrinter p sheet (Printed Going)) is l m = lowers_tur
 lowers_all size c base h (AtPrinter p sheet (Printed Ended)) is l m = lowers_turn size c base h p sheet (Printed Ended) (λ o e. lower_back c (job_of h o))
 lowers_all size c base h (AtPrinter p sheet turn) is l m = lowers_turn size c base h p sheet turn (λ o e.
     lower_ended c (job_of h o) (turned turn (job_of h o)) (sound size c base h l o) (omega arith) refl refl refl refl refl)
-lowers_all size c base h (Removed q jobs) is l m = λ o has. lowers_removed_by c base h q jobs o (list_any (λ (k : ℕ). k == o.job) jobs) refl (sound size c base h l o)
+lowers_all size c base h (Removed q jobs) is l m = λ o has. elim (cases_Bool (list_any (λ (k : ℕ). k == o.job) jobs)) [
+  | inl e ↦ rw e (lower_removed c (job_of h o) (sound size c base h l o))
+  | inr e ↦ rw e (lower_same c (job_of h o))
+]
 lowers_all size c base h (Started q) is l m = λ o has. lower_same c (job_of h o)
 lowers_all size c base h Closed is l m = λ o has. lower_removed c (job_of h o) (sound size c base h l o)

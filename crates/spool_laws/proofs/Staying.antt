@@ -32,6 +32,7 @@ use Rattle.spool_laws.proofs.Busy.{rising_jobs, received_if}
 use Rattle.spool_laws.proofs.Enough.{rows, printers_small, get_printers, kind_within}
 use Rattle.spool_laws.proofs.Sound.{amount_le, is_quiet, lowers_all}
 use Rattle.spool_laws.proofs.Joined.{contained}
+use Rattle.std.proofs.lemmas.Bool.{cases_lt}
 
 abbrev pub free : {C : Type 0} → Config → List (Job C) → ℕ → ℕ
 free c jobs k = amount (capacity c) k - holds k (rows c jobs)
@@ -190,21 +191,18 @@ nothing_more c v p n k =
 -- of its sender and queue each other held job has a higher number
 line_of : {C : Type 0} (size : C → ℕ) (c : Config) (base : Base) (h : List (Event C)) (sheet : Sheet C) → IsLegal size c base h → (o : Opening) → Has o (openings h) → o.job ≡ sheet.job → EarlierAreGone h sheet
     → (u : Job C) → Has u (now c base h).jobs → u.number ≢ o.job → (o.sender ≡ u.sender) × (o.queue ≡ u.queue) → o.job < u.number
-line_of {C} size c base h sheet l o there is gone u has ne line = by (nat_lt o.job u.number) refl
-  where
-    by : (b : Bool) → nat_lt o.job u.number ≡ b → o.job < u.number
-    by true e = grind (arith, nat_tests)
-    by false e =
-        let k = known c base h u has in
-        let x = k.opening in
-        let n : u.number ≡ x.job = ap (λ (v : Job C). v.number) k.is in
-        let s : u.sender ≡ x.sender = ap (λ (v : Job C). v.sender) k.is in
-        let q : u.queue ≡ x.queue = ap (λ (v : Job C). v.queue) k.is in
-        let le : u.number ≤ o.job = grind (arith, nat_tests) in
-        let ne' : u.number ≢ o.job = ne in
-        let lt : x.job < o.job = omega arith in
-        let g : is_held (job_of h x) ≡ false = gone x o (contained x (openings h) k.there) (contained o (openings h) there) is lt (sym s ∙ sym line.0) (sym q ∙ sym line.1) in
-        absurd (clash (is_held (job_of h x)) (subst (λ (v : Job C). is_held v ≡ true) k.is k.held) g)
+line_of {C} size c base h sheet l o there is gone u has ne line = elim (cases_lt o.job u.number) [
+  | inl lt ↦ lt
+  | inr le ↦
+      let k = known c base h u has in
+      let x = k.opening in
+      let n : u.number ≡ x.job = ap (λ (v : Job C). v.number) k.is in
+      let s : u.sender ≡ x.sender = ap (λ (v : Job C). v.sender) k.is in
+      let q : u.queue ≡ x.queue = ap (λ (v : Job C). v.queue) k.is in
+      let ne' : u.number ≢ o.job = ne in
+      let g : is_held (job_of h x) ≡ false = gone x o (contained x (openings h) k.there) (contained o (openings h) there) is (omega arith) (sym s ∙ sym line.0) (sym q ∙ sym line.1) in
+      absurd (clash (is_held (job_of h x)) (subst (λ (v : Job C). is_held v ≡ true) k.is k.held) g)
+]
 
 handed : {C : Type 0} (size : C → ℕ) (c : Config) (base : Base) (h : List (Event C)) (p : ℕ) (sheet : Sheet C) → IsLegal size c base h → May size (now c base h) (AtPrinter p sheet Handed) → IsGood c (now c base h).jobs → IsGood c (now c base (AtPrinter p sheet Handed ∷ h)).jobs
 handed {C} size c base h p sheet l m st =

@@ -27,6 +27,7 @@ use Rattle.spool_laws.proofs.Copies.{kept_fewer}
 use Rattle.spool_laws.proofs.Reserve.{no_events}
 use Rattle.spool_laws.proofs.Sound.{Sound, sound, out_within}
 use Rattle.std.proofs.Math.Nat.{add-zero}
+use Rattle.std.proofs.lemmas.Bool.{cases_Bool}
 
 -- the pages that a job holds, if it is held
 
@@ -70,12 +71,9 @@ numbers size c base h l f none =
     omega (arith, all_numbers size c base h l f, up_below nothing f base.accepted (λ j le. (let z = none j (inl le) in omega arith)), up_none nothing base.accepted (λ j. refl))
 
 -- nothing is held of a job of which nothing is said
-weight_unknown_by : {C : Type 0} (h : List (Event C)) (j : ℕ) (b : Bool) → has_ended h j ≡ b → Unknown h j → weight_at h j ≡ 0
-weight_unknown_by h j true e u = (let a = u.acts in let d = u.handed in let r = u.back in rw (a, d, r, e) refl)
-weight_unknown_by h j false e u = (let a = u.acts in let d = u.handed in let r = u.back in rw (a, d, r, e) refl)
 
 weight_unknown : {C : Type 0} (h : List (Event C)) (j : ℕ) → Unknown h j → weight_at h j ≡ 0
-weight_unknown h j u = weight_unknown_by h j (has_ended h j) refl u
+weight_unknown h j u = elim (cases_Bool (has_ended h j)) [ inl e ↦ rw (u.acts, u.handed, u.back, e) refl | inr e ↦ rw (u.acts, u.handed, u.back, e) refl ]
 
 held_weights : {C : Type 0} (size : C → ℕ) (c : Config) (base : Base) (h : List (Event C)) → IsLegal size c base h → held_pages c base h ≡ weights base h
 held_weights size c base h l = sum_held h (openings h) ∙ numbers size c base h l (weight_at h) (λ j is. weight_unknown h j ((facts size c base h l).fresh j is))

@@ -17,6 +17,7 @@ use Rattle.spool_laws.proofs.Facts.{Facts, facts, last, is_out, Turn', turn_of_p
 use Rattle.spool_laws.proofs.Whole.{still_ended}
 use Rattle.spool_laws.proofs.Counts.{none_by, Fits, fits_none, fits_later, fits_granted, fits_began, fits_put, fits_ended, fits_controlled, fits_aborted, all_counted, began_files, count_le}
 use Rattle.spool_laws.proofs.Sound.{sound}
+use Rattle.std.proofs.lemmas.Bool.{cases_Bool}
 
 -- how often a page of a job failed, and how often the job was removed
 abbrev pub failed_of : {C : Type 0} → List (Event C) → ℕ → ℕ
@@ -125,46 +126,19 @@ named_going {C} c base h P j (k ∷ ks) going all e = elim (test k j) [
   | inr s ↦ named_going c base h P j ks going all.1 (rw s.1 at e)
 ]
 
-told_removed : {C : Type 0} (h : List (Event C)) (q : ℕ) (jobs : List ℕ) (j : ℕ) (b : Bool) → list_any (λ (k : ℕ). k == j) jobs ≡ b → (b ≡ true → has_ended h j ≡ false) → Told h j → Told (Removed q jobs ∷ h) j
-told_removed h q jobs j true e going u =
-    let none : removed_of h j ≡ 0 = none_by (removed_of h j) (λ p. clash (has_ended h j) (u.gone p) (going refl)) in
-    let n : removed_of (Removed q jobs ∷ h) j ≡ removed_of h j + 1 = rw e refl in
-    let ended : has_ended (Removed q jobs ∷ h) j ≡ true = rw e refl in
-    record {
-      acts = fits_later (acts_of h j) (has_ended h j) (has_ended (Removed q jobs ∷ h) j) (still_ended h (Removed q jobs) j) u.acts;
-      failed = u.failed;
-      after = λ p. (ended, (u.after p).1);
-      removed = omega arith;
-      gone = λ p. ended;
-    }
-told_removed h q jobs j false e going u =
-    let n : removed_of (Removed q jobs ∷ h) j ≡ removed_of h j = rw e refl in
-    let old = u.removed in
-    record {
-      acts = fits_later (acts_of h j) (has_ended h j) (has_ended (Removed q jobs ∷ h) j) (still_ended h (Removed q jobs) j) u.acts;
-      failed = u.failed;
-      after = λ p. (still_ended h (Removed q jobs) j (u.after p).0, (u.after p).1);
-      removed = omega arith;
-      gone = λ p. still_ended h (Removed q jobs) j (u.gone (omega arith));
-    }
-
-told_closed : {C : Type 0} (h : List (Event C)) (j : ℕ) → Told h j → Told (Closed ∷ h) j
-told_closed h j u = record {
-  acts = fits_later (acts_of h j) (has_ended h j) true (λ e. refl) u.acts;
+told_removed : {C : Type 0} (h : List (Event C)) (q : ℕ) (jobs : List ℕ) (j : ℕ) → (list_any (λ (k : ℕ). k == j) jobs ≡ true → has_ended h j ≡ false) → Told h j → Told (Removed q jobs ∷ h) j
+told_removed h q jobs j going u = record {
+  acts = fits_later (acts_of h j) (has_ended h j) (has_ended (Removed q jobs ∷ h) j) (still_ended h (Removed q jobs) j) u.acts;
   failed = u.failed;
-  after = λ p. (refl, (u.after p).1);
-  removed = u.removed;
-  gone = λ p. refl;
+  after = λ p. (still_ended h (Removed q jobs) j (u.after p).0, (u.after p).1);
+  removed = elim (cases_Bool (list_any (λ (k : ℕ). k == j) jobs)) [
+    | inl e ↦ rw e (omega (arith, none_by (removed_of h j) (λ p. clash (has_ended h j) (u.gone p) (going e))))
+    | inr e ↦ rw e u.removed
+  ];
+  gone = elim (cases_Bool (list_any (λ (k : ℕ). k == j) jobs)) [ inl e ↦ rw e (λ p. refl) | inr e ↦ rw e (λ p. u.gone p) ];
 }
 
-told_opened : {C : Type 0} (h : List (Event C)) (k s q j : ℕ) → Told h j → Told (Opened k s q ∷ h) j
-told_opened h k s q j u = record { acts = u.acts; failed = u.failed; after = u.after; removed = u.removed; gone = u.gone }
-
-told_started : {C : Type 0} (h : List (Event C)) (q j : ℕ) → Told h j → Told (Started q ∷ h) j
-told_started h q j u = record { acts = u.acts; failed = u.failed; after = u.after; removed = u.removed; gone = u.gone }
-
 told_step : {C : Type 0} (size : C → ℕ) (c : Config) (base : Base) (h : List (Event C)) (e : Event C) → IsLegal size c base h → May size (now c base h) e → ((j : ℕ) → Told h j) → (j : ℕ) → Told (e ∷ h) j
-told_step size c base h (Opened k s q) l m t = λ j. told_opened h k s q j (t j)
 told_step size c base h (OfJob k Granted) l m t =
     let a = has_at c base h k _ m.0 in
     told_act h k Granted (fits_granted (acts_of h k) (has_ended h k) _ (t k).acts a.is.0.0.0 a.is.0.2) t
@@ -187,9 +161,16 @@ told_step size c base h (OfJob k Aborted) l m t =
 told_step size c base h (AtPrinter p sheet Handed) l m t = told_handed h p sheet (turn_of_page c base h p sheet m.0.0 m.0.1 m.1) t
 told_step size c base h (AtPrinter p sheet (Printed x)) l m t = told_printed h p sheet x ((facts size c base h l).out p sheet (is_out c base h p sheet m.0 m.1.0)).1 t
 told_step size c base h (AtPrinter p sheet Failed) l m t = told_failed h p sheet ((facts size c base h l).out p sheet (is_out c base h p sheet m.0 m.1)).1 t
-told_step size c base h (Removed q jobs) l m t = λ j. told_removed h q jobs j (list_any (λ (k : ℕ). k == j) jobs) refl (named_going c base h _ j jobs (λ v x. x.2) m.4) (t j)
-told_step size c base h (Started q) l m t = λ j. told_started h q j (t j)
-told_step size c base h Closed l m t = λ j. told_closed h j (t j)
+told_step size c base h (Removed q jobs) l m t = λ j. told_removed h q jobs j (named_going c base h _ j jobs (λ v x. x.2) m.4) (t j)
+told_step size c base h e l m t = λ j. (
+    let u = t j in
+    record {
+      acts = fits_later (acts_of h j) (has_ended h j) (has_ended (e ∷ h) j) (still_ended h e j) u.acts;
+      failed = u.failed;
+      after = λ p. (still_ended h e j (u.after p).0, (u.after p).1);
+      removed = u.removed;
+      gone = λ p. still_ended h e j (u.gone p);
+    })
 
 pub told : {C : Type 0} (size : C → ℕ) (c : Config) (base : Base) (h : List (Event C)) → IsLegal size c base h → (j : ℕ) → Told h j
 told size c base [] l j = record { acts = fits_none false; failed = omega arith; after = λ p. absurd (omega arith); removed = omega arith; gone = λ p. absurd (omega arith) }
