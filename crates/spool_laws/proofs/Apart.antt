@@ -152,8 +152,6 @@ balanced_handed {C} c base h p sheet f one le t b =
     let e : Event C = AtPrinter p sheet Handed in
     let o : Opening = record { job = sheet.job; sender = t.at.sender; queue = t.at.queue } in
     let number = f.numbers o t.at.there in
-    let number' = number.0 in
-    let here = handed_now h p sheet f t in
     let n = count_one h p sheet sheet.job refl in
     let d = back_same h p sheet sheet.job in
     let jobs = up_once (outs h) (outs (e ∷ h)) sheet.job (last base h) (omega arith) number.1 (λ j ne. (
@@ -169,7 +167,6 @@ balanced_back {C} c base h p sheet turn back f one le out b =
     let e : Event C = AtPrinter p sheet turn in
     let x = (f.out p sheet out).1 in
     let number = handed_number h sheet.job f (omega arith) in
-    let number' = number.0 in
     let n = ap length (handed_same h p sheet turn sheet.job back) in
     let d = back_one h p sheet turn sheet.job back refl in
     let jobs = up_once (outs (e ∷ h)) (outs h) sheet.job (last base h) (omega arith) number.1 (λ j ne. (

@@ -48,7 +48,6 @@ gone_by {C} h x o k a f n b none =
     let same : a.opening ≡ k = f.once a.opening k a.there b.1 num in
     let s : x.sender ≡ k.sender = ap (λ (v : Job C). v.sender) a.is ∙ ap (λ (y : Opening). y.sender) same in
     let q : x.queue ≡ k.queue = ap (λ (v : Job C). v.queue) a.is ∙ ap (λ (y : Opening). y.queue) same in
-    let lt = b.2 in
     gone_first h (openings h) x o b.0 none (b.3 ∙ sym s) (b.4 ∙ sym q) (omega arith)
 
 -- when a page is handed, the earlier jobs are gone
@@ -67,7 +66,6 @@ now_gone {C} c base h p sheet f b is e o k behind' same =
 behind_opened : {C : Type 0} {base : Base} (h : List (Event C)) (j s q : ℕ) → Facts base h → j ≡ last base h + 1 → ((o : Opening) → is_held (job_of h o) ≡ false → is_held (job_of (Opened j s q ∷ h) o) ≡ false) → Behind h → Behind (Opened j s q ∷ h)
 behind_opened {C} h j s q f new st b o k is pos =
     let x : Opening = record { job = j; sender = s; queue = q } in
-    let lt = is.2 in
     elim (has_last k (openings h) x is.1) [
       | inl t ↦ elim (has_last o (openings h) x is.0) [
         | inl u ↦ st o (b o k (u, t, is.2, is.3, is.4) pos)

@@ -165,7 +165,6 @@ busy_handed {C} c base h p sheet f k is e st b o has held' pos =
 
 busy_same : {C : Type 0} (c : Config) (base : Base) (h : List (Event C)) (e : Event C) → openings (e ∷ h) ≡ openings h → ((j : ℕ) → handed_at (e ∷ h) j ≡ handed_at h j) → ((p : ℕ) → began_at (e ∷ h) p ≡ began_at h p) → Steady h e → AreBusy c base h → AreBusy c base (e ∷ h)
 busy_same c base h e os hs bs st b o has held pos =
-    let m = hs o.job in
     let x = b o (subst (λ (l : List Opening). Has o l) os has) (held_by (job_of h o) (job_of (e ∷ h) o) (st o) held) (omega arith) in
     record { at = x.at; is = x.is; began = bs x.at ∙ x.began; queue = x.queue }
 

@@ -118,7 +118,6 @@ fits_later a b d up f = record { puts = f.puts; files = f.files; ended = f.ended
 pub fits_granted : {C : Type 0} (a : List (Act C)) (b d : Bool) → Fits a b → b ≡ false → is_lent_by a ≡ false → Fits (Granted ∷ a) d
 fits_granted a b d f e l =
     let p = f.puts in
-    let z : one_if (is_lent_by a) ≡ 0 = ap one_if l in
     record { puts = omega arith; files = f.files; ended = f.ended; control = f.control; aborted = f.aborted; after = λ p. absurd (clash b (f.after p).0 e) }
 
 pub fits_began : {C : Type 0} (a : List (Act C)) (name : List ℕ) (count : ℕ) (b d : Bool) → Fits a b → b ≡ false → length (files_by a) < 52 → Fits (Began name count ∷ a) d

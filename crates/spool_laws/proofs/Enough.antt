@@ -60,7 +60,6 @@ place_at size c base h i l o has held pos =
     let g = begun_if i (job_of h o) pos in
     let b = busy size c base h l o has held g.1 in
     let q : queue_of c b.at ≡ 1 + i = (let e : o.queue ≡ suc i = g.0 in let d = b.queue in omega arith) in
-    let is = b.is in
     record {
       at = b.at;
       one = b.is.0;

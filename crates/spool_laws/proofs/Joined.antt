@@ -206,7 +206,6 @@ joins_back h p sheet turn js is j =
 
 joins_step : {C : Type 0} (size : C → ℕ) (c : Config) (base : Base) (h : List (Event C)) (e : Event C) (sender queue : ℕ) → IsLegal size c base h → May size (now c base h) e → Joins h (jobs_from h sender queue) → Joins (e ∷ h) (jobs_from (e ∷ h) sender queue)
 joins_step size c base h (Opened k s q) sender queue l m j =
-    let new : k ≡ last base h + 1 = m.4 in
     joins_opened h k s q sender queue ((facts size c base h l).fresh k (inr (omega arith))).handed j
 joins_step size c base h (AtPrinter p sheet Handed) sender queue l m j =
     joins_handed h p sheet sender queue (rising_openings size c base h l) (behind size c base h l) (turn_of_page c base h p sheet m.0.0 m.0.1 m.1) j

@@ -118,7 +118,6 @@ moved_opened {C} c base h j s q f open' is =
     let count : base.accepted + length (openings h ++ o ∷ []) ≡ base.accepted + length (openings h) + 1 = (let p = length_push (openings h) o in omega arith) in
     let reserve : Opening → ℕ = λ (o : Opening). reserve_of c o.queue in
     let reserve' : Job C → ℕ = λ (v : Job C). reserve_of c v.queue in
-    let one : sum_by reserve' (new_job j s q ∷ []) ≡ reserve_of c q = omega arith in
     let sums : base.reserved + sum_by reserve (openings h ++ o ∷ []) ≡ base.reserved + sum_by reserve (openings h) + sum_by reserve' (new_job j s q ∷ []) = (let p = sum_by_push reserve (openings h) o in omega arith) in
     all_same c _ _ _ _ _ _ _ _ _ _ jobs count sums refl refl
 

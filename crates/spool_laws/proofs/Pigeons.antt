@@ -85,7 +85,6 @@ pigeons T one w name n f [] small r has = omega arith
 pigeons {X} T one w name n f (x ∷ xs) small r has = elim (test (w x) 0) [
   | inl s ↦ let z : w x ≡ 0 = s.0 in let ih = pigeons T one w name n f xs small r.1 (λ y t. has y (inr t)) in omega arith
   | inr s ↦
-      let ne : w x ≢ 0 = s.0 in
       let le = small x in
       let p = has x (inl refl) (omega arith) in
       let rest : (y : X) → Has y xs → 0 < w y → Place T (without p.at f) n (name y) = λ y t pos.

@@ -94,7 +94,6 @@ takes_granted {C} j u w t = elim t [
     | inl r ↦ elim (test j u.number) [
       | inl s ↦
           let sw : (j == w.number) ≡ true = subst (λ (n : ℕ). (j == n) ≡ true) (sym r.number) s.1 in
-          let le = r.granted in
           rw (s.1, sw) (inr (inl record { number = r.number; sender = r.sender; queue = r.queue; was = r.was; is = r.is; before = r.before; after = r.after; granted = omega arith; handed = r.handed }))
       | inr s ↦
           let sw : (j == w.number) ≡ false = subst (λ (n : ℕ). (j == n) ≡ false) (sym r.number) s.1 in
@@ -114,7 +113,6 @@ took_same x = record { number = refl; sender = refl; queue = refl; held = λ k. 
 
 took_received : {C : Type 0} (c : Config) (u w : Job C) → Receives u w → Took (row_of c u) (row_of c w)
 took_received {C} c u w r =
-    let le = r.granted in
     let ph : pages_held u ≡ u.granted = rw (r.was, r.before) refl in
     let ph' : pages_held w ≡ w.granted = rw (r.is, r.after) refl in
     let pn : pages_needed c u ≡ limit_of c u.queue - u.granted = rw (r.was, r.before) refl in

@@ -187,7 +187,6 @@ all e us = left (change e) us ++ accepted_by e
 lift_by : {C : Type 0} (t t' : Job C → Bool) (g : Job C → Job C) (u z : Job C) (us new : List (Job C)) (a b : Bool) → t u ≡ a → is_held (g u) ≡ b → (t u ≡ false → t' (g u) ≡ false) → find t (u ∷ us) ≡ Some z → is_held (g z) ≡ true → t' (g z) ≡ true
     → (find t us ≡ Some z → find t' (left g us ++ new) ≡ Some (g z)) → find t' (left g (u ∷ us) ++ new) ≡ Some (g z)
 lift_by {C} t t' g u z us new true b e d keep f held is ih =
-    let first : Some u ≡ Some z = rw e at f in
     let s : z ≡ u = cc in
     let l : left g (u ∷ us) ≡ g u ∷ left g us = filter_cons true (g u) (map g us) (subst (λ (x : Job C). is_held (g x) ≡ true) s held) in
     let y : t' (g u) ≡ true = subst (λ (x : Job C). t' (g x) ≡ true) s is in
@@ -335,8 +334,6 @@ before_parts : {C : Type 0} (w v : Job C) → is_preceded_by w v ≡ true → (v
 before_parts w v e =
     let a = and_parts (v.sender == w.sender) ((v.queue == w.queue) && nat_lt v.number w.number) e in
     let b = and_parts (v.queue == w.queue) (nat_lt v.number w.number) a.1 in
-    let b0 = b.0 in
-    let b1 = b.1 in
     (grind (arith, nat_tests), grind (arith, nat_tests))
 
 begins_before : {C : Type 0} (size : C → ℕ) (c : Config) (base : Base) (h : List (Event C)) (e : Event C) (q : ℕ) → may_serve (now c base h) q e ≡ false → IsLegal size c base h → May size (now c base h) e

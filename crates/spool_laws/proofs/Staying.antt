@@ -102,11 +102,8 @@ split {C} g (y ∷ us) w has r same held now' = elim has [
       }
   | inr t ↦
       let s = split g us w t r.1 same (λ u t'. held u (inr t')) now' in
-      let lt = r.0 w t in
       let ne : y.number ≢ w.number = λ same'. (let m : y.number ≡ w.number = same' in omega arith) in
       let gy = same y ne in
-      let sw = s.was in
-      let si = s.is in
       record {
         a = y ∷ s.a;
         b = s.b;

@@ -188,7 +188,6 @@ removed_less h q jobs j false e s =
 pub rows_held : {C : Type 0} (c : Config) (vs : List (Job C)) → sum_by (λ (row : Row). amount row.held 0) (map (row_of c) vs) ≡ sum_by (λ (v : Job C). pages_held v) vs
 rows_held c [] = refl
 rows_held {C} c (v ∷ vs) =
-    let a : amount (row_of c v).held 0 ≡ pages_held v = refl in
     omega (arith, rows_held c vs, sum_by-cons (λ (row : Row). amount row.held 0) (row_of c v) (map (row_of c) vs), sum_by-cons (λ (v : Job C). pages_held v) v vs)
 
 pub free_rest : {C : Type 0} (c : Config) (base : Base) (h : List (Event C)) → free_pages (now c base h) ≡ c.pages - held_pages c base h
