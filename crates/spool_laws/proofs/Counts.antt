@@ -115,40 +115,29 @@ fits_none b = record { puts = omega arith; files = omega arith; ended = omega ar
 pub fits_later : {C : Type 0} (a : List (Act C)) (b d : Bool) → (b ≡ true → d ≡ true) → Fits a b → Fits a d
 fits_later a b d up f = record { puts = f.puts; files = f.files; ended = f.ended; control = f.control; aborted = f.aborted; after = λ p. (up (f.after p).0, (f.after p).1) }
 
+-- an act of a job that goes on, which doesn't abort it
+fits_going : {C : Type 0} (act : Act C) (a : List (Act C)) (b d : Bool) → Fits a b → b ≡ false → aborted_in (act ∷ a) ≡ aborted_in a → put_in (act ∷ a) + one_if (is_lent_by (act ∷ a)) ≤ granted_by (act ∷ a)
+    → length (files_by (act ∷ a)) ≤ 52 → ended_in (act ∷ a) ≤ ended_count (files_by (act ∷ a)) → controlled_in (act ∷ a) ≤ 1 → Fits (act ∷ a) d
+fits_going act a b d f e is puts files ended control =
+    record { puts = puts; files = files; ended = ended; control = control; aborted = omega (arith, is, f.aborted); after = λ p. absurd (clash b (f.after (omega (arith, is))).0 e) }
+
 pub fits_granted : {C : Type 0} (a : List (Act C)) (b d : Bool) → Fits a b → b ≡ false → is_lent_by a ≡ false → Fits (Granted ∷ a) d
-fits_granted a b d f e l =
-    let p = f.puts in
-    record { puts = omega arith; files = f.files; ended = f.ended; control = f.control; aborted = f.aborted; after = λ p. absurd (clash b (f.after p).0 e) }
+fits_granted a b d f e l = fits_going Granted a b d f e refl (omega (arith, f.puts, ap one_if l)) f.files f.ended f.control
 
 pub fits_began : {C : Type 0} (a : List (Act C)) (name : List ℕ) (count : ℕ) (b d : Bool) → Fits a b → b ≡ false → length (files_by a) < 52 → Fits (Began name count ∷ a) d
-fits_began a name count b d f e lt =
-    let n = length_push (files_by a) (new_file name count) in
-    let m = count_push (files_by a) (new_file name count) in
-    let o = f.ended in
-    record { puts = f.puts; files = omega arith; ended = omega arith; control = f.control; aborted = f.aborted; after = λ p. absurd (clash b (f.after p).0 e) }
+fits_began a name count b d f e lt = fits_going (Began name count) a b d f e refl f.puts (omega (arith, length_push (files_by a) (new_file name count)))
+    (omega (arith, count_push (files_by a) (new_file name count), f.ended)) f.control
 
 pub fits_put : {C : Type 0} (a : List (Act C)) (file number : ℕ) (page : C) (b d : Bool) → Fits a b → b ≡ false → is_lent_by a ≡ true → Fits (Put file number page ∷ a) d
-fits_put a file number page b d f e l =
-    let p = f.puts in
-    let z : one_if (is_lent_by a) ≡ 1 = ap one_if l in
-    let n = length_last (with_page page) (files_by a) in
-    let m = count_page page (files_by a) in
-    let o = f.ended in
-    let q = f.files in
-    record { puts = omega arith; files = omega arith; ended = omega arith; control = f.control; aborted = f.aborted; after = λ p. absurd (clash b (f.after p).0 e) }
+fits_put a file number page b d f e l = fits_going (Put file number page) a b d f e refl (omega (arith, f.puts, ap one_if l))
+    (omega (arith, length_last (with_page page) (files_by a), f.files)) (omega (arith, count_page page (files_by a), f.ended)) f.control
 
 pub fits_ended : {C : Type 0} (a : List (Act C)) (file : ℕ) (whole : Bool) (before : List (File C)) (last : File C) (b d : Bool) → Fits a b → b ≡ false → files_by a ≡ before ++ last ∷ [] → last.ended ≡ false → Fits (FileEnded file whole ∷ a) d
-fits_ended a file whole before last b d f e l open' =
-    let n = length_last with_end (files_by a) in
-    let m = count_end (files_by a) before last l open' in
-    let o = f.ended in
-    let q = f.files in
-    record { puts = f.puts; files = omega arith; ended = omega arith; control = f.control; aborted = f.aborted; after = λ p. absurd (clash b (f.after p).0 e) }
+fits_ended a file whole before last b d f e l open' = fits_going (FileEnded file whole) a b d f e refl f.puts
+    (omega (arith, length_last with_end (files_by a), f.files)) (omega (arith, count_end (files_by a) before last l open', f.ended)) f.control
 
 pub fits_controlled : {C : Type 0} (a : List (Act C)) (control : Contents) (whole : Bool) (b d : Bool) → Fits a b → b ≡ false → control_by a ≡ None → Fits (Controlled control whole ∷ a) d
-fits_controlled a control whole b d f e l =
-    let n = uncontrolled a l in
-    record { puts = f.puts; files = f.files; ended = f.ended; control = omega arith; aborted = f.aborted; after = λ p. absurd (clash b (f.after p).0 e) }
+fits_controlled a control whole b d f e l = fits_going (Controlled control whole) a b d f e refl f.puts f.files f.ended (omega (arith, uncontrolled a l))
 
 pub none_by : (n : ℕ) → (0 < n → ⊥) → n ≡ 0
 none_by zero f = refl

@@ -9,7 +9,7 @@ use Rattle.spool_history.specs.Events.Turn.{Handed, Printed, Failed}
 use Rattle.spool_history.specs.Events.Event.{Opened, OfJob, AtPrinter, Removed, Started, Closed}
 use Rattle.config_values.specs.Config.{Config, limit_of, reserve_of}
 use Rattle.spool_history.specs.Acts.{granted_by, files_by}
-use Rattle.spool_history.specs.Said.{Opening, openings, acts_of, is_failed, back_of, has_ended}
+use Rattle.spool_history.specs.Said.{Opening, openings, acts_of, ends_by_turn, is_failed, is_handed, back_of, has_ended}
 use Rattle.spool_history.specs.Now.{Job, now}
 use Rattle.spool_history.specs.Legal.{HasJob, IsLegal, May}
 use Rattle.spool_laws.proofs.Known.{Has, At, has_at, has_last, test, clash}
@@ -56,68 +56,38 @@ told_act {C} h k act fits t j =
 failed_same : {C : Type 0} (h : List (Event C)) (p : ℕ) (sheet : Sheet C) (turn : Turn) (j : ℕ) → is_failed turn ≡ false → failed_of (AtPrinter p sheet turn ∷ h) j ≡ failed_of h j
 failed_same h p sheet turn j e = elim (test sheet.job j) [ inl s ↦ rw (s.1, e) refl | inr s ↦ rw s.1 refl ]
 
-failed_other : {C : Type 0} (h : List (Event C)) (p : ℕ) (sheet : Sheet C) (turn : Turn) (j : ℕ) → sheet.job ≢ j → failed_of (AtPrinter p sheet turn ∷ h) j ≡ failed_of h j
-failed_other h p sheet turn j ne = elim (test sheet.job j) [ inl s ↦ absurd (ne s.0) | inr s ↦ rw s.1 refl ]
-
 pub failed_one : {C : Type 0} (h : List (Event C)) (p : ℕ) (sheet : Sheet C) (j : ℕ) → sheet.job ≡ j → failed_of (AtPrinter p sheet Failed ∷ h) j ≡ failed_of h j + 1
 failed_one h p sheet j e = elim (test sheet.job j) [ inl s ↦ rw s.1 refl | inr s ↦ absurd (s.0 e) ]
 
-ended_by_failure : {C : Type 0} (h : List (Event C)) (p : ℕ) (sheet : Sheet C) (j : ℕ) → sheet.job ≡ j → has_ended (AtPrinter p sheet Failed ∷ h) j ≡ true
-ended_by_failure h p sheet j e = elim (test sheet.job j) [ inl s ↦ rw s.1 refl | inr s ↦ absurd (s.0 e) ]
+ends_by_failure : (turn : Turn) → is_failed turn ≡ true → ends_by_turn turn ≡ true
+ends_by_failure Failed f = refl
+ends_by_failure _ f = absurd (clash false f refl)
 
-told_turn : {C : Type 0} (h : List (Event C)) (p : ℕ) (sheet : Sheet C) (turn : Turn) (j : ℕ) → Told h j → failed_of (AtPrinter p sheet turn ∷ h) j ≤ 1
-    → (0 < failed_of (AtPrinter p sheet turn ∷ h) j → (has_ended (AtPrinter p sheet turn ∷ h) j ≡ true) × (handed_at (AtPrinter p sheet turn ∷ h) j ≡ back_of (AtPrinter p sheet turn ∷ h) j)) → Told (AtPrinter p sheet turn ∷ h) j
-told_turn h p sheet turn j u failed after = record {
-  acts = fits_later (acts_of h j) (has_ended h j) (has_ended (AtPrinter p sheet turn ∷ h) j) (still_ended h (AtPrinter p sheet turn) j) u.acts;
-  failed = failed;
-  after = after;
-  removed = u.removed;
-  gone = λ q. still_ended h (AtPrinter p sheet turn) j (u.gone q);
-}
+-- a turn of a printer at a page: none of its job failed before, and if this one does, no other is out
+told_turn : {C : Type 0} (h : List (Event C)) (p : ℕ) (sheet : Sheet C) (turn : Turn) (j : ℕ) → (sheet.job ≡ j → failed_of h j ≡ 0)
+    → (sheet.job ≡ j → is_failed turn ≡ true → handed_at (AtPrinter p sheet turn ∷ h) j ≡ back_of (AtPrinter p sheet turn ∷ h) j) → Told h j → Told (AtPrinter p sheet turn ∷ h) j
+told_turn h p sheet turn j none out u = elim (test sheet.job j) [
+  | inl s ↦
+      let z = none s.0 in
+      record {
+        acts = fits_later (acts_of h j) (has_ended h j) (has_ended (AtPrinter p sheet turn ∷ h) j) (still_ended h (AtPrinter p sheet turn) j) u.acts;
+        failed = elim (cases_Bool (is_failed turn)) [ inl f ↦ rw (s.1, f) (omega arith) | inr f ↦ rw (s.1, f) (omega arith) ];
+        after = λ q. elim (cases_Bool (is_failed turn)) [
+          | inl f ↦ (rw (s.1, ends_by_failure turn f) refl, out s.0 f)
+          | inr f ↦ absurd (let more : 0 < failed_of h j = rw (s.1, f) at q in omega arith)
+        ];
+        removed = u.removed;
+        gone = λ q. still_ended h (AtPrinter p sheet turn) j (u.gone q);
+      }
+  | inr s ↦ record { acts = rw s.1 u.acts; failed = rw s.1 u.failed; after = rw s.1 u.after; removed = u.removed; gone = rw s.1 u.gone }
+]
 
-told_handed : {C : Type 0} (h : List (Event C)) (p : ℕ) (sheet : Sheet C) → Turn' h p sheet → ((j : ℕ) → Told h j) → (j : ℕ) → Told (AtPrinter p sheet Handed ∷ h) j
-told_handed h p sheet g t j =
-    let u = t j in
-    let n = failed_same h p sheet Handed j refl in
-    let old = u.failed in
-    told_turn h p sheet Handed j u (omega arith) (λ q.
-    let w = u.after (omega arith) in
-    elim (test sheet.job j) [
-      | inl s ↦ absurd (clash (has_ended h j) w.0 (subst (λ (i : ℕ). has_ended h i ≡ false) s.0 g.at.is.goes_on))
-      | inr s ↦ (still_ended h (AtPrinter p sheet Handed) j w.0, ap length (handed_more h p sheet j s.0) ∙ (w.1 ∙ sym (back_same h p sheet j)))
-    ])
-
-told_printed : {C : Type 0} (h : List (Event C)) (p : ℕ) (sheet : Sheet C) (x : Progress) → handed_at h sheet.job ≡ back_of h sheet.job + 1 → ((j : ℕ) → Told h j) → (j : ℕ) → Told (AtPrinter p sheet (Printed x) ∷ h) j
-told_printed h p sheet x out t j =
-    let u = t j in
-    let n = failed_same h p sheet (Printed x) j refl in
-    let old = u.failed in
-    told_turn h p sheet (Printed x) j u (omega arith) (λ q.
-    let w = u.after (omega arith) in
-    elim (test sheet.job j) [
-      | inl s ↦
-          let o : handed_at h j ≡ back_of h j + 1 = subst (λ (i : ℕ). handed_at h i ≡ back_of h i + 1) s.0 out in
-          let w1 = w.1 in
-          absurd (omega arith)
-      | inr s ↦ (still_ended h (AtPrinter p sheet (Printed x)) j w.0, ap length (handed_same h p sheet (Printed x) j refl) ∙ (w.1 ∙ sym (back_more h p sheet (Printed x) j s.0)))
-    ])
-
-told_failed : {C : Type 0} (h : List (Event C)) (p : ℕ) (sheet : Sheet C) → handed_at h sheet.job ≡ back_of h sheet.job + 1 → ((j : ℕ) → Told h j) → (j : ℕ) → Told (AtPrinter p sheet Failed ∷ h) j
-told_failed h p sheet out t j =
-    let u = t j in
-    elim (test sheet.job j) [
-      | inl s ↦
-          let o : handed_at h j ≡ back_of h j + 1 = subst (λ (i : ℕ). handed_at h i ≡ back_of h i + 1) s.0 out in
-          let none : failed_of h j ≡ 0 = none_by (failed_of h j) (λ q. let w = (u.after q).1 in omega arith) in
-          let n = failed_one h p sheet j s.0 in
-          told_turn h p sheet Failed j u (omega arith) (λ q. (ended_by_failure h p sheet j s.0, ap length (handed_same h p sheet Failed j refl) ∙ (o ∙ sym (back_one h p sheet Failed j refl s.0))))
-      | inr s ↦
-          let n = failed_other h p sheet Failed j s.0 in
-          let old = u.failed in
-          told_turn h p sheet Failed j u (omega arith) (λ q.
-          let w = u.after (omega arith) in
-          (still_ended h (AtPrinter p sheet Failed) j w.0, ap length (handed_same h p sheet Failed j refl) ∙ (w.1 ∙ sym (back_more h p sheet Failed j s.0))))
-    ]
+-- and where the page comes back
+told_back : {C : Type 0} (h : List (Event C)) (p : ℕ) (sheet : Sheet C) (turn : Turn) → is_handed turn ≡ false → handed_at h sheet.job ≡ back_of h sheet.job + 1 → ((j : ℕ) → Told h j) → (j : ℕ) → Told (AtPrinter p sheet turn ∷ h) j
+told_back h p sheet turn is out t j =
+    let here : sheet.job ≡ j → handed_at h j ≡ back_of h j + 1 = λ same. subst (λ (i : ℕ). handed_at h i ≡ back_of h i + 1) same out in
+    told_turn h p sheet turn j (λ same. none_by (failed_of h j) (λ q. omega (arith, ((t j).after q).1, here same)))
+    (λ same f. ap length (handed_same h p sheet turn j is) ∙ (here same ∙ sym (back_one h p sheet turn j is same))) (t j)
 
 named_going : {C : Type 0} (c : Config) (base : Base) (h : List (Event C)) (P : Job C → Type 0) (j : ℕ) (jobs : List ℕ) → ((v : Job C) → P v → v.ended ≡ false) → AllByRecursion (λ k. HasJob (now c base h).jobs k P) jobs → list_any (λ (k : ℕ). k == j) jobs ≡ true → has_ended h j ≡ false
 named_going c base h P j [] going all e = absurd cc
@@ -158,9 +128,11 @@ told_step size c base h (OfJob k (Controlled control whole)) l m t =
 told_step size c base h (OfJob k Aborted) l m t =
     let a = has_at c base h k _ m.0 in
     told_act h k Aborted (fits_aborted (acts_of h k) (has_ended h k) _ (t k).acts (elim a.is [ inl x ↦ inl x.0 | inr x ↦ inr x.1 ]) (ended_aborted h k)) t
-told_step size c base h (AtPrinter p sheet Handed) l m t = told_handed h p sheet (turn_of_page c base h p sheet m.0.0 m.0.1 m.1) t
-told_step size c base h (AtPrinter p sheet (Printed x)) l m t = told_printed h p sheet x ((facts size c base h l).out p sheet (is_out c base h p sheet m.0 m.1.0)).1 t
-told_step size c base h (AtPrinter p sheet Failed) l m t = told_failed h p sheet ((facts size c base h l).out p sheet (is_out c base h p sheet m.0 m.1)).1 t
+told_step size c base h (AtPrinter p sheet Handed) l m t = λ j.
+    (let going = (turn_of_page c base h p sheet m.0.0 m.0.1 m.1).at.is.goes_on in
+    told_turn h p sheet Handed j (λ same. none_by (failed_of h j) (λ q. clash (has_ended h j) ((t j).after q).0 (subst (λ (i : ℕ). has_ended h i ≡ false) same going))) (λ same f. absurd (clash false f refl)) (t j))
+told_step size c base h (AtPrinter p sheet (Printed x)) l m t = told_back h p sheet (Printed x) refl ((facts size c base h l).out p sheet (is_out c base h p sheet m.0 m.1.0)).1 t
+told_step size c base h (AtPrinter p sheet Failed) l m t = told_back h p sheet Failed refl ((facts size c base h l).out p sheet (is_out c base h p sheet m.0 m.1)).1 t
 told_step size c base h (Removed q jobs) l m t = λ j. told_removed h q jobs j (named_going c base h _ j jobs (λ v x. x.2) m.4) (t j)
 told_step size c base h e l m t = λ j. (
     let u = t j in
