@@ -23,7 +23,7 @@ use Rattle.spool_laws.proofs.Held.{pages_push, pages_ended}
 use Rattle.spool_laws.proofs.Adding.{sum_same, sum_parts, sum_filter, sum_map, up_none, up_once}
 use Rattle.spool_laws.proofs.Reserve.{no_events}
 use Rattle.spool_laws.proofs.Sound.{Sound, sound, out_kept}
-use Rattle.spool_laws.proofs.Sums.{numbers, pages_add_up}
+use Rattle.spool_laws.proofs.Sums.{numbers, sum_opened, pages_add_up}
 
 abbrev pub one_for : Bool → ℕ
 one_for b = cond b 1 0
@@ -130,16 +130,7 @@ abbrev Balanced : {C : Type 0} → Config → Base → List (Event C) → Type 0
 Balanced c base h = sum_by (outs h) (up_to (last base h)) ≡ sum_by (out_of h) (up_to (printer_count c))
 
 balanced_opened : {C : Type 0} (c : Config) (base : Base) (h : List (Event C)) (k s q : ℕ) → Facts base h → Balanced c base h → Balanced c base (Opened k s q ∷ h)
-balanced_opened {C} c base h k s q f b =
-    let n = last base h in
-    let new = f.fresh (suc n) (inr (omega arith)) in
-    let none = ap length new.handed in
-    let l = length_push (openings h) (record { job = k; sender = s; queue = q }) in
-    let m : base.accepted + length (openings h ++ record { job = k; sender = s; queue = q } ∷ []) ≡ suc n = omega arith in
-    let u : sum_by (outs h) (up_to (base.accepted + length (openings h ++ record { job = k; sender = s; queue = q } ∷ []))) ≡ sum_by (outs h) (up_to n ++ suc n ∷ []) =
-    ap (λ (i : ℕ). sum_by (outs h) (up_to i)) m in
-    let p = sum_by_push (outs h) (up_to n) (suc n) in
-    u ∙ omega arith
+balanced_opened c base h k s q f b = sum_opened base h k s q (outs h) (outs_unknown h (suc (last base h)) (f.fresh (suc (last base h)) (inr (omega arith)))) ∙ b
 
 out_other : {C : Type 0} (h : List (Event C)) (p : ℕ) (sheet : Sheet C) (turn : Turn) (q : ℕ) → q ≢ p → out_of (AtPrinter p sheet turn ∷ h) q ≡ out_of h q
 out_other {C} h p sheet turn q ne = ap (λ (o : Option (Sheet C)). one_for (is_some o)) (out_there h p sheet turn q (λ e. ne (sym e)))

@@ -3,12 +3,13 @@ use Rattle.std.proofs.Common.{◌⊎◌, inl, inr, ◌≡◌, ℕ, zero, suc, �
 use Rattle.std.specs.Prelude.{cond, filter}
 use Rattle.std.specs.List.{list_any, flat_map}
 use Rattle.std.specs.Str.{bytes_eq}
-use Rattle.std.proofs.lemmas.List.Sums.{length-filter, count_by-le-length}
+use Rattle.std.proofs.lemmas.List.Sums.{length-filter, sum_by-le-sum_by, count_by-le-length}
 use Rattle.lpd_values.specs.Told.{prints_in}
 use Rattle.spool_history.specs.Acts.{File, Page, all_pages, is_same_page, numbered, pages_among, pages_named}
 use Rattle.spool_history.specs.Now.{Job, pages_kept, places}
 use Rattle.spool_laws.proofs.Known.{Has, filter_has, clash, or_true, test}
 use Rattle.spool_laws.proofs.Adding.{has_left}
+use Rattle.std.proofs.lemmas.Bool.{cases_Bool}
 
 -- how many pages files have
 abbrev pub pages_in : {C : Type 0} → List (File C) → ℕ
@@ -25,15 +26,10 @@ length_all n (f ∷ fs) = omega (arith, length-append (numbered n 0 f.pages) (al
 
 -- what a test keeps of a list
 
-filter_one : {X : Type 0} (t u : X → Bool) (x : X) (xs : List X) (a b : Bool) → t x ≡ a → u x ≡ b → (a ≡ true → b ≡ true) → length (filter t xs) ≤ length (filter u xs) → length (filter t (x ∷ xs)) ≤ length (filter u (x ∷ xs))
-filter_one t u x xs true true e d up ih = rw (e, d) (omega arith)
-filter_one t u x xs true false e d up ih = absurd (clash false (up refl) refl)
-filter_one t u x xs false true e d up ih = rw (e, d) (omega arith)
-filter_one t u x xs false false e d up ih = rw (e, d) ih
-
 filter_fewer : {X : Type 0} (t u : X → Bool) (xs : List X) → ((x : X) → t x ≡ true → u x ≡ true) → length (filter t xs) ≤ length (filter u xs)
-filter_fewer t u [] up = omega arith
-filter_fewer t u (x ∷ xs) up = filter_one t u x xs (t x) (u x) refl refl (up x) (filter_fewer t u xs up)
+filter_fewer {X} t u xs up =
+    let each = sum_by-le-sum_by (λ (x : X). cond (t x) 1 0) (λ (x : X). cond (u x) 1 0) xs (λ x. elim (cases_Bool (t x)) [ inl e ↦ rw (e, up x e) (omega arith) | inr e ↦ rw e (omega arith) ]) in
+    omega (arith, length-filter t xs, length-filter u xs)
 
 has_some : {X : Type 0} (x : X) (xs : List X) → Has x xs → 1 ≤ length xs
 has_some x [] has = absurd has

@@ -8,7 +8,8 @@ use Rattle.config_values.specs.Config.{Queue, served_from}
 use Rattle.spool_history.specs.Now.{up_to}
 use Rattle.spool_laws.proofs.Known.{Has, has_filtered, has_last, has_mapped, test}
 use Rattle.spool_laws.proofs.Adding.{length_up_to}
-use Rattle.std.proofs.lemmas.Bool.{cases_Bool, cases_order}
+use Rattle.std.proofs.lemmas.Bool.{cases_Bool, cases_lt}
+use Rattle.spool_laws.proofs.Printers.{get_up_to}
 
 -- the sum over 1 to n
 abbrev pub total : (ℕ → ℕ) → ℕ → ℕ
@@ -172,17 +173,8 @@ served_total n (q ∷ qs) (suc i) one =
     let ih' : total (serves (n + 1) qs (n + suc i)) m ≤ get_or (map (λ (q : Queue). q.printers) qs) i 0 = subst (λ (k : ℕ). total (serves (n + 1) qs k) m ≤ get_or (map (λ (q : Queue). q.printers) qs) i 0) (sym same) ih in
     rw sum (omega arith)
 
-get_last : (f : ℕ → ℕ) (n i : ℕ) → get_or (map f (up_to n)) i 0 ≤ f (suc i) → get_or (map f (up_to n) ++ f (suc n) ∷ []) i 0 ≤ f (suc i)
-get_last f n i ih =
-    let l : length (map f (up_to n)) ≡ n = length_up_to f n in
-    elim (cases_order i n) [
-      | inl e ↦ omega (arith, get_or_at (map f (up_to n)) (f (suc n)) [] 0 i (l ∙ sym e), ap (λ (m : ℕ). f (suc m)) e)
-      | inr r ↦ elim r [
-        | inl lt ↦ omega (arith, get_or_append_left (map f (up_to n)) (f (suc n) ∷ []) 0 i (omega arith))
-        | inr lt ↦ omega (arith, get_or_past (map f (up_to n) ++ f (suc n) ∷ []) i 0 (omega (arith, length_push (map f (up_to n)) (f (suc n)))))
-      ]
-    ]
-
 pub at_most : (f : ℕ → ℕ) (n i : ℕ) → get_or (map f (up_to n)) i 0 ≤ f (suc i)
-at_most f zero i = omega arith
-at_most f (suc n) i = omega (arith, ap (λ (l : List ℕ). get_or l i 0) (map-append f (up_to n) (suc n ∷ [])), get_last f n i (at_most f n i))
+at_most f n i = elim (cases_lt i n) [
+  | inl lt ↦ omega (arith, get_up_to f n i 0 lt)
+  | inr le ↦ omega (arith, get_or_past (map f (up_to n)) i 0 (omega (arith, length_up_to f n)))
+]

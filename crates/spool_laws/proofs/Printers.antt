@@ -14,18 +14,14 @@ use Rattle.spool_history.specs.Steps.{printer_turned, printers_after}
 use Rattle.spool_laws.proofs.Known.{test}
 use Rattle.spool_laws.proofs.Adding.{length_up_to}
 
-get_last : {P : Type 0} (f : ℕ → P) (n i : ℕ) (d : P) (b : Bool) → (i == n) ≡ b → i < suc n → (i < n → get_or (map f (up_to n)) i d ≡ f (suc i)) → get_or (map f (up_to n) ++ f (suc n) ∷ []) i d ≡ f (suc i)
-get_last f n i d true e lt ih =
-    let same : i ≡ n = grind (arith, nat_tests) in
-    get_or_at (map f (up_to n)) (f (suc n)) [] d i (length_up_to f n ∙ sym same) ∙ ap (λ (m : ℕ). f (suc m)) (sym same)
-get_last f n i d false e lt ih =
-    let less : i < n = grind (arith, nat_tests) in
-    get_or_append_left (map f (up_to n)) (f (suc n) ∷ []) d i (let l = length_up_to f n in omega arith) ∙ ih less
-
 pub get_up_to : {P : Type 0} (f : ℕ → P) (n i : ℕ) (d : P) → i < n → get_or (map f (up_to n)) i d ≡ f (suc i)
 get_up_to f zero i d lt = absurd (omega arith)
-get_up_to {P} f (suc n) i d lt =
-    ap (λ (l : List P). get_or l i d) (map-append f (up_to n) (suc n ∷ [])) ∙ get_last f n i d (i == n) refl lt (get_up_to f n i d)
+get_up_to {P} f (suc n) i d lt = ap (λ (l : List P). get_or l i d) (map-append f (up_to n) (suc n ∷ [])) ∙ elim (test i n) [
+  | inl s ↦ get_or_at (map f (up_to n)) (f (suc n)) [] d i (length_up_to f n ∙ sym s.0) ∙ ap (λ (m : ℕ). f (suc m)) (sym s.0)
+  | inr s ↦
+      let ne : i ≢ n = s.0 in
+      get_or_append_left (map f (up_to n)) (f (suc n) ∷ []) d i (omega (arith, length_up_to f n)) ∙ get_up_to f n i d (omega arith)
+]
 
 -- where one of them changes
 set_up_to : {P : Type 0} (f g : ℕ → P) (n p : ℕ) (x : P) → p < n → g (suc p) ≡ x → ((q : ℕ) → q ≢ suc p → g q ≡ f q) → map g (up_to n) ≡ set (map f (up_to n)) p x
@@ -34,24 +30,17 @@ set_up_to {P} f g n p x lt is other =
     let l : length (map f (up_to n)) ≡ n = length_up_to f n in
     let s : length (set (map f (up_to n)) p x) ≡ n = length-set (map f (up_to n)) p x ∙ l in
     same_lists (map g (up_to n)) (set (map f (up_to n)) p x) (m ∙ sym s) (λ k d below.
-    get_up_to g n k d (omega arith) ∙ at k d (omega arith) (k == p) refl)
-  where
-    at : (k : ℕ) (d : P) → k < n → (b : Bool) → (k == p) ≡ b → g (suc k) ≡ get_or (set (map f (up_to n)) p x) k d
-    at k d below true e =
-        let same : k ≡ p = grind (arith, nat_tests) in
-        ap (λ (i : ℕ). g (suc i)) same ∙ (is ∙ sym (ap (λ (i : ℕ). get_or (set (map f (up_to n)) p x) i d) same ∙ get_or-set_same (map f (up_to n)) p x d (let l = length_up_to f n in omega arith)))
-    at k d below false e =
-        let ne : k ≢ p = grind (arith, nat_tests) in
-        let ne' : suc k ≢ suc p = grind (arith, nat_tests) in
-        other (suc k) ne' ∙ sym (get_or-set_other (map f (up_to n)) p k x d ne ∙ get_up_to f n k d below)
+    get_up_to g n k d (omega arith) ∙ elim (test k p) [
+      | inl e ↦ ap (λ (i : ℕ). g (suc i)) e.0 ∙ (is ∙ sym (ap (λ (i : ℕ). get_or (set (map f (up_to n)) p x) i d) e.0 ∙ get_or-set_same (map f (up_to n)) p x d (omega arith)))
+      | inr e ↦ (let ne : k ≢ p = e.0 in other (suc k) (λ same. (let s' : suc k ≡ suc p = same in omega arith)) ∙ sym (get_or-set_other (map f (up_to n)) p k x d ne ∙ get_up_to f n k d (omega arith)))
+    ])
 
 pub at_printer : {C : Type 0} (c : Config) (base : Base) (h : List (Event C)) (p : ℕ) → 1 ≤ p → p ≤ printer_count c → printer_at (now c base h) p ≡ printer_of c base h p
 at_printer c base h zero one le = absurd (omega arith)
 at_printer c base h (suc p) one le = get_up_to (printer_of c base h) (printer_count c) p no_printer le
 
-turned_other : {C : Type 0} (c : Config) (base : Base) (h : List (Event C)) (p : ℕ) (sheet : Sheet C) (turn : Turn) (q : ℕ) (b : Bool) → (p == q) ≡ b → q ≢ p → printer_of c base (AtPrinter p sheet turn ∷ h) q ≡ printer_of c base h q
-turned_other c base h p sheet turn q true e ne = absurd (ne (grind (arith, nat_tests)))
-turned_other c base h p sheet turn q false e ne = rw e refl
+turned_other : {C : Type 0} (c : Config) (base : Base) (h : List (Event C)) (p : ℕ) (sheet : Sheet C) (turn : Turn) (q : ℕ) → q ≢ p → printer_of c base (AtPrinter p sheet turn ∷ h) q ≡ printer_of c base h q
+turned_other c base h p sheet turn q ne = elim (test p q) [ inl s ↦ absurd (ne (sym s.0)) | inr s ↦ rw s.1 refl ]
 
 turned_here : {C : Type 0} (c : Config) (base : Base) (h : List (Event C)) (p : ℕ) (sheet : Sheet C) (turn : Turn) (b : Bool) → (p == p) ≡ b → printer_of c base (AtPrinter p sheet turn ∷ h) p ≡ printer_turned sheet turn (printer_of c base h p)
 turned_here c base h p sheet Handed true e = rw e refl
@@ -64,7 +53,7 @@ printers_turned {C} c base h p sheet turn one le =
     let here : printer_of c base (AtPrinter p sheet turn ∷ h) (suc (p - 1)) ≡ printer_turned sheet turn (printer_at (now c base h) p) =
     ap (printer_of c base (AtPrinter p sheet turn ∷ h)) e ∙ (turned_here c base h p sheet turn (p == p) refl ∙ ap (printer_turned sheet turn) (sym (at_printer c base h p one le))) in
     set_up_to (printer_of c base h) (printer_of c base (AtPrinter p sheet turn ∷ h)) (printer_count c) (p - 1) (printer_turned sheet turn (printer_at (now c base h) p)) (omega arith) here
-    (λ q ne. turned_other c base h p sheet turn q (p == q) refl (λ same. ne (same ∙ sym e)))
+    (λ q ne. turned_other c base h p sheet turn q (λ same. ne (same ∙ sym e)))
 
 -- the start of a queue
 abbrev start : {C : Type 0} → ℕ → Printer C → Printer C

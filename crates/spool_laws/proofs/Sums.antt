@@ -195,12 +195,11 @@ free_rest c base h = ap (λ (n : ℕ). c.pages - n) (rows_held c (now c base h).
 
 -- each event
 
-opened_weights : {C : Type 0} (base : Base) (h : List (Event C)) (k s q : ℕ) → weight_at h (suc (last base h)) ≡ 0 → weights base (Opened k s q ∷ h) ≤ weights base h
-opened_weights {C} base h k s q none =
-    let e : Event C = Opened k s q in
-    let m : last base (e ∷ h) ≡ suc (last base h) = omega (arith, length_push (openings h) (record { job = k; sender = s; queue = q })) in
-    let u : weights base (e ∷ h) ≡ sum_by (weight_at h) (up_to (last base h) ++ suc (last base h) ∷ []) = ap (λ (i : ℕ). sum_by (weight_at (e ∷ h)) (up_to i)) m in
-    omega (arith, sum_by_push (weight_at h) (up_to (last base h)) (suc (last base h)))
+-- a job that is accepted adds nothing where its number has nothing
+pub sum_opened : {C : Type 0} (base : Base) (h : List (Event C)) (k s q : ℕ) (f : ℕ → ℕ) → f (suc (last base h)) ≡ 0 → sum_by f (up_to (last base (Opened k s q ∷ h))) ≡ sum_by f (up_to (last base h))
+sum_opened base h k s q f none =
+    let m : last base (Opened k s q ∷ h) ≡ suc (last base h) = omega (arith, length_push (openings h) (record { job = k; sender = s; queue = q })) in
+    ap (λ (i : ℕ). sum_by f (up_to i)) m ∙ omega (arith, sum_by_push f (up_to (last base h)) (suc (last base h)))
 
 -- where no job holds more than before, they all hold no more
 less : {C : Type 0} (c : Config) (base : Base) (h : List (Event C)) (e : Event C) → last base (e ∷ h) ≡ last base h → weights base h ≤ c.pages → ((j : ℕ) → weight_at (e ∷ h) j ≤ weight_at h j) → weights base (e ∷ h) ≤ c.pages
@@ -208,7 +207,7 @@ less c base h e same w le = omega (arith, ap (λ (n : ℕ). sum_by (weight_at (e
 
 step_weights : {C : Type 0} (size : C → ℕ) (c : Config) (base : Base) (h : List (Event C)) (e : Event C) → IsLegal size c base h → May size (now c base h) e → weights base h ≤ c.pages → weights base (e ∷ h) ≤ c.pages
 step_weights size c base h (Opened k s q) l m w =
-    omega (arith, opened_weights base h k s q (weight_unknown h (suc (last base h)) ((facts size c base h l).fresh (suc (last base h)) (inr (omega arith)))))
+    omega (arith, sum_opened base h k s q (weight_at h) (weight_unknown h (suc (last base h)) ((facts size c base h l).fresh (suc (last base h)) (inr (omega arith)))))
 step_weights size c base h (OfJob k Granted) l m w =
     let a = has_at c base h k _ m.0 in
     let one = act_granted size c base h k Granted 1 (m, l) refl refl a.is.0.0.0 a.is.0.0.1 in

@@ -24,9 +24,8 @@ AllTook (x ∷ xs) (y ∷ ys) = Took x y × AllTook xs ys
 
 pub took_more : (k : ℕ) (xs ys : List Row) → AllTook xs ys → holds k xs ≤ holds k ys
 took_more k [] [] t = omega arith
-took_more k [] (y ∷ ys) t = absurd t
-took_more k (x ∷ xs) [] t = absurd t
-took_more k (x ∷ xs) (y ∷ ys) t = let ih = took_more k xs ys t.1 in let e = t.0.held k in omega arith
+took_more k (x ∷ xs) (y ∷ ys) t = omega (arith, took_more k xs ys t.1, t.0.held k)
+took_more k _ _ t = absurd t
 
 -- what stands at the place of one of the second rows
 record At (xs : List Row) (a : List Row) (y : Row) (b : List Row) : Type 0 where

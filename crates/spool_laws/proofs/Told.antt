@@ -53,9 +53,6 @@ told_act {C} h k act fits t j =
       gone = λ p. still_ended h (OfJob k act) j (u.gone p);
     }
 
-failed_same : {C : Type 0} (h : List (Event C)) (p : ℕ) (sheet : Sheet C) (turn : Turn) (j : ℕ) → is_failed turn ≡ false → failed_of (AtPrinter p sheet turn ∷ h) j ≡ failed_of h j
-failed_same h p sheet turn j e = elim (test sheet.job j) [ inl s ↦ rw (s.1, e) refl | inr s ↦ rw s.1 refl ]
-
 pub failed_one : {C : Type 0} (h : List (Event C)) (p : ℕ) (sheet : Sheet C) (j : ℕ) → sheet.job ≡ j → failed_of (AtPrinter p sheet Failed ∷ h) j ≡ failed_of h j + 1
 failed_one h p sheet j e = elim (test sheet.job j) [ inl s ↦ rw s.1 refl | inr s ↦ absurd (s.0 e) ]
 
