@@ -2,13 +2,13 @@
 use Rattle.std.proofs.Common.{inl, inr, ◌≡◌, ◌≢◌, ℕ, suc, ◌+◌, ◌-◌, ◌≤◌, Bool, true, false, List, [], ◌∷◌, ◌++◌, length, map, refl, sym, ◌∙◌, ap, subst, arith}
 use Rattle.std.specs.Prelude.{not, cond, sum_by, Option, Some, is_some}
 use Rattle.std.proofs.lemmas.List.{length_push}
-use Rattle.std.proofs.lemmas.List.Sums.{sum_by-cons, sum_by_push}
+use Rattle.std.proofs.lemmas.List.Sums.{sum_by-cons}
 use Rattle.std.proofs.lemmas.Bool.{or_parts}
 use Rattle.spool_history.specs.Base.{Base}
 use Rattle.spool_history.specs.Events.{Act, Event, Sheet, Turn}
 use Rattle.spool_history.specs.Events.Act.{Granted, Began, Put, FileEnded, Controlled, Aborted}
 use Rattle.spool_history.specs.Events.Turn.{Handed, Printed, Failed}
-use Rattle.spool_history.specs.Events.Event.{Opened, OfJob, AtPrinter, Removed, Started, Closed}
+use Rattle.spool_history.specs.Events.Event.{Opened, OfJob, AtPrinter}
 use Rattle.config_values.specs.Config.{Config, printer_count}
 use Rattle.spool_history.specs.Acts.{File, at_last, granted_by, is_lent_by, files_by}
 use Rattle.spool_history.specs.Said.{Opening, openings, acts_of, is_handed, back_of, has_ended, ends, out_at}
@@ -16,7 +16,7 @@ use Rattle.spool_history.specs.Now.{Job, Printer, now, job_of, is_held, is_recei
 use Rattle.spool_history.specs.Legal.{IsLegal, May}
 use Rattle.spool_laws.specs.Sums.{chained_of, chained, lent, at_printers}
 use Rattle.spool_laws.proofs.Known.{Has, has_at, known, test, clash}
-use Rattle.spool_laws.proofs.Facts.{Facts, Unknown, ended_aborted, facts, last, Turn', turn_of_page, handed_now, handed_number, handed_at, handed_same, is_out, count_one, count_more, back_same, back_more, back_one, out_here, out_there}
+use Rattle.spool_laws.proofs.Facts.{Facts, Unknown, ended_aborted, facts, last, Turn', turn_of_page, handed_number, handed_at, handed_same, is_out, count_one, count_more, back_same, back_more, back_one, out_here, out_there}
 use Rattle.spool_laws.proofs.Counts.{with_page, last_push}
 use Rattle.spool_laws.proofs.Copies.{pages_in}
 use Rattle.spool_laws.proofs.Held.{pages_push, pages_ended}

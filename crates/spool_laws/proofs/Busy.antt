@@ -1,28 +1,26 @@
 -- Each held job that was begun has a printer of its queue, and no other job has that one.
 use Rattle.std.proofs.Common.{◌⊎◌, inl, inr, ◌≡◌, ◌==◌, ◌≢◌, ℕ, ◌+◌, ◌<◌, Bool, true, false, List, [], ◌∷◌, length, map, refl, sym, ◌∙◌, ap, subst, arith}
-use Rattle.std.specs.Prelude.{◌&&◌, ◌||◌, not, filter, find, Option, Some, None, is_some}
+use Rattle.std.specs.Prelude.{◌&&◌, ◌||◌, not, find, Option, Some, None, is_some}
 use Rattle.std.proofs.lemmas.Bool.Decides.{nat_tests}
-use Rattle.std.proofs.lemmas.Bool.{and_parts}
+use Rattle.std.proofs.lemmas.Bool.{and_parts, true_from_ne_false}
 use Rattle.spool_history.specs.Base.{Base}
 use Rattle.spool_history.specs.Events.{Event, Sheet, Turn}
-use Rattle.spool_history.specs.Events.Turn.{Handed, Printed, Failed}
-use Rattle.spool_history.specs.Events.Event.{Opened, OfJob, AtPrinter, Removed, Started, Closed}
+use Rattle.spool_history.specs.Events.Turn.{Handed}
+use Rattle.spool_history.specs.Events.Event.{Opened, AtPrinter}
 use Rattle.config_values.specs.Config.{IsPrinter, Config, queue_of}
-use Rattle.spool_history.specs.Acts.{is_lent_by, control_by}
+use Rattle.spool_history.specs.Acts.{is_lent_by, control_by, Page}
 use Rattle.spool_history.specs.Said.{Opening, openings, acts_of, is_handed, back_of, has_ended, began_at}
 use Rattle.spool_history.specs.Now.{Job, Printer, now, job_of, is_held}
 use Rattle.spool_history.specs.Next.{next_page, next_at, with_out, hand_of, hand_first, turn_of, or_first, printer_at}
 use Rattle.spool_history.specs.Next.Next.{Hands}
-use Rattle.spool_history.specs.Acts.{Page}
 use Rattle.spool_history.specs.Legal.{IsLegal, May}
-use Rattle.spool_laws.proofs.Known.{Has, find_has, has_last, has_kept, known, test, clash, and_false, filter_cons}
+use Rattle.spool_laws.proofs.Known.{Has, find_has, has_last, has_kept, known, test, clash, and_false}
 use Rattle.spool_laws.proofs.Printers.{at_printer}
 use Rattle.spool_laws.proofs.Turns.{given, open_by, runs_by, idle_by}
 use Rattle.spool_laws.proofs.Facts.{Facts, facts, last, began_same, turn_of_page, handed_at, received_at, handed_more, handed_same}
 use Rattle.spool_laws.proofs.Moves.{steady}
 use Rattle.spool_laws.proofs.Held.{Keeps, keeps}
 use Rattle.spool_laws.proofs.Pigeons.{Rises, rises_push, rises_filter, rises_map}
-use Rattle.std.proofs.lemmas.Bool.{true_from_ne_false}
 
 -- a job to which a page is lent isn't received
 pub lent_unreceived : {C : Type 0} (h : List (Event C)) (j : ℕ) → Keeps (acts_of h j) → is_lent_by (acts_of h j) ≡ true → received_at h j ≡ false

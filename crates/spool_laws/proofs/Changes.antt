@@ -3,10 +3,10 @@ use Rattle.std.proofs.Common.{inl, inr, ◌≡◌, ◌==◌, ℕ, Bool, true, fa
 use Rattle.std.specs.List.{list_any}
 use Rattle.std.proofs.lemmas.List.{length_push}
 use Rattle.spool_history.specs.Events.{Act, Event, Sheet, Turn}
-use Rattle.spool_history.specs.Events.Act.{Granted, Began, Put, FileEnded, Controlled, Aborted}
-use Rattle.spool_history.specs.Events.Progress.{Going, Done, Ended}
-use Rattle.spool_history.specs.Events.Turn.{Handed, Printed, Failed}
-use Rattle.spool_history.specs.Events.Event.{Opened, OfJob, AtPrinter, Removed, Started, Closed}
+use Rattle.spool_history.specs.Events.Act.{Granted}
+use Rattle.spool_history.specs.Events.Progress.{Going}
+use Rattle.spool_history.specs.Events.Turn.{Handed, Printed}
+use Rattle.spool_history.specs.Events.Event.{OfJob, AtPrinter, Removed}
 use Rattle.spool_history.specs.Said.{Opening, handed_of}
 use Rattle.spool_history.specs.Now.{job_of}
 use Rattle.spool_history.specs.Steps.{change}

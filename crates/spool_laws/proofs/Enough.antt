@@ -1,6 +1,6 @@
 -- The held jobs hold no more of any kind than there is.
 use Rattle.std.proofs.Common.{inl, inr, ◌≡◌, ◌==◌, ◌≢◌, ℕ, zero, suc, ◌+◌, ◌<◌, ◌≤◌, true, List, [], ◌∷◌, length, get_or, map, refl, sym, ◌∙◌, subst, arith}
-use Rattle.std.specs.Prelude.{cond, sum_by, Option, Some, slice_index_or}
+use Rattle.std.specs.Prelude.{cond, sum_by, Some, slice_index_or}
 use Rattle.std.proofs.lemmas.List.Sums.{sum_by-cons}
 use Rattle.counts.specs.Amounts.{amount}
 use Rattle.claims.specs.declared.row.Row.{Row}

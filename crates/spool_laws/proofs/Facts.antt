@@ -6,7 +6,7 @@ use Rattle.std.proofs.lemmas.List.{length_push}
 use Rattle.std.proofs.lemmas.Bool.{cases_lt}
 use Rattle.spool_history.specs.Base.{Base, first_base}
 use Rattle.spool_history.specs.Events.{Act, Event, Sheet, Turn}
-use Rattle.spool_history.specs.Events.Act.{Granted, Began, Put, FileEnded, Controlled, Aborted}
+use Rattle.spool_history.specs.Events.Act.{Granted, Aborted}
 use Rattle.spool_history.specs.Events.Turn.{Handed, Printed, Failed}
 use Rattle.spool_history.specs.Events.Event.{Opened, OfJob, AtPrinter, Removed, Started, Closed}
 use Rattle.config_values.specs.Config.{IsPrinter, Config}
@@ -14,7 +14,7 @@ use Rattle.spool_history.specs.Said.{Opening, openings, acts_of, is_handed, hand
 use Rattle.spool_history.specs.Now.{Job, Printer, now, job_of, is_received}
 use Rattle.spool_history.specs.Next.{printer_at}
 use Rattle.spool_history.specs.Legal.{HasJob, May, IsLegal}
-use Rattle.spool_laws.proofs.Known.{Has, At, has_at, held_at, has_last, test, clash, and_false}
+use Rattle.spool_laws.proofs.Known.{Has, At, has_at, has_last, test, clash}
 use Rattle.spool_laws.proofs.Printers.{at_printer}
 use Rattle.spool_laws.proofs.Turns.{given, given_at, Gets, Begins}
 

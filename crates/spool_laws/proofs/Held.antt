@@ -9,7 +9,7 @@ use Rattle.std.proofs.lemmas.Bool.{and_parts, leb-true}
 use Rattle.spool_history.specs.Base.{Base}
 use Rattle.spool_history.specs.Events.{Act, Event}
 use Rattle.spool_history.specs.Events.Act.{Granted, Began, Put, FileEnded, Controlled, Aborted}
-use Rattle.spool_history.specs.Events.Event.{Opened, OfJob, AtPrinter, Removed, Started, Closed}
+use Rattle.spool_history.specs.Events.Event.{OfJob}
 use Rattle.config_values.specs.Config.{Config}
 use Rattle.spool_history.specs.Acts.{File, granted_by, is_lent_by, files_by, control_by, at_last, new_file, is_open_in}
 use Rattle.spool_history.specs.Said.{acts_of}

@@ -1,5 +1,5 @@
 -- What was handed of one sender's jobs in a queue is the join of the first places of each.
-use Rattle.std.proofs.Common.{inl, inr, ◌≡◌, ◌≢◌, ◌==◌, ℕ, zero, suc, ◌+◌, ◌<◌, ◌≤◌, Bool, true, false, List, [], ◌∷◌, ◌++◌, length, map, refl, sym, ◌∙◌, ap, subst, arith, append_assoc}
+use Rattle.std.proofs.Common.{inl, inr, ◌≡◌, ◌≢◌, ◌==◌, ℕ, zero, suc, ◌+◌, ◌<◌, Bool, true, false, List, [], ◌∷◌, ◌++◌, map, refl, sym, ◌∙◌, ap, subst, arith, append_assoc}
 use Rattle.std.specs.Prelude.{◌&&◌, ◌||◌, cond, filter, Contains}
 use Rattle.std.specs.List.{flat_map, list_any}
 use Rattle.std.specs.List.Sorted.{IsStrictlyIncreasing}
@@ -12,14 +12,14 @@ use Rattle.config_values.specs.Config.{Config}
 use Rattle.spool_history.specs.Base.{Base}
 use Rattle.spool_history.specs.Events.{Event, Sheet, Turn}
 use Rattle.spool_history.specs.Events.Turn.{Handed, Printed, Failed}
-use Rattle.spool_history.specs.Events.Event.{Opened, OfJob, AtPrinter, Removed, Started, Closed}
+use Rattle.spool_history.specs.Events.Event.{Opened, AtPrinter}
 use Rattle.spool_history.specs.Said.{Opening, openings, handed_of, is_handed}
 use Rattle.spool_history.specs.Now.{now, job_of, is_held}
 use Rattle.spool_history.specs.Legal.{IsLegal, May}
 use Rattle.spool_history.specs.Joined.{LeavesJoined, handed, jobs_from, is_of_one, handed_from, first_places}
 use Rattle.spool_laws.specs.Leaving.{EachHanded, WasAccepted}
 use Rattle.spool_laws.proofs.Known.{Has, has_contained, has_filtered, has_last, held_at, none_of, test, clash}
-use Rattle.spool_laws.proofs.Facts.{facts, last, Turn', turn_of_page, handed_at, handed_more, handed_one, handed_same}
+use Rattle.spool_laws.proofs.Facts.{facts, Turn', turn_of_page, handed_at, handed_more, handed_one, handed_same}
 use Rattle.spool_laws.proofs.Places.{placed}
 use Rattle.spool_laws.proofs.Behind.{Behind, behind}
 use Rattle.spool_laws.proofs.Whole.{whole}

@@ -2,8 +2,8 @@
 use Rattle.std.proofs.Common.{ℕ, List, [], ◌∷◌}
 use Rattle.spool_history.specs.Base.{Base}
 use Rattle.spool_history.specs.Events.{Event, Sheet}
-use Rattle.spool_history.specs.Events.Turn.{Handed, Printed, Failed}
-use Rattle.spool_history.specs.Events.Event.{Opened, OfJob, AtPrinter, Removed, Started, Closed}
+use Rattle.spool_history.specs.Events.Turn.{Handed}
+use Rattle.spool_history.specs.Events.Event.{AtPrinter}
 use Rattle.config_values.specs.Config.{Config}
 use Rattle.spool_history.specs.Now.{now}
 use Rattle.spool_history.specs.Next.{printer_at}

@@ -4,10 +4,10 @@ use Rattle.std.specs.Prelude.{cond, filter, option_map, sum_by}
 use Rattle.std.specs.List.{list_any}
 use Rattle.std.proofs.lemmas.List.{map-append, map-set, length-map}
 use Rattle.spool_history.specs.Events.{Act, Event, Sheet, Turn}
-use Rattle.spool_history.specs.Events.Act.{Granted, Began, Put, FileEnded, Controlled, Aborted}
-use Rattle.spool_history.specs.Events.Progress.{Going, Done, Ended}
-use Rattle.spool_history.specs.Events.Turn.{Handed, Printed, Failed}
-use Rattle.spool_history.specs.Events.Event.{Opened, OfJob, AtPrinter, Removed, Started, Closed}
+use Rattle.spool_history.specs.Events.Act.{Granted, Began, Put, FileEnded}
+use Rattle.spool_history.specs.Events.Progress.{Going}
+use Rattle.spool_history.specs.Events.Turn.{Handed, Printed}
+use Rattle.spool_history.specs.Events.Event.{Opened, OfJob, AtPrinter, Removed, Started}
 use Rattle.config_values.specs.Config.{Config, reserve_of}
 use Rattle.spool_history.specs.Acts.{File, at_last}
 use Rattle.spool_history.specs.Now.{Job, Printer, State, is_held}

@@ -3,9 +3,9 @@ use Rattle.std.proofs.Common.{inl, inr, ◌≡◌, ℕ, zero, suc, ◌+◌, fals
 use Rattle.std.proofs.lemmas.List.{length_push, nil_from_length}
 use Rattle.spool_history.specs.Base.{Base}
 use Rattle.spool_history.specs.Events.{Act, Event, Sheet, Turn}
-use Rattle.spool_history.specs.Events.Act.{Granted, Began, Put, FileEnded, Controlled, Aborted}
-use Rattle.spool_history.specs.Events.Turn.{Handed, Printed, Failed}
-use Rattle.spool_history.specs.Events.Event.{Opened, OfJob, AtPrinter, Removed, Started, Closed}
+use Rattle.spool_history.specs.Events.Act.{Granted, Aborted}
+use Rattle.spool_history.specs.Events.Turn.{Handed}
+use Rattle.spool_history.specs.Events.Event.{OfJob, AtPrinter}
 use Rattle.config_values.specs.Config.{Config}
 use Rattle.spool_history.specs.Acts.{Page}
 use Rattle.spool_history.specs.Said.{handed_of, is_handed}

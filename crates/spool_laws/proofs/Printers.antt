@@ -1,11 +1,11 @@
 -- What one more event makes of the printers.
-use Rattle.std.proofs.Common.{inl, inr, ◌≡◌, ◌==◌, ◌≢◌, ℕ, zero, suc, ◌-◌, ◌<◌, ◌≤◌, Bool, true, false, List, [], ◌∷◌, ◌++◌, length, get_or, set, map, refl, sym, ◌∙◌, ap, arith}
+use Rattle.std.proofs.Common.{inl, inr, ◌≡◌, ◌==◌, ◌≢◌, ℕ, zero, suc, ◌-◌, ◌<◌, ◌≤◌, Bool, true, false, List, [], ◌∷◌, length, get_or, set, map, refl, sym, ◌∙◌, ap, arith}
 use Rattle.std.specs.Prelude.{cond}
 use Rattle.std.proofs.lemmas.List.{map-append, length-set, same_lists, get_or-set_same, get_or-set_other, get_or_append_left, get_or_at}
 use Rattle.std.proofs.lemmas.Bool.Decides.{nat_tests}
 use Rattle.spool_history.specs.Base.{Base}
 use Rattle.spool_history.specs.Events.{Event, Sheet, Turn}
-use Rattle.spool_history.specs.Events.Turn.{Handed, Printed, Failed}
+use Rattle.spool_history.specs.Events.Turn.{Handed}
 use Rattle.spool_history.specs.Events.Event.{AtPrinter, Started}
 use Rattle.config_values.specs.Config.{Config, printer_count, queue_of}
 use Rattle.spool_history.specs.Now.{Printer, now, printer_of, up_to}

@@ -1,7 +1,6 @@
 -- How long a page is put off: an event by which no page comes back and no job becomes whole or ends only takes.
 use Rattle.std.proofs.Common.{◌⊎◌, inl, inr, ◌≡◌, ◌==◌, ℕ, zero, suc, ◌+◌, ◌-◌, ◌<◌, ◌≤◌, Bool, true, false, List, [], ◌∷◌, ◌++◌, length, get_or, map, refl, sym, ◌∙◌, ap, subst, arith}
-use Rattle.std.specs.Prelude.{◌&&◌, ◌||◌, not, cond, filter, is_some}
-use Rattle.std.specs.List.{list_any, list_all}
+use Rattle.std.specs.Prelude.{◌&&◌, ◌||◌, not, cond, is_some}
 use Rattle.std.proofs.lemmas.Bool.Decides.{nat_tests}
 use Rattle.std.proofs.lemmas.List.{append-nil, map-append, map-id}
 use Rattle.lpd_values.specs.Contents.{Contents}
@@ -12,13 +11,13 @@ use Rattle.claims.proofs.Orders.{safe_more, safe_without}
 use Rattle.claims.proofs.Lowered.{holds, holds_sum, holds_append}
 use Rattle.spool_history.specs.Base.{Base}
 use Rattle.spool_history.specs.Events.{Act, Event}
-use Rattle.spool_history.specs.Events.Act.{Granted, Began, Put, FileEnded, Controlled, Aborted}
-use Rattle.spool_history.specs.Events.Turn.{Handed, Printed, Failed}
-use Rattle.spool_history.specs.Events.Event.{Opened, OfJob, AtPrinter, Removed, Started, Closed}
+use Rattle.spool_history.specs.Events.Act.{Granted, Began, Put, FileEnded, Controlled}
+use Rattle.spool_history.specs.Events.Turn.{Handed}
+use Rattle.spool_history.specs.Events.Event.{Opened, OfJob, AtPrinter, Started}
 use Rattle.config_values.specs.Config.{Config, limit_of}
 use Rattle.spool_history.specs.Acts.{File, at_last, is_open_in, is_whole, new_file}
-use Rattle.spool_history.specs.Said.{Opening, openings}
-use Rattle.spool_history.specs.Now.{Job, State, now, job_of, is_held, is_received, amounts, row_of, capacity, free_amount, pages_held, printers_held, pages_needed, printers_needed, IsSafeNow, up_to}
+use Rattle.spool_history.specs.Said.{openings}
+use Rattle.spool_history.specs.Now.{Job, State, now, is_held, is_received, amounts, row_of, capacity, pages_held, printers_held, pages_needed, printers_needed, up_to}
 use Rattle.spool_history.specs.Steps.{acted, change, accepted_by, after}
 use Rattle.spool_history.specs.Legal.{HasJob, IsLegal, JobMay, May, MayGrant}
 use Rattle.spool_laws.specs.PutOff.{NoneMayHelp, may_help}

@@ -1,5 +1,5 @@
 -- The entries of a history are within the reserves of its accepted jobs, and one.
-use Rattle.std.proofs.Common.{inl, inr, ◌≡◌, ◌==◌, ◌≢◌, ℕ, suc, ◌+◌, ◌<◌, ◌≤◌, Bool, true, false, List, [], ◌∷◌, length, refl, sym, ◌∙◌, ap, arith}
+use Rattle.std.proofs.Common.{inl, inr, ◌≡◌, ◌==◌, ◌≢◌, ℕ, ◌+◌, ◌<◌, ◌≤◌, Bool, true, false, List, [], ◌∷◌, length, refl, sym, ◌∙◌, ap, arith}
 use Rattle.std.specs.Prelude.{◌&&◌, cond, sum_by}
 use Rattle.std.specs.List.{list_any, AllByRecursion}
 use Rattle.std.proofs.lemmas.List.Sums.{sum_by_push}
@@ -8,7 +8,7 @@ use Rattle.spool_history.specs.Events.{Act, Event, Sheet, Turn}
 use Rattle.spool_history.specs.Events.Turn.{Handed, Printed, Failed}
 use Rattle.spool_history.specs.Events.Event.{Opened, OfJob, AtPrinter, Removed, Started, Closed}
 use Rattle.config_values.specs.Config.{Config, printer_count, queue_of, reserve_of}
-use Rattle.spool_history.specs.Said.{Opening, openings, acts_of, is_handed, is_failed, is_stopped_at, is_closed}
+use Rattle.spool_history.specs.Said.{Opening, openings, is_failed, is_stopped_at, is_closed}
 use Rattle.spool_history.specs.Now.{Job, Printer, now, up_to}
 use Rattle.spool_history.specs.Legal.{HasJob, IsLegal, May}
 use Rattle.spool_laws.specs.Reserve.{CountsStops}
@@ -17,7 +17,7 @@ use Rattle.spool_laws.proofs.Printers.{at_printer}
 use Rattle.spool_laws.proofs.Facts.{facts, is_out, turn_of_page, handed_at, handed_more, handed_same, count_one, acts_here, acts_other, back_same, back_more, back_one}
 use Rattle.spool_laws.proofs.Counts.{one_if, one_le}
 use Rattle.spool_laws.proofs.Adding.{sum_less, sum_more, sum_same, up_less, up_one, has_left, has_up_to}
-use Rattle.spool_laws.proofs.Told.{failed_of, removed_of, used, failed_one, reserved}
+use Rattle.spool_laws.proofs.Told.{failed_of, used, failed_one, reserved}
 use Rattle.std.proofs.lemmas.Bool.{cases_Bool}
 
 -- a job of which a page was handed was accepted

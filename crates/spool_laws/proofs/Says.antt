@@ -5,8 +5,8 @@ use Rattle.std.proofs.lemmas.Bool.Decides.{nat_tests}
 use Rattle.spool_history.specs.Base.{Base}
 use Rattle.spool_history.specs.Events.{Event, Sheet, Progress}
 use Rattle.spool_history.specs.Events.Progress.{Going, Done, Ended}
-use Rattle.spool_history.specs.Events.Turn.{Handed, Printed, Failed}
-use Rattle.spool_history.specs.Events.Event.{Opened, OfJob, AtPrinter, Removed, Started, Closed}
+use Rattle.spool_history.specs.Events.Turn.{Printed}
+use Rattle.spool_history.specs.Events.Event.{AtPrinter}
 use Rattle.config_values.specs.Config.{Config}
 use Rattle.spool_history.specs.Said.{back_of, has_ended}
 use Rattle.spool_history.specs.Now.{Job, now}

@@ -6,7 +6,7 @@ use Rattle.std.proofs.lemmas.Bool.Decides.{nat_tests}
 use Rattle.std.proofs.lemmas.Bool.{and_parts, not-true}
 use Rattle.spool_history.specs.Base.{Base}
 use Rattle.spool_history.specs.Events.{Act, Event, Sheet, Turn}
-use Rattle.spool_history.specs.Events.Act.{Granted, Began, Put, FileEnded, Controlled, Aborted}
+use Rattle.spool_history.specs.Events.Act.{Granted, Put, FileEnded, Controlled, Aborted}
 use Rattle.spool_history.specs.Events.Progress.{Going, Done, Ended}
 use Rattle.spool_history.specs.Events.Turn.{Handed, Printed, Failed}
 use Rattle.spool_history.specs.Events.Event.{Opened, OfJob, AtPrinter, Removed, Started, Closed}

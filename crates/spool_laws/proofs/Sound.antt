@@ -1,14 +1,13 @@
 -- What holds of each accepted job, and what each event makes of the row of a held one.
-use Rattle.std.proofs.Common.{inl, inr, ◌≡◌, ◌==◌, ℕ, zero, suc, ◌+◌, ◌-◌, ◌*◌, ◌<◌, ◌≤◌, Bool, true, false, List, [], ◌∷◌, length, get_or, map, take, refl, sym, ◌∙◌, ap, subst, arith}
-use Rattle.std.specs.Prelude.{cond, nat_lt}
-use Rattle.std.proofs.lemmas.Bool.Decides.{nat_tests}
+use Rattle.std.proofs.Common.{inl, inr, ◌≡◌, ◌==◌, ℕ, zero, suc, ◌+◌, ◌-◌, ◌*◌, ◌≤◌, Bool, true, false, List, [], ◌∷◌, length, get_or, map, take, refl, sym, ◌∙◌, ap, subst, arith}
+use Rattle.std.specs.Prelude.{cond}
 use Rattle.std.specs.List.{list_any}
 use Rattle.counts.specs.Amounts.{amount}
 use Rattle.spool_history.specs.Base.{Base}
 use Rattle.spool_history.specs.Events.{Act, Event, Sheet, Turn}
-use Rattle.spool_history.specs.Events.Act.{Granted, Began, Put, FileEnded, Controlled, Aborted}
-use Rattle.spool_history.specs.Events.Progress.{Going, Done, Ended}
-use Rattle.spool_history.specs.Events.Turn.{Handed, Printed, Failed}
+use Rattle.spool_history.specs.Events.Act.{Granted, Aborted}
+use Rattle.spool_history.specs.Events.Progress.{Going, Ended}
+use Rattle.spool_history.specs.Events.Turn.{Handed, Printed}
 use Rattle.spool_history.specs.Events.Event.{Opened, OfJob, AtPrinter, Removed, Started, Closed}
 use Rattle.config_values.specs.Config.{Config, limit_of}
 use Rattle.spool_history.specs.Acts.{Page, granted_by, files_by}

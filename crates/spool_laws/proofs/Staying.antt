@@ -1,6 +1,6 @@
 -- A spool stays safe.
-use Rattle.std.proofs.Common.{inl, inr, ◌≡◌, ◌==◌, ◌≢◌, ℕ, zero, suc, ◌+◌, ◌-◌, ◌<◌, ◌≤◌, Bool, true, false, List, [], ◌∷◌, ◌++◌, length, get_or, map, refl, sym, ◌∙◌, ap, subst, arith}
-use Rattle.std.specs.Prelude.{◌&&◌, ◌||◌, not, cond, filter, nat_lt, Some, IsTrue, slice_index_or}
+use Rattle.std.proofs.Common.{inl, inr, ◌≡◌, ◌==◌, ◌≢◌, ℕ, zero, suc, ◌+◌, ◌-◌, ◌<◌, ◌≤◌, true, false, List, [], ◌∷◌, ◌++◌, length, get_or, map, refl, sym, ◌∙◌, ap, subst, arith}
+use Rattle.std.specs.Prelude.{cond, slice_index_or}
 use Rattle.std.specs.List.{AllByRecursion}
 use Rattle.std.proofs.lemmas.Bool.Decides.{nat_tests}
 use Rattle.std.proofs.lemmas.List.{append-nil, map-append}
@@ -8,12 +8,12 @@ use Rattle.counts.specs.Amounts.{amount}
 use Rattle.claims.specs.declared.row.Row.{Row}
 use Rattle.claims.specs.Safety.{freed, KeepsLine, same_line, HasFinishingOrder}
 use Rattle.claims.proofs.Orders.{MayGo, safe_more, safe_without, safe_first}
-use Rattle.std.proofs.lemmas.Bool.{and_parts}
+use Rattle.std.proofs.lemmas.Bool.{and_parts, cases_lt}
 use Rattle.spool_history.specs.Base.{Base}
 use Rattle.spool_history.specs.Events.{Event, Sheet}
-use Rattle.spool_history.specs.Events.Act.{Granted, Began, Put, FileEnded, Controlled, Aborted}
-use Rattle.spool_history.specs.Events.Turn.{Handed, Printed, Failed}
-use Rattle.spool_history.specs.Events.Event.{Opened, OfJob, AtPrinter, Removed, Started, Closed}
+use Rattle.spool_history.specs.Events.Act.{Granted}
+use Rattle.spool_history.specs.Events.Turn.{Handed}
+use Rattle.spool_history.specs.Events.Event.{Opened, OfJob, AtPrinter}
 use Rattle.config_values.specs.Config.{IsQueue, Config, limit_of, queue_at, no_queue}
 use Rattle.spool_history.specs.Said.{Opening, openings}
 use Rattle.spool_history.specs.Now.{Job, State, now, job_of, is_held, is_received, amounts, row_of, capacity, free_amount, pages_held, printers_held, pages_needed, printers_needed, IsSafeNow, up_to}
@@ -32,7 +32,6 @@ use Rattle.spool_laws.proofs.Busy.{rising_jobs, received_if}
 use Rattle.spool_laws.proofs.Enough.{rows, printers_small, get_printers, kind_within}
 use Rattle.spool_laws.proofs.Sound.{amount_le, is_quiet, lowers_all}
 use Rattle.spool_laws.proofs.Joined.{contained}
-use Rattle.std.proofs.lemmas.Bool.{cases_lt}
 
 abbrev pub free : {C : Type 0} → Config → List (Job C) → ℕ → ℕ
 free c jobs k = amount (capacity c) k - holds k (rows c jobs)

@@ -5,7 +5,7 @@ use Rattle.counts.specs.Amounts.{amount}
 use Rattle.claims.specs.declared.row.Row.{Row}
 use Rattle.claims.specs.Claims.{Pairwise}
 use Rattle.claims.specs.Safety.{freed, CanFinish, KeepsLine, IsOrderOf, HasFinishingOrder}
-use Rattle.claims.proofs.Lowered.{holds, holds_append, holds_order as held_in_order}
+use Rattle.claims.proofs.Lowered.{holds, holds_order as held_in_order}
 
 -- the second is of the same job and holds no less, and with what it may still need it asks for no less
 pub record Took (x y : Row) : Type 0 where

@@ -1,19 +1,19 @@
 -- How often each thing may be told of a job.
-use Rattle.std.proofs.Common.{inl, inr, ◌≡◌, ◌==◌, ◌≢◌, ℕ, ◌+◌, ◌<◌, ◌≤◌, Bool, true, false, List, [], ◌∷◌, length, refl, sym, ◌∙◌, ap, subst, arith}
+use Rattle.std.proofs.Common.{inl, inr, ◌≡◌, ◌==◌, ℕ, ◌+◌, ◌<◌, ◌≤◌, true, false, List, [], ◌∷◌, length, refl, sym, ◌∙◌, ap, subst, arith}
 use Rattle.std.specs.Prelude.{◌&&◌, if◌then◌else◌}
 use Rattle.std.specs.List.{list_any, AllByRecursion}
 use Rattle.spool_history.specs.Base.{Base}
-use Rattle.spool_history.specs.Events.{Act, Event, Sheet, Turn, Progress}
+use Rattle.spool_history.specs.Events.{Act, Event, Sheet, Turn}
 use Rattle.spool_history.specs.Events.Act.{Granted, Began, Put, FileEnded, Controlled, Aborted}
 use Rattle.spool_history.specs.Events.Turn.{Handed, Printed, Failed}
-use Rattle.spool_history.specs.Events.Event.{Opened, OfJob, AtPrinter, Removed, Started, Closed}
+use Rattle.spool_history.specs.Events.Event.{Opened, OfJob, AtPrinter, Removed}
 use Rattle.config_values.specs.Config.{Config, limit_of, reserve_of}
 use Rattle.spool_history.specs.Acts.{granted_by, files_by}
 use Rattle.spool_history.specs.Said.{Opening, openings, acts_of, ends_by_turn, is_failed, is_handed, back_of, has_ended}
 use Rattle.spool_history.specs.Now.{Job, now}
 use Rattle.spool_history.specs.Legal.{HasJob, IsLegal, May}
 use Rattle.spool_laws.proofs.Known.{Has, At, has_at, has_last, test, clash}
-use Rattle.spool_laws.proofs.Facts.{Facts, facts, last, is_out, Turn', turn_of_page, handed_at, handed_more, handed_same, acts_other, acts_here, ended_aborted, back_same, back_more, back_one}
+use Rattle.spool_laws.proofs.Facts.{Facts, facts, last, is_out, turn_of_page, handed_at, handed_same, acts_other, acts_here, ended_aborted, back_one}
 use Rattle.spool_laws.proofs.Whole.{still_ended}
 use Rattle.spool_laws.proofs.Counts.{none_by, Fits, fits_none, fits_later, fits_granted, fits_began, fits_put, fits_ended, fits_controlled, fits_aborted, all_counted, began_files, count_le}
 use Rattle.spool_laws.proofs.Sound.{sound}

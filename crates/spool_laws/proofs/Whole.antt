@@ -4,10 +4,10 @@ use Rattle.std.proofs.Math.Seq.{take-length}
 use Rattle.std.proofs.lemmas.Bool.{or_right}
 use Rattle.spool_history.specs.Base.{Base}
 use Rattle.spool_history.specs.Events.{Act, Event, Sheet, Turn}
-use Rattle.spool_history.specs.Events.Act.{Granted, Began, Put, FileEnded, Controlled, Aborted}
-use Rattle.spool_history.specs.Events.Progress.{Going, Done, Ended}
-use Rattle.spool_history.specs.Events.Turn.{Handed, Printed, Failed}
-use Rattle.spool_history.specs.Events.Event.{Opened, OfJob, AtPrinter, Removed, Started, Closed}
+use Rattle.spool_history.specs.Events.Act.{Granted, Aborted}
+use Rattle.spool_history.specs.Events.Progress.{Done}
+use Rattle.spool_history.specs.Events.Turn.{Handed, Printed}
+use Rattle.spool_history.specs.Events.Event.{OfJob, AtPrinter, Removed, Closed}
 use Rattle.config_values.specs.Config.{Config}
 use Rattle.spool_history.specs.Said.{handed_of, is_handed, has_ended, ends, is_done}
 use Rattle.spool_history.specs.Now.{now}
