@@ -116,7 +116,8 @@ pub fits_later : {C : Type 0} (a : List (Act C)) (b d : Bool) → (b ≡ true �
 fits_later a b d up f = record { puts = f.puts; files = f.files; ended = f.ended; control = f.control; aborted = f.aborted; after = λ p. (up (f.after p).0, (f.after p).1) }
 
 -- an act of a job that goes on, which doesn't abort it
-fits_going : {C : Type 0} (act : Act C) (a : List (Act C)) (b d : Bool) → Fits a b → b ≡ false → aborted_in (act ∷ a) ≡ aborted_in a → put_in (act ∷ a) + one_if (is_lent_by (act ∷ a)) ≤ granted_by (act ∷ a)
+fits_going : {C : Type 0} (act : Act C) (a : List (Act C)) (b d : Bool) → Fits a b → b ≡ false → aborted_in (act ∷ a) ≡ aborted_in a
+    → put_in (act ∷ a) + one_if (is_lent_by (act ∷ a)) ≤ granted_by (act ∷ a)
     → length (files_by (act ∷ a)) ≤ 52 → ended_in (act ∷ a) ≤ ended_count (files_by (act ∷ a)) → controlled_in (act ∷ a) ≤ 1 → Fits (act ∷ a) d
 fits_going act a b d f e is puts files ended control =
     record { puts = puts; files = files; ended = ended; control = control; aborted = omega (arith, is, f.aborted); after = λ p. absurd (clash b (f.after (omega (arith, is))).0 e) }

@@ -75,7 +75,8 @@ printers_counted {C} size c base h i l =
     (let k = known c base h v has in
     subst (λ (u : Job C). Place (Tied h) (serves 1 c.queues (1 + i)) (printer_count c) u.number) (sym k.is)
     (place_at size c base h i l k.opening k.there (subst (λ (u : Job C). is_held u ≡ true) k.is k.held) (subst (λ (u : Job C). 0 < weight i u) k.is pos))) in
-    let b = pigeons (Tied h) (λ p j k x y. some_same j k (sym x ∙ y)) (weight i) (λ (v : Job C). v.number) (printer_count c) (serves 1 c.queues (1 + i)) jobs (weight_small i) (rising_jobs size c base h l) place in
+    let b = pigeons (Tied h) (λ p j k x y. some_same j k (sym x ∙ y)) (weight i) (λ (v : Job C). v.number) (printer_count c) (serves 1 c.queues (1 + i)) jobs
+    (weight_small i) (rising_jobs size c base h l) place in
     let d = served_total 1 c.queues i (omega arith) in
     omega arith
 

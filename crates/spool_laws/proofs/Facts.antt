@@ -116,7 +116,8 @@ facts_still h e is f acts ended begun = record {
   alone = f.alone;
 }
 
-facts_act : {C : Type 0} {base : Base} (h : List (Event C)) (k : ℕ) (act : Act C) → Facts base h → IsNumber base h k → (received_at (OfJob k act ∷ h) k ≡ false → received_at h k ≡ false) → Facts base (OfJob k act ∷ h)
+facts_act : {C : Type 0} {base : Base} (h : List (Event C)) (k : ℕ) (act : Act C) → Facts base h → IsNumber base h k → (received_at (OfJob k act ∷ h) k ≡ false → received_at h k ≡ false)
+    → Facts base (OfJob k act ∷ h)
 facts_act {base = base} h k act f is before = facts_still h (OfJob k act) refl f (λ j other. acts_other h k act j (other_number base h k j is other))
     (λ j other open' e. ended_other h k act j (other_number base h k j is other) e) (begun_act h k act f before)
 

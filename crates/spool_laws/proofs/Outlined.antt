@@ -134,4 +134,5 @@ jobs_in f e v =
 -- the step of an event
 pub after_in : {A B : Type 0} (f : A → B) (e : Event A) (v : State A) → after (outline_event f e) (state_in f v) ≡ state_in f (after e v)
 after_in f e v =
-    all_same v.config _ _ _ _ _ _ _ _ _ _ (jobs_in f e v) (ap (λ n. v.accepted + n) (accepted_count f e)) (ap (λ n. v.reserved + n) (accepted_reserve f v.config e)) (printers_in f e v) (closed_in f e v.closed)
+    all_same v.config _ _ _ _ _ _ _ _ _ _ (jobs_in f e v) (ap (λ n. v.accepted + n) (accepted_count f e)) (ap (λ n. v.reserved + n) (accepted_reserve f v.config e))
+    (printers_in f e v) (closed_in f e v.closed)

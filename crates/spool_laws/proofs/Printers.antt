@@ -39,7 +39,8 @@ pub at_printer : {C : Type 0} (c : Config) (base : Base) (h : List (Event C)) (p
 at_printer c base h zero one le = absurd (omega arith)
 at_printer c base h (suc p) one le = get_up_to (printer_of c base h) (printer_count c) p no_printer le
 
-turned_other : {C : Type 0} (c : Config) (base : Base) (h : List (Event C)) (p : ℕ) (sheet : Sheet C) (turn : Turn) (q : ℕ) → q ≢ p → printer_of c base (AtPrinter p sheet turn ∷ h) q ≡ printer_of c base h q
+turned_other : {C : Type 0} (c : Config) (base : Base) (h : List (Event C)) (p : ℕ) (sheet : Sheet C) (turn : Turn) (q : ℕ) → q ≢ p
+    → printer_of c base (AtPrinter p sheet turn ∷ h) q ≡ printer_of c base h q
 turned_other c base h p sheet turn q ne = elim (test p q) [ inl s ↦ absurd (ne (sym s.0)) | inr s ↦ rw s.1 refl ]
 
 turned_here : {C : Type 0} (c : Config) (base : Base) (h : List (Event C)) (p : ℕ) (sheet : Sheet C) (turn : Turn) (b : Bool) → (p == p) ≡ b → printer_of c base (AtPrinter p sheet turn ∷ h) p ≡ printer_turned sheet turn (printer_of c base h p)

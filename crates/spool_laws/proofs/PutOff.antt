@@ -273,7 +273,8 @@ granted_before {C} size c base h e j quiet l g =
     let plain : AllTook (rows c (map (λ (u : Job C). u) us)) (rows c vs) = all_took c (λ (u : Job C). u) (change e) us each in
     let plain' : AllTook (rows c us) (rows c vs) = subst (λ (r : List (Job C)). AllTook (rows c r) (rows c vs)) (map-id us) plain in
     let lent : AllTook (rows c (map (grant j) us)) (rows c (map (λ (u : Job C). grant j (change e u)) us)) = all_took c (grant j) (λ (u : Job C). grant j (change e u)) us (λ u has. takes_granted j u (change e u) (each u has)) in
-    let lent' : AllTook (rows c (map (grant j) us)) (rows c (map (grant j) vs)) = subst (λ (r : List (Job C)). AllTook (rows c (map (grant j) us)) (rows c r)) (map_twice (change e) (grant j) (λ (u : Job C). grant j (change e u)) us (λ u. refl)) lent in
+    let lent' : AllTook (rows c (map (grant j) us)) (rows c (map (grant j) vs)) =
+    subst (λ (r : List (Job C)). AllTook (rows c (map (grant j) us)) (rows c r)) (map_twice (change e) (grant j) (λ (u : Job C). grant j (change e u)) us (λ u. refl)) lent in
     let s0 = holds_sum 0 (rows c us) in
     let s1 = holds_sum 0 (rows c ws) in
     let h0 : holds 0 (rows c ws) ≡ holds 0 (rows c vs) + holds 0 (rows c new) = ap (λ (r : List (Job C)). holds 0 (rows c r)) is ∙ (ap (holds 0) (map-append (row_of c) vs new) ∙ holds_append 0 (rows c vs) (rows c new)) in

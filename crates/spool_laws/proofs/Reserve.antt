@@ -52,7 +52,8 @@ failed_less : {C : Type 0} (h : List (Event C)) (p : ℕ) (sheet : Sheet C) (tur
 failed_less h p sheet turn j = elim (cases_Bool ((sheet.job == j) && is_failed turn)) [ inl e ↦ rw e (omega arith) | inr e ↦ rw e (omega arith) ]
 
 -- a turn of a printer tells no less of any job, and one thing more of its own
-turn_used : {C : Type 0} (h : List (Event C)) (p : ℕ) (sheet : Sheet C) (turn : Turn) (j : ℕ) → (used h j ≤ used (AtPrinter p sheet turn ∷ h) j) × (sheet.job ≡ j → used h j + 1 ≤ used (AtPrinter p sheet turn ∷ h) j)
+turn_used : {C : Type 0} (h : List (Event C)) (p : ℕ) (sheet : Sheet C) (turn : Turn) (j : ℕ)
+    → (used h j ≤ used (AtPrinter p sheet turn ∷ h) j) × (sheet.job ≡ j → used h j + 1 ≤ used (AtPrinter p sheet turn ∷ h) j)
 turn_used h p sheet Handed j =
     let b = back_same h p sheet j in
     let f = failed_less h p sheet Handed j in
@@ -119,7 +120,8 @@ opened_told {C} c base h k s q t =
     let x : Opening = record { job = k; sender = s; queue = q } in
     omega (arith, sum_by_push (used_by (e ∷ h)) (openings h) x, sum_less (used_by h) (used_by (e ∷ h)) (openings h) (λ o has. omega arith))
 
-turn_told : {C : Type 0} (c : Config) (base : Base) (h : List (Event C)) (p : ℕ) (sheet : Sheet C) (turn : Turn) (o : Opening) → Has o (openings h) → sheet.job ≡ o.job → is_failed turn ≡ false → Told' c base h → Told' c base (AtPrinter p sheet turn ∷ h)
+turn_told : {C : Type 0} (c : Config) (base : Base) (h : List (Event C)) (p : ℕ) (sheet : Sheet C) (turn : Turn) (o : Opening) → Has o (openings h) → sheet.job ≡ o.job → is_failed turn ≡ false
+    → Told' c base h → Told' c base (AtPrinter p sheet turn ∷ h)
 turn_told c base h p sheet turn o has same is t =
     let s = sum_more (used_by h) (used_by (AtPrinter p sheet turn ∷ h)) 1 o (openings h) has (λ x. (turn_used h p sheet turn x.job).0) ((turn_used h p sheet turn o.job).1 same) in
     omega (arith, up_less (stop c base h) (stop c base (AtPrinter p sheet turn ∷ h)) (printer_count c) (λ q. stop_same c base h p sheet turn q is))

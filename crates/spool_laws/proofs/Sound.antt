@@ -202,7 +202,8 @@ is_quiet e = true
 pub lowers_all : {C : Type 0} (size : C → ℕ) (c : Config) (base : Base) (h : List (Event C)) (e : Event C) → is_quiet e ≡ true → IsLegal size c base h → May size (now c base h) e → LowersAll c base h e
 lowers_all size c base h (Opened k s q) is l m = absurd (clash false is refl)
 lowers_all size c base h (OfJob k Granted) is l m = absurd (clash false is refl)
-lowers_all size c base h (OfJob k Aborted) is l m = lowers_act size c base h k Aborted l m (λ o has e s. lower_ended c (job_of h o) (acted Aborted (job_of h o)) (sound size c base h l o) (omega arith) refl refl refl refl refl)
+lowers_all size c base h (OfJob k Aborted) is l m = lowers_act size c base h k Aborted l m (λ o has e s.
+    lower_ended c (job_of h o) (acted Aborted (job_of h o)) (sound size c base h l o) (omega arith) refl refl refl refl refl)
 lowers_all size c base h (OfJob k act) is l m = lowers_act size c base h k act l m (λ o has e s.
     (let a = at_is h k _ o (facts size c base h l) (has_at c base h k _ m.0) has e in lower_receiving c (job_of h o) (acted act (job_of h o)) a.0.0 a.0.1 s refl refl refl refl refl refl))
 lowers_all size c base h (AtPrinter p sheet Handed) is l m = absurd (clash false is refl)

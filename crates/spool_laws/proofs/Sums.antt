@@ -202,7 +202,8 @@ sum_opened base h k s q f none =
     ap (λ (i : ℕ). sum_by f (up_to i)) m ∙ omega (arith, sum_by_push f (up_to (last base h)) (suc (last base h)))
 
 -- where no job holds more than before, they all hold no more
-less : {C : Type 0} (c : Config) (base : Base) (h : List (Event C)) (e : Event C) → last base (e ∷ h) ≡ last base h → weights base h ≤ c.pages → ((j : ℕ) → weight_at (e ∷ h) j ≤ weight_at h j) → weights base (e ∷ h) ≤ c.pages
+less : {C : Type 0} (c : Config) (base : Base) (h : List (Event C)) (e : Event C) → last base (e ∷ h) ≡ last base h → weights base h ≤ c.pages → ((j : ℕ) → weight_at (e ∷ h) j ≤ weight_at h j)
+    → weights base (e ∷ h) ≤ c.pages
 less c base h e same w le = omega (arith, ap (λ (n : ℕ). sum_by (weight_at (e ∷ h)) (up_to n)) same, up_less (weight_at h) (weight_at (e ∷ h)) (last base h) le)
 
 step_weights : {C : Type 0} (size : C → ℕ) (c : Config) (base : Base) (h : List (Event C)) (e : Event C) → IsLegal size c base h → May size (now c base h) e → weights base h ≤ c.pages → weights base (e ∷ h) ≤ c.pages
@@ -211,7 +212,13 @@ step_weights size c base h (Opened k s q) l m w =
 step_weights size c base h (OfJob k Granted) l m w =
     let a = has_at c base h k _ m.0 in
     let one = act_granted size c base h k Granted 1 (m, l) refl refl a.is.0.0.0 a.is.0.0.1 in
-    omega (arith, m.1.0, free_rest c base h, held_weights size c base h l, up_one (weight_at h) (weight_at (OfJob k Granted ∷ h)) k (last base h) (λ j ne. omega (arith, other_act h k Granted j (λ x. ne (sym x)))) one)
+    omega (
+      arith,
+      m.1.0,
+      free_rest c base h,
+      held_weights size c base h l,
+      up_one (weight_at h) (weight_at (OfJob k Granted ∷ h)) k (last base h) (λ j ne. omega (arith, other_act h k Granted j (λ x. ne (sym x)))) one,
+    )
 step_weights size c base h (OfJob k Aborted) l m w =
     let v = job_of h (numbered k) in
     less c base h (OfJob k Aborted) refl w (act_less h k Aborted (omega (arith, aborted_here h k, abort_less v, ending v (sound size c base h l (numbered k)))))

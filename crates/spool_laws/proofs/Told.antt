@@ -80,7 +80,8 @@ told_turn h p sheet turn j none out u = elim (test sheet.job j) [
 ]
 
 -- and where the page comes back
-told_back : {C : Type 0} (h : List (Event C)) (p : ℕ) (sheet : Sheet C) (turn : Turn) → is_handed turn ≡ false → handed_at h sheet.job ≡ back_of h sheet.job + 1 → ((j : ℕ) → Told h j) → (j : ℕ) → Told (AtPrinter p sheet turn ∷ h) j
+told_back : {C : Type 0} (h : List (Event C)) (p : ℕ) (sheet : Sheet C) (turn : Turn) → is_handed turn ≡ false → handed_at h sheet.job ≡ back_of h sheet.job + 1 → ((j : ℕ) → Told h j) → (j : ℕ)
+    → Told (AtPrinter p sheet turn ∷ h) j
 told_back h p sheet turn is out t j =
     let here : sheet.job ≡ j → handed_at h j ≡ back_of h j + 1 = λ same. subst (λ (i : ℕ). handed_at h i ≡ back_of h i + 1) same out in
     told_turn h p sheet turn j (λ same. none_by (failed_of h j) (λ q. omega (arith, ((t j).after q).1, here same)))
@@ -127,7 +128,8 @@ told_step size c base h (OfJob k Aborted) l m t =
     told_act h k Aborted (fits_aborted (acts_of h k) (has_ended h k) _ (t k).acts (elim a.is [ inl x ↦ inl x.0 | inr x ↦ inr x.1 ]) (ended_aborted h k)) t
 told_step size c base h (AtPrinter p sheet Handed) l m t = λ j.
     (let going = (turn_of_page c base h p sheet m.0.0 m.0.1 m.1).at.is.goes_on in
-    told_turn h p sheet Handed j (λ same. none_by (failed_of h j) (λ q. clash (has_ended h j) ((t j).after q).0 (subst (λ (i : ℕ). has_ended h i ≡ false) same going))) (λ same f. absurd (clash false f refl)) (t j))
+    told_turn h p sheet Handed j (λ same. none_by (failed_of h j) (λ q. clash (has_ended h j) ((t j).after q).0 (subst (λ (i : ℕ). has_ended h i ≡ false) same going)))
+    (λ same f. absurd (clash false f refl)) (t j))
 told_step size c base h (AtPrinter p sheet (Printed x)) l m t = told_back h p sheet (Printed x) refl ((facts size c base h l).out p sheet (is_out c base h p sheet m.0 m.1.0)).1 t
 told_step size c base h (AtPrinter p sheet Failed) l m t = told_back h p sheet Failed refl ((facts size c base h l).out p sheet (is_out c base h p sheet m.0 m.1)).1 t
 told_step size c base h (Removed q jobs) l m t = λ j. told_removed h q jobs j (named_going c base h _ j jobs (λ v x. x.2) m.4) (t j)
