@@ -1,35 +1,27 @@
 -- The last of some files, and one of some jobs.
 use Rattle.std.proofs.Common.{◌≡◌, ℕ, zero, suc, ◌<◌, ◌↔◌, Bool, true, false, List, [], ◌∷◌, ◌++◌, length, get_or, refl, sym, ◌∙◌, ap, subst, arith, map, not, ◌||◌, ◌&&◌}
-use Rattle.std.specs.Prelude.{Some}
+use Rattle.std.specs.Prelude.{IsTrue, Some}
 use Rattle.std.specs.List.{list_all}
 use Rattle.lpd_values.specs.Kept.{is_among}
 use Rattle.lpd_values.specs.Contents.{Contents}
-use Rattle.std.proofs.lemmas.List.{map-append, length-map}
+use Rattle.std.proofs.lemmas.List.{map-append, length-map, same_from_push}
 use Rattle.spool_history.specs.Acts as A
 use Rattle.spool_history.specs.Now.{Job}
 use Rattle.spool_history.specs.Legal.{HasJob, HasOpen}
 use Rattle.account.specs.declared.entry.Outline.{Outline}
 use Rattle.history_reader.specs.declared.state.File.{File}
-use Rattle.history_reader.specs.Seen.{file_seen}
-
-snoc_same : {X : Type 0} (a b : List X) (x y : X) → a ++ x ∷ [] ≡ b ++ y ∷ [] → (a ≡ b) × (x ≡ y)
-snoc_same [] [] x y e = (refl, cc)
-snoc_same [] (w ∷ []) x y e = absurd cc
-snoc_same [] (w ∷ v ∷ b) x y e = absurd cc
-snoc_same (w ∷ []) [] x y e = absurd cc
-snoc_same (w ∷ v ∷ a) [] x y e = absurd cc
-snoc_same (w ∷ a) (v ∷ b) x y e = let h = snoc_same a b x y cc in (cc (h.0), h.1)
+use Rattle.history_reader.specs.Seen.{file_seen, job_seen}
+use Rattle.history_reader.specs.declared.state.Job as R
 
 seen_last : (fs before : List File) (last : File) → fs ≡ before ++ last ∷ [] → map file_seen fs ≡ map file_seen before ++ file_seen last ∷ []
 seen_last fs before last e = ap (λ (r : List File). map file_seen r) e ∙ map-append file_seen before (last ∷ [])
 
-pub open_last : (fs before : List File) (last : File) (n : ℕ) (P : A.File Outline → Type 0) → fs ≡ before ++ last ∷ [] → HasOpen (map file_seen fs) n P → (length before ≡ n) × (last.ended ≡ false) × P (file_seen last)
-open_last fs before last n P e h =
-    let s = snoc_same (map file_seen before) h.0 (file_seen last) h.1 (sym (seen_last fs before last e) ∙ h.2) in
-    (sym (length-map before file_seen) ∙ (ap length s.0 ∙ h.3), ap (λ (f : A.File Outline). f.ended) s.1 ∙ h.4, subst P (sym s.1) h.5)
-
-pub last_open : (fs before : List File) (last : File) (n : ℕ) (P : A.File Outline → Type 0) → fs ≡ before ++ last ∷ [] → length before ≡ n → last.ended ≡ false → P (file_seen last) → HasOpen (map file_seen fs) n P
-last_open fs before last n P e l d p = (map file_seen before, file_seen last, seen_last fs before last e, length-map before file_seen ∙ l, d, p)
+-- a test of the last one tells whether it is open
+pub open_if : (fs before : List File) (last : File) (n : ℕ) (P : A.File Outline → Type 0) (b : Bool) → fs ≡ before ++ last ∷ [] → length before ≡ n → last.ended ≡ false → IsTrue b ↔ P (file_seen last) → IsTrue b ↔ HasOpen (map file_seen fs) n P
+open_if fs before last n P b e l d k = (
+  λ t. (map file_seen before, file_seen last, seen_last fs before last e, length-map before file_seen ∙ l, d, k.0 t),
+  λ h. k.1 (subst P (sym (same_from_push (map file_seen before) h.0 (file_seen last) h.1 (sym (seen_last fs before last e) ∙ h.2)).1) h.5),
+)
 
 pub open_but_last : (before : List (A.File Outline)) (last : A.File Outline) → A.is_open_in (A.at_last (λ f. record f { ended = true }) (before ++ last ∷ [])) ≡ A.is_open_in before
 open_but_last [] last = refl
@@ -65,3 +57,15 @@ one_of {C = C} job jobs j P fails h = from h.there.0 h.there.1 h.there.2
     from : (k : ℕ) → k < length (job ∷ jobs) → get_or (job ∷ jobs) k h.job ≡ h.job → HasJob jobs j P
     from zero l e = absurd (fails (ap (λ (x : Job C). x.number) e ∙ h.number) (subst P (sym e) h.is))
     from (suc k) l e = record { job = h.job; there = (k, omega arith, e); number = h.number; is = h.is }
+
+-- of jobs of which the first is such a one
+pub of_first : (jobs rest : List R.Job) (job : R.Job) (j : ℕ) (P : Job Outline → Type 0) → jobs ≡ job ∷ rest → job.number ≡ j → P (job_seen job) → IsTrue true ↔ HasJob (map job_seen jobs) j P
+of_first jobs rest job j P split n p =
+    (λ _. subst (λ (r : List R.Job). HasJob (map job_seen r) j P) (sym split) (one_here (job_seen job) (map job_seen rest) j P n p), λ _. refl)
+
+-- and of which it is not: whether one of the rest is
+pub of_rest : (jobs rest : List R.Job) (job : R.Job) (j : ℕ) (P : Job Outline → Type 0) → jobs ≡ job ∷ rest → (job.number ≡ j → P (job_seen job) → ⊥) → HasJob (map job_seen rest) j P ↔ HasJob (map job_seen jobs) j P
+of_rest jobs rest job j P split fails = (
+  λ e. subst (λ (r : List R.Job). HasJob (map job_seen r) j P) (sym split) (one_later (job_seen job) (map job_seen rest) j P e),
+  λ h. one_of (job_seen job) (map job_seen rest) j P fails (subst (λ (r : List R.Job). HasJob (map job_seen r) j P) split h),
+)

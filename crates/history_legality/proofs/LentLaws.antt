@@ -9,6 +9,7 @@ use Rattle.spool_history.specs.Now.{Job, row_of, is_held}
 use Rattle.spool_history.specs.Steps.{change, acted}
 use Rattle.history_legality.specs.declared.orders.Claim.{Claim}
 use Rattle.history_legality.specs.Claimed.{rows_seen, row_seen, with_lent}
+use Rattle.std.proofs.lemmas.Bool.{or_right}
 
 filter_yes : {A : Type 0} (p : A → Bool) (x : A) (xs : List A) → p x ≡ true → filter p (x ∷ xs) ≡ x ∷ filter p xs
 filter_yes {A} p x xs h = ap (λ (b : Bool). if b then x ∷ filter p xs else filter p xs) h
@@ -39,8 +40,4 @@ other_one n v h = ap (λ (b : Bool). if b then acted Granted v else v) h
 
 -- a job is held while a page is lent to it
 pub held_with_page : {C : Type 0} (granted : ℕ) (v : Job C) → is_held (with_lent granted true v) ≡ true
-held_with_page granted v = step v.ended
-  where
-    step : (b : Bool) → (not b || true) ≡ true
-    step true = refl
-    step false = refl
+held_with_page granted v = or_right (not v.ended) true refl

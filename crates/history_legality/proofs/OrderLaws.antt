@@ -75,17 +75,12 @@ back_more c f gone x k =
     let s = sum_by_push (λ (row : Row). amount row.held k) (rows_seen c gone) (row_seen c x) in
     omega (arith, m, s)
 
-pub order_more : (c : S.Config) (f : ℕ → ℕ) (gone : List Claim) (x : Claim) (rows : List Row) → HasFinishingOrder (freed (with_back c f gone) (row_seen c x)) rows ↔ HasFinishingOrder (with_back c f (gone ++ x ∷ [])) rows
-order_more c f gone x rows = (
-  safe_more (freed (with_back c f gone) (row_seen c x)) (with_back c f (gone ++ x ∷ [])) rows (λ k. omega (arith, back_more c f gone x k)),
-  safe_more (with_back c f (gone ++ x ∷ [])) (freed (with_back c f gone) (row_seen c x)) rows (λ k. omega (arith, back_more c f gone x k)),
-)
+-- two tellings of what is free
+pub order_same : (f g : ℕ → ℕ) (rows : List Row) → ((k : ℕ) → f k ≡ g k) → HasFinishingOrder f rows ↔ HasFinishingOrder g rows
+order_same f g rows e = (safe_more f g rows (λ k. omega (arith, e k)), safe_more g f rows (λ k. omega (arith, e k)))
 
-pub order_none : (c : S.Config) (f : ℕ → ℕ) (rows : List Row) → HasFinishingOrder f rows ↔ HasFinishingOrder (with_back c f []) rows
-order_none c f rows = (
-  safe_more f (with_back c f []) rows (λ k. omega arith),
-  safe_more (with_back c f []) f rows (λ k. omega arith),
-)
+pub order_more : (c : S.Config) (f : ℕ → ℕ) (gone : List Claim) (x : Claim) (rows : List Row) → HasFinishingOrder (freed (with_back c f gone) (row_seen c x)) rows ↔ HasFinishingOrder (with_back c f (gone ++ x ∷ [])) rows
+order_more c f gone x rows = order_same (freed (with_back c f gone) (row_seen c x)) (with_back c f (gone ++ x ∷ [])) rows (λ k. sym (back_more c f gone x k))
 
 -- a claim that goes first, where the others were found to have an order
 pub found : (c : S.Config) (f : ℕ → ℕ) (xs gone : List Claim) (k : ℕ) (others again more : List Claim) (x : Claim) (b1 b2 b3 : Bool) → k < length xs → others ≡ remove xs k → again ≡ remove xs k → x ≡ get_or xs k x
@@ -123,24 +118,6 @@ no_order_after c f xs gone k again more x b lt e ex em i isnt g =
     let rest : HasFinishingOrder (with_back c f (gone ++ x ∷ [])) (rows_seen c (remove xs k)) = (order_more c f gone x (rows_seen c (remove xs k))).0 back in
     absurd (cc (i.1 (subst (λ (r : List Claim). HasFinishingOrder (with_back c f r) (rows_seen c again)) (sym em) (subst (λ (r : List Claim). HasFinishingOrder (with_back c f (gone ++ x ∷ [])) (rows_seen c r)) (sym e) rest))))
 
--- two tellings of what is free
-pub order_same : (f g : ℕ → ℕ) (rows : List Row) → ((k : ℕ) → f k ≡ g k) → HasFinishingOrder f rows ↔ HasFinishingOrder g rows
-order_same f g rows e = (safe_more f g rows (λ k. omega (arith, e k)), safe_more g f rows (λ k. omega (arith, e k)))
-
-pub if_ok_more : {T E : Type 0} (r : Result T E) (P Q : T → Type 0) → ((x : T) → P x → Q x) → IfOk r P → IfOk r Q
-if_ok_more (Ok x) P Q f h = f x h
-if_ok_more (Err e) P Q f h = tt
-
-pub nothing_after : {A : Type 0} (xs : List A) → xs ++ [] ≡ xs
-nothing_after [] = refl
-nothing_after (x ∷ xs) = ap (λ r. x ∷ r) (nothing_after xs)
-
--- a list by way of two others
-pub removed_of : (others again items xs : List Claim) (k : ℕ) → others ≡ again → again ≡ remove items k → items ≡ xs → others ≡ remove xs k
-removed_of others again items xs k e f g = e ∙ (f ∙ ap (λ (r : List Claim). remove r k) g)
-
-pub element_of : (x : Claim) (items xs : List Claim) (k : ℕ) → x ≡ get_or items k x → items ≡ xs → x ≡ get_or xs k x
-element_of x items xs k e f = e ∙ ap (λ (r : List Claim). get_or r k x) f
-
-pub pushed_of : (more again items gone : List Claim) (x : Claim) → more ≡ again → again ≡ items ++ x ∷ [] → items ≡ gone → more ≡ gone ++ x ∷ []
-pushed_of more again items gone x e f g = e ∙ (f ∙ ap (λ (r : List Claim). r ++ x ∷ []) g)
+pub if_ok_iff : {E P Q : Type 0} (r : Result Bool E) → (P → Q) → (Q → P) → IfOk r (λ (b : Bool). IsTrue b ↔ P) → IfOk r (λ (b : Bool). IsTrue b ↔ Q)
+if_ok_iff (Ok x) up down h = (λ t. up (h.0 t), λ q. h.1 (down q))
+if_ok_iff (Err e) up down h = tt

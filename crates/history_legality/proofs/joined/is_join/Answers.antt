@@ -10,7 +10,7 @@ use Rattle.account.specs.Seen.{history, sheet_seen}
 use Rattle.history_reader.specs.declared.state.Opening as R
 use Rattle.history_reader.specs.Seen.{opening_seen}
 use Rattle.history_legality.specs.Joins.{MayLeave}
-use Rattle.history_legality.proofs.OrderLaws.{if_ok_more}
+use Rattle.history_legality.proofs.OrderLaws.{if_ok_iff}
 use Rattle.history_legality.proofs.JoinLaws.{join_of, may_of, numbers_seen}
 use Rattle.history_legality.proofs.joined.is_join.Goals as goal
 
@@ -24,7 +24,6 @@ pub returns : goal.returns
 returns c =
     let h = history c.args.entries.now in
     let jobs = map opening_seen c.args.jobs.now in
-    let r = c.all_may_leave.result in
     let items : c.in_ok-numbers.numbers.items ≡ map (λ (o : R.Opening). o.job) c.args.jobs.now = search rules in
     let numbers : c.as_slice.result.now ≡ map (λ (o : D.Opening). o.job) jobs = c.as_slice.ensures.value ∙ (items ∙ numbers_seen c.args.jobs.now) in
     let rising : IsStrictlyIncreasing (map (λ (o : D.Opening). o.job) jobs) = subst IsStrictlyIncreasing numbers (c.rises.ensures.0 c.if-not-rises.false) in
@@ -36,5 +35,4 @@ returns c =
     ap (map sheet_seen) c.as_slice-3.ensures.value ∙ (c.in_ok-add_first_places.ensures
     ∙ ap (λ (s : List (E.Sheet Outline)). s ++ flat_map (J.first_places h) jobs) (ap (map sheet_seen) c.new-joined.ensures.items)) in
     let join : J.handed_from h jobs ≡ flat_map (J.first_places h) jobs = sym left ∙ (c.are_same.ensures.0 c.if-not-are_same.false ∙ joined) in
-    if_ok_more r (λ (b : Bool). IsTrue b ↔ AllByRecursion (MayLeave h jobs) jobs) (λ (b : Bool). IsTrue b ↔ J.IsJoin h jobs)
-    (λ b k. (λ t. join_of h jobs rising join (k.0 t), λ j. k.1 (may_of h jobs j))) c.all_may_leave.ensures
+    if_ok_iff c.all_may_leave.result (join_of h jobs rising join) (may_of h jobs) c.all_may_leave.ensures

@@ -5,8 +5,7 @@ use Rattle.history_legality.proofs.orders.amount_of.Goals as goal
 
 pub returns-then-kind-queues : goal.returns-then-kind-queues
 returns-then-kind-queues c =
-    let n = ap (length {A = Queue}) c.queues.ensures.value in
-    sym (none_past c.args.config.now c.args.pages c.args.queue c.args.printers c.args.kind (omega arith))
+    sym (none_past c.args.config.now c.args.pages c.args.queue c.args.printers c.args.kind (omega (arith, ap (length {A = Queue}) c.queues.ensures.value)))
 
 pub returns-then-kind-queue : goal.returns-then-kind-queue
 returns-then-kind-queue c =

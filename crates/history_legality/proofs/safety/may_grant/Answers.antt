@@ -8,8 +8,9 @@ use Rattle.spool_history.specs.Legal.{MayGrant}
 use Rattle.account.specs.declared.entry.Outline.{Outline}
 use Rattle.history_reader.specs.Seen.{job_seen, state_seen}
 use Rattle.history_legality.specs.Claimed.{rows_seen, AreSafe}
-use Rattle.history_legality.proofs.OrderLaws.{if_ok_more, nothing_after}
+use Rattle.history_legality.proofs.OrderLaws.{if_ok_iff}
 use Rattle.history_legality.proofs.safety.may_grant.Goals as goal
+use Rattle.std.proofs.lemmas.List.{append-nil}
 
 pub returns : goal.returns
 returns c =
@@ -20,6 +21,6 @@ returns c =
     let some : 0 < c.in_ok-free_pages.field-0 = omega arith in
     let free : 0 < free_pages v = subst (λ (n : ℕ). 0 < n) c.in_ok-free_pages.ensures some in
     let same : rows_seen s c.as_slice-2.result.now ≡ map (row_of s) jobs = cc (c.as_slice.ensures.value, c.as_slice-2.ensures.value, c.in_ok-claims.ensures) in
-    let rows : rows_seen s c.as_slice-2.result.now ≡ map (row_of s) (after e v).jobs = same ∙ ap (λ (r : List (Job Outline)). map (row_of s) r) (sym (nothing_after jobs)) in
-    if_ok_more c.are_safe.result (λ (b : Bool). IsTrue b ↔ AreSafe s (map (row_of s) (after e v).jobs)) (λ (b : Bool). IsTrue b ↔ MayGrant v c.args.number) (λ b h. (λ t. (free, h.0 t), λ m. h.1 m.1))
+    let rows : rows_seen s c.as_slice-2.result.now ≡ map (row_of s) (after e v).jobs = same ∙ ap (λ (r : List (Job Outline)). map (row_of s) r) (sym (append-nil jobs)) in
+    if_ok_iff c.are_safe.result (λ safe. (free, safe)) (λ m. m.1)
     (subst (λ (r : List Row). IfOk c.are_safe.result (λ (b : Bool). IsTrue b ↔ AreSafe s r)) rows c.are_safe.ensures)
