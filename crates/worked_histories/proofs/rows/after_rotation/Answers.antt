@@ -1,69 +1,32 @@
-use Rattle.std.proofs.Common.{◌≡◌, ℕ, zero, suc, ◌≤◌, List, [], ◌∷◌, refl, sym, subst, arith, drop, map, lit≤, lit<}
-use Rattle.std.specs.Prelude.{slice_index_or}
-use Rattle.counts.specs.Amounts.{Fits}
-use Rattle.claims.specs.Safety.{HasFinishingOrder}
-use Rattle.claims.specs.declared.row.Row.{Row}
-use Rattle.spool_history.specs.Acts.{File, new_file}
-use Rattle.spool_history.specs.Events.Act.{Granted}
+use Rattle.std.proofs.Common.{ℕ, true, false, List, [], drop, refl, lit≤, lit<}
+use Rattle.spool_history.specs.Events.{Event}
+use Rattle.spool_history.specs.Events.Act.{Granted, Began, Put, FileEnded, Controlled}
 use Rattle.spool_history.specs.Events.Event.{OfJob}
-use Rattle.spool_history.specs.Now.{Job, State, now, row_of, free_amount, IsSafeNow}
-use Rattle.spool_history.specs.Steps.{after, new_job}
-use Rattle.worked_histories.specs.Rows.{small}
-use Rattle.worked_histories.specs.Bases.{after_one, second_job}
+use Rattle.spool_history.specs.Events.Progress.{Done}
+use Rattle.spool_history.specs.Steps.{after}
+use Rattle.worked_histories.specs.Rows.{control, data_name, sheet}
+use Rattle.worked_histories.specs.MoreRows.{again, short_job}
+use Rattle.worked_histories.specs.Bases.{after_one}
+use Rattle.worked_histories.proofs.Legal.{Legal, acts, alone, first_file, prints, state_in}
 use Rattle.worked_histories.proofs.rows.after_rotation.Goals as goal
 
--- where the spool is before the newest n events, its one job, and the file of that
-abbrev before : ℕ → State (List ℕ)
-before n = now small after_one (drop n second_job)
+abbrev before : ℕ → List (Event (List ℕ))
+before n = drop n (short_job 2 1)
 
-abbrev mine : ℕ → Job (List ℕ)
-mine n = slice_index_or (before n).jobs 0 (new_job 0 0 0)
-
-abbrev file : ℕ → File (List ℕ)
-file n = slice_index_or (mine n).files 0 (new_file [] 0)
-
-fits : (f : ℕ → ℕ) (a b : ℕ) → a ≤ f 0 → b ≤ f 1 → Fits (a ∷ b ∷ []) f
-fits f a b h i zero = h
-fits f a b h i (suc zero) = i
-fits f a b h i (suc (suc k)) = omega arith
-
--- one row alone is a finishing order where its need is free
-alone : (n : ℕ) → let v : State (List ℕ) = after (OfJob 2 Granted) (before n) in
-    (row : Row) → map (row_of small) v.jobs ≡ row ∷ [] → Fits row.need (free_amount v) → IsSafeNow v
-alone n row is fit =
-    let v : State (List ℕ) = after (OfJob 2 Granted) (before n) in
-    let P : List Row → Type 0 = HasFinishingOrder (free_amount v) in
-    subst P (sym is) (row ∷ [], record { each_once = ([], [], refl, refl); in_line = (tt, tt); fits = (fit, tt) })
+received : Legal after_one (short_job 2 1)
+received =
+    acts after_one (before 1) 2 (Controlled (control 2) true) (lit< tt) refl ((refl, refl), refl, refl) (record { number = lit≤ tt; host = refl; user = refl; prints = refl })
+    (acts after_one (before 2) 2 (FileEnded 0 false) (lit< tt) refl ((refl, refl), refl, ([], first_file after_one (before 2), refl, refl, refl, refl), refl) tt
+    (acts after_one (before 3) 2 (Put 0 0 again) (lit< tt) refl ((refl, refl), refl, ([], first_file after_one (before 3), refl, refl, refl, (refl, lit< tt, refl))) tt
+    (acts after_one (before 4) 2 Granted (lit< tt) refl (((refl, refl), refl, refl), lit< tt) (lit< tt, alone (after (OfJob 2 Granted) (state_in after_one (before 4))) 2 1 1 2 refl (lit≤ tt) (lit≤ tt))
+    (acts after_one (before 5) 2 (Began (data_name 2) 5) (lit< tt) refl ((refl, refl), refl, refl, lit< tt, lit≤ tt) (lit< tt)
+    ((refl, (lit≤ tt, lit≤ tt), lit< tt, lit≤ tt, refl, lit< tt), tt)))))
 
 pub returns : goal.returns
 returns c = record {
   base = refl;
   free = refl;
-  is_legal = (
-    ((lit≤ tt, lit≤ tt), (refl, record { job = mine 1; there = (0, lit< tt, refl); number = refl; is = refl })),
-    (
-      ((lit≤ tt, lit≤ tt), refl),
-      (
-        (record { job = mine 3; there = (0, lit< tt, refl); number = refl; is = ((refl, refl), refl, refl) }, record { number = lit≤ tt; host = refl; user = refl; prints = refl }),
-        (
-          (record { job = mine 4; there = (0, lit< tt, refl); number = refl; is = ((refl, refl), refl, ([], file 4, refl, refl, refl, refl), refl) }, tt),
-          (
-            (record { job = mine 5; there = (0, lit< tt, refl); number = refl; is = ((refl, refl), refl, ([], file 5, refl, refl, refl, (refl, lit< tt, refl))) }, tt),
-            (
-              (
-                record { job = mine 6; there = (0, lit< tt, refl); number = refl; is = (((refl, refl), refl, refl), lit< tt) },
-                (lit< tt, alone 6 (record { number = 2; sender = 1; queue = 1; held = 1 ∷ 0 ∷ []; need = 2 ∷ 1 ∷ [] }) refl (fits (free_amount (after (OfJob 2 Granted) (before 6))) 2 1 (lit≤ tt) (lit≤ tt))),
-              ),
-              (
-                (record { job = mine 7; there = (0, lit< tt, refl); number = refl; is = ((refl, refl), refl, refl, lit< tt, lit≤ tt) }, lit< tt),
-                ((refl, (lit≤ tt, lit≤ tt), lit< tt, lit≤ tt, refl, lit< tt), tt),
-              ),
-            ),
-          ),
-        ),
-      ),
-    ),
-  );
+  is_legal = prints after_one (short_job 2 1) (sheet 2 0 again) Done refl refl (lit< tt) refl refl received;
   next = refl;
   free_again = refl;
   reserved = refl;

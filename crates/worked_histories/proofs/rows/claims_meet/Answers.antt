@@ -1,6 +1,6 @@
-use Rattle.std.proofs.Common.{◌≡◌, ℕ, zero, suc, ◌+◌, ◌≤◌, ◌<◌, false, true, List, [], ◌∷◌, refl, arith, lit≤}
+use Rattle.std.proofs.Common.{◌≡◌, ℕ, ◌+◌, ◌≤◌, ◌<◌, false, true, List, [], ◌∷◌, refl, arith, lit≤}
 use Rattle.claims.specs.declared.row.Row.{Row}
-use Rattle.counts.specs.Amounts.{amount, Fits}
+use Rattle.counts.specs.Amounts.{amount}
 use Rattle.claims.specs.Safety.{AreFinishing}
 use Rattle.spool_history.specs.Base.{first_base}
 use Rattle.spool_history.specs.Events.{Event}
@@ -8,6 +8,7 @@ use Rattle.worked_histories.specs.Rows.{small}
 use Rattle.spool_history.specs.Now.{now, free_amount}
 use Rattle.worked_histories.specs.Claims.{last_page, second_page}
 use Rattle.claims.proofs.TwoRows.{not_safe, not_first, second_then_first}
+use Rattle.worked_histories.proofs.Legal.{fits}
 use Rattle.worked_histories.proofs.rows.claims_meet.Goals as goal
 
 -- the rows of the two jobs: of the first, which holds one page, and of the second
@@ -19,11 +20,6 @@ second t held need = record { number = 2; sender = t; queue = 1; held = held ∷
 
 abbrev free : List (Event (List ℕ)) → ℕ → ℕ
 free h = free_amount (now small first_base h)
-
-fits : (f : ℕ → ℕ) (a b : ℕ) → a ≤ f 0 → b ≤ f 1 → Fits (a ∷ b ∷ []) f
-fits f a b h i zero = h
-fits f a b h i (suc zero) = i
-fits f a b h i (suc (suc k)) = omega arith
 
 apart : (s t n m : ℕ) → (false ≡ true → n < m)
 apart s t n m h = absurd cc
@@ -38,25 +34,12 @@ early = second_then_first (free (second_page 1 2)) (first 1) (second 2 2 1) (apa
     (fits (free (second_page 1 2)) 1 1 (lit≤ tt) (lit≤ tt))
     (fits (λ kind. free (second_page 1 2) kind + amount (2 ∷ 0 ∷ []) kind) 2 1 (lit≤ tt) (lit≤ tt))
 
--- two pages are more than none, and more than one
-more_than_0 : 2 ≤ 0 → ⊥
-more_than_0 h = omega arith
-
-more_than_1 : 2 ≤ 1 → ⊥
-more_than_1 h = omega arith
-
-not_below : 2 < 1 → ⊥
-not_below h = omega arith
-
-two_apart : (let n : ℕ = 2 in n ≡ 1) → ⊥
-two_apart h = omega arith
-
 pub returns : goal.returns
 returns c = record {
   none_free = refl;
   second_first = late;
-  not_first = λ rest. not_first (free (last_page 2 1)) (first 2) (second 1 3 0) rest (λ h. more_than_0 (h 0)) two_apart;
-  one_sender = not_safe (free (last_page 1 1)) (first 1) (second 1 3 0) (λ h. more_than_0 (h 0)) (λ h. not_below (h refl));
+  not_first = λ rest. not_first (free (last_page 2 1)) (first 2) (second 1 3 0) rest (λ h. let e : 2 ≤ 0 = h 0 in omega arith) (λ h. let e : ◌≡◌ {A = ℕ} 2 1 = h in omega arith);
+  one_sender = not_safe (free (last_page 1 1)) (first 1) (second 1 3 0) (λ h. let e : 2 ≤ 0 = h 0 in omega arith) (λ h. let e : 2 < 1 = h refl in omega arith);
   two_senders = (early.0, early.1);
-  one_sender_early = not_safe (free (second_page 1 1)) (first 1) (second 1 2 1) (λ h. more_than_1 (h 0)) (λ h. not_below (h refl));
+  one_sender_early = not_safe (free (second_page 1 1)) (first 1) (second 1 2 1) (λ h. let e : 2 ≤ 1 = h 0 in omega arith) (λ h. let e : 2 < 1 = h refl in omega arith);
 }

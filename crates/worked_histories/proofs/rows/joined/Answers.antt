@@ -23,9 +23,6 @@ abbrev octets_first : List (Sheet (List ℕ)) → ℕ
 octets_first [] = 9
 octets_first (s ∷ ss) = length s.page
 
-differ : (n m : ℕ) → n ≡ m → (n ≡ m → ⊥) → ⊥
-differ n m e other = other e
-
 pub returns-clause-joins : goal.returns-clause-joins
 returns-clause-joins c = record {
   numbers = refl;
@@ -43,11 +40,11 @@ returns-clause-others c = record {
   half_received = λ j. let e : ◌≡◌ {A = ℕ} 1 0 = j.none_unreceived (record { job = 1; sender = 1; queue = 1 }) (0, omega arith, refl) refl in omega arith;
   later_first = λ j. let e : ◌≡◌ {A = ℕ} 1 0 = j.none_behind_held (record { job = 1; sender = 1; queue = 1 }) (record { job = 2; sender = 1; queue = 1 }) (0, omega arith, refl) (1, omega arith, refl) (omega arith) refl in omega arith;
   while_one_is_dying = λ j. let e : ◌≡◌ {A = ℕ} 1 0 = j.none_behind_held (record { job = 1; sender = 1; queue = 1 }) (record { job = 2; sender = 1; queue = 1 }) (0, omega arith, refl) (1, omega arith, refl) (omega arith) refl in omega arith;
-  later_was_first = λ j. differ 2 1 (ap job_first j.join) (λ e. omega arith);
-  later_was_between = λ j. differ 2 1 (ap job_second j.join) (λ e. omega arith);
-  place_left_out = λ j. differ 1 0 (ap place_first j.join) (λ e. omega arith);
-  place_twice = λ j. differ 0 1 (ap place_second j.join) (λ e. omega arith);
-  other_bytes = λ j. differ 5 8 (ap octets_first j.join) (λ e. omega arith);
+  later_was_first = λ j. let e : ◌≡◌ {A = ℕ} 2 1 = ap job_first j.join in omega arith;
+  later_was_between = λ j. let e : ◌≡◌ {A = ℕ} 2 1 = ap job_second j.join in omega arith;
+  place_left_out = λ j. let e : ◌≡◌ {A = ℕ} 1 0 = ap place_first j.join in omega arith;
+  place_twice = λ j. let e : ◌≡◌ {A = ℕ} 0 1 = ap place_second j.join in omega arith;
+  other_bytes = λ j. let e : ◌≡◌ {A = ℕ} 5 8 = ap octets_first j.join in omega arith;
   done_early = λ j. let e : ◌≡◌ {A = ℕ} 1 2 = j.all_of_done (record { job = 1; sender = 1; queue = 1 }) (0, omega arith, refl) refl in omega arith;
   numbers_fall = λ j. let e : 2 < 1 = j.rising 0 (omega arith) in omega arith;
 }
