@@ -9,6 +9,7 @@ use Rattle.lpd_values.specs.Contents.{Contents}
 use Rattle.spool_history.specs.Base.{Base, first_base}
 use Rattle.spool_history.specs.Events.{Act, Event, Progress, Sheet}
 use Rattle.spool_history.specs.Events.Act.{Granted, Began, Put, FileEnded, Controlled}
+use Rattle.spool_history.specs.Events.Progress.{Going, Done}
 use Rattle.spool_history.specs.Events.Turn.{Handed, Printed}
 use Rattle.spool_history.specs.Events.Event.{OfJob, AtPrinter}
 use Rattle.spool_history.specs.Acts.{File, new_file}
@@ -17,34 +18,35 @@ use Rattle.spool_history.specs.Next.{next_page, printer_at}
 use Rattle.spool_history.specs.Next.Next.{Hands}
 use Rattle.spool_history.specs.Steps.{acted, after, new_job}
 use Rattle.spool_history.specs.Legal.{ActMay, HasJob, IsControl, IsLegal, JobMay, progress_of}
-use Rattle.worked_histories.specs.Rows.{small, data_name, hello, rld}
+use Rattle.worked_histories.specs.Rows.{small, control, data_name, hello, rld, sheet, one_job}
 use Rattle.worked_histories.specs.MoreRows.{received}
 
 abbrev pub Legal : Base → List (Event (List ℕ)) → Type 0
 Legal b h = IsLegal length small b h
 
 -- where the spool is, its first job, and the first file of that
-abbrev pub state_in : Base → List (Event (List ℕ)) → State (List ℕ)
-state_in b h = now small b h
+abbrev pub state : Base → List (Event (List ℕ)) → State (List ℕ)
+state b h = now small b h
 
 abbrev pub first_job : Base → List (Event (List ℕ)) → Job (List ℕ)
-first_job b h = slice_index_or (state_in b h).jobs 0 (new_job 0 0 0)
+first_job b h = slice_index_or (state b h).jobs 0 (new_job 0 0 0)
 
 abbrev pub first_file : Base → List (Event (List ℕ)) → File (List ℕ)
 first_file b h = slice_index_or (first_job b h).files 0 (new_file [] 0)
 
-has : (b : Base) (h : List (Event (List ℕ))) (j : ℕ) (P : Job (List ℕ) → Type 0) → 0 < length (state_in b h).jobs → (first_job b h).number ≡ j → P (first_job b h) → HasJob (state_in b h).jobs j P
+has : (b : Base) (h : List (Event (List ℕ))) (j : ℕ) (P : Job (List ℕ) → Type 0) → 0 < length (state b h).jobs → (first_job b h).number ≡ j → P (first_job b h) → HasJob (state b h).jobs j P
 has b h j P some number is =
-    record { job = first_job b h; there = (0, some, get_or_default (state_in b h).jobs 0 (first_job b h) (new_job 0 0 0) some); number = number; is = is }
+    record { job = first_job b h; there = (0, some, get_or_default (state b h).jobs 0 (first_job b h) (new_job 0 0 0) some); number = number; is = is }
 
 -- a page is handed to the printer, and comes back
-pub prints : (b : Base) (h : List (Event (List ℕ))) (s : Sheet (List ℕ)) (x : Progress) → next_page (state_in b h) 1 ≡ Hands s → let g : List (Event (List ℕ)) = AtPrinter 1 s Handed ∷ h in
-    (printer_at (state_in b g) 1).out ≡ Some s → 0 < length (state_in b g).jobs → (first_job b g).number ≡ s.job → x ≡ progress_of (first_job b g) → Legal b h → Legal b (AtPrinter 1 s (Printed x) ∷ g)
+pub prints : (b : Base) (h : List (Event (List ℕ))) (s : Sheet (List ℕ)) (x : Progress) → next_page (state b h) 1 ≡ Hands s → let g : List (Event (List ℕ)) = AtPrinter 1 s Handed ∷ h in
+    (printer_at (state b g) 1).out ≡ Some s → 0 < length (state b g).jobs → (first_job b g).number ≡ s.job → x ≡ progress_of (first_job b g) → Legal b h → Legal b (AtPrinter 1 s (Printed x) ∷ g)
 prints b h s x next out some number is l =
     (((lit≤ tt, lit≤ tt), (out, has b (AtPrinter 1 s Handed ∷ h) s.job (λ v. x ≡ progress_of v) some number is)), (((lit≤ tt, lit≤ tt), next), l))
 
 -- a session does what an act says
-pub acts : (b : Base) (h : List (Event (List ℕ))) (j : ℕ) (act : Act (List ℕ)) → 0 < length (state_in b h).jobs → (first_job b h).number ≡ j → JobMay length small act (first_job b h) → ActMay (state_in b h) j act → Legal b h → Legal b (OfJob j act ∷ h)
+pub acts : (b : Base) (h : List (Event (List ℕ))) (j : ℕ) (act : Act (List ℕ)) → 0 < length (state b h).jobs → (first_job b h).number ≡ j → JobMay length small act (first_job b h)
+    → ActMay (state b h) j act → Legal b h → Legal b (OfJob j act ∷ h)
 acts b h j act some number may beside l = ((has b h j (JobMay length small act) some number may, beside), l)
 
 pub fits : (f : ℕ → ℕ) (a b : ℕ) → a ≤ f 0 → b ≤ f 1 → Fits (a ∷ b ∷ []) f
@@ -69,12 +71,25 @@ pub filed : Legal first_base (before 1)
 filed =
     acts first_base (before 2) 1 (FileEnded 0 false) (lit< tt) refl ((refl, refl), refl, ([], first_file first_base (before 2), refl, refl, refl, refl), refl) tt
     (acts first_base (before 3) 1 (Put 0 1 rld) (lit< tt) refl ((refl, refl), refl, ([], first_file first_base (before 3), refl, refl, refl, (refl, lit< tt, refl))) tt
-    (acts first_base (before 4) 1 Granted (lit< tt) refl (((refl, refl), refl, refl), lit< tt) (lit< tt, alone (after (OfJob 1 Granted) (state_in first_base (before 4))) 1 1 2 1 refl (lit≤ tt) (lit≤ tt))
+    (acts first_base (before 4) 1 Granted (lit< tt) refl (((refl, refl), refl, refl), lit< tt) (lit< tt, alone (after (OfJob 1 Granted) (state first_base (before 4))) 1 1 2 1 refl (lit≤ tt) (lit≤ tt))
     (acts first_base (before 5) 1 (Put 0 0 hello) (lit< tt) refl ((refl, refl), refl, ([], first_file first_base (before 5), refl, refl, refl, (refl, lit< tt, refl))) tt
-    (acts first_base (before 6) 1 Granted (lit< tt) refl (((refl, refl), refl, refl), lit< tt) (lit< tt, alone (after (OfJob 1 Granted) (state_in first_base (before 6))) 1 1 1 2 refl (lit≤ tt) (lit≤ tt))
+    (acts first_base (before 6) 1 Granted (lit< tt) refl (((refl, refl), refl, refl), lit< tt) (lit< tt, alone (after (OfJob 1 Granted) (state first_base (before 6))) 1 1 1 2 refl (lit≤ tt) (lit≤ tt))
     (acts first_base (before 7) 1 (Began (data_name 1) 11) (lit< tt) refl ((refl, refl), refl, refl, lit< tt, lit≤ tt) (lit< tt)
     ((refl, (lit≤ tt, lit≤ tt), lit< tt, lit≤ tt, refl, lit< tt), tt))))))
 
 -- and its control file comes
-pub controlled : (control : Contents) → IsControl control → is_received (acted (Controlled control true) (first_job first_base (before 1))) ≡ true → Legal first_base (OfJob 1 (Controlled control true) ∷ before 1)
+pub controlled : (control : Contents) → IsControl control → is_received (acted (Controlled control true) (first_job first_base (before 1))) ≡ true
+    → Legal first_base (OfJob 1 (Controlled control true) ∷ before 1)
 controlled control is whole = acts first_base (before 1) 1 (Controlled control true) (lit< tt) refl ((refl, refl), refl, sym whole) is filed
+
+-- the whole history of one job is legal, and so is what it was before its newest n events
+pub one_job_legal : Legal first_base one_job
+one_job_legal =
+    let received = controlled (control 1) (record { number = lit≤ tt; host = refl; user = refl; prints = refl }) refl in
+    let first = prints first_base (drop 5 one_job) (sheet 1 0 hello) Going refl refl (lit< tt) refl refl received in
+    (refl, prints first_base (drop 3 one_job) (sheet 1 1 rld) Done refl refl (lit< tt) refl refl first)
+
+pub older : (n : ℕ) (b : Base) (h : List (Event (List ℕ))) → Legal b h → Legal b (drop n h)
+older zero b h l = l
+older (suc n) b [] l = tt
+older (suc n) b (e ∷ h) l = older n b h l.1

@@ -8,15 +8,15 @@ use Rattle.worked_histories.specs.Rows.{small}
 use Rattle.spool_history.specs.Now.{now, free_amount}
 use Rattle.worked_histories.specs.Claims.{last_page, second_page}
 use Rattle.claims.proofs.TwoRows.{not_safe, not_first, second_then_first}
-use Rattle.worked_histories.proofs.Legal.{fits}
+use Rattle.worked_histories.proofs.Legal.{fits, row}
 use Rattle.worked_histories.proofs.rows.claims_meet.Goals as goal
 
 -- the rows of the two jobs: of the first, which holds one page, and of the second
 abbrev first : ℕ → Row
-first s = record { number = 1; sender = s; queue = 1; held = 1 ∷ 0 ∷ []; need = 2 ∷ 1 ∷ [] }
+first s = row 1 s 1 2
 
 abbrev second : (sender held need : ℕ) → Row
-second t held need = record { number = 2; sender = t; queue = 1; held = held ∷ 0 ∷ []; need = need ∷ 1 ∷ [] }
+second t held need = row 2 t held need
 
 abbrev free : List (Event (List ℕ)) → ℕ → ℕ
 free h = free_amount (now small first_base h)

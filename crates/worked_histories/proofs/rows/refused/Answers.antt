@@ -23,6 +23,9 @@ none_is_not_some sheet h = cc
 abbrev mine : ℕ → Job (List ℕ)
 mine n = first_job first_base (drop n one_job)
 
+abbrev file : ℕ → File (List ℕ)
+file n = first_file first_base (drop n one_job)
+
 -- which place, which job and how many octets a printer is handed; 9 where it is handed nothing
 abbrev place_of : Next (List ℕ) → ℕ
 place_of (Hands sheet) = sheet.place
@@ -55,6 +58,10 @@ single jobs a j P one h =
     let same : a ≡ h.job = first_of_one a h.job h.there.0 (let lt = h.there.1 in omega arith) at in
     (ap (λ (x : Job (List ℕ)). x.number) same ∙ h.number, subst P (sym same) h.is)
 
+-- what holds of a job of number 1 before the newest n events holds of the one there
+of_mine : (n : ℕ) {P : Job (List ℕ) → Type 0} → (now small first_base (drop n one_job)).jobs ≡ mine n ∷ [] → HasJob (now small first_base (drop n one_job)).jobs 1 P → ((mine n).number ≡ 1) × P (mine n)
+of_mine n {P} one h = single (now small first_base (drop n one_job)).jobs (mine n) 1 P one h
+
 -- of one file the last is that one, and none is before it
 one_file : (files : List (File (List ℕ))) (f : File (List ℕ)) (before : List (File (List ℕ))) (last : File (List ℕ)) → files ≡ f ∷ [] → files ≡ before ++ last ∷ [] → ([] ≡ before) × (f ≡ last)
 one_file files f before last one e = same_from_push [] before f last (sym one ∙ e)
@@ -79,18 +86,18 @@ returns-clause-events c = record {
   account_full = λ h. let e : 713 ≤ 712 = h.3 in omega arith;
   table_full = λ h. let e : 1 < 1 = h.2 in omega arith;
   lent_to_nobody = λ h. nobody (now small first_base []).jobs 1 _ refl h.0;
-  lent_with_no_file = λ h. let s = single (now small first_base (drop 12 one_job)).jobs (mine 12) 1 _ refl h.0 in let e : false ≡ true = s.1.0.1 in cc;
-  lent_twice = λ h. let s = single (now small first_base (drop 10 one_job)).jobs (mine 10) 1 _ refl h.0 in let e : true ≡ false = s.1.0.2 in cc;
-  put_unlent = λ h. let s = single (now small first_base (drop 11 one_job)).jobs (mine 11) 1 _ refl h.0 in let e : false ≡ true = s.1.1 in cc;
-  put_into_another_file = λ h. let s = single (now small first_base (drop 10 one_job)).jobs (mine 10) 1 _ refl h.0 in omega (arith, s.1.2.3, ap length (one_file (mine 10).files (first_file first_base (drop 10 one_job)) s.1.2.0 s.1.2.1 refl s.1.2.2).0);
-  file_while_one_is_open = λ h. let s = single (now small first_base (drop 11 one_job)).jobs (mine 11) 1 _ refl h.0 in let e : true ≡ false = s.1.1 in cc;
-  name_taken = λ h. let s = single (now small first_base (drop 6 one_job)).jobs (mine 6) 1 _ refl h.0 in let e : true ≡ false = s.1.2 in cc;
-  over_the_limit = λ h. let s = single (now small first_base (drop 12 one_job)).jobs (mine 12) 1 _ refl h.0 in let e : 4 ≤ 3 = s.1.4 in omega arith;
+  lent_with_no_file = λ h. let s = of_mine 12 refl h.0 in let e : false ≡ true = s.1.0.1 in cc;
+  lent_twice = λ h. let s = of_mine 10 refl h.0 in let e : true ≡ false = s.1.0.2 in cc;
+  put_unlent = λ h. let s = of_mine 11 refl h.0 in let e : false ≡ true = s.1.1 in cc;
+  put_into_another_file = λ h. let s = of_mine 10 refl h.0 in omega (arith, s.1.2.3, ap length (one_file (mine 10).files (file 10) s.1.2.0 s.1.2.1 refl s.1.2.2).0);
+  file_while_one_is_open = λ h. let s = of_mine 11 refl h.0 in let e : true ≡ false = s.1.1 in cc;
+  name_taken = λ h. let s = of_mine 6 refl h.0 in let e : true ≡ false = s.1.2 in cc;
+  over_the_limit = λ h. let s = of_mine 12 refl h.0 in let e : 4 ≤ 3 = s.1.4 in omega arith;
   file_of_no_octet = λ h. let e : 0 < 0 = h.1 in omega arith;
-  ended_while_lent = λ h. let s = single (now small first_base (drop 10 one_job)).jobs (mine 10) 1 _ refl h.0 in let e : true ≡ false = s.1.1 in cc;
-  ended_with_the_wrong_word = λ h. let s = single (now small first_base (drop 7 one_job)).jobs (mine 7) 1 _ refl h.0 in let e : true ≡ false = s.1.3 in cc;
-  control_twice = λ h. let s = single (now small first_base (drop 5 one_job)).jobs (mine 5) 1 _ refl h.0 in let e : true ≡ false = s.1.0.1 in cc;
-  control_with_the_wrong_word = λ h. let s = single (now small first_base (drop 6 one_job)).jobs (mine 6) 1 _ refl h.0 in let e : false ≡ true = s.1.2 in cc;
+  ended_while_lent = λ h. let s = of_mine 10 refl h.0 in let e : true ≡ false = s.1.1 in cc;
+  ended_with_the_wrong_word = λ h. let s = of_mine 7 refl h.0 in let e : true ≡ false = s.1.3 in cc;
+  control_twice = λ h. let s = of_mine 5 refl h.0 in let e : true ≡ false = s.1.0.1 in cc;
+  control_with_the_wrong_word = λ h. let s = of_mine 6 refl h.0 in let e : false ≡ true = s.1.2 in cc;
   control_printing_nothing = λ h. let e : false ≡ true = h.1.prints in cc;
   control_printing_100_names = λ h. let e : false ≡ true = h.1.prints in cc;
   aborted_nobody = λ h. nobody (now small first_base []).jobs 1 _ refl h.0;
@@ -102,23 +109,23 @@ returns-clause-events c = record {
   next_job_while_one_is_dying = λ h. other_place 9 2 (ap job_in h.1) (λ e. omega arith);
   other_bytes = λ h. other_place 8 5 (ap length_in h.1) (λ e. omega arith);
   printed_not_out = λ h. none_is_not_some _ h.1.0;
-  printed_done_early = λ h. let s = single (now small first_base (drop 4 one_job)).jobs (mine 4) 1 _ refl h.1.1 in let e : Done ≡ Going = s.1 in cc;
-  printed_going_at_last = λ h. let s = single (now small first_base (drop 2 one_job)).jobs (mine 2) 1 _ refl h.1.1 in let e : Going ≡ Done = s.1 in cc;
+  printed_done_early = λ h. let s = of_mine 4 refl h.1.1 in let e : Done ≡ Going = s.1 in cc;
+  printed_going_at_last = λ h. let s = of_mine 2 refl h.1.1 in let e : Going ≡ Done = s.1 in cc;
   failed_not_out = λ h. none_is_not_some _ h.1;
   printer_unknown = λ h. let e : 2 ≤ 1 = h.0.1 in omega arith;
   printer_0 = λ h. let e : 1 ≤ 0 = h.0.0 in omega arith;
   removed_nobody = λ h. let e : 0 < 0 = h.2 in omega arith;
-  removed_while_received = λ h. let s = single (now small first_base (drop 6 one_job)).jobs (mine 6) 1 _ refl h.4.0 in let e : false ≡ true = s.1.1 in cc;
+  removed_while_received = λ h. let s = of_mine 6 refl h.4.0 in let e : false ≡ true = s.1.1 in cc;
   started_unstopped = λ h. not_stopped_from first_base (drop 5 one_job) refl h.2 h.3.0 h.3.1 h.4.1;
 }
 
 -- a page that may be put into the one file of a state is as long as what the file lacks, and at most 8 octets
 due : (n number : ℕ) (page : List ℕ) → let v : State (List ℕ) = now small first_base (drop n one_job) in
-    v.jobs ≡ mine n ∷ [] → (mine n).files ≡ (first_file first_base (drop n one_job)) ∷ [] → May length v (OfJob 1 (Put 0 number page)) → length page ≡ min 8 ((first_file first_base (drop n one_job)).count - number * 8)
+    v.jobs ≡ mine n ∷ [] → (mine n).files ≡ file n ∷ [] → May length v (OfJob 1 (Put 0 number page)) → length page ≡ min 8 ((file n).count - number * 8)
 due n number page one files h =
-    let s = single (now small first_base (drop n one_job)).jobs (mine n) 1 _ one h.0 in
+    let s = of_mine n one h.0 in
     let o = s.1.2 in
-    let last = (one_file (mine n).files (first_file first_base (drop n one_job)) o.0 o.1 files o.2).1 in
+    let last = (one_file (mine n).files (file n) o.0 o.1 files o.2).1 in
     subst (λ (f : File (List ℕ)). length page ≡ min 8 (f.count - number * 8)) (sym last) o.5.2
 
 pub returns-clause-pages : goal.returns-clause-pages
