@@ -9,17 +9,15 @@ use Rattle.lpd_values.specs.Contents.{Contents}
 use Rattle.spool_history.specs.Base.{Base, first_base}
 use Rattle.spool_history.specs.Events.{Act, Event, Progress, Sheet}
 use Rattle.spool_history.specs.Events.Act.{Granted, Began, Put, FileEnded, Controlled}
-use Rattle.spool_history.specs.Events.Progress.{Going, Done}
 use Rattle.spool_history.specs.Events.Turn.{Handed, Printed}
-use Rattle.spool_history.specs.Events.Event.{OfJob, AtPrinter}
+use Rattle.spool_history.specs.Events.Event.{Opened, OfJob, AtPrinter}
 use Rattle.spool_history.specs.Acts.{File, new_file}
-use Rattle.spool_history.specs.Now.{Job, State, now, is_received, row_of, free_amount, IsSafeNow}
+use Rattle.spool_history.specs.Now.{Job, State, now, is_received, row_of, free_amount, free_pages}
 use Rattle.spool_history.specs.Next.{next_page, printer_at}
 use Rattle.spool_history.specs.Next.Next.{Hands}
 use Rattle.spool_history.specs.Steps.{acted, after, new_job}
 use Rattle.spool_history.specs.Legal.{ActMay, HasJob, IsControl, IsLegal, JobMay, progress_of}
-use Rattle.worked_histories.specs.Rows.{small, control, data_name, hello, rld, sheet, one_job}
-use Rattle.worked_histories.specs.MoreRows.{received}
+use Rattle.worked_histories.specs.Rows.{small, hello, rld}
 
 abbrev pub Legal : Base → List (Event (List ℕ)) → Type 0
 Legal b h = IsLegal length small b h
@@ -54,42 +52,39 @@ fits f a b h i zero = h
 fits f a b h i (suc zero) = i
 fits f a b h i (suc (suc k)) = omega arith
 
--- one row alone is a finishing order where its need is free
+-- the row of a job of the one queue
 abbrev pub row : (number sender held need : ℕ) → Row
 row n s held need = record { number = n; sender = s; queue = 1; held = held ∷ 0 ∷ []; need = need ∷ 1 ∷ [] }
 
-pub alone : (v : State (List ℕ)) (n s held need : ℕ) → map (row_of v.config) v.jobs ≡ row n s held need ∷ [] → need ≤ free_amount v 0 → 1 ≤ free_amount v 1 → IsSafeNow v
-alone v n s held need is pages printers =
-    let P : List Row → Type 0 = HasFinishingOrder (free_amount v) in
-    subst P (sym is) (row n s held need ∷ [], record { each_once = ([], [], refl, refl); in_line = (tt, tt); fits = (fits (free_amount v) need 1 pages printers, tt) })
+-- and so a page may be lent to a job that is alone
+pub lent : (b : Base) (h : List (Event (List ℕ))) (j s held need : ℕ) → 0 < length (state b h).jobs → (first_job b h).number ≡ j → JobMay length small Granted (first_job b h) → 0 < free_pages (state b h)
+    → let v : State (List ℕ) = after (OfJob j Granted) (state b h) in map (row_of small) v.jobs ≡ row j s held need ∷ [] → need ≤ free_amount v 0 → 1 ≤ free_amount v 1
+    → Legal b h → Legal b (OfJob j Granted ∷ h)
+lent b h j s held need some number may free is pages printers l =
+    let f = free_amount (after (OfJob j Granted) (state b h)) in
+    let P : List Row → Type 0 = HasFinishingOrder f in
+    acts b h j Granted some number may (free, subst P (sym is) (row j s held need ∷ [], record { each_once = ([], [], refl, refl); in_line = (tt, tt); fits = (fits f need 1 pages printers, tt) })) l
 
--- a job of 11 octets is received, but for its control file
-abbrev before : ℕ → List (Event (List ℕ))
-before n = drop n (received 1 1)
+-- the data file of a job is received: 11 octets under this name
+abbrev pub file_sent : List ℕ → List (Event (List ℕ))
+file_sent name =
+    OfJob 1 (FileEnded 0 false) ∷ OfJob 1 (Put 0 1 rld) ∷ OfJob 1 Granted ∷ OfJob 1 (Put 0 0 hello) ∷ OfJob 1 Granted
+    ∷ OfJob 1 (Began name 11) ∷ Opened 1 1 1 ∷ []
 
-pub filed : Legal first_base (before 1)
-filed =
-    acts first_base (before 2) 1 (FileEnded 0 false) (lit< tt) refl ((refl, refl), refl, ([], first_file first_base (before 2), refl, refl, refl, refl), refl) tt
-    (acts first_base (before 3) 1 (Put 0 1 rld) (lit< tt) refl ((refl, refl), refl, ([], first_file first_base (before 3), refl, refl, refl, (refl, lit< tt, refl))) tt
-    (acts first_base (before 4) 1 Granted (lit< tt) refl (((refl, refl), refl, refl), lit< tt) (lit< tt, alone (after (OfJob 1 Granted) (state first_base (before 4))) 1 1 2 1 refl (lit≤ tt) (lit≤ tt))
-    (acts first_base (before 5) 1 (Put 0 0 hello) (lit< tt) refl ((refl, refl), refl, ([], first_file first_base (before 5), refl, refl, refl, (refl, lit< tt, refl))) tt
-    (acts first_base (before 6) 1 Granted (lit< tt) refl (((refl, refl), refl, refl), lit< tt) (lit< tt, alone (after (OfJob 1 Granted) (state first_base (before 6))) 1 1 1 2 refl (lit≤ tt) (lit≤ tt))
-    (acts first_base (before 7) 1 (Began (data_name 1) 11) (lit< tt) refl ((refl, refl), refl, refl, lit< tt, lit≤ tt) (lit< tt)
+abbrev sent : List ℕ → ℕ → List (Event (List ℕ))
+sent name n = drop n (file_sent name)
+
+filed : (name : List ℕ) → Legal first_base (file_sent name)
+filed name =
+    acts first_base (sent name 1) 1 (FileEnded 0 false) (lit< tt) refl ((refl, refl), refl, ([], first_file first_base (sent name 1), refl, refl, refl, refl), refl) tt
+    (acts first_base (sent name 2) 1 (Put 0 1 rld) (lit< tt) refl ((refl, refl), refl, ([], first_file first_base (sent name 2), refl, refl, refl, (refl, lit< tt, refl))) tt
+    (lent first_base (sent name 3) 1 1 2 1 (lit< tt) refl (((refl, refl), refl, refl), lit< tt) (lit< tt) refl (lit≤ tt) (lit≤ tt)
+    (acts first_base (sent name 4) 1 (Put 0 0 hello) (lit< tt) refl ((refl, refl), refl, ([], first_file first_base (sent name 4), refl, refl, refl, (refl, lit< tt, refl))) tt
+    (lent first_base (sent name 5) 1 1 1 2 (lit< tt) refl (((refl, refl), refl, refl), lit< tt) (lit< tt) refl (lit≤ tt) (lit≤ tt)
+    (acts first_base (sent name 6) 1 (Began name 11) (lit< tt) refl ((refl, refl), refl, refl, lit< tt, lit≤ tt) (lit< tt)
     ((refl, (lit≤ tt, lit≤ tt), lit< tt, lit≤ tt, refl, lit< tt), tt))))))
 
 -- and its control file comes
-pub controlled : (control : Contents) → IsControl control → is_received (acted (Controlled control true) (first_job first_base (before 1))) ≡ true
-    → Legal first_base (OfJob 1 (Controlled control true) ∷ before 1)
-controlled control is whole = acts first_base (before 1) 1 (Controlled control true) (lit< tt) refl ((refl, refl), refl, sym whole) is filed
-
--- the whole history of one job is legal, and so is what it was before its newest n events
-pub one_job_legal : Legal first_base one_job
-one_job_legal =
-    let received = controlled (control 1) (record { number = lit≤ tt; host = refl; user = refl; prints = refl }) refl in
-    let first = prints first_base (drop 5 one_job) (sheet 1 0 hello) Going refl refl (lit< tt) refl refl received in
-    (refl, prints first_base (drop 3 one_job) (sheet 1 1 rld) Done refl refl (lit< tt) refl refl first)
-
-pub older : (n : ℕ) (b : Base) (h : List (Event (List ℕ))) → Legal b h → Legal b (drop n h)
-older zero b h l = l
-older (suc n) b [] l = tt
-older (suc n) b (e ∷ h) l = older n b h l.1
+pub controlled : (name : List ℕ) (control : Contents) → IsControl control → is_received (acted (Controlled control true) (first_job first_base (file_sent name))) ≡ true
+    → Legal first_base (OfJob 1 (Controlled control true) ∷ file_sent name)
+controlled name control is whole = acts first_base (file_sent name) 1 (Controlled control true) (lit< tt) refl ((refl, refl), refl, sym whole) is (filed name)
