@@ -1,7 +1,6 @@
 use Rattle.std.proofs.Common.{ℕ, true, false, List, [], drop, refl, lit≤, lit<}
 use Rattle.spool_history.specs.Events.{Event}
-use Rattle.spool_history.specs.Events.Act.{Granted, Began, Put, FileEnded, Controlled}
-use Rattle.spool_history.specs.Events.Event.{OfJob}
+use Rattle.spool_history.specs.Events.Act.{Began, Put, FileEnded, Controlled}
 use Rattle.spool_history.specs.Events.Progress.{Done}
 use Rattle.worked_histories.specs.Rows.{control, data_name, sheet}
 use Rattle.worked_histories.specs.MoreRows.{again, short_job}

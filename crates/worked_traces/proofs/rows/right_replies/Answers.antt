@@ -30,9 +30,6 @@ some_room P f p = f p
 too_many : 4 ≤ 3 → ⊥
 too_many h = omega arith
 
-other_text : stopped_line ≡ state_line → ⊥
-other_text e = omega (arith, ap length e)
-
 pub returns : goal.returns
 unfolding digits
 returns c = record {
@@ -42,5 +39,5 @@ returns c = record {
   not_begun = λ r. too_many (the_job _ r.may.0).4;
   state_shows = refl;
   state = record { due = ((lit≤ tt, lit≤ tt), refl, (refl, ((lit≤ tt, lit≤ tt), refl))); may = tt };
-  no_other_state = λ r. other_text r.due.2.1.1;
+  no_other_state = λ r. let e : stopped_line ≡ state_line = r.due.2.1.1 in omega (arith, ap length e);
 }
