@@ -17,7 +17,8 @@ seen_last : (fs before : List File) (last : File) → fs ≡ before ++ last ∷ 
 seen_last fs before last e = ap (λ (r : List File). map file_seen r) e ∙ map-append file_seen before (last ∷ [])
 
 -- a test of the last one tells whether it is open
-pub open_if : (fs before : List File) (last : File) (n : ℕ) (P : A.File Outline → Type 0) (b : Bool) → fs ≡ before ++ last ∷ [] → length before ≡ n → last.ended ≡ false → IsTrue b ↔ P (file_seen last) → IsTrue b ↔ HasOpen (map file_seen fs) n P
+pub open_if : (fs before : List File) (last : File) (n : ℕ) (P : A.File Outline → Type 0) (b : Bool) → fs ≡ before ++ last ∷ [] → length before ≡ n → last.ended ≡ false
+    → IsTrue b ↔ P (file_seen last) → IsTrue b ↔ HasOpen (map file_seen fs) n P
 open_if fs before last n P b e l d k = (
   λ t. (map file_seen before, file_seen last, seen_last fs before last e, length-map before file_seen ∙ l, d, k.0 t),
   λ h. k.1 (subst P (sym (same_from_push (map file_seen before) h.0 (file_seen last) h.1 (sym (seen_last fs before last e) ∙ h.2)).1) h.5),
@@ -45,11 +46,6 @@ whole_by_end all control files closed e =
     ∙ ap (λ (r : List (List ℕ)). list_all (λ name. is_among name r) control.prints) (names_last files))
 
 -- one of some jobs
-pub one_here : {C : Type 0} (job : Job C) (jobs : List (Job C)) (j : ℕ) (P : Job C → Type 0) → job.number ≡ j → P job → HasJob (job ∷ jobs) j P
-one_here job jobs j P n p = record { job = job; there = (0, omega arith, refl); number = n; is = p }
-
-pub one_later : {C : Type 0} (job : Job C) (jobs : List (Job C)) (j : ℕ) (P : Job C → Type 0) → HasJob jobs j P → HasJob (job ∷ jobs) j P
-one_later job jobs j P h = record { job = h.job; there = (suc h.there.0, (let l = h.there.1 in omega arith), h.there.2); number = h.number; is = h.is }
 
 pub one_of : {C : Type 0} (job : Job C) (jobs : List (Job C)) (j : ℕ) (P : Job C → Type 0) → (job.number ≡ j → P job → ⊥) → HasJob (job ∷ jobs) j P → HasJob jobs j P
 one_of {C = C} job jobs j P fails h = from h.there.0 h.there.1 h.there.2
@@ -61,11 +57,12 @@ one_of {C = C} job jobs j P fails h = from h.there.0 h.there.1 h.there.2
 -- of jobs of which the first is such a one
 pub of_first : (jobs rest : List R.Job) (job : R.Job) (j : ℕ) (P : Job Outline → Type 0) → jobs ≡ job ∷ rest → job.number ≡ j → P (job_seen job) → IsTrue true ↔ HasJob (map job_seen jobs) j P
 of_first jobs rest job j P split n p =
-    (λ _. subst (λ (r : List R.Job). HasJob (map job_seen r) j P) (sym split) (one_here (job_seen job) (map job_seen rest) j P n p), λ _. refl)
+    (λ _. subst (λ (r : List R.Job). HasJob (map job_seen r) j P) (sym split) record { job = job_seen job; there = (0, omega arith, refl); number = n; is = p }, λ _. refl)
 
 -- and of which it is not: whether one of the rest is
-pub of_rest : (jobs rest : List R.Job) (job : R.Job) (j : ℕ) (P : Job Outline → Type 0) → jobs ≡ job ∷ rest → (job.number ≡ j → P (job_seen job) → ⊥) → HasJob (map job_seen rest) j P ↔ HasJob (map job_seen jobs) j P
+pub of_rest : (jobs rest : List R.Job) (job : R.Job) (j : ℕ) (P : Job Outline → Type 0) → jobs ≡ job ∷ rest → (job.number ≡ j → P (job_seen job) → ⊥)
+    → HasJob (map job_seen rest) j P ↔ HasJob (map job_seen jobs) j P
 of_rest jobs rest job j P split fails = (
-  λ e. subst (λ (r : List R.Job). HasJob (map job_seen r) j P) (sym split) (one_later (job_seen job) (map job_seen rest) j P e),
+  λ e. subst (λ (r : List R.Job). HasJob (map job_seen r) j P) (sym split) record { job = e.job; there = (suc e.there.0, omega (arith, e.there.1), e.there.2); number = e.number; is = e.is },
   λ h. one_of (job_seen job) (map job_seen rest) j P fails (subst (λ (r : List R.Job). HasJob (map job_seen r) j P) split h),
 )

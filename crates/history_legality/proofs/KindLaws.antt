@@ -28,15 +28,9 @@ at_kind g (suc n) k lt =
 past_kinds : (g : ℕ → ℕ) (n k : ℕ) → n ≤ k → amount (map g (up_to n)) k ≡ 0
 past_kinds g n k le = get_or_past (map g (up_to n)) k 0 (omega (arith, mapped_length g n))
 
-pub printers_at : (c : S.Config) (p q m k : ℕ) → k ≢ 0 → k ≤ length c.queues → k ≡ q → amount (amounts c p q m) k ≡ m
-printers_at c p q m zero z le e = absurd (z refl)
-printers_at c p q m (suc k) z le e =
-    at_kind (λ (i : ℕ). if i == q then m else 0) (length c.queues) k (omega arith) ∙ grind (arith, nat_tests)
-
-pub others_at : (c : S.Config) (p q m k : ℕ) → k ≢ 0 → k ≤ length c.queues → k ≢ q → amount (amounts c p q m) k ≡ 0
-others_at c p q m zero z le e = absurd (z refl)
-others_at c p q m (suc k) z le e =
-    at_kind (λ (i : ℕ). if i == q then m else 0) (length c.queues) k (omega arith) ∙ grind (arith, nat_tests)
+pub of_kind : (c : S.Config) (p q m k : ℕ) → k ≢ 0 → k ≤ length c.queues → amount (amounts c p q m) k ≡ (if k == q then m else 0)
+of_kind c p q m zero z le = absurd (z refl)
+of_kind c p q m (suc k) z le = at_kind (λ (i : ℕ). if i == q then m else 0) (length c.queues) k (omega arith)
 
 pub none_past : (c : S.Config) (p q m k : ℕ) → length c.queues < k → amount (amounts c p q m) k ≡ 0
 none_past c p q m zero lt = absurd (omega arith)

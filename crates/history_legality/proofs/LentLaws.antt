@@ -18,13 +18,12 @@ filter_no : {A : Type 0} (p : A → Bool) (x : A) (xs : List A) → p x ≡ fals
 filter_no {A} p x xs h = ap (λ (b : Bool). if b then x ∷ filter p xs else filter p xs) h
 
 -- a job that is held, as it is or as the page leaves it
-pub one_held : {C : Type 0} (s : Config) (e : Event C) (v w : Job C) (vs : List (Job C)) (all cs : List Claim) (x : Claim) → all ≡ x ∷ cs → change e v ≡ w → is_held w ≡ true → row_seen s x ≡ row_of s w → rows_seen s cs ≡ map (row_of s) (filter is_held (map (change e) vs)) → rows_seen s all ≡ map (row_of s) (filter is_held (map (change e) (v ∷ vs)))
+pub one_held : {C : Type 0} (s : Config) (e : Event C) (v w : Job C) (vs : List (Job C)) (all cs : List Claim) (x : Claim) → all ≡ x ∷ cs → change e v ≡ w → is_held w ≡ true
+    → row_seen s x ≡ row_of s w → rows_seen s cs ≡ map (row_of s) (filter is_held (map (change e) vs)) → rows_seen s all ≡ map (row_of s) (filter is_held (map (change e) (v ∷ vs)))
 one_held {C} s e v w vs all cs x items changed held row others =
     ap (rows_seen s) items
-    ∙ (ap (λ (r : Row). r ∷ rows_seen s cs) row
-    ∙ (ap (λ (r : List Row). row_of s w ∷ r) others
-    ∙ (ap (map (row_of s)) (sym (filter_yes is_held w (map (change e) vs) held))
-    ∙ ap (λ (u : Job C). map (row_of s) (filter is_held (u ∷ map (change e) vs))) (sym changed))))
+    ∙ (cc (row, others) ∙ (ap (map (row_of s)) (sym (filter_yes is_held w (map (change e) vs) held))
+    ∙ ap (λ (u : Job C). map (row_of s) (filter is_held (u ∷ map (change e) vs))) (sym changed)))
 
 pub none_held : {C : Type 0} (s : Config) (e : Event C) (v : Job C) (vs : List (Job C)) (cs : List Claim) → change e v ≡ v → is_held v ≡ false → rows_seen s cs ≡ map (row_of s) (filter is_held (map (change e) vs)) → rows_seen s cs ≡ map (row_of s) (filter is_held (map (change e) (v ∷ vs)))
 none_held {C} s e v vs cs changed held others =

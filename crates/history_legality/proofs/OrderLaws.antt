@@ -79,7 +79,8 @@ back_more c f gone x k =
 pub order_same : (f g : ℕ → ℕ) (rows : List Row) → ((k : ℕ) → f k ≡ g k) → HasFinishingOrder f rows ↔ HasFinishingOrder g rows
 order_same f g rows e = (safe_more f g rows (λ k. omega (arith, e k)), safe_more g f rows (λ k. omega (arith, e k)))
 
-pub order_more : (c : S.Config) (f : ℕ → ℕ) (gone : List Claim) (x : Claim) (rows : List Row) → HasFinishingOrder (freed (with_back c f gone) (row_seen c x)) rows ↔ HasFinishingOrder (with_back c f (gone ++ x ∷ [])) rows
+pub order_more : (c : S.Config) (f : ℕ → ℕ) (gone : List Claim) (x : Claim) (rows : List Row)
+    → HasFinishingOrder (freed (with_back c f gone) (row_seen c x)) rows ↔ HasFinishingOrder (with_back c f (gone ++ x ∷ [])) rows
 order_more c f gone x rows = order_same (freed (with_back c f gone) (row_seen c x)) (with_back c f (gone ++ x ∷ [])) rows (λ k. sym (back_more c f gone x k))
 
 -- a claim that goes first, where the others were found to have an order

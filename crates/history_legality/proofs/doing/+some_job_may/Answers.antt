@@ -9,7 +9,8 @@ use Rattle.history_legality.proofs.doing.+some_job_may.Goals.{else-job-number-vi
 pub returns : goal.returns
 returns t c =
     let k = c.some_job_may.ensures in
-    let more = of_rest c.args.jobs.now c.in-Some.rest.now c.in-Some.job.now c.args.number (JobMay octets c.args.config.now (act_seen c.args.act.now)) (cc (c.in-Some.ensures.cases.0)) (elim c.else-job-number.branch [
+    let more = of_rest c.args.jobs.now c.in-Some.rest.now c.in-Some.job.now c.args.number (JobMay octets c.args.config.now (act_seen c.args.act.now))
+    (cc (c.in-Some.ensures.cases.0)) (elim c.else-job-number.branch [
       | else-job-number-via-then-job-number+else-job_may w ↦ λ n p. absurd (cc (w.job_may.ensures.1 p))
       | else-job-number-via-else-job-number w ↦ λ n p. w.if-job-number.false n
     ]) in

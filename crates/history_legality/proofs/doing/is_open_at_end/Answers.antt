@@ -5,4 +5,5 @@ use Rattle.history_legality.proofs.doing.is_open_at_end.Goals as goal
 
 pub returns : goal.returns
 returns c =
-    open_if c.args.files.now c.in-Some.before.now c.in-Some.last.now c.args.place (HasPages c.args.config.now.page_size) c.has_pages.result (cc (c.in-Some.ensures.cases.0)) (omega arith) (cc) c.has_pages.ensures
+    open_if c.args.files.now c.in-Some.before.now c.in-Some.last.now c.args.place (HasPages c.args.config.now.page_size) c.has_pages.result
+    (cc (c.in-Some.ensures.cases.0)) (omega arith) (cc) c.has_pages.ensures

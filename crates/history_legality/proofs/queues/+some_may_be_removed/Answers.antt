@@ -7,7 +7,8 @@ use Rattle.history_legality.proofs.queues.+some_may_be_removed.Goals.{else-job-n
 
 pub returns-then-may_be_removed : goal.returns-then-may_be_removed
 returns-then-may_be_removed t c =
-    of_first c.args.jobs.now c.in-Some.rest.now c.in-Some.job.now c.args.number (MayBeRemoved c.args.queue) (cc (c.in-Some.ensures.cases.0)) c.if-job-number.true (c.may_be_removed.ensures.0 c.if-may_be_removed.true)
+    of_first c.args.jobs.now c.in-Some.rest.now c.in-Some.job.now c.args.number (MayBeRemoved c.args.queue)
+    (cc (c.in-Some.ensures.cases.0)) c.if-job-number.true (c.may_be_removed.ensures.0 c.if-may_be_removed.true)
 
 pub returns : goal.returns
 returns t c =

@@ -11,7 +11,8 @@ use Rattle.history_legality.proofs.turning.+some_job_makes.Goals.{else-job-numbe
 
 pub returns-then-branch : goal.returns-then-branch
 returns-then-branch t c =
-    of_first c.args.jobs.now c.in-Some.rest.now c.in-Some.job.now c.args.number (λ v. progress_seen c.args.progress ≡ L.progress_of v) (cc (c.in-Some.ensures.cases.0)) c.if-job-number.true (c.in_ok-makes.ensures.0 c.if-branch.true)
+    of_first c.args.jobs.now c.in-Some.rest.now c.in-Some.job.now c.args.number (λ v. progress_seen c.args.progress ≡ L.progress_of v)
+    (cc (c.in-Some.ensures.cases.0)) c.if-job-number.true (c.in_ok-makes.ensures.0 c.if-branch.true)
 
 pub returns : goal.returns
 returns t c =
