@@ -1,6 +1,5 @@
 -- The claims of jobs once a page more was lent to one of them.
-use Rattle.std.proofs.Common.{◌≡◌, ℕ, ◌+◌, ◌==◌, Bool, true, false, not, ◌||◌, List, ◌∷◌, refl, sym, ◌∙◌, ap, map, filter, if◌then◌else◌}
-use Rattle.claims.specs.declared.row.Row.{Row}
+use Rattle.std.proofs.Common.{◌≡◌, ℕ, ◌+◌, ◌==◌, Bool, true, false, not, List, ◌∷◌, refl, sym, ◌∙◌, ap, map, filter, if◌then◌else◌}
 use Rattle.config_values.specs.Config.{Config}
 use Rattle.spool_history.specs.Events.{Event}
 use Rattle.spool_history.specs.Events.Act.{Granted}

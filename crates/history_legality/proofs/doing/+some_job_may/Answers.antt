@@ -1,7 +1,5 @@
-use Rattle.std.proofs.Common.{◌≡◌, ◌∷◌}
 use Rattle.account.specs.Seen.{act_seen, octets}
-use Rattle.history_reader.specs.Seen.{job_seen}
-use Rattle.spool_history.specs.Legal.{HasJob, JobMay}
+use Rattle.spool_history.specs.Legal.{JobMay}
 use Rattle.history_legality.proofs.DoingLaws.{of_rest}
 use Rattle.history_legality.proofs.doing.+some_job_may.Goals as goal
 use Rattle.history_legality.proofs.doing.+some_job_may.Goals.{else-job-number-via-then-job-number+else-job_may, else-job-number-via-else-job-number}

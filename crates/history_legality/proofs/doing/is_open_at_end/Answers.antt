@@ -1,4 +1,4 @@
-use Rattle.std.proofs.Common.{◌≡◌, ◌++◌, ◌∷◌, [], length, false, arith}
+use Rattle.std.proofs.Common.{arith}
 use Rattle.spool_history.specs.Legal.{HasPages}
 use Rattle.history_legality.proofs.DoingLaws.{open_if}
 use Rattle.history_legality.proofs.doing.is_open_at_end.Goals as goal

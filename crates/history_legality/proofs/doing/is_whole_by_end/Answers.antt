@@ -19,5 +19,5 @@ returns-then-not-has_open_before_last c =
     let closed : A.is_open_in (A.at_last (λ f. record f { ended = true }) files) ≡ false = cc (c.as_slice.ensures.value, c.has_open_before_last.ensures, c.if-not-has_open_before_last.true) in
     let all : c.all_begun.result ≡ list_all (λ name. is_among name (A.names_in files)) control.prints =
     c.all_begun.ensures ∙ ap₂ (λ (ns : List (List ℕ)) (fs : List File). list_all (λ name. is_among name (A.names_in (map file_seen fs))) ns)
-        c.as_slice-then-not-has_open_before_last.ensures c.as_slice-then-not-has_open_before_last-2.ensures.value in
+    c.as_slice-then-not-has_open_before_last.ensures c.as_slice-then-not-has_open_before_last-2.ensures.value in
     subst (λ (o : Option Control). c.all_begun.result ≡ A.is_whole (control_seen o) (A.at_last (λ f. record f { ended = true }) files)) (sym c.in-Some.is) (whole_by_end c.all_begun.result (contents control) files closed all)

@@ -1,6 +1,5 @@
-use Rattle.std.proofs.Common.{rules, ◌≡◌, ◌↔◌, ◌++◌, Bool, List, map, filter, subst, sym, ap, ◌∙◌}
-use Rattle.std.specs.Prelude.{IsTrue}
-use Rattle.std.specs.List.{AllByRecursion, flat_map}
+use Rattle.std.proofs.Common.{rules, ◌≡◌, ◌++◌, List, map, filter, subst, sym, ap, ◌∙◌}
+use Rattle.std.specs.List.{flat_map}
 use Rattle.std.specs.List.Sorted.{IsStrictlyIncreasing}
 use Rattle.spool_history.specs.Joined as J
 use Rattle.spool_history.specs.Said as D
@@ -9,7 +8,6 @@ use Rattle.account.specs.declared.entry.Outline.{Outline}
 use Rattle.account.specs.Seen.{history, sheet_seen}
 use Rattle.history_reader.specs.declared.state.Opening as R
 use Rattle.history_reader.specs.Seen.{opening_seen}
-use Rattle.history_legality.specs.Joins.{MayLeave}
 use Rattle.history_legality.proofs.OrderLaws.{if_ok_iff}
 use Rattle.history_legality.proofs.JoinLaws.{join_of, may_of, numbers_seen}
 use Rattle.history_legality.proofs.joined.is_join.Goals as goal

@@ -1,7 +1,6 @@
 use Rattle.std.proofs.Common.{◌≡◌, ◌↔◌, Bool, List, map, ap, subst, ◌∙◌}
 use Rattle.std.specs.Prelude.{IfOk, IsTrue}
 use Rattle.std.specs.List.{AllByRecursion}
-use Rattle.spool_history.specs.Joined as J
 use Rattle.spool_history.specs.Said as D
 use Rattle.account.specs.Seen.{history}
 use Rattle.history_reader.specs.Seen.{opening_seen}

@@ -1,6 +1,4 @@
-use Rattle.std.proofs.Common.{◌≡◌, ◌∷◌}
-use Rattle.history_reader.specs.Seen.{job_seen}
-use Rattle.spool_history.specs.Legal.{HasJob, MayBeRemoved}
+use Rattle.spool_history.specs.Legal.{MayBeRemoved}
 use Rattle.history_legality.proofs.DoingLaws.{of_rest, of_first}
 use Rattle.history_legality.proofs.queues.+some_may_be_removed.Goals as goal
 use Rattle.history_legality.proofs.queues.+some_may_be_removed.Goals.{else-job-number-via-then-job-number+else-may_be_removed, else-job-number-via-else-job-number}

@@ -4,7 +4,6 @@ use Rattle.claims.specs.declared.row.Row.{Row}
 use Rattle.spool_history.specs.Events as E
 use Rattle.spool_history.specs.Now.{Job, row_of, is_held, free_pages}
 use Rattle.spool_history.specs.Steps.{change, after}
-use Rattle.spool_history.specs.Legal.{MayGrant}
 use Rattle.account.specs.declared.entry.Outline.{Outline}
 use Rattle.history_reader.specs.Seen.{job_seen, state_seen}
 use Rattle.history_legality.specs.Claimed.{rows_seen, AreSafe}

@@ -1,9 +1,8 @@
-use Rattle.std.proofs.Common.{◌≡◌, ◌∷◌}
+use Rattle.std.proofs.Common.{◌≡◌}
 use Rattle.spool_history.specs.Now.{Job}
 use Rattle.spool_history.specs.Legal as L
 use Rattle.account.specs.declared.entry.Outline.{Outline}
 use Rattle.account.specs.Seen.{progress_seen}
-use Rattle.history_reader.specs.Seen.{job_seen}
 use Rattle.history_legality.proofs.OrderLaws.{if_ok_iff}
 use Rattle.history_legality.proofs.DoingLaws.{of_rest, of_first}
 use Rattle.history_legality.proofs.turning.+some_job_makes.Goals as goal

@@ -1,6 +1,5 @@
 use Rattle.std.proofs.Common.{◌≡◌, ◌↔◌, Bool, List, map, subst, sym}
 use Rattle.std.specs.Prelude.{IfOk, IsTrue}
-use Rattle.spool_history.specs.Events as E
 use Rattle.spool_history.specs.Now.{Job}
 use Rattle.spool_history.specs.Legal as L
 use Rattle.account.specs.declared.entry.Outline.{Outline}
