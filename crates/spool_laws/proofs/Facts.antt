@@ -260,9 +260,7 @@ facts_handed {C} h p sheet f t =
             let ne : sheet.job ≢ x.job = λ same. others h p sheet f t q (λ z. s.0 (sym z)) (subst (λ (i : ℕ). began_at h q ≡ Some i) (sym same) o.0) in
             let m = count_more h p sheet x.job ne in
             let d = back_same h p sheet x.job in
-            let o1 = o.1 in
-            let o2 = o.2 in
-            (rw s.1 o.0, omega arith, omega arith)
+            (rw s.1 o.0, omega (arith, o.1), omega (arith, o.2))
       ];
       idle = λ q j e b. elim (test p q) [
         | inl s ↦ let x : ◌≡◌ {A = Option (Sheet C)} (Some sheet) None = rw s.1 at e in absurd (none_some sheet (sym x))
@@ -362,9 +360,7 @@ facts_back {C} h p sheet turn is f o =
             let ne : sheet.job ≢ x.job = λ same. s.0 (f.alone p q sheet.job was.0 (subst (λ (i : ℕ). began_at h q ≡ Some i) (sym same) x'.0)) in
             let m = back_more h p sheet turn x.job ne in
             let n = ap length (handed_same h p sheet turn x.job is) in
-            let x1 = x'.1 in
-            let x2 = x'.2 in
-            (began_same h p sheet turn q is ∙ x'.0, omega arith, omega arith)
+            (began_same h p sheet turn q is ∙ x'.0, omega (arith, x'.1), omega (arith, x'.2))
       ];
       idle = λ q j e b. (
           let b' : began_at h q ≡ Some j = sym (began_same h p sheet turn q is) ∙ b in

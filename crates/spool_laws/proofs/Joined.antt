@@ -102,8 +102,7 @@ handed_has_by {C} h p s sheet has rest = elim (test s.job sheet.job) [
 handed_has : {C : Type 0} (h : List (Event C)) (sheet : Sheet C) → Has sheet (handed h) → Has sheet (handed_of h sheet.job)
 handed_has [] sheet has = absurd has
 handed_has (AtPrinter p s Handed ∷ h) sheet has = handed_has_by h p s sheet has (handed_has h sheet)
-handed_has {C} (AtPrinter p s (Printed x) ∷ h) sheet has = subst (λ (l : List (Sheet C)). Has sheet l) (sym (handed_same h p s (Printed x) sheet.job refl)) (handed_has h sheet has)
-handed_has {C} (AtPrinter p s Failed ∷ h) sheet has = subst (λ (l : List (Sheet C)). Has sheet l) (sym (handed_same h p s Failed sheet.job refl)) (handed_has h sheet has)
+handed_has {C} (AtPrinter p s turn ∷ h) sheet has = subst (λ (l : List (Sheet C)). Has sheet l) (sym (handed_same h p s turn sheet.job refl)) (handed_has h sheet has)
 handed_has (_ ∷ h) sheet has = handed_has h sheet has
 
 -- a job is accepted, of which nothing was handed

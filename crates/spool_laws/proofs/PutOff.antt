@@ -11,12 +11,12 @@ use Rattle.claims.proofs.Orders.{safe_more, safe_without}
 use Rattle.claims.proofs.Lowered.{holds, holds_sum, holds_append}
 use Rattle.spool_history.specs.Base.{Base}
 use Rattle.spool_history.specs.Events.{Act, Event}
-use Rattle.spool_history.specs.Events.Act.{Granted, Began, Put, FileEnded, Controlled}
+use Rattle.spool_history.specs.Events.Act.{Granted, Began, Put, FileEnded, Controlled, Aborted}
 use Rattle.spool_history.specs.Events.Turn.{Handed}
 use Rattle.spool_history.specs.Events.Event.{Opened, OfJob, AtPrinter, Started}
 use Rattle.config_values.specs.Config.{Config, limit_of}
 use Rattle.spool_history.specs.Acts.{File, at_last, is_open_in, is_whole, new_file}
-use Rattle.spool_history.specs.Said.{openings}
+use Rattle.spool_history.specs.Said.{openings, ends_by_act}
 use Rattle.spool_history.specs.Now.{Job, State, now, is_held, is_received, amounts, row_of, capacity, pages_held, printers_held, pages_needed, printers_needed, up_to}
 use Rattle.spool_history.specs.Steps.{acted, change, accepted_by, after}
 use Rattle.spool_history.specs.Legal.{HasJob, IsLegal, JobMay, May, MayGrant}
@@ -174,20 +174,22 @@ open_last {C} (f ∷ fs) last e = rw (open_last fs last e) (or_true (not f.ended
 not_whole : {C : Type 0} (control : Rattle.std.specs.Prelude.Option Contents) (files : List (File C)) → is_open_in files ≡ true → is_whole control files ≡ false
 not_whole control files e = rw e (and_false (is_some control))
 
+-- an act that doesn't end its job takes at most, while the job is received before and after
+receives : {C : Type 0} (act : Act C) (u : Job C) → ends_by_act act ≡ false → u.ended ≡ false → is_received u ≡ false → is_received (acted act u) ≡ false → Takes u (acted act u)
+receives Aborted u going was before after = absurd (clash true refl going)
+receives act u going was before after = inr (inl record { number = refl; sender = refl; queue = refl; was = was; is = was; before = before; after = after; granted = omega arith; handed = refl })
+
 pub takes : {C : Type 0} (size : C → ℕ) (c : Config) (base : Base) (h : List (Event C)) (e : Event C) → may_help e ≡ false → IsLegal size c base h → May size (now c base h) e → (u : Job C) → Has u (now c base h).jobs → Takes u (change e u)
-takes size c base h (OfJob k Granted) quiet l m = act_takes size c base h k Granted l m.0 (λ u a.
-    inr (inl record { number = refl; sender = refl; queue = refl; was = a.0.0.0; is = a.0.0.0; before = a.0.0.1; after = a.0.0.1; granted = omega arith; handed = refl }))
-takes {C} size c base h (OfJob k (Began name count)) quiet l m = act_takes size c base h k (Began name count) l m.0 (λ u a.
-    inr (inl record { number = refl; sender = refl; queue = refl; was = a.0.0; is = a.0.0; before = a.0.1; after = not_whole u.control (u.files ++ new_file name count ∷ []) (open_last u.files (new_file name count) refl); granted = omega arith; handed = refl }))
+takes size c base h (OfJob k Granted) quiet l m = act_takes size c base h k Granted l m.0 (λ u a. receives Granted u refl a.0.0.0 a.0.0.1 a.0.0.1)
+takes size c base h (OfJob k (Began name count)) quiet l m = act_takes size c base h k (Began name count) l m.0 (λ u a.
+    receives (Began name count) u refl a.0.0 a.0.1 (not_whole u.control (u.files ++ new_file name count ∷ []) (open_last u.files (new_file name count) refl)))
 takes {C} size c base h (OfJob k (Put file number page)) quiet l m = act_takes size c base h k (Put file number page) l m.0 (λ u a.
     (let o = a.2 in
     let now' : at_last (with_page page) u.files ≡ o.0 ++ with_page page o.1 ∷ [] = ap (λ (fs : List (File C)). at_last (with_page page) fs) o.2 ∙ last_push (with_page page) o.0 o.1 in
     let open' : is_open_in (at_last (with_page page) u.files) ≡ true = ap is_open_in now' ∙ open_last o.0 (with_page page o.1) o.4 in
-    inr (inl record { number = refl; sender = refl; queue = refl; was = a.0.0; is = a.0.0; before = a.0.1; after = not_whole u.control (at_last (with_page page) u.files) open'; granted = omega arith; handed = refl })))
-takes size c base h (OfJob k (FileEnded file whole)) quiet l m = act_takes size c base h k (FileEnded file whole) l m.0 (λ u a.
-    inr (inl record { number = refl; sender = refl; queue = refl; was = a.0.0; is = a.0.0; before = a.0.1; after = sym a.3 ∙ quiet; granted = omega arith; handed = refl }))
-takes size c base h (OfJob k (Controlled control whole)) quiet l m = act_takes size c base h k (Controlled control whole) l m.0 (λ u a.
-    inr (inl record { number = refl; sender = refl; queue = refl; was = a.0.0; is = a.0.0; before = a.0.1; after = sym a.2 ∙ quiet; granted = omega arith; handed = refl }))
+    receives (Put file number page) u refl a.0.0 a.0.1 (not_whole u.control (at_last (with_page page) u.files) open')))
+takes size c base h (OfJob k (FileEnded file whole)) quiet l m = act_takes size c base h k (FileEnded file whole) l m.0 (λ u a. receives (FileEnded file whole) u refl a.0.0 a.0.1 (sym a.3 ∙ quiet))
+takes size c base h (OfJob k (Controlled control whole)) quiet l m = act_takes size c base h k (Controlled control whole) l m.0 (λ u a. receives (Controlled control whole) u refl a.0.0 a.0.1 (sym a.2 ∙ quiet))
 takes {C} size c base h (AtPrinter p sheet Handed) quiet l m = λ u has.
     (let f = facts size c base h l in
     let t = turn_of_page c base h p sheet m.0.0 m.0.1 m.1 in

@@ -31,6 +31,7 @@ use Rattle.spool_laws.proofs.PutOff.{Takes, takes, still_held, at_job}
 use Rattle.spool_laws.proofs.Behind.{bool_cases as false_if}
 use Rattle.spool_laws.proofs.Adding.{has_left}
 use Rattle.spool_laws.proofs.Copies.{has_either}
+use Rattle.std.proofs.lemmas.Bool.{cases_Bool}
 
 -- what an event that doesn't serve a queue makes of a job of that queue: it takes something or nothing, or a page of it comes
 -- back, and it goes on
@@ -126,26 +127,10 @@ same {C} u w s = elim s [
         unhanded = λ z. sym r.handed ∙ z;
         held = still_held u w (inr (inl r));
       }
-      | inr k ↦ record {
-        number = ap (λ (x : Job C). x.number) k.is;
-        sender = ap (λ (x : Job C). x.sender) k.is;
-        queue = ap (λ (x : Job C). x.queue) k.is;
-        ended = ap (λ (x : Job C). x.ended) k.is;
-        received = λ x. subst (λ (y : Job C). is_received y ≡ true) k.is x;
-        unhanded = λ z. absurd (let m : w.handed ≡ u.handed + 1 = ap (λ (x : Job C). x.handed) k.is in omega arith);
-        held = still_held u w (inr (inr k));
-      }
+      | inr k ↦ subst (λ (x : Job C). Same u x) (sym k.is) record { number = refl; sender = refl; queue = refl; ended = refl; received = λ x. x; unhanded = λ z. absurd (omega arith); held = λ x. rw k.was refl }
     ]
   ]
-  | inr b ↦ subst (λ (x : Job C). Same u x) (sym b.0) record {
-    number = refl;
-    sender = refl;
-    queue = refl;
-    ended = refl;
-    received = λ r. r;
-    unhanded = λ z. z;
-    held = λ k. rw b.1 refl;
-  }
+  | inr b ↦ subst (λ (x : Job C). Same u x) (sym b.0) record { number = refl; sender = refl; queue = refl; ended = refl; received = λ r. r; unhanded = λ z. z; held = λ k. rw b.1 refl }
 ]
 
 -- what no event changes
@@ -184,41 +169,27 @@ named _ u = same_named u
 abbrev all : {C : Type 0} → Event C → List (Job C) → List (Job C)
 all e us = left (change e) us ++ accepted_by e
 
-lift_by : {C : Type 0} (t t' : Job C → Bool) (g : Job C → Job C) (u z : Job C) (us new : List (Job C)) (a b : Bool) → t u ≡ a → is_held (g u) ≡ b → (t u ≡ false → t' (g u) ≡ false) → find t (u ∷ us) ≡ Some z → is_held (g z) ≡ true → t' (g z) ≡ true
-    → (find t us ≡ Some z → find t' (left g us ++ new) ≡ Some (g z)) → find t' (left g (u ∷ us) ++ new) ≡ Some (g z)
-lift_by {C} t t' g u z us new true b e d keep f held is ih =
-    let s : z ≡ u = cc in
-    let l : left g (u ∷ us) ≡ g u ∷ left g us = filter_cons true (g u) (map g us) (subst (λ (x : Job C). is_held (g x) ≡ true) s held) in
-    let y : t' (g u) ≡ true = subst (λ (x : Job C). t' (g x) ≡ true) s is in
-    rw l (rw y (ap (λ (x : Job C). Some (g x)) (sym s)))
-lift_by {C} t t' g u z us new false true e d keep f held is ih =
-    let l : left g (u ∷ us) ≡ g u ∷ left g us = filter_cons true (g u) (map g us) d in
-    let more : find t us ≡ Some z = rw e at f in
-    rw l (rw (keep e) (ih more))
-lift_by {C} t t' g u z us new false false e d keep f held is ih =
-    let l : left g (u ∷ us) ≡ left g us = filter_cons false (g u) (map g us) d in
-    let more : find t us ≡ Some z = rw e at f in
-    rw l (ih more)
+-- the job that is found after the event, where this one was found before, or else what is found among the new ones
+abbrev found_after : {C : Type 0} → (Job C → Job C) → Option (Job C) → Option (Job C) → Option (Job C)
+found_after g None new = new
+found_after g (Some z) new = Some (g z)
 
-lift : {C : Type 0} (t t' : Job C → Bool) (g : Job C → Job C) (z : Job C) (us new : List (Job C)) → ((u : Job C) → Has u us → t u ≡ false → t' (g u) ≡ false) → find t us ≡ Some z → is_held (g z) ≡ true → t' (g z) ≡ true → find t' (left g us ++ new) ≡ Some (g z)
-lift t t' g z [] new keep f held is = absurd cc
-lift t t' g z (u ∷ us) new keep f held is = lift_by t t' g u z us new (t u) (is_held (g u)) refl refl (keep u (inl refl)) f held is (λ f'. lift t t' g z us new (λ v has. keep v (inr has)) f' held is)
+abbrev Passes : {C : Type 0} → (Job C → Bool) → (Job C → Job C) → Option (Job C) → Type 0
+Passes t g None = Unit {0}
+Passes t g (Some z) = (is_held (g z) ≡ true) × (t (g z) ≡ true)
 
-lift_none_by : {C : Type 0} (t t' : Job C → Bool) (g : Job C → Job C) (u : Job C) (us new : List (Job C)) (a b : Bool) → t u ≡ a → is_held (g u) ≡ b → (t u ≡ false → t' (g u) ≡ false) → find t (u ∷ us) ≡ None
-    → (find t us ≡ None → find t' (left g us ++ new) ≡ find t' new) → find t' (left g (u ∷ us) ++ new) ≡ find t' new
-lift_none_by {C} t t' g u us new true b e d keep f ih = absurd (let z : ◌≡◌ {A = Option (Job C)} (Some u) None = rw e at f in cc)
-lift_none_by {C} t t' g u us new false true e d keep f ih =
-    let l : left g (u ∷ us) ≡ g u ∷ left g us = filter_cons true (g u) (map g us) d in
-    let more : find t us ≡ None = rw e at f in
-    rw l (rw (keep e) (ih more))
-lift_none_by {C} t t' g u us new false false e d keep f ih =
-    let l : left g (u ∷ us) ≡ left g us = filter_cons false (g u) (map g us) d in
-    let more : find t us ≡ None = rw e at f in
-    rw l (ih more)
-
-lift_none : {C : Type 0} (t t' : Job C → Bool) (g : Job C → Job C) (us new : List (Job C)) → ((u : Job C) → Has u us → t u ≡ false → t' (g u) ≡ false) → find t us ≡ None → find t' (left g us ++ new) ≡ find t' new
-lift_none t t' g [] new keep f = refl
-lift_none t t' g (u ∷ us) new keep f = lift_none_by t t' g u us new (t u) (is_held (g u)) refl refl (keep u (inl refl)) f (λ f'. lift_none t t' g us new (λ v has. keep v (inr has)) f')
+lift : {C : Type 0} (t t' : Job C → Bool) (g : Job C → Job C) (us new : List (Job C)) (o : Option (Job C)) → ((u : Job C) → Has u us → t u ≡ false → t' (g u) ≡ false) → find t us ≡ o → Passes t' g o
+    → find t' (left g us ++ new) ≡ found_after g o (find t' new)
+lift {C} t t' g [] new o keep f is = ap (λ (x : Option (Job C)). found_after g x (find t' new)) f
+lift {C} t t' g (u ∷ us) new o keep f is = elim (cases_Bool (t u)) [
+  | inl e ↦
+      let first : Some u ≡ o = rw e at f in
+      let a : Passes t' g (Some u) = subst (λ (x : Option (Job C)). Passes t' g x) (sym first) is in
+      rw a.0 (rw a.1 (ap (λ (x : Option (Job C)). found_after g x (find t' new)) first))
+  | inr e ↦
+      let ih = lift t t' g us new o (λ v has. keep v (inr has)) (rw e at f) is in
+      elim (cases_Bool (is_held (g u))) [ inl d ↦ rw d (rw (keep u (inl refl) e) ih) | inr d ↦ rw d ih ]
+]
 
 -- what a list has after the event
 
@@ -276,7 +247,7 @@ IsSpent v = drop v.handed (places v) ≡ []
 
 -- of a received job that goes on, of which nothing is left to hand, a page comes back at most
 abbrev Rests : {C : Type 0} → Job C → Job C → Type 0
-Rests u w = (w ≡ u) ⊎ (w ≡ record u { back = u.back + 1 })
+Rests u w = (n : ℕ) × (w ≡ record u { back = n })
 
 rests_act : {C : Type 0} (size : C → ℕ) (c : Config) (act : Act C) (u : Job C) → JobMay size c act u → is_received u ≡ true → u.ended ≡ false → ⊥
 rests_act size c Granted u m r e = clash (is_received u) r m.0.0.1
@@ -287,21 +258,21 @@ rests : {C : Type 0} (size : C → ℕ) (c : Config) (base : Base) (h : List (Ev
     → (u : Job C) → Has u (now c base h).jobs → u.queue ≡ q → is_received u ≡ true → u.ended ≡ false → IsSpent u → Rests u (change e u)
 rests {C} size c base h (OfJob k act) q quiet l m u has is re en sp = elim (test k u.number) [
   | inl s ↦ absurd (rests_act size c act u (at_job h k (JobMay size c act) u (facts size c base h l) (has_at c base h k (JobMay size c act) m.0) (known c base h u has) s.0) re en)
-  | inr s ↦ inl (other (acted act u) u k s.0)
+  | inr s ↦ (u.back, other (acted act u) u k s.0)
 ]
 rests {C} size c base h (AtPrinter p sheet Handed) q quiet l m u has is re en sp = elim (test sheet.job u.number) [
   | inl s ↦
       let g = at_job h sheet.job (λ (v : Job C). Gets sheet v) u (facts size c base h l) (given_at c base h (printer_at (now c base h) p) sheet (given (now c base h) p sheet m.1).1) (known c base h u has) s.0 in
       absurd (let z : ◌≡◌ {A = List (Page C)} [] (g.page ∷ g.later) = sym sp ∙ g.left in cc)
-  | inr s ↦ inl (other _ u sheet.job s.0)
+  | inr s ↦ (u.back, other _ u sheet.job s.0)
 ]
-rests size c base h (AtPrinter p sheet (Printed Going)) q quiet l m u has is re en sp = elim (test sheet.job u.number) [ inl s ↦ rw s.1 (inr refl) | inr s ↦ inl (other _ u sheet.job s.0) ]
-rests size c base h (AtPrinter p sheet _) q quiet l m u has is re en sp = inl (other _ u sheet.job (not_of (now c base h).jobs q sheet.job u has is quiet))
+rests size c base h (AtPrinter p sheet (Printed Going)) q quiet l m u has is re en sp = elim (test sheet.job u.number) [ inl s ↦ (u.back + 1, rw s.1 refl) | inr s ↦ (u.back, other _ u sheet.job s.0) ]
+rests size c base h (AtPrinter p sheet _) q quiet l m u has is re en sp = (u.back, other _ u sheet.job (not_of (now c base h).jobs q sheet.job u has is quiet))
 rests size c base h (Removed r jobs) q quiet l m u has is re en sp =
     let ne : u.queue ≡ r → ⊥ = λ same. (let z : r ≡ q = sym same ∙ is in clash (r == q) (grind (arith, nat_tests)) quiet) in
-    rw (removed_queue c base h r u jobs (facts size c base h l) (known c base h u has) m.4 ne) (inl refl)
+    rw (removed_queue c base h r u jobs (facts size c base h l) (known c base h u has) m.4 ne) (u.back, refl)
 rests size c base h Closed q quiet l m u has is re en sp = absurd (clash true refl quiet)
-rests size c base h _ q quiet l m u has is re en sp = inl refl
+rests size c base h _ q quiet l m u has is re en sp = (u.back, refl)
 
 -- and so it stays
 record Rested {C : Type 0} (u w : Job C) : Type 0 where
@@ -314,10 +285,7 @@ record Rested {C : Type 0} (u w : Job C) : Type 0 where
   places : places w ≡ places u
 
 rested : {C : Type 0} (u w : Job C) → Rests u w → Rested u w
-rested {C} u w r = elim r [
-  | inl e ↦ subst (λ (x : Job C). Rested u x) (sym e) record { number = refl; sender = refl; queue = refl; ended = refl; received = refl; handed = refl; places = refl }
-  | inr e ↦ subst (λ (x : Job C). Rested u x) (sym e) record { number = refl; sender = refl; queue = refl; ended = refl; received = refl; handed = refl; places = refl }
-]
+rested {C} u w r = subst (λ (x : Job C). Rested u x) (sym r.1) record { number = refl; sender = refl; queue = refl; ended = refl; received = refl; handed = refl; places = refl }
 
 spent_on : {C : Type 0} (u w : Job C) → Rested u w → IsSpent u → hand_of (Some w) ≡ Nothing
 spent_on {C} u w r s = left_nothing w.number w.handed (drop w.handed (places w)) (rw (r.handed, r.places) s)
@@ -397,7 +365,7 @@ first_stays {C} size c base h e q quiet l m n = by (first_ready us q) refl n
         clash (is us u) (ready_by us q u a.0 a.1) f)
 
     by : (o : Option (Job C)) → first_ready us q ≡ o → hand_of o ≡ Nothing → hand_of (first_ready (all e us) q) ≡ Nothing
-    by None f z = ap hand_of (lift_none (is us) (is (all e us)) (change e) us (accepted_by e) keep f ∙ new_unready (all e us) q e)
+    by None f z = ap hand_of (lift (is us) (is (all e us)) (change e) us (accepted_by e) None keep f tt ∙ new_unready (all e us) q e)
     by (Some u) f z =
         let has = find_has (is us) u us f in
         let b = begins_by us q u has.1 in
@@ -405,27 +373,19 @@ first_stays {C} size c base h e q quiet l m n = by (first_ready us q) refl n
         let r = rested u (change e u) (rests size c base h e q quiet l m u has.0 b.0.queue b.0.received b.1 spent) in
         let goes : (change e u).ended ≡ false = r.ended ∙ b.1 in
         let begins = begins_still size c base h e q quiet l m u has.0 b.0 r in
-        ap hand_of (lift (is us) (is (all e us)) (change e) u us (accepted_by e) keep f (going_held (change e u) goes) (ready_by (all e us) q (change e u) begins goes)) ∙ spent_on u (change e u) r spent
+        ap hand_of (lift (is us) (is (all e us)) (change e) us (accepted_by e) (Some u) keep f (going_held (change e u) goes, ready_by (all e us) q (change e u) begins goes)) ∙ spent_on u (change e u) r spent
 
--- a printer's job is of its queue
-own_queue : {C : Type 0} (size : C → ℕ) (c : Config) (base : Base) (h : List (Event C)) (p j : ℕ) (u : Job C) → IsLegal size c base h → began_at h p ≡ Some j → Has u (now c base h).jobs → u.number ≡ j → u.queue ≡ queue_of c p
-own_queue {C} size c base h p j u l began has n =
+-- a printer's job is of its queue, and is received
+own_job : {C : Type 0} (size : C → ℕ) (c : Config) (base : Base) (h : List (Event C)) (p j : ℕ) (u : Job C) → IsLegal size c base h → began_at h p ≡ Some j → Has u (now c base h).jobs → u.number ≡ j → (u.queue ≡ queue_of c p) × (is_received u ≡ true)
+own_job {C} size c base h p j u l began has n =
     let f = facts size c base h l in
     let k = known c base h u has in
     let number : k.opening.job ≡ j = sym (ap (λ (v : Job C). v.number) k.is) ∙ n in
     let began' : began_at h p ≡ Some k.opening.job = began ∙ ap (λ (i : ℕ). Some i) (sym number) in
-    let x = busy size c base h l k.opening k.there (subst (λ (v : Job C). is_held v ≡ true) k.is k.held) (f.began p k.opening.job began') in
+    let begun = f.began p k.opening.job began' in
+    let x = busy size c base h l k.opening k.there (subst (λ (v : Job C). is_held v ≡ true) k.is k.held) begun in
     let at : x.at ≡ p = f.alone x.at p k.opening.job x.began began' in
-    ap (λ (v : Job C). v.queue) k.is ∙ (sym x.queue ∙ ap (queue_of c) at)
-
--- and is received
-own_received : {C : Type 0} (size : C → ℕ) (c : Config) (base : Base) (h : List (Event C)) (p j : ℕ) (u : Job C) → IsLegal size c base h → began_at h p ≡ Some j → Has u (now c base h).jobs → u.number ≡ j → is_received u ≡ true
-own_received {C} size c base h p j u l began has n =
-    let f = facts size c base h l in
-    let k = known c base h u has in
-    let number : k.opening.job ≡ j = sym (ap (λ (v : Job C). v.number) k.is) ∙ n in
-    let began' : began_at h p ≡ Some k.opening.job = began ∙ ap (λ (i : ℕ). Some i) (sym number) in
-    ap (λ (v : Job C). is_received v) k.is ∙ received_if h k.opening.job f (f.began p k.opening.job began')
+    (ap (λ (v : Job C). v.queue) k.is ∙ (sym x.queue ∙ ap (queue_of c) at), ap (λ (v : Job C). is_received v) k.is ∙ received_if h k.opening.job f begun)
 
 -- the turn of a printer after the event
 turn_stays : {C : Type 0} (size : C → ℕ) (c : Config) (base : Base) (h : List (Event C)) (e : Event C) (p : ℕ) (o : Option ℕ) → began_at h p ≡ o → may_serve (now c base h) (queue_of c p) e ≡ false → IsLegal size c base h → May size (now c base h) e
@@ -448,7 +408,7 @@ turn_stays {C} size c base h e p (Some j) began quiet l m n = by (find is us) re
         clash (is u) (rw (num, going) refl) f)
 
     by : (o : Option (Job C)) → find is us ≡ o → hand_of (or_first us (queue_of c p) o) ≡ Nothing → hand_of (or_first (all e us) (queue_of c p) (find is (all e us))) ≡ Nothing
-    by None f z = subst (λ (o : Option (Job C)). hand_of (or_first (all e us) (queue_of c p) o) ≡ Nothing) (sym (lift_none is is (change e) us (accepted_by e) keep f))
+    by None f z = subst (λ (o : Option (Job C)). hand_of (or_first (all e us) (queue_of c p) o) ≡ Nothing) (sym (lift is is (change e) us (accepted_by e) None keep f tt))
         (new_bound (all e us) (queue_of c p) j e (first_stays size c base h e (queue_of c p) quiet l m z))
     by (Some u) f z =
         let has = find_has is u us f in
@@ -456,10 +416,11 @@ turn_stays {C} size c base h e p (Some j) began quiet l m n = by (find is us) re
         let num : u.number ≡ j = let x = a.0 in grind (arith, nat_tests) in
         let going : u.ended ≡ false = not-true u.ended a.1 in
         let spent : IsSpent u = nothing_left u.number u.handed (drop u.handed (places u)) z in
-        let r = rested u (change e u) (rests size c base h e (queue_of c p) quiet l m u has.0 (own_queue size c base h p j u l began has.0 num) (own_received size c base h p j u l began has.0 num) going spent) in
+        let own = own_job size c base h p j u l began has.0 num in
+        let r = rested u (change e u) (rests size c base h e (queue_of c p) quiet l m u has.0 own.0 own.1 going spent) in
         let goes : (change e u).ended ≡ false = r.ended ∙ going in
         let yes : is (change e u) ≡ true = subst (λ (i : ℕ). ((i == j) && not (change e u).ended) ≡ true) (sym r.number) (rw (a.0, goes) refl) in
-        subst (λ (o : Option (Job C)). hand_of (or_first (all e us) (queue_of c p) o) ≡ Nothing) (sym (lift is is (change e) u us (accepted_by e) keep f (going_held (change e u) goes) yes)) (spent_on u (change e u) r spent)
+        subst (λ (o : Option (Job C)). hand_of (or_first (all e us) (queue_of c p) o) ≡ Nothing) (sym (lift is is (change e) us (accepted_by e) (Some u) keep f (going_held (change e u) goes, yes))) (spent_on u (change e u) r spent)
 
 -- what is next for a printer of which a history says this is nothing, or it is stopped
 abbrev NothingFor : {C : Type 0} → Bool → List (Job C) → Printer C → Type 0
