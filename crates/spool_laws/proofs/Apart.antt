@@ -145,10 +145,7 @@ balanced_handed {C} c base h p sheet f one le t b =
     let number = f.numbers o t.at.there in
     let n = count_one h p sheet sheet.job refl in
     let d = back_same h p sheet sheet.job in
-    let jobs = up_once (outs h) (outs (e ∷ h)) sheet.job (last base h) (omega arith) number.1 (λ j ne. (
-    let m = count_more h p sheet j (λ s. ne (sym s)) in
-    let k = back_same h p sheet j in
-    omega arith)) (omega arith) in
+    let jobs = up_once (outs h) (outs (e ∷ h)) sheet.job (last base h) (omega arith) number.1 (λ j ne. omega (arith, count_more h p sheet j (λ s. ne (sym s)), back_same h p sheet j)) (omega arith) in
     let was : out_of h p ≡ 0 = ap (λ (x : Option (Sheet C)). one_for (is_some x)) t.idle in
     let is : out_of (e ∷ h) p ≡ 1 = ap (λ (x : Option (Sheet C)). one_for (is_some x)) (handed_out h p sheet) in
     omega (arith, up_once (out_of h) (out_of (e ∷ h)) p (printer_count c) one le (λ q ne. out_other h p sheet Handed q ne) (omega arith))
@@ -160,10 +157,8 @@ balanced_back {C} c base h p sheet turn back f one le out b =
     let number = handed_number h sheet.job f (omega arith) in
     let n = ap length (handed_same h p sheet turn sheet.job back) in
     let d = back_one h p sheet turn sheet.job back refl in
-    let jobs = up_once (outs (e ∷ h)) (outs h) sheet.job (last base h) (omega arith) number.1 (λ j ne. (
-    let m = ap length (handed_same h p sheet turn j back) in
-    let k = back_more h p sheet turn j (λ s. ne (sym s)) in
-    omega arith)) (omega arith) in
+    let jobs = up_once (outs (e ∷ h)) (outs h) sheet.job (last base h) (omega arith) number.1
+    (λ j ne. omega (arith, ap length (handed_same h p sheet turn j back), back_more h p sheet turn j (λ s. ne (sym s)))) (omega arith) in
     let was : out_of h p ≡ 1 = ap (λ (x : Option (Sheet C)). one_for (is_some x)) out in
     let is : out_of (e ∷ h) p ≡ 0 = ap (λ (x : Option (Sheet C)). one_for (is_some x)) (out_here h p sheet turn p back refl) in
     omega (arith, up_once (out_of (e ∷ h)) (out_of h) p (printer_count c) one le (λ q ne. sym (out_other h p sheet turn q ne)) (omega arith))

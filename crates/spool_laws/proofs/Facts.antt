@@ -221,74 +221,56 @@ some_same x y e = cc
 none_some : {C : Type 0} (s : Sheet C) → ◌≡◌ {A = Option (Sheet C)} None (Some s) → ⊥
 none_some s e = cc
 
+-- a page is out at a printer: the next place of its job after those that came back, and the only one that is out
+abbrev IsOut : {C : Type 0} → List (Event C) → ℕ → Sheet C → Type 0
+IsOut h p s = (began_at h p ≡ Some s.job) × (handed_at h s.job ≡ back_of h s.job + 1) × (s.place ≡ back_of h s.job)
+
 facts_handed : {C : Type 0} {base : Base} (h : List (Event C)) (p : ℕ) (sheet : Sheet C) → Facts base h → Turn' h p sheet → Facts base (AtPrinter p sheet Handed ∷ h)
 facts_handed {C} h p sheet f t =
     let here = handed_now h p sheet f t in
     let le = number_at h sheet.job (λ v. Gets sheet v) f t.at in
     let place : sheet.place ≡ handed_at h sheet.job = ap (λ (s : Sheet C). s.place) t.at.is.is in
+    let apart : (q j : ℕ) → p ≢ q → began_at h q ≡ Some j → sheet.job ≢ j = λ q j ne b same. others h p sheet f t q (λ z. ne (sym z)) (subst (λ (i : ℕ). began_at h q ≡ Some i) (sym same) b) in
     record {
       numbers = f.numbers;
       once = f.once;
       fresh = λ j lt. (
           let u = f.fresh j lt in
           let ne : sheet.job ≢ j = λ same. (let m : sheet.job ≡ j = same in omega arith) in
-          record {
-            acts = u.acts;
-            handed = handed_more h p sheet j ne ∙ u.handed;
-            back = back_same h p sheet j ∙ u.back;
-            ended = λ open'. ended_turn h p sheet Handed j ne (u.ended open');
-          });
+          record { acts = u.acts; handed = handed_more h p sheet j ne ∙ u.handed; back = back_same h p sheet j ∙ u.back; ended = λ open'. ended_turn h p sheet Handed j ne (u.ended open') });
       begun = λ j e. elim (test sheet.job j) [
         | inl s ↦ absurd (received_now h p sheet f t (subst (λ (i : ℕ). received_at h i ≡ false) (sym s.0) e))
         | inr s ↦ count_more h p sheet j s.0 ∙ f.begun j e
       ];
       back = λ j. elim (test sheet.job j) [
-        | inl s ↦ let m = count_one h p sheet j s.0 in let b = f.back j in let d = back_same h p sheet j in omega arith
-        | inr s ↦ let m = count_more h p sheet j s.0 in let b = f.back j in let d = back_same h p sheet j in omega arith
+        | inl s ↦ omega (arith, count_one h p sheet j s.0, f.back j, back_same h p sheet j)
+        | inr s ↦ omega (arith, count_more h p sheet j s.0, f.back j, back_same h p sheet j)
       ];
       out = λ q x e. elim (test p q) [
         | inl s ↦
-            let x' : sheet ≡ x = some_same sheet x (rw s.1 at e) in
-            let j' : sheet.job ≡ x.job = ap (λ (y : Sheet C). y.job) x' in
-            let now' : handed_at h x.job ≡ back_of h x.job = subst (λ (i : ℕ). handed_at h i ≡ back_of h i) j' here in
-            let m = count_one h p sheet x.job j' in
-            let d = back_same h p sheet x.job in
-            let pl : x.place ≡ handed_at h x.job = subst (λ (y : Sheet C). y.place ≡ handed_at h y.job) x' place in
-            (rw s.1 (ap (λ (i : ℕ). Some i) j'), omega arith, omega arith)
+            let one = count_one h p sheet sheet.job refl in
+            let d = back_same h p sheet sheet.job in
+            subst (IsOut (AtPrinter p sheet Handed ∷ h) q) (some_same sheet x (rw s.1 at e)) (rw s.1 refl, omega arith, omega arith)
         | inr s ↦
             let o = f.out q x (rw s.1 at e) in
-            let ne : sheet.job ≢ x.job = λ same. others h p sheet f t q (λ z. s.0 (sym z)) (subst (λ (i : ℕ). began_at h q ≡ Some i) (sym same) o.0) in
-            let m = count_more h p sheet x.job ne in
+            let m = count_more h p sheet x.job (apart q x.job s.0 o.0) in
             let d = back_same h p sheet x.job in
             (rw s.1 o.0, omega (arith, o.1), omega (arith, o.2))
       ];
       idle = λ q j e b. elim (test p q) [
         | inl s ↦ let x : ◌≡◌ {A = Option (Sheet C)} (Some sheet) None = rw s.1 at e in absurd (none_some sheet (sym x))
-        | inr s ↦
-            let b' : began_at h q ≡ Some j = rw s.1 at b in
-            let ne : sheet.job ≢ j = λ same. others h p sheet f t q (λ z. s.0 (sym z)) (subst (λ (i : ℕ). began_at h q ≡ Some i) (sym same) b') in
-            omega (arith, f.idle q j (rw s.1 at e) b', count_more h p sheet j ne, back_same h p sheet j)
+        | inr s ↦ let b' : began_at h q ≡ Some j = rw s.1 at b in omega (arith, f.idle q j (rw s.1 at e) b', count_more h p sheet j (apart q j s.0 b'), back_same h p sheet j)
       ];
       began = λ q j b. elim (test sheet.job j) [
-        | inl s ↦ let m = count_one h p sheet j s.0 in omega arith
+        | inl s ↦ omega (arith, count_one h p sheet j s.0)
         | inr s ↦ elim (test p q) [
           | inl r ↦ absurd (s.0 (some_same sheet.job j (rw r.1 at b)))
-          | inr r ↦ let m = count_more h p sheet j s.0 in let o = f.began q j (rw r.1 at b) in omega arith
+          | inr r ↦ omega (arith, count_more h p sheet j s.0, f.began q j (rw r.1 at b))
         ]
       ];
       alone = λ q r j b d. elim (test p q) [
-        | inl s ↦ elim (test p r) [
-          | inl u ↦ sym s.0 ∙ u.0
-          | inr u ↦
-              let same : sheet.job ≡ j = some_same sheet.job j (rw s.1 at b) in
-              absurd (others h p sheet f t r (λ z. u.0 (sym z)) (subst (λ (i : ℕ). began_at h r ≡ Some i) (sym same) (rw u.1 at d)))
-        ]
-        | inr s ↦ elim (test p r) [
-          | inl u ↦
-              let same : sheet.job ≡ j = some_same sheet.job j (rw u.1 at d) in
-              absurd (others h p sheet f t q (λ z. s.0 (sym z)) (subst (λ (i : ℕ). began_at h q ≡ Some i) (sym same) (rw s.1 at b)))
-          | inr u ↦ f.alone q r j (rw s.1 at b) (rw u.1 at d)
-        ]
+        | inl s ↦ elim (test p r) [ inl u ↦ sym s.0 ∙ u.0 | inr u ↦ absurd (apart r j u.0 (rw u.1 at d) (some_same sheet.job j (rw s.1 at b))) ]
+        | inr s ↦ elim (test p r) [ inl u ↦ absurd (apart q j s.0 (rw s.1 at b) (some_same sheet.job j (rw u.1 at d))) | inr u ↦ f.alone q r j (rw s.1 at b) (rw u.1 at d) ]
       ];
     }
 
@@ -330,35 +312,26 @@ handed_number {base = base} h j f pos = elim (cases_lt base.accepted j) [
 facts_back : {C : Type 0} {base : Base} (h : List (Event C)) (p : ℕ) (sheet : Sheet C) (turn : Turn) → is_handed turn ≡ false → Facts base h → out_at h p ≡ Some sheet → Facts base (AtPrinter p sheet turn ∷ h)
 facts_back {C} h p sheet turn is f o =
     let was = f.out p sheet o in
-    let was1 = was.1 in
-    let le = handed_number h sheet.job f (omega arith) in
+    let le = handed_number h sheet.job f (omega (arith, was.1)) in
+    let one : (j : ℕ) → sheet.job ≡ j → handed_at h j ≡ back_of h j + 1 = λ j same. subst (λ (i : ℕ). handed_at h i ≡ back_of h i + 1) same was.1 in
+    let apart : (q j : ℕ) → p ≢ q → began_at h q ≡ Some j → sheet.job ≢ j = λ q j ne b same. ne (f.alone p q sheet.job was.0 (subst (λ (i : ℕ). began_at h q ≡ Some i) (sym same) b)) in
     record {
       numbers = f.numbers;
       once = f.once;
       fresh = λ j lt. (
           let u = f.fresh j lt in
           let ne : sheet.job ≢ j = λ same. (let m : sheet.job ≡ j = same in omega arith) in
-          record {
-            acts = u.acts;
-            handed = handed_same h p sheet turn j is ∙ u.handed;
-            back = back_more h p sheet turn j ne ∙ u.back;
-            ended = λ open'. ended_turn h p sheet turn j ne (u.ended open');
-          });
+          record { acts = u.acts; handed = handed_same h p sheet turn j is ∙ u.handed; back = back_more h p sheet turn j ne ∙ u.back; ended = λ open'. ended_turn h p sheet turn j ne (u.ended open') });
       begun = λ j e. ap length (handed_same h p sheet turn j is) ∙ f.begun j e;
-      back = λ j. (
-          let s = ap length (handed_same h p sheet turn j is) in
-          elim (test sheet.job j) [
-            | inl r ↦
-                let w : handed_at h j ≡ back_of h j + 1 = subst (λ (i : ℕ). handed_at h i ≡ back_of h i + 1) r.0 was.1 in
-                omega (arith, back_one h p sheet turn j is r.0)
-            | inr r ↦ let m = back_more h p sheet turn j r.0 in let b = f.back j in omega arith
-          ]);
+      back = λ j. elim (test sheet.job j) [
+        | inl r ↦ omega (arith, ap length (handed_same h p sheet turn j is), one j r.0, back_one h p sheet turn j is r.0)
+        | inr r ↦ omega (arith, ap length (handed_same h p sheet turn j is), back_more h p sheet turn j r.0, f.back j)
+      ];
       out = λ q x e. elim (test p q) [
         | inl s ↦ absurd (none_some x (sym (out_here h p sheet turn q is s.0) ∙ e))
         | inr s ↦
             let x' = f.out q x (sym (out_there h p sheet turn q s.0) ∙ e) in
-            let ne : sheet.job ≢ x.job = λ same. s.0 (f.alone p q sheet.job was.0 (subst (λ (i : ℕ). began_at h q ≡ Some i) (sym same) x'.0)) in
-            let m = back_more h p sheet turn x.job ne in
+            let m = back_more h p sheet turn x.job (apart q x.job s.0 x'.0) in
             let n = ap length (handed_same h p sheet turn x.job is) in
             (began_same h p sheet turn q is ∙ x'.0, omega (arith, x'.1), omega (arith, x'.2))
       ];
@@ -366,13 +339,8 @@ facts_back {C} h p sheet turn is f o =
           let b' : began_at h q ≡ Some j = sym (began_same h p sheet turn q is) ∙ b in
           let n = ap length (handed_same h p sheet turn j is) in
           elim (test p q) [
-            | inl s ↦
-                let j' : sheet.job ≡ j = some_same sheet.job j (sym was.0 ∙ subst (λ (r : ℕ). began_at h r ≡ Some j) (sym s.0) b') in
-                let w : handed_at h j ≡ back_of h j + 1 = subst (λ (i : ℕ). handed_at h i ≡ back_of h i + 1) j' was.1 in
-                omega (arith, back_one h p sheet turn j is j')
-            | inr s ↦
-                let ne : sheet.job ≢ j = λ same. s.0 (f.alone p q sheet.job was.0 (subst (λ (i : ℕ). began_at h q ≡ Some i) (sym same) b')) in
-                omega (arith, f.idle q j (sym (out_there h p sheet turn q s.0) ∙ e) b', back_more h p sheet turn j ne)
+            | inl s ↦ let j' = some_same sheet.job j (sym was.0 ∙ subst (λ (r : ℕ). began_at h r ≡ Some j) (sym s.0) b') in omega (arith, one j j', back_one h p sheet turn j is j')
+            | inr s ↦ omega (arith, f.idle q j (sym (out_there h p sheet turn q s.0) ∙ e) b', back_more h p sheet turn j (apart q j s.0 b'))
           ]);
       began = λ q j b. (
           omega (arith, ap length (handed_same h p sheet turn j is), f.began q j (sym (began_same h p sheet turn q is) ∙ b)));

@@ -103,11 +103,7 @@ moved_opened {C} c base h j s q f open' is =
     let e : Event C = Opened j s q in
     let o : Opening = record { job = j; sender = s; queue = q } in
     let u = f.fresh j (inr (omega arith)) in
-    let a = u.acts in
-    let b = u.handed in
-    let d = u.back in
-    let n = u.ended (open_first base h open') in
-    let new : job_of h o ≡ new_job j s q = rw (a, b, d, n) refl in
+    let new : job_of h o ≡ new_job j s q = rw (u.acts, u.handed, u.back, u.ended (open_first base h open')) refl in
     let last : filter is_held (map (job_of (e ∷ h)) (o ∷ [])) ≡ new_job j s q ∷ [] = ap (λ (v : Job C). filter is_held (v ∷ [])) new in
     let split : filter is_held (map (job_of (e ∷ h)) (openings h ++ o ∷ [])) ≡ filter is_held (map (job_of (e ∷ h)) (openings h)) ++ filter is_held (map (job_of (e ∷ h)) (o ∷ [])) =
     ap (filter is_held) (map-append (job_of (e ∷ h)) (openings h) (o ∷ [])) ∙ filter-append is_held (map (job_of (e ∷ h)) (openings h)) (map (job_of (e ∷ h)) (o ∷ [])) in

@@ -142,36 +142,27 @@ first_total n q qs k (suc a) false e le =
 later_total : (n : ℕ) (q : Queue) (qs : List Queue) (k m : ℕ) (b : Bool) → (n == k) ≡ b → total (serves n (q ∷ qs) k) (q.printers + m) ≡ cond b q.printers 0 + total (serves (n + 1) qs k) m
 later_total n q qs k zero b is =
     let e : q.printers + 0 ≡ q.printers = omega arith in
-    let f = first_total n q qs k q.printers b is (omega arith) in
-    rw e (omega arith)
+    rw e (omega (arith, first_total n q qs k q.printers b is (omega arith)))
 later_total n q qs k (suc m) b is =
     let e : q.printers + suc m ≡ suc (q.printers + m) = omega arith in
-    let ih = later_total n q qs k m b is in
-    let s = serves_later n q qs k m in
-    rw e (omega arith)
+    rw e (omega (arith, later_total n q qs k m b is, serves_later n q qs k m))
 
 none_total : (n : ℕ) (qs : List Queue) (k m : ℕ) → 1 ≤ k → k < n → total (serves n qs k) m ≡ 0
 none_total n qs k zero one lt = refl
-none_total n qs k (suc m) one lt = let ih = none_total n qs k m one lt in let s = serves_none n qs k (suc m) one lt in omega arith
+none_total n qs k (suc m) one lt = omega (arith, none_total n qs k m one lt, serves_none n qs k (suc m) one lt)
 
 pub served_total : (n : ℕ) (qs : List Queue) (i : ℕ) → 1 ≤ n → total (serves n qs (n + i)) (sum_by (λ (q : Queue). q.printers) qs) ≤ get_or (map (λ (q : Queue). q.printers) qs) i 0
 served_total n [] i one = omega arith
 served_total n (q ∷ qs) zero one =
-    let sum = sum_by-cons (λ (q : Queue). q.printers) q qs in
     let m = sum_by (λ (q : Queue). q.printers) qs in
     let e : (n == n + 0) ≡ true = grind (arith, nat_tests) in
-    let l = later_total n q qs (n + 0) m true e in
-    let z = none_total (n + 1) qs (n + 0) m (omega arith) (omega arith) in
-    rw sum (omega arith)
+    rw (sum_by-cons (λ (q : Queue). q.printers) q qs) (omega (arith, later_total n q qs (n + 0) m true e, none_total (n + 1) qs (n + 0) m (omega arith) (omega arith)))
 served_total n (q ∷ qs) (suc i) one =
-    let sum = sum_by-cons (λ (q : Queue). q.printers) q qs in
     let m = sum_by (λ (q : Queue). q.printers) qs in
     let e : (n == n + suc i) ≡ false = grind (arith, nat_tests) in
-    let l = later_total n q qs (n + suc i) m false e in
     let same : n + suc i ≡ (n + 1) + i = omega arith in
-    let ih = served_total (n + 1) qs i (omega arith) in
-    let ih' : total (serves (n + 1) qs (n + suc i)) m ≤ get_or (map (λ (q : Queue). q.printers) qs) i 0 = subst (λ (k : ℕ). total (serves (n + 1) qs k) m ≤ get_or (map (λ (q : Queue). q.printers) qs) i 0) (sym same) ih in
-    rw sum (omega arith)
+    let ih = subst (λ (k : ℕ). total (serves (n + 1) qs k) m ≤ get_or (map (λ (q : Queue). q.printers) qs) i 0) (sym same) (served_total (n + 1) qs i (omega arith)) in
+    rw (sum_by-cons (λ (q : Queue). q.printers) q qs) (omega (arith, later_total n q qs (n + suc i) m false e))
 
 pub at_most : (f : ℕ → ℕ) (n i : ℕ) → get_or (map f (up_to n)) i 0 ≤ f (suc i)
 at_most f n i = elim (cases_lt i n) [

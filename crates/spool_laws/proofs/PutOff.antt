@@ -277,13 +277,9 @@ granted_before {C} size c base h e j quiet l g =
     let lent : AllTook (rows c (map (grant j) us)) (rows c (map (λ (u : Job C). grant j (change e u)) us)) = all_took c (grant j) (λ (u : Job C). grant j (change e u)) us (λ u has. takes_granted j u (change e u) (each u has)) in
     let lent' : AllTook (rows c (map (grant j) us)) (rows c (map (grant j) vs)) =
     subst (λ (r : List (Job C)). AllTook (rows c (map (grant j) us)) (rows c r)) (map_twice (change e) (grant j) (λ (u : Job C). grant j (change e u)) us (λ u. refl)) lent in
-    let s0 = holds_sum 0 (rows c us) in
-    let s1 = holds_sum 0 (rows c ws) in
     let h0 : holds 0 (rows c ws) ≡ holds 0 (rows c vs) + holds 0 (rows c new) = ap (λ (r : List (Job C)). holds 0 (rows c r)) is ∙ (ap (holds 0) (map-append (row_of c) vs new) ∙ holds_append 0 (rows c vs) (rows c new)) in
-    let more = took_more 0 (rows c us) (rows c vs) plain' in
-    let pos = g.0 in
-    let lt : holds 0 (rows c ws) < amount (capacity c) 0 = omega arith in
-    let some : 0 < amount (capacity c) 0 - holds 0 (rows c us) = omega arith in
+    let lt : holds 0 (rows c ws) < amount (capacity c) 0 = omega (arith, g.0, holds_sum 0 (rows c ws)) in
+    let some : 0 < amount (capacity c) 0 - holds 0 (rows c us) = omega (arith, took_more 0 (rows c us) (rows c vs) plain') in
     let small = within size c base (e ∷ h) j l lt in
     let A = rows c (map (grant j) vs) in
     let B = rows c (map (grant j) new) in
@@ -295,7 +291,7 @@ granted_before {C} size c base h e j quiet l g =
     (let w = small k in
     let sum = ap (holds k) parts ∙ holds_append k A B in
     omega arith)) first in
-    ((let z = s0 in omega arith), to_safe (after (OfJob j Granted) (now c base h)) (subst (λ (r : List (Job C)). IsGood c r) (sym (granted_jobs c base h j)) good))
+    (omega (arith, holds_sum 0 (rows c us)), to_safe (after (OfJob j Granted) (now c base h)) (subst (λ (r : List (Job C)). IsGood c r) (sym (granted_jobs c base h j)) good))
 
 pub put_off_stays : {C : Type 0} (size : C → ℕ) (c : Config) (base : Base) (h later : List (Event C)) (j : ℕ) → IsLegal size c base (later ++ h) → NoneMayHelp later → ¬ (MayGrant (now c base h) j) → ¬ (MayGrant (now c base (later ++ h)) j)
 put_off_stays size c base h [] j l none quiet = quiet

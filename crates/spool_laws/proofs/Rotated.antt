@@ -69,12 +69,9 @@ counts {C} c b h =
     let below = up_below (λ (p : ℕ). cond (is_stopped_at b h (queue_of c p) p) 1 0) (λ (p : ℕ). cond (was_stopped (rotated v) p) 1 0) (printer_count c) (λ p le. each p le) in
     omega arith
   where
-    same_le : (n m : ℕ) → n ≡ m → n ≤ m
-    same_le n m e = omega arith
-
     each : (p : ℕ) → p ≤ printer_count c → cond (was_stopped (rotated (now c b h)) p) 1 0 ≤ cond (is_stopped_at b h (queue_of c p) p) 1 0
     each zero le = omega arith
-    each (suc p) le = same_le _ _ (ap (λ (s : Bool). cond s 1 0) (still_stopped c b h (suc p) (omega arith) le))
+    each (suc p) le = omega (arith, ap {B = ℕ} (λ (s : Bool). cond s 1 0) (still_stopped c b h (suc p) (omega arith) le))
 
 pub opens : {C : Type 0} (c : Config) (b : Base) (h : List (Event C)) (j q : ℕ)
     → let v : State C = now c b h in MayOpen (now {C = C} c (rotated v) []) j q

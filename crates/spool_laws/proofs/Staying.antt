@@ -135,19 +135,14 @@ could c w q is (suc i) =
           let a' : get_or (map (λ (r : ℕ). cond (r == q) 1 0) (up_to (length c.queues))) i 0 ≤ 1 = rw s.1 at a in
           let same : (queue_at c q).printers ≡ (slice_index_or c.queues i no_queue).printers = ap (λ (n : ℕ). (slice_index_or (no_queue ∷ c.queues) n no_queue).printers) (sym s.0) in
           omega (arith, w.printers q is)
-      | inr s ↦
-          let a' : get_or (map (λ (r : ℕ). cond (r == q) 1 0) (up_to (length c.queues))) i 0 ≤ 0 = rw s.1 at a in
-          omega arith
+      | inr s ↦ omega (arith, rw s.1 at a)
     ]
 
 nothing_of : (c : Config) (q k : ℕ) → amount (amounts c 0 q 0) k ≡ 0
 nothing_of c q zero = refl
 nothing_of c q (suc i) =
     let a = at_most (λ (r : ℕ). cond (r == q) 0 0) (length c.queues) i in
-    elim (test (suc i) q) [
-      | inl s ↦ (let a' : get_or (map (λ (r : ℕ). cond (r == q) 0 0) (up_to (length c.queues))) i 0 ≤ 0 = rw s.1 at a in omega arith)
-      | inr s ↦ (let a' : get_or (map (λ (r : ℕ). cond (r == q) 0 0) (up_to (length c.queues))) i 0 ≤ 0 = rw s.1 at a in omega arith)
-    ]
+    elim (test (suc i) q) [ inl s ↦ omega (arith, rw s.1 at a) | inr s ↦ omega (arith, rw s.1 at a) ]
 
 all_rows : {C : Type 0} (P : Row → Type 0) (row : Job C → Row) (us : List (Job C)) → ((u : Job C) → Has u us → P (row u)) → AllByRecursion P (map row us)
 all_rows P row [] f = tt

@@ -68,7 +68,7 @@ all_numbers size c base (_ ∷ h) l f = all_numbers size c base h l.1 f
 pub numbers : {C : Type 0} (size : C → ℕ) (c : Config) (base : Base) (h : List (Event C)) → IsLegal size c base h → (f : ℕ → ℕ) → ((j : ℕ) → IsOther base h j → f j ≡ 0) → sum_by (λ (p : Opening). f p.job) (openings h) ≡ sum_by f (up_to (last base h))
 numbers size c base h l f none =
     let nothing : ℕ → ℕ = λ (j : ℕ). 0 in
-    omega (arith, all_numbers size c base h l f, up_below nothing f base.accepted (λ j le. (let z = none j (inl le) in omega arith)), up_none nothing base.accepted (λ j. refl))
+    omega (arith, all_numbers size c base h l f, up_below nothing f base.accepted (λ j le. omega (arith, none j (inl le))), up_none nothing base.accepted (λ j. refl))
 
 -- nothing is held of a job of which nothing is said
 
@@ -212,13 +212,8 @@ step_weights size c base h (Opened k s q) l m w =
 step_weights size c base h (OfJob k Granted) l m w =
     let a = has_at c base h k _ m.0 in
     let one = act_granted size c base h k Granted 1 (m, l) refl refl a.is.0.0.0 a.is.0.0.1 in
-    omega (
-      arith,
-      m.1.0,
-      free_rest c base h,
-      held_weights size c base h l,
-      up_one (weight_at h) (weight_at (OfJob k Granted ∷ h)) k (last base h) (λ j ne. omega (arith, other_act h k Granted j (λ x. ne (sym x)))) one,
-    )
+    let all = up_one (weight_at h) (weight_at (OfJob k Granted ∷ h)) k (last base h) (λ j ne. omega (arith, other_act h k Granted j (λ x. ne (sym x)))) one in
+    omega (arith, m.1.0, free_rest c base h, held_weights size c base h l)
 step_weights size c base h (OfJob k Aborted) l m w =
     let v = job_of h (numbered k) in
     less c base h (OfJob k Aborted) refl w (act_less h k Aborted (omega (arith, aborted_here h k, abort_less v, ending v (sound size c base h l (numbered k)))))

@@ -186,23 +186,10 @@ abbrev pub used : {C : Type 0} → List (Event C) → ℕ → ℕ
 used h j = 1 + length (acts_of h j) + (handed_at h j + (back_of h j + (failed_of h j + removed_of h j)))
 
 pub reserved : {C : Type 0} (size : C → ℕ) (c : Config) (base : Base) (h : List (Event C)) → IsLegal size c base h → (o : Opening) → Has o (openings h) → used h o.job ≤ reserve_of c o.queue
-reserved {C} size c base h l o has =
-    let j = o.job in
-    let a = acts_of h j in
-    let t = told size c base h l j in
-    let count = all_counted a in
-    let t2 = t.acts.puts in
-    let t3 = t.acts.files in
-    let t4 = t.acts.ended in
-    let t5 = t.acts.control in
-    let t6 = t.acts.aborted in
-    let t7 = t.failed in
-    let t8 = t.removed in
-    let b1 = began_files a in
-    let b2 = count_le (files_by a) in
-    let w = within size c base h l o has in
+reserved size c base h l o has =
+    let a = acts_of h o.job in
+    let t = told size c base h l o.job in
     let s = sound size c base h l o in
-    let back = s.back in
-    let handed = s.handed in
-    let places = s.many in
-    omega arith
+    let w = within size c base h l o has in
+    let b = count_le (files_by a) in
+    omega (arith, all_counted a, t.acts.puts, t.acts.files, t.acts.ended, t.acts.control, t.acts.aborted, t.failed, t.removed, began_files a, s.back, s.handed, s.many)
