@@ -177,8 +177,5 @@ pub each_has_a_place : {C : Type 0} (size : C → ℕ) (c : Config) (base : Base
 each_has_a_place {C} size c base h l =
     let jobs = (now c base h).jobs in
     let parts = sum_parts (λ (v : Job C). pages_held v) (λ (v : Job C). chained_of v) (λ (v : Job C). one_for v.lent) (λ (v : Job C). v.handed - v.back) jobs (held_apart size c base h l) in
-    let out = outs_of_jobs size c base h l in
-    let same = balanced size c base h l in
     let printers : at_printers (now c base h) ≡ sum_by (out_of h) (up_to (printer_count c)) = sum_map (λ (p : Printer C). one_for (is_some p.out)) (printer_of c base h) (up_to (printer_count c)) in
-    let all = (pages_add_up size c base h l).all in
-    omega arith
+    omega (arith, outs_of_jobs size c base h l, balanced size c base h l, (pages_add_up size c base h l).all)

@@ -112,9 +112,7 @@ named_within name n [] = omega arith
 named_within name n (f ∷ fs) =
     let ih = named_within name (n + 1) fs in
     let l = length_numbered n 0 f.pages in
-    let a = length-append (cond (bytes_eq f.name name) (numbered n 0 f.pages) []) (pages_named name (n + 1) fs) in
-    let b = if_length (bytes_eq f.name name) (numbered n 0 f.pages) in
-    omega arith
+    omega (arith, length-append (cond (bytes_eq f.name name) (numbered n 0 f.pages) []) (pages_named name (n + 1) fs), if_length (bytes_eq f.name name) (numbered n 0 f.pages))
   where
     if_length : {X : Type 0} (b : Bool) (xs : List X) → length (cond b xs []) ≤ length xs
     if_length true xs = omega arith

@@ -77,8 +77,7 @@ printers_counted {C} size c base h i l =
     (place_at size c base h i l k.opening k.there (subst (λ (u : Job C). is_held u ≡ true) k.is k.held) (subst (λ (u : Job C). 0 < weight i u) k.is pos))) in
     let b = pigeons (Tied h) (λ p j k x y. some_same j k (sym x ∙ y)) (weight i) (λ (v : Job C). v.number) (printer_count c) (serves 1 c.queues (1 + i)) jobs
     (weight_small i) (rising_jobs size c base h l) place in
-    let d = served_total 1 c.queues i (omega arith) in
-    omega arith
+    omega (arith, served_total 1 c.queues i (omega arith))
 
 printers_within : {C : Type 0} (size : C → ℕ) (c : Config) (base : Base) (h : List (Event C)) (i : ℕ) → IsLegal size c base h → holds (suc i) (rows c (now c base h).jobs) ≤ amount (capacity c) (suc i)
 printers_within {C} size c base h i l = omega (arith, holds_weight c i (now c base h).jobs, printers_counted size c base h i l)
@@ -108,10 +107,7 @@ enough_printers : {C : Type 0} (size : C → ℕ) (c : Config) (base : Base) (h 
 enough_printers size c base h zero l is = absurd (omega (arith, is.0))
 enough_printers {C} size c base h (suc i) l is =
     let all = sum_filter (λ (v : Job C). printers_held v) (λ (v : Job C). v.queue == suc i) (now c base h).jobs in
-    let few = of_queues (suc i) i (now c base h).jobs refl in
-    let most = printers_counted size c base h i l in
-    let there = get_printers c.queues i in
-    omega arith
+    omega (arith, of_queues (suc i) i (now c base h).jobs refl, printers_counted size c base h i l, get_printers c.queues i)
 
 pub no_kind_runs_over : {C : Type 0} (size : C → ℕ) (c : Config) (base : Base) (h : List (Event C)) → IsLegal size c base h → NoMoreThanThereIs c base h
 no_kind_runs_over size c base h l = record {

@@ -111,8 +111,7 @@ Told' c base h = length h + stops c base h ≤ base.reserved + all_used h (openi
 
 act_told : {C : Type 0} (c : Config) (base : Base) (h : List (Event C)) (k : ℕ) (act : Act C) (P : Job C → Type 0) → At h k P → Told' c base h → Told' c base (OfJob k act ∷ h)
 act_told c base h k act P a t =
-    let s = sum_more (used_by h) (used_by (OfJob k act ∷ h)) 1 (record { job = k; sender = a.sender; queue = a.queue }) (openings h) a.there (λ o. more_act h k act o.job) (one_act h k act) in
-    omega arith
+    omega (arith, sum_more (used_by h) (used_by (OfJob k act ∷ h)) 1 (record { job = k; sender = a.sender; queue = a.queue }) (openings h) a.there (λ o. more_act h k act o.job) (one_act h k act))
 
 opened_told : {C : Type 0} (c : Config) (base : Base) (h : List (Event C)) (k s q : ℕ) → Told' c base h → Told' c base (Opened k s q ∷ h)
 opened_told {C} c base h k s q t =
@@ -130,8 +129,7 @@ failed_told : {C : Type 0} (c : Config) (base : Base) (h : List (Event C)) (p : 
 failed_told c base h p sheet o has same t =
     let s = sum_more (used_by h) (used_by (AtPrinter p sheet Failed ∷ h)) 2 o (openings h) has (λ x. (turn_used h p sheet Failed x.job).0) (two_failed h p sheet o.job same) in
     let one = one_le (is_stopped_at base (AtPrinter p sheet Failed ∷ h) (queue_of c p) p) in
-    let z = up_one (stop c base h) (stop c base (AtPrinter p sheet Failed ∷ h)) p (printer_count c) (λ q ne. stop_other c base h p sheet Failed q ne) (omega arith) in
-    omega arith
+    omega (arith, up_one (stop c base h) (stop c base (AtPrinter p sheet Failed ∷ h)) p (printer_count c) (λ q ne. stop_other c base h p sheet Failed q ne) (omega arith))
 
 removed_told : {C : Type 0} (c : Config) (base : Base) (h : List (Event C)) (P : Job C → Type 0) (q : ℕ) (jobs : List ℕ) → 0 < length jobs → AllByRecursion (λ k. HasJob (now c base h).jobs k P) jobs → Told' c base h → Told' c base (Removed q jobs ∷ h)
 removed_told c base h P q [] pos all t = absurd (omega arith)
@@ -144,8 +142,7 @@ removed_told {C} c base h P q (k ∷ ks) pos all t =
 started_told : {C : Type 0} (c : Config) (base : Base) (h : List (Event C)) (q p : ℕ) → 1 ≤ p → p ≤ printer_count c → queue_of c p ≡ q → is_stopped_at base h (queue_of c p) p ≡ true → Told' c base h → Told' c base (Started q ∷ h)
 started_told c base h q p one le e is t =
     let s = sum_more (stop c base (Started q ∷ h)) (stop c base h) 1 p (up_to (printer_count c)) (has_up_to p (printer_count c) one le) (λ r. stop_started c base h q r) (starts_one c base h q p e is) in
-    let m = sum_less (used_by h) (used_by (Started q ∷ h)) (openings h) (λ o has. omega arith) in
-    omega arith
+    omega (arith, sum_less (used_by h) (used_by (Started q ∷ h)) (openings h) (λ o has. omega arith))
 
 closed_told : {C : Type 0} (c : Config) (base : Base) (h : List (Event C)) → is_closed base h ≡ false → Told' c base h → Told' c base (Closed ∷ h)
 closed_told c base h e t =

@@ -66,8 +66,7 @@ pub counts : {C : Type 0} (c : Config) (b : Base) (h : List (Event C)) → Count
 counts {C} c b h =
     let v = now c b h in
     let all = sum_map (λ (x : Printer C). cond x.stopped 1 0) (printer_of c b h) (up_to (printer_count c)) in
-    let below = up_below (λ (p : ℕ). cond (is_stopped_at b h (queue_of c p) p) 1 0) (λ (p : ℕ). cond (was_stopped (rotated v) p) 1 0) (printer_count c) (λ p le. each p le) in
-    omega arith
+    omega (arith, up_below (λ (p : ℕ). cond (is_stopped_at b h (queue_of c p) p) 1 0) (λ (p : ℕ). cond (was_stopped (rotated v) p) 1 0) (printer_count c) (λ p le. each p le))
   where
     each : (p : ℕ) → p ≤ printer_count c → cond (was_stopped (rotated (now c b h)) p) 1 0 ≤ cond (is_stopped_at b h (queue_of c p) p) 1 0
     each zero le = omega arith

@@ -133,9 +133,7 @@ act_granted : {C : Type 0} (size : C → ℕ) (c : Config) (base : Base) (h : Li
 act_granted {C} size c base h k act n l ends is goes_on receiving =
     let v : Job C = job_of (OfJob k act ∷ h) (numbered k) in
     let w = weight_receiving (job_of h (numbered k)) goes_on receiving in
-    let g = ap granted_by (acts_here h k act) in
-    let u = weight_granted v (is_received v) refl (ended_same h k act ends ∙ goes_on) (sound size c base (OfJob k act ∷ h) l (numbered k)) in
-    omega arith
+    omega (arith, ap granted_by (acts_here h k act), weight_granted v (is_received v) refl (ended_same h k act ends ∙ goes_on) (sound size c base (OfJob k act ∷ h) l (numbered k)))
 
 abort_less : {C : Type 0} (v : Job C) → weight (record v { lent = false; ended = true }) ≤ weight (record v { ended = true })
 abort_less v = omega (arith, weight_ended (record v { ended = true }) refl, weight_ended (record v { lent = false; ended = true }) refl)
