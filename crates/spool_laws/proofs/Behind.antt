@@ -57,8 +57,7 @@ now_gone {C} c base h p sheet f b is e o k behind' same =
     let n : g.job.number ≡ k.job = sym (ap (λ (s : Sheet C). s.job) g.gets.is) ∙ sym same in
     elim g.turn.why [
       | inl began ↦
-          let began' = sym (ap (λ (x : Printer C). x.began) (at_printer c base h p is.0 is.1)) ∙ (began ∙ ap (λ (i : ℕ). Some i) n) in
-          b o k behind' (f.began p k.job began')
+          b o k behind' (f.began p k.job (sym (ap (λ (x : Printer C). x.began) (at_printer c base h p is.0 is.1)) ∙ (began ∙ ap (λ (i : ℕ). Some i) n)))
       | inr first ↦ gone_by h g.job o k (known c base h g.job g.turn.there) f n behind' first.first
     ]
 

@@ -79,9 +79,8 @@ ended_of false b x e = absurd cc
 
 ended_by : {C : Type 0} (jobs : List (Job C)) (q j : ℕ) (x : Job C) (sheet : Sheet C) (r : Option (Job C)) → find (λ (v : Job C). (v.number == j) && not v.ended) jobs ≡ r → hand_of (or_first jobs q r) ≡ Hands sheet → sheet.job ≢ j → Has x jobs → x.number ≡ j → x.ended ≡ true
 ended_by {C} jobs q j x sheet None e h ne has n =
-    let none = none_found (λ (v : Job C). (v.number == j) && not v.ended) x jobs e has in
     let a : (x.number == j) ≡ true = grind (arith, nat_tests) in
-    ended_of (x.number == j) x.ended a none
+    ended_of (x.number == j) x.ended a (none_found (λ (v : Job C). (v.number == j) && not v.ended) x jobs e has)
 ended_by {C} jobs q j x sheet (Some v) e h ne has n =
     let a = (and_parts (v.number == j) (not v.ended) (find_has (λ (v : Job C). (v.number == j) && not v.ended) v jobs e).1).0 in
     let m : v.number ≡ j = grind (arith, nat_tests) in
@@ -116,14 +115,11 @@ unlent h j k r = unlent_by (is_lent_by (acts_of h j)) (received_at h j) (lent_un
 -- so it gets a page of no other
 no_other : {C : Type 0} (c : Config) (base : Base) (h : List (Event C)) (p : ℕ) (sheet : Sheet C) (o : Opening) → Facts base h → Keeps (acts_of h o.job) → IsPrinter c p → next_page (now c base h) p ≡ Hands sheet → began_at h p ≡ Some o.job → Has o (openings h) → is_held (job_of h o) ≡ true → sheet.job ≢ o.job → ⊥
 no_other {C} c base h p sheet o f k is e began has held ne =
-    let here = at_printer c base h p is.0 is.1 in
-    let b : (printer_at (now c base h) p).began ≡ Some o.job = ap (λ (x : Printer C). x.began) here ∙ began in
+    let b : (printer_at (now c base h) p).began ≡ Some o.job = ap (λ (x : Printer C). x.began) (at_printer c base h p is.0 is.1) ∙ began in
     let hands = subst (λ (r : Option ℕ). hand_of (turn_of (now c base h).jobs (printer_at (now c base h) p).queue r) ≡ Hands sheet) b (hands_by c base h p sheet e) in
     let ended : has_ended h o.job ≡ true = ended_by (now c base h).jobs (printer_at (now c base h) p).queue o.job (job_of h o) sheet _ refl hands ne (has_kept h o (openings h) held has) refl in
-    let pos = f.began p o.job began in
-    let t = turn_of_page c base h p sheet is.0 is.1 e in
-    let back = f.idle p o.job t.idle began in
-    gone_or_out (has_ended h o.job) (is_lent_by (acts_of h o.job)) (handed_at h o.job) (back_of h o.job) ended (unlent h o.job k (received_if h o.job f pos)) back held
+    let back = f.idle p o.job (turn_of_page c base h p sheet is.0 is.1 e).idle began in
+    gone_or_out (has_ended h o.job) (is_lent_by (acts_of h o.job)) (handed_at h o.job) (back_of h o.job) ended (unlent h o.job k (received_if h o.job f (f.began p o.job began))) back held
 
 began_still : {C : Type 0} (h : List (Event C)) (p : ℕ) (sheet : Sheet C) (q j : ℕ) → (p ≡ q → sheet.job ≡ j) → began_at h q ≡ Some j → began_at (AtPrinter p sheet Handed ∷ h) q ≡ Some j
 began_still h p sheet q j same b = elim (test p q) [

@@ -352,9 +352,7 @@ facts_back {C} h p sheet turn is f o =
 none_named : {C : Type 0} (c : Config) (base : Base) (h : List (Event C)) (P : Job C → Type 0) (j : ℕ) (jobs : List ℕ) → Facts base h → IsOther base h j → AllByRecursion (λ k. HasJob (now c base h).jobs k P) jobs → list_any (λ (k : ℕ). k == j) jobs ≡ false
 none_named c base h P j [] f lt all = refl
 none_named c base h P j (k ∷ ks) f lt all =
-    let n = number_at h k P f (has_at c base h k P all.0) in
-    let rest = none_named c base h P j ks f lt all.1 in
-    elim (test k j) [ inl s ↦ absurd (other_number base h k j n lt s.0) | inr s ↦ rw s.1 rest ]
+    elim (test k j) [ inl s ↦ absurd (other_number base h k j (number_at h k P f (has_at c base h k P all.0)) lt s.0) | inr s ↦ rw s.1 (none_named c base h P j ks f lt all.1) ]
 
 no_facts : {C : Type 0} (base : Base) → Facts {C = C} base []
 no_facts base = record {
@@ -382,8 +380,7 @@ facts_step size c base h (OfJob k Granted) f m =
     let a = has_at c base h k _ m.0 in
     facts_act h k Granted f (number_at h k _ f a) (λ e. a.is.0.0.1)
 facts_step size c base h (OfJob k Aborted) f m =
-    let a = has_at c base h k _ m.0 in
-    facts_act h k Aborted f (number_at h k _ f a) (received_aborted h k)
+    facts_act h k Aborted f (number_at h k _ f (has_at c base h k _ m.0)) (received_aborted h k)
 facts_step size c base h (OfJob k act) f m =
     let a = has_at c base h k _ m.0 in
     facts_act h k act f (number_at h k _ f a) (λ e. a.is.0.1)

@@ -280,7 +280,6 @@ granted_before {C} size c base h e j quiet l g =
     let h0 : holds 0 (rows c ws) ≡ holds 0 (rows c vs) + holds 0 (rows c new) = ap (λ (r : List (Job C)). holds 0 (rows c r)) is ∙ (ap (holds 0) (map-append (row_of c) vs new) ∙ holds_append 0 (rows c vs) (rows c new)) in
     let lt : holds 0 (rows c ws) < amount (capacity c) 0 = omega (arith, g.0, holds_sum 0 (rows c ws)) in
     let some : 0 < amount (capacity c) 0 - holds 0 (rows c us) = omega (arith, took_more 0 (rows c us) (rows c vs) plain') in
-    let small = within size c base (e ∷ h) j l lt in
     let A = rows c (map (grant j) vs) in
     let B = rows c (map (grant j) new) in
     let parts : rows c (map (grant j) ws) ≡ A ++ B = ap (λ (r : List (Job C)). rows c (map (grant j) r)) is ∙ (ap (rows c) (map-append (grant j) vs new) ∙ map-append (row_of c) (map (grant j) vs) (map (grant j) new)) in
@@ -288,7 +287,7 @@ granted_before {C} size c base h e j quiet l g =
     let safe : HasFinishingOrder f (rows c (map (grant j) ws)) = subst (λ (r : List (Job C)). IsGood c r) (granted_jobs c base (e ∷ h) j) (of_safe (after (OfJob j Granted) (now c base (e ∷ h))) g.1) in
     let first : HasFinishingOrder (λ k. f k + holds k B) A = safe_first_ones f A B (subst (HasFinishingOrder f) parts safe) in
     let good : IsGood c (map (grant j) us) = safe_before (free c (map (grant j) us)) (λ k. f k + holds k B) (rows c (map (grant j) us)) A lent' (λ k.
-    (let w = small k in
+    (let w = within size c base (e ∷ h) j l lt k in
     let sum = ap (holds k) parts ∙ holds_append k A B in
     omega arith)) first in
     (omega (arith, holds_sum 0 (rows c us)), to_safe (after (OfJob j Granted) (now c base h)) (subst (λ (r : List (Job C)). IsGood c r) (sym (granted_jobs c base h j)) good))

@@ -23,10 +23,8 @@ use Rattle.std.proofs.Math.Nat.{add-zero}
 same_up_to : {X : Type 0} (f g : ℕ → X) (n : ℕ) → ((p : ℕ) → 1 ≤ p → p ≤ n → f p ≡ g p) → map f (up_to n) ≡ map g (up_to n)
 same_up_to f g zero same = refl
 same_up_to {X} f g (suc n) same =
-    let ih = same_up_to f g n (λ p one le. same p one (omega arith)) in
-    let here = same (suc n) (omega arith) (omega arith) in
-    map-append f (up_to n) (suc n ∷ []) ∙ (ap (λ (l : List X). l ++ f (suc n) ∷ []) ih
-    ∙ (ap (λ (x : X). map g (up_to n) ++ x ∷ []) here ∙ sym (map-append g (up_to n) (suc n ∷ []))))
+    map-append f (up_to n) (suc n ∷ []) ∙ (ap (λ (l : List X). l ++ f (suc n) ∷ []) (same_up_to f g n (λ p one le. same p one (omega arith)))
+    ∙ (ap (λ (x : X). map g (up_to n) ++ x ∷ []) (same (suc n) (omega arith) (omega arith)) ∙ sym (map-append g (up_to n) (suc n ∷ []))))
 
 still_stopped : {C : Type 0} (c : Config) (b : Base) (h : List (Event C)) (p : ℕ) → 1 ≤ p → p ≤ printer_count c → was_stopped (rotated (now c b h)) p ≡ is_stopped_at b h (queue_of c p) p
 still_stopped c b h zero one le = absurd (omega arith)
@@ -47,9 +45,7 @@ none_out {C} size c b h l e p (Some s) is =
 printer_kept : {C : Type 0} (size : C → ℕ) (c : Config) (b : Base) (h : List (Event C)) → IsLegal size c b h → (now c b h).jobs ≡ [] → (p : ℕ) → 1 ≤ p → p ≤ printer_count c
     → printer_of c (rotated (now c b h)) [] p ≡ record (printer_of c b h p) { began = None }
 printer_kept {C} size c b h l e p one le =
-    let out = none_out size c b h l e p (out_at h p) refl in
-    let stopped = still_stopped c b h p one le in
-    same_printer (queue_of c p) _ _ _ _ (sym out) stopped
+    same_printer (queue_of c p) _ _ _ _ (sym (none_out size c b h l e p (out_at h p) refl)) (still_stopped c b h p one le)
   where
     same_printer : {C : Type 0} (q : ℕ) (o o' : Option (Sheet C)) (s s' : Bool) → o ≡ o' → s ≡ s'
         → ◌≡◌ {A = Printer C} (record { queue = q; out = o; began = None; stopped = s }) (record { queue = q; out = o'; began = None; stopped = s' })
@@ -64,9 +60,8 @@ keeps {C} size c b h l e =
 
 pub counts : {C : Type 0} (c : Config) (b : Base) (h : List (Event C)) → CountsStops c (rotated (now c b h))
 counts {C} c b h =
-    let v = now c b h in
     let all = sum_map (λ (x : Printer C). cond x.stopped 1 0) (printer_of c b h) (up_to (printer_count c)) in
-    omega (arith, up_below (λ (p : ℕ). cond (is_stopped_at b h (queue_of c p) p) 1 0) (λ (p : ℕ). cond (was_stopped (rotated v) p) 1 0) (printer_count c) (λ p le. each p le))
+    omega (arith, up_below (λ (p : ℕ). cond (is_stopped_at b h (queue_of c p) p) 1 0) (λ (p : ℕ). cond (was_stopped (rotated (now c b h)) p) 1 0) (printer_count c) (λ p le. each p le))
   where
     each : (p : ℕ) → p ≤ printer_count c → cond (was_stopped (rotated (now c b h)) p) 1 0 ≤ cond (is_stopped_at b h (queue_of c p) p) 1 0
     each zero le = omega arith

@@ -300,8 +300,7 @@ is_before w x u y a b d a' b' d' = rw (a, b, d, a', b', d') refl
 
 before_parts : {C : Type 0} (w v : Job C) → is_preceded_by w v ≡ true → (v.queue ≡ w.queue) × (v.number < w.number)
 before_parts w v e =
-    let a = and_parts (v.sender == w.sender) ((v.queue == w.queue) && nat_lt v.number w.number) e in
-    let b = and_parts (v.queue == w.queue) (nat_lt v.number w.number) a.1 in
+    let b = and_parts (v.queue == w.queue) (nat_lt v.number w.number) (and_parts (v.sender == w.sender) ((v.queue == w.queue) && nat_lt v.number w.number) e).1 in
     (grind (arith, nat_tests), grind (arith, nat_tests))
 
 begins_before : {C : Type 0} (size : C → ℕ) (c : Config) (base : Base) (h : List (Event C)) (e : Event C) (q : ℕ) → may_serve (now c base h) q e ≡ false → IsLegal size c base h → May size (now c base h) e
@@ -311,8 +310,7 @@ begins_before {C} size c base h e q quiet l m u has b goes =
     let queue : u.queue ≡ q = sym (named e u).queue ∙ b.queue in
     let s = same u (change e u) (stays size c base h e q quiet l m u has queue) in
     let none : list_any (is_preceded_by u) us ≡ false = none_if (is_preceded_by u) us (λ y there. false_if (is_preceded_by u y) (λ yes.
-    let p = before_parts u y yes in
-    let t = same y (change e y) (stays size c base h e q quiet l m y there (p.0 ∙ queue)) in
+    let t = same y (change e y) (stays size c base h e q quiet l m y there ((before_parts u y yes).0 ∙ queue)) in
     let there' : Has (change e y) (all e us) = has_left (change e y) (left (change e) us) (accepted_by e) (left_has (change e) y us (t.held (known c base h y there).held) there) in
     let no' : is_preceded_by (change e u) (change e y) ≡ false = none_of (is_preceded_by (change e u)) (change e y) (all e us) b.first there' in
     clash (is_preceded_by u y) yes (sym (is_before (change e u) (change e y) u y s.number s.sender s.queue t.number t.sender t.queue) ∙ no'))) in
@@ -324,8 +322,7 @@ begins_still {C} size c base h e q quiet l m u has b r =
     let us = (now c base h).jobs in
     let k = known c base h u has in
     let number : u.number ≡ k.opening.job = ap (λ (v : Job C). v.number) k.is in
-    let within = (facts size c base h l).numbers k.opening k.there in
-    let late = within.1 in
+    let late = ((facts size c base h l).numbers k.opening k.there).1 in
     record {
       queue = r.queue ∙ b.queue;
       received = r.received ∙ b.received;

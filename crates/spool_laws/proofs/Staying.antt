@@ -65,10 +65,8 @@ quiet {C} size c base h e is l m s =
     let later = left (change e) jobs in
     let P : Job C → Type 0 = λ (v : Job C). is_held (change e v) ≡ true → Lower (row_of c v) (row_of c (change e v)) in
     let each : Lowers (row_of c) (change e) jobs = all_of P jobs (λ v has. (let k = known c base h v has in subst P (sym k.is) (λ held. lowers_all size c base h e is l m k.opening k.there))) in
-    let j = jobs_after size c base h e l m (quiet_accepts e is) in
-    let room = kind_within size c base h l in
-    let good : IsGood c later = lowers (row_of c) (change e) jobs each [] (free c jobs) (free c later) (λ k. let r = room k in omega arith) s in
-    subst (λ (r : List (Job C)). IsGood c r) (sym j) good
+    let good : IsGood c later = lowers (row_of c) (change e) jobs each [] (free c jobs) (free c later) (λ k. let r = kind_within size c base h l k in omega arith) s in
+    subst (λ (r : List (Job C)). IsGood c r) (sym (jobs_after size c base h e l m (quiet_accepts e is))) good
 
 -- an event that changes one job
 
@@ -90,13 +88,12 @@ split g [] w has r same held now' = absurd has
 split {C} g (y ∷ us) w has r same held now' = elim has [
   | inl e ↦
       let ne : (u : Job C) → Has u us → u.number ≢ w.number = λ u t same'. (let lt = r.0 u t in let n : y.number ≡ w.number = ap (λ (v : Job C). v.number) e in let m : u.number ≡ w.number = same' in omega arith) in
-      let rest = left_same g us (λ u t. (same u (ne u t), held u (inr t))) in
       let gy : g y ≡ g w = ap g e in
       record {
         a = [];
         b = us;
         was = ap (λ (v : Job C). v ∷ us) e;
-        is = filter_cons true (g y) (map g us) (subst (λ (v : Job C). is_held v ≡ true) (sym gy) now') ∙ cc (gy, rest);
+        is = filter_cons true (g y) (map g us) (subst (λ (v : Job C). is_held v ≡ true) (sym gy) now') ∙ cc (gy, left_same g us (λ u t. (same u (ne u t), held u (inr t))));
         others = λ u t. (inr t, ne u t);
       }
   | inr t ↦
@@ -226,9 +223,7 @@ handed {C} size c base h p sheet l m st =
     let gone = (each_in_order size c base (e ∷ h) (m, l)).0 in
     let line : AllByRecursion (KeepsLine y) (rows c (sp.a ++ sp.b)) = all_rows (KeepsLine y) (row_of c) (sp.a ++ sp.b) (λ u has tr. line_of size c base h sheet l o t.at.there refl gone u (sp.others u has).0 (sp.others u has).1 (line_true (row_of c u) y tr)) in
     let line' : AllByRecursion (KeepsLine y) (A ++ B) = subst (AllByRecursion (KeepsLine y)) (map-append (row_of c) sp.a sp.b) line in
-    let m1 = map-append (row_of c) sp.a (w ∷ sp.b) in
-    let m2 = map-append (row_of c) sp.a (w' ∷ sp.b) in
-    let was : rows c jobs ≡ A ++ x ∷ B = ap (rows c) sp.was ∙ m1 in
+    let was : rows c jobs ≡ A ++ x ∷ B = ap (rows c) sp.was ∙ map-append (row_of c) sp.a (w ∷ sp.b) in
     let f' = free c (sp.a ++ w' ∷ sp.b) in
     let g1 : HasFinishingOrder (free c jobs) (A ++ x ∷ B) = subst (HasFinishingOrder (free c jobs)) was st in
     let g2 : HasFinishingOrder (freed (free c jobs) x) (A ++ B) = safe_without (free c jobs) A x B g1 in
@@ -238,7 +233,7 @@ handed {C} size c base h p sheet l m st =
     let hk = hold k in
     omega arith) g2 in
     let go : MayGo f' A y B = record { fits = λ k. let z = none k in omega arith; in_line = line' } in
-    let good : IsGood c (sp.a ++ w' ∷ sp.b) = subst (HasFinishingOrder f') (sym m2) (safe_first f' A y B go g3) in
+    let good : IsGood c (sp.a ++ w' ∷ sp.b) = subst (HasFinishingOrder f') (sym (map-append (row_of c) sp.a (w' ∷ sp.b))) (safe_first f' A y B go g3) in
     subst (λ (r : List (Job C)). IsGood c r) (sym j) good
 
 step : {C : Type 0} (size : C → ℕ) (c : Config) (base : Base) (h : List (Event C)) (e : Event C) → EachCouldFinish c → IsLegal size c base h → May size (now c base h) e → IsGood c (now c base h).jobs → IsGood c (now c base (e ∷ h)).jobs

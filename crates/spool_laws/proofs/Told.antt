@@ -124,8 +124,7 @@ told_step size c base h (OfJob k (Controlled control whole)) l m t =
     let a = has_at c base h k _ m.0 in
     told_act h k (Controlled control whole) (fits_controlled (acts_of h k) control whole (has_ended h k) _ (t k).acts a.is.0.0 a.is.1) t
 told_step size c base h (OfJob k Aborted) l m t =
-    let a = has_at c base h k _ m.0 in
-    told_act h k Aborted (fits_aborted (acts_of h k) (has_ended h k) _ (t k).acts (elim a.is [ inl x ↦ inl x.0 | inr x ↦ inr x.1 ]) (ended_aborted h k)) t
+    told_act h k Aborted (fits_aborted (acts_of h k) (has_ended h k) _ (t k).acts (elim (has_at c base h k _ m.0).is [ inl x ↦ inl x.0 | inr x ↦ inr x.1 ]) (ended_aborted h k)) t
 told_step size c base h (AtPrinter p sheet Handed) l m t = λ j.
     (let going = (turn_of_page c base h p sheet m.0.0 m.0.1 m.1).at.is.goes_on in
     told_turn h p sheet Handed j (λ same. none_by (failed_of h j) (λ q. clash (has_ended h j) ((t j).after q).0 (subst (λ (i : ℕ). has_ended h i ≡ false) same going)))

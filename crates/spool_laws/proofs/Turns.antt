@@ -101,8 +101,7 @@ given_by jobs p sheet (Some x) idle is e =
 pub given : {C : Type 0} (v : State C) (p : ℕ) (sheet : Sheet C) → next_page v p ≡ Hands sheet → (v.closed ≡ false) × Given v.jobs (printer_at v p) sheet
 given v p sheet e =
     let o = open_by v.closed (next_at v.jobs (printer_at v p)) sheet e in
-    let r = runs_by (printer_at v p).stopped (with_out v.jobs (printer_at v p) (printer_at v p).out) sheet o.1 in
-    let i = idle_by v.jobs (printer_at v p) (printer_at v p).out sheet r.1 in
+    let i = idle_by v.jobs (printer_at v p) (printer_at v p).out sheet (runs_by (printer_at v p).stopped (with_out v.jobs (printer_at v p) (printer_at v p).out) sheet o.1).1 in
     (o.0, given_by v.jobs (printer_at v p) sheet (turn_of v.jobs (printer_at v p).queue (printer_at v p).began) i.0 refl i.1)
 
 -- that job is an accepted one

@@ -83,5 +83,4 @@ whole size c base (e ∷ h) l = whole_step size c base h e l.1 l.0 (whole size c
 
 pub all_placed : {C : Type 0} (size : C → ℕ) (c : Config) (base : Base) (h : List (Event C)) → IsLegal size c base h → (j : ℕ) → is_done h j ≡ true → handed_of h j ≡ sheets j 0 (places_of h j)
 all_placed size c base h l j e =
-    let n = (whole size c base h l j e).1 in
-    placed size c base h l j ∙ (ap (λ (m : ℕ). sheets j 0 (take m (places_of h j))) n ∙ ap (sheets j 0) (take-length (places_of h j)))
+    placed size c base h l j ∙ (ap (λ (m : ℕ). sheets j 0 (take m (places_of h j))) (whole size c base h l j e).1 ∙ ap (sheets j 0) (take-length (places_of h j)))
