@@ -2,7 +2,7 @@
 use Rattle.std.proofs.Common.{◌⊎◌, inl, inr, ◌≡◌, ◌==◌, ◌≢◌, ℕ, ◌+◌, ◌<◌, Bool, true, false, List, [], ◌∷◌, length, map, refl, sym, ◌∙◌, ap, subst, arith}
 use Rattle.std.specs.Prelude.{◌&&◌, ◌||◌, not, find, Option, Some, None, is_some}
 use Rattle.std.proofs.lemmas.Bool.Decides.{nat_tests}
-use Rattle.std.proofs.lemmas.Bool.{and_parts, true_from_ne_false}
+use Rattle.std.proofs.lemmas.Bool.{and_parts, true_from_ne_false, not-false}
 use Rattle.spool_history.specs.Base.{Base}
 use Rattle.spool_history.specs.Events.{Event, Sheet, Turn}
 use Rattle.spool_history.specs.Events.Turn.{Handed}
@@ -12,11 +12,11 @@ use Rattle.spool_history.specs.Acts.{is_lent_by, control_by, Page}
 use Rattle.spool_history.specs.Said.{Opening, openings, acts_of, is_handed, back_of, has_ended, began_at}
 use Rattle.spool_history.specs.Now.{Job, Printer, now, job_of, is_held}
 use Rattle.spool_history.specs.Next.{next_page, next_at, with_out, hand_of, hand_first, turn_of, or_first, printer_at}
-use Rattle.spool_history.specs.Next.Next.{Hands}
+use Rattle.spool_history.specs.Next.Next.{Hands, Stops, Over}
 use Rattle.spool_history.specs.Legal.{IsLegal, May}
 use Rattle.spool_laws.proofs.Known.{Has, find_has, has_last, has_kept, known, test, clash, and_false}
 use Rattle.spool_laws.proofs.Printers.{at_printer}
-use Rattle.spool_laws.proofs.Turns.{given, open_by, runs_by, idle_by}
+use Rattle.spool_laws.proofs.Turns.{given, past, idle_by}
 use Rattle.spool_laws.proofs.Facts.{Facts, facts, last, began_same, turn_of_page, handed_at, received_at, handed_more, handed_same}
 use Rattle.spool_laws.proofs.Moves.{steady}
 use Rattle.spool_laws.proofs.Held.{Keeps, keeps}
@@ -52,12 +52,6 @@ busy_opened {C} c base h j s q f new st b o has held pos = elim (has_last o (ope
       absurd (omega arith)
 ]
 
-busy_back : {C : Type 0} (c : Config) (base : Base) (h : List (Event C)) (p : ℕ) (sheet : Sheet C) (turn : Turn) → is_handed turn ≡ false → Steady h (AtPrinter p sheet turn) → AreBusy c base h → AreBusy c base (AtPrinter p sheet turn ∷ h)
-busy_back c base h p sheet turn not' st b o has held pos =
-    let m = ap length (handed_same h p sheet turn o.job not') in
-    let x = b o has (held_by (job_of h o) (job_of (AtPrinter p sheet turn ∷ h) o) (st o) held) (omega arith) in
-    record { at = x.at; is = x.is; began = began_same h p sheet turn x.at not' ∙ x.began; queue = x.queue }
-
 -- a printer goes on with the job that it began while that one goes on
 
 none_found_by : {X : Type 0} (t : X → Bool) (x y : X) (ys : List X) (b : Bool) → t y ≡ b → find t (y ∷ ys) ≡ None → (y ≡ x) ⊎ Has x ys → (find t ys ≡ None → Has x ys → t x ≡ false) → t x ≡ false
@@ -72,15 +66,10 @@ first_is : {C : Type 0} (j place : ℕ) (xs : List (Page C)) (sheet : Sheet C) �
 first_is j place [] sheet e = absurd cc
 first_is {C} j place (x ∷ xs) sheet e = (let s : record { job = j; place = place; file = x.file; number = x.number; page = x.page } ≡ sheet = cc in ap (λ (y : Sheet C). y.job) s)
 
-ended_of : (a b : Bool) → a ≡ true → (a && not b) ≡ false → b ≡ true
-ended_of true true x e = refl
-ended_of true false x e = absurd cc
-ended_of false b x e = absurd cc
-
 ended_by : {C : Type 0} (jobs : List (Job C)) (q j : ℕ) (x : Job C) (sheet : Sheet C) (r : Option (Job C)) → find (λ (v : Job C). (v.number == j) && not v.ended) jobs ≡ r → hand_of (or_first jobs q r) ≡ Hands sheet → sheet.job ≢ j → Has x jobs → x.number ≡ j → x.ended ≡ true
 ended_by {C} jobs q j x sheet None e h ne has n =
     let a : (x.number == j) ≡ true = grind (arith, nat_tests) in
-    ended_of (x.number == j) x.ended a (none_found (λ (v : Job C). (v.number == j) && not v.ended) x jobs e has)
+    not-false x.ended (rw a at (none_found (λ (v : Job C). (v.number == j) && not v.ended) x jobs e has))
 ended_by {C} jobs q j x sheet (Some v) e h ne has n =
     let a = (and_parts (v.number == j) (not v.ended) (find_has (λ (v : Job C). (v.number == j) && not v.ended) v jobs e).1).0 in
     let m : v.number ≡ j = grind (arith, nat_tests) in
@@ -90,7 +79,7 @@ hands_by : {C : Type 0} (c : Config) (base : Base) (h : List (Event C)) (p : ℕ
 hands_by c base h p sheet e =
     let v = now c base h in
     let x = printer_at v p in
-    (idle_by v.jobs x x.out sheet (runs_by x.stopped (with_out v.jobs x x.out) sheet (open_by v.closed (next_at v.jobs x) sheet e).1).1).1
+    (idle_by v.jobs x x.out sheet (past x.stopped Stops (with_out v.jobs x x.out) sheet (λ d. cc) (past v.closed Over (next_at v.jobs x) sheet (λ d. cc) e).1).1).1
 
 gone_or_out : (e l : Bool) (a b : ℕ) → e ≡ true → l ≡ false → a ≡ b → (not e || (l || not (a == b))) ≡ true → ⊥
 gone_or_out e l a b e1 l1 ab held =
@@ -102,12 +91,8 @@ pub unlent_by : (b r : Bool) → (b ≡ true → r ≡ false) → r ≡ true →
 unlent_by true r f e = absurd (clash r e (f refl))
 unlent_by false r f e = refl
 
-received_by : (b : Bool) (n : ℕ) → (b ≡ false → n ≡ 0) → 0 < n → b ≡ true
-received_by true n f pos = refl
-received_by false n f pos = absurd (let z = f refl in omega arith)
-
 pub received_if : {C : Type 0} {base : Base} (h : List (Event C)) (j : ℕ) → Facts base h → 0 < handed_at h j → received_at h j ≡ true
-received_if h j f pos = received_by (received_at h j) (handed_at h j) (f.begun j) pos
+received_if h j f pos = true_from_ne_false (received_at h j) (λ e. omega (arith, f.begun j e))
 
 pub unlent : {C : Type 0} (h : List (Event C)) (j : ℕ) → Keeps (acts_of h j) → received_at h j ≡ true → is_lent_by (acts_of h j) ≡ false
 unlent h j k r = unlent_by (is_lent_by (acts_of h j)) (received_at h j) (lent_unreceived h j k) r
@@ -165,7 +150,8 @@ busy_same c base h e os hs bs st b o has held pos =
 busy_step : {C : Type 0} (size : C → ℕ) (c : Config) (base : Base) (h : List (Event C)) (e : Event C) → IsLegal size c base h → May size (now c base h) e → AreBusy c base h → AreBusy c base (e ∷ h)
 busy_step size c base h (Opened k s q) l m b = busy_opened c base h k s q (facts size c base h l) m.4 (steady size c base h (Opened k s q) l m) b
 busy_step size c base h (AtPrinter p sheet Handed) l m b = busy_handed c base h p sheet (facts size c base h l) (keeps size c base h l) m.0 m.1 (steady size c base h (AtPrinter p sheet Handed) l m) b
-busy_step size c base h (AtPrinter p sheet turn) l m b = busy_back c base h p sheet turn refl (steady size c base h (AtPrinter p sheet turn) l m) b
+busy_step size c base h (AtPrinter p sheet turn) l m b =
+    busy_same c base h (AtPrinter p sheet turn) refl (λ j. ap length (handed_same h p sheet turn j refl)) (λ q. began_same h p sheet turn q refl) (steady size c base h (AtPrinter p sheet turn) l m) b
 busy_step size c base h e l m b = busy_same c base h e refl (λ j. refl) (λ p. refl) (steady size c base h e l m) b
 
 pub busy : {C : Type 0} (size : C → ℕ) (c : Config) (base : Base) (h : List (Event C)) → IsLegal size c base h → AreBusy c base h

@@ -90,12 +90,11 @@ moved_by {C} c base h e os none st pr cl =
     let kept = filter is_held (map (change e) (now c base h).jobs) in
     let jobs : filter is_held (map (job_of (e ∷ h)) (openings (e ∷ h))) ≡ kept ++ accepted_by e =
     ap (λ (l : List Opening). filter is_held (map (job_of (e ∷ h)) l)) os ∙ (jobs_change h e st ∙ (sym (append-nil kept) ∙ ap (λ (l : List (Job C)). kept ++ l) (sym none))) in
-    let count : base.accepted + length (openings (e ∷ h)) ≡ base.accepted + length (openings h) + length (accepted_by e) =
-    (let o = ap length os in let z = ap length none in omega arith) in
+    let count : base.accepted + length (openings (e ∷ h)) ≡ base.accepted + length (openings h) + length (accepted_by e) = omega (arith, ap length os, ap length none) in
     let reserve : Opening → ℕ = λ (o : Opening). reserve_of c o.queue in
     let reserve' : Job C → ℕ = λ (v : Job C). reserve_of c v.queue in
     let sums : base.reserved + sum_by reserve (openings (e ∷ h)) ≡ base.reserved + sum_by reserve (openings h) + sum_by reserve' (accepted_by e) =
-    (let s = ap (sum_by reserve) os in let z : sum_by reserve' (accepted_by e) ≡ 0 = ap (sum_by reserve') none in omega arith) in
+    omega (arith, ap (sum_by reserve) os, ap (sum_by reserve') none) in
     all_same c _ _ _ _ _ _ _ _ _ _ jobs count sums pr cl
 
 moved_opened : {C : Type 0} (c : Config) (base : Base) (h : List (Event C)) (j s q : ℕ) → Facts base h → is_closed base h ≡ false → j ≡ last base h + 1 → Moved c base h (Opened j s q)
@@ -111,10 +110,10 @@ moved_opened {C} c base h j s q f open' is =
     let kept : filter is_held (map (job_of (e ∷ h)) (openings h)) ≡ old = jobs_change h e (λ x gone. gone) in
     let jobs : filter is_held (map (job_of (e ∷ h)) (openings h ++ o ∷ [])) ≡ old ++ new_job j s q ∷ [] =
     split ∙ (ap (λ (l : List (Job C)). l ++ filter is_held (map (job_of (e ∷ h)) (o ∷ []))) kept ∙ ap (λ (l : List (Job C)). old ++ l) last) in
-    let count : base.accepted + length (openings h ++ o ∷ []) ≡ base.accepted + length (openings h) + 1 = (let p = length_push (openings h) o in omega arith) in
+    let count : base.accepted + length (openings h ++ o ∷ []) ≡ base.accepted + length (openings h) + 1 = omega (arith, length_push (openings h) o) in
     let reserve : Opening → ℕ = λ (o : Opening). reserve_of c o.queue in
     let reserve' : Job C → ℕ = λ (v : Job C). reserve_of c v.queue in
-    let sums : base.reserved + sum_by reserve (openings h ++ o ∷ []) ≡ base.reserved + sum_by reserve (openings h) + sum_by reserve' (new_job j s q ∷ []) = (let p = sum_by_push reserve (openings h) o in omega arith) in
+    let sums : base.reserved + sum_by reserve (openings h ++ o ∷ []) ≡ base.reserved + sum_by reserve (openings h) + sum_by reserve' (new_job j s q ∷ []) = omega (arith, sum_by_push reserve (openings h) o) in
     all_same c _ _ _ _ _ _ _ _ _ _ jobs count sums refl refl
 
 pub moved : {C : Type 0} (size : C → ℕ) (c : Config) (base : Base) (h : List (Event C)) (e : Event C) → IsLegal size c base h → May size (now c base h) e → now c base (e ∷ h) ≡ after e (now c base h)

@@ -69,13 +69,9 @@ turn_by : {C : Type 0} (jobs : List (Job C)) (p : Printer C) (x : Job C) (o : Op
 turn_by jobs p x None b e = first_by jobs p x e
 turn_by {C} jobs p x (Some k) b e = begun_by jobs p k x (find (λ (v : Job C). (v.number == k) && not v.ended) jobs) b refl e
 
-pub open_by : {C : Type 0} (b : Bool) (x : Next C) (sheet : Sheet C) → cond b Over x ≡ Hands sheet → (b ≡ false) × (x ≡ Hands sheet)
-open_by true x sheet e = absurd cc
-open_by false x sheet e = (refl, e)
-
-pub runs_by : {C : Type 0} (b : Bool) (x : Next C) (sheet : Sheet C) → cond b Stops x ≡ Hands sheet → (b ≡ false) × (x ≡ Hands sheet)
-runs_by true x sheet e = absurd cc
-runs_by false x sheet e = (refl, e)
+pub past : {C : Type 0} (b : Bool) (y x : Next C) (sheet : Sheet C) → (y ≡ Hands sheet → ⊥) → cond b y x ≡ Hands sheet → (b ≡ false) × (x ≡ Hands sheet)
+past true y x sheet ne e = absurd (ne e)
+past false y x sheet ne e = (refl, e)
 
 pub idle_by : {C : Type 0} (jobs : List (Job C)) (p : Printer C) (o : Option (Sheet C)) (sheet : Sheet C) → with_out jobs p o ≡ Hands sheet → (o ≡ None) × (hand_of (turn_of jobs p.queue p.began) ≡ Hands sheet)
 idle_by jobs p (Some x) sheet e = absurd cc
@@ -100,8 +96,8 @@ given_by jobs p sheet (Some x) idle is e =
 -- whom the next page of a printer is of
 pub given : {C : Type 0} (v : State C) (p : ℕ) (sheet : Sheet C) → next_page v p ≡ Hands sheet → (v.closed ≡ false) × Given v.jobs (printer_at v p) sheet
 given v p sheet e =
-    let o = open_by v.closed (next_at v.jobs (printer_at v p)) sheet e in
-    let i = idle_by v.jobs (printer_at v p) (printer_at v p).out sheet (runs_by (printer_at v p).stopped (with_out v.jobs (printer_at v p) (printer_at v p).out) sheet o.1).1 in
+    let o = past v.closed Over (next_at v.jobs (printer_at v p)) sheet (λ d. cc) e in
+    let i = idle_by v.jobs (printer_at v p) (printer_at v p).out sheet (past (printer_at v p).stopped Stops (with_out v.jobs (printer_at v p) (printer_at v p).out) sheet (λ d. cc) o.1).1 in
     (o.0, given_by v.jobs (printer_at v p) sheet (turn_of v.jobs (printer_at v p).queue (printer_at v p).began) i.0 refl i.1)
 
 -- that job is an accepted one
