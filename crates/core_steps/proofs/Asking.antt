@@ -54,15 +54,12 @@ module _ (d : Detail) (b : Base) (h : List (Event (What d))) (k : Kept) (l : Lea
   limited : (j.facts.granted < limit_of k.config j.facts.queue) → IsBelowLimit k.config x
   limited lt = subst (λ (y : Facts). y.granted < limit_of k.config y.queue) ft lt
 
-  unlimited : IsBelowLimit k.config x → j.facts.granted < limit_of k.config j.facts.queue
-  unlimited lt = subst (λ (y : Facts). y.granted < limit_of k.config y.queue) (sym ft) lt
-
   pub ask_not_open : (MayAsk j → ⊥) → Asks d b h k job k (Err NotOpen)
   ask_not_open never = ((λ m. never (ask_can (look d) k.config j x t (has_here (size d) k.config b h i job CanAsk l.legal s m))), refl)
 
   pub ask_over : MayAsk j → limit_of k.config j.facts.queue ≤ j.facts.granted → Asks d b h k job k (Err OverClaim)
   ask_over m le = (
-    has_job v i job (λ y. CanAsk y × (IsBelowLimit k.config y → ⊥)) s (can_ask (look d) k.config j x t m, λ lt. let lt' = unlimited lt in omega (arith, le, lt')),
+    has_job v i job (λ y. CanAsk y × (IsBelowLimit k.config y → ⊥)) s (can_ask (look d) k.config j x t m, λ lt. omega (arith, le, subst (λ (y : Facts). y.granted < limit_of k.config y.queue) (sym ft) lt)),
     refl,
   )
 

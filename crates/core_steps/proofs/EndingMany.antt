@@ -1,7 +1,6 @@
 -- Many jobs end, from the last place down to the first.
-use Rattle.std.proofs.Common.{◌≡◌, ℕ, zero, suc, ◌+◌, ◌-◌, ◌<◌, ◌≤◌, Bool, true, false, List, [], ◌∷◌, ◌++◌, length, get_or, set, take, drop, map, refl, sym, ◌∙◌, ap, subst, arith}
+use Rattle.std.proofs.Common.{◌≡◌, ℕ, zero, suc, ◌-◌, ◌<◌, ◌≤◌, Bool, true, false, List, [], ◌∷◌, length, get_or, set, map, refl, sym, ◌∙◌, ap, subst, arith}
 use Rattle.std.specs.Prelude.{cond, filter, remove}
-use Rattle.std.proofs.lemmas.List.{append-nil, append_assoc, drop_all, drop_more, get_or_at, length-take-le, length-map, set_at, take_all, take_more}
 use Rattle.held_jobs.specs.Books.{job_at}
 use Rattle.held_jobs.specs.Shown.{ShownJob}
 use Rattle.spool_history.specs.Base.{Base}
@@ -9,7 +8,7 @@ use Rattle.spool_history.specs.Events.{Event}
 use Rattle.spool_history.specs.Now.{Job, State, is_held}
 use Rattle.spool_history.specs.Steps.{change, accepted_by, printers_after, closed_after}
 use Rattle.spool_history.specs.Legal.{May}
-use Rattle.spool_laws.proofs.Known.{Has, filter_cons}
+use Rattle.spool_laws.proofs.Known.{Has}
 use Rattle.spool_moves.specs.Standing.{no_job}
 use Rattle.spool_moves.proofs.Standing.{has_get, none_changed}
 use Rattle.spool_calls.specs.declared.printer.Printer.{Printer}

@@ -26,7 +26,6 @@ use Rattle.spool_moves.proofs.Standing.{Stands, has_get}
 use Rattle.spool_moves.proofs.Moving.{act_set}
 use Rattle.claims.specs.Changes.{closed}
 use Rattle.core_rows.proofs.Tables.{Here, WithRow, WithoutRow, closed_drops, same_leaves}
-use Rattle.core_rows.proofs.Receiving.{held_in_row}
 use Rattle.core_rows.proofs.Handing
 use Rattle.core_steps.proofs.Stocks.{IsStockOf, Stock, chain, even, len_of, may_end, one_gone, one_set, stock, stock_of_other, tie_at, with_jobs, within}
 use Rattle.spool_calls.specs.declared.printer.Printer.{Printer}
@@ -188,10 +187,7 @@ leaves_out d b h k e i n pages t printers l may jobs lt none closed many w prs =
 pub closed_free : (d : Detail) (b : Base) (h : List (Event (What d))) (k : Kept) (i : ℕ) → Leaves d b h k → i < length (left_by d b h k).jobs → WithoutRow k.table (closed k.table i) i (k.pool.free + pages_held (job_of d b h k i))
 closed_free d b h k i l lt =
     let x = job_of d b h k i in
-    let w = closed_drops k.table i (row_of k.config x) (row_stands d b h k i l lt) in
-    let held = held_in_row k.config x in
-    let e : amount k.table.free 0 + amount (row_of k.config x).held 0 ≡ k.pool.free + pages_held x = omega (arith, pool_even d b h k l, held) in
-    subst (λ (m : ℕ). WithoutRow k.table (closed k.table i) i m) e w
+    subst (λ (n : ℕ). WithoutRow k.table (closed k.table i) i (n + pages_held x)) (sym (pool_even d b h k l)) (closed_drops k.table i (row_of k.config x) (row_stands d b h k i l lt))
 
 -- the pages of one job are among those that are stored
 pub one_stored : (d : Detail) (b : Base) (h : List (Event (What d))) (k : Kept) (i : ℕ) → Leaves d b h k → i < length (left_by d b h k).jobs → chained_of (job_of d b h k i) ≤ k.book.stored

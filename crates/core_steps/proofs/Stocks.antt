@@ -271,11 +271,8 @@ module _ (d : Detail) (v : State (What d)) (s : Stock) (is : IsStockOf d v s) (i
   -- a job that has ended stays
   stays : MayEnd v.config x → x.ended ≡ true → IsStockOf d (with_jobs v (end_place v.jobs i)) s
   stays m e =
-      let same : ended_job x ≡ x = ended_same x e in
-      let jobs : end_place v.jobs i ≡ v.jobs =
-      ap (λ (y : Job (What d)). cond (is_held y) (set v.jobs i y) (remove v.jobs i)) same
-      ∙ (ap (λ (h : Bool). cond h (set v.jobs i x) (remove v.jobs i)) m.held ∙ set-get_or v.jobs i no_job) in
-      subst (λ (l : List (Job (What d))). IsStockOf d (with_jobs v l) s) (sym jobs) is
+      subst (λ (y : Job (What d)). IsStockOf d (with_jobs v (cond (is_held y) (set v.jobs i y) (remove v.jobs i))) s) (sym (ended_same x e))
+      (rw (m.held, set-get_or v.jobs i no_job) is)
 
   pub one_ends : MayEnd v.config x → IsStockOf d (with_jobs v (end_place v.jobs i)) (stock_after s i)
   one_ends m = by x.ended (has_page_out x) refl refl

@@ -2,7 +2,7 @@
 use Rattle.std.proofs.Common.{inl, inr, ◌≡◌, ◌==◌, ℕ, zero, suc, ◌+◌, ◌-◌, ◌<◌, Bool, true, false, List, [], ◌∷◌, ◌++◌, length, drop, refl, sym, ◌∙◌, ap, subst, arith}
 use Rattle.std.specs.Prelude.{◌||◌, ◌&&◌}
 use Rattle.std.specs.List.{flat_map, list_any}
-use Rattle.std.proofs.lemmas.Bool.{and_parts, and_right, cases_lt, eq-eqb, eqb-true, ne_eqb, or_cases, or_from, or_left, or_parts, or_right}
+use Rattle.std.proofs.lemmas.Bool.{false_from_ne_true, true_from_ne_false, and_parts, and_right, cases_lt, eq-eqb, eqb-true, ne_eqb, or_cases, or_from, or_left, or_parts, or_right}
 use Rattle.std.proofs.Math.Seq.{drop-append-add}
 use Rattle.std.proofs.lemmas.List.Folds.{list_any-append}
 use Rattle.page_chain.specs.declared.place.Place.{Place}
@@ -70,11 +70,7 @@ printed_some (x ∷ spots) place e = elim (or_cases (is_same_place place x) (lis
 
 -- and of one that isn't printed no place is there
 pub none_there : (spots : List Place) (place : Place) → is_printed spots place.file ≡ false → list_any (is_same_place place) spots ≡ false
-none_there spots place e = by (list_any (is_same_place place) spots) refl
-  where
-    by : (b : Bool) → list_any (is_same_place place) spots ≡ b → b ≡ false
-    by true h = absurd (clash (is_printed spots place.file) (printed_some spots place h) e)
-    by false h = refl
+none_there spots place e = false_from_ne_true (list_any (is_same_place place) spots) (λ h. clash (is_printed spots place.file) (printed_some spots place h) e)
 
 -- what follows a place
 
@@ -94,10 +90,9 @@ drop_numbered file n (suc m) (suc t) rest lt =
     ∙ ap (λ (k : ℕ). record { file = file; number = n + suc t } ∷ (numbered file (suc (n + suc t)) k ++ rest)) b)
 
 -- a page that has a place has its file among those that are printed
-among_by : (len : ℕ → ℕ) (numbers : List ℕ) (place : Place) (b : Bool) → is_among numbers place.file ≡ b → list_any (is_same_place place) (passes len numbers) ≡ true → b ≡ true
-among_by len numbers place true e h = refl
-among_by len numbers place false e h =
-    absurd (clash (list_any (is_same_place place) (passes len numbers)) h (none_there (passes len numbers) place (printed_none len numbers place.file e)))
+among : (len : ℕ → ℕ) (numbers : List ℕ) (place : Place) → list_any (is_same_place place) (passes len numbers) ≡ true → is_among numbers place.file ≡ true
+among len numbers place h =
+    true_from_ne_false (is_among numbers place.file) (λ e. clash (list_any (is_same_place place) (passes len numbers)) h (none_there (passes len numbers) place (printed_none len numbers place.file e)))
 
 -- what comes after the place `number` of a pass over a file has the same page again only in a later pass, where all are
 later_pass : (len : ℕ → ℕ) (file n m : ℕ) (numbers : List ℕ) (place other : Place) → place.number < n → list_any (is_same_place place) (numbered file n m ++ passes len numbers) ≡ true
@@ -106,9 +101,9 @@ later_pass len file n m numbers place other lt h same within =
     let here = list_any-append (is_same_place place) (numbered file n m) (passes len numbers) in
     let rest : list_any (is_same_place place) (passes len numbers) ≡ true =
     ap (λ (b : Bool). b || list_any (is_same_place place) (passes len numbers)) (sym (before_range file n m place lt)) ∙ (sym here ∙ h) in
-    let among : is_among numbers other.file ≡ true = ap (is_among numbers) same ∙ among_by len numbers place (is_among numbers place.file) refl rest in
+    let there : is_among numbers other.file ≡ true = ap (is_among numbers) same ∙ among len numbers place rest in
     list_any-append (is_same_place other) (numbered file n m) (passes len numbers)
-    ∙ or_right (list_any (is_same_place other) (numbered file n m)) (list_any (is_same_place other) (passes len numbers)) (passed len numbers other among within)
+    ∙ or_right (list_any (is_same_place other) (numbered file n m)) (list_any (is_same_place other) (passes len numbers)) (passed len numbers other there within)
 
 -- where the page of a place comes again after it, each page of its file does
 pub all_again : (len : ℕ → ℕ) (numbers : List ℕ) (k : ℕ) (place other : Place) (later : List Place) → drop k (passes len numbers) ≡ place ∷ later → list_any (is_same_place place) later ≡ true

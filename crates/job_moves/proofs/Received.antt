@@ -1,10 +1,9 @@
 -- A job becomes received.
 use Rattle.std.proofs.Common.{◌≡◌, ℕ, true, false, List, [], ◌∷◌, drop, map, refl, sym, ◌∙◌, ap, subst}
-use Rattle.std.specs.Prelude.{◌&&◌, not, is_some}
-use Rattle.std.proofs.lemmas.Bool.{and_parts, not-true}
-use Rattle.std.specs.List.{list_all}
+use Rattle.std.proofs.lemmas.Bool.{false_from_ne_true}
+use Rattle.spool_laws.proofs.Known.{clash}
+use Rattle.core_rows.proofs.Receiving.{open_unreceived}
 use Rattle.lpd_values.specs.Contents.{Contents}
-use Rattle.lpd_values.specs.Kept.{is_among}
 use Rattle.lpd_values.specs.Told.{prints_in}
 use Rattle.page_pool.specs.Page.{Page}
 use Rattle.page_chain.specs.declared.place.Place.{Place}
@@ -78,10 +77,7 @@ names_ended fs = map_ended (λ f. f.name) fs (λ f. refl)
 
 -- a received job has no open file
 pub received_closed : {C : Type 0} (v : Job C) → is_received v ≡ true → is_open_in v.files ≡ false
-received_closed v r =
-    let rest = not (is_open_in v.files) && list_all (λ name. is_among name (names_in v.files)) (prints_in v.control) in
-    let a = and_parts (is_some v.control) rest r in
-    not-true (is_open_in v.files) (and_parts (not (is_open_in v.files)) (list_all (λ name. is_among name (names_in v.files)) (prints_in v.control)) a.1).0
+received_closed v r = false_from_ne_true (is_open_in v.files) (λ o. clash (is_received v) r (open_unreceived v o))
 
 -- the last file that was awaited has ended: the job is received
 pub received_by_file : {C : Type 0} (f : Page → C) (c : Config) (j : HeldJob) (v : Job C) (file : ℕ) → IsReceiving v → v.handed ≡ 0 → v.back ≡ 0 → is_received (acted (FileEnded file true) v) ≡ true → Differ (names_in v.files)

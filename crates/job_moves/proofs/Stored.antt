@@ -2,7 +2,7 @@
 use Rattle.std.proofs.Common.{inl, inr, ◌≡◌, ◌==◌, ◌<◌, ◌≤◌, ℕ, suc, ◌+◌, ◌-◌, Bool, true, false, cond, List, [], ◌∷◌, length, drop, map, refl, sym, ◌∙◌, ap, arith, length-append}
 use Rattle.std.specs.Prelude.{◌&&◌, ◌||◌, not, filter, sum_by, Option, Some, None, slice_get}
 use Rattle.std.specs.List.{list_any}
-use Rattle.std.proofs.lemmas.Bool.{and_parts, not-true, and_left, cases_eq}
+use Rattle.std.proofs.lemmas.Bool.{false_from_ne_true, and_parts, not-true, and_left, cases_eq}
 use Rattle.std.proofs.lemmas.List.Elements.{filter_agree}
 use Rattle.page_pool.specs.Page.{Page}
 use Rattle.page_chain.specs.declared.place.Place.{Place}
@@ -20,6 +20,7 @@ use Rattle.spool_history.specs.Now.{Job, is_received, pages_kept, places}
 use Rattle.spool_calls.specs.Kept.{is_printed, is_there, place_of, shelved, shelved_files, spots, is_at}
 use Rattle.spool_laws.specs.Sums.{chained_of}
 use Rattle.spool_laws.proofs.Apart.{pages_sum}
+use Rattle.spool_laws.proofs.Known.{clash}
 use Rattle.spool_laws.proofs.Copies.{pages_in}
 use Rattle.lpd_values.specs.Told.{prints_in}
 use Rattle.spool_laws.proofs.Copies.{places_there}
@@ -87,11 +88,8 @@ count_files {C} f printed is_in n m (x ∷ xs) (y ∷ ys) nm none e =
 not_printed : {C : Type 0} (v : Job C) (place : Place) → is_printed (spots v) place.file ≡ false → is_there (spots v) v.handed v.back place ≡ false
 not_printed v place e =
     and_left (list_any (is_same_place place) (drop v.back (spots v))) (not (not (v.handed == v.back) && is_at (slice_get (spots v) v.back) place))
-    (by (list_any (is_same_place place) (drop v.back (spots v))) refl)
-  where
-    by : (b : Bool) → list_any (is_same_place place) (drop v.back (spots v)) ≡ b → b ≡ false
-    by true h = sym (any_later (is_same_place place) v.back (spots v) h) ∙ none_there (spots v) place e
-    by false h = refl
+    (false_from_ne_true (list_any (is_same_place place) (drop v.back (spots v)))
+    (λ h. clash (list_any (is_same_place place) (spots v)) (any_later (is_same_place place) v.back (spots v) h) (none_there (spots v) place e)))
 
 -- those of the job's files
 stored_there : {C : Type 0} (f : Page → C) (c : Config) (j : HeldJob) (v : Job C) → Prints f c j v
