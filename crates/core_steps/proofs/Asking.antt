@@ -59,7 +59,10 @@ module _ (d : Detail) (b : Base) (h : List (Event (What d))) (k : Kept) (l : Lea
 
   pub ask_over : MayAsk j → limit_of k.config j.facts.queue ≤ j.facts.granted → Asks d b h k job k (Err OverClaim)
   ask_over m le = (
-    has_job v i job (λ y. CanAsk y × (IsBelowLimit k.config y → ⊥)) s (can_ask (look d) k.config j x t m, λ lt. omega (arith, le, subst (λ (y : Facts). y.granted < limit_of k.config y.queue) (sym ft) lt)),
+    has_job v i job (λ y. CanAsk y × (IsBelowLimit k.config y → ⊥)) s (
+      can_ask (look d) k.config j x t m,
+      λ lt. omega (arith, le, subst (λ (y : Facts). y.granted < limit_of k.config y.queue) (sym ft) lt),
+    ),
     refl,
   )
 

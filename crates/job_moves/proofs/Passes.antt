@@ -92,7 +92,8 @@ drop_numbered file n (suc m) (suc t) rest lt =
 -- a page that has a place has its file among those that are printed
 among : (len : ℕ → ℕ) (numbers : List ℕ) (place : Place) → list_any (is_same_place place) (passes len numbers) ≡ true → is_among numbers place.file ≡ true
 among len numbers place h =
-    true_from_ne_false (is_among numbers place.file) (λ e. clash (list_any (is_same_place place) (passes len numbers)) h (none_there (passes len numbers) place (printed_none len numbers place.file e)))
+    true_from_ne_false (is_among numbers place.file)
+    (λ e. clash (list_any (is_same_place place) (passes len numbers)) h (none_there (passes len numbers) place (printed_none len numbers place.file e)))
 
 -- what comes after the place `number` of a pass over a file has the same page again only in a later pass, where all are
 later_pass : (len : ℕ → ℕ) (file n m : ℕ) (numbers : List ℕ) (place other : Place) → place.number < n → list_any (is_same_place place) (numbered file n m ++ passes len numbers) ≡ true
