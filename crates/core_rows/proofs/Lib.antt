@@ -3,6 +3,5 @@ pub mod Amounts
 pub mod Receiving
 pub mod Received
 pub mod Handing
-pub mod EachPage
 pub mod Printing
 pub mod Ending

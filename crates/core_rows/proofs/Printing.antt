@@ -26,7 +26,8 @@ use Rattle.core_rows.proofs.Received.{held_received, chained_received}
 use Rattle.core_rows.proofs.Handing.{Goes, row_begun}
 use Rattle.std.proofs.lemmas.List.{drop-map}
 use Rattle.std.proofs.lemmas.Option.{slice_get-map}
-use Rattle.core_rows.proofs.EachPage.{Nth, among_again, among_last, any_spot, nth}
+use Rattle.spool_moves.proofs.EachPage.{Nth, among_again, among_last, nth}
+use Rattle.spool_calls.proofs.Spots.{any_spot}
 use Rattle.spool_laws.proofs.Copies.{places_there}
 
 -- the page of the place that is out comes again: a place that wasn't handed out is of the same page

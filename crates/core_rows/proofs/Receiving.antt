@@ -20,6 +20,7 @@ use Rattle.spool_laws.proofs.Counts.{with_page, last_push}
 use Rattle.spool_laws.proofs.Copies.{pages_in}
 use Rattle.spool_laws.proofs.Held.{pages_push, pages_ended, open_push}
 use Rattle.spool_laws.proofs.Apart.{pages_sum}
+use Rattle.spool_moves.proofs.Receiving.{began_receiving, open_unreceived, put_receiving}
 use Rattle.spool_moves.proofs.Holding.{file_pages}
 use Rattle.core_rows.proofs.Amounts.{row_same}
 use Rattle.spool_laws.proofs.PutOff.{open_last as last_open}
@@ -40,12 +41,6 @@ chained_receiving x r = (let e = r.0 in let i = r.1 in rw (e, i) refl)
 pub held_in_row : {C : Type 0} (c : Config) (x : Job C) → amount (row_of c x).held 0 ≡ pages_held x
 held_in_row c x = refl
 
--- a job of which a file is open isn't received
-pub open_unreceived : {C : Type 0} (x : Job C) → is_open_in x.files ≡ true → is_received x ≡ false
-open_unreceived x e =
-    ap (λ (b : Bool). is_some x.control && (not b && list_all (λ name. is_among name (names_in x.files)) (prints_in x.control))) e
-    ∙ and_false (is_some x.control)
-
 -- as long as a job isn't received, its row is that of what was lent to it and how much was handed out
 pub row_receiving : {C : Type 0} (c : Config) (x y : Job C) → IsReceiving x → IsReceiving y → y.number ≡ x.number → y.sender ≡ x.sender → y.queue ≡ x.queue → y.granted ≡ x.granted → y.handed ≡ x.handed
     → row_of c y ≡ row_of c x
@@ -60,13 +55,6 @@ row_receiving {C} c x y r r' n s q g h =
     row_same c x y n s q (held_receiving y r' ∙ (g ∙ sym (held_receiving x r))) ph (omega arith) pn
 
 -- a page is put
-
--- once it is put the job is still being received
-pub put_receiving : {C : Type 0} (file number : ℕ) (page : C) (P : File C → Type 0) (x : Job C) → IsReceiving x → HasOpen x.files file P → IsReceiving (acted (Put file number page) x)
-put_receiving {C} file number page P x r o =
-    let files : at_last (with_page page) x.files ≡ o.0 ++ with_page page o.1 ∷ [] = ap (at_last (with_page page)) o.2 ∙ last_push (with_page page) o.0 o.1 in
-    let open' : is_open_in (at_last (with_page page) x.files) ≡ true = ap is_open_in files ∙ last_open o.0 (with_page page o.1) o.4 in
-    (r.0, open_unreceived (acted (Put file number page) x) open')
 
 -- its row is as it was
 pub put_row : {C : Type 0} (c : Config) (file number : ℕ) (page : C) (P : File C → Type 0) (x : Job C) → IsReceiving x → HasOpen x.files file P → row_of c (acted (Put file number page) x) ≡ row_of c x
@@ -86,10 +74,6 @@ chain_same : {C : Type 0} (x y : Job C) → IsReceiving x → IsReceiving y → 
 chain_same x y r r' e = chained_receiving y r' ∙ (pages_sum y.files ∙ (e ∙ (sym (pages_sum x.files) ∙ sym (chained_receiving x r))))
 
 -- a file begins
-
--- once it began the job is still being received
-pub began_receiving : {C : Type 0} (name : List ℕ) (count : ℕ) (x : Job C) → IsReceiving x → IsReceiving (acted (Began name count) x)
-began_receiving {C} name count x r = (r.0, open_unreceived (acted (Began name count) x) (open_push x.files name count))
 
 -- its row is as it was
 pub began_row : {C : Type 0} (c : Config) (name : List ℕ) (count : ℕ) (x : Job C) → IsReceiving x → row_of c (acted (Began name count) x) ≡ row_of c x

@@ -44,7 +44,7 @@ use Rattle.job_moves.proofs.Printing.{is_done, ties_again, ties_back}
 use Rattle.claims.specs.Claims.{Claims}
 use Rattle.core_rows.proofs.Tables.{WithRow, WithoutRow}
 use Rattle.core_rows.proofs.Printing.{again, again_chain, again_leaves, going_held, is_out_of, last_chain, last_leaves, out_holds}
-use Rattle.core_rows.proofs.EachPage.{nth}
+use Rattle.spool_moves.proofs.EachPage.{nth}
 use Rattle.core_rows.proofs.Printing as R
 use Rattle.core_rows.proofs.Ending.{back_ended_gone, back_gone}
 use Rattle.spool_calls.specs.declared.printer.Printer.{Printer}

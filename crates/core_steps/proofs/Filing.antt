@@ -29,7 +29,8 @@ use Rattle.spool_moves.proofs.Holding.{file_pages, granted_counts, granted_withi
 use Rattle.job_moves.proofs.Ties.{fills}
 use Rattle.job_moves.proofs.Shelving.{whole_names}
 use Rattle.job_moves.proofs.Receiving.{ties_begun, ties_put}
-use Rattle.core_rows.proofs.Receiving.{began_chain, began_row, put_chain, put_receiving, put_row}
+use Rattle.core_rows.proofs.Receiving.{began_chain, began_row, put_chain, put_row}
+use Rattle.spool_moves.proofs.Receiving.{put_receiving}
 use Rattle.spool_calls.specs.declared.answers.ReturnedPage.{ReturnedPage}
 use Rattle.spool_calls.specs.Looks.{Detail, What, see, size}
 use Rattle.spool_calls.specs.Looks.Detail.{Octets, Outlines}

@@ -39,7 +39,8 @@ use Rattle.job_moves.proofs.Received.{names_ended, received_by_control, received
 use Rattle.job_moves.proofs.Receiving.{closed_ended, ties_closed, ties_controlled}
 use Rattle.job_moves.proofs.Counting.{counts_by_control, counts_by_file}
 use Rattle.core_rows.proofs.Tables.{WithRow}
-use Rattle.core_rows.proofs.Receiving.{chained_receiving, controlled_chain, controlled_row, file_ended_chain, file_ended_row, held_in_row, held_receiving, open_unreceived}
+use Rattle.core_rows.proofs.Receiving.{chained_receiving, controlled_chain, controlled_row, file_ended_chain, file_ended_row, held_in_row, held_receiving}
+use Rattle.spool_moves.proofs.Receiving.{open_unreceived}
 use Rattle.core_rows.proofs.Received.{Becomes, by_control, by_file, received_chain, unprinted}
 use Rattle.spool_calls.specs.declared.answers.Receipt.TheVariants.{Stored, Received}
 use Rattle.spool_calls.specs.Looks.{Detail, What, size}

@@ -15,7 +15,7 @@ use Rattle.spool_history.specs.Acts.{names_in}
 use Rattle.spool_history.specs.Now.{Job}
 use Rattle.spool_calls.specs.Kept.{is_printed, is_there, place_of, spots}
 use Rattle.spool_moves.proofs.Files.{Differ}
-use Rattle.core_rows.proofs.EachPage.{nth}
+use Rattle.spool_moves.proofs.EachPage.{nth}
 use Rattle.job_moves.proofs.Ties.{Prints, Ties, prints}
 use Rattle.job_moves.proofs.Passes.{all_again, passes}
 use Rattle.job_moves.proofs.Placing.{placed_is}

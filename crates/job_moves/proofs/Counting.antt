@@ -25,7 +25,8 @@ use Rattle.spool_laws.proofs.Copies.{pages_in}
 use Rattle.spool_laws.proofs.Counts.{with_end}
 use Rattle.spool_laws.proofs.Held.{pages_ended}
 use Rattle.spool_moves.proofs.Files.{Differ}
-use Rattle.core_rows.proofs.EachPage.{any_spot, how_many_more}
+use Rattle.spool_moves.proofs.EachPage.{how_many_more}
+use Rattle.spool_calls.proofs.Spots.{any_spot}
 use Rattle.job_moves.proofs.Ties.{Ties, fills}
 use Rattle.job_moves.proofs.Passes.{none_there, passed, passes, printed_none}
 use Rattle.job_moves.proofs.Shelving.{AreWhole, RestAt, Whole, are_whole, len_in, no_files, one_more, rest_all, whole_length, whole_pages}

@@ -2,7 +2,7 @@
 use Rattle.std.proofs.Common.{◌≡◌, ℕ, true, false, List, [], ◌∷◌, drop, map, refl, sym, ◌∙◌, ap, subst}
 use Rattle.std.proofs.lemmas.Bool.{false_from_ne_true}
 use Rattle.spool_laws.proofs.Known.{clash}
-use Rattle.core_rows.proofs.Receiving.{open_unreceived}
+use Rattle.spool_moves.proofs.Receiving.{open_unreceived}
 use Rattle.lpd_values.specs.Contents.{Contents}
 use Rattle.lpd_values.specs.Told.{prints_in}
 use Rattle.page_pool.specs.Page.{Page}

@@ -21,7 +21,7 @@ use Rattle.spool_history.specs.Steps.{acted}
 use Rattle.spool_history.specs.Legal.{HasOpen, IsNextPage, IsReceiving}
 use Rattle.spool_calls.specs.Kept.{size_of, whole_file}
 use Rattle.spool_laws.proofs.Counts.{last_push, with_end, with_page as with_one}
-use Rattle.core_rows.proofs.Receiving.{began_receiving, put_receiving}
+use Rattle.spool_moves.proofs.Receiving.{began_receiving, put_receiving}
 use Rattle.spool_laws.proofs.Held.{open_push}
 use Rattle.spool_moves.proofs.Opens.{LastOpen}
 use Rattle.job_moves.proofs.Ties.{Ties, facts_at, fills, ties_filling}

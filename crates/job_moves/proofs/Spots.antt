@@ -13,7 +13,7 @@ use Rattle.spool_history.specs.Acts.{names_in}
 use Rattle.spool_history.specs.Now.{Job, places}
 use Rattle.spool_calls.specs.Kept.{is_at, is_there, place_of, spots}
 use Rattle.spool_laws.proofs.Known.{Has, clash}
-use Rattle.core_rows.proofs.EachPage.{nth}
+use Rattle.spool_moves.proofs.EachPage.{nth}
 use Rattle.job_moves.proofs.Passes.{and_yes}
 use Rattle.job_moves.proofs.Shelves.{content_at}
 use Rattle.spool_laws.proofs.Copies.{has_either, places_there}

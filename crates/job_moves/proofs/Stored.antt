@@ -24,7 +24,8 @@ use Rattle.spool_laws.proofs.Known.{clash}
 use Rattle.spool_laws.proofs.Copies.{pages_in}
 use Rattle.lpd_values.specs.Told.{prints_in}
 use Rattle.spool_laws.proofs.Copies.{places_there}
-use Rattle.core_rows.proofs.EachPage.{any_spot, how_many_either, how_many_more, how_many_same, page_once}
+use Rattle.spool_moves.proofs.EachPage.{how_many_either, how_many_more, how_many_same, page_once}
+use Rattle.spool_calls.proofs.Spots.{any_spot}
 use Rattle.job_moves.proofs.Ties.{Prints, Ties, at_phase, fills, phase_ended, prints}
 use Rattle.job_moves.proofs.Passes.{none_there}
 use Rattle.job_moves.proofs.Shelving.{AreWhole, are_whole, no_files, one_more, whole_pages}

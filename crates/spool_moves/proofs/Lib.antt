@@ -6,3 +6,5 @@ pub mod Queued
 pub mod Files
 pub mod Holding
 pub mod Out
+pub mod EachPage
+pub mod Receiving

@@ -2,9 +2,6 @@
 -- where no later place is of the same page.
 use Rattle.std.proofs.Common.{inl, inr, ◌≡◌, ◌==◌, ◌≢◌, ℕ, zero, suc, ◌+◌, ◌<◌, ◌≤◌, Bool, true, false, List, [], ◌∷◌, drop, length, map, refl, sym, ◌∙◌, ap, subst, arith, length-append}
 use Rattle.std.specs.Prelude.{Some, filter, slice_get, ◌&&◌, ◌||◌}
-use Rattle.page_chain.specs.declared.place.Place.{Place}
-use Rattle.page_chain.specs.Changes.{is_same_place}
-use Rattle.spool_calls.specs.Kept.{place_of}
 use Rattle.std.specs.List.{list_any}
 use Rattle.std.proofs.lemmas.List.Elements.{filter-append, filter_agree}
 use Rattle.std.proofs.lemmas.Bool.Decides.{nat_tests}
@@ -29,11 +26,6 @@ nth {X} (x ∷ xs) (suc i) lt =
     let n = nth xs i (omega arith) in
     let e : suc (i + 1) ≡ suc i + 1 = omega arith in
     record { here = n.here; left = n.left ∙ ap (λ (m : ℕ). n.here ∷ drop m (x ∷ xs)) e; is = n.is; has = inr n.has }
-
--- a place is among those of pages where its page is among these
-pub any_spot : {C : Type 0} (x : Page C) (ps : List (Page C)) → list_any (is_same_place (place_of x)) (map {A = Page C} {B = Place} place_of ps) ≡ list_any (is_same_page x) ps
-any_spot x [] = refl
-any_spot {C} x (p ∷ ps) = ap (λ (b : Bool). is_same_page x p || b) (any_spot x ps)
 
 -- how many of a list a test says yes to
 abbrev pub how_many : {X : Type 0} → (X → Bool) → List X → ℕ
