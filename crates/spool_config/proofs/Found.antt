@@ -18,7 +18,7 @@ use Rattle.spool_config.specs.Answers.{document_of, first_fault, fault_of, Gives
 use Rattle.spool_config.proofs.Lists.{limits_within}
 use Rattle.spool_config.proofs.Names.{names, own_names}
 use Rattle.spool_config.proofs.Rows.{range_parts}
-use Rattle.spool_config.proofs.Fitting.{are_told, number_fit, within_more}
+use Rattle.spool_config.proofs.Fitting.{are_told, within_more}
 use Rattle.spool_config.proofs.Whole.{KeysFit, Read, faults_told}
 
 no_first : {X : Type 0} (xs : List X) → slice_get xs 0 ≡ None → xs ≡ []
@@ -46,8 +46,8 @@ number_found key (Some (integer (pos n))) none =
 number_found key _ none = absurd cc
 
 -- the number at a key whose faults stand first, and that the other faults are none
-number_first : (key : Key) (value : Option Data) (rest : List ConfigFault) → number_faults key value ++ rest ≡ [] → NumberIn key value × (rest ≡ [])
-number_first key value rest none = let (here, more) = no_parts (number_faults key value) rest none in (number_found key value here, more)
+number_first : (key : Key) (value : Option Data) (rest : List ConfigFault) → number_faults key value ++ rest ≡ [] → (number_faults key value ≡ []) × NumberIn key value × (rest ≡ [])
+number_first key value rest none = let (here, more) = no_parts (number_faults key value) rest none in (here, number_found key value here, more)
 
 is_name_found : (name : List ℕ) → is_name name ≡ true → IsQueueName name
 is_name_found name is =
@@ -65,7 +65,7 @@ QueueIn t = (q : C.Queue) × TellsQueue t q × IsWithin 65536 q
 queue_found : (t : Members) → queue_faults t ≡ [] → QueueIn t
 queue_found t none =
     let (named, more) = no_parts (name_faults (value_at Name t)) _ none in
-    let (limit, rest) = number_first Limit (value_at Limit t) _ more in
+    let (none_over, limit, rest) = number_first Limit (value_at Limit t) _ more in
     let name = name_found (value_at Name t) named in
     let printers = number_found Printers (value_at Printers t) rest in (
       record { name = name.0; limit = limit.0; printers = printers.0 },
@@ -110,17 +110,12 @@ within_pages pages queues each fit = λ k d lt.
 
 document_found : (d : Members) → faults_of d ≡ [] → (c : C.Config) × TellsConfig d c
 document_found d none =
-    let (pages, a) = number_first Pages (value_at Pages d) _ none in
-    let (page_size, b) = number_first PageSize (value_at PageSize d) _ a in
-    let (max_jobs, e) = number_first MaxJobs (value_at MaxJobs d) _ b in
-    let (account, f) = number_first Account (value_at Account d) _ e in
+    let (p, pages, a) = number_first Pages (value_at Pages d) _ none in
+    let (s, page_size, b) = number_first PageSize (value_at PageSize d) _ a in
+    let (j, max_jobs, e) = number_first MaxJobs (value_at MaxJobs d) _ b in
+    let (o, account, f) = number_first Account (value_at Account d) _ e in
     let rows = value_found (value_at Queue d) (no_parts (rows_faults (value_at Queue d)) _ f).0 in
-    let keys : KeysFit d = record {
-      pages = number_fit Pages d pages.0 pages.1 pages.2 pages.3;
-      page_size = number_fit PageSize d page_size.0 page_size.1 page_size.2 page_size.3;
-      max_jobs = number_fit MaxJobs d max_jobs.0 max_jobs.1 max_jobs.2 max_jobs.3;
-      account = number_fit Account d account.0 account.1 account.2 account.3;
-    } in
+    let keys : KeysFit d = record { pages = p; page_size = s; max_jobs = j; account = o } in
     let read : Read d pages.0 rows.0 = record { keys = keys; stands = pages.1; told = rows.1; some = rows.2; few = rows.3; within = rows.4 } in
     let (own, fit) = no_parts (fault_if (has_same (names rows.0)) SameName) _ (sym (faults_told d pages.0 rows.0 read) ∙ none) in
     let within = within_pages pages.0 rows.0 rows.4 (limits_within pages.0 rows.0 ∙ ap not (not_passed _ LimitOverPool fit)) in

@@ -1,5 +1,5 @@
 -- A configuration that a text gives is the only one, and the text has no fault.
-use Rattle.std.proofs.Common.{◌≡◌, ℕ, nat_le, List, [], ◌∷◌, Option, Some, None, slice_get, get_or, refl, sym, ap, subst, ◌∙◌, arith}
+use Rattle.std.proofs.Common.{◌≡◌, ℕ, nat_le, List, [], ◌∷◌, Option, Some, None, slice_get, get_or, refl, sym, ap, ap₂, subst, ◌∙◌, arith}
 use Rattle.std.proofs.lemmas.Bool.{le-leb, not-true}
 use Rattle.std.proofs.lemmas.Option.{same_Some}
 use Rattle.std.proofs.lemmas.List.Elements.{All-weaker}
@@ -48,14 +48,11 @@ one_queue t p q a b =
     ∙ ap (λ limit. record { name = q.name; limit = limit; printers = p.printers }) (one_number t Limit p.limit q.limit a.limit b.limit)
     ∙ ap (λ printers. record { name = q.name; limit = q.limit; printers = printers }) (one_number t Printers p.printers q.printers a.printers b.printers)
 
-first_queue : (p q : C.Queue) (ps qs : List C.Queue) → p ≡ q → ps ≡ qs → p ∷ ps ≡ q ∷ qs
-first_queue p q ps qs first rest = ap (λ r. r ∷ ps) first ∙ ap (λ rs. q ∷ rs) rest
-
 one_list : (rows : List Data) (ps qs : List C.Queue) → TellQueues rows ps → TellQueues rows qs → ps ≡ qs
 one_list [] [] [] a b = refl
 one_list (row ∷ rows) (p ∷ ps) (q ∷ qs) a b =
     let same : a.0.0 ≡ b.0.0 = cc (a.0.1, b.0.1) in
-    first_queue p q ps qs (one_queue b.0.0 p q (subst (λ t. TellsQueue t p) same a.0.2) b.0.2) (one_list rows ps qs a.1 b.1)
+    ap₂ (λ (r : C.Queue) (rs : List C.Queue). r ∷ rs) (one_queue b.0.0 p q (subst (λ t. TellsQueue t p) same a.0.2) b.0.2) (one_list rows ps qs a.1 b.1)
 one_list [] (p ∷ ps) qs a b = absurd a
 one_list (row ∷ rows) [] qs a b = absurd a
 one_list _ _ _ a b = absurd b

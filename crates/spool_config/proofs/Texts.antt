@@ -2,6 +2,7 @@
 use Rattle.std.proofs.Common.{◌≡◌, ◌≢◌, ℕ, List, Some, None, IsSome, IsUtf8, Result, Ok, Err, IfOk, IfErr, slice_get, sym, ap, subst, ◌∙◌, inl, inr}
 use Rattle.std.proofs.lemmas.Bool.{cases_Bool, false≢true}
 use Rattle.std.proofs.lemmas.Option.{same_Some}
+use Rattle.std.proofs.lemmas.Result.{IfOk-weaker}
 use Rattle.std.proofs.lemmas.Str.{is_utf8-from_IsUtf8, IsUtf8-from_is_utf8}
 use Rattle.std.specs.Str.{is_utf8}
 use Rattle.toml.specs.Data.{Members, no_members}
@@ -27,8 +28,7 @@ no_document text none =
     ]
 
 pub config_given : (text : List ℕ) (d : Members) → document_of text ≡ Some d → (r : Result C.Config ConfigFault) → IfOk r (TellsConfig d) → IfOk r (GivesConfig text)
-config_given text d there (Ok c) tells = (d, there, tells)
-config_given text d there (Err fault) tells = tells
+config_given text d there r tells = IfOk-weaker r (TellsConfig d) (GivesConfig text) (λ c tells. (d, there, tells)) tells
 
 pub fault_given : (text : List ℕ) (d : Members) → document_of text ≡ Some d → (r : Result C.Config ConfigFault)
     → IfErr r (λ fault. fault ≢ Memory → slice_get (faults_of d) 0 ≡ Some fault) → IfErr r (λ fault. fault ≢ Memory → fault_of text ≡ Some fault)
