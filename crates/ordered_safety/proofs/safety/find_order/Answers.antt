@@ -1,18 +1,14 @@
-use Rattle.std.proofs.Common.{◌≡◌, length, not, Bool, true, false, refl, ap, ◌∙◌, arith}
-use Rattle.std.specs.Prelude.{IsTrue}
+use Rattle.std.proofs.Common.{length, ap, ◌∙◌, arith}
+use Rattle.std.proofs.lemmas.Bool.{not-false}
 use Rattle.std.proofs.lemmas.Grind.{common_steps}
 use Rattle.ordered_safety.proofs.Walks.{as_many}
 use Rattle.ordered_safety.proofs.safety.find_order.Goals as goal
-
-was_true : (b : Bool) → not b ≡ false → IsTrue b
-was_true true e = refl
-was_true false e = absurd cc
 
 pub put_numbers-requires-clause-room : goal.put_numbers-requires-clause-room
 put_numbers-requires-clause-room c =
     let rows = c.plain-rows.result in
     let places = c.scan-verdict.new.places.items in
-    let order = c.scan-verdict.ensures.order (was_true c.scan-verdict.result.safe c.if-not-verdict.false) in
+    let order = c.scan-verdict.ensures.order (not-false c.scan-verdict.result.safe c.if-not-verdict.false) in
     let long = as_many rows places order.each_once in
     let same = ap length c.as_slice.ensures.value in
     let table = ap length (c.plain-rows.ensures ∙ c.rows.ensures.rows) in
