@@ -4,12 +4,12 @@ use Rattle.std.specs.Prelude.{◌&&◌, ◌||◌, not, find, Option, Some, None,
 use Rattle.std.proofs.lemmas.Bool.Decides.{nat_tests}
 use Rattle.std.proofs.lemmas.Bool.{and_parts, true_from_ne_false, not-false}
 use Rattle.spool_history.specs.Base.{Base}
-use Rattle.spool_history.specs.Events.{Event, Sheet, Turn}
+use Rattle.spool_history.specs.Events.{Event, Sheet}
 use Rattle.spool_history.specs.Events.Turn.{Handed}
 use Rattle.spool_history.specs.Events.Event.{Opened, AtPrinter}
 use Rattle.config_values.specs.Config.{IsPrinter, Config, queue_of}
 use Rattle.spool_history.specs.Acts.{is_lent_by, control_by, Page}
-use Rattle.spool_history.specs.Said.{Opening, openings, acts_of, is_handed, back_of, has_ended, began_at}
+use Rattle.spool_history.specs.Said.{Opening, openings, acts_of, back_of, has_ended, began_at}
 use Rattle.spool_history.specs.Now.{Job, Printer, now, job_of, is_held}
 use Rattle.spool_history.specs.Next.{next_page, next_at, with_out, hand_of, hand_first, turn_of, or_first, printer_at}
 use Rattle.spool_history.specs.Next.Next.{Hands, Stops, Over}

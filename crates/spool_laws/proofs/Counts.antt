@@ -147,5 +147,4 @@ none_by (suc n) f = absurd (f (omega arith))
 pub fits_aborted : {C : Type 0} (a : List (Act C)) (b d : Bool) → Fits a b → (b ≡ false) ⊎ (is_lent_by a ≡ true) → d ≡ true → Fits (Aborted ∷ a) d
 fits_aborted a b d f e t =
     let none : aborted_in a ≡ 0 = none_by (aborted_in a) (λ p. elim e [ inl x ↦ clash b (f.after p).0 x | inr x ↦ clash (is_lent_by a) x (f.after p).1 ]) in
-    let q = f.puts in
     record { puts = omega arith; files = f.files; ended = f.ended; control = f.control; aborted = omega arith; after = λ p. (t, refl) }

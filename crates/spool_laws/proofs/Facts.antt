@@ -321,7 +321,7 @@ facts_back {C} h p sheet turn is f o =
       fresh = λ j lt. (
           let u = f.fresh j lt in
           let ne : sheet.job ≢ j = λ same. (let m : sheet.job ≡ j = same in omega arith) in
-          record { acts = u.acts; handed = handed_same h p sheet turn j is ∙ u.handed; back = back_more h p sheet turn j ne ∙ u.back; ended = λ open'. ended_turn h p sheet turn j ne (u.ended open') });
+          record { acts = u.acts; handed = handed_same h p sheet turn j is ∙ u.handed; back = back_more h p sheet turn j ne ∙ u.back; ended = λ x. ended_turn h p sheet turn j ne (u.ended x) });
       begun = λ j e. ap length (handed_same h p sheet turn j is) ∙ f.begun j e;
       back = λ j. elim (test sheet.job j) [
         | inl r ↦ omega (arith, ap length (handed_same h p sheet turn j is), one j r.0, back_one h p sheet turn j is r.0)

@@ -11,7 +11,7 @@ use Rattle.std.proofs.lemmas.List.Elements.{filter-append}
 use Rattle.config_values.specs.Config.{Config}
 use Rattle.spool_history.specs.Base.{Base}
 use Rattle.spool_history.specs.Events.{Event, Sheet, Turn}
-use Rattle.spool_history.specs.Events.Turn.{Handed, Printed, Failed}
+use Rattle.spool_history.specs.Events.Turn.{Handed}
 use Rattle.spool_history.specs.Events.Event.{Opened, AtPrinter}
 use Rattle.spool_history.specs.Said.{Opening, openings, handed_of, is_handed}
 use Rattle.spool_history.specs.Now.{now, job_of, is_held}

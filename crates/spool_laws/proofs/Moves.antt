@@ -113,7 +113,8 @@ moved_opened {C} c base h j s q f open' is =
     let count : base.accepted + length (openings h ++ o ∷ []) ≡ base.accepted + length (openings h) + 1 = omega (arith, length_push (openings h) o) in
     let reserve : Opening → ℕ = λ (o : Opening). reserve_of c o.queue in
     let reserve' : Job C → ℕ = λ (v : Job C). reserve_of c v.queue in
-    let sums : base.reserved + sum_by reserve (openings h ++ o ∷ []) ≡ base.reserved + sum_by reserve (openings h) + sum_by reserve' (new_job j s q ∷ []) = omega (arith, sum_by_push reserve (openings h) o) in
+    let sums : base.reserved + sum_by reserve (openings h ++ o ∷ []) ≡ base.reserved + sum_by reserve (openings h) + sum_by reserve' (new_job j s q ∷ []) =
+    omega (arith, sum_by_push reserve (openings h) o) in
     all_same c _ _ _ _ _ _ _ _ _ _ jobs count sums refl refl
 
 pub moved : {C : Type 0} (size : C → ℕ) (c : Config) (base : Base) (h : List (Event C)) (e : Event C) → IsLegal size c base h → May size (now c base h) e → now c base (e ∷ h) ≡ after e (now c base h)

@@ -90,7 +90,6 @@ pigeons {X} T one w name n f (x ∷ xs) small r has = elim (test (w x) 0) [
       let p = has x (inl refl) (omega arith) in
       let rest : (y : X) → Has y xs → 0 < w y → Place T (without p.at f) n (name y) = λ y t pos.
       let q = has y (inr t) pos in
-      let lt = r.0 y t in
       let ne' : q.at ≢ p.at = λ e. (let same : name x ≡ name y = one p.at (name x) (name y) p.tied (subst (λ (i : ℕ). T i (name y)) e q.tied) in omega arith) in
       let same = without_other p.at f q.at ne' in
       let counts = q.counts in

@@ -19,7 +19,6 @@ get_up_to f zero i d lt = absurd (omega arith)
 get_up_to {P} f (suc n) i d lt = ap (λ (l : List P). get_or l i d) (map-append f (up_to n) (suc n ∷ [])) ∙ elim (test i n) [
   | inl s ↦ get_or_at (map f (up_to n)) (f (suc n)) [] d i (length_up_to f n ∙ sym s.0) ∙ ap (λ (m : ℕ). f (suc m)) (sym s.0)
   | inr s ↦
-      let ne : i ≢ n = s.0 in
       get_or_append_left (map f (up_to n)) (f (suc n) ∷ []) d i (omega (arith, length_up_to f n)) ∙ get_up_to f n i d (omega arith)
 ]
 

@@ -189,7 +189,8 @@ takes {C} size c base h (OfJob k (Put file number page)) quiet l m = act_takes s
     let open' : is_open_in (at_last (with_page page) u.files) ≡ true = ap is_open_in now' ∙ open_last o.0 (with_page page o.1) o.4 in
     receives (Put file number page) u refl a.0.0 a.0.1 (not_whole u.control (at_last (with_page page) u.files) open')))
 takes size c base h (OfJob k (FileEnded file whole)) quiet l m = act_takes size c base h k (FileEnded file whole) l m.0 (λ u a. receives (FileEnded file whole) u refl a.0.0 a.0.1 (sym a.3 ∙ quiet))
-takes size c base h (OfJob k (Controlled control whole)) quiet l m = act_takes size c base h k (Controlled control whole) l m.0 (λ u a. receives (Controlled control whole) u refl a.0.0 a.0.1 (sym a.2 ∙ quiet))
+takes size c base h (OfJob k (Controlled control whole)) quiet l m = act_takes size c base h k (Controlled control whole) l m.0 (λ u a.
+    receives (Controlled control whole) u refl a.0.0 a.0.1 (sym a.2 ∙ quiet))
 takes {C} size c base h (AtPrinter p sheet Handed) quiet l m = λ u has.
     (let f = facts size c base h l in
     let t = turn_of_page c base h p sheet m.0.0 m.0.1 m.1 in

@@ -1,9 +1,9 @@
 -- How long a printer has nothing to do: an event by which no job of its queue becomes whole, ends or goes brings it nothing.
 use Rattle.std.proofs.Common.{◌⊎◌, inl, inr, ◌≡◌, ◌==◌, ℕ, ◌+◌, ◌<◌, Bool, true, false, List, [], ◌∷◌, ◌++◌, drop, map, refl, sym, ◌∙◌, ap, subst, arith}
-use Rattle.std.specs.Prelude.{◌&&◌, not, cond, find, nat_lt, Option, Some, None}
+use Rattle.std.specs.Prelude.{◌&&◌, not, cond, find, Option, Some, None}
 use Rattle.std.specs.List.{list_any, AllByRecursion}
 use Rattle.std.proofs.lemmas.Bool.Decides.{nat_tests}
-use Rattle.std.proofs.lemmas.Bool.{and_parts, not-true}
+use Rattle.std.proofs.lemmas.Bool.{and_parts, not-true, cases_Bool}
 use Rattle.spool_history.specs.Base.{Base}
 use Rattle.spool_history.specs.Events.{Act, Event, Sheet, Turn}
 use Rattle.spool_history.specs.Events.Act.{Granted, Put, FileEnded, Controlled, Aborted}
@@ -20,7 +20,7 @@ use Rattle.spool_history.specs.Steps.{acted, turned, change, accepted_by, new_jo
 use Rattle.spool_history.specs.Legal.{HasJob, IsLegal, JobMay, May, MayBeRemoved, progress_of}
 use Rattle.spool_laws.specs.PutOff.{may_help}
 use Rattle.spool_laws.specs.Served.{HasNothing, NoneMayServe, has_of, may_serve}
-use Rattle.spool_laws.proofs.Known.{Has, Known, At, known, has_at, has_filtered, has_mapped, filter_has, map_has, find_has, none_of, test, clash, or_true, and_false, filter_cons}
+use Rattle.spool_laws.proofs.Known.{Has, Known, At, known, has_at, has_filtered, has_mapped, filter_has, map_has, find_has, none_of, test, clash, or_true, and_false}
 use Rattle.spool_laws.proofs.Printers.{at_printer}
 use Rattle.spool_laws.proofs.Turns.{Gets, Begins, begins_by, ready_by, given, given_at}
 use Rattle.spool_laws.proofs.Facts.{Facts, facts, is_out}
@@ -31,7 +31,6 @@ use Rattle.spool_laws.proofs.PutOff.{Takes, takes, still_held, at_job}
 use Rattle.spool_laws.proofs.Behind.{bool_cases as false_if}
 use Rattle.spool_laws.proofs.Adding.{has_left}
 use Rattle.spool_laws.proofs.Copies.{has_either}
-use Rattle.std.proofs.lemmas.Bool.{cases_Bool}
 
 -- what an event that doesn't serve a queue makes of a job of that queue: it takes something or nothing, or a page of it comes
 -- back, and it goes on
@@ -127,7 +126,8 @@ same {C} u w s = elim s [
         unhanded = λ z. sym r.handed ∙ z;
         held = still_held u w (inr (inl r));
       }
-      | inr k ↦ subst (λ (x : Job C). Same u x) (sym k.is) record { number = refl; sender = refl; queue = refl; ended = refl; received = λ x. x; unhanded = λ z. absurd (omega arith); held = λ x. rw k.was refl }
+      | inr k ↦
+          subst (λ (x : Job C). Same u x) (sym k.is) record { number = refl; sender = refl; queue = refl; ended = refl; received = λ x. x; unhanded = λ z. absurd (omega arith); held = λ x. rw k.was refl }
     ]
   ]
   | inr b ↦ subst (λ (x : Job C). Same u x) (sym b.0) record { number = refl; sender = refl; queue = refl; ended = refl; received = λ r. r; unhanded = λ z. z; held = λ k. rw b.1 refl }
@@ -300,7 +300,6 @@ is_before w x u y a b d a' b' d' = rw (a, b, d, a', b', d') refl
 
 before_parts : {C : Type 0} (w v : Job C) → is_preceded_by w v ≡ true → (v.queue ≡ w.queue) × (v.number < w.number)
 before_parts w v e =
-    let b = and_parts (v.queue == w.queue) (nat_lt v.number w.number) (and_parts (v.sender == w.sender) ((v.queue == w.queue) && nat_lt v.number w.number) e).1 in
     (grind (arith, nat_tests), grind (arith, nat_tests))
 
 begins_before : {C : Type 0} (size : C → ℕ) (c : Config) (base : Base) (h : List (Event C)) (e : Event C) (q : ℕ) → may_serve (now c base h) q e ≡ false → IsLegal size c base h → May size (now c base h) e
@@ -338,8 +337,6 @@ begins_still {C} size c base h e q quiet l m u has b r =
                 clash (is_preceded_by u x.0) (sym (is_before (change e u) (change e x.0) u x.0 r.number r.sender r.queue t.number t.sender t.queue) ∙ yes') (none_of (is_preceded_by u) x.0 us b.first x.1)
             | inr new ↦
                 let n = (new_one size (now c base h) e w m new).number in
-                let lt = p.1 in
-                let rn = r.number in
                 absurd (omega arith)
           ]));
     }
@@ -370,10 +367,12 @@ first_stays {C} size c base h e q quiet l m n = by (first_ready us q) refl n
         let r = rested u (change e u) (rests size c base h e q quiet l m u has.0 b.0.queue b.0.received b.1 spent) in
         let goes : (change e u).ended ≡ false = r.ended ∙ b.1 in
         let begins = begins_still size c base h e q quiet l m u has.0 b.0 r in
-        ap hand_of (lift (is us) (is (all e us)) (change e) us (accepted_by e) (Some u) keep f (going_held (change e u) goes, ready_by (all e us) q (change e u) begins goes)) ∙ spent_on u (change e u) r spent
+        ap hand_of (lift (is us) (is (all e us)) (change e) us (accepted_by e) (Some u) keep f
+        (going_held (change e u) goes, ready_by (all e us) q (change e u) begins goes)) ∙ spent_on u (change e u) r spent
 
 -- a printer's job is of its queue, and is received
-own_job : {C : Type 0} (size : C → ℕ) (c : Config) (base : Base) (h : List (Event C)) (p j : ℕ) (u : Job C) → IsLegal size c base h → began_at h p ≡ Some j → Has u (now c base h).jobs → u.number ≡ j → (u.queue ≡ queue_of c p) × (is_received u ≡ true)
+own_job : {C : Type 0} (size : C → ℕ) (c : Config) (base : Base) (h : List (Event C)) (p j : ℕ) (u : Job C) → IsLegal size c base h → began_at h p ≡ Some j → Has u (now c base h).jobs → u.number ≡ j
+    → (u.queue ≡ queue_of c p) × (is_received u ≡ true)
 own_job {C} size c base h p j u l began has n =
     let f = facts size c base h l in
     let k = known c base h u has in
@@ -417,7 +416,8 @@ turn_stays {C} size c base h e p (Some j) began quiet l m n = by (find is us) re
         let r = rested u (change e u) (rests size c base h e (queue_of c p) quiet l m u has.0 own.0 own.1 going spent) in
         let goes : (change e u).ended ≡ false = r.ended ∙ going in
         let yes : is (change e u) ≡ true = subst (λ (i : ℕ). ((i == j) && not (change e u).ended) ≡ true) (sym r.number) (rw (a.0, goes) refl) in
-        subst (λ (o : Option (Job C)). hand_of (or_first (all e us) (queue_of c p) o) ≡ Nothing) (sym (lift is is (change e) us (accepted_by e) (Some u) keep f (going_held (change e u) goes, yes))) (spent_on u (change e u) r spent)
+        subst (λ (o : Option (Job C)). hand_of (or_first (all e us) (queue_of c p) o) ≡ Nothing)
+        (sym (lift is is (change e) us (accepted_by e) (Some u) keep f (going_held (change e u) goes, yes))) (spent_on u (change e u) r spent)
 
 -- what is next for a printer of which a history says this is nothing, or it is stopped
 abbrev NothingFor : {C : Type 0} → Bool → List (Job C) → Printer C → Type 0

@@ -157,7 +157,6 @@ opened {C} size c base h k s q each l m st =
     (let kn = known c base h u has in
     let n = (facts size c base h l).numbers kn.opening kn.there in
     let u' : u.number ≡ kn.opening.job = ap (λ (v : Job C). v.number) kn.is in
-    let new = m.4 in
     omega arith)) in
     let fits = could c each q m.1 in
     let last = safe_last (free c jobs) (rows c jobs) x (λ i. let f = fits i in let g : amount x.need i ≤ amount (amounts c (limit_of c q) q 1) i = amount_le c q (limit_of c q - 0) (limit_of c q) 1 1 (omega arith) (omega arith) i in omega arith) line st in
@@ -187,7 +186,6 @@ line_of {C} size c base h sheet l o there is gone u has ne line = elim (cases_lt
       let n : u.number ≡ x.job = ap (λ (v : Job C). v.number) k.is in
       let s : u.sender ≡ x.sender = ap (λ (v : Job C). v.sender) k.is in
       let q : u.queue ≡ x.queue = ap (λ (v : Job C). v.queue) k.is in
-      let ne' : u.number ≢ o.job = ne in
       let g : is_held (job_of h x) ≡ false = gone x o (contained x (openings h) k.there) (contained o (openings h) there) is (omega arith) (sym s ∙ sym line.0) (sym q ∙ sym line.1) in
       absurd (clash (is_held (job_of h x)) (subst (λ (v : Job C). is_held v ≡ true) k.is k.held) g)
 ]

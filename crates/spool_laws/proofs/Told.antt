@@ -65,7 +65,6 @@ told_turn : {C : Type 0} (h : List (Event C)) (p : ℕ) (sheet : Sheet C) (turn 
     → (sheet.job ≡ j → is_failed turn ≡ true → handed_at (AtPrinter p sheet turn ∷ h) j ≡ back_of (AtPrinter p sheet turn ∷ h) j) → Told h j → Told (AtPrinter p sheet turn ∷ h) j
 told_turn h p sheet turn j none out u = elim (test sheet.job j) [
   | inl s ↦
-      let z = none s.0 in
       record {
         acts = fits_later (acts_of h j) (has_ended h j) (has_ended (AtPrinter p sheet turn ∷ h) j) (still_ended h (AtPrinter p sheet turn) j) u.acts;
         failed = elim (cases_Bool (is_failed turn)) [ inl f ↦ rw (s.1, f) (omega arith) | inr f ↦ rw (s.1, f) (omega arith) ];

@@ -58,8 +58,6 @@ whole_done : {C : Type 0} (size : C → ℕ) (c : Config) (base : Base) (h : Lis
 whole_done {C} size c base h p sheet l m w j e =
     let last = ((says size c base h p sheet Done l m).done.0 refl).1 in
     let out = (facts size c base h l).out p sheet (is_out c base h p sheet m.0 m.1.0) in
-    let o1 = out.1 in
-    let o2 = out.2 in
     let full : handed_at h sheet.job ≡ length (places_of h sheet.job) = omega arith in
     elim (test sheet.job j) [
       | inl s ↦ (rw s.1 refl, ap length (handed_same h p sheet (Printed Done) j refl) ∙ subst (λ (i : ℕ). handed_at h i ≡ length (places_of h i)) s.0 full)
