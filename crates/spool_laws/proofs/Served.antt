@@ -126,8 +126,7 @@ same {C} u w s = elim s [
         unhanded = λ z. sym r.handed ∙ z;
         held = still_held u w (inr (inl r));
       }
-      | inr k ↦
-          subst (λ (x : Job C). Same u x) (sym k.is) record { number = refl; sender = refl; queue = refl; ended = refl; received = λ x. x; unhanded = λ z. absurd (omega arith); held = λ x. rw k.was refl }
+      | inr k ↦ subst (Same u) (sym k.is) record { number = refl; sender = refl; queue = refl; ended = refl; received = λ r. r; unhanded = λ z. absurd (omega arith); held = λ x. rw k.was refl }
     ]
   ]
   | inr b ↦ subst (λ (x : Job C). Same u x) (sym b.0) record { number = refl; sender = refl; queue = refl; ended = refl; received = λ r. r; unhanded = λ z. z; held = λ k. rw b.1 refl }

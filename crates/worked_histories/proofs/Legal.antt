@@ -57,8 +57,8 @@ abbrev pub row : (number sender held need : ℕ) → Row
 row n s held need = record { number = n; sender = s; queue = 1; held = held ∷ 0 ∷ []; need = need ∷ 1 ∷ [] }
 
 -- and so a page may be lent to a job that is alone
-pub lent : (b : Base) (h : List (Event (List ℕ))) (j s held need : ℕ) → 0 < length (state b h).jobs → (first_job b h).number ≡ j → JobMay length small Granted (first_job b h) → 0 < free_pages (state b h)
-    → let v : State (List ℕ) = after (OfJob j Granted) (state b h) in map (row_of small) v.jobs ≡ row j s held need ∷ [] → need ≤ free_amount v 0 → 1 ≤ free_amount v 1
+pub lent : (b : Base) (h : List (Event (List ℕ))) (j s held need : ℕ) → 0 < length (state b h).jobs → (first_job b h).number ≡ j → JobMay length small Granted (first_job b h)
+    → 0 < free_pages (state b h) → let v : State (List ℕ) = after (OfJob j Granted) (state b h) in map (row_of small) v.jobs ≡ row j s held need ∷ [] → need ≤ free_amount v 0 → 1 ≤ free_amount v 1
     → Legal b h → Legal b (OfJob j Granted ∷ h)
 lent b h j s held need some number may free is pages printers l =
     let f = free_amount (after (OfJob j Granted) (state b h)) in

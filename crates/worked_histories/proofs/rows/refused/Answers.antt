@@ -59,7 +59,8 @@ single jobs a j P one h =
     (ap (λ (x : Job (List ℕ)). x.number) same ∙ h.number, subst P (sym same) h.is)
 
 -- what holds of a job of number 1 before the newest n events holds of the one there
-of_mine : (n : ℕ) {P : Job (List ℕ) → Type 0} → (now small first_base (drop n one_job)).jobs ≡ mine n ∷ [] → HasJob (now small first_base (drop n one_job)).jobs 1 P → ((mine n).number ≡ 1) × P (mine n)
+of_mine : (n : ℕ) {P : Job (List ℕ) → Type 0} → (now small first_base (drop n one_job)).jobs ≡ mine n ∷ []
+    → HasJob (now small first_base (drop n one_job)).jobs 1 P → ((mine n).number ≡ 1) × P (mine n)
 of_mine n {P} one h = single (now small first_base (drop n one_job)).jobs (mine n) 1 P one h
 
 -- of one file the last is that one, and none is before it
