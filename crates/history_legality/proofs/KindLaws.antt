@@ -27,6 +27,7 @@ at_kind g (suc n) k lt =
 past_kinds : (g : ℕ → ℕ) (n k : ℕ) → n ≤ k → amount (map g (up_to n)) k ≡ 0
 past_kinds g n k le = get_or_past (map g (up_to n)) k 0 (omega (arith, mapped_length g n))
 
+-- of a queue there are its printers, and of all others none
 pub of_kind : (c : S.Config) (p q m k : ℕ) → k ≢ 0 → k ≤ length c.queues → amount (amounts c p q m) k ≡ (if k == q then m else 0)
 of_kind c p q m zero z le = absurd (z refl)
 of_kind c p q m (suc k) z le = at_kind (λ (i : ℕ). if i == q then m else 0) (length c.queues) k (omega arith)

@@ -119,6 +119,7 @@ no_order_after c f xs gone k again more x b lt e ex em i isnt g =
     let rest : HasFinishingOrder (with_back c f (gone ++ x ∷ [])) (rows_seen c (remove xs k)) = (order_more c f gone x (rows_seen c (remove xs k))).0 back in
     absurd (cc (i.1 (subst (λ (r : List Claim). HasFinishingOrder (with_back c f r) (rows_seen c again)) (sym em) (subst (λ (r : List Claim). HasFinishingOrder (with_back c f (gone ++ x ∷ [])) (rows_seen c r)) (sym e) rest))))
 
+-- an answer decides what follows from what it decides and leads back to it
 pub if_ok_iff : {E P Q : Type 0} (r : Result Bool E) → (P → Q) → (Q → P) → IfOk r (λ (b : Bool). IsTrue b ↔ P) → IfOk r (λ (b : Bool). IsTrue b ↔ Q)
 if_ok_iff (Ok x) up down h = (λ t. up (h.0 t), λ q. h.1 (down q))
 if_ok_iff (Err e) up down h = tt

@@ -31,6 +31,7 @@ filter_fewer {X} t u xs up =
     let each = sum_by-le-sum_by (λ (x : X). cond (t x) 1 0) (λ (x : X). cond (u x) 1 0) xs (λ x. elim (cases_Bool (t x)) [ inl e ↦ rw (e, up x e) (omega arith) | inr e ↦ rw e (omega arith) ]) in
     omega (arith, length-filter t xs, length-filter u xs)
 
+-- a list that has something is not empty
 has_some : {X : Type 0} (x : X) (xs : List X) → Has x xs → 1 ≤ length xs
 has_some x [] has = absurd has
 has_some x (y ∷ ys) has = omega arith

@@ -72,6 +72,7 @@ number_at h k P f a = f.numbers (record { job = k; sender = a.sender; queue = a.
 pub acts_other : {C : Type 0} (h : List (Event C)) (k : ℕ) (act : Act C) (j : ℕ) → k ≢ j → acts_of (OfJob k act ∷ h) j ≡ acts_of h j
 acts_other h k act j ne = elim (test k j) [ inl s ↦ absurd (ne s.0) | inr s ↦ rw s.1 refl ]
 
+-- one more act of a job is its newest
 pub acts_here : {C : Type 0} (h : List (Event C)) (k : ℕ) (act : Act C) → acts_of (OfJob k act ∷ h) k ≡ act ∷ acts_of h k
 acts_here h k act = elim (test k k) [ inl s ↦ rw s.1 refl | inr s ↦ absurd (s.0 refl) ]
 
@@ -93,6 +94,7 @@ is_still (Opened k s q) = false
 is_still (AtPrinter p sheet turn) = false
 is_still _ = true
 
+-- what is open after an event was open before it
 open_before : {C : Type 0} (base : Base) (h : List (Event C)) (e : Event C) → is_closed base (e ∷ h) ≡ false → is_closed base h ≡ false
 open_before base h Closed o = absurd (clash true refl o)
 open_before base h _ o = o
@@ -215,6 +217,7 @@ back_same h p sheet j = elim (test sheet.job j) [ inl s ↦ rw s.1 refl | inr s 
 ended_turn : {C : Type 0} (h : List (Event C)) (p : ℕ) (sheet : Sheet C) (turn : Turn) (j : ℕ) → sheet.job ≢ j → has_ended h j ≡ false → has_ended (AtPrinter p sheet turn ∷ h) j ≡ false
 ended_turn h p sheet turn j ne e = elim (test sheet.job j) [ inl s ↦ absurd (ne s.0) | inr s ↦ rw s.1 e ]
 
+-- the one value of two equal options
 pub some_same : {X : Type 0} (x y : X) → ◌≡◌ {A = Option X} (Some x) (Some y) → x ≡ y
 some_same x y e = cc
 

@@ -35,6 +35,7 @@ rises_push {X} name (o ∷ os) x r lt = (
   rises_push name os x r.1 (λ y t. lt y (inr t)),
 )
 
+-- and so they do in what a test keeps of the list, and in a list of which each has the number of one there
 pub rises_filter : {X : Type 0} (name : X → ℕ) (t : X → Bool) (xs : List X) → Rises name xs → Rises name (filter t xs)
 rises_filter name t [] r = tt
 rises_filter name t (x ∷ xs) r = elim (cases_Bool (t x)) [

@@ -56,6 +56,7 @@ told_act {C} h k act fits t j =
 pub failed_one : {C : Type 0} (h : List (Event C)) (p : ℕ) (sheet : Sheet C) (j : ℕ) → sheet.job ≡ j → failed_of (AtPrinter p sheet Failed ∷ h) j ≡ failed_of h j + 1
 failed_one h p sheet j e = elim (test sheet.job j) [ inl s ↦ rw s.1 refl | inr s ↦ absurd (s.0 e) ]
 
+-- a page that fails ends its job
 ends_by_failure : (turn : Turn) → is_failed turn ≡ true → ends_by_turn turn ≡ true
 ends_by_failure Failed f = refl
 ends_by_failure _ f = absurd (clash false f refl)

@@ -69,6 +69,7 @@ turn_by : {C : Type 0} (jobs : List (Job C)) (p : Printer C) (x : Job C) (o : Op
 turn_by jobs p x None b e = first_by jobs p x e
 turn_by {C} jobs p x (Some k) b e = begun_by jobs p k x (find (λ (v : Job C). (v.number == k) && not v.ended) jobs) b refl e
 
+-- a page is handed only past a test that gives nothing to hand
 pub past : {C : Type 0} (b : Bool) (y x : Next C) (sheet : Sheet C) → (y ≡ Hands sheet → ⊥) → cond b y x ≡ Hands sheet → (b ≡ false) × (x ≡ Hands sheet)
 past true y x sheet ne e = absurd (ne e)
 past false y x sheet ne e = (refl, e)

@@ -19,6 +19,7 @@ use Rattle.spool_history.specs.Steps.{acted, after, new_job}
 use Rattle.spool_history.specs.Legal.{ActMay, HasJob, IsControl, IsLegal, JobMay, progress_of}
 use Rattle.worked_histories.specs.Rows.{small, hello, rld}
 
+-- each event of a history of the small spool meets its conditions
 abbrev pub Legal : Base → List (Event (List ℕ)) → Type 0
 Legal b h = IsLegal length small b h
 
@@ -32,6 +33,7 @@ first_job b h = slice_index_or (state b h).jobs 0 (new_job 0 0 0)
 abbrev pub first_file : Base → List (Event (List ℕ)) → File (List ℕ)
 first_file b h = slice_index_or (first_job b h).files 0 (new_file [] 0)
 
+-- the first job is there, with this number
 has : (b : Base) (h : List (Event (List ℕ))) (j : ℕ) (P : Job (List ℕ) → Type 0) → 0 < length (state b h).jobs → (first_job b h).number ≡ j → P (first_job b h) → HasJob (state b h).jobs j P
 has b h j P some number is =
     record { job = first_job b h; there = (0, some, get_or_default (state b h).jobs 0 (first_job b h) (new_job 0 0 0) some); number = number; is = is }
