@@ -1,6 +1,7 @@
 -- The place of a host among those that connected, and of its name among the names that are kept.
 use Rattle.std.proofs.Common.{◌≡◌, ◌+◌, ◌++◌, ◌||◌, ℕ, Bool, true, false, not, cond, List, [], ◌∷◌, map, refl, ap, ◌∙◌}
 use Rattle.std.specs.List.{list_any, position_or_len}
+use Rattle.std.proofs.lemmas.List.{map_push}
 use Rattle.std.specs.Str.{bytes_eq}
 use Rattle.lpd_script.specs.Hosts.{with_host}
 
@@ -13,13 +14,9 @@ module _ {A : Type 0} (f : A → List ℕ) where
   same_any h [] = refl
   same_any h (x ∷ xs) = ap (λ b. bytes_eq h (f x) || b) (same_any h xs)
 
-  map_last : (x : A) (xs : List A) → map f (xs ++ x ∷ []) ≡ map f xs ++ f x ∷ []
-  map_last x [] = refl
-  map_last x (y ∷ xs) = ap (λ ys. f y ∷ ys) (map_last x xs)
-
   picked : (b : Bool) (x : A) (xs : List A) → map f (cond b xs (xs ++ x ∷ [])) ≡ cond b (map f xs) (map f xs ++ f x ∷ [])
   picked true x xs = refl
-  picked false x xs = map_last x xs
+  picked false x xs = map_push f xs x
 
   pub same_hosts : (x : A) (xs : List A) → map f (cond (list_any (λ y. bytes_eq (f x) (f y)) xs) xs (xs ++ x ∷ [])) ≡ with_host (map f xs) (f x)
   same_hosts x xs =

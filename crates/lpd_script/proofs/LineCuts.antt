@@ -1,25 +1,18 @@
 -- A text cut into its lines.
-use Rattle.std.proofs.Common.{◌≡◌, ◌≢◌, ◌⊎◌, inl, inr, ◌<◌, ◌++◌, ◌==◌, ◌&&◌, ℕ, Bool, true, false, not, cond, All, List, [], ◌∷◌, length, refl, sym, subst, ap, ◌∙◌, append_assoc, append-nil, length-append, take, ◌-◌, arith}
+use Rattle.std.proofs.Common.{◌≡◌, ◌≢◌, ◌⊎◌, inl, inr, ◌<◌, ◌++◌, ◌==◌, ℕ, Bool, true, false, cond, All, List, [], ◌∷◌, length, refl, sym, subst, ap, ◌∙◌, append_assoc, append-nil, length-append, take, ◌-◌, arith}
 use Rattle.std.specs.List.{list_all}
 use Rattle.std.proofs.Math.Seq.{take-append_seam}
+use Rattle.std.proofs.lemmas.Bool.{and_parts, not-true}
 use Rattle.std.proofs.lemmas.List.Elements.{All-nil, All-push}
 use Rattle.lpd_script.specs.Scripts.{before_first, lines_of}
 use Rattle.lpd_script.specs.Parts.{AreParts, AreWhole, HasNoMark, IsCut, IsMarked, is_no_lf, mark}
-
-both : (a b : Bool) → a && b ≡ true → (a ≡ true) × (b ≡ true)
-both true b e = (refl, e)
-both false b e = absurd (cc)
-
-no_lf : (b : Bool) → not b ≡ true → b ≡ false
-no_lf true e = absurd (cc)
-no_lf false e = refl
 
 -- the lines of a line with its LF and what follows
 pub line_first : (line rest : List ℕ) → list_all is_no_lf line ≡ true → lines_of (line ++ 10 ∷ rest) ≡ line ∷ lines_of rest
 line_first [] rest none = refl
 line_first (b ∷ line) rest none =
-    let parts = both (is_no_lf b) (list_all is_no_lf line) none in
-    let other : (b == 10) ≡ false = no_lf (b == 10) parts.0 in
+    let parts = and_parts (is_no_lf b) (list_all is_no_lf line) none in
+    let other : (b == 10) ≡ false = not-true (b == 10) parts.0 in
     ap (λ x. cond x ([] ∷ lines_of (line ++ 10 ∷ rest)) (before_first b (lines_of (line ++ 10 ∷ rest)))) other
     ∙ ap (before_first b) (line_first line rest parts.1)
 
@@ -27,11 +20,11 @@ line_first (b ∷ line) rest none =
 pub line_last : (line : List ℕ) → list_all is_no_lf line ≡ true → 0 < length line → lines_of line ≡ line ∷ []
 line_last [] none some = absurd (omega (arith, some))
 line_last (b ∷ []) none some =
-    let parts = both (is_no_lf b) true none in
-    ap (λ x. cond x ([] ∷ []) ((b ∷ []) ∷ [])) (no_lf (b == 10) parts.0)
+    let parts = and_parts (is_no_lf b) true none in
+    ap (λ x. cond x ([] ∷ []) ((b ∷ []) ∷ [])) (not-true (b == 10) parts.0)
 line_last (b ∷ c ∷ line) none some =
-    let parts = both (is_no_lf b) (list_all is_no_lf (c ∷ line)) none in
-    ap (λ x. cond x ([] ∷ lines_of (c ∷ line)) (before_first b (lines_of (c ∷ line)))) (no_lf (b == 10) parts.0)
+    let parts = and_parts (is_no_lf b) (list_all is_no_lf (c ∷ line)) none in
+    ap (λ x. cond x ([] ∷ lines_of (c ∷ line)) (before_first b (lines_of (c ∷ line)))) (not-true (b == 10) parts.0)
     ∙ ap (before_first b) (line_last (c ∷ line) parts.1 (omega (arith)))
 
 -- a text that isn't empty has a first line, and then the lines of what follows it
@@ -72,8 +65,8 @@ lines_join (b ∷ text) more =
 
 pub whole_join : (text more : List ℕ) → AreWhole text → lines_of (text ++ more) ≡ lines_of text ++ lines_of more
 whole_join text more whole = elim whole [
-  | inl e ↦ subst (λ x. lines_of (x ++ more) ≡ lines_of x ++ lines_of more) (sym e) refl
-  | inr e ↦ subst (λ x. lines_of (x ++ more) ≡ lines_of x ++ lines_of more) (sym e.1) (lines_join e.0 more)
+  | inl e ↦ rw e
+  | inr e ↦ rw e.1 (lines_join e.0 more)
 ]
 
 -- The lines of a text so far, of which none is the mark, and what is left of it.
@@ -91,13 +84,10 @@ parted_first text = record {
   whole = inl (inl refl);
 }
 
-still_some : (rest : List ℕ) → 0 < length rest → rest ≡ [] → ⊥
-still_some rest some none = let short : length rest ≡ 0 = ap length none in omega (arith, some, short)
-
 whole_still : (before rest : List ℕ) → 0 < length rest → AreWhole before ⊎ (rest ≡ []) → AreWhole before
 whole_still before rest some w = elim w [
   | inl x ↦ x
-  | inr none ↦ absurd (still_some rest some none)
+  | inr none ↦ absurd (omega (arith, some, ap length none))
 ]
 
 pushed : (before piece line : List ℕ) → AreWhole before → HasNoMark before → lines_of piece ≡ line ∷ [] → line ≢ mark → HasNoMark (before ++ piece)

@@ -3,9 +3,6 @@ use Rattle.std.proofs.Common.{◌≡◌, ◌<◌, ◌++◌, ℕ, List, [], Optio
 use Rattle.lpd_commands.specs.Ends.{Reads}
 use Rattle.lpd_script.specs.Streams.{HasGiven, HasGivenAll}
 
-some_same : (a b : List ℕ) → Some a ≡ Some b → a ≡ b
-some_same a b e = cc
-
 -- at first it has given nothing
 pub HasGiven-none : (left : Option (List ℕ)) → HasGiven left left []
 HasGiven-none None = refl
@@ -18,7 +15,7 @@ HasGiven-more None None new given got room h r = r
 HasGiven-more None (Some mid) new given got room h r = cc h
 HasGiven-more (Some old) None new given got room h r = cc h.2
 HasGiven-more (Some old) (Some mid) new given got room h r =
-    let same = some_same mid h.0 h.2 in
+    let same : mid ≡ h.0 = cc h.2 in
     (drop (length got) mid, h.1 ∙ ap (λ rest. given ++ rest) (sym same ∙ r.0) ∙ sym (append_assoc given got _), r.1)
 
 -- a read that gives nothing, though there is room, is the last
@@ -28,7 +25,7 @@ HasGivenAll-end None None new given room h r some = r
 HasGivenAll-end None (Some mid) new given room h r some = cc h
 HasGivenAll-end (Some old) None new given room h r some = cc h.2
 HasGivenAll-end (Some old) (Some mid) new given room h r some =
-    let same = some_same mid h.0 h.2 in
+    let same : mid ≡ h.0 = cc h.2 in
     let none : mid ≡ [] = r.2 refl some in
     let left : h.0 ≡ [] = cc in
     (h.1 ∙ ap (λ rest. given ++ rest) left ∙ append-nil given, r.1 ∙ ap Some none)

@@ -1,5 +1,5 @@
 -- The lines of one step.
-use Rattle.std.proofs.Common.{◌≡◌, List, [], ◌∷◌, ℕ, sym, subst, ap, ◌∙◌}
+use Rattle.std.proofs.Common.{◌≡◌, List, [], ◌∷◌, ℕ, sym, subst}
 use Rattle.spool_history.specs.Now.{State}
 use Rattle.spool_trace.specs.declared.reply.Reply.{Reply}
 use Rattle.spool_trace.specs.declared.step.Step.{Step}
@@ -9,22 +9,15 @@ use Rattle.spool_world.specs.Worlds.{Leads, Steps}
 use Rattle.script_lines.specs.declared.script.ScriptLine.{ScriptLine}
 use Rattle.lpd_script.specs.declared.runner.Runner.{Runner}
 use Rattle.lpd_script.specs.Runner.{Ran}
-use Rattle.lpd_script.specs.Steps.{Tells, hosts_after, pages_line, steps_of}
+use Rattle.lpd_script.specs.Steps.{Tells, hosts_after, steps_of}
 
 -- its step had this reply
-pub one_step :
-    (old new : Runner) (line : ScriptLine) (s : Step) (r : Reply) (text : List ℕ)
-    → new.world.core.config ≡ old.world.core.config → new.hosts ≡ hosts_after old.hosts line
-    → steps_of old.hosts line (r ∷ []) ≡ s ∷ []
-    → ((v : State (List ℕ)) → Tells v line (r ∷ []) text) → Steps old.world s r new.world → Ran old line text new
-one_step old new line s r text config hosts is tells step = record {
+pub one_step : {old new : Runner} {line : ScriptLine} {text : List ℕ} (s : Step) (r : Reply) → new.world.core.config ≡ old.world.core.config → new.hosts ≡ hosts_after old.hosts line
+    → steps_of old.hosts line (r ∷ []) ≡ s ∷ [] → ((v : State (List ℕ)) → Tells v line (r ∷ []) text) → Steps old.world s r new.world → Ran old line text new
+one_step {old = old} {new = new} s r config hosts is tells step = record {
   config = config;
   hosts = hosts;
   replies = r ∷ [];
   tells = λ t l. tells (spool_after old.world.core.config t);
   leads = λ t l. subst (λ x. Leads (told x (r ∷ []) t) new.world) (sym is) (step t l).1;
 }
-
-pub same_pages : (a b c d e f g h : ℕ) → a ≡ e → b ≡ f → c ≡ g → d ≡ h → pages_line a b c d ≡ pages_line e f g h
-same_pages a b c d e f g h s t u v =
-    ap (λ x. pages_line x b c d) s ∙ ap (λ x. pages_line e x c d) t ∙ ap (λ x. pages_line e f x d) u ∙ ap (pages_line e f g) v

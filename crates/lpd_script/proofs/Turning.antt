@@ -1,5 +1,5 @@
 -- Turns of a session, one after another.
-use Rattle.std.proofs.Common.{◌≡◌, inr, ℕ, All, List, [], ◌∷◌, ◌++◌, Some, None, Result, Ok, Err, IfOk, map, refl, sym, subst, ap, ◌∙◌, append-nil}
+use Rattle.std.proofs.Common.{◌≡◌, inr, ℕ, All, List, [], ◌∷◌, ◌++◌, Some, None, map, refl, sym, subst, ap, ◌∙◌, append-nil}
 use Rattle.std.specs.List.{flat_map}
 use Rattle.std.proofs.lemmas.Grind.{flat_map-append}
 use Rattle.std.proofs.lemmas.List.Elements.{All-nil, All-push}
@@ -51,52 +51,47 @@ begins old session first written none = record {
   leads = λ t l. l;
 }
 
-pub goes_on :
-    (old mid new : Runner) (session : ℕ) (first last next : Deed) (written more : List ℕ)
-    → GoneOn old session first written last mid → stop_of last ≡ None → more ≡ written ++ written_by last
-    → new.world.core.config ≡ mid.world.core.config → new.hosts ≡ mid.hosts
-    → Steps mid.world (step.Turn session) (Turned next) new.world → GoneOn old session first more next new
-goes_on old mid new session first last next written more g none wrote config hosts step' = record {
-  config = config ∙ g.config;
-  hosts = hosts ∙ g.hosts;
-  earlier = g.earlier ++ last ∷ [];
-  later = g.later ++ next ∷ [];
-  all = ap (λ x. x ++ next ∷ []) g.all;
-  go_on = All-push (λ done. stop_of done ≡ None) g.earlier last g.go_on none;
-  wrote = wrote ∙ ap (λ x. x ++ written_by last) g.wrote ∙ sym (wrote_more g.earlier last);
-  leads = λ t l.
-      subst (λ x. Leads x new.world) (sym (told_more session g.later next t))
-      (step' (told (turns_for session (map Turned g.later)) (map Turned g.later) t) (g.leads t l)).1;
-}
-
-pub stops :
-    (old new : Runner) (session : ℕ) (first last : Deed) (written total text : List ℕ) (why : Stop)
-    → GoneOn old session first written last new → Some why ≡ stop_of last → total ≡ written ++ written_by last
-    → text ≡ T.turns_line session total why → WentOn old session first text new
-stops old new session first last written total text why g is wrote told' = record {
-  config = g.config;
-  hosts = g.hosts;
-  later = g.later;
-  written = total;
-  why = why;
-  turns = record {
-    earlier = g.earlier;
-    last = last;
-    all = ap (map Turned) g.all;
-    go_on = g.go_on;
-    stops = sym is;
+module _ {old mid : Runner} {session : ℕ} {first last : Deed} {written : List ℕ} (g : GoneOn old session first written last mid) where
+  -- it goes on
+  pub goes_on : {new : Runner} {more : List ℕ} (next : Deed) → stop_of last ≡ None → more ≡ written ++ written_by last → new.world.core.config ≡ mid.world.core.config
+      → new.hosts ≡ mid.hosts → Steps mid.world (step.Turn session) (Turned next) new.world → GoneOn old session first more next new
+  goes_on {new = new} next none wrote config hosts step' = record {
+    config = config ∙ g.config;
+    hosts = hosts ∙ g.hosts;
+    earlier = g.earlier ++ last ∷ [];
+    later = g.later ++ next ∷ [];
+    all = ap (λ x. x ++ next ∷ []) g.all;
+    go_on = All-push (λ done. stop_of done ≡ None) g.earlier last g.go_on none;
     wrote = wrote ∙ ap (λ x. x ++ written_by last) g.wrote ∙ sym (wrote_more g.earlier last);
-  };
-  line = told';
-  leads = g.leads;
-}
+    leads = λ t l.
+        subst (λ x. Leads x new.world) (sym (told_more session g.later next t))
+        (step' (told (turns_for session (map Turned g.later)) (map Turned g.later) t) (g.leads t l)).1;
+  }
+
+  -- or it stops
+  pub stops : {text : List ℕ} (total : List ℕ) (why : Stop) → Some why ≡ stop_of last → total ≡ written ++ written_by last → text ≡ T.turns_line session total why → WentOn old session first text mid
+  stops total why is wrote told' = record {
+    config = g.config;
+    hosts = g.hosts;
+    later = g.later;
+    written = total;
+    why = why;
+    turns = record {
+      earlier = g.earlier;
+      last = last;
+      all = ap (map Turned) g.all;
+      go_on = g.go_on;
+      stops = sym is;
+      wrote = wrote ∙ ap (λ x. x ++ written_by last) g.wrote ∙ sym (wrote_more g.earlier last);
+    };
+    line = told';
+    leads = g.leads;
+  }
 
 -- the line that only lets it go on
-pub went :
-    (old mid new : Runner) (session : ℕ) (first : Deed) (text : List ℕ) → mid.world.core.config ≡ old.world.core.config
-    → mid.hosts ≡ old.hosts → Steps old.world (step.Turn session) (Turned first) mid.world
-    → WentOn mid session first text new → Ran old (line.Go session) text new
-went old mid new session first text config hosts turn w = record {
+pub went : {old mid new : Runner} {session : ℕ} {first : Deed} {text : List ℕ} → mid.world.core.config ≡ old.world.core.config → mid.hosts ≡ old.hosts
+    → Steps old.world (step.Turn session) (Turned first) mid.world → WentOn mid session first text new → Ran old (line.Go session) text new
+went {session = session} {first = first} config hosts turn w = record {
   config = w.config ∙ config;
   hosts = w.hosts ∙ hosts;
   replies = map Turned (first ∷ w.later);
@@ -105,13 +100,10 @@ went old mid new session first text config hosts turn w = record {
 }
 
 -- the line that brings octets
-pub sent :
-    (old next mid new : Runner) (session : ℕ) (octets : List ℕ) (first : Deed) (text : List ℕ)
-    → next.world.core.config ≡ old.world.core.config → next.hosts ≡ old.hosts
-    → Steps old.world (step.Arrive session octets) Taken next.world → mid.world.core.config ≡ next.world.core.config
-    → mid.hosts ≡ next.hosts → Steps next.world (step.Turn session) (Turned first) mid.world
-    → WentOn mid session first text new → Ran old (line.Send session octets) text new
-sent old next mid new session octets first text config hosts arrive config' hosts' turn w = record {
+pub sent : {old mid new : Runner} {session : ℕ} {octets : List ℕ} {first : Deed} {text : List ℕ} (next : Runner) → next.world.core.config ≡ old.world.core.config → next.hosts ≡ old.hosts
+    → Steps old.world (step.Arrive session octets) Taken next.world → mid.world.core.config ≡ next.world.core.config → mid.hosts ≡ next.hosts
+    → Steps next.world (step.Turn session) (Turned first) mid.world → WentOn mid session first text new → Ran old (line.Send session octets) text new
+sent {session = session} {octets = octets} {first = first} next config hosts arrive config' hosts' turn w = record {
   config = w.config ∙ config' ∙ config;
   hosts = w.hosts ∙ hosts' ∙ hosts;
   replies = Taken ∷ map Turned (first ∷ w.later);
@@ -120,7 +112,3 @@ sent old next mid new session octets first text config hosts arrive config' host
       w.leads (entry (step.Turn session) (Turned first) ∷ entry (step.Arrive session octets) Taken ∷ t)
       (turn (entry (step.Arrive session octets) Taken ∷ t) (arrive t l).1).1;
 }
-
-pub where_ok : {T E : Type 0} (P Q : T → Type 0) (r : Result T E) → ((x : T) → P x → Q x) → IfOk r P → IfOk r Q
-where_ok P Q (Ok x) f p = f x p
-where_ok P Q (Err e) f p = tt

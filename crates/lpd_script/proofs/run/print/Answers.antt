@@ -1,8 +1,7 @@
 use Rattle.std.proofs.Common.{rules, ◌≡◌, ◌++◌, false, cond, is_ok, sym, subst, ap, ◌∙◌, append-nil}
+use Rattle.std.proofs.lemmas.Result.{on_ok_weaker}
 use Rattle.lpd_commands.specs.Ends.{Writes}
-use Rattle.lpd_script.specs.Ends.{Collects}
-use Rattle.lpd_script.proofs.Running.{writes_both}
-use Rattle.lpd_script.proofs.Turning.{where_ok}
+use Rattle.lpd_commands.proofs.Writing.{Writes-append}
 use Rattle.lpd_script.proofs.run.print.Goals as goal
 
 pub returns-then-is_err-clause-printed : goal.returns-then-is_err-clause-printed
@@ -18,10 +17,9 @@ returns-then-is_err-clause-printed g c =
     c.extend_from_slice.ensures.items ∙ ap (λ x. cond x (old ++ c.as_bytes.result.now) old) bad in
     let same : (old ++ text ≡ (old ++ text) ++ left) =
     sym (append-nil (old ++ text)) ∙ ap (λ x. (old ++ text) ++ x) (sym c.in_ok-write_out.ensures.emptied) in
-    where_ok (λ x. Writes b d c.as_bytes-then-is_err.result.now) (λ x. Collects a old text d left) c.write.result
-    (λ x w. (
+    on_ok_weaker c.write.result (λ (w : Writes b d c.as_bytes-then-is_err.result.now). (
       old ++ text,
-      writes_both a b d old text (subst (λ y. Writes a b y) kept c.in_ok-write_out.ensures.written)
+      Writes-append a b d old text (subst (λ y. Writes a b y) kept c.in_ok-write_out.ensures.written)
           (subst (λ y. Writes b d y) c.as_bytes-then-is_err.ensures.value w),
       same,
     )) c.write.ensures.written

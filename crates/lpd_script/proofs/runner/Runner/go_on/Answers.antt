@@ -8,11 +8,10 @@ loop-init c = begins c.args.self.now c.args.session c.args.first c.new-written.r
 
 pub returns-in-Some-clause-ran : goal.returns-in-Some-clause-ran
 returns-in-Some-clause-ran c =
-    stops c.args.self.now c.loop.self c.args.session c.args.first c.loop.deed c.loop.written.items _ _ c.in-Some.stop
-    c.loop.invariant (sym c.in-Some.is ∙ c.stop_of.ensures) c.in_ok-put_written.ensures (c.in_ok-turns_line.ensures ∙ ap (λ x. T.turns_line c.args.session x c.in-Some.stop) c.as_slice.ensures.value)
+    stops c.loop.invariant _ c.in-Some.stop (sym c.in-Some.is ∙ c.stop_of.ensures) c.in_ok-put_written.ensures
+    (c.in_ok-turns_line.ensures ∙ ap (λ x. T.turns_line c.args.session x c.in-Some.stop) c.as_slice.ensures.value)
 
 pub loop-preserved : goal.loop-preserved
 loop-preserved c =
-    goes_on c.args.self.now c.loop.self c.turn.new.self c.args.session c.args.first c.loop.deed c.in-Turned.next
-    c.loop.written.items c.put_written.new.written.items c.loop.invariant (sym c.stop_of.ensures ∙ c.in_default.is)
+    goes_on c.loop.invariant c.in-Turned.next (sym c.stop_of.ensures ∙ c.in_default.is)
     c.in_ok-put_written.ensures c.in-Turned.ensures.config c.in-Turned.ensures.hosts c.in-Turned.ensures.step

@@ -1,5 +1,4 @@
-use Rattle.std.proofs.Common.{[], refl, ◌∙◌}
-use Rattle.lpd_script.proofs.Stepping.{same_pages}
+use Rattle.std.proofs.Common.{[], refl}
 use Rattle.lpd_script.proofs.runner.Runner.pages.Goals as goal
 
 pub returns-clause-ran : goal.returns-clause-ran
@@ -9,6 +8,6 @@ returns-clause-ran c = record {
   replies = [];
   tells = λ t l.
       let p = c.pages_by_place-pages.ensures t l in
-      (refl, c.in_ok-pages_line.ensures ∙ same_pages _ _ _ _ _ _ _ _ p.free_is p.chain_is p.session_is p.printer_is);
+      (refl, rw (p.free_is, p.chain_is, p.session_is, p.printer_is) at c.in_ok-pages_line.ensures);
   leads = λ t l. l;
 }
