@@ -214,7 +214,7 @@ steps_read old input t n want new a os e s h =
     (elim s [ inl g ↦ gives_read old input t n want new a os e (due old (old.tail ++ input)) refl g h | inr r ↦ runs_out_read old input t n want new a os e r h ])
 
 -- what an answer leaves reads no tail, and owes none
-answered_keeps : (kind : Kind) (x : Reply) (s : Progress) → ((answered kind x s).owed ≡ None) × ((answered kind x s).tail ≡ s.tail)
+pub answered_keeps : (kind : Kind) (x : Reply) (s : Progress) → ((answered kind x s).owed ≡ None) × ((answered kind x s).tail ≡ s.tail)
 answered_keeps kind (Ticket size) s = (refl, refl)
 answered_keeps kind Later s = (refl, refl)
 answered_keeps kind Stored s = (refl, refl)

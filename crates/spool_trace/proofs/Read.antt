@@ -1,13 +1,13 @@
 -- What the sessions of a trace did is a reading of what arrived.
-use Rattle.std.proofs.Common.{◌≡◌, ℕ, zero, suc, true, false, ◌-◌, List, [], ◌∷◌, ◌++◌, None, refl, ap, subst, ◌∙◌, inl, inr, append_assoc, append-nil, slice_index_or, slice_set}
+use Rattle.std.proofs.Common.{◌≡◌, ℕ, zero, suc, true, ◌-◌, List, [], ◌∷◌, ◌++◌, None, refl, ap, subst, ◌∙◌, inl, inr, append_assoc, append-nil, slice_index_or, slice_set}
 use Rattle.lpd_values.specs.declared.refusal.Refusal.{Refusal}
 use Rattle.lpd_values.specs.declared.refusal.Refusal.TheVariants as refusal
 use Rattle.receiver.specs.Script as script
 use Rattle.receiver.specs.Script.{Request, Written, Output, Item, Over, Wrote, Asked, Ack, Fault}
 use Rattle.receiver.specs.Script.{Yes, Ticket, Later, Stored, Received, Refused}
-use Rattle.receiver.specs.Reading.{Progress, Kind, Admission, Opening, Lending, Ending, Aborting, Plain, Due, Waits, Ends, Writes, Requests, due, start, answered, kind_of}
+use Rattle.receiver.specs.Reading.{Progress, Due, Waits, Ends, Writes, Requests, due, start, answered, kind_of}
 use Rattle.receiver.specs.Reads.{Rests, Reads, ReadsFrom, ReadsOwed, TakesMemory}
-use Rattle.receiver.proofs.Laws.{HasCome, extended, due_stable}
+use Rattle.receiver.proofs.Laws.{HasCome, answered_keeps, extended, due_stable}
 use Rattle.receiver.proofs.LeadsLaws.{on_arrival}
 use Rattle.config_values.specs.Config.{Config}
 use Rattle.spool_history.specs.Now.{State}
@@ -23,19 +23,6 @@ use Rattle.spool_trace.specs.Sessions.{Session, new_session, session_at, due_in,
 use Rattle.spool_trace.specs.Shown.{spool_after}
 use Rattle.spool_trace.specs.Replies.{IsDueTurn, IsDueReply, IsTrace}
 use Rattle.spool_trace.specs.Reading.{IsRead, OutputsAreReading}
-
-answered_keeps : (kind : Kind) (x : script.Reply) (s : Progress) → ((answered kind x s).owed ≡ None) × ((answered kind x s).tail ≡ s.tail)
-answered_keeps kind (Ticket size) s = (refl, refl)
-answered_keeps kind Later s = (refl, refl)
-answered_keeps kind Stored s = (refl, refl)
-answered_keeps kind Received s = (refl, refl)
-answered_keeps kind (Refused n) s = (refl, refl)
-answered_keeps (Admission queue) Yes s = (refl, refl)
-answered_keeps Opening Yes s = (refl, refl)
-answered_keeps Lending Yes s = (refl, refl)
-answered_keeps Ending Yes s = (refl, refl)
-answered_keeps Aborting Yes s = (refl, refl)
-answered_keeps Plain Yes s = (refl, refl)
 
 -- what is due stays due when more comes
 still : (p : Progress) (unread t : List ℕ) (d : Due) → due p unread ≡ d → HasCome d → due p (unread ++ t) ≡ extended t d
