@@ -35,7 +35,7 @@ use Rattle.spool_calls.specs.declared.answers.ReturnedPage.{ReturnedPage}
 use Rattle.spool_calls.specs.Looks.{Detail, What, see, size}
 use Rattle.spool_calls.specs.Looks.Detail.{Octets, Outlines}
 use Rattle.spool_calls.specs.Kept.{Kept, Leaves, look, size_of}
-use Rattle.spool_calls.specs.Calls.{Begins, Puts}
+use Rattle.spool_calls.specs.Calls.{Begins, Puts, PutsAs}
 use Rattle.core_steps.proofs.Leaving.{Found, leaves_act, none_has, sees, look_at}
 use Rattle.core_steps.proofs.Ranges.{limit_within, stored_room}
 use Rattle.core_steps.proofs.Phases.{phase_tie, phase_receiving, open_tie, receiving}
@@ -97,6 +97,10 @@ module _ (d : Detail) (b : Base) (h : List (Event (What d))) (k : Kept) (l : Lea
   -- there are as many files in the book as in the history
   pub files_many : length j.facts.files ≡ length x.files
   files_many = ap (λ (y : Facts). length y.files) ft ∙ length-map {A = File (What d)} {B = DataFile} x.files (size_of z)
+
+  -- so the last one has the same number in both
+  pub last_is : (before : List (File (What d))) (last : File (What d)) → x.files ≡ before ++ last ∷ [] → length j.facts.files - 1 ≡ length before
+  last_is before last is = (let m = files_many in let n = ap length is ∙ length_push before last in omega (arith, m, n))
 
   -- a job that is being received with no file open is idle
   pub idle : j.facts.phase ≡ Receiving → j.chain.is_open ≡ false → IsIdle j.chain
@@ -200,21 +204,22 @@ module _ (d : Detail) (b : Base) (h : List (Event (What d))) (k : Kept) (l : Lea
           let left = ap (λ (g : DataFile). g.left) last in
           (r, lent, (o.before, o.last, o.is, refl, o.open', (refl, omega (arith, left, a.3), a.4 ∙ ap (min z) left)))
 
-      pub put_done : page.page_size ≡ z → Puts d b h k job page (record k { book = record (with_job k.book i (put_job page j)) { stored = k.book.stored + 1 } }) (Ok tt)
+      -- it is put as the next page of the last file
+      pub put_done : page.page_size ≡ z → PutsAs d b h k job page (record k { book = record (with_job k.book i (put_job page j)) { stored = k.book.stored + 1 } }) (length j.facts.files - 1) (last_size j.facts.files).pages
       put_done same =
           let file = length o.before in
           let number = length o.last.pages in
           let q = takes.2 in
           let act = Put file number (see d page.octets) in
           let may = has_job v i job (JobMay (size d) k.config act) s (subst (λ (n : ℕ). Takes z n file number x) (sym (size_see d page.octets)) takes) in
-          let more = put_chain file number (see d page.octets) (IsNextPage z number len) x r q in (
-            file,
-            number,
+          let more = put_chain file number (see d page.octets) (IsNextPage z number len) x r q in
+          let new = record k { book = record (with_job k.book i (put_job page j)) { stored = k.book.stored + 1 } } in
+          subst (λ (n : ℕ). PutsAs d b h k job page new n (last_size j.facts.files).pages) (sym (last_is o.before o.last o.is)) (subst (PutsAs d b h k job page new file) (sym (ap (λ (g : DataFile). g.pages) last)) (
             (may, same),
             leaves_act d b h k job i (k.book.stored + 1) act (put_job page j) l s (may, tt) (put_receiving file number (see d page.octets) (IsNextPage z number len) x r q).0
                 (ties_put (look d) k.config j x file number len page (see d page.octets) r q refl refl t) (omega (arith, more))
                 (put_row k.config file number (see d page.octets) (IsNextPage z number len) x r q),
-          )
+          ))
 
     -- what the book asks of a page that a job awaits
     pub record CanPut : Type 0 where

@@ -12,7 +12,7 @@ use Rattle.held_jobs.specs.Jobs.{HeldJob, new_job as new_held}
 use Rattle.held_jobs.specs.Jobs as J
 use Rattle.held_jobs.specs.Books.{job_at}
 use Rattle.held_jobs.specs.Shown.{ShownJob, see_job}
-use Rattle.config_values.specs.Config.{Config, Queue, IsQueue, limit_of, no_queue, queue_named, reserve_of}
+use Rattle.config_values.specs.Config.{Config, Queue, IsQueue, limit_of, no_queue, reserve_of}
 use Rattle.config_values.specs.Ranges.{IsConfig}
 use Rattle.spool_history.specs.Base.{Base}
 use Rattle.spool_history.specs.Events.{Event}
@@ -30,7 +30,7 @@ use Rattle.spool_moves.proofs.Standing.{all_held, has_get, none_changed}
 use Rattle.spool_moves.proofs.Claimed.{rows_len}
 use Rattle.spool_calls.specs.Looks.{Detail, What, size}
 use Rattle.spool_calls.specs.Kept.{Kept, Leaves, left_by, look, shown_job}
-use Rattle.spool_calls.specs.Calls.{Opens}
+use Rattle.spool_calls.specs.Calls.{OpensFor}
 use Rattle.core_steps.proofs.Leaving.{jobs_len, leaves_with, pool_even, stock_left, stock_moved, stock_of, tie}
 use Rattle.core_steps.proofs.Stocks.{becomes, stock}
 use Rattle.core_steps.proofs.Ranges.{limit_pages}
@@ -133,17 +133,15 @@ module _ (d : Detail) (b : Base) (h : List (Event (What d))) (k : Kept) (l : Lea
   abbrev pub Room : ℕ → Type 0
   Room q = (k.reserved + reserve_of k.config q + 1 ≤ k.config.account) × (k.accepted + 1 < 2 ^ 64)
 
-  may_open : (q : ℕ) → k.closed ≡ false → IsQueue k.config q → length k.book.jobs < k.config.max_jobs → Room q → MayOpen (left_by d b h k) (k.accepted + 1) q
+  pub may_open : (q : ℕ) → k.closed ≡ false → IsQueue k.config q → length k.book.jobs < k.config.max_jobs → Room q → MayOpen (left_by d b h k) (k.accepted + 1) q
   may_open q c is few room =
       (sym l.kept.closed ∙ c, is, omega (arith, jobs_len d b h k l, few), omega (arith, l.kept.reserved, room.0), omega (arith, l.kept.accepted), room.1)
 
-  module _ (name : List ℕ) (q : ℕ) (e : queue_named k.config name ≡ q) (c : k.closed ≡ false) (is : IsQueue k.config q) where
-    pub open_done : (sender : ℕ) (need : List ℕ) → length k.book.jobs < k.config.max_jobs → Room q → HasPlace k.table need → need ≡ amounts k.config (limit_of k.config q) q 1
-        → Opens d b h k sender name (opened_core k (k.accepted + 1) sender q need) (Ok (k.accepted + 1))
-    open_done sender need few room place n =
-        let may = may_open q c is few room in
-        subst (λ (m : ℕ). MayOpen (left_by d b h k) (k.accepted + 1) m × Leaves d b (Opened (k.accepted + 1) sender m ∷ h) (opened_core k (k.accepted + 1) sender q need)) (sym e)
-        (may, opened_leaves (k.accepted + 1) sender q need may place n)
+  pub open_done : (q : ℕ) → k.closed ≡ false → IsQueue k.config q → (sender : ℕ) (need : List ℕ) → length k.book.jobs < k.config.max_jobs → Room q → HasPlace k.table need
+      → need ≡ amounts k.config (limit_of k.config q) q 1 → OpensFor d b h k sender q (opened_core k (k.accepted + 1) sender q need) (Ok (k.accepted + 1))
+  open_done q c is sender need few room place n =
+      let may = may_open q c is few room in
+      (may, opened_leaves (k.accepted + 1) sender q need may place n)
 
 -- a job's claim is within what there is
 

@@ -31,7 +31,7 @@ use Rattle.spool_calls.specs.Readers.{ArePlaced, HasOpenFile, IsOpenFile, stoppe
 use Rattle.spool_calls.specs.Telling.{stopped_in}
 use Rattle.core_steps.proofs.Leaving.{Found, none_has, sees, look_at}
 use Rattle.core_steps.proofs.Phases.{open_tie}
-use Rattle.core_steps.proofs.Filing.{files_many, is_receiving, left_of, not_receiving, open_last}
+use Rattle.core_steps.proofs.Filing.{files_many, is_receiving, last_is, left_of, not_receiving, open_last}
 use Rattle.core_steps.proofs.Printers.{printers_len}
 use Rattle.core_steps.proofs.Starting.{is_stopped_for}
 
@@ -145,7 +145,7 @@ module _ (d : Detail) (b : Base) (h : List (Event (What d))) (k : Kept) (l : Lea
       record {
         some = omega (arith, m, n);
         is = has_job w i job (λ y. IsReceiving y × HasOpen y.files (length j.facts.files - 1) (λ e. length e.pages ≡ (last_size j.facts.files).pages)) s
-            (is_receiving d b h k l job i f p, (g.before, g.last, g.is, omega (arith, m, n), g.open', pages));
+            (is_receiving d b h k l job i f p, (g.before, g.last, g.is, sym (last_is d b h k l job i f g.before g.last g.is), g.open', pages));
       }
 
 -- there aren't many printers

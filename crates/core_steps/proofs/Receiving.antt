@@ -45,11 +45,11 @@ use Rattle.core_rows.proofs.Received.{Becomes, by_control, by_file, received_cha
 use Rattle.spool_calls.specs.declared.answers.Receipt.TheVariants.{Stored, Received}
 use Rattle.spool_calls.specs.Looks.{Detail, What, size}
 use Rattle.spool_calls.specs.Kept.{Kept, Leaves, look, shown_job, size_of}
-use Rattle.spool_calls.specs.Calls.{Ends, Controls}
+use Rattle.spool_calls.specs.Calls.{Ends, EndsFile, Controls}
 use Rattle.core_steps.proofs.Leaving.{Found, held_unended, leaves_act, leaves_row, none_has, one_stored, pool_even, row_stands, sees, look_at}
 use Rattle.core_steps.proofs.Ranges.{limit_within}
 use Rattle.core_steps.proofs.Phases.{phase_tie, phase_receiving, open_tie}
-use Rattle.core_steps.proofs.Filing.{idle, is_receiving, left_of, no_open, open_is, open_last}
+use Rattle.core_steps.proofs.Filing.{idle, is_receiving, last_is, left_of, no_open, open_is, open_last}
 
 -- whether all that is awaited is there
 
@@ -147,11 +147,14 @@ module _ (d : Detail) (b : Base) (h : List (Event (What d))) (k : Kept) (l : Lea
             omega (arith, left, all),
           )
 
+  -- the number of the last file
+  abbrev last : ℕ
+  last = length j.facts.files - 1
+
   -- the open file, which has all its pages
   record Whole : Type 0 where
     receiving' : IsReceiving x
-    file : ℕ
-    may : (whole : Bool) → whole ≡ is_received (acted (FileEnded file whole) x) → HasJob v.jobs job (MayEnd file whole)
+    may : (whole : Bool) → whole ≡ is_received (acted (FileEnded last whole) x) → HasJob v.jobs job (MayEnd last whole)
 
   whole_of : IsConfig k.config → CanEnd j → Whole
   whole_of ranges c =
@@ -162,8 +165,8 @@ module _ (d : Detail) (b : Base) (h : List (Event (What d))) (k : Kept) (l : Lea
       let all = none_left_is_all z (length o.last.pages) o.last.count (page_some ranges) needed (omega (arith, left, c.3)) in
       record {
         receiving' = r;
-        file = length o.before;
-        may = λ whole e. has_job v i job (MayEnd (length o.before) whole) s (r, sym (ap (λ (g : Facts). g.lent) ft) ∙ c.1, (o.before, o.last, o.is, refl, o.open', all), e);
+        may = λ whole e. has_job v i job (MayEnd last whole) s
+            (r, sym (ap (λ (g : Facts). g.lent) ft) ∙ c.1, (o.before, o.last, o.is, sym (last_is d b h k l job i f o.before o.last o.is), o.open', all), e);
       }
 
   ended_whole : (file : ℕ) (whole : Bool) → is_received (acted (FileEnded file whole) x) ≡ has_prints j.facts
@@ -171,32 +174,30 @@ module _ (d : Detail) (b : Base) (h : List (Event (What d))) (k : Kept) (l : Lea
       whole_closed x.control (at_last (λ g. record g { ended = true }) x.files) (closed_ended x.files opens)
       ∙ (ap (λ (ns : List (List ℕ)). has_all ns x.control) (names_ended x.files) ∙ sym facts_all)
 
-  pub end_stored : IsConfig k.config → CanEnd j → has_prints j.facts ≡ false → Ends d b h k job (record k { book = with_job k.book i (closed_file j) }) (Ok Stored)
+  pub end_stored : IsConfig k.config → CanEnd j → has_prints j.facts ≡ false → EndsFile d b h k job (record k { book = with_job k.book i (closed_file j) }) Stored (length j.facts.files - 1)
   end_stored ranges c e =
       let w = whole_of ranges c in
-      let act = FileEnded w.file false in
-      let not' : is_received (acted act x) ≡ false = ended_whole w.file false ∙ e in
+      let act = FileEnded last false in
+      let not' : is_received (acted act x) ≡ false = ended_whole last false ∙ e in
       let may = w.may false (sym not') in
       let r = w.receiving' in
-      let stored = ap (λ (n : ℕ). k.book.stored + n) (sym (file_ended_chain w.file false x r not')) in (
-        w.file,
+      let stored = ap (λ (n : ℕ). k.book.stored + n) (sym (file_ended_chain last false x r not')) in (
         may,
         leaves_act d b h k job i k.book.stored act (closed_file j) l s (may, tt) r.0
-            (ties_closed (look d) k.config j x w.file r opens not' t) stored (file_ended_row k.config w.file false x r not'),
+            (ties_closed (look d) k.config j x last r opens not' t) stored (file_ended_row k.config last false x r not'),
       )
 
   pub end_received : IsConfig k.config → (n : ℕ) → CanEnd j → has_prints j.facts ≡ true → n ≡ length (unnamed_pages (closed_file j).chain.files (prints_of j))
-      → Ends d b h k job (received_core k i (received_job (prints_of j) (closed_file j)) n) (Ok Received)
+      → EndsFile d b h k job (received_core k i (received_job (prints_of j) (closed_file j)) n) Received (length j.facts.files - 1)
   end_received ranges n c e en =
       let w = whole_of ranges c in
-      let act = FileEnded w.file true in
-      let is : is_received (acted act x) ≡ true = ended_whole w.file true ∙ e in
+      let act = FileEnded last true in
+      let is : is_received (acted act x) ≡ true = ended_whole last true ∙ e in
       let may = w.may true (sym is) in
       let r = w.receiving' in (
-        w.file,
         may,
-        received_leaves act (received_job (prints_of j) (closed_file j)) n r (sym (ap (λ (g : Facts). g.lent) ft) ∙ c.1) may (λ g z. by_file w.file true x r g z is) r.0
-            (λ z e. received_by_file (look d) k.config j x w.file r z e is differ t) (λ e. omega (arith, en, counts_by_file (look d) k.config j x w.file r e differ t)) tt,
+        received_leaves act (received_job (prints_of j) (closed_file j)) n r (sym (ap (λ (g : Facts). g.lent) ft) ∙ c.1) may (λ g z. by_file last true x r g z is) r.0
+            (λ z e. received_by_file (look d) k.config j x last r z e is differ t) (λ e. omega (arith, en, counts_by_file (look d) k.config j x last r e differ t)) tt,
       )
 
   -- before that it is idle

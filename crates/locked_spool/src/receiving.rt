@@ -44,17 +44,12 @@ impl<E: SpoolLedger, K: Ledger, H: Ledger> Locked<E, K, H> {
         ensures account { WritesOpened self.old self.new sender queue.now result }
         ensures shares { mine.new ≡ when_done kind.Opened result mine.old }
     {
-        if let Some(refusal) = self.core.open_refusal(queue) {
-            return Err(refusal);
-        }
-        let Some(number) = self.core.queue_number(queue) else {
-            return Err(Refusal::UnknownQueue);
-        };
+        let number = self.core.admission(queue)?;
         let reserve = self.core.config().reserve_of(number);
         // No entry that is to come may be refused for want of memory.
         self.account
             .reserve(self.core.counted_reserve() + reserve + 1)?;
-        let job = self.core.open(sender, queue)?;
+        let job = self.core.accept(sender, number)?;
         let entry = Entry::Opened(job, sender, number);
         write(&mut self.account, &mut self.books, mine, entry);
         Ok(job)
@@ -123,14 +118,8 @@ impl<E: SpoolLedger, K: Ledger, H: Ledger> Locked<E, K, H> {
         ensures account { WritesPut self.old self.new job page result }
         ensures shares { mine.new ≡ when_done kind.Put result mine.old }
     {
-        if page.page_size() != self.core.config().page_size() as usize {
-            return Err(ReturnedPage { page });
-        }
-        let Some((file, number)) = self.core.open_file(job) else {
-            return Err(ReturnedPage { page });
-        };
         let outline = outline_of(&page);
-        self.core.put(job, page)?;
+        let (file, number) = self.core.put_next(job, page)?;
         let entry = Entry::OfJob(job, Act::Put(file, number, outline));
         write(&mut self.account, &mut self.books, mine, entry);
         Ok(())
@@ -146,10 +135,7 @@ impl<E: SpoolLedger, K: Ledger, H: Ledger> Locked<E, K, H> {
         ensures account { WritesFileEnded self.old self.new job result }
         ensures shares { mine.new ≡ when_done kind.FileEnded result mine.old }
     {
-        let Some((file, _)) = self.core.open_file(job) else {
-            return Err(Refusal::NotOpen);
-        };
-        let receipt = self.core.end_file(job)?;
+        let (file, receipt) = self.core.end_last(job)?;
         let whole = receipt == Receipt::Received;
         let entry = Entry::OfJob(job, Act::FileEnded(file, whole));
         write(&mut self.account, &mut self.books, mine, entry);

@@ -85,10 +85,10 @@ impl Bells {
 
     /// The printers of the queue that a printer serves, or all where it serves none.
     pub(crate) fn row_with(&self, printer: u32) -> Row {
-        match self.rows.get(printer as usize) {
-            Some(row) => *row,
-            None => self.all,
-        }
+        self.rows
+            .get(printer as usize)
+            .copied()
+            .unwrap_or(self.all)
     }
 
     /// The printers of the queue of a name, or all where no queue has it.
@@ -105,18 +105,14 @@ impl Bells {
 impl<E: SpoolLedger, K: Ledger, H: Ledger> SharedSpool<E, K, H> {
     /// The bell of a printer, or what is told after each event where it has none.
     pub(crate) fn printer_bell(&self, printer: u32) -> &Condvar {
-        match self.bells.printers.get(printer as usize) {
-            Some(bell) => bell,
-            None => &self.changed,
-        }
+        let bell = self.bells.printers.get(printer as usize);
+        bell.unwrap_or(&self.changed)
     }
 
     /// The bell of a session, or what is told after each event where it has none.
     pub(crate) fn session_bell(&self, seat: u32) -> &Condvar {
-        match self.bells.sessions.get(seat as usize) {
-            Some(bell) => bell,
-            None => &self.changed,
-        }
+        let bell = self.bells.sessions.get(seat as usize);
+        bell.unwrap_or(&self.changed)
     }
 
     /// Rings the bell of a printer that was called.
@@ -169,17 +165,11 @@ impl<E: SpoolLedger, K: Ledger, H: Ledger> SharedSpool<E, K, H> {
 
     /// A session's job is whole. Where it isn't the last one that the seat opened, its queue isn't known.
     pub(crate) fn call_for(&self, room: &mut Room<E, K, H>, row: Option<Row>) -> Calls {
-        match row {
-            Some(row) => room.call(row),
-            None => {
-                self.ring_printers(room, self.bells.all);
-                Calls {
-                    printer: None,
-                    session: room.call_session(),
-                    rotates: false,
-                }
-            }
+        if let Some(row) = row {
+            return room.call(row);
         }
+        self.ring_printers(room, self.bells.all);
+        room.call_one_session()
     }
 
     /// The printers of all queues.

@@ -56,7 +56,7 @@ pub(crate) struct Line {
 }
 
 /// Who is to be called once the lock is free.
-#[derive(Clone, Copy)]
+#[derive(Clone, Copy, Default)]
 pub(crate) struct Calls {
     pub(crate) printer: Option<u32>,
     pub(crate) session: Option<u32>,
@@ -97,10 +97,8 @@ impl Line {
 
     /// Whether a printer waits and wasn't called.
     fn has_printer(&self, printer: u32) -> bool {
-        match self.printers.get(printer as usize) {
-            Some(waits) => *waits,
-            None => false,
-        }
+        let waits = self.printers.get(printer as usize);
+        waits.copied().unwrap_or(false)
     }
 
     /// A printer waits, or it waits no longer or is called.
@@ -145,10 +143,7 @@ impl Line {
                 }
             }
         }
-        match found {
-            Some(waiter) => Some(waiter.waiting.seat),
-            None => None,
-        }
+        found.map(|waiter| waiter.waiting.seat)
     }
 
     /// The sessions that wait, by the numbers of their seats.
@@ -263,6 +258,14 @@ impl<E: SpoolLedger, K: Ledger, H: Ledger> Room<E, K, H> {
             printer: self.call_printer(row),
             session: self.call_session(),
             rotates: self.may_rotate(),
+        }
+    }
+
+    /// Pages came back of a job that goes on: a session may go on too.
+    pub(crate) fn call_one_session(&mut self) -> Calls {
+        Calls {
+            session: self.call_session(),
+            ..Calls::default()
         }
     }
 

@@ -56,17 +56,9 @@ impl<E: SpoolLedger, K: Ledger, H: Ledger> SharedSpool<E, K, H> {
         let mut room = self.state.lock(rt);
         let answer = room.locked.printed(&mut seat.shares, printer, page);
         let calls = match &answer {
-            Ok(Progress::Going) => Calls {
-                printer: None,
-                session: room.call_session(),
-                rotates: false,
-            },
+            Ok(Progress::Going) => room.call_one_session(),
             Ok(_) => room.call(row),
-            Err(_) => Calls {
-                printer: None,
-                session: None,
-                rotates: false,
-            },
+            Err(_) => Calls::default(),
         };
         drop(room);
         self.ring(calls);

@@ -90,12 +90,14 @@ module _ (d : Detail) (b : Base) (h : List (Event (What d))) (old : Kept) where
   Admits name (Ok done) = TakesJobs before (queue name)
   Admits name (Err n) = RefusesQueue before (queue name) n
 
-  -- a job was accepted
+  -- a job was accepted for the queue of a number
+  abbrev pub OpensFor : (sender q : ℕ) → Kept → Result ℕ Refusal → Type 0
+  OpensFor sender q new (Ok job) = MayOpen before job q × Leaves d b (Opened job sender q ∷ h) new
+  OpensFor sender q new (Err n) = OrMemory (MayOpen before (before.accepted + 1) q) (RefusesJob before q) n × (new ≡ old)
+
+  -- and for that of a name
   abbrev pub Opens : (sender : ℕ) → List ℕ → Kept → Result ℕ Refusal → Type 0
-  Opens sender name new (Ok job) =
-      MayOpen before job (queue name) × Leaves d b (Opened job sender (queue name) ∷ h) new
-  Opens sender name new (Err n) =
-      OrMemory (MayOpen before (before.accepted + 1) (queue name)) (RefusesJob before (queue name)) n × (new ≡ old)
+  Opens sender name = OpensFor sender (queue name)
 
   -- a page was lent, or can't be now
   abbrev pub Asks : ℕ → Kept → Result Asked Refusal → Type 0
@@ -111,18 +113,25 @@ module _ (d : Detail) (b : Base) (h : List (Event (What d))) (old : Kept) where
       HasJob before.jobs job (JobMay (size d) old.config (Began name count)) × Leaves d b (OfJob job (Began name count) ∷ h) new
   Begins job name count new (Err n) = RefusesFile before job name count n × (new ≡ old)
 
+  -- a page was put as this one of this file
+  abbrev pub PutsAs : ℕ → Page → Kept → (file number : ℕ) → Type 0
+  PutsAs job page new file number =
+      MayTake d before job page file number × Leaves d b (OfJob job (Put file number (see d page.octets)) ∷ h) new
+
   -- a page was put
   abbrev pub Puts : ℕ → Page → Kept → Result (Unit {0}) ReturnedPage → Type 0
-  Puts job page new (Ok done) =
-      (file : ℕ) × (number : ℕ) × MayTake d before job page file number
-      × Leaves d b (OfJob job (Put file number (see d page.octets)) ∷ h) new
+  Puts job page new (Ok done) = (file : ℕ) × (number : ℕ) × PutsAs job page new file number
   Puts job page new (Err back) = (MayPut d before job page → ⊥) × (new ≡ old) × (back.page ≡ page)
+
+  -- the file of this number ended
+  abbrev pub EndsFile : ℕ → Kept → Receipt → (file : ℕ) → Type 0
+  EndsFile job new got file =
+      HasJob before.jobs job (JobMay (size d) old.config (FileEnded file (is_whole got)))
+      × Leaves d b (OfJob job (FileEnded file (is_whole got)) ∷ h) new
 
   -- the open file ended
   abbrev pub Ends : ℕ → Kept → Result Receipt Refusal → Type 0
-  Ends job new (Ok got) =
-      (file : ℕ) × HasJob before.jobs job (JobMay (size d) old.config (FileEnded file (is_whole got)))
-      × Leaves d b (OfJob job (FileEnded file (is_whole got)) ∷ h) new
+  Ends job new (Ok got) = (file : ℕ) × EndsFile job new got file
   Ends job new (Err n) = RefusesUnless (MayEnd d before job) n × (new ≡ old)
 
   -- the control file came

@@ -1,14 +1,13 @@
 -- Where a job is accepted, and which one awaits its control file, as a core keeps them.
-use Rattle.std.specs.Prelude.{◌≡◌, ℕ, ◌+◌, ◌<◌, ◌≤◌, ◌^◌, false, List, None, length}
-use Rattle.config_values.specs.Config.{IsQueue, queue_named, reserve_of}
+use Rattle.std.specs.Prelude.{◌≡◌, ℕ, ◌+◌, ◌<◌, ◌≤◌, ◌^◌, false, None, length}
+use Rattle.config_values.specs.Config.{IsQueue, reserve_of}
 use Rattle.held_jobs.specs.declared.phase.Phase.TheVariants.{Receiving}
 use Rattle.held_jobs.specs.Books.{job_at}
 use Rattle.spool_calls.specs.Kept.{Kept}
 
--- the queue of this name has this number, and one more job of it may be accepted, but for want of memory
-pub record Accepts (k : Kept) (name : List ℕ) (q : ℕ) : Type 0 where
+-- one more job of the queue of this number may be accepted, but for want of memory
+pub record Accepts (k : Kept) (q : ℕ) : Type 0 where
   pub open' : k.closed ≡ false
-  pub named : queue_named k.config name ≡ q
   pub is : IsQueue k.config q
   pub few : length k.book.jobs < k.config.max_jobs
   pub room : k.reserved + reserve_of k.config q + 1 ≤ k.config.account

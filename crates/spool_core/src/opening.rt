@@ -8,7 +8,7 @@ ghost use Rattle.config_values.specs.Config as C;
 ghost use Rattle.held_jobs.specs.Jobs.{HeldJob};
 ghost use Rattle.config_values.specs.Config.{queue_named, reserve_of};
 ghost use Rattle.spool_history.specs.Refusals.{RefusesJob};
-ghost use Rattle.spool_calls.specs.Calls.{IsRight, Opens, before};
+ghost use Rattle.spool_calls.specs.Calls.{IsRight, Opens, OpensFor, before};
 ghost use Rattle.spool_core.specs.Places.{Accepts};
 ghost use Rattle.held_jobs.specs.Moves.{with_new};
 ghost use Rattle.spool_core.specs.Inside.{claim_in};
@@ -67,8 +67,11 @@ fn add_job(
 
 impl Core {
     /// The number of the queue of a name, where one more job of it may be accepted.
-    pub(crate) fn admission(&self, queue: &[u8]) -> Result<u32, Refusal>
-        ensures accepted { IfOk result (Accepts self.now queue.now) }
+    ///
+    /// The refusals are those of `open`, in the same order, but for want of memory.
+    pub fn admission(&self, queue: &[u8]) -> Result<u32, Refusal>
+        ensures named { IfOk result (λ q. queue_named self.now.config queue.now ≡ q) }
+        ensures accepted { IfOk result (Accepts self.now) }
         ensures refused { IfErr result (λ n. IsRight self.now (λ d b h.
             RefusesJob (before d b h self.now) (queue_named self.now.config queue.now) n)) }
     {
@@ -87,19 +90,15 @@ impl Core {
         Ok(number)
     }
 
-    /// Accepts a job from a sender for a queue, and answers its number: 1, 2, 3 and so on, over all queues.
+    /// Accepts a job from a sender for the queue of a number that `admission` answered, and answers the job's number.
     ///
-    /// Closed; UnknownQueue; TableFull where as many jobs are held as may be; AccountFull where the account has no room for all
-    /// entries of one more job, or no number is left; Memory where memory for the job is refused.
-    pub fn open(&mut self, sender: u32, queue: &[u8]) -> Result<u64, Refusal>
+    /// Memory where memory for the job is refused.
+    pub fn accept(&mut self, sender: u32, queue: u32) -> Result<u64, Refusal>
+        requires { Accepts self.old queue }
         ensures config { self.new.config ≡ self.old.config }
         ensures answer { IsRight self.old (λ d b h.
-            Opens d b h self.old sender queue.now self.new result) }
+            OpensFor d b h self.old sender queue self.new result) }
     {
-        let queue = match self.admission(queue) {
-            Ok(queue) => queue,
-            Err(refusal) => return Err(refusal),
-        };
         let number = self.accepted + 1;
         let book = &mut self.book;
         let table = &mut self.table;
@@ -110,5 +109,18 @@ impl Core {
         self.accepted = number;
         self.reserved += self.config.reserve_of(queue);
         Ok(number)
+    }
+
+    /// Accepts a job from a sender for a queue, and answers its number: 1, 2, 3 and so on, over all queues.
+    ///
+    /// Closed; UnknownQueue; TableFull where as many jobs are held as may be; AccountFull where the account has no room for all
+    /// entries of one more job, or no number is left; Memory where memory for the job is refused.
+    pub fn open(&mut self, sender: u32, queue: &[u8]) -> Result<u64, Refusal>
+        ensures config { self.new.config ≡ self.old.config }
+        ensures answer { IsRight self.old (λ d b h.
+            Opens d b h self.old sender queue.now self.new result) }
+    {
+        let queue = self.admission(queue)?;
+        self.accept(sender, queue)
     }
 }

@@ -1,9 +1,8 @@
 //! What a core tells of itself. No reader takes memory, and none changes anything.
 
-ghost use Rattle.std.specs.Prelude.{◌≡◌, ◌+◌, ◌-◌, ◌<◌, List, MatchOption, length, slice_index_or};
+ghost use Rattle.std.specs.Prelude.{◌≡◌, ◌+◌, ◌-◌, List, MatchOption, length, slice_index_or};
 ghost use Rattle.account.specs.declared.entry.Outline.{Outline};
 ghost use Rattle.config_values.specs.Config.{IsPrinter, IsQueue, queue_named};
-ghost use Rattle.held_jobs.specs.Jobs.{last_size};
 ghost use Rattle.spool_history.specs.Base.{Base};
 ghost use Rattle.spool_history.specs.Events.{Event};
 ghost use Rattle.spool_history.specs.Now.{free_pages};
@@ -19,10 +18,9 @@ ghost use Rattle.core_steps.proofs.Starting.{no_kept};
 
 use crate::core_state::Core;
 use crate::printers::count_stopped_in;
-use crate::receiving::is_receiving;
+use crate::receiving::{is_receiving, last_file};
 use account::Sheet;
 use config_values::Config;
-use held_jobs::Job;
 use lpd_values::Refusal;
 use queues::Book;
 use spool_calls::Printer;
@@ -61,16 +59,6 @@ fn count_lent(book: &Book) -> usize
         }
     }
     lent
-}
-
-/// The number of a job's last file, and how many pages of that have come.
-fn last_file(job: &Job) -> (u64, u64)
-    requires { 0 < length job.now.files }
-    ensures { (result.0 ≡ length job.now.files - 1) × (result.1 ≡ (last_size job.now.files).pages) }
-{
-    let files = job.files();
-    let last = files.len() - 1;
-    (last as u64, files[last].pages)
 }
 
 impl Core {

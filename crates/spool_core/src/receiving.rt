@@ -1,6 +1,6 @@
 //! The calls on a job that is being received.
 
-ghost use Rattle.std.specs.Prelude.{◌≡◌, ◌↔◌, ◌+◌, ◌<◌, ◌≤◌, ◌-◌, None, IsTrue, IsSome, IfErr, IfOk, IfSome, length};
+ghost use Rattle.std.specs.Prelude.{◌≡◌, ◌↔◌, ◌+◌, ◌<◌, ◌≤◌, ◌-◌, None, Err, IsTrue, IsSome, IfErr, IfOk, IfSome, length};
 ghost use Rattle.control_file.specs.View.{contents};
 ghost use Rattle.counts.specs.Amounts.{amount};
 ghost use Rattle.claims.specs.Claims.{row_at};
@@ -8,8 +8,9 @@ ghost use Rattle.claims.specs.Changes.{given_back, need_ended};
 ghost use Rattle.config_values.specs.Config.{limit_of};
 ghost use Rattle.held_jobs.specs.declared.phase.Phase.TheVariants as phase;
 ghost use Rattle.held_jobs.specs.Books.{IsIdle, job_at};
+ghost use Rattle.held_jobs.specs.Jobs.{last_size};
 ghost use Rattle.held_jobs.specs.Moves.{MayAsk, Awaits, CanEnd, received_in, unnamed_of};
-ghost use Rattle.spool_calls.specs.Calls.{IsRight, Asks, Begins, Puts, Ends, Controls, Aborts, before};
+ghost use Rattle.spool_calls.specs.Calls.{IsRight, Asks, Begins, Puts, PutsAs, Ends, EndsFile, Controls, Aborts, before};
 ghost use Rattle.spool_history.specs.Refusals.{RefusesControl};
 ghost use Rattle.spool_core.specs.Places.{LacksControl};
 ghost use Rattle.spool_history.specs.Legal.{pages_for};
@@ -98,6 +99,16 @@ fn may_abort(job: &Job, ticket: &Option<PageTicket>, page_size: usize) -> bool
         None => !lent,
         Some(page) => lent && page.page_size() == page_size,
     }
+}
+
+/// The number of a job's last file, and how many pages of that have come.
+pub(crate) fn last_file(job: &Job) -> (u64, u64)
+    requires { 0 < length job.now.files }
+    ensures { (result.0 ≡ length job.now.files - 1) × (result.1 ≡ (last_size job.now.files).pages) }
+{
+    let files = job.files();
+    let last = files.len() - 1;
+    (last as u64, files[last].pages)
 }
 
 /// Puts a lent page that came back into the pool, if there is one.
@@ -200,14 +211,18 @@ impl Core {
         Ok(())
     }
 
-    /// Takes the page that was lent to a job as the next one of its open file.
+    /// Takes the page that was lent to a job as the next one of its open file, and says of which file which page that is: their
+    /// numbers, from 0.
     ///
     /// Refused, with the page, where the job isn't being received, no file of it is open, no page is lent to it, or the page
     /// isn't the one that the file awaits: full, or with its last octets.
-    pub fn put(&mut self, job: u64, page: FilledPage) -> Result<(), ReturnedPage>
+    pub fn put_next(&mut self, job: u64, page: FilledPage) -> Result<(u64, u64), ReturnedPage>
         ensures config { self.new.config ≡ self.old.config }
         ensures back { IfErr result (λ e. e.page ≡ page) }
-        ensures answer { IsRight self.old (λ d b h. Puts d b h self.old job page self.new result) }
+        ensures put { IfOk result (λ r. IsRight self.old (λ d b h.
+            PutsAs d b h self.old job page self.new r.0 r.1)) }
+        ensures refused { IfErr result (λ e. IsRight self.old (λ d b h.
+            Puts d b h self.old job page self.new (Err e))) }
     {
         let page_size = self.config.page_size();
         if page.page_size() != page_size as usize {
@@ -219,16 +234,32 @@ impl Core {
         if !awaits(&self.book, i, page.len() as u64, u64::from(page_size)) {
             return Err(ReturnedPage { page });
         }
+        let next = last_file(self.book.job(i));
         self.book.put(i, page);
+        Ok(next)
+    }
+
+    /// Takes the page that was lent to a job as the next one of its open file.
+    ///
+    /// Refused, with the page, as `put_next` refuses it.
+    pub fn put(&mut self, job: u64, page: FilledPage) -> Result<(), ReturnedPage>
+        ensures config { self.new.config ≡ self.old.config }
+        ensures back { IfErr result (λ e. e.page ≡ page) }
+        ensures answer { IsRight self.old (λ d b h. Puts d b h self.old job page self.new result) }
+    {
+        self.put_next(job, page)?;
         Ok(())
     }
 
-    /// Ends the open file of a job.
+    /// Ends the open file of a job, and says which one that is: its number, from 0.
     ///
     /// NotOpen where the job isn't being received, no file of it is open, a page is lent to it, or octets are missing.
-    pub fn end_file(&mut self, job: u64) -> Result<Receipt, Refusal>
+    pub fn end_last(&mut self, job: u64) -> Result<(u64, Receipt), Refusal>
         ensures config { self.new.config ≡ self.old.config }
-        ensures answer { IsRight self.old (λ d b h. Ends d b h self.old job self.new result) }
+        ensures ended { IfOk result (λ r. IsRight self.old (λ d b h.
+            EndsFile d b h self.old job self.new r.1 r.0)) }
+        ensures refused { IfErr result (λ n. IsRight self.old (λ d b h.
+            Ends d b h self.old job self.new (Err n))) }
     {
         let Some(i) = self.book.find(job) else {
             return Err(Refusal::NotOpen);
@@ -236,12 +267,24 @@ impl Core {
         if !can_end(&self.book, i) {
             return Err(Refusal::NotOpen);
         }
+        let (file, _) = last_file(self.book.job(i));
         self.book.end_file(i);
         if !self.book.job(i).has_prints() {
-            return Ok(Receipt::Stored);
+            return Ok((file, Receipt::Stored));
         }
         receive(&mut self.book, &mut self.pool, &mut self.table, i);
-        Ok(Receipt::Received)
+        Ok((file, Receipt::Received))
+    }
+
+    /// Ends the open file of a job.
+    ///
+    /// Refused as `end_last` refuses it.
+    pub fn end_file(&mut self, job: u64) -> Result<Receipt, Refusal>
+        ensures config { self.new.config ≡ self.old.config }
+        ensures answer { IsRight self.old (λ d b h. Ends d b h self.old job self.new result) }
+    {
+        let (_, receipt) = self.end_last(job)?;
+        Ok(receipt)
     }
 
     /// The place of a job that is being received and has no control file.

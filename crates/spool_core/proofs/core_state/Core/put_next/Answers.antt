@@ -1,7 +1,7 @@
-use Rattle.std.proofs.Common.{◌≡◌, ℕ, ◌+◌, ◌<◌, ◌^◌, List, length, refl, subst, sym, ◌∙◌, arith}
+use Rattle.std.proofs.Common.{◌≡◌, ℕ, ◌+◌, ◌-◌, ◌<◌, ◌^◌, List, length, refl, ap, subst, sym, ◌∙◌, arith}
 use Rattle.std.specs.Prelude.{Result, Ok, Err}
 use Rattle.page_pool.specs.Page.{Page}
-use Rattle.held_jobs.specs.Jobs.{last_size}
+use Rattle.held_jobs.specs.Jobs.{Facts, last_size}
 use Rattle.held_jobs.specs.Books.{Books, job_at}
 use Rattle.spool_history.specs.Base.{Base}
 use Rattle.spool_history.specs.Events.{Event}
@@ -15,28 +15,16 @@ use Rattle.spool_core.specs.Inside.{core_view}
 use Rattle.spool_core.proofs.Cores.{found, stays, still}
 use Rattle.held_jobs.specs.Moves.{Awaits}
 use Rattle.spool_calls.specs.declared.answers.ReturnedPage.{ReturnedPage}
-use Rattle.spool_calls.specs.Calls.{Puts}
+use Rattle.spool_calls.specs.Calls.{Puts, PutsAs}
 use Rattle.core_steps.proofs.Filing.{can_put, put_done, put_none, put_refused, put_size}
-use Rattle.spool_core.proofs.core_state.Core.put.Goals.{After-awaits, After-put}
-use Rattle.spool_core.proofs.core_state.Core.put.Goals as goal
-
-abbrev Answer : ℕ → Page → Result (Unit {0}) ReturnedPage → Kept → Kept → (d : Detail) → Base → List (Event (What d)) → Type 0
-Answer job page r new k d b h = Puts d b h k job page new r
+use Rattle.spool_core.proofs.core_state.Core.put_next.Goals.{After-awaits, After-put}
+use Rattle.spool_core.proofs.core_state.Core.put_next.Goals as goal
 
 abbrev Same : ℕ → Page → Result (Unit {0}) ReturnedPage → Kept → (d : Detail) → Base → List (Event (What d)) → Type 0
 Same job page r k d b h = Puts d b h k job page k r
 
-pub returns-then-page_size-clause-answer : goal.returns-then-page_size-clause-answer
-returns-then-page_size-clause-answer c =
-    let a = c.self.inside in
-    let n = c.page_size-page_size.ensures.value in
-    let m = c.page_size.ensures.size in
-    let t = c.if-page_size.true in
-    stays (core_view a) c.args.self.now (Same c.args.job c.args.page (Err (record { page = c.args.page }))) c.self.view_is
-    (λ d b h l. put_size d b h (core_view a) c.args.job c.args.page (record { page = c.args.page }) (λ e. t (m ∙ (e ∙ sym n))) refl)
-
-pub returns-in_default-clause-answer : goal.returns-in_default-clause-answer
-returns-in_default-clause-answer c =
+pub returns-in_default-clause-refused : goal.returns-in_default-clause-refused
+returns-in_default-clause-refused c =
     stays (core_view c.self.inside) c.args.self.now (Same c.args.job c.args.page (Err (record { page = c.args.page }))) c.self.view_is
     (λ d b h l. put_none d b h (core_view c.self.inside) c.args.job c.args.page (record { page = c.args.page }) l c.in_default.ensures.absent refl)
 
@@ -63,9 +51,9 @@ module _ (c : After-awaits) where
       let n = can_put Outlines r.0 r.1 (core_view a) r.2 c.args.job c.in-Some.i place c.args.page c.self.invariant.ranges (awaited w) in
       (n.room, n.few)
 
-pub returns-then-not-awaits-clause-answer : goal.returns-then-not-awaits-clause-answer
-returns-then-not-awaits-clause-answer c =
-    let x = (goal.at.returns-then-not-awaits-clause-answer c).After-awaits in
+pub returns-then-not-awaits-clause-refused : goal.returns-then-not-awaits-clause-refused
+returns-then-not-awaits-clause-refused c =
+    let x = (goal.at.returns-then-not-awaits-clause-refused c).After-awaits in
     stays (core_view c.self.inside) c.args.self.now (Same c.args.job c.args.page (Err (record { page = c.args.page }))) c.self.view_is
     (λ d b h l. put_refused d b h (core_view c.self.inside) l c.args.job c.in-Some.i (place x) c.args.page (record { page = c.args.page })
     (λ q. absurd (cc (c.if-not-awaits.ensures.1 (unawaited x q)))) refl)
@@ -76,22 +64,35 @@ put-requires-clause-room c = (can (goal.at.put-requires-clause-room c).After-awa
 pub put-requires-clause-few : goal.put-requires-clause-few
 put-requires-clause-few c = (can (goal.at.put-requires-clause-few c).After-awaits (c.if-not-awaits.ensures.0 refl)).1
 
-puts : (c : After-put) → Awaits (job_at c.self.inside.book c.in-Some.i) (length c.args.page.octets) c.self.inside.config.page_size
-    → IsRight (core_view c.self.inside) (Answer c.args.job c.args.page (Ok tt) (record (core_view c.self.inside) { book = c.put.new.self }) (core_view c.self.inside))
-puts c w d b h l =
-    let k = core_view c.self.inside in
-    let size : c.args.page.page_size ≡ k.config.page_size = (let n = c.page_size-page_size.ensures.value in let m = c.page_size.ensures.size in let t = c.if-page_size.false in omega (arith, n, m, t)) in
-    subst (λ (z : Books). Puts d b h k c.args.job c.args.page (record k { book = z }) (Ok tt)) (sym c.put.ensures)
-    (put_done d b h k l c.args.job c.in-Some.i (found c.self.inside c.args.job c.in-Some.i c.in-Some.ensures.found) c.args.page w size)
+-- it was put as the page of this number of this file, as they were read of the job
+module _ (c : After-put) (w : Awaits (job_at c.self.inside.book c.in-Some.i) (length c.args.page.octets) c.self.inside.config.page_size) where
+  abbrev k : Kept
+  k = core_view c.self.inside
+
+  abbrev new : Kept
+  new = record k { book = c.put.new.self }
+
+  abbrev Answer : Kept → Type 0
+  Answer z = IsRight z (λ d b h. PutsAs d b h z c.args.job c.args.page new c.last_file-next.result.0 c.last_file-next.result.1)
+
+  puts : Answer k
+  puts d b h l =
+      let size : c.args.page.page_size ≡ k.config.page_size = (let n = c.page_size-page_size.ensures.value in let m = c.page_size.ensures.size in let t = c.if-page_size.false in omega (arith, n, m, t)) in
+      let file = c.last_file-next.ensures.0 ∙ ap (λ (y : Facts). length y.files - 1) c.job.ensures in
+      let number = c.last_file-next.ensures.1 ∙ ap (λ (y : Facts). (last_size y.files).pages) c.job.ensures in
+      subst (λ (n : ℕ). PutsAs d b h k c.args.job c.args.page new n c.last_file-next.result.1) (sym file)
+      (subst (λ (n : ℕ). PutsAs d b h k c.args.job c.args.page new (length (job_at k.book c.in-Some.i).facts.files - 1) n) (sym number)
+      (subst (λ (z : Books). PutsAs d b h k c.args.job c.args.page (record k { book = z }) (length (job_at k.book c.in-Some.i).facts.files - 1) (last_size (job_at k.book c.in-Some.i).facts.files).pages) (sym c.put.ensures)
+      (put_done d b h k l c.args.job c.in-Some.i (found c.self.inside c.args.job c.in-Some.i c.in-Some.ensures.found) c.args.page w size)))
 
 pub invariant_of-self : goal.invariant_of-self
 invariant_of-self c =
     let x = goal.at.invariant_of-self c in
     let r = c.self.invariant.reached in
-    still c.self.inside _ c.self.invariant refl refl refl (r.0, _, (puts x.After-put (awaited x.After-awaits (c.if-not-awaits.ensures.0 refl)) Outlines r.0 r.1 r.2).3)
+    still c.self.inside _ c.self.invariant refl refl refl (r.0, _, (puts x.After-put (awaited x.After-awaits (c.if-not-awaits.ensures.0 refl)) Outlines r.0 r.1 r.2).1)
 
-pub returns-clause-answer : goal.returns-clause-answer
-returns-clause-answer c =
-    let x = goal.at.returns-clause-answer c in
-    subst (λ (k : Kept). IsRight k (Answer c.args.job c.args.page (Ok tt) (record (core_view c.self.inside) { book = c.put.new.self }) k)) c.self.view_is
-    (puts x.After-put (awaited x.After-awaits (c.if-not-awaits.ensures.0 refl)))
+pub returns-clause-put : goal.returns-clause-put
+returns-clause-put c =
+    let x = goal.at.returns-clause-put c in
+    let w = awaited x.After-awaits (c.if-not-awaits.ensures.0 refl) in
+    subst (Answer x.After-put w) c.self.view_is (puts x.After-put w)
