@@ -1,5 +1,4 @@
 mod Beginning
-mod Decided
 mod Removed
 mod Rotated
 mod Segments

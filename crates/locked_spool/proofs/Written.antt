@@ -1,5 +1,5 @@
--- One entry more in the account.
-use Rattle.std.proofs.Common.{◌≡◌, ℕ, ◌+◌, ◌<◌, ◌≤◌, List, ◌∷◌, length, sym, ◌∙◌, ap, subst, arith}
+-- One entry more in the account, and what it tells of its job.
+use Rattle.std.proofs.Common.{◌≡◌, ℕ, ◌+◌, ◌<◌, ◌≤◌, List, ◌∷◌, length, refl, sym, ◌∙◌, ap, subst, arith}
 use Rattle.std.specs.Prelude.{sum_by}
 use Rattle.account.specs.declared.entry.Outline.{Outline}
 use Rattle.account.specs.Kinds.{kind_of}
@@ -12,8 +12,13 @@ use Rattle.spool_laws.specs.Reserve.{CountsStops}
 use Rattle.spool_calls.specs.Looks.{size}
 use Rattle.spool_calls.specs.Looks.Detail.{Outlines}
 use Rattle.spool_calls.specs.Kept.{Kept, Leaves}
+use Rattle.spool_calls.specs.declared.answers.Receipt.{Receipt}
+use Rattle.spool_calls.specs.declared.answers.Receipt.TheVariants as receipt
+use Rattle.spool_calls.specs.contracts.answers.Receipt.{the_type}
+use Rattle.spool_calls.specs.Calls.{is_whole}
 use Rattle.spool_ledgers.specs.Sums.{Sums, with_entry}
 use Rattle.locked_spool.specs.Held.{Held, IsHeld}
+use denote.Enum.Bare.{sameb}
 
 module _ {config : Config} {h : Held} {room : ℕ} {totals : Sums} (is : IsHeld config h room totals) where
   -- the configuration of the core is in its ranges
@@ -76,3 +81,8 @@ module _ {config : Config} {h : Held} {room : ℕ} {totals : Sums} (is : IsHeld 
       let r = counted l same none in
       let w = is.room_is in
       written events more sums l same one (omega (arith, r, w, still)) added
+
+-- a job is whole where "received" is told
+pub whole_is : (got : Receipt) → sameb the_type got receipt.Received ≡ is_whole got
+whole_is receipt.Stored = refl
+whole_is receipt.Received = refl

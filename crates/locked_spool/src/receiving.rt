@@ -118,6 +118,9 @@ impl<E: SpoolLedger, K: Ledger, H: Ledger> Locked<E, K, H> {
         ensures account { WritesPut self.old self.new job page result }
         ensures shares { mine.new ≡ when_done kind.Put result mine.old }
     {
+        if page.page_size() != self.core.config().page_size() as usize {
+            return Err(ReturnedPage { page });
+        }
         let outline = outline_of(&page);
         let (file, number) = self.core.put_next(job, page)?;
         let entry = Entry::OfJob(job, Act::Put(file, number, outline));

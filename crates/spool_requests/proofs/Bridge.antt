@@ -72,12 +72,12 @@ module _ (d : Detail) (b : Base) (h : List (Event (What d))) (old new : Kept) (s
 
   puts : (sender job : ℕ) (page : Page) (result : Result (Unit {0}) ReturnedPage) → Puts d b h old job page new result → Follows d b h old new sender job (Filled page) (put_by result)
   puts sender job page (Ok done) a =
-      let m = could _ a.3 in
+      let m = could _ a.2.1 in
       let e = put_decided (size d) old.config b h job a.0 a.1 (see d page.octets) m in
-      follows sender job (Filled page) Yes a.2.1
+      follows sender job (Filled page) Yes a.2.0.1
       (grew (OfJob job (Put a.0 a.1 (see d page.octets))) (Some (OfJob job (Put (file_now v job) (page_now v job) (see d page.octets))))
       (ap {A = ℕ} {B = Option (Event (What d))} (λ f. Some (OfJob job (Put f (page_now v job) (see d page.octets)))) (sym e.0)
-      ∙ ap {A = ℕ} {B = Option (Event (What d))} (λ n. Some (OfJob job (Put a.0 n (see d page.octets)))) (sym e.1)) a.3)
+      ∙ ap {A = ℕ} {B = Option (Event (What d))} (λ n. Some (OfJob job (Put a.0 n (see d page.octets)))) (sym e.1)) a.2.1)
   puts sender job page (Err back) a = follows sender job (Filled page) (Refused NotOpen) a.0 (same None refl a.1)
 
   -- the file that ended is the open one
@@ -87,8 +87,8 @@ module _ (d : Detail) (b : Base) (h : List (Event (What d))) (old new : Kept) (s
       grew (OfJob job (FileEnded file whole)) _ (ap {A = ℕ} {B = Option (Event (What d))} (λ f. Some (OfJob job (FileEnded f whole))) (sym e)) l
 
   ends : (sender job : ℕ) (result : Result Receipt Refusal) → Ends d b h old job new result → Follows d b h old new sender job EndFile (kept_by result)
-  ends sender job (Ok receipt.Stored) a = follows sender job EndFile Stored tt (ended_file job a.0 false a.2)
-  ends sender job (Ok receipt.Received) a = follows sender job EndFile Received tt (ended_file job a.0 true a.2)
+  ends sender job (Ok receipt.Stored) a = follows sender job EndFile Stored tt (ended_file job a.0 false a.1.1)
+  ends sender job (Ok receipt.Received) a = follows sender job EndFile Received tt (ended_file job a.0 true a.1.1)
   ends sender job (Err n) a = follows sender job EndFile (Refused n) a.0 (same None refl a.1)
 
   controls : (sender job : ℕ) (control : Contents) (result : Result Receipt ReturnedControl) → Controls d b h old job control new result → Follows d b h old new sender job (Control control) (controlled_by result)

@@ -12,8 +12,7 @@ use Rattle.spool_calls.specs.declared.answers.Receipt.{Receipt}
 use Rattle.spool_calls.specs.Looks.Detail.{Outlines}
 use Rattle.spool_calls.specs.Kept.{Kept, Leaves}
 use Rattle.spool_calls.specs.Calls.{Controls, is_whole}
-use Rattle.locked_spool.proofs.Decided.{whole_is}
-use Rattle.locked_spool.proofs.Written.{room_here, unchanged, written_here}
+use Rattle.locked_spool.proofs.Written.{room_here, unchanged, whole_is, written_here}
 use Rattle.locked_spool.proofs.locked.Locked.control.Goals as goal
 
 -- the control file is there

@@ -1,20 +1,18 @@
-use Rattle.std.proofs.Common.{◌≡◌, ℕ, Bool, List, ◌∷◌, refl, sym, ◌∙◌, ap, subst}
-use Rattle.std.specs.Prelude.{Ok}
+use Rattle.std.proofs.Common.{rules, ◌≡◌, ℕ, Bool, List, ◌∷◌, refl, sym, ◌∙◌, ap, subst}
+use Rattle.std.specs.Prelude.{Result, Ok, Err}
 use Rattle.account.specs.Seen.{base_seen}
 use Rattle.account.specs.declared.entry.Outline.{Outline}
 use Rattle.spool_history.specs.Events.{Event}
 use Rattle.spool_history.specs.Events.Act.{FileEnded}
 use Rattle.spool_history.specs.Events.Event.{OfJob}
-use Rattle.spool_history.specs.Legal.{HasJob, JobMay}
+use Rattle.lpd_values.specs.declared.refusal.Refusal.{Refusal}
 use Rattle.spool_calls.specs.declared.answers.Receipt.{Receipt}
-use Rattle.spool_calls.specs.Looks.{size}
 use Rattle.spool_calls.specs.Looks.Detail.{Outlines}
 use Rattle.spool_calls.specs.Kept.{Kept, Leaves}
-use Rattle.spool_calls.specs.Calls.{Ends, before, is_whole}
+use Rattle.spool_calls.specs.Calls.{Ends, EndsFile, IsRight, is_whole}
 use Rattle.locked_spool.specs.Held.{Held}
 use Rattle.locked_spool.specs.Entries.{WritesFileEnded}
-use Rattle.locked_spool.proofs.Decided.{file_ends, whole_is}
-use Rattle.locked_spool.proofs.Written.{room_here, written_here}
+use Rattle.locked_spool.proofs.Written.{room_here, whole_is, written_here}
 use Rattle.locked_spool.proofs.locked.Locked.end_file.Given.{Over}
 use Rattle.locked_spool.proofs.locked.Locked.end_file.Goals.{After-eq-whole}
 use Rattle.locked_spool.proofs.locked.Locked.end_file.Goals as goal
@@ -25,31 +23,22 @@ module _ (g : Over) (c : After-eq-whole g) where
   h = let a = c.self.inside in record { core = a.core; base = base_seen a.base; events = a.account.events; number = a.number; before = a.before; kinds_before = a.kinds_before; handed_before = a.handed_before }
 
   abbrev k : Kept
-  k = c.end_file.new.self
+  k = c.end_last.new.self
 
   abbrev got : Receipt
-  got = c.in_ok-receipt.receipt
+  got = c.in_ok-file.receipt
 
   abbrev file : ℕ
-  file = c.in-Some.file
+  file = c.in_ok-file.file
 
-  answer : Ends Outlines h.base h.events h.core c.args.job k (Ok got)
-  answer = c.in_ok-receipt.ensures.answer Outlines h.base h.events c.self.invariant.left
+  end : EndsFile Outlines h.base h.events h.core c.args.job k got file
+  end = c.in_ok-file.ensures.ended Outlines h.base h.events c.self.invariant.left
 
   said : c.eq-whole.result ≡ is_whole got
   said = c.eq-whole.ensures ∙ whole_is got
 
-  -- the file that was open has ended
-  same : answer.0 ≡ file
-  same = file_ends (size Outlines) h.core.config h.base h.events c.args.job file c.in-Some.field-0-1 (c.in-Some.ensures Outlines h.base h.events c.self.invariant.left) answer.0 (is_whole got) answer.1
-
-  may : HasJob (before Outlines h.base h.events h.core).jobs c.args.job (JobMay (size Outlines) h.core.config (FileEnded file (is_whole got)))
-  may = subst (λ (n : ℕ). HasJob (before Outlines h.base h.events h.core).jobs c.args.job (JobMay (size Outlines) h.core.config (FileEnded n (is_whole got)))) same answer.1
-
   ended : Leaves Outlines h.base (OfJob c.args.job (FileEnded file c.eq-whole.result) ∷ h.events) k
-  ended =
-      subst (λ (v : Bool). Leaves Outlines h.base (OfJob c.args.job (FileEnded file v) ∷ h.events) k) (sym said)
-      (subst (λ (n : ℕ). Leaves Outlines h.base (OfJob c.args.job (FileEnded n (is_whole got)) ∷ h.events) k) same answer.2)
+  ended = subst (λ (v : Bool). Leaves Outlines h.base (OfJob c.args.job (FileEnded file v) ∷ h.events) k) (sym said) end.1
 
   abbrev Writes : Held → Held → Type 0
   Writes old new = WritesFileEnded old new c.args.job (Ok got)
@@ -57,21 +46,27 @@ module _ (g : Over) (c : After-eq-whole g) where
   told : (events : List (Event Outline)) → events ≡ OfJob c.args.job (FileEnded file c.eq-whole.result) ∷ h.events → Writes h (record h { core = k; events = events })
   told events one = (
     file,
-    may,
+    end.0,
     ap (λ (es : List (Event Outline)). record h { core = k; events = es }) one
         ∙ ap (λ (v : Bool). record h { core = k; events = OfJob c.args.job (FileEnded file v) ∷ h.events }) said,
   )
 
 pub write-requires-clause-room : goal.write-requires-clause-room
-write-requires-clause-room g c = room_here c.self.invariant (ended g (goal.at.write-requires-clause-room g c).After-eq-whole) c.in_ok-receipt.ensures.config refl
+write-requires-clause-room g c = room_here c.self.invariant (ended g (goal.at.write-requires-clause-room g c).After-eq-whole) c.in_ok-file.ensures.config refl
 
 pub invariant_of-self-2 : goal.invariant_of-self-2
 invariant_of-self-2 g c =
     let w = c.write.ensures in
-    written_here c.self.invariant c.write.new.account.events c.write.new.account.room c.write.new.books (ended g (goal.at.invariant_of-self-2 g c).After-eq-whole) c.in_ok-receipt.ensures.config refl w.events w.room w.books
+    written_here c.self.invariant c.write.new.account.events c.write.new.account.room c.write.new.books (ended g (goal.at.invariant_of-self-2 g c).After-eq-whole) c.in_ok-file.ensures.config refl w.events w.room w.books
 
 pub returns-clause-account : goal.returns-clause-account
 returns-clause-account g c =
     let n = (goal.at.returns-clause-account g c).After-eq-whole in
     let es = c.write.new.account.events in
     subst (λ (z : Held). Writes g n z (record (h g n) { core = k g n; events = es })) c.self.view_is (told g n es c.write.ensures.events)
+
+pub returns-in_err-file-clause-answer : goal.returns-in_err-file-clause-answer
+returns-in_err-file-clause-answer g c =
+    let told : c.from_residual.result ≡ Err c.in_err-file.field-0.0 = search rules in
+    subst (λ (r : Result Receipt Refusal). IsRight c.args.self.now.core (λ d b h. Ends d b h c.args.self.now.core c.args.job c.end_last.new.self r)) (sym told)
+    (subst (λ (z : Kept). IsRight z (λ d b h. Ends d b h z c.args.job c.end_last.new.self (Err c.in_err-file.field-0.0))) (ap (λ (z : Held). z.core) c.self.view_is) c.in_err-file.ensures.refused)

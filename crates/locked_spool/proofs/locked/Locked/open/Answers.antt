@@ -21,17 +21,16 @@ module _ (g : Over) (c : In_ok-job g) where
   h = let a = c.self.inside in record { core = a.core; base = base_seen a.base; events = a.account.events; number = a.number; before = a.before; kinds_before = a.kinds_before; handed_before = a.handed_before }
 
   abbrev k : Kept
-  k = c.open.new.self
+  k = c.accept.new.self
 
   abbrev q : ℕ
-  q = c.in-Some-queue_number.number
+  q = c.in_ok-number.number
 
   abbrev event : Event Outline
   event = Opened c.in_ok-job.job c.args.sender q
 
   opened : Leaves Outlines h.base (event ∷ h.events) k
-  opened = subst (λ (n : ℕ). Leaves Outlines h.base (Opened c.in_ok-job.job c.args.sender n ∷ h.events) k) c.in-Some-queue_number.ensures.0
-      (c.in_ok-job.ensures.answer Outlines h.base h.events c.self.invariant.left).1
+  opened = (c.in_ok-job.ensures.answer Outlines h.base h.events c.self.invariant.left).1
 
   -- its reserve is counted from now on
   counted : k.reserved ≡ h.core.reserved + reserve_of h.core.config q
