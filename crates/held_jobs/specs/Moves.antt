@@ -1,5 +1,5 @@
 -- What each call makes of a held job.
-use Rattle.std.specs.Prelude.{◌≡◌, ℕ, ◌+◌, ◌-◌, ◌<◌, min, true, false, Bool, List, [], ◌∷◌, ◌++◌, Option, Some, None, length}
+use Rattle.std.specs.Prelude.{◌≡◌, ℕ, ◌+◌, ◌-◌, ◌<◌, min, true, false, List, [], ◌∷◌, ◌++◌, Some, length}
 use Rattle.lpd_values.specs.Contents.{Contents}
 use Rattle.page_pool.specs.Page.{Page}
 use Rattle.page_chain.specs.Files.{every_page}

@@ -1,10 +1,8 @@
 -- A held job whose pages are replaced by what a function says of them.
-use Rattle.std.specs.Prelude.{ℕ, zero, suc, ◌==◌, ◌&&◌, Bool, true, false, Option, Some, None, List, [], ◌∷◌, ◌++◌, length, drop, map, slice_index_or, slice_set, if◌then◌else◌}
-use Rattle.std.specs.List.{flat_map}
+use Rattle.std.specs.Prelude.{ℕ, Bool, Option, Some, None, List, map}
 use Rattle.page_pool.specs.Page.{Page}
 use Rattle.page_chain.specs.declared.place.Place.{Place}
 use Rattle.page_chain.specs.Files as F
-use Rattle.page_chain.specs.Changes.{is_among, number_of, numbers_of}
 use Rattle.page_chain.specs.Files.{Files, no_place, numbered}
 use Rattle.held_jobs.specs.Jobs.{Facts, HeldJob}
 

@@ -3,12 +3,10 @@
 ghost use Rattle.std.specs.Prelude.{◌≡◌, ◌+◌, ◌<◌, ◌≤◌, ◌^◌, IfOk, length, map, option_copied};
 ghost use Rattle.control_file.specs.View.{contents};
 ghost use Rattle.lpd_values.specs.Kept.{is_among};
-ghost use Rattle.lpd_values.specs.Told.{number_in, user_in, host_in};
 ghost use Rattle.lpd_values.specs.declared.limits.TheConstants.{MAX_FILES};
 ghost use Rattle.held_jobs.specs.declared.file.DataFile.{DataFile};
 ghost use Rattle.std.specs.List.{list_all};
 ghost use Rattle.held_jobs.specs.Jobs.{new_facts, contents_of, has_prints, last_size};
-ghost use Rattle.held_jobs.specs.Told.{places_left};
 ghost use Rattle.held_jobs.specs.Moves.{lent_facts, unlent_facts, begun_facts, put_facts, controlled_facts, received_facts, handed_facts, back_facts, ended_facts};
 
 use crate::file::DataFile;
@@ -18,6 +16,7 @@ use control_file::Control;
 use lpd_values::{FileName, MAX_FILES};
 use std::alloc::{AllocError, Global};
 use std::marker::Model;
+use told_jobs::ToldJob;
 
 /// What is known of a held job: who sent it for which queue, how far it is, its data files and its control file, and how
 /// many pages were lent, handed to printers and brought back. Its pages are the book's.
@@ -143,50 +142,6 @@ impl Job {
         self.handed
     }
 
-    /// How many of its places were not handed out.
-    pub fn places_left(&self) -> u128
-        ensures { result ≡ places_left self.now }
-    {
-        match &self.control {
-            Some(control) => {
-                let places = places_of(control.prints.as_slice(), self.files.as_slice());
-                places.saturating_sub(u128::from(self.handed))
-            }
-            None => 0,
-        }
-    }
-
-    /// Its job number, as its control file has it, or 0 where there is none.
-    pub fn told_number(&self) -> u16
-        ensures value { result ≡ number_in self.now.control }
-        ensures within { result ≤ 999 }
-    {
-        match &self.control {
-            Some(control) => control.number,
-            None => 0,
-        }
-    }
-
-    /// Its user, as its control file has it, or nothing where there is none.
-    pub fn told_user(&self) -> &[u8]
-        ensures { result.now ≡ user_in self.now.control }
-    {
-        match &self.control {
-            Some(control) => control.user.as_slice(),
-            None => &[],
-        }
-    }
-
-    /// Its host, as its control file has it, or nothing where there is none.
-    pub fn told_host(&self) -> &[u8]
-        ensures { result.now ≡ host_in self.now.control }
-    {
-        match &self.control {
-            Some(control) => control.host.as_slice(),
-            None => &[],
-        }
-    }
-
     /// How many of its places came back from a printer.
     pub fn back(&self) -> u64
         ensures { result ≡ self.now.back }
@@ -301,6 +256,38 @@ impl Job {
         ensures { self.new ≡ ended_facts self.old }
     {
         self.phase = Phase::Ended;
+    }
+}
+
+impl ToldJob for Job {
+    ghost use Rattle.held_jobs.specs.Told.{told_in};
+
+    type File = DataFile;
+
+    ghost told = { told_in };
+
+    fn is_listed(&self, queue: u32) -> bool {
+        self.queue == queue && self.phase == Phase::Received
+    }
+
+    fn control(&self) -> Option<&Control> {
+        self.control.as_ref()
+    }
+
+    fn files(&self) -> &[DataFile] {
+        self.files.as_slice()
+    }
+
+    fn handed(&self) -> u64 {
+        self.handed
+    }
+
+    fn left(&self, _alloc: Global) -> Result<u128, AllocError> {
+        let Some(control) = &self.control else {
+            return Ok(0);
+        };
+        let places = places_of(control.prints.as_slice(), self.files.as_slice());
+        Ok(places.saturating_sub(u128::from(self.handed)))
     }
 }
 

@@ -1,5 +1,5 @@
 -- What the reader's values say, in the words of the definitions.
-use Rattle.std.specs.Prelude.{List, Option, Some, None, map}
+use Rattle.std.specs.Prelude.{Option, Some, None, map}
 use Rattle.control_file.specs.declared.control.Control.{Control}
 use Rattle.lpd_values.specs.Contents.{Contents}
 use Rattle.control_file.specs.View.{contents}

@@ -1,40 +1,66 @@
-//! What a control file tells of its job.
+//! What a state and a removal tell of jobs.
 
-ghost use Rattle.std.specs.Prelude.{◌≡◌, ◌≤◌};
-ghost use Rattle.lpd_values.specs.Told as O;
-ghost use Rattle.history_reader.specs.Seen.{control_seen};
+use crate::state::{File, Job, State};
+use control_file::Control;
+use lpd_values::FileName;
+use std::alloc::{AllocError, Global};
+use told_jobs::{ToldFile, ToldJob, ToldJobs};
 
-use crate::state::Job;
+impl ToldFile for File {
+    ghost use Rattle.spool_history.specs.Told.{told_file};
+    ghost use Rattle.history_reader.specs.Seen.{file_seen};
 
-impl Job {
-    /// Its number, as its control file has it, or 0 where there is none.
-    pub fn told_number(&self) -> u16
-        ensures value { result ≡ O.number_in (control_seen self.now.control) }
-        ensures within { result ≤ 999 }
-    {
-        match &self.control {
-            Some(control) => control.number,
-            None => 0,
-        }
+    ghost told = { λ f. told_file (file_seen f) };
+
+    fn name(&self) -> &FileName {
+        &self.name
     }
 
-    /// Its user, as its control file has it, or nothing where there is none.
-    pub fn told_user(&self) -> &[u8]
-        ensures { result.now ≡ O.user_in (control_seen self.now.control) }
-    {
-        match &self.control {
-            Some(control) => control.user.as_slice(),
-            None => &[],
-        }
+    fn count(&self) -> u64 {
+        self.count
+    }
+}
+
+impl ToldJob for Job {
+    ghost use Rattle.spool_history.specs.Told.{told_of};
+    ghost use Rattle.history_reader.specs.Seen.{job_seen};
+
+    type File = File;
+
+    ghost told = { λ v. told_of (job_seen v) };
+
+    fn is_listed(&self, queue: u32) -> bool {
+        self.queue == queue && self.is_received() && !self.ended
     }
 
-    /// Its host, as its control file has it, or nothing where there is none.
-    pub fn told_host(&self) -> &[u8]
-        ensures { result.now ≡ O.host_in (control_seen self.now.control) }
-    {
-        match &self.control {
-            Some(control) => control.host.as_slice(),
-            None => &[],
-        }
+    fn control(&self) -> Option<&Control> {
+        self.control.as_ref()
+    }
+
+    fn files(&self) -> &[File] {
+        self.files.as_slice()
+    }
+
+    fn handed(&self) -> u64 {
+        self.handed
+    }
+
+    fn left(&self, alloc: Global) -> Result<u128, AllocError> {
+        let places = self.places(alloc)?;
+        Ok((places.len() as u128).saturating_sub(u128::from(self.handed)))
+    }
+}
+
+impl ToldJobs for State {
+    type Job = Job;
+
+    ghost jobs = { λ v. v.jobs.items };
+
+    fn len(&self) -> usize {
+        self.jobs.len()
+    }
+
+    fn job(&self, i: usize) -> &Job {
+        &self.jobs[i]
     }
 }

@@ -4,4 +4,3 @@ pub mod Numbers
 pub mod Rows
 pub mod Firsts
 pub mod Lists
-pub mod Pieces

@@ -1,4 +1,4 @@
-use Rattle.std.proofs.Common.{length, ℕ}
+use Rattle.std.proofs.Common.{length}
 use Rattle.held_jobs.proofs.job.+has_names.Given as goal
 
 abbrev pub decreases-has_names : goal.decreases-has_names

@@ -1,12 +1,8 @@
-use Rattle.std.proofs.Common.{◌∙◌, below_more, sym, ap, arith}
 use Rattle.lpd_values.specs.Choice.{is_active}
 use Rattle.held_jobs.specs.Told.{told_in}
-use Rattle.queues.proofs.Lists.{known_at}
+use Rattle.held_jobs.specs.Turns.{facts_in}
+use Rattle.queues.proofs.Lists.{first_known}
 use Rattle.queues.proofs.book.Book.active.Goals as goal
 
-pub loop-i-preserved : goal.loop-i-preserved
-loop-i-preserved c =
-    let n = c.len-i-end.ensures in
-    let lt = c.loop-i-test.true in
-    below_more _ _ c.loop-i.invariant
-    (ap (λ j. is_active c.args.queue (told_in j)) (known_at c.args.self.now c.loop-i.i c.job.result.now (omega arith) c.job.ensures) ∙ (sym c.is_active.ensures ∙ c.if-is_active.false))
+pub returns : goal.returns
+returns c = first_known (λ j. is_active c.args.queue (told_in j)) (facts_in c.args.self.now.jobs) c.active.result c.active.ensures

@@ -3,7 +3,9 @@ use Rattle.std.specs.List.{flat_map}
 use Rattle.lpd_values.specs.Choice.{is_picked}
 use Rattle.held_jobs.specs.Jobs.{Facts}
 use Rattle.held_jobs.specs.Told.{told_in}
-use Rattle.queues.proofs.Lists.{all_taken, numbers_in, passed_more}
+use Rattle.told_jobs.proofs.Rows.{passed_more}
+use Rattle.queues.proofs.Firsts.{facts_len}
+use Rattle.queues.proofs.Lists.{all_taken, numbers_in, stands_at}
 use Rattle.held_jobs.specs.Turns.{facts_in}
 use Rattle.queues.proofs.book.Book.chosen_by.Goals as goal
 
@@ -14,10 +16,15 @@ pub loop-i-preserved : goal.loop-i-preserved
 loop-i-preserved c =
     let n = c.len-i-end.ensures in
     let lt = c.loop-i-test.true in
-    let p : Facts → Bool = λ j. is_picked c.args.queue c.args.agent.now c.args.words.now (told_in j) in
-    c.in_ok-put_where_picked.ensures
-    ∙ (ap (λ (l : List ℕ). l ++ cond (p c.job.result.now) (c.job.result.now.number ∷ []) []) c.loop-i.invariant
-    ∙ sym (passed_more number_alone p c.args.self.now c.loop-i.i c.job.result.now (omega arith) c.job.ensures))
+    let m = facts_len c.args.self.now.jobs in
+    let j = c.job-job.result.now in
+    let p : Facts → Bool = λ x. is_picked c.args.queue c.args.agent.now c.args.words.now (told_in x) in
+    let put : List ℕ → Bool → List ℕ = λ before taken. before ++ cond taken (j.number ∷ []) [] in
+    c.in_ok-put_where_taken.ensures
+    ∙ (ap (λ n. c.loop-i.numbers.items ++ cond c.is_picked-is_taken.result (n ∷ []) []) c.number.ensures
+    ∙ (ap (put c.loop-i.numbers.items) c.is_picked-is_taken.ensures
+    ∙ (ap (λ (l : List ℕ). put l (p j)) c.loop-i.invariant
+    ∙ sym (passed_more number_alone p (facts_in c.args.self.now.jobs) c.loop-i.i j j (omega arith) (stands_at c.args.self.now c.loop-i.i j (omega arith) c.job-job.ensures j)))))
 
 pub returns : goal.returns
 returns c =
