@@ -1,7 +1,7 @@
 //! Command lines.
 
 ghost use Rattle.std.specs.Prelude.{◌≡◌};
-ghost use Rattle.lpd_commands.specs.Line.{command_at, command_of, command_with, removal, words_of};
+ghost use Rattle.lpd_commands.specs.Line.{command_at, command_of};
 ghost use Rattle.lpd_values.specs.Given.{Gives};
 ghost use Rattle.lpd_commands.specs.Layout.{AnswersCommand};
 
@@ -34,28 +34,19 @@ pub enum Command {
     },
 }
 
-/// The removal from this queue that the words of the text ask for, the agent first.
-fn parse_removal(alloc: Global, queue: &[u8], text: &[u8]) -> Result<Command, Refusal>
-    ensures { Gives result (removal queue.now (words_of text.now)) }
+/// The command of a line that isn't too long.
+fn parse_short(alloc: Global, line: &[u8]) -> Result<Command, Refusal>
+    ensures { Gives result (command_at line.now) }
 {
-    let Some((agent, list)) = next_word(text) else {
+    let (code, rest) = line.split_first().ok_or(Refusal::BadCode)?;
+    if *code == 0 || *code > 5 {
+        return Err(Refusal::BadCode);
+    }
+    if !is_worded(rest) {
         return Err(Refusal::BadLine);
-    };
-    Ok(Command::Remove {
-        queue: Octets::copy_of(alloc, queue)?,
-        agent: Octets::copy_of(alloc, agent)?,
-        list: words_in(alloc, list)?,
-    })
-}
-
-/// The command of a code from 1 to 5 and a text that begins with a word.
-fn parse_words(alloc: Global, code: u8, text: &[u8]) -> Result<Command, Refusal>
-    ensures { Gives result (command_with code (words_of text.now)) }
-{
-    let Some((queue, rest)) = next_word(text) else {
-        return Err(Refusal::BadLine);
-    };
-    match code {
+    }
+    let (queue, rest) = next_word(rest).ok_or(Refusal::BadLine)?;
+    match *code {
         1 => Ok(Command::PrintWaiting {
             queue: Octets::copy_of(alloc, queue)?,
         }),
@@ -65,26 +56,17 @@ fn parse_words(alloc: Global, code: u8, text: &[u8]) -> Result<Command, Refusal>
         3 | 4 => Ok(Command::State {
             queue: Octets::copy_of(alloc, queue)?,
             list: words_in(alloc, rest)?,
-            long: code == 4,
+            long: *code == 4,
         }),
-        _ => parse_removal(alloc, queue, rest),
+        _ => {
+            let (agent, list) = next_word(rest).ok_or(Refusal::BadLine)?;
+            Ok(Command::Remove {
+                queue: Octets::copy_of(alloc, queue)?,
+                agent: Octets::copy_of(alloc, agent)?,
+                list: words_in(alloc, list)?,
+            })
+        }
     }
-}
-
-/// The command of a line that isn't too long.
-fn parse_short(alloc: Global, line: &[u8]) -> Result<Command, Refusal>
-    ensures { Gives result (command_at line.now) }
-{
-    let Some((code, rest)) = line.split_first() else {
-        return Err(Refusal::BadCode);
-    };
-    if *code == 0 || *code > 5 {
-        return Err(Refusal::BadCode);
-    }
-    if !is_worded(rest) {
-        return Err(Refusal::BadLine);
-    }
-    parse_words(alloc, *code, rest)
 }
 
 /// The command of a line without its LF, or the first refusal that fits: `LineTooLong`, `BadCode`, `BadLine`, and then

@@ -1,10 +1,9 @@
 //! Subcommand lines.
 
 ghost use Rattle.std.specs.Prelude.{◌≡◌, ◌⊎◌, [], ◌∷◌, MatchOption, MatchResult, true, false, if◌then◌else◌};
-ghost use Rattle.lpd_values.specs.Name.{is_control_name, is_data_name};
 ghost use Rattle.lpd_commands.specs.Layout.{MeansSub, RefusesSub};
 ghost use Rattle.lpd_values.specs.Digits.{is_count, count_of};
-ghost use Rattle.lpd_commands.specs.Line.{words_of, file_of, file_with, sub_at, sub_of};
+ghost use Rattle.lpd_commands.specs.Line.{words_of, file_of, sub_at, sub_of};
 
 use crate::words::{is_worded, next_word};
 use lpd_values::{FileName, MAX_COUNT_DIGITS, MAX_LINE, Refusal, all_spaces, is_digit};
@@ -38,70 +37,33 @@ fn read_count(digits: &[u8]) -> Option<u64>
     Some(count)
 }
 
-fn control_file(count: u64, name: &[u8]) -> Result<Sub, Refusal>
-    ensures { result
-        ≡ (if is_control_name name.now
-        then Ok (Sub.ControlFile count name.now) else Err Refusal.BadName) }
-{
-    let name = FileName::read(name)?;
-    if !name.is_control() {
-        return Err(Refusal::BadName);
-    }
-    Ok(Sub::ControlFile { count, name })
-}
-
-fn data_file(count: u64, name: &[u8]) -> Result<Sub, Refusal>
-    ensures { result
-        ≡ (if is_data_name name.now
-        then Ok (Sub.DataFile count name.now) else Err Refusal.BadName) }
-{
-    let name = FileName::read(name)?;
-    if name.is_control() {
-        return Err(Refusal::BadName);
-    }
-    Ok(Sub::DataFile { count, name })
-}
-
-/// The file subcommand of this code, 2 or 3, and these words.
-fn parse_named(code: u8, count: &[u8], name: &[u8]) -> Result<Sub, Refusal>
-    requires { (code ≡ 2) ⊎ (code ≡ 3) }
-    ensures { result ≡ file_with code count.now name.now }
-{
-    let Some(count) = read_count(count) else {
-        return Err(Refusal::BadCount);
-    };
-    if code == 2 {
-        return control_file(count, name);
-    }
-    if count == 0 {
-        return Err(Refusal::BadCount);
-    }
-    data_file(count, name)
-}
-
+/// The file subcommand of this code, 2 or 3, and a text of a count and a name.
 fn parse_file(code: u8, text: &[u8]) -> Result<Sub, Refusal>
     requires { (code ≡ 2) ⊎ (code ≡ 3) }
     ensures { result ≡ file_of code (words_of text.now) }
 {
-    let Some((count, rest)) = next_word(text) else {
-        return Err(Refusal::BadLine);
-    };
-    let Some((name, rest)) = next_word(rest) else {
-        return Err(Refusal::BadLine);
-    };
+    let (count, rest) = next_word(text).ok_or(Refusal::BadLine)?;
+    let (name, rest) = next_word(rest).ok_or(Refusal::BadLine)?;
     if next_word(rest).is_some() {
         return Err(Refusal::BadLine);
     }
-    parse_named(code, count, name)
+    let count = read_count(count).ok_or(Refusal::BadCount)?;
+    if code == 3 && count == 0 {
+        return Err(Refusal::BadCount);
+    }
+    let name = FileName::read(name)?;
+    match (code, name.is_control()) {
+        (2, true) => Ok(Sub::ControlFile { count, name }),
+        (3, false) => Ok(Sub::DataFile { count, name }),
+        _ => Err(Refusal::BadName),
+    }
 }
 
 /// The subcommand of a line that isn't too long.
 fn parse_short(line: &[u8]) -> Result<Sub, Refusal>
     ensures { result ≡ sub_at line.now }
 {
-    let Some((code, rest)) = line.split_first() else {
-        return Err(Refusal::BadCode);
-    };
+    let (code, rest) = line.split_first().ok_or(Refusal::BadCode)?;
     match *code {
         1 if all_spaces(rest) => Ok(Sub::Abort),
         1 => Err(Refusal::BadLine),

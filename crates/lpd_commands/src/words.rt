@@ -23,32 +23,11 @@ fn word_len(text: &[u8]) -> usize
     text.iter().take_while(|b| !is_space(**b)).count()
 }
 
-/// The text without the white space at its head.
-fn skip_space(text: &[u8]) -> &[u8]
-    ensures words { words_of result.now ≡ words_of text.now }
-    ensures at_word { (result.now ≡ []) ⊎ (begins_word result.now ≡ true) }
-    ensures within { length result.now ≤ length text.now }
-{
-    &text[space_len(text)..]
-}
-
-/// The first word and what follows it, of a text that begins with a word.
-fn split_word(text: &[u8]) -> (&[u8], &[u8])
-    requires { begins_word text.now ≡ true }
-    ensures words { words_of text.now ≡ result.0.now ∷ words_of result.1.now }
-    ensures within { length result.1.now < length text.now }
-{
-    text.split_at(word_len(text))
-}
-
 /// Whether the text begins with a word and has words and white space alone.
 pub(crate) fn is_worded(text: &[u8]) -> bool
     ensures { result ≡ is_worded text.now }
 {
-    let Some(first) = text.first() else {
-        return false;
-    };
-    !is_space(*first) && all_text(text)
+    text.first().is_some_and(|first| !is_space(*first)) && all_text(text)
 }
 
 /// The first word of a text and what follows it, or none where there is no word.
@@ -57,11 +36,11 @@ pub(crate) fn next_word(text: &[u8]) -> Option<(&[u8], &[u8])>
         (λ p. (words_of text.now ≡ p.0.now ∷ words_of p.1.now)
         × (length p.1.now < length text.now)) }
 {
-    let text = skip_space(text);
+    let text = &text[space_len(text)..];
     if text.is_empty() {
         return None;
     }
-    Some(split_word(text))
+    Some(text.split_at(word_len(text)))
 }
 
 /// The words of a text, copied.

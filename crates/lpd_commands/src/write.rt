@@ -14,8 +14,7 @@ fn put_word(line: &mut Vec<u8>, word: &[u8]) -> Result<(), AllocError>
     ensures { OnOk result (line.new.items ≡ line.old.items ++ 32 ∷ word.now) }
 {
     line.push(b' ')?;
-    line.extend_from_slice(word)?;
-    Ok(())
+    line.extend_from_slice(word)
 }
 
 /// Puts each word after a space at the end of the line.
@@ -33,8 +32,7 @@ fn put_head(line: &mut Vec<u8>, code: u8, queue: &Octets) -> Result<(), AllocErr
     ensures { OnOk result (line.new.items ≡ line.old.items ++ code ∷ queue.now) }
 {
     line.push(code)?;
-    line.extend_from_slice(queue.as_slice())?;
-    Ok(())
+    line.extend_from_slice(queue.as_slice())
 }
 
 fn put_command(line: &mut Vec<u8>, command: &Command) -> Result<(), AllocError>
@@ -87,10 +85,7 @@ fn put_sub(alloc: Global, line: &mut Vec<u8>, sub: &Sub) -> Result<(), AllocErro
     ensures { OnOk result (line.new.items ≡ line.old.items ++ sub_line sub.now) }
 {
     match sub {
-        Sub::Abort => {
-            line.push(1)?;
-            Ok(())
-        }
+        Sub::Abort => Ok(line.push(1)?),
         Sub::ControlFile { count, name } => put_file(alloc, line, 2, *count, name),
         Sub::DataFile { count, name } => put_file(alloc, line, 3, *count, name),
     }
