@@ -1,6 +1,6 @@
 //! A job as it is sent.
 
-ghost use Rattle.std.specs.Prelude.{IsTrue, ◌≡◌, ◌++◌, ◌∷◌, [], map, IfOk, OnOk};
+ghost use Rattle.std.specs.Prelude.{IsTrue, ◌≡◌, map, IfOk};
 ghost use Rattle.std.specs.List.{concat};
 ghost use Rattle.control_file.specs.Written.{control_text};
 ghost use Rattle.control_file.specs.View.{contents};
@@ -16,33 +16,15 @@ use control_file::Control;
 use lpd_commands::{FileName, Octets};
 use std::alloc::{AllocError, Global};
 
-/// Puts contents and an octet 00 at the end.
-fn put_zeroed(octets: &mut Vec<u8>, contents: &[u8]) -> Result<(), AllocError>
-    ensures { OnOk result (octets.new.items ≡ octets.old.items ++ (contents.now ++ 0 ∷ [])) }
-{
-    octets.extend_from_slice(contents)?;
-    octets.push(0)?;
-    Ok(())
-}
-
-/// Puts the octets of a part at the end.
-fn put_octets(octets: &mut Vec<u8>, part: &Part) -> Result<(), AllocError>
-    ensures { OnOk result (octets.new.items ≡ octets.old.items ++ part_octets part.now) }
-{
-    match part {
-        Part::Line(line) => octets.extend_from_slice(line.as_slice()),
-        Part::Contents(contents) => put_zeroed(octets, contents),
-        Part::Text(text) => put_zeroed(octets, text.as_slice()),
-    }
-}
-
 /// The octets of parts, one after another.
 fn joined(alloc: Global, parts: &[Part]) -> Result<Octets, AllocError>
     ensures { IfOk result (λ octets. octets ≡ concat (map part_octets parts.now)) }
 {
     let mut octets = Vec::new(alloc);
     for part in parts {
-        put_octets(&mut octets, part)?;
+        let (head, tail) = part.octets();
+        octets.extend_from_slice(head)?;
+        octets.extend_from_slice(tail)?;
     }
     Ok(Octets::from_vec(octets))
 }

@@ -1,15 +1,14 @@
 //! A job in parts, each up to one acknowledgement.
 
-ghost use Rattle.std.specs.Prelude.{◌≡◌, ◌<◌, ◌^◌, ◌++◌, length, map, IfOk, OnOk};
+ghost use Rattle.std.specs.Prelude.{◌≡◌, ◌++◌, ◌∷◌, [], map, IfOk, OnOk};
 ghost use Rattle.control_file.specs.Written.{control_text};
 ghost use Rattle.control_file.specs.View.{contents};
-ghost use Rattle.lpr_client.specs.Parts.{AreCounted, control_parts, data_parts, file_parts, job_parts};
+ghost use Rattle.lpr_client.specs.Parts.{AreCounted, data_parts, job_parts, sub_sent};
 ghost use Rattle.lpr_client.specs.Shown.{part_octets};
 
 use crate::file::DataFile;
 use control_file::Control;
 use lpd_commands::{Command, FileName, Octets, Sub, write_command, write_sub};
-use lpd_values::MAX_COUNT_DIGITS;
 use std::alloc::{AllocError, Global};
 
 /// What is sent up to one acknowledgement.
@@ -23,23 +22,31 @@ pub(crate) enum Part<'a> {
     Text(Octets),
 }
 
-/// Puts a data file at the end.
-fn put_data_file<'a>(
+impl Part<'_> {
+    /// The octets that it has of a line, a file or a text, and those that follow them.
+    pub(crate) fn octets(&self) -> (&[u8], &[u8])
+        ensures { result.0.now ++ result.1.now ≡ part_octets self.now }
+    {
+        match self {
+            Part::Line(line) => (line.as_slice(), &[]),
+            Part::Contents(contents) => (contents, &[0]),
+            Part::Text(text) => (text.as_slice(), &[0]),
+        }
+    }
+}
+
+/// Puts the line of a subcommand at the end, and then what it announces.
+fn put_file<'a>(
     alloc: Global,
     parts: &mut Vec<Part<'a>>,
-    file: &'a DataFile,
+    sub: &Sub,
+    file: Part<'a>,
 ) -> Result<(), AllocError>
-    ensures parts { OnOk result
-        (map part_octets parts.new.items
-        ≡ map part_octets parts.old.items ++ file_parts file.now) }
-    ensures counted { length file.now.octets < 10 ^ MAX_COUNT_DIGITS }
+    ensures { OnOk result (map part_octets parts.new.items
+        ≡ map part_octets parts.old.items ++ sub_sent sub.now ∷ part_octets file.entry ∷ []) }
 {
-    let sub = Sub::DataFile {
-        count: file.octets.as_slice().len() as u64,
-        name: file.name,
-    };
-    parts.push(Part::Line(write_sub(alloc, &sub)?))?;
-    parts.push(Part::Contents(file.octets.as_slice()))?;
+    parts.push(Part::Line(write_sub(alloc, sub)?))?;
+    parts.push(file)?;
     Ok(())
 }
 
@@ -55,30 +62,15 @@ fn put_data_files<'a>(
     ensures counted { OnOk result (AreCounted files.now) }
 {
     for file in files {
-        put_data_file(alloc, parts, file)?;
+        let octets = file.octets.as_slice();
+        let (count, name) = (octets.len() as u64, file.name);
+        put_file(
+            alloc,
+            parts,
+            &Sub::DataFile { count, name },
+            Part::Contents(octets),
+        )?;
     }
-    Ok(())
-}
-
-/// Puts the control file of this name at the end.
-fn put_control_file(
-    alloc: Global,
-    parts: &mut Vec<Part>,
-    name: &FileName,
-    control: &Control,
-) -> Result<(), AllocError>
-    ensures { OnOk result
-        (map part_octets parts.new.items
-        ≡ map part_octets parts.old.items
-        ++ control_parts name.now (control_text (contents control.now))) }
-{
-    let text = control.write(alloc)?;
-    let sub = Sub::ControlFile {
-        count: text.as_slice().len() as u64,
-        name: *name,
-    };
-    parts.push(Part::Line(write_sub(alloc, &sub)?))?;
-    parts.push(Part::Text(text))?;
     Ok(())
 }
 
@@ -99,6 +91,13 @@ pub(crate) fn parts_of<'a>(
     let mut parts = Vec::new(alloc);
     parts.push(Part::Line(write_command(alloc, &Command::Receive { queue })?))?;
     put_data_files(alloc, &mut parts, files)?;
-    put_control_file(alloc, &mut parts, name, control)?;
+    let text = control.write(alloc)?;
+    let (count, name) = (text.as_slice().len() as u64, *name);
+    put_file(
+        alloc,
+        &mut parts,
+        &Sub::ControlFile { count, name },
+        Part::Text(text),
+    )?;
     Ok(parts)
 }

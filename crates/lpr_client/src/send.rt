@@ -4,12 +4,11 @@ ghost use Rattle.std.specs.Prelude.{IsTrue, ◌≡◌, ◌∷◌, [], length, ma
 ghost use Rattle.lpd_commands.specs.Ends.{MakesAtMost, one_more, Took, Writes, WritesSome};
 ghost use Rattle.control_file.specs.Written.{control_text};
 ghost use Rattle.control_file.specs.View.{contents};
-ghost use Rattle.lpr_client.specs.Parts.{job_parts, zeroed};
+ghost use Rattle.lpr_client.specs.Parts.{job_parts};
 ghost use Rattle.lpr_client.specs.Shown.{part_octets};
 ghost use Rattle.lpr_client.specs.Sendable.{is_sendable};
 ghost use Rattle.lpr_client.specs.Sending.{AllSent, LacksOne, PartStops, Stops, StopsOrNot};
 ghost use Rattle.lpr_client.specs.Sending.{part_reads, reader_faults, writer_faults};
-ghost use Rattle.lpr_client.specs.declared.send.SendFault.TheVariants.{Memory};
 
 use crate::file::DataFile;
 use crate::part::{Part, parts_of};
@@ -38,27 +37,7 @@ pub enum SendFault {
     Memory,
 }
 
-impl From<AllocError> for SendFault {
-    ghost from_gives = { λ _ fault. fault ≡ Memory };
-
-    fn from(_error: AllocError) -> SendFault {
-        SendFault::Memory
-    }
-}
-
-/// Writes contents and an octet 00.
-fn write_zeroed<W: OctetWrite>(writer: &mut W, contents: &[u8]) -> Result<(), OctetFault>
-    ensures ok { OnOk result
-        (Writes (W.written writer.old) (W.written writer.new) (zeroed contents.now)
-        × (W.faults writer.new ≡ W.faults writer.old)) }
-    ensures err { OnErr result
-        (WritesSome (W.written writer.old) (W.written writer.new) (zeroed contents.now)
-        × (W.faults writer.new ≡ one_more (W.faults writer.old))) }
-{
-    write_all(writer, contents)?;
-    write_all(writer, &[0])
-}
-
+/// Writes a part.
 fn write_part<W: OctetWrite>(writer: &mut W, part: &Part) -> Result<(), OctetFault>
     ensures ok { OnOk result
         (Writes (W.written writer.old) (W.written writer.new) (part_octets part.now)
@@ -67,11 +46,9 @@ fn write_part<W: OctetWrite>(writer: &mut W, part: &Part) -> Result<(), OctetFau
         (WritesSome (W.written writer.old) (W.written writer.new) (part_octets part.now)
         × (W.faults writer.new ≡ one_more (W.faults writer.old))) }
 {
-    match part {
-        Part::Line(line) => write_all(writer, line.as_slice()),
-        Part::Contents(contents) => write_zeroed(writer, contents),
-        Part::Text(text) => write_zeroed(writer, text.as_slice()),
-    }
+    let (head, tail) = part.octets();
+    write_all(writer, head)?;
+    write_all(writer, tail)
 }
 
 /// Reads an octet, which has to be an acknowledgement.
@@ -162,6 +139,8 @@ pub fn send_job<R: OctetRead, W: OctetWrite>(
         (length (job_parts queue.now name.now (control_text (contents control.now)) files.now))
         (R.reads reader.old) (R.reads reader.new) }
 {
-    let parts = parts_of(alloc, queue, name, control, files)?;
-    send_parts(reader, writer, parts.as_slice())
+    match parts_of(alloc, queue, name, control, files) {
+        Ok(parts) => send_parts(reader, writer, parts.as_slice()),
+        Err(AllocError) => Err(SendFault::Memory),
+    }
 }

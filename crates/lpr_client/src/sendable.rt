@@ -44,10 +44,7 @@ fn is_named(name: &FileName, control: &Control) -> bool
 fn is_sendable_file(file: &DataFile) -> bool
     ensures { result ≡ is_sendable_file file.now }
 {
-    if file.name.is_control() {
-        return false;
-    }
-    !file.octets.as_slice().is_empty()
+    !file.name.is_control() && !file.octets.as_slice().is_empty()
 }
 
 fn all_sendable(files: &[DataFile]) -> bool
