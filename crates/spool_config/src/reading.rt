@@ -82,12 +82,8 @@ fn number(table: &Table, key: Key) -> Result<u32, ConfigFault>
         F.number_faults key (K.value_at key (table_view table.now)) ≡ fault ∷ []) }
     ensures memory { IfErr result (λ fault. fault ≢ Memory) }
 {
-    let Some(value) = value_at(table, key) else {
-        return Err(ConfigFault::Missing(key));
-    };
-    let Some(number) = value.as_integer() else {
-        return Err(ConfigFault::WrongType(key));
-    };
+    let value = value_at(table, key).ok_or(ConfigFault::Missing(key))?;
+    let number = value.as_integer().ok_or(ConfigFault::WrongType(key))?;
     match u32::try_from(number) {
         Ok(number) if 1 <= number && number <= key.most() => Ok(number),
         _ => Err(ConfigFault::OutOfRange(key)),
@@ -141,7 +137,9 @@ fn queues(alloc: Global, rows: &[Value]) -> Result<Vec<Queue>, ConfigFault>
         let Some(table) = row.as_table() else {
             return Err(ConfigFault::WrongType(Key::Queue));
         };
-        queues.push(queue(alloc, table)?)?;
+        if queues.push(queue(alloc, table)?).is_err() {
+            return Err(ConfigFault::Memory);
+        }
     }
     Ok(queues)
 }
@@ -156,8 +154,10 @@ fn queue(alloc: Global, table: &Table) -> Result<Queue, ConfigFault>
     let name = name(table)?;
     let limit = number(table, Key::Limit)?;
     let printers = number(table, Key::Printers)?;
-    let name = String::from_str(alloc, name)?;
-    Ok(Queue::new(name, limit, printers))
+    match String::from_str(alloc, name) {
+        Ok(name) => Ok(Queue::new(name, limit, printers)),
+        Err(_) => Err(ConfigFault::Memory),
+    }
 }
 
 /// The text at `name`, which is a queue's name.
@@ -168,12 +168,8 @@ fn name(table: &Table) -> Result<&str, ConfigFault>
     ensures fault { IfErr result (λ fault.
         F.name_faults (K.value_at Name (table_view table.now)) ≡ fault ∷ []) }
 {
-    let Some(value) = value_at(table, Key::Name) else {
-        return Err(ConfigFault::Missing(Key::Name));
-    };
-    let Some(name) = value.as_str() else {
-        return Err(ConfigFault::WrongType(Key::Name));
-    };
+    let value = value_at(table, Key::Name).ok_or(ConfigFault::Missing(Key::Name))?;
+    let name = value.as_str().ok_or(ConfigFault::WrongType(Key::Name))?;
     if !is_name(name) {
         return Err(ConfigFault::OutOfRange(Key::Name));
     }

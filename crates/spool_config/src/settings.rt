@@ -3,7 +3,6 @@
 ghost use Rattle.std.specs.Prelude.{◌≡◌};
 ghost use Rattle.spool_config.specs.Keys.{word_of, most_of};
 
-use std::alloc::{AllocError, AllocFailed};
 use std::error::Error;
 use std::fmt;
 
@@ -67,16 +66,10 @@ impl fmt::Display for Key {
     ghost output = { λ key. Some (key_words key) };
 
     fn fmt<W: fmt::Write>(&self, f: &mut fmt::Formatter<W>) -> fmt::Result {
-        f.write_str(match self {
-            Key::Pages => "pages",
-            Key::PageSize => "page_size",
-            Key::MaxJobs => "max_jobs",
-            Key::Account => "account",
-            Key::Queue => "queue",
-            Key::Name => "queue.name",
-            Key::Limit => "queue.limit",
-            Key::Printers => "queue.printers",
-        })
+        if let Key::Name | Key::Limit | Key::Printers = self {
+            f.write_str("queue.")?;
+        }
+        f.write_str(self.word())
     }
 }
 
@@ -120,25 +113,3 @@ impl fmt::Display for ConfigFault {
 }
 
 impl Error for ConfigFault {}
-
-impl From<AllocError> for ConfigFault {
-    ghost use Rattle.std.specs.Prelude.{◌≡◌};
-    ghost use Rattle.spool_config.specs.declared.settings.ConfigFault.TheVariants.{Memory};
-
-    ghost from_gives = { λ _ fault. fault ≡ Memory };
-
-    fn from(_error: AllocError) -> ConfigFault {
-        ConfigFault::Memory
-    }
-}
-
-impl<T: Drop> From<AllocFailed<T>> for ConfigFault {
-    ghost use Rattle.std.specs.Prelude.{◌≡◌};
-    ghost use Rattle.spool_config.specs.declared.settings.ConfigFault.TheVariants.{Memory};
-
-    ghost from_gives = { λ _ fault. fault ≡ Memory };
-
-    fn from(_error: AllocFailed<T>) -> ConfigFault {
-        ConfigFault::Memory
-    }
-}

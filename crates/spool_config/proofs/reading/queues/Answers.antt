@@ -1,4 +1,4 @@
-use Rattle.std.proofs.Common.{◌≡◌, ◌≢◌, ◌∙◌, sym, ap, option_map, slice_get, map, Some}
+use Rattle.std.proofs.Common.{◌≡◌, ◌≢◌, ◌∙◌, sym, ap, option_map, slice_get, map, Some, rules, [], ◌∷◌, ◌++◌}
 use Rattle.std.proofs.lemmas.List.Elements.{All-push}
 use Rattle.std.specs.List.{flat_map}
 use Rattle.toml.specs.View.{view, table_view}
@@ -27,7 +27,7 @@ loop-row-preserved c =
     let read = sym c.as_table.ensures ∙ ap (option_map (λ m. table_view m.now)) c.in-Some.is in
     let rest = rest_of rows c.loop-row.row-index row c.loop-row-test.true c.row-item.is in
     let q = c.in_ok-queue.field-0 in
-    let pushed = c.in_ok-push.ensures.items in
+    let pushed : c.push.new.self.items ≡ c.loop-row.queues.items ++ q ∷ [] = search rules in
     record {
       within = rw pushed (All-push (IsWithin 65536) c.loop-row.queues.items q c.loop-row.invariant.within c.in_ok-queue.ensures.within);
       told = rw pushed (one_more_told _ (view row) _ _ _ c.loop-row.queues.items q rest read c.in_ok-queue.ensures.told c.loop-row.invariant.told);
