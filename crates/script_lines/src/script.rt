@@ -77,16 +77,12 @@ pub fn parse_line(alloc: Global, line: &[u8]) -> Result<ScriptLine, LineFault>
 fn parse_alone(line: &[u8]) -> Option<ScriptLine>
     ensures { MatchOption result (HasOperand line.now) (Means line.now) }
 {
-    if line.is_empty() || line[0] == b'#' {
-        Some(ScriptLine::Nothing)
-    } else if line == b"free".as_slice() {
-        Some(ScriptLine::Free)
-    } else if line == b"pages".as_slice() {
-        Some(ScriptLine::Pages)
-    } else if line == b"shutdown".as_slice() {
-        Some(ScriptLine::Shutdown)
-    } else {
-        None
+    match line {
+        [] | [b'#', ..] => Some(ScriptLine::Nothing),
+        b"free" => Some(ScriptLine::Free),
+        b"pages" => Some(ScriptLine::Pages),
+        b"shutdown" => Some(ScriptLine::Shutdown),
+        _ => None,
     }
 }
 
@@ -95,11 +91,7 @@ fn after<'a>(line: &'a [u8], word: &[u8]) -> Option<&'a [u8]>
     ensures { MatchOption result (Lacks word.now line.now)
         (λ rest. line.now ≡ word.now ++ rest.now) }
 {
-    if line.len() < word.len() {
-        return None;
-    }
-    let (head, rest) = line.split_at(word.len());
-    if head == word { Some(rest) } else { None }
+    line.strip_prefix(word)
 }
 
 /// Reads a line of a word and the number of a session or a printer.
@@ -107,30 +99,25 @@ fn parse_numbered(line: &[u8]) -> Result<ScriptLine, LineFault>
     requires { IsOther line.now }
     ensures { AnswersLine line.now result }
 {
-    if let Some(session) = after(line, b"go ") {
-        return Ok(ScriptLine::Go {
-            session: number(session)?,
-        });
+    if let Some(digits) = after(line, b"go ") {
+        let session = number(digits)?;
+        return Ok(ScriptLine::Go { session });
     }
-    if let Some(session) = after(line, b"break ") {
-        return Ok(ScriptLine::Break {
-            session: number(session)?,
-        });
+    if let Some(digits) = after(line, b"break ") {
+        let session = number(digits)?;
+        return Ok(ScriptLine::Break { session });
     }
-    if let Some(printer) = after(line, b"next ") {
-        return Ok(ScriptLine::Next {
-            printer: number(printer)?,
-        });
+    if let Some(digits) = after(line, b"next ") {
+        let printer = number(digits)?;
+        return Ok(ScriptLine::Next { printer });
     }
-    if let Some(printer) = after(line, b"printed ") {
-        return Ok(ScriptLine::Printed {
-            printer: number(printer)?,
-        });
+    if let Some(digits) = after(line, b"printed ") {
+        let printer = number(digits)?;
+        return Ok(ScriptLine::Printed { printer });
     }
-    if let Some(printer) = after(line, b"failed ") {
-        return Ok(ScriptLine::Failed {
-            printer: number(printer)?,
-        });
+    if let Some(digits) = after(line, b"failed ") {
+        let printer = number(digits)?;
+        return Ok(ScriptLine::Failed { printer });
     }
     Err(LineFault::Bad)
 }
@@ -152,10 +139,7 @@ fn parse_connect(alloc: Global, host: &[u8]) -> Result<ScriptLine, LineFault>
 fn is_host(name: &[u8]) -> bool
     ensures { IsTrue result ↔ IsHost name.now }
 {
-    if name.is_empty() || name.len() > 64 {
-        return false;
-    }
-    are_host_octets(name)
+    !name.is_empty() && name.len() <= 64 && are_host_octets(name)
 }
 
 /// Whether a host's name may have these octets.
@@ -214,24 +198,15 @@ fn parse_send(alloc: Global, operands: &[u8]) -> Result<ScriptLine, LineFault>
         return Err(LineFault::Bad);
     };
     let session = number(session)?;
-    let octets = octets_of(alloc, digits)?;
-    Ok(ScriptLine::Send {
-        session,
-        octets: Octets::from_vec(octets),
-    })
+    let octets = Octets::from_vec(octets_of(alloc, digits)?);
+    Ok(ScriptLine::Send { session, octets })
 }
 
 /// The octets of an even number of hexadecimal digits, two or more.
 fn octets_of(alloc: Global, digits: &[u8]) -> Result<Vec<u8>, LineFault>
     ensures { MatchResult result (λ octets. IsHex digits.now octets.items) (RefusesHex digits.now) }
 {
-    if digits.is_empty() {
-        return Err(LineFault::Bad);
-    }
-    if digits.len() % 2 != 0 {
-        return Err(LineFault::Bad);
-    }
-    if !are_hexadecimal(digits) {
+    if digits.is_empty() || digits.len() % 2 != 0 || !are_hexadecimal(digits) {
         return Err(LineFault::Bad);
     }
     match hex::decode(alloc, digits) {

@@ -52,18 +52,11 @@ fn shown_stop(stop: Stop) -> &'static str
     }
 }
 
-/// That the connection of a session is broken.
-pub fn broken_line(alloc: Global, session: u32) -> Result<String, AllocError>
-    ensures { IfOk result (λ line. string_bytes line ≡ T.broken_line session) }
+/// What is told of a session in one word.
+pub fn session_told(alloc: Global, session: u32, told: &str) -> Result<String, AllocError>
+    ensures { IfOk result (λ line. string_bytes line ≡ T.of_session session told.now) }
 {
-    format!(in alloc; "{session}: broken\n")
-}
-
-/// That a session was over before.
-pub fn gone_line(alloc: Global, session: u32) -> Result<String, AllocError>
-    ensures { IfOk result (λ line. string_bytes line ≡ T.gone_line session) }
-{
-    format!(in alloc; "{session}: gone\n")
+    format!(in alloc; "{session}: {told}\n")
 }
 
 /// What a printer was given.
@@ -90,7 +83,7 @@ fn page_line(alloc: Global, printer: u32, page: &ShownPage) -> Result<String, Al
 }
 
 /// What is told of a printer.
-fn printer_line(alloc: Global, printer: u32, told: &str) -> Result<String, AllocError>
+pub fn printer_line(alloc: Global, printer: u32, told: &str) -> Result<String, AllocError>
     ensures { IfOk result (λ line. string_bytes line ≡ T.of_printer printer told.now) }
 {
     format!(in alloc; "printer {printer}: {told}\n")
@@ -107,23 +100,9 @@ pub fn progress_line(alloc: Global, printer: u32, progress: Progress) -> Result<
     }
 }
 
-/// That a printer holds no page.
-pub fn no_page_line(alloc: Global, printer: u32) -> Result<String, AllocError>
-    ensures { IfOk result (λ line. string_bytes line ≡ T.no_page_line printer) }
-{
-    printer_line(alloc, printer, "no page")
-}
-
 /// How many pages are free.
 pub fn free_line(alloc: Global, free: usize) -> Result<String, AllocError>
     ensures { IfOk result (λ line. string_bytes line ≡ T.free_line free) }
 {
     format!(in alloc; "free {free}\n")
-}
-
-/// That the spool is closed.
-pub fn closed_line(alloc: Global) -> Result<String, AllocError>
-    ensures { IfOk result (λ line. string_bytes line ≡ T.closed_line) }
-{
-    String::from_str(alloc, "closed\n")
 }

@@ -4,24 +4,20 @@ use Rattle.std.proofs.lemmas.List.Sums.{AllPass-from_list_all, list_all-from_All
 use Rattle.hex.specs.Hex.{is_hex_digit}
 use Rattle.hex.proofs.HexLemmas.{decode_of-ok, decode_of-digits}
 use Rattle.script_lines.proofs.script.octets_of.Goals as goal
+use Rattle.script_lines.proofs.script.octets_of.Goals.{then-is_empty-via-then-is_empty, then-is_empty-via-else-is_empty+then-digits-ne0, then-is_empty-via-else-is_empty+else-digits-ne0+then-not-are_hexadecimal}
 
 pub returns-then-is_empty : goal.returns-then-is_empty
 returns-then-is_empty c = λ octets h.
-    let some = h.0 in let none = c.is_empty.ensures in let true = c.if-is_empty.true in
-    grind (arith, nat_tests)
-
-pub returns-then-digits-ne0 : goal.returns-then-digits-ne0
-returns-then-digits-ne0 c = λ octets h.
-    let even = decode_of-ok c.args.digits.now octets h.1 in
-    absurd (omega (arith, even.0))
-
-pub returns-then-not-are_hexadecimal : goal.returns-then-not-are_hexadecimal
-returns-then-not-are_hexadecimal c = λ octets h.
-    let digits = (decode_of-ok c.args.digits.now octets h.1).1 in
-    let all = list_all-from_AllPass is_hex_digit c.args.digits.now digits in
-    let none = c.are_hexadecimal.ensures in
-    let not = c.if-not-are_hexadecimal.true in
-    absurd (cc)
+    let some = h.0 in let none = c.is_empty.ensures in
+    let decoded = decode_of-ok c.args.digits.now octets h.1 in
+    elim c.then-is_empty.branch [
+      | then-is_empty-via-then-is_empty w ↦ let true = w.if-is_empty.true in grind (arith, nat_tests)
+      | then-is_empty-via-else-is_empty+then-digits-ne0 w ↦ absurd (omega (arith, decoded.0, w.if-digits-ne0.true))
+      | then-is_empty-via-else-is_empty+else-digits-ne0+then-not-are_hexadecimal w ↦
+          let all = list_all-from_AllPass is_hex_digit c.args.digits.now decoded.1 in
+          let none = w.are_hexadecimal.ensures in let not = w.if-not-are_hexadecimal.true in
+          absurd (cc)
+    ]
 
 pub returns-in-Err : goal.returns-in-Err
 returns-in-Err c =
