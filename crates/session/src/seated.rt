@@ -44,11 +44,7 @@ impl<'a, R, E: SpoolLedger, K: Ledger, H: Ledger> Seated<'a, R, E, K, H> {
     pub fn into_seat(self) -> SessionSeat<E, K, H>
         ensures { result ≡ self.entry }
     {
-        let Seated {
-            rt: _,
-            spool: _,
-            seat,
-        } = self;
+        let Seated { seat, .. } = self;
         seat
     }
 }

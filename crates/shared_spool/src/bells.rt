@@ -85,10 +85,7 @@ impl Bells {
 
     /// The printers of the queue that a printer serves, or all where it serves none.
     pub(crate) fn row_with(&self, printer: u32) -> Row {
-        self.rows
-            .get(printer as usize)
-            .copied()
-            .unwrap_or(self.all)
+        self.rows.get(printer as usize).copied().unwrap_or(self.all)
     }
 
     /// The printers of the queue of a name, or all where no queue has it.

@@ -59,14 +59,7 @@ impl<E: Ledger, K: Ledger, H: Ledger> SessionSeat<E, K, H> {
         ensures same { result ≡ self }
         ensures one { self.parts ≡ 1 }
     {
-        let SessionSeat {
-            number: _,
-            opened: _,
-            row: _,
-            lacks: _,
-            put: _,
-            shares,
-        } = self;
+        let SessionSeat { shares, .. } = self;
         shares
     }
 
@@ -117,11 +110,7 @@ impl<E: Ledger, K: Ledger, H: Ledger> PrinterSeat<E, K, H> {
         ensures same { result ≡ self.sums }
         ensures one { self.sums.parts ≡ 1 }
     {
-        let PrinterSeat {
-            printer: _,
-            is_out: _,
-            shares,
-        } = self;
+        let PrinterSeat { shares, .. } = self;
         shares
     }
 

@@ -203,16 +203,8 @@ impl<E: SpoolLedger, K: Ledger, H: Ledger> SharedSpool<E, K, H> {
                 printers,
             });
         }
-        let SharedSpool {
-            state,
-            changed: _,
-            bells: _,
-            seats: _,
-        } = self;
-        let Room {
-            mut locked,
-            line: _,
-        } = state.into_inner();
+        let SharedSpool { state, .. } = self;
+        let Room { mut locked, .. } = state.into_inner();
         let mut all = locked.no_shares();
         merge_sessions(&mut all, sessions);
         merge_printers(&mut all, printers);

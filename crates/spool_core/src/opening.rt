@@ -78,9 +78,8 @@ impl Core {
         if self.closed {
             return Err(Refusal::Closed);
         }
-        let Some(number) = self.config.queue_named(queue) else {
-            return Err(Refusal::UnknownQueue);
-        };
+        let number = self.config.queue_named(queue);
+        let number = number.ok_or(Refusal::UnknownQueue)?;
         if self.config.max_jobs() as usize <= self.book.len() {
             return Err(Refusal::TableFull);
         }
@@ -102,10 +101,7 @@ impl Core {
         let number = self.accepted + 1;
         let book = &mut self.book;
         let table = &mut self.table;
-        match add_job(self.alloc, &self.config, book, table, number, sender, queue) {
-            Ok(()) => {}
-            Err(_) => return Err(Refusal::Memory),
-        }
+        add_job(self.alloc, &self.config, book, table, number, sender, queue)?;
         self.accepted = number;
         self.reserved += self.config.reserve_of(queue);
         Ok(number)

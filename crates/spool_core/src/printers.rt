@@ -54,11 +54,9 @@ pub fn is_out(out: &Option<Sheet>, page: &HandedPage, page_size: usize) -> bool
     let Some(sheet) = out else {
         return false;
     };
-    if sheet.job != page.job || sheet.place != page.place {
-        return false;
-    }
-    if sheet.page.length as usize != page.page.len() || sheet.page.digest != page.page.digest() {
-        return false;
-    }
-    page.page.page_size() == page_size
+    sheet.job == page.job
+        && sheet.place == page.place
+        && sheet.page.length as usize == page.page.len()
+        && sheet.page.digest == page.page.digest()
+        && page.page.page_size() == page_size
 }

@@ -81,10 +81,7 @@ fn can_end(book: &Book, i: usize) -> bool
     ensures { IsTrue result ↔ CanEnd (job_at book.now i) }
 {
     let job = book.job(i);
-    if job.phase() != Phase::Receiving || job.is_lent() || !book.is_open(i) {
-        return false;
-    }
-    job.left() == 0
+    job.phase() == Phase::Receiving && !job.is_lent() && book.is_open(i) && job.left() == 0
 }
 
 /// Whether a job may be aborted with this page.

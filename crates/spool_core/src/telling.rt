@@ -50,10 +50,8 @@ impl Core {
             return Err(Refusal::UnknownQueue);
         };
         let printers = self.printers.as_slice();
-        match state_of(&self.config, &self.book, printers, q, list, long) {
-            Ok(text) => Ok(text),
-            Err(_) => Err(Refusal::Memory),
-        }
+        let text = state_of(&self.config, &self.book, printers, q, list, long)?;
+        Ok(text)
     }
 
     /// The numbers of the jobs that a removal by this agent and list would take, in order of acceptance.
@@ -69,10 +67,8 @@ impl Core {
         let Some(q) = self.config.queue_named(queue) else {
             return Err(Refusal::UnknownQueue);
         };
-        match self.book.chosen(q, agent, list) {
-            Ok(numbers) => Ok(numbers),
-            Err(_) => Err(Refusal::Memory),
-        }
+        let numbers = self.book.chosen(q, agent, list)?;
+        Ok(numbers)
     }
 
     /// Removes the jobs of a queue that an agent removes by a list, or its active job alone where the list is empty, and

@@ -17,23 +17,15 @@ pub fn kind_of(request: &Need) -> RequestKind
     match request {
         Need::Queue(_) => RequestKind::Queue,
         Need::Open(_) => RequestKind::Open,
-        Need::BeginFile { name: _, count: _ } => RequestKind::BeginFile,
+        Need::BeginFile { .. } => RequestKind::BeginFile,
         Need::Page => RequestKind::Page,
         Need::Filled(_) => RequestKind::Filled,
         Need::EndFile => RequestKind::EndFile,
         Need::Control(_) => RequestKind::Control,
         Need::Abort => RequestKind::Abort,
         Need::Start(_) => RequestKind::Start,
-        Need::State {
-            queue: _,
-            list: _,
-            long: _,
-        } => RequestKind::State,
-        Need::Remove {
-            queue: _,
-            agent: _,
-            list: _,
-        } => RequestKind::Remove,
+        Need::State { .. } => RequestKind::State,
+        Need::Remove { .. } => RequestKind::Remove,
         Need::More | Need::Ack | Need::Fault(_) | Need::Ended => unreachable!(),
     }
 }

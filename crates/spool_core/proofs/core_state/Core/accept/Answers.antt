@@ -63,8 +63,8 @@ module _ (c : After-reserve_of) where
       let r = c.self.invariant.reached in
       let place : HasPlace k.table need = (fits c.self.inside q c.self.invariant, row_room Outlines r.0 r.1 k r.2 may.few) in
       let is : opened_core k (k.accepted + 1) c.args.sender q need ≡ new =
-      ap (λ (z : Books). record k { book = z; table = opened k.table (k.accepted + 1) c.args.sender q need; accepted = k.accepted + 1; reserved = k.reserved + reserve_of k.config q }) (sym c.in-Ok.ensures.book)
-      ∙ (ap (λ (z : Claims). record k { book = c.add_job.new.book; table = z; accepted = k.accepted + 1; reserved = k.reserved + reserve_of k.config q }) (sym c.in-Ok.ensures.table)
+      ap (λ (z : Books). record k { book = z; table = opened k.table (k.accepted + 1) c.args.sender q need; accepted = k.accepted + 1; reserved = k.reserved + reserve_of k.config q }) (sym c.in_ok-add_job.ensures.book)
+      ∙ (ap (λ (z : Claims). record k { book = c.add_job.new.book; table = z; accepted = k.accepted + 1; reserved = k.reserved + reserve_of k.config q }) (sym c.in_ok-add_job.ensures.table)
       ∙ ap (λ (z : ℕ). record k { book = c.add_job.new.book; table = c.add_job.new.table; accepted = k.accepted + 1; reserved = k.reserved + z }) (sym c.reserve_of.ensures.value)) in
       subst (λ (z : Kept). OpensFor d b h k c.args.sender q z (Ok (k.accepted + 1))) is
       (open_done d b h k l q may.open' may.is c.args.sender need may.few (may.room, may.number) place refl)

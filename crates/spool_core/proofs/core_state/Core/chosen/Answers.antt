@@ -14,11 +14,11 @@ use Rattle.spool_core.proofs.core_state.Core.chosen.Goals as goal
 abbrev Answer : List ℕ → List ℕ → List (List ℕ) → Result (Vec ℕ Global) Refusal → Kept → (d : Detail) → Base → List (Event (What d)) → Type 0
 Answer name agent list r k d b h = Chooses d b h k name agent list r
 
-pub returns-in-Ok : goal.returns-in-Ok
-returns-in-Ok c =
+pub returns : goal.returns
+returns c =
     let a = c.self.inside in
     let name = c.args.queue.now in
     let agent = c.args.agent.now in
     let list = c.args.list.now in
-    stays (core_view a) c.args.self.now (Answer name agent list (Ok c.in-Ok.numbers)) c.self.view_is
-    (λ d b h l. choose_numbers d b h (core_view a) l name agent list c.in-Some.q c.in-Ok.numbers c.if-self.false c.in-Some.ensures.named c.in-Some.ensures.found.0 c.in-Ok.ensures)
+    stays (core_view a) c.args.self.now (Answer name agent list (Ok c.in_ok-numbers.numbers)) c.self.view_is
+    (λ d b h l. choose_numbers d b h (core_view a) l name agent list c.in-Some.q c.in_ok-numbers.numbers c.if-self.false c.in-Some.ensures.named c.in-Some.ensures.found.0 c.in_ok-numbers.ensures)

@@ -30,12 +30,12 @@ told : (c : Config) (book : Books) (q : ℕ) (list : List (List ℕ)) (long : Bo
     → text ≡ told_with c book q list long read → read ≡ printers → text ≡ told_with c book q list long printers
 told c book q list long read printers text e r = e ∙ ap (told_with c book q list long) r
 
-pub returns-in-Ok : goal.returns-in-Ok
-returns-in-Ok c =
+pub returns : goal.returns
+returns c =
     let a = c.self.inside in
     let q = c.in-Some.q in
     let name = c.args.queue.now in
     let list = c.args.list.now in
-    stays (core_view a) c.args.self.now (Answer name list c.args.long (Ok c.in-Ok.text)) c.self.view_is
-    (λ d b h l. tell_text d b h (core_view a) l name list c.args.long q c.in-Ok.text c.in-Some.ensures.named c.in-Some.ensures.found.0
-    (told a.config a.book q list c.args.long c.as_slice-printers.result.now a.printers.items c.in-Ok.text c.in-Ok.ensures c.as_slice-printers.ensures.value))
+    stays (core_view a) c.args.self.now (Answer name list c.args.long (Ok c.in_ok-text.text)) c.self.view_is
+    (λ d b h l. tell_text d b h (core_view a) l name list c.args.long q c.in_ok-text.text c.in-Some.ensures.named c.in-Some.ensures.found.0
+    (told a.config a.book q list c.args.long c.as_slice-printers.result.now a.printers.items c.in_ok-text.text c.in_ok-text.ensures c.as_slice-printers.ensures.value))
