@@ -8,6 +8,7 @@ use config_values::Config;
 use history_reader::{Printer, State};
 use lpd_values::Octets;
 use std::alloc::{AllocError, Global};
+use told_jobs::Printers;
 
 /// How many of these printers serve a queue.
 fn count_printers(queue: u32, printers: &[Printer]) -> usize
@@ -46,9 +47,11 @@ pub fn state_text(
         ≡ state_text (state_seen config.now state.now) queue list.now long) }
 {
     let name = config.name_of(queue);
-    let printers = count_printers(queue, state.printers.as_slice());
-    let stopped = count_stopped(queue, state.printers.as_slice());
-    told_jobs::state_text(alloc, state, queue, name, printers, stopped, list, long)
+    let printers = Printers {
+        serving: count_printers(queue, state.printers.as_slice()),
+        stopped: count_stopped(queue, state.printers.as_slice()),
+    };
+    told_jobs::state_text(alloc, state, queue, name, printers, list, long)
 }
 
 /// What a removal is answered with: a line for each job that the agent removes by the list, or of the active job alone

@@ -8,7 +8,7 @@ ghost use Rattle.held_jobs.specs.Turns.{facts_in};
 use crate::book::Book;
 use lpd_values::Octets;
 use std::alloc::AllocError;
-use told_jobs::{listing, removal_text, state_text};
+use told_jobs::{Printers, listing, removal_text, state_text};
 
 impl Book {
     /// The lines of the jobs of a queue that a list chooses, of all listed ones where it is empty; in the long form with a
@@ -39,8 +39,11 @@ impl Book {
             ≡ T.state_text told_in queue name.now printers stopped list.now long
             (facts_in self.now.jobs)) }
     {
-        let alloc = self.alloc();
-        state_text(alloc, self, queue, name, printers, stopped, list, long)
+        let printers = Printers {
+            serving: printers,
+            stopped,
+        };
+        state_text(self.alloc(), self, queue, name, printers, list, long)
     }
 
     /// What a removal is answered with: a line for each job that the agent removes by the list, or of the active job alone

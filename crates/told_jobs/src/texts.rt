@@ -11,6 +11,15 @@ use crate::told::{ToldJob, ToldJobs};
 use lpd_values::Octets;
 use std::alloc::{AllocError, Global};
 
+/// The printers of a queue.
+#[derive(Clone, Copy)]
+pub struct Printers {
+    /// How many serve it.
+    pub serving: usize,
+    /// How many of these are stopped.
+    pub stopped: usize,
+}
+
 /// How many jobs of a queue are received and haven't ended.
 pub fn listed<J: ToldJobs>(jobs: &J, queue: u32) -> usize
     ensures { result ≡ length (C.listed J.Job.told queue (J.jobs jobs.now)) }
@@ -98,22 +107,22 @@ fn put_head(
     text: &mut Vec<u8>,
     name: &[u8],
     jobs: usize,
-    printers: usize,
-    stopped: usize,
+    printers: Printers,
 ) -> Result<(), AllocError>
     ensures { OnOk result (text.new.items ≡ text.old.items
-        ++ T.queue_line name.now jobs printers stopped) }
+        ++ T.queue_line name.now jobs printers.serving printers.stopped) }
 {
+    let Printers { serving, stopped } = printers;
     put_word(text, b"queue ".as_slice(), name)?;
     put_count(alloc, text, b" jobs ".as_slice(), jobs as u128)?;
-    put_count(alloc, text, b" printers ".as_slice(), printers as u128)?;
+    put_count(alloc, text, b" printers ".as_slice(), serving as u128)?;
     put_count(alloc, text, b" stopped ".as_slice(), stopped as u128)?;
     text.push(b'\n')?;
     Ok(())
 }
 
-/// What a queue's state is answered with, where the queue has this name, so many printers serve it and so many of them are
-/// stopped: a line for the queue, and then its listing.
+/// What a queue's state is answered with, where the queue has this name and these printers: a line for the queue, and then
+/// its listing.
 ///
 /// AllocError where memory for it is refused.
 pub fn state_text<J: ToldJobs>(
@@ -121,24 +130,16 @@ pub fn state_text<J: ToldJobs>(
     jobs: &J,
     queue: u32,
     name: &[u8],
-    printers: usize,
-    stopped: usize,
+    printers: Printers,
     list: &[Octets],
     long: bool,
 ) -> Result<Vec<u8>, AllocError>
     ensures { IfOk result (λ text. text.items
-        ≡ T.state_text J.Job.told queue name.now printers stopped list.now long
+        ≡ T.state_text J.Job.told queue name.now printers.serving printers.stopped list.now long
         (J.jobs jobs.now)) }
 {
     let mut text = Vec::new(alloc);
-    put_head(
-        alloc,
-        &mut text,
-        name,
-        listed(jobs, queue),
-        printers,
-        stopped,
-    )?;
+    put_head(alloc, &mut text, name, listed(jobs, queue), printers)?;
     put_listing(alloc, &mut text, jobs, queue, list, long)?;
     Ok(text)
 }
