@@ -52,9 +52,19 @@ impl ToldJob for Job {
 }
 
 impl ToldJobs for State {
+    ghost use Rattle.std.specs.Prelude.{map};
+    ghost use Rattle.spool_history.specs.Now as N;
+    ghost use Rattle.spool_history.specs.Told.{told_of};
+    ghost use Rattle.account.specs.declared.entry.Outline.{Outline};
+    ghost use Rattle.history_reader.specs.Seen.{job_seen};
+
     type Job = Job;
 
-    ghost jobs = { λ v. v.jobs.items };
+    ghost Known = { N.Job Outline };
+
+    ghost told = { told_of };
+
+    ghost jobs = { λ v. map job_seen v.jobs.items };
 
     fn len(&self) -> usize {
         self.jobs.len()

@@ -1,8 +1,9 @@
 -- The jobs of a book, by what is known of each.
-use Rattle.std.proofs.Common.{◌≡◌, ℕ, ◌<◌, ◌≤◌, Bool, List, [], ◌∷◌, length, get_or, map, take, sym, ◌∙◌, arith}
+use Rattle.std.proofs.Common.{◌≡◌, ℕ, ◌<◌, ◌≤◌, Bool, List, [], ◌∷◌, length, get_or, map, take, sym, ◌∙◌, ap, arith}
 use Rattle.std.specs.Prelude.{Option, Some, None}
-use Rattle.std.specs.List.{flat_map}
-use Rattle.std.proofs.lemmas.List.{get_or_default, take_all}
+use Rattle.std.specs.List.{flat_map, slice_get}
+use Rattle.std.proofs.lemmas.Option.{slice_get-get_or}
+use Rattle.std.proofs.lemmas.List.{take_all}
 use Rattle.std.proofs.lemmas.List.Concat.{flat_map_single}
 use Rattle.told_jobs.specs.Jobs as J
 use Rattle.held_jobs.specs.Jobs.{Facts}
@@ -14,11 +15,11 @@ use Rattle.queues.proofs.Firsts.{facts_at, facts_len}
 pub known_at : (b : Books) (i : ℕ) (j : Facts) → i < length b.jobs → j ≡ (job_at b i).facts → get_or (facts_in b.jobs) i no_facts ≡ j
 known_at b i j lt e = facts_at b.jobs i lt ∙ sym e
 
--- whatever would stand past the last
-pub stands_at : (b : Books) (i : ℕ) (j : Facts) → i < length b.jobs → j ≡ (job_at b i).facts → (no_job : Facts) → j ≡ get_or (facts_in b.jobs) i no_job
-stands_at b i j lt e no_job =
+-- which is there
+pub stands_at : (b : Books) (i : ℕ) (j : Facts) → i < length b.jobs → j ≡ (job_at b i).facts → slice_get (facts_in b.jobs) i ≡ Some j
+stands_at b i j lt e =
     let n = facts_len b.jobs in
-    sym (get_or_default (facts_in b.jobs) i no_job no_facts (omega (arith, n, lt)) ∙ known_at b i j lt e)
+    slice_get-get_or (facts_in b.jobs) i no_facts (omega (arith, n, lt)) ∙ ap Some (known_at b i j lt e)
 
 -- all jobs, once the last was passed
 pub all_taken : (b : Books) (i n : ℕ) → n ≡ length b.jobs → n ≤ i → take i (facts_in b.jobs) ≡ facts_in b.jobs

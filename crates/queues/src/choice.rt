@@ -14,9 +14,15 @@ use std::alloc::AllocError;
 use told_jobs::{ToldJobs, active, is_picked, listed, may_remove};
 
 impl ToldJobs for Book {
+    ghost use Rattle.held_jobs.specs.Jobs.{Facts};
+    ghost use Rattle.held_jobs.specs.Told.{told_in};
     ghost use Rattle.held_jobs.specs.Turns.{facts_in};
 
     type Job = Job;
+
+    ghost Known = { Facts };
+
+    ghost told = { told_in };
 
     ghost jobs = { λ b. facts_in b.jobs };
 

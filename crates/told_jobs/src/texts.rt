@@ -22,7 +22,7 @@ pub struct Printers {
 
 /// How many jobs of a queue are received and haven't ended.
 pub fn listed<J: ToldJobs>(jobs: &J, queue: u32) -> usize
-    ensures { result ≡ length (C.listed J.Job.told queue (J.jobs jobs.now)) }
+    ensures { result ≡ length (C.listed J.told queue (J.jobs jobs.now)) }
 {
     let mut count = 0;
     for i in 0..jobs.len() {
@@ -35,7 +35,7 @@ pub fn listed<J: ToldJobs>(jobs: &J, queue: u32) -> usize
 
 /// The place of the job of a queue that is being printed and was accepted first.
 pub fn active<J: ToldJobs>(jobs: &J, queue: u32) -> Option<usize>
-    ensures { FirstOf (λ job. C.is_active queue (J.Job.told job)) (J.jobs jobs.now) result }
+    ensures { FirstOf (λ job. C.is_active queue (J.told job)) (J.jobs jobs.now) result }
 {
     for i in 0..jobs.len() {
         if is_active(queue, jobs.job(i)) {
@@ -74,7 +74,7 @@ fn put_listing<J: ToldJobs>(
     long: bool,
 ) -> Result<(), AllocError>
     ensures { OnOk result (text.new.items ≡ text.old.items
-        ++ T.listing J.Job.told queue list.now long (J.jobs jobs.now)) }
+        ++ T.listing J.told queue list.now long (J.jobs jobs.now)) }
 {
     for i in 0..jobs.len() {
         put_where_shown(alloc, text, queue, list, long, jobs.job(i))?;
@@ -94,7 +94,7 @@ pub fn listing<J: ToldJobs>(
     long: bool,
 ) -> Result<Vec<u8>, AllocError>
     ensures { IfOk result (λ text. text.items
-        ≡ T.listing J.Job.told queue list.now long (J.jobs jobs.now)) }
+        ≡ T.listing J.told queue list.now long (J.jobs jobs.now)) }
 {
     let mut text = Vec::new(alloc);
     put_listing(alloc, &mut text, jobs, queue, list, long)?;
@@ -135,7 +135,7 @@ pub fn state_text<J: ToldJobs>(
     long: bool,
 ) -> Result<Vec<u8>, AllocError>
     ensures { IfOk result (λ text. text.items
-        ≡ T.state_text J.Job.told queue name.now printers.serving printers.stopped list.now long
+        ≡ T.state_text J.told queue name.now printers.serving printers.stopped list.now long
         (J.jobs jobs.now)) }
 {
     let mut text = Vec::new(alloc);
@@ -167,7 +167,7 @@ fn put_active<J: ToldJobs>(
     agent: &[u8],
 ) -> Result<(), AllocError>
     ensures { OnOk result (text.new.items ≡ text.old.items
-        ++ T.removed_lines J.Job.told (C.chosen J.Job.told queue agent.now [] (J.jobs jobs.now))) }
+        ++ T.removed_lines J.told (C.chosen J.told queue agent.now [] (J.jobs jobs.now))) }
 {
     let Some(i) = active(jobs, queue) else {
         return Ok(());
@@ -185,7 +185,7 @@ fn put_picked<J: ToldJobs>(
     words: &[Octets],
 ) -> Result<(), AllocError>
     ensures { OnOk result (text.new.items ≡ text.old.items
-        ++ T.removed_lines J.Job.told (C.picked J.Job.told queue agent.now words.now (J.jobs jobs.now))) }
+        ++ T.removed_lines J.told (C.picked J.told queue agent.now words.now (J.jobs jobs.now))) }
 {
     for i in 0..jobs.len() {
         let job = jobs.job(i);
@@ -203,7 +203,7 @@ fn put_removed<J: ToldJobs>(
     list: &[Octets],
 ) -> Result<(), AllocError>
     ensures { OnOk result (text.new.items ≡ text.old.items
-        ++ T.removed_lines J.Job.told (C.chosen J.Job.told queue agent.now list.now (J.jobs jobs.now))) }
+        ++ T.removed_lines J.told (C.chosen J.told queue agent.now list.now (J.jobs jobs.now))) }
 {
     match list {
         [] => put_active(text, jobs, queue, agent),
@@ -223,7 +223,7 @@ pub fn removal_text<J: ToldJobs>(
     list: &[Octets],
 ) -> Result<Vec<u8>, AllocError>
     ensures { IfOk result (λ text. text.items
-        ≡ T.removal_text J.Job.told queue agent.now list.now (J.jobs jobs.now)) }
+        ≡ T.removal_text J.told queue agent.now list.now (J.jobs jobs.now)) }
 {
     let mut text = Vec::new(alloc);
     put_removed(&mut text, jobs, queue, agent, list)?;

@@ -1,6 +1,6 @@
 //! What a text needs of a job, and of jobs.
 
-ghost use Rattle.std.specs.Prelude.{◌≡◌, ◌≤◌, ◌<◌, IfOk, MatchOption, None, Some, length, map, slice_index_or};
+ghost use Rattle.std.specs.Prelude.{◌≡◌, ◌≤◌, ◌<◌, IfOk, MatchOption, None, Some, length, map, slice_get};
 ghost use Rattle.lpd_values.specs.Choice.{is_listed};
 ghost use Rattle.lpd_values.specs.Told.{host_in, number_in, user_in};
 ghost use Rattle.control_file.specs.View.{contents};
@@ -62,12 +62,19 @@ pub trait ToldJob {
 /// Held jobs in order of acceptance.
 pub trait ToldJobs {
     ghost use Rattle.std.specs.Prelude.{List};
+    ghost use Rattle.lpd_values.specs.Told.{Told};
 
     /// One of them.
     type Job: ToldJob;
 
-    /// All of them.
-    ghost jobs: { Self → List Self.Job };
+    /// What is known of a job.
+    ghost Known: { Type 0 };
+
+    /// What is told of that.
+    ghost told: { Known → Told };
+
+    /// What is known of each.
+    ghost jobs: { Self → List Known };
 
     /// How many they are.
     fn len(&self) -> usize
@@ -76,7 +83,8 @@ pub trait ToldJobs {
     /// The job at a place.
     fn job(&self, i: usize) -> &Self::Job
         requires { i < length (jobs self.now) }
-        ensures { (no_job : Self.Job) → result.now ≡ slice_index_or (jobs self.now) i no_job };
+        ensures { ((job : Known) × (slice_get (jobs self.now) i ≡ Some job)
+            × (Self.Job.told result.now ≡ told job)) };
 }
 
 /// The job number, as its control file has it, or 0 where there is none.

@@ -27,5 +27,5 @@ returns c =
     ∙ (ap (λ n. c.new-numbers.result.items ++ cond c.may_remove.result (n ∷ []) []) c.number.ensures
     ∙ (ap (λ taken. c.new-numbers.result.items ++ cond taken (j.number ∷ []) []) c.may_remove.ensures
     ∙ (ap (λ (l : List ℕ). l ++ cond (may_remove c.args.agent.now (told_in j)) (j.number ∷ []) []) c.new-numbers.ensures.items
-    ∙ (sym (active_taken told_in (facts_in b.jobs) c.args.queue c.args.agent.now number_alone c.in-Some.i j c.in-Some.ensures (stands_at b c.in-Some.i j lt c.job-job.ensures j))
+    ∙ (sym (active_taken told_in (facts_in b.jobs) c.args.queue c.args.agent.now number_alone c.in-Some.i j c.in-Some.ensures (stands_at b c.in-Some.i j lt c.job-job.ensures))
     ∙ numbers_in (chosen told_in c.args.queue c.args.agent.now [] (facts_in b.jobs))))))

@@ -4,7 +4,6 @@ use Rattle.lpd_values.specs.Choice.{is_picked}
 use Rattle.held_jobs.specs.Jobs.{Facts}
 use Rattle.held_jobs.specs.Told.{told_in}
 use Rattle.told_jobs.proofs.Rows.{passed_more}
-use Rattle.queues.proofs.Firsts.{facts_len}
 use Rattle.queues.proofs.Lists.{all_taken, numbers_in, stands_at}
 use Rattle.held_jobs.specs.Turns.{facts_in}
 use Rattle.queues.proofs.book.Book.chosen_by.Goals as goal
@@ -16,7 +15,6 @@ pub loop-i-preserved : goal.loop-i-preserved
 loop-i-preserved c =
     let n = c.len-i-end.ensures in
     let lt = c.loop-i-test.true in
-    let m = facts_len c.args.self.now.jobs in
     let j = c.job-job.result.now in
     let p : Facts → Bool = λ x. is_picked c.args.queue c.args.agent.now c.args.words.now (told_in x) in
     let put : List ℕ → Bool → List ℕ = λ before taken. before ++ cond taken (j.number ∷ []) [] in
@@ -24,7 +22,7 @@ loop-i-preserved c =
     ∙ (ap (λ n. c.loop-i.numbers.items ++ cond c.is_picked-is_taken.result (n ∷ []) []) c.number.ensures
     ∙ (ap (put c.loop-i.numbers.items) c.is_picked-is_taken.ensures
     ∙ (ap (λ (l : List ℕ). put l (p j)) c.loop-i.invariant
-    ∙ sym (passed_more number_alone p (facts_in c.args.self.now.jobs) c.loop-i.i j j (omega arith) (stands_at c.args.self.now c.loop-i.i j (omega arith) c.job-job.ensures j)))))
+    ∙ sym (passed_more number_alone p (facts_in c.args.self.now.jobs) c.loop-i.i j (stands_at c.args.self.now c.loop-i.i j (omega arith) c.job-job.ensures)))))
 
 pub returns : goal.returns
 returns c =
