@@ -1,5 +1,7 @@
 -- Turns of a session, one after another.
-use Rattle.std.proofs.Common.{◌≡◌, inr, ℕ, All, List, [], ◌∷◌, ◌++◌, Some, None, map, refl, sym, subst, ap, ◌∙◌, append-nil}
+use Rattle.std.proofs.Common.{◌≡◌, IfErr, IfOk, inr, ℕ, All, List, [], ◌∷◌, ◌++◌, Some, None, map, refl, sym, subst, ap, ◌∙◌, append-nil}
+use Rattle.std.specs.Global.{Global}
+use Rattle.std.specs.Prelude.{Result, Ok, Err, String, string_bytes}
 use Rattle.std.specs.List.{flat_map}
 use Rattle.std.proofs.lemmas.Grind.{flat_map-append}
 use Rattle.std.proofs.lemmas.List.Elements.{All-nil, All-push}
@@ -9,11 +11,14 @@ use Rattle.spool_trace.specs.declared.step.Step.TheVariants as step
 use Rattle.spool_trace.specs.Trace.{Trace, written_by}
 use Rattle.spool_world.specs.Runs.{told}
 use Rattle.spool_world.specs.Worlds.{Leads, Steps, entry}
+use Rattle.script_lines.specs.declared.script.ScriptLine.{ScriptLine}
 use Rattle.script_lines.specs.declared.script.ScriptLine.TheVariants as line
 use Rattle.script_lines.specs.declared.texts.Stop.{Stop}
 use Rattle.script_lines.specs.Texts as T
+use Rattle.lpd_script.specs.declared.runner.NotRun.{NotRun}
+use Rattle.lpd_script.specs.declared.runner.NotRun.TheVariants.{Memory, NamesNothing}
 use Rattle.lpd_script.specs.declared.runner.Runner.{Runner}
-use Rattle.lpd_script.specs.Runner.{Ran, WentOn}
+use Rattle.lpd_script.specs.Runner.{Ran, Runs, WentOn}
 use Rattle.lpd_script.specs.Steps.{stop_of, turns_for}
 
 -- one more turn
@@ -112,3 +117,10 @@ sent {session = session} {octets = octets} {first = first} next config hosts arr
       w.leads (entry (step.Turn session) (Turned first) ∷ entry (step.Arrive session octets) Taken ∷ t)
       (turn (entry (step.Arrive session octets) Taken ∷ t) (arrive t l).1).1;
 }
+
+-- a line that isn't run only for want of memory
+pub runs : (old new : Runner) (line : ScriptLine) (result : Result (String Global) NotRun) → IfOk result (λ text. Ran old line (string_bytes text) new) → IfErr result (λ why. why ≡ Memory) → Runs old line result new
+runs old new line (Ok text) ran short = ran
+runs old new line (Err why) ran short = λ names.
+    let other : Memory ≡ NamesNothing = sym short ∙ names in
+    cc

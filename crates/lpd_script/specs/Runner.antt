@@ -1,5 +1,6 @@
 -- What the lines of a script do to a world and the hosts that connected to it.
-use Rattle.std.specs.Prelude.{◌≡◌, ◌⊎◌, ℕ, List, ◌∷◌, map}
+use Rattle.std.specs.Prelude.{◌≡◌, ◌⊎◌, ℕ, List, MatchResult, Result, String, ◌∷◌, map, string_bytes}
+use Rattle.std.specs.Global.{Global}
 use Rattle.spool_trace.specs.declared.reply.Deed.{Deed}
 use Rattle.spool_trace.specs.declared.reply.Reply.{Reply}
 use Rattle.spool_trace.specs.declared.reply.Reply.TheVariants.{Turned}
@@ -13,6 +14,8 @@ use Rattle.script_lines.specs.Grammar.{Means, MeansNothing}
 use Rattle.script_lines.specs.Texts as T
 use Rattle.lpd_script.specs.Scripts.{NamesNothing}
 use Rattle.lpd_script.specs.Steps.{AreTurns, Tells, after, hosts_after, turns_for}
+use Rattle.lpd_script.specs.declared.runner.NotRun.{NotRun}
+use Rattle.lpd_script.specs.declared.runner.NotRun.TheVariants.{NamesNothing as LacksName}
 use Rattle.lpd_script.specs.declared.runner.Runner.{Runner}
 
 -- A line of this meaning was run, and it prints this: of every trace that leads to where the world was.
@@ -39,6 +42,11 @@ pub record WentOn (old : Runner) (session : ℕ) (first : Deed) (text : List ℕ
 -- the line names a session or a printer that isn't there
 abbrev pub Misses : Runner → ScriptLine → Type 0
 Misses old line = (t : Trace) → Leads t old.world → NamesNothing old.world.core.config t line
+
+-- a line was run and prints the text that it came to, and where it wasn't run for naming nothing, it does that
+abbrev pub Runs : Runner → ScriptLine → Result (String Global) NotRun → Runner → Type 0
+Runs old line result new =
+    MatchResult result (λ text. Ran old line (string_bytes text) new) (λ why. why ≡ LacksName → Misses old line)
 
 -- a line of text was run
 abbrev pub RanText : Runner → List ℕ → List ℕ → Runner → Type 0

@@ -1,8 +1,8 @@
 -- What is told of faults.
 use Rattle.std.specs.Prelude.{◌⊎◌, ◌++◌, ◌∷◌, ℕ, List, [], Option, Some, None, codes}
 use Rattle.lpd_commands.specs.Ends.{Writes}
-use Rattle.lpd_script.specs.declared.fault_name.FaultName.{FaultName}
-use Rattle.lpd_script.specs.declared.fault_name.FaultName.TheVariants.{Memory, BadScript, ReadFile, Network, WriteFile}
+use Rattle.lpd_script.specs.declared.fault.FaultName.{FaultName}
+use Rattle.lpd_script.specs.declared.fault.FaultName.TheVariants.{Memory, BadScript, ReadFile, Network, WriteFile}
 
 -- the word fault, the number and the name
 abbrev pub fault_text : FaultName → List ℕ

@@ -2,19 +2,11 @@
 #![tactic(auto)]
 
 mod fault;
-mod fault_name;
 mod hosts;
-mod printers;
-mod reader;
 mod run;
 mod runner;
-mod telling;
-mod turns;
-mod writer;
+mod streams;
 
-pub use fault::Fault;
-pub use fault_name::FaultName;
-pub use reader::StreamReader;
+pub use fault::{Fault, FaultName, tell};
 pub use run::{read_all, run_input, run_parts};
-pub use telling::tell;
-pub use writer::StreamWriter;
+pub use streams::{StreamReader, StreamWriter};

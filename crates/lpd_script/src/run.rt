@@ -5,7 +5,7 @@ ghost use Rattle.lpd_commands.specs.Ends.{MakesAtMost, Writes, most_reads};
 ghost use Rattle.spool_world.specs.Worlds.{Leads};
 ghost use Rattle.lpd_script.specs.declared.fault.Fault.TheVariants.{BadScript, Config, Memory, ReadFile, WriteFile};
 ghost use Rattle.lpd_script.specs.Config.{TellsConfig};
-ghost use Rattle.lpd_script.specs.Ends.{Collects, Prints, RunsAll, RunsParts, RunsText, RunsTo};
+ghost use Rattle.lpd_script.specs.Ends.{Collects, Prints, RunsAll, RunsParts, RunsTo};
 ghost use Rattle.lpd_script.specs.Parts.{AreParts, IsCut};
 ghost use Rattle.lpd_script.specs.Runner.{CannotRun, RanText};
 ghost use Rattle.lpd_script.specs.Scripts.{RunsScript};
@@ -16,9 +16,8 @@ ghost use Rattle.spool_config.specs.declared.settings.ConfigFault.TheVariants.{M
 ghost use Rattle.lpd_script.specs.Streams.{HasGivenAll, HasGivenUp, IsReadOut, IsReadOutAfter, IsUnread};
 ghost use Rattle.lpd_script.specs.Streams.{IsUntouched, IsReadingFault, write_faults};
 
-use crate::fault::Fault;
+use crate::fault::{Fault, tell};
 use crate::runner::{NotRun, Runner};
-use crate::telling::tell;
 use lpd_commands::{OctetRead, OctetWrite, write_all};
 use script_lines::{LineFault, parse_line};
 use std::alloc::Global;
@@ -88,7 +87,8 @@ fn run_all<R: OctetRead, W: OctetWrite>(
     ensures reads { MakesAtMost most_reads (R.reads input.old) (R.reads input.new) }
 {
     let all = read_all(alloc, input)?;
-    run_text(alloc, all.as_slice(), output)
+    let (config, script) = parts(all.as_slice());
+    run_parts(alloc, config, script, output)
 }
 
 /// All octets of the input. Answers `ReadFile` where a read fails or the input doesn't end in 4,294,967,295 reads, and
@@ -115,16 +115,6 @@ pub fn read_all<R: OctetRead>(alloc: Global, input: &mut R) -> Result<Vec<u8>, F
         all.extend_from_slice(&piece[..count])?;
     }
     Err(Fault::ReadFile)
-}
-
-/// Runs the script of a text on the spool that its configuration gives.
-fn run_text<W: OctetWrite>(alloc: Global, text: &[u8], output: &mut W) -> Result<(), Fault>
-    ensures write_fault { W.faults output.new ≡ write_faults (W.faults output.old) result }
-    ensures read { result ≢ Err ReadFile }
-    ensures ran { RunsText text.now (W.written output.old) (W.written output.new) result }
-{
-    let (config, script) = parts(text);
-    run_parts(alloc, config, script, output)
 }
 
 /// Runs a script, the whole text, on the spool that a configuration gives, the whole text. Answers the first fault: of
