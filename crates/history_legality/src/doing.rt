@@ -178,10 +178,7 @@ fn may_control(job: &Job, control: &Control, whole: bool) -> bool
         ↔ L.IsReceiving (job_seen job.now) × ((job_seen job.now).control ≡ None)
         × (whole ≡ A.is_whole (Some (contents control.now)) (job_seen job.now).files) }
 {
-    if job.control.is_some() {
-        return false;
-    }
-    is_receiving(job) && whole == is_whole_by_control(job, control)
+    job.control.is_none() && is_receiving(job) && whole == is_whole_by_control(job, control)
 }
 
 /// Whether a job may be aborted.

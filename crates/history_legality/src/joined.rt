@@ -25,12 +25,7 @@ fn is_done(entries: &[Entry], job: u64) -> bool
         Entry::AtPrinter(_, sheet, Turn::Printed(Progress::Done)) => {
             sheet.job == job || is_done(before, job)
         }
-        Entry::AtPrinter(_, _, _)
-        | Entry::Opened(_, _, _)
-        | Entry::OfJob(_, _)
-        | Entry::Removed(_, _)
-        | Entry::Started(_)
-        | Entry::Closed => is_done(before, job),
+        _ => is_done(before, job),
     }
 }
 
@@ -171,11 +166,7 @@ fn may_leave(
     if job.handed == 0 {
         return Ok(true);
     }
-    if !job.is_received() {
-        return Ok(false);
-    }
-    let is_behind = has_held_before(alloc, entries, opening.job, jobs)?;
-    Ok(!is_behind)
+    Ok(job.is_received() && !has_held_before(alloc, entries, opening.job, jobs)?)
 }
 
 /// Whether as many pages of each of some jobs were handed as a join of these jobs allows.

@@ -70,10 +70,7 @@ pub(crate) fn beyond(config: &Config, total: u128, claims: &[Claim], kind: usize
 fn amount_at(amounts: &[u128], kind: usize) -> u128
     ensures { result ≡ amount amounts.now kind }
 {
-    match amounts.get(kind) {
-        Some(n) => *n,
-        None => 0,
-    }
+    amounts.get(kind).copied().unwrap_or(0)
 }
 
 /// Whether what a claim needs is free, where these others gave back what they held.

@@ -57,10 +57,7 @@ fn pages_needed(config: &Config, job: &Job, granted: u128) -> u128
 fn printers_needed(job: &Job) -> u128
     ensures { result ≡ N.printers_needed (job_seen job.now) }
 {
-    if job.ended {
-        return 0;
-    }
-    if job.handed == 0 { 1 } else { 0 }
+    if job.ended || job.handed != 0 { 0 } else { 1 }
 }
 
 /// What a job holds and may still need, where so many pages were lent to it, and one is lent now or not.

@@ -43,7 +43,7 @@ fn may_hand(
 {
     match next_page(alloc, config, state, printer)? {
         Next::Hands(next) => Ok(is_same_sheet(&next, sheet)),
-        Next::Nothing | Next::Stops | Next::Busy | Next::Over => Ok(false),
+        _ => Ok(false),
     }
 }
 
@@ -62,24 +62,12 @@ fn progress_of(alloc: Global, job: &Job) -> Result<Progress, AllocError>
     }
 }
 
-/// Whether the same is said.
-fn is_same_progress(a: Progress, b: Progress) -> bool
-    ensures { IsTrue result ↔ progress_seen a ≡ progress_seen b }
-{
-    match a {
-        Progress::Going => matches!(b, Progress::Going),
-        Progress::Done => matches!(b, Progress::Done),
-        Progress::Ended => matches!(b, Progress::Ended),
-    }
-}
-
 /// Whether this is said of a job when a page of it was printed.
 fn makes(alloc: Global, job: &Job, progress: Progress) -> Result<bool, AllocError>
     ensures { IfOk result (λ b. IsTrue b ↔ progress_seen progress
         ≡ L.progress_of (job_seen job.now)) }
 {
-    let made = progress_of(alloc, job)?;
-    Ok(is_same_progress(progress, made))
+    Ok(progress == progress_of(alloc, job)?)
 }
 
 /// Whether this is said of a job of this number when a page of it was printed.

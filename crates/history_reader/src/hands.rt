@@ -136,23 +136,6 @@ fn hand_of(alloc: Global, job: &Job) -> Result<Next, AllocError>
     Ok(hand_after(job.number, job.handed, places.as_slice(), job.handed))
 }
 
-/// What a printer gets that serves these jobs.
-fn next_at(alloc: Global, jobs: &[Job], printer: Printer) -> Result<Next, AllocError>
-    ensures { IfOk result (λ n. next_seen n
-        ≡ X.next_at (map job_seen jobs.now) (printer_seen printer)) }
-{
-    if printer.stopped {
-        return Ok(Next::Stops);
-    }
-    if printer.out.is_some() {
-        return Ok(Next::Busy);
-    }
-    match turn_of(jobs, printer.queue, printer.began) {
-        Some(job) => hand_of(alloc, job),
-        None => Ok(Next::Nothing),
-    }
-}
-
 /// What a printer that asks for a page gets where a spool stands like this.
 pub fn next_page(
     alloc: Global,
@@ -166,9 +149,15 @@ pub fn next_page(
     if state.closed {
         return Ok(Next::Over);
     }
-    next_at(
-        alloc,
-        state.jobs.as_slice(),
-        printer_numbered(state, printer),
-    )
+    let printer = printer_numbered(state, printer);
+    if printer.stopped {
+        return Ok(Next::Stops);
+    }
+    if printer.out.is_some() {
+        return Ok(Next::Busy);
+    }
+    match turn_of(state.jobs.as_slice(), printer.queue, printer.began) {
+        Some(job) => hand_of(alloc, job),
+        None => Ok(Next::Nothing),
+    }
 }

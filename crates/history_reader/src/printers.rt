@@ -18,20 +18,10 @@ fn out_at(entries: &[Entry], printer: u32) -> Option<Sheet>
         return None;
     };
     match entry {
-        Entry::AtPrinter(at, sheet, turn) => {
-            if *at != printer {
-                out_at(before, printer)
-            } else if turn.is_handed() {
-                Some(*sheet)
-            } else {
-                None
-            }
+        Entry::AtPrinter(at, sheet, turn) if *at == printer => {
+            turn.is_handed().then_some(*sheet)
         }
-        Entry::Opened(_, _, _)
-        | Entry::OfJob(_, _)
-        | Entry::Removed(_, _)
-        | Entry::Started(_)
-        | Entry::Closed => out_at(before, printer),
+        _ => out_at(before, printer),
     }
 }
 
@@ -43,18 +33,8 @@ fn began_at(entries: &[Entry], printer: u32) -> Option<u64>
         return None;
     };
     match entry {
-        Entry::AtPrinter(at, sheet, turn) => {
-            if *at == printer && turn.is_handed() {
-                Some(sheet.job)
-            } else {
-                began_at(before, printer)
-            }
-        }
-        Entry::Opened(_, _, _)
-        | Entry::OfJob(_, _)
-        | Entry::Removed(_, _)
-        | Entry::Started(_)
-        | Entry::Closed => began_at(before, printer),
+        Entry::AtPrinter(at, sheet, turn) if *at == printer && turn.is_handed() => Some(sheet.job),
+        _ => began_at(before, printer),
     }
 }
 
@@ -70,8 +50,7 @@ fn is_stopped_at(base: &Base, entries: &[Entry], queue: u32, printer: u32) -> bo
             (*at == printer && turn.is_failed()) || is_stopped_at(base, before, queue, printer)
         }
         Entry::Started(started) => *started != queue && is_stopped_at(base, before, queue, printer),
-        Entry::Opened(_, _, _) | Entry::OfJob(_, _) | Entry::Removed(_, _) | Entry::Closed =>
-            is_stopped_at(base, before, queue, printer),
+        _ => is_stopped_at(base, before, queue, printer),
     }
 }
 
@@ -82,14 +61,7 @@ pub fn is_closed(base: &Base, entries: &[Entry]) -> bool
     let Some((entry, before)) = entries.split_first() else {
         return base.closed;
     };
-    match entry {
-        Entry::Closed => true,
-        Entry::Opened(_, _, _)
-        | Entry::OfJob(_, _)
-        | Entry::AtPrinter(_, _, _)
-        | Entry::Removed(_, _)
-        | Entry::Started(_) => is_closed(base, before),
-    }
+    matches!(entry, Entry::Closed) || is_closed(base, before)
 }
 
 /// What a history says of the printer of this number.

@@ -37,10 +37,7 @@ pub fn all_begun(names: &[FileName], files: &[File]) -> bool
     ensures { result
         ≡ list_all (λ name. is_among name (A.names_in (map file_seen files.now))) names.now }
 {
-    let Some((first, rest)) = names.split_first() else {
-        return true;
-    };
-    is_begun(first, files) && all_begun(rest, files)
+    names.iter().all(|name| is_begun(name, files))
 }
 
 /// Puts the pages of a file behind these places, where the first of them has this number.

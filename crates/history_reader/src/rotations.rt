@@ -18,11 +18,7 @@ fn count_stopped(printers: &[Printer]) -> u64
         ≡ count_by (λ (p : N.Printer Outline). p.stopped) (map printer_seen printers.now) }
     ensures within { result ≤ length printers.now }
 {
-    let Some((first, rest)) = printers.split_first() else {
-        return 0;
-    };
-    let others = count_stopped(rest);
-    if first.stopped { others + 1 } else { others }
+    printers.iter().filter(|printer| printer.stopped).count() as u64
 }
 
 /// Puts behind these whether each printer is stopped.
