@@ -18,11 +18,13 @@ fn put_number(alloc: Global, text: &mut Vec<u8>, number: u128) -> Result<(), All
     Ok(())
 }
 
-/// Puts a job number in three digits behind a text.
-fn put_three_digits(text: &mut Vec<u8>, number: u16) -> Result<(), AllocError>
+/// Puts a job number in three digits and these octets before it behind a text.
+fn put_job_number(text: &mut Vec<u8>, before: &[u8], number: u16) -> Result<(), AllocError>
     requires { number ≤ 999 }
-    ensures { OnOk result (text.new.items ≡ text.old.items ++ T.three_digits number) }
+    ensures { OnOk result (text.new.items
+        ≡ text.old.items ++ before.now ++ T.three_digits number) }
 {
+    text.extend_from_slice(before)?;
     text.push(b'0' + (number / 100) as u8)?;
     text.push(b'0' + (number / 10 % 10) as u8)?;
     text.push(b'0' + (number % 10) as u8)?;
@@ -51,24 +53,22 @@ pub(crate) fn put_count(
     put_number(alloc, text, count)
 }
 
-/// Puts whether a job is begun behind a text, of which so many places were handed out.
-fn put_stage(text: &mut Vec<u8>, handed: u64) -> Result<(), AllocError>
-    ensures { OnOk result (text.new.items ≡ text.old.items ++ T.stage_word handed) }
+/// What the line of a job begins with of which so many places were handed out.
+fn stage_word(handed: u64) -> &'static [u8]
+    ensures { result.now ≡ T.stage_word handed }
 {
     if handed == 0 {
-        text.extend_from_slice(b"waiting ".as_slice())?;
+        b"waiting ".as_slice()
     } else {
-        text.extend_from_slice(b"active ".as_slice())?;
+        b"active ".as_slice()
     }
-    Ok(())
 }
 
 /// Puts the line of a job behind a text.
 fn put_job_line<J: ToldJob>(alloc: Global, text: &mut Vec<u8>, job: &J) -> Result<(), AllocError>
     ensures { OnOk result (text.new.items ≡ text.old.items ++ T.job_line (J.told job.now)) }
 {
-    put_stage(text, job.handed())?;
-    put_three_digits(text, number_of(job))?;
+    put_job_number(text, stage_word(job.handed()), number_of(job))?;
     put_word(text, b" ".as_slice(), user_of(job))?;
     put_word(text, b" ".as_slice(), host_of(job))?;
     put_count(alloc, text, b" pages ".as_slice(), job.left(alloc)?)?;
@@ -150,8 +150,7 @@ pub(crate) fn put_job_lines<J: ToldJob>(
 pub(crate) fn put_removed_line<J: ToldJob>(text: &mut Vec<u8>, job: &J) -> Result<(), AllocError>
     ensures { OnOk result (text.new.items ≡ text.old.items ++ T.removed_line (J.told job.now)) }
 {
-    text.extend_from_slice(b"removed ".as_slice())?;
-    put_three_digits(text, number_of(job))?;
+    put_job_number(text, b"removed ".as_slice(), number_of(job))?;
     put_word(text, b" ".as_slice(), user_of(job))?;
     text.push(b'\n')?;
     Ok(())

@@ -1,6 +1,4 @@
-use Rattle.std.proofs.Common.{◌∙◌, ◌++◌, [], ap, sym, List, ℕ, cond}
 use Rattle.std.proofs.lemmas.List.{append_assoc}
-use Rattle.lpd_values.specs.Told.{Told}
 use Rattle.lpd_values.specs.Choice.{is_shown}
 use Rattle.lpd_values.specs.Texts.{job_lines}
 use Rattle.told_jobs.proofs.Rows.{passed_more}
@@ -8,12 +6,6 @@ use Rattle.told_jobs.proofs.texts.put_listing.Goals as goal
 
 pub loop-i-preserved : goal.loop-i-preserved
 loop-i-preserved g c =
-    let before = c.args.text.now.items in
     let told = g.J.ToldJobs.told in
-    let lines : Told → List ℕ = λ t. cond (is_shown c.args.queue c.args.list.now t) (job_lines c.args.long t) [] in
     let more = passed_more (λ j. job_lines c.args.long (told j)) (λ j. is_shown c.args.queue c.args.list.now (told j)) (g.J.ToldJobs.jobs c.args.jobs.now) c.loop-i.i c.job.ensures.0 c.job.ensures.1 in
-    c.in_ok-put_where_shown.ensures
-    ∙ (ap (λ t. c.loop-i.text.items ++ lines t) c.job.ensures.2
-    ∙ (ap (λ (l : List ℕ). l ++ lines (told c.job.ensures.0)) c.loop-i.invariant
-    ∙ (append_assoc before _ (lines (told c.job.ensures.0))
-    ∙ ap (λ (l : List ℕ). before ++ l) (sym more))))
+    rw (c.in_ok-put_where_shown.ensures, c.job.ensures.2, c.loop-i.invariant, more) (simp append_assoc)

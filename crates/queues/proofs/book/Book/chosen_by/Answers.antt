@@ -1,4 +1,4 @@
-use Rattle.std.proofs.Common.{◌∙◌, ◌∷◌, ◌++◌, [], ap, sym, arith, List, ℕ, Bool, cond, filter}
+use Rattle.std.proofs.Common.{◌∙◌, ◌∷◌, [], ap, arith, refl, List, ℕ, Bool, filter}
 use Rattle.std.specs.List.{flat_map}
 use Rattle.lpd_values.specs.Choice.{is_picked}
 use Rattle.held_jobs.specs.Jobs.{Facts}
@@ -16,13 +16,10 @@ loop-i-preserved c =
     let n = c.len-i-end.ensures in
     let lt = c.loop-i-test.true in
     let j = c.job-job.result.now in
+    let b = c.args.self.now in
     let p : Facts → Bool = λ x. is_picked c.args.queue c.args.agent.now c.args.words.now (told_in x) in
-    let put : List ℕ → Bool → List ℕ = λ before taken. before ++ cond taken (j.number ∷ []) [] in
-    c.in_ok-put_where_taken.ensures
-    ∙ (ap (λ n. c.loop-i.numbers.items ++ cond c.is_picked-is_taken.result (n ∷ []) []) c.number.ensures
-    ∙ (ap (put c.loop-i.numbers.items) c.is_picked-is_taken.ensures
-    ∙ (ap (λ (l : List ℕ). put l (p j)) c.loop-i.invariant
-    ∙ sym (passed_more number_alone p (facts_in c.args.self.now.jobs) c.loop-i.i j (stands_at c.args.self.now c.loop-i.i j (omega arith) c.job-job.ensures)))))
+    let more = passed_more number_alone p (facts_in b.jobs) c.loop-i.i j (stands_at b c.loop-i.i j (omega arith) c.job-job.ensures) in
+    rw (c.in_ok-put_where_taken.ensures, c.number.ensures, c.is_picked-is_taken.ensures, c.loop-i.invariant, more) refl
 
 pub returns : goal.returns
 returns c =
