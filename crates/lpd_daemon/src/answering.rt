@@ -3,11 +3,11 @@
 ghost use Rattle.std.specs.Prelude.{◌≡◌, option_map};
 ghost use Rattle.lpd_daemon.specs.Ends.{failure_text};
 
-use crate::posts::{Meter, Posts};
+use crate::posts::Posts;
 use log::{Log, warn};
 use lpd_script::{StreamReader, StreamWriter};
 use mio::Waker;
-use server_edge::{Desk, Kind, Served, Visit, keep_asking};
+use server_edge::{Desk, Served, Visit, keep_asking};
 use session::{SessionEnd, SessionSeat, SharedSpool};
 use shared_spool::SpoolLedger;
 use std::alloc::Global;
@@ -42,7 +42,7 @@ const KEEPALIVE: u8 = 30;
 /// Where sessions get their connections, and what they do with them.
 #[derive(Clone, Copy)]
 pub(crate) struct Front<'a> {
-    pub(crate) desk: &'a Desk<Visit>,
+    pub(crate) desk: &'a Desk,
     pub(crate) waker: &'a Waker,
     pub(crate) posts: &'a Posts,
     pub(crate) served: Served,
@@ -53,37 +53,18 @@ pub(crate) struct Front<'a> {
 }
 
 impl Front<'_> {
-    /// For how many seconds a peer may be silent here, or not read.
-    fn patience(&self) -> Option<Duration> {
-        let seconds = match self.served {
-            Served::All => self.silence,
-            Served::Questions => QUESTION,
-        };
-        if seconds == 0 {
-            return None;
-        }
-        Some(Duration::from_secs(seconds))
-    }
-
     /// Has octets sent at once and peers asked whether they are there, and limits how long a peer
     /// may be silent or not read.
     fn set_up(&self, stream: &TcpStream) -> io::Result<()> {
         stream.set_nodelay(true)?;
         keep_asking(stream, KEEPALIVE);
-        let limit = self.patience();
+        let limit = match self.served {
+            Served::All if self.silence == 0 => None,
+            Served::All => Some(Duration::from_secs(self.silence)),
+            Served::Questions => Some(Duration::from_secs(QUESTION)),
+        };
         stream.set_read_timeout(limit)?;
         stream.set_write_timeout(limit)
-    }
-
-    /// Sets a connection up. Where that can't be it is logged. Whether it could be.
-    fn prepare<R: Log>(&self, rt: &R, visit: &Visit) -> bool {
-        match self.set_up(&visit.stream) {
-            Ok(()) => true,
-            Err(error) => {
-                complain(rt, visit.peer, &error);
-                false
-            }
-        }
     }
 }
 
@@ -124,16 +105,6 @@ fn failure_of(end: SessionEnd) -> Option<&'static str>
     }
 }
 
-/// Logs a session that didn't end as its peer would have it.
-fn tell<R: Log>(rt: &R, peer: SocketAddr, end: SessionEnd) {
-    if let SessionEnd::Refused(refusal) = end {
-        complain(rt, peer, &refusal);
-    }
-    if let Some(why) = failure_of(end) {
-        complain(rt, peer, &why);
-    }
-}
-
 /// Serves a connection.
 fn answer<E: SpoolLedger, K: Ledger, H: Ledger, R: Clock + Wait + Log>(
     rt: &R,
@@ -143,13 +114,13 @@ fn answer<E: SpoolLedger, K: Ledger, H: Ledger, R: Clock + Wait + Log>(
     visit: &Visit,
     front: Front<'_>,
 ) -> SessionSeat<E, K, H> {
-    if !front.prepare(rt, visit) {
+    if let Err(error) = front.set_up(&visit.stream) {
+        complain(rt, visit.peer, &error);
         return seat;
     }
     let stream = &visit.stream;
     let number = seat.number();
-    front.posts.begin(rt, number, stream);
-    let meter = Meter::new(rt, stream, front.posts, number, front.slowest);
+    let meter = front.posts.begin(rt, number, stream, front.slowest);
     let mut reader = StreamReader::new(meter);
     let mut writer = StreamWriter::new(stream);
     let (seat, end) = session::serve(
@@ -162,7 +133,12 @@ fn answer<E: SpoolLedger, K: Ledger, H: Ledger, R: Clock + Wait + Log>(
         &mut writer,
     );
     front.posts.end(rt, number);
-    tell(rt, visit.peer, end);
+    if let SessionEnd::Refused(refusal) = end {
+        complain(rt, visit.peer, &refusal);
+    }
+    if let Some(why) = failure_of(end) {
+        complain(rt, visit.peer, &why);
+    }
     if matches!(end, SessionEnd::Finished | SessionEnd::Refused(_)) {
         // A peer that is gone already has lost nothing.
         let _ = take_leave(rt, stream);
@@ -180,16 +156,11 @@ pub(crate) fn answer_all<E: SpoolLedger, K: Ledger, H: Ledger, R: Clock + Wait +
 ) -> SessionSeat<E, K, H> {
     let mut seat = seat;
     for _ in rt.forever() {
-        let came = front.desk.take(rt, front.served, || {
-            let _ = front.waker.wake();
-        });
-        let Some(visit) = came else {
+        let Some(visit) = front.desk.take(rt, front.served, front.waker) else {
             break;
         };
         seat = answer(rt, alloc, spool, seat, &visit, front);
-        let (kind, host): (Kind, u32) = (visit.kind, visit.host());
-        drop(visit);
-        front.desk.leave(rt, front.served, kind, host);
+        front.desk.leave(rt, front.served, visit);
     }
     seat
 }

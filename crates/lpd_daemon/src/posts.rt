@@ -44,13 +44,29 @@ impl Posts {
         Ok(Posts { posts })
     }
 
-    /// A session serves this connection. Where the system gives no second number for it, its peer
-    /// isn't looked at.
-    pub(crate) fn begin<R: Wait>(&self, rt: &R, seat: u32, stream: &TcpStream) {
-        if let Some(post) = self.posts.get(seat as usize) {
+    /// A session serves this connection, and reads it by the meter that is answered: at 0 octets a
+    /// second no peer is too slow. Where the system gives no second number for the connection, its
+    /// peer isn't looked at.
+    pub(crate) fn begin<'a, R: Wait>(
+        &'a self,
+        rt: &'a R,
+        seat: u32,
+        stream: &'a TcpStream,
+        slowest: u64,
+    ) -> Meter<'a, R> {
+        let post = self.posts.get(seat as usize);
+        if let Some(post) = post {
             post.received.store(0, Ordering::SeqCst);
             post.last.store(0, Ordering::SeqCst);
             *post.stream.lock(rt) = stream.try_clone().ok();
+        }
+        Meter {
+            rt,
+            stream,
+            post,
+            slowest,
+            waited: 0,
+            octets: 0,
         }
     }
 
@@ -58,16 +74,6 @@ impl Posts {
     pub(crate) fn end<R: Wait>(&self, rt: &R, seat: u32) {
         if let Some(post) = self.posts.get(seat as usize) {
             *post.stream.lock(rt) = None;
-        }
-    }
-
-    /// A session has read so many octets.
-    fn count(&self, seat: u32, octets: u64) {
-        if let Some(post) = self.posts.get(seat as usize) {
-            let received = post.received.load(Ordering::SeqCst);
-            post.received
-                .store(received.saturating_add(octets), Ordering::SeqCst);
-            post.last.store(octets, Ordering::SeqCst);
         }
     }
 
@@ -102,39 +108,16 @@ impl Posts {
 pub(crate) struct Meter<'a, R> {
     rt: &'a R,
     stream: &'a TcpStream,
-    posts: &'a Posts,
-    seat: u32,
+    post: Option<&'a Post>,
     slowest: u64,
     // The milliseconds for which it was waited, and the octets that came by that.
     waited: u64,
     octets: u64,
 }
 
-impl<'a, R: Clock> Meter<'a, R> {
-    /// What the session of this seat reads of a stream. At 0 no peer is too slow.
-    pub(crate) fn new(
-        rt: &'a R,
-        stream: &'a TcpStream,
-        posts: &'a Posts,
-        seat: u32,
-        slowest: u64,
-    ) -> Meter<'a, R> {
-        Meter {
-            rt,
-            stream,
-            posts,
-            seat,
-            slowest,
-            waited: 0,
-            octets: 0,
-        }
-    }
-
+impl<R: Clock> Meter<'_, R> {
     /// The peer was waited for since this moment, and sent so many octets. Whether it is too slow.
-    fn is_slow(&mut self, start: &io::Result<Instant>, octets: u64) -> bool {
-        let Ok(start) = start else {
-            return false;
-        };
+    fn is_slow(&mut self, start: Instant, octets: u64) -> bool {
         let Ok(waited) = start.elapsed(self.rt) else {
             return false;
         };
@@ -154,17 +137,24 @@ impl<'a, R: Clock> Meter<'a, R> {
 
 impl<R: Clock> Read for Meter<'_, R> {
     fn read(&mut self, into: &mut [u8]) -> io::Result<usize> {
+        let start = if self.slowest == 0 {
+            None
+        } else {
+            Instant::now(self.rt).ok()
+        };
         let mut stream = self.stream;
-        if self.slowest == 0 {
-            let count = stream.read(into)?;
-            self.posts.count(self.seat, count as u64);
-            return Ok(count);
-        }
-        let start = Instant::now(self.rt);
         let count = stream.read(into)?;
-        self.posts.count(self.seat, count as u64);
-        if count > 0 && self.is_slow(&start, count as u64) {
-            return Err(Error::from(ErrorKind::TimedOut));
+        let octets = count as u64;
+        if let Some(post) = self.post {
+            let received = post.received.load(Ordering::SeqCst);
+            let received = received.saturating_add(octets);
+            post.received.store(received, Ordering::SeqCst);
+            post.last.store(octets, Ordering::SeqCst);
+        }
+        if let Some(start) = start {
+            if count > 0 && self.is_slow(start, octets) {
+                return Err(Error::from(ErrorKind::TimedOut));
+            }
         }
         Ok(count)
     }

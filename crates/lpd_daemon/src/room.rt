@@ -36,8 +36,10 @@ enum Hold {
 }
 
 /// Room in the account, where it is kept.
-#[derive(Drop)]
+#[derive(Clone, Copy)]
 pub(crate) struct Room {
+    /// From how many counted entries on the account is rotated.
+    pub(crate) least: u64,
     // Where more entries are counted than these, new jobs wait. With so many there is room for two
     // jobs of the largest limit in each session; or the account isn't rotated yet, where that is
     // more.
@@ -46,8 +48,7 @@ pub(crate) struct Room {
     full: u64,
     hold: Hold,
     // Since when there is no room, and when that was told last.
-    full_since: Option<Instant>,
-    told: Option<Instant>,
+    full_since: Option<(Instant, Instant)>,
 }
 
 /// How many milliseconds have passed since.
@@ -59,9 +60,9 @@ fn milliseconds_since<R: Clock>(rt: &R, start: Instant) -> u64 {
 }
 
 impl Room {
-    /// In an account of this configuration, which is rotated from so many counted entries on, where
+    /// In an account of this configuration, which is rotated once a quarter of it is counted, where
     /// so many threads serve connections that may bring a job.
-    pub(crate) fn new(config: &Config, sessions: u32, least: u64) -> Room
+    pub(crate) fn new(config: &Config, sessions: u32) -> Room
         ensures room { (queue : ℕ) → IsQueue config.now queue
             → result.full ≤ config.now.account - (reserve_of config.now queue + 1) }
     {
@@ -74,13 +75,14 @@ impl Room {
         // yet.
         let jobs = u64::from(sessions).saturating_mul(2);
         let account = u64::from(config.account());
+        let least = (account / 4).max(1);
         let most = account.saturating_sub((largest + 1).saturating_mul(jobs));
         Room {
+            least,
             most: most.max(least.saturating_sub(1)),
             full: account.saturating_sub(largest + 1),
             hold: Hold::No,
             full_since: None,
-            told: None,
         }
     }
 
@@ -88,19 +90,17 @@ impl Room {
     fn tell_full<R: Clock + Log>(&mut self, rt: &R, counted: u64) {
         if counted <= self.full {
             self.full_since = None;
-            self.told = None;
             return;
         }
         let Ok(now) = Instant::now(rt) else {
             return;
         };
-        let since = self.full_since.unwrap_or(now);
-        self.full_since = Some(since);
-        let last = self.told.unwrap_or(since);
-        if milliseconds_since(rt, last) < TELL.saturating_mul(1_000) {
+        let (since, told) = self.full_since.unwrap_or((now, now));
+        if milliseconds_since(rt, told) < TELL.saturating_mul(1_000) {
+            self.full_since = Some((since, told));
             return;
         }
-        self.told = Some(now);
+        self.full_since = Some((since, now));
         let seconds = milliseconds_since(rt, since) / 1_000;
         warn!(rt; "the account has had no room for {seconds} s: jobs are refused until no job is held");
     }

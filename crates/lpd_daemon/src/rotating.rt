@@ -3,6 +3,7 @@
 ghost use Rattle.std.specs.Prelude.{◌↔◌, IsTrue};
 ghost use Rattle.lpd_daemon.specs.Rotating.{HasTurn};
 
+use crate::room::Room;
 use log::{Log, error, warn};
 use mio::Waker;
 use shared_spool::{RotateError, Segment, SessionSeat, SharedSpool, SpoolLedger};
@@ -27,37 +28,10 @@ pub(crate) fn has_turn(every: Option<u64>, handed_on: u64) -> bool
     }
 }
 
-/// A segment of the account that was put away: its number, and its entries.
-#[derive(Clone, Copy)]
-pub(crate) struct Rotated {
-    pub(crate) number: u64,
-    pub(crate) entries: u64,
-}
-
-/// Says in a line why the account wasn't rotated. The server goes on.
-fn tell<R: Log>(rt: &R, error: RotateError) {
-    error!(rt; "fault {error}");
-}
-
-/// Waits until no job is held or a printer is stopped, and rotates the account. Where that is
-/// refused it is told, and nothing has changed.
-pub(crate) fn rotate<E: SpoolLedger, K: Ledger, H: Ledger, R: Wait + Log>(
-    rt: &R,
-    spool: &SharedSpool<E, K, H>,
-    seat: &mut SessionSeat<E, K, H>,
-    rotations: &Rotations,
-) {
-    spool.idle_wait(rt);
-    match spool.rotate(rt, seat) {
-        Ok(segment) => rotations.add(rt, &segment),
-        Err(error) => tell(rt, error),
-    }
-}
-
-/// Rotations that aren't printed yet.
+/// Rotations that aren't printed yet: of each segment that was put away its number, and its entries.
 #[derive(Drop)]
 pub(crate) struct Rotations {
-    rotated: Mutex<Vec<Rotated>>,
+    rotated: Mutex<Vec<(u64, u64)>>,
 }
 
 impl Rotations {
@@ -69,47 +43,48 @@ impl Rotations {
     }
 
     /// Those that aren't printed yet, which are taken out.
-    pub(crate) fn take<R: Wait>(&self, rt: &R, alloc: Global) -> Vec<Rotated> {
+    pub(crate) fn take<R: Wait>(&self, rt: &R, alloc: Global) -> Vec<(u64, u64)> {
         mem::replace(&mut *self.rotated.lock(rt), Vec::new(alloc))
     }
 
-    /// One more.
-    fn add<R: Log + Wait>(&self, rt: &R, segment: &Segment) {
-        let rotated = Rotated {
-            number: segment.number,
-            entries: segment.entries.len() as u64,
-        };
-        if self.rotated.lock(rt).push(rotated).is_err() {
-            warn!(rt; "memory was refused: a rotation isn't printed");
+    /// One more. Where the account wasn't rotated it is told why, and the server goes on.
+    pub(crate) fn add<R: Log + Wait>(&self, rt: &R, rotated: Result<Segment, RotateError>) {
+        match rotated {
+            Ok(segment) => {
+                let rotated = (segment.number, segment.entries.len() as u64);
+                if self.rotated.lock(rt).push(rotated).is_err() {
+                    warn!(rt; "memory was refused: a rotation isn't printed");
+                }
+            }
+            Err(error) => error!(rt; "fault {error}"),
         }
     }
 }
 
-/// Rotates the account as soon as no job is held and so many entries are counted, again and again
-/// until the spool is closed; never where there is no such number. Answers its seat.
+/// Rotates the account as soon as no job is held and so many entries are counted as its room says,
+/// again and again until the spool is closed; never where no room is kept. Answers its seat.
 pub(crate) fn keep_rotating<E: SpoolLedger, K: Ledger, H: Ledger, R: Clock + Wait + Log>(
     rt: &R,
     spool: &SharedSpool<E, K, H>,
     seat: SessionSeat<E, K, H>,
-    least: Option<u64>,
+    room: Option<Room>,
     rotations: &Rotations,
     waker: &Waker,
 ) -> SessionSeat<E, K, H> {
-    let Some(least) = least else {
+    let Some(room) = room else {
         return seat;
     };
     let mut seat = seat;
     for _ in rt.forever() {
-        match spool.rotate_wait(rt, &mut seat, least) {
-            None => break,
-            Some(Ok(segment)) => {
-                rotations.add(rt, &segment);
-                let _ = waker.wake();
-            }
-            Some(Err(error)) => {
-                tell(rt, error);
-                thread::sleep(rt, Duration::from_secs(PAUSE));
-            }
+        let Some(rotated) = spool.rotate_wait(rt, &mut seat, room.least) else {
+            break;
+        };
+        let is_refused = rotated.is_err();
+        rotations.add(rt, rotated);
+        if is_refused {
+            thread::sleep(rt, Duration::from_secs(PAUSE));
+        } else {
+            let _ = waker.wake();
         }
     }
     seat

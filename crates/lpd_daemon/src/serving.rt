@@ -3,23 +3,22 @@
 ghost use Rattle.std.specs.Prelude.{◌≡◌, ℕ, Ok, OnOk, IfErr};
 ghost use Rattle.lpd_daemon.specs.Faults.{IsOpeningFault, IsRunningFault, write_faults};
 ghost use Rattle.lpd_daemon.specs.Lines.{IsQuiet, WritesAll, line_octets};
-ghost use Rattle.lpd_daemon.specs.declared.faults.Fault.TheVariants.{Network};
 ghost use Rattle.lpd_daemon.specs.declared.lines.Line.TheVariants.{Closed};
 ghost use Rattle.lpd_commands.specs.Ends.{Writes};
 ghost use Rattle.spool_ledgers.specs.Blanks.{AreFor, mark};
 
 use crate::faults::Fault;
 use crate::lines::{Line, print};
-use crate::listening::{Porter, listen};
+use crate::listening::listen;
 use crate::posts::Posts;
 use crate::room::Room;
 use crate::sink::FileSink;
-use crate::threads::{Crew, OTHERS, QUESTIONS, Seats};
+use crate::threads::{OTHERS, QUESTIONS, Seats};
 use config_values::Config;
 use log::Log;
 use lpd_commands::OctetWrite;
 use mio::Waker;
-use server_edge::{Lobby, descriptor_limit, places};
+use server_edge::Lobby;
 use server_settings::{MOST_SESSIONS, Settings};
 use shared_spool::{Blanks, Opened, SharedSpool, SpoolLedger};
 use std::alloc::{AllocError, Global};
@@ -97,35 +96,16 @@ fn finish<E: SpoolLedger, K: Ledger, H: Ledger, W: OctetWrite>(
     print(alloc, output, Line::Closed { entries })
 }
 
-/// A lobby behind a listener, for so many connections, and what wakes its thread. So many
-/// descriptors are kept for others. Network where the system doesn't give what it takes.
-fn open_lobby<R: Net>(
-    rt: &R,
-    alloc: Global,
-    listener: TcpListener,
-    connections: Option<u64>,
-    kept: u64,
-) -> Result<(Lobby, Waker), Fault>
-    ensures { IfErr result (λ fault. fault ≡ Network) }
-{
-    let places = places(descriptor_limit(), kept).max(1);
-    match Lobby::new(rt, alloc, listener, places, connections.unwrap_or(u64::MAX)) {
-        Ok(lobby) => Ok(lobby),
-        Err(_) => Err(Fault::Network),
-    }
-}
-
-/// A server before its spool is opened.
+/// A server that listens.
 #[derive(Drop)]
-struct Server<'a, R> {
-    rt: &'a R,
-    alloc: Global,
-    settings: Settings<'a>,
-    lobby: Lobby,
-    waker: Waker,
-    posts: Posts,
-    port: u16,
-    sinks: Vec<FileSink<File>>,
+pub(crate) struct Server<'a, R> {
+    pub(crate) rt: &'a R,
+    pub(crate) alloc: Global,
+    pub(crate) settings: Settings<'a>,
+    pub(crate) lobby: Lobby,
+    pub(crate) waker: Waker,
+    pub(crate) posts: Posts,
+    pub(crate) sinks: Vec<FileSink<File>>,
 }
 
 /// Runs a server: opens the printers' files in the directory of the settings, `printer-1` and so
@@ -170,10 +150,9 @@ pub fn serve<
     let sessions = settings.sessions.clamp(1, MOST_SESSIONS) + QUESTIONS;
     let posts = Posts::new(alloc, sessions as usize)?;
     let sinks = open_sinks(rt, alloc, settings.out, config.printer_count())?;
-    let (listener, port) = listen(rt, settings)?;
     let printers = u64::from(config.printer_count());
     let kept = KEPT + printers + 2 * u64::from(sessions);
-    let (lobby, waker) = open_lobby(rt, alloc, listener, settings.connections, kept)?;
+    let (lobby, waker, port) = listen(rt, alloc, settings, kept)?;
     let blanks = Blanks::new(&config, sessions + OTHERS);
     let server = Server {
         rt,
@@ -182,15 +161,14 @@ pub fn serve<
         lobby,
         waker,
         posts,
-        port,
         sinks,
     };
-    server.run::<Brand, Brand, Brand, W>(config, sessions + OTHERS, blanks, output)
+    server.run::<Brand, Brand, Brand, W>(port, config, sessions + OTHERS, blanks, output)
 }
 
 impl<'a, R: Clock + Log + Threads + Wait + Sync> Server<'a, R> {
-    /// Runs with a spool that has so many sessions' seats: those of the sessions, and of the other
-    /// threads.
+    /// Runs at this port with a spool that has so many sessions' seats: those of the sessions, and
+    /// of the other threads.
     ///
     /// Output where a line can't be written; Memory where memory or a thread is refused.
     fn run<
@@ -198,7 +176,14 @@ impl<'a, R: Clock + Log + Threads + Wait + Sync> Server<'a, R> {
         K: Ledger + Send + Sync,
         H: Ledger + Send + Sync,
         W: OctetWrite,
-    >(self, config: Config, sessions: u32, blanks: Blanks, output: &mut W) -> Result<(), Fault>
+    >(
+        self,
+        port: u16,
+        config: Config,
+        sessions: u32,
+        blanks: Blanks,
+        output: &mut W,
+    ) -> Result<(), Fault>
         requires { AreFor blanks config sessions E.config (mark E.name E.parts)
             (mark K.name K.parts) (mark H.name H.parts) }
         ensures printed { OnOk result
@@ -206,9 +191,9 @@ impl<'a, R: Clock + Log + Threads + Wait + Sync> Server<'a, R> {
         ensures write_fault { W.faults output.new ≡ write_faults (W.faults output.old) result }
         ensures fault { IfErr result IsRunningFault }
     {
+        let room = Room::new(&config, sessions);
+        let room = self.settings.keep_room.then_some(room);
         let alloc = self.alloc;
-        let least = u64::from(config.account() / 4).max(1);
-        let room = Room::new(&config, sessions, least);
         let opened = SharedSpool::<E, K, H>::new(alloc, blanks, config, sessions);
         let Opened {
             spool,
@@ -218,33 +203,9 @@ impl<'a, R: Clock + Log + Threads + Wait + Sync> Server<'a, R> {
         let Some(seat) = sessions.pop() else {
             return Err(Fault::Memory);
         };
-        print(alloc, output, Line::Listening { port: self.port })?;
-        let Server {
-            rt,
-            settings,
-            lobby,
-            waker,
-            posts,
-            sinks,
-            ..
-        } = self;
-        let porter = Porter {
-            rt,
-            alloc,
-            spool: &spool,
-            lobby,
-            every: settings.rotate,
-            room: settings.keep_room.then_some(room),
-        };
-        let crew = Crew {
-            settings,
-            waker,
-            posts,
-            sinks,
-            seats: Seats { sessions, printers },
-            least: settings.keep_room.then_some(least),
-        };
-        let (told, seats) = crew.run(porter, seat, output);
+        print(alloc, output, Line::Listening { port })?;
+        let seats = Seats { sessions, printers };
+        let (told, seats) = self.work(&spool, seats, seat, room, output);
         finish(alloc, spool, seats, told, output)
     }
 }

@@ -1,17 +1,6 @@
 //! The threads of a server.
 
-ghost use Rattle.std.specs.Prelude.{
-  ◌≡◌,
-  ◌⊎◌,
-  ◌↔◌,
-  ◌<◌,
-  ◌^◌,
-  ◌-◌,
-  ℕ,
-  min,
-  None,
-  Some,
-};
+ghost use Rattle.std.specs.Prelude.{◌≡◌, ◌⊎◌, ◌↔◌, ◌<◌, ◌^◌, ◌-◌, ℕ, min, None, Some};
 ghost use Rattle.server_edge.specs.declared.desk.Served.TheVariants.{Questions};
 ghost use Rattle.std.specs.Thread.{IsSend};
 ghost use Rattle.lpd_daemon.specs.Lines.{TellsRotations};
@@ -19,19 +8,16 @@ ghost use Rattle.lpd_daemon.specs.Lines.{TellsRotations};
 use crate::answering::{Front, answer_all};
 use crate::faults::Fault;
 use crate::listening::{Porter, announce_all};
-use crate::posts::Posts;
+use crate::room::Room;
 use crate::rotating::{Rotations, keep_rotating};
-use crate::sink::FileSink;
+use crate::serving::Server;
 use crate::watching::watch;
 use log::Log;
 use lpd_commands::OctetWrite;
-use mio::Waker;
 use printer_worker::work;
 use server_edge::{Desk, Served};
-use server_settings::Settings;
 use shared_spool::{PrinterSeat, SessionSeat, SharedSpool, SpoolLedger};
 use std::alloc::Global;
-use std::fs::File;
 use std::rt::Clock;
 use std::sync::Wait;
 use std::sync::atomic::{AtomicBool, Ordering};
@@ -51,19 +37,6 @@ pub(crate) const OTHERS: u32 = 3;
 pub(crate) struct Seats<E: SpoolLedger, K: Ledger, H: Ledger> {
     pub(crate) sessions: Vec<SessionSeat<E, K, H>>,
     pub(crate) printers: Vec<PrinterSeat<E, K, H>>,
-}
-
-/// What the threads of a server are started with.
-pub(crate) struct Crew<'a, E: SpoolLedger, K: Ledger, H: Ledger> {
-    pub(crate) settings: Settings<'a>,
-    pub(crate) waker: Waker,
-    pub(crate) posts: Posts,
-    pub(crate) sinks: Vec<FileSink<File>>,
-    /// The last two of the sessions' seats are of who looks for peers that are gone, and of who
-    /// rotates the account.
-    pub(crate) seats: Seats<E, K, H>,
-    /// From how many counted entries on the account is rotated, where room is kept in it.
-    pub(crate) least: Option<u64>,
 }
 
 /// Which connections the session of this seat serves.
@@ -89,18 +62,6 @@ fn most_of(per_host: Option<u64>) -> u32
     }
 }
 
-/// Has a printer's pages written to its file, until the spool is closed.
-fn print_all<R: Wait, E: SpoolLedger, K: Ledger, H: Ledger>(
-    rt: &R,
-    spool: &SharedSpool<E, K, H>,
-    seat: PrinterSeat<E, K, H>,
-    sink: FileSink<File>,
-) -> PrinterSeat<E, K, H> {
-    let mut sink = sink;
-    let (seat, _report) = work(rt, spool, seat, &mut sink);
-    seat
-}
-
 /// Joins all threads, and keeps what they returned. What there is no memory for is let go.
 fn join_all<R: Threads, T: Drop>(rt: &R, threads: Vec<JoinHandle<T>>, returned: &mut Vec<T>) {
     for thread in threads {
@@ -119,40 +80,42 @@ fn keep<T: Drop, F: Drop>(
     }
 }
 
-impl<'a, E: SpoolLedger + Send + Sync, K: Ledger + Send + Sync, H: Ledger + Send + Sync> Crew<
-    'a,
-    E,
-    K,
-    H,
-> {
+impl<'a, R: Clock + Log + Threads + Wait + Sync> Server<'a, R> {
     /// Starts a thread for each seat, has connections accepted and served, and joins all threads.
-    /// Answers how that went, and the seats. One is missing where a thread wasn't started, or
-    /// memory for it was refused.
+    /// The last two of the sessions' seats are of who looks for peers that are gone, and of who
+    /// rotates the account. Answers how that went, and the seats. One is missing where a thread
+    /// wasn't started, or memory for it was refused.
     ///
     /// Output where a line can't be written; Memory where memory for one is refused.
-    pub(crate) fn run<R: Clock + Log + Threads + Wait + Sync, W: OctetWrite>(
+    pub(crate) fn work<
+        E: SpoolLedger + Send + Sync,
+        K: Ledger + Send + Sync,
+        H: Ledger + Send + Sync,
+        W: OctetWrite,
+    >(
         self,
-        porter: Porter<'_, R, E, K, H>,
+        spool: &SharedSpool<E, K, H>,
+        seats: Seats<E, K, H>,
         seat: SessionSeat<E, K, H>,
+        room: Option<Room>,
         output: &mut W,
     ) -> (Result<(), Fault>, Seats<E, K, H>)
         ensures { TellsRotations (W.written output.old) (W.faults output.old)
             (W.written output.new) (W.faults output.new) result.0 }
     {
-        let Crew {
+        let Server {
+            rt,
+            alloc,
             settings,
+            lobby,
             waker,
             posts,
             sinks,
-            seats,
-            least,
         } = self;
-        let (rt, alloc, spool) = (porter.rt, porter.alloc, porter.spool);
-        let desk = Desk::new(alloc, most_of(settings.per_host));
-        let rotations = Rotations::new(alloc);
-        let ended = AtomicBool::new(false);
-        let (desk, waker, posts) = (&desk, &waker, &posts);
-        let (rotations, ended) = (&rotations, &ended);
+        let (waker, posts) = (&waker, &posts);
+        let desk = &Desk::new(alloc, most_of(settings.per_host));
+        let rotations = &Rotations::new(alloc);
+        let ended = &AtomicBool::new(false);
         let silence = settings.silence.unwrap_or(0);
         let slowest = settings.slowest.unwrap_or(0);
         // The output comes back with the seats, so that it is known what was written.
@@ -166,8 +129,7 @@ impl<'a, E: SpoolLedger + Send + Sync, K: Ledger + Send + Sync, H: Ledger + Send
                     (W.faults output.entry.now) (W.written result.2.now)
                     (W.faults result.2.now) result.0 }
             {
-                let mut printing = Vec::new(alloc);
-                let mut answering = Vec::new(alloc);
+                let (mut printing, mut answering) = (Vec::new(alloc), Vec::new(alloc));
                 let mut looking = Vec::new(alloc);
                 let mut started = true;
                 let Seats {
@@ -176,7 +138,11 @@ impl<'a, E: SpoolLedger + Send + Sync, K: Ledger + Send + Sync, H: Ledger + Send
                 } = seats;
                 let (keeper, watcher) = (sessions.pop(), sessions.pop());
                 for (seat, sink) in printers.into_iter().zip(sinks) {
-                    let thread = scope.spawn(move || print_all(rt, spool, seat, sink));
+                    let thread = scope.spawn(move || {
+                        let mut sink = sink;
+                        let (seat, _report) = work(rt, spool, seat, &mut sink);
+                        seat
+                    });
                     started &= keep(&mut printing, thread);
                 }
                 for seat in sessions {
@@ -199,14 +165,26 @@ impl<'a, E: SpoolLedger + Send + Sync, K: Ledger + Send + Sync, H: Ledger + Send
                 }
                 if let Some(seat) = keeper {
                     let thread = scope.spawn(move || keep_rotating(
-                        rt, spool, seat, least, rotations, waker,
+                        rt, spool, seat, room, rotations, waker,
                     ));
                     started &= keep(&mut looking, thread);
                 }
-                let (mut porter, mut seat) = (porter, seat);
-                let admitted = porter.admit_if(started, &mut seat, desk, rotations, output);
+                let mut porter = Porter {
+                    rt,
+                    alloc,
+                    spool,
+                    seat,
+                    desk,
+                    rotations,
+                    lobby,
+                    every: settings.rotate,
+                    handed_on: 0,
+                    room,
+                };
+                let admitted = porter.admit(started, output);
                 // However it went, all threads are joined before the seats are looked at.
                 desk.end(rt);
+                let Porter { mut seat, .. } = porter;
                 let (mut sessions, mut printers) = (Vec::new(alloc), Vec::new(alloc));
                 join_all(rt, answering, &mut sessions);
                 spool.idle_wait(rt);

@@ -22,52 +22,11 @@ const LOOKED_AT: usize = 1 << 20;
 
 /// What a spool is at while sessions wait: whoever compares two of these sees whether anything
 /// happened in between.
-#[derive(Drop)]
+#[derive(PartialEq, Drop)]
 struct Sample {
     waiting: Vec<Waiting>,
     pages: [usize; 4],
     counted: u64,
-}
-
-impl Sample {
-    /// Whether nothing has happened since.
-    fn is_same(&self, other: &Sample) -> bool {
-        self.waiting.as_slice() == other.waiting.as_slice()
-            && self.pages == other.pages
-            && self.counted == other.counted
-    }
-}
-
-/// For how many seconds nothing has happened, and what the spool was at.
-#[derive(Drop)]
-struct Still {
-    sample: Sample,
-    seconds: u64,
-}
-
-impl Still {
-    /// Nothing was seen yet.
-    fn new(alloc: Global) -> Still {
-        Still {
-            sample: Sample {
-                waiting: Vec::new(alloc),
-                pages: [0; 4],
-                counted: 0,
-            },
-            seconds: 0,
-        }
-    }
-
-    /// A second has passed, and the spool is at this now. For how many seconds nothing has
-    /// happened.
-    fn pass(&mut self, sample: &Sample) -> u64 {
-        self.seconds = if self.sample.is_same(sample) {
-            self.seconds.saturating_add(1)
-        } else {
-            0
-        };
-        self.seconds
-    }
 }
 
 /// Who looks after the sessions that wait for pages.
@@ -80,21 +39,12 @@ struct Watcher<'a, R, E: SpoolLedger, K: Ledger, H: Ledger> {
     posts: &'a Posts,
     // After how many seconds in which nothing happened all that wait are ended; 0 for never.
     silence: u64,
-    still: Still,
+    // What the spool was at a second ago, and for how many seconds nothing has happened.
+    last: Sample,
+    seconds: u64,
 }
 
 impl<'a, R: Clock + Log + Wait, E: SpoolLedger, K: Ledger, H: Ledger> Watcher<'a, R, E, K, H> {
-    /// What the spool is at.
-    fn sample(&mut self) -> Result<Sample, AllocError> {
-        let waiting = self.spool.waiting(self.rt, self.alloc)?;
-        let pages = self.spool.pages_by_place(self.rt, &mut self.seat);
-        Ok(Sample {
-            waiting,
-            pages: [pages.free, pages.chained, pages.lent, pages.out],
-            counted: self.spool.counted_reserve(self.rt, &mut self.seat),
-        })
-    }
-
     /// Ends a job whose session waits: the session is answered that it isn't open any more.
     fn give_up(&mut self, waiting: Waiting, why: &str) {
         let ended = self.spool.abort(self.rt, &mut self.seat, waiting.job, None);
@@ -108,38 +58,31 @@ impl<'a, R: Clock + Log + Wait, E: SpoolLedger, K: Ledger, H: Ledger> Watcher<'a
 
     /// Looks at those that wait, once a second.
     fn look(&mut self, buffer: &mut [u8]) -> Result<(), AllocError> {
-        let sample = self.sample()?;
+        let waiting = self.spool.waiting(self.rt, self.alloc)?;
+        let pages = self.spool.pages_by_place(self.rt, &mut self.seat);
+        let sample = Sample {
+            waiting,
+            pages: [pages.free, pages.chained, pages.lent, pages.out],
+            counted: self.spool.counted_reserve(self.rt, &mut self.seat),
+        };
         for waiting in sample.waiting.iter() {
             if self.posts.is_gone(self.rt, *waiting, buffer) {
                 self.give_up(*waiting, "its peer is gone");
             }
         }
-        let seconds = self.still.pass(&sample);
-        if self.silence != 0 && self.silence <= seconds {
+        self.seconds = if sample == self.last {
+            self.seconds.saturating_add(1)
+        } else {
+            0
+        };
+        if self.silence != 0 && self.silence <= self.seconds {
+            let why = "nothing has happened for as long as a peer may be silent";
             for waiting in sample.waiting.iter() {
-                self.give_up(
-                    *waiting,
-                    "nothing has happened for as long as a peer may be silent",
-                );
+                self.give_up(*waiting, why);
             }
         }
-        self.still.sample = sample;
+        self.last = sample;
         Ok(())
-    }
-
-    /// Looks at those that wait, until the server ends.
-    fn run(&mut self, buffer: &mut [u8], ended: &AtomicBool) {
-        let mut step = 0u64;
-        for _ in self.rt.forever() {
-            if ended.load(Ordering::SeqCst) {
-                break;
-            }
-            thread::sleep(self.rt, Duration::from_millis(STEP));
-            step = step.saturating_add(1) % STEPS;
-            if step == 0 && self.look(buffer).is_err() {
-                warn!(self.rt; "memory was refused to look for peers that are gone");
-            }
-        }
     }
 }
 
@@ -165,9 +108,24 @@ pub(crate) fn watch<R: Clock + Log + Wait, E: SpoolLedger, K: Ledger, H: Ledger>
         seat,
         posts,
         silence,
-        still: Still::new(alloc),
+        last: Sample {
+            waiting: Vec::new(alloc),
+            pages: [0; 4],
+            counted: 0,
+        },
+        seconds: 0,
     };
-    watcher.run(buffer.as_mut_slice(), ended);
+    let mut step = 0u64;
+    for _ in rt.forever() {
+        if ended.load(Ordering::SeqCst) {
+            break;
+        }
+        thread::sleep(rt, Duration::from_millis(STEP));
+        step = step.saturating_add(1) % STEPS;
+        if step == 0 && watcher.look(buffer.as_mut_slice()).is_err() {
+            warn!(rt; "memory was refused to look for peers that are gone");
+        }
+    }
     let Watcher { seat, .. } = watcher;
     seat
 }

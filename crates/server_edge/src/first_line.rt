@@ -8,7 +8,7 @@ ghost use Rattle.server_edge.specs.declared.first_line.Kind.TheVariants.{Job, Li
 pub const LONGEST: usize = 1_024;
 
 /// What a connection comes for.
-#[derive(Clone, Copy, PartialEq, Eq)]
+#[derive(Clone, Copy)]
 pub enum Kind {
     /// It brings a job.
     Job,

@@ -20,4 +20,4 @@ pub use limits::{MOST_GUESTS, descriptor_limit, places};
 pub use lobby::Lobby;
 pub use log_queue::{LineLog, LineQueue};
 pub use peers::{Peer, Standing, ask_peer, keep_asking, may_end, unread_octets};
-pub use waiting_room::{Turn, Visit};
+pub use waiting_room::Visit;

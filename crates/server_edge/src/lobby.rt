@@ -21,7 +21,7 @@ use mio::{Events, Interest, Poll, Token, Waker};
 use std::alloc::{AllocError, Global};
 use std::fmt::Display;
 use std::io::ErrorKind;
-use std::net::{Net, TcpListener};
+use std::net::{Net, SocketAddr, TcpListener, TcpStream};
 use std::os::fd::{AsRawFd, RawFd};
 use std::sync::Wait;
 use std::time::Duration;
@@ -44,19 +44,17 @@ const PAUSE: u64 = 100;
 
 /// Why a connection is closed that waited: so many were for want of room.
 #[derive(Clone, Copy)]
-struct WantOfRoom {
-    closed: u64,
-}
+struct WantOfRoom(u64);
 
 impl Display for WantOfRoom {
     ghost output = { λ why. Some (codes "closed without its first line for want of room, "
-        ++ (decimal why.closed ++ codes " by now")) };
+        ++ (decimal why.0 ++ codes " by now")) };
 
     fn fmt<W: fmt::Write>(&self, f: &mut fmt::Formatter<W>) -> fmt::Result {
         write!(
             f,
             "closed without its first line for want of room, {} by now",
-            self.closed
+            self.0
         )
     }
 }
@@ -81,37 +79,43 @@ pub struct Lobby {
 }
 
 impl Lobby {
-    /// A lobby with so many places behind a listener, which accepts so many connections, and what wakes its thread.
-    pub fn new<R: Net>(
+    /// A lobby with so many places behind a listener at this address, which accepts so many connections; what wakes its thread;
+    /// and the listener's port.
+    pub fn new<R: Net<Listener = TcpListener, Stream = TcpStream>>(
         rt: &R,
         alloc: Global,
-        listener: TcpListener,
+        address: SocketAddr,
         places: u64,
         connections: u64,
-    ) -> io::Result<(Lobby, Waker)> {
-        let lobby = Lobby {
+    ) -> io::Result<(Lobby, Waker, u16)> {
+        let listener = TcpListener::bind(rt, address)?;
+        let mut lobby = Lobby {
             listener,
             poll: Poll::new(rt)?,
             events: Events::with_capacity(alloc, EVENTS)?,
             left: connections,
             accepted: 0,
-            room: WaitingRoom::new(alloc, places)?,
+            room: WaitingRoom::new(alloc),
             // The first round accepts.
             pause: Some(0),
             closed: 0,
         };
-        let waker = lobby.open()?;
-        Ok((lobby, waker))
+        let (waker, port) = lobby.open(places)?;
+        Ok((lobby, waker, port))
     }
 
-    /// Has the system tell what comes at the listener. What is answered wakes the thread.
-    fn open(&self) -> io::Result<Waker> {
+    /// Makes places, and has the system tell what comes at the listener. What is answered wakes the thread, and is the
+    /// listener's port.
+    fn open(&mut self, places: u64) -> io::Result<(Waker, u16)> {
+        self.room.grow(places)?;
         self.listener.set_nonblocking(true)?;
+        let port = self.listener.local_addr()?.port();
         let descriptor = self.listener.as_raw_fd();
         // The standard library listens with a queue of 128 connections.
         let _ = libc::net::listen(descriptor, BACKLOG);
         self.watch(descriptor, LISTENER)?;
-        Waker::new(self.poll.registry(), WAKER)
+        let waker = Waker::new(self.poll.registry(), WAKER)?;
+        Ok((waker, port))
     }
 
     /// Whether no connection is accepted any more and none waits.
@@ -119,7 +123,7 @@ impl Lobby {
         ensures { IsTrue result ↔ (self.now.left ≡ 0)
             × (length self.now.room.free.items ≡ length self.now.room.visits.items) }
     {
-        self.left == 0 && self.room.is_empty()
+        self.left == 0 && self.room.free.len() == self.room.visits.len()
     }
 
     /// Takes a guest out of its place.
@@ -133,22 +137,15 @@ impl Lobby {
 
     /// Where no place is free, the oldest connection without its first line is closed.
     fn make_place<R: Log>(&mut self, rt: &R) {
-        if self.room.has_place() {
+        let Some(at) = self.room.who_makes_place() else {
             return;
+        };
+        if let Some(visit) = self.release(at) {
+            let peer = visit.peer;
+            drop(visit);
+            self.closed = self.closed.saturating_add(1);
+            tell(rt, &peer, &WantOfRoom(self.closed));
         }
-        let Some(at) = self.room.who_leaves() else {
-            return;
-        };
-        let Some(visit) = self.release(at) else {
-            return;
-        };
-        let peer = visit.peer;
-        drop(visit);
-        self.closed = self.closed.saturating_add(1);
-        let why = WantOfRoom {
-            closed: self.closed,
-        };
-        tell(rt, &peer, &why);
     }
 
     /// Gives a connection that was accepted a place, and looks at what it has sent.
@@ -179,70 +176,46 @@ impl Lobby {
             .register(&mut SourceFd(&descriptor), token, Interest::READABLE)
     }
 
-    /// Accepts what waits at the listener, so many at once.
-    fn accept<R: Log>(&mut self, rt: &R) -> Result<(), AllocError> {
+    /// Accepts what waits at the listener, so many at once. For how many milliseconds it is then waited at most before it is
+    /// accepted again; None where the system tells when to.
+    fn accept<R: Log>(&mut self, rt: &R) -> Result<Option<u64>, AllocError> {
         for _ in 0..EVENTS {
             if self.left == 0 {
-                self.pause = None;
-                return Ok(());
+                return Ok(None);
             }
             if !self.room.has_room() {
                 // All are ready: it is accepted again once one was handed on.
-                self.pause = Some(PAUSE);
-                return Ok(());
+                return Ok(Some(PAUSE));
             }
             match self.listener.accept() {
                 Ok((stream, peer)) => {
                     let kind = Kind::Question;
                     self.admit(rt, Visit { stream, peer, kind })?;
                 }
+                Err(error) if error.kind() == ErrorKind::WouldBlock => return Ok(None),
                 Err(error) => {
-                    self.pause = None;
-                    if error.kind() != ErrorKind::WouldBlock {
-                        tell(rt, &"a connection wasn't accepted", &error);
-                        self.pause = Some(PAUSE);
-                    }
-                    return Ok(());
+                    tell(rt, &"a connection wasn't accepted", &error);
+                    return Ok(Some(PAUSE));
                 }
             }
         }
-        self.pause = Some(0);
-        Ok(())
-    }
-
-    /// Whose turn it is.
-    fn turn<R: Wait>(&mut self, rt: &R, desk: &Desk<Visit>, lets_jobs_in: bool) -> Option<Turn> {
-        if let Some(first) = desk.first_free(rt, &self.room.questions) {
-            return self.room.questions.remove(first);
-        }
-        if !lets_jobs_in {
-            return None;
-        }
-        if let Some(first) = desk.first_free(rt, &self.room.jobs) {
-            return self.room.jobs.remove(first);
-        }
-        if self.left > 0 {
-            return None;
-        }
-        let turn = self.room.last_turn()?;
-        if desk.is_free(rt, turn) {
-            Some(turn)
-        } else {
-            None
-        }
+        Ok(Some(0))
     }
 
     /// The next connection for which a session is free: a question, or else a job, where jobs are let in. Its stream is as it was
     /// accepted, with no octet read.
-    pub fn next<R: Wait>(
-        &mut self,
-        rt: &R,
-        desk: &Desk<Visit>,
-        lets_jobs_in: bool,
-    ) -> Option<Visit> {
-        let turn = self.turn(rt, desk, lets_jobs_in)?;
-        let mut visit = self.release(turn.at)?;
-        visit.kind = turn.kind;
+    pub fn next<R: Wait>(&mut self, rt: &R, desk: &Desk, lets_jobs_in: bool) -> Option<Visit> {
+        let mut turn = desk.first_free(rt, &mut self.room.questions);
+        if turn.is_none() && lets_jobs_in {
+            turn = desk.first_free(rt, &mut self.room.jobs);
+            if turn.is_none() && self.left == 0 {
+                let last = self.room.last_turn()?;
+                turn = desk.is_free(rt, last).then_some(last);
+            }
+        }
+        let Turn { at, kind, .. } = turn?;
+        let mut visit = self.release(at)?;
+        visit.kind = kind;
         Some(visit)
     }
 
@@ -253,20 +226,12 @@ impl Lobby {
         !self.room.jobs.is_empty()
     }
 
-    /// For how long it is waited for something to happen, so many milliseconds at most where there is such a number.
-    fn patience(&self, limit: Option<u64>) -> Option<Duration> {
-        let pause = match (self.pause, limit) {
-            (Some(pause), Some(limit)) => pause.min(limit),
-            (Some(pause), None) => pause,
-            (None, limit) => limit?,
-        };
-        Some(Duration::from_millis(pause))
-    }
-
     /// One round: waits for something to happen, for so many milliseconds at most where there is such a number, and accepts and
     /// looks at what came.
     pub fn round<R: Log + Wait>(&mut self, rt: &R, limit: Option<u64>) -> io::Result<()> {
-        let patience = self.patience(limit);
+        let pause = self.pause.unwrap_or(u64::MAX);
+        let pause = pause.min(limit.unwrap_or(u64::MAX));
+        let patience = (pause < u64::MAX).then_some(Duration::from_millis(pause));
         self.poll.poll(&mut self.events, patience)?;
         let mut accepts = self.pause.is_some();
         for event in self.events.iter() {
@@ -279,7 +244,7 @@ impl Lobby {
             }
         }
         if accepts {
-            self.accept(rt)?;
+            self.pause = self.accept(rt)?;
         }
         Ok(())
     }

@@ -9,6 +9,7 @@ use std::alloc::Global;
 use std::collections::VecDeque;
 use std::fmt::Display;
 use std::io::Write;
+use std::mem;
 use std::rt::Clock;
 use std::sync::{Condvar, Mutex, Wait};
 use std::time::Duration;
@@ -19,13 +20,6 @@ struct Shelf {
     dropped: u64,
     busy: bool,
     ended: bool,
-}
-
-/// What the writer does next.
-enum Work {
-    Write(String),
-    Tell(u64),
-    End,
 }
 
 /// Lines that wait to be written, so many at most.
@@ -69,45 +63,35 @@ impl LineQueue {
         self.came.notify_one();
     }
 
-    fn next_work<R: Wait>(&self, rt: &R) -> Work {
-        let mut shelf = self.came.wait_while(rt, self.shelf.lock(rt), |shelf| {
+    /// The next line to be written, once the one before it is: one that was put in, or that tells how many were dropped, with
+    /// nothing in it where memory is refused for that. None at the end.
+    fn next<R: Wait>(&self, rt: &R, alloc: Global) -> Option<String> {
+        let mut shelf = self.shelf.lock(rt);
+        shelf.busy = false;
+        self.left.notify_all();
+        let mut shelf = self.came.wait_while(rt, shelf, |shelf| {
             shelf.lines.is_empty() && shelf.dropped == 0 && !shelf.ended
         });
         let shelf = &mut *shelf;
+        let line = shelf.lines.pop_front();
+        if line.is_some() || shelf.dropped == 0 {
+            shelf.busy = line.is_some();
+            return line;
+        }
         shelf.busy = true;
-        if let Some(line) = shelf.lines.pop_front() {
-            return Work::Write(line);
-        }
-        if shelf.dropped > 0 {
-            let dropped = shelf.dropped;
-            shelf.dropped = 0;
-            return Work::Tell(dropped);
-        }
-        Work::End
-    }
-
-    fn rest<R: Wait>(&self, rt: &R) {
-        self.shelf.lock(rt).busy = false;
-        self.left.notify_all();
+        let dropped = mem::replace(&mut shelf.dropped, 0);
+        let told = format!(in alloc; "[WARN ] {dropped} lines were dropped\n");
+        Some(told.unwrap_or(String::new(alloc)))
     }
 
     /// Writes the lines, until the end. A write that fails drops its line.
     pub fn write_all<R: Wait, W: Write>(&self, rt: &R, alloc: Global, out: &mut W) {
         for _ in rt.forever() {
-            match self.next_work(rt) {
-                Work::Write(line) => {
-                    let _ = out.write_all(line.as_bytes());
-                }
-                Work::Tell(dropped) => {
-                    if let Ok(line) = format!(in alloc; "[WARN ] {dropped} lines were dropped\n") {
-                        let _ = out.write_all(line.as_bytes());
-                    }
-                }
-                Work::End => break,
-            }
-            self.rest(rt);
+            let Some(line) = self.next(rt, alloc) else {
+                break;
+            };
+            let _ = out.write_all(line.as_bytes());
         }
-        self.rest(rt);
     }
 
     /// Takes no more lines, and waits until all are written, for at most so long. Whether they are.

@@ -78,21 +78,16 @@ pub fn may_end(standing: &Standing) -> bool
 }
 
 /// Has the system ask a silent peer each so many seconds whether it is there, and end the connection where it isn't three times.
-pub fn keep_asking(stream: &TcpStream, seconds: u8) -> bool {
-    let fd = stream.as_raw_fd();
-    let one = number(1);
-    let three = number(3);
-    let seconds = number(seconds);
-    let counted = unsafe { setsockopt(fd, IPPROTO_TCP, TCP_KEEPCNT, &three, 4) } == 0;
-    let idle = unsafe { setsockopt(fd, IPPROTO_TCP, TCP_KEEPIDLE, &seconds, 4) } == 0;
-    let between = unsafe { setsockopt(fd, IPPROTO_TCP, TCP_KEEPINTVL, &seconds, 4) } == 0;
-    let on = unsafe { setsockopt(fd, SOL_SOCKET, SO_KEEPALIVE, &one, 4) } == 0;
-    counted && idle && between && on
-}
-
-/// The octets of a small number, as C keeps an int.
-fn number(value: u8) -> [u8; 16] {
-    let mut octets = [0u8; 16];
-    octets[0] = value;
-    octets
+pub fn keep_asking(stream: &TcpStream, seconds: u8) {
+    for (level, option, value) in [
+        (IPPROTO_TCP, TCP_KEEPCNT, 3),
+        (IPPROTO_TCP, TCP_KEEPIDLE, seconds),
+        (IPPROTO_TCP, TCP_KEEPINTVL, seconds),
+        (SOL_SOCKET, SO_KEEPALIVE, 1),
+    ] {
+        // As C keeps an int.
+        let mut octets = [0u8; 16];
+        octets[0] = value;
+        let _ = unsafe { setsockopt(stream.as_raw_fd(), level, option, &octets, 4) };
+    }
 }

@@ -1,6 +1,6 @@
 //! The places of connections that wait, and in which order their turns come.
 
-ghost use Rattle.std.specs.Prelude.{◌≡◌, ◌↔◌, IsTrue, length};
+ghost use Rattle.std.specs.Prelude.{◌≡◌};
 ghost use Rattle.std.specs.Net.Socket.{socket_ip};
 ghost use Rattle.server_edge.specs.Hosts.{host_number};
 
@@ -36,21 +36,18 @@ impl Visit {
 
 /// The turn of a guest whose first line is whole: its place, what it comes for, and its host.
 #[derive(Clone, Copy)]
-pub struct Turn {
-    /// Its place.
-    pub at: usize,
-    /// What it comes for.
-    pub kind: Kind,
-    /// Its host.
-    pub host: u32,
+pub(crate) struct Turn {
+    pub(crate) at: usize,
+    pub(crate) kind: Kind,
+    pub(crate) host: u32,
 }
 
 /// The places of connections that wait.
 #[derive(Drop)]
 pub(crate) struct WaitingRoom {
     guests: Vec<Option<Guest>>,
-    visits: Vec<Option<Visit>>,
-    free: Vec<usize>,
+    pub(crate) visits: Vec<Option<Visit>>,
+    pub(crate) free: Vec<usize>,
     /// The turns of those that are ready, by when they were.
     pub(crate) jobs: VecDeque<Turn>,
     pub(crate) questions: VecDeque<Turn>,
@@ -62,32 +59,28 @@ fn stage_of(stream: &TcpStream, is_ended: bool) -> (Stage, Kind) {
     let came = unread_octets(stream, &mut octets);
     let count = came.unwrap_or(0);
     let octets = &octets[..count];
-    let stage = if is_whole(octets, is_ended || came == Some(0)) {
-        Stage::Ready
-    } else if count > 0 {
-        Stage::Begun
-    } else {
-        Stage::Silent
+    let stage = match count {
+        _ if is_whole(octets, is_ended || came == Some(0)) => Stage::Ready,
+        0 => Stage::Silent,
+        _ => Stage::Begun,
     };
     (stage, kind_of(octets.first().copied()))
 }
 
 impl WaitingRoom {
-    /// So many places, all free.
-    pub(crate) fn new(alloc: Global, places: u64) -> Result<WaitingRoom, AllocError> {
-        let mut room = WaitingRoom {
+    /// No place.
+    pub(crate) fn new(alloc: Global) -> WaitingRoom {
+        WaitingRoom {
             guests: Vec::new(alloc),
             visits: Vec::new(alloc),
             free: Vec::new(alloc),
             jobs: VecDeque::new(alloc),
             questions: VecDeque::new(alloc),
-        };
-        room.grow(places)?;
-        Ok(room)
+        }
     }
 
     /// So many places more, all free.
-    fn grow(&mut self, places: u64) -> Result<(), AllocError> {
+    pub(crate) fn grow(&mut self, places: u64) -> Result<(), AllocError> {
         for _ in 0..places {
             self.free.push(self.visits.len())?;
             self.guests.push(None)?;
@@ -96,26 +89,18 @@ impl WaitingRoom {
         Ok(())
     }
 
-    /// Whether nobody waits.
-    pub(crate) fn is_empty(&self) -> bool
-        ensures { IsTrue result ↔ length self.now.free.items ≡ length self.now.visits.items }
-    {
-        self.free.len() == self.visits.len()
-    }
-
     /// Whether another connection may come in.
     pub(crate) fn has_room(&self) -> bool {
-        self.has_place() || self.who_leaves().is_some()
+        !self.free.is_empty() || who_leaves(self.guests.as_slice()).is_some()
     }
 
-    /// Whether a place is free.
-    pub(crate) fn has_place(&self) -> bool {
-        !self.free.is_empty()
-    }
-
-    /// The place of the guest that leaves where none is free.
-    pub(crate) fn who_leaves(&self) -> Option<usize> {
-        who_leaves(self.guests.as_slice())
+    /// The place of the guest that leaves for another one; None where a place is free, or nobody leaves.
+    pub(crate) fn who_makes_place(&self) -> Option<usize> {
+        if self.free.is_empty() {
+            who_leaves(self.guests.as_slice())
+        } else {
+            None
+        }
     }
 
     /// The turn of the first guest whose first line isn't whole, where nobody is ready. A session for all waits for it as long as its
@@ -124,7 +109,7 @@ impl WaitingRoom {
         if !self.jobs.is_empty() || !self.questions.is_empty() {
             return None;
         }
-        let at = self.who_leaves()?;
+        let at = who_leaves(self.guests.as_slice())?;
         let Some(Some(visit)) = self.visits.get(at) else {
             return None;
         };
@@ -141,13 +126,8 @@ impl WaitingRoom {
         if let Some(place) = self.visits.get_mut(at) {
             *place = Some(visit);
         }
-        self.mark(
-            at,
-            Some(Guest {
-                number,
-                stage: Stage::Silent,
-            }),
-        );
+        let stage = Stage::Silent;
+        self.mark(at, Some(Guest { number, stage }));
         Some(at)
     }
 
@@ -173,20 +153,17 @@ impl WaitingRoom {
         else {
             return Ok(true);
         };
-        if guest.stage == Stage::Ready {
+        let Guest { number, stage } = *guest;
+        if matches!(stage, Stage::Ready) {
             return Ok(true);
         }
-        let number = guest.number;
         let (stage, kind) = stage_of(&visit.stream, is_ended);
-        let turn = Turn {
-            at,
-            kind,
-            host: visit.host(),
-        };
+        let host = visit.host();
         self.mark(at, Some(Guest { number, stage }));
-        if stage != Stage::Ready {
+        if !matches!(stage, Stage::Ready) {
             return Ok(false);
         }
+        let turn = Turn { at, kind, host };
         match kind {
             Kind::Job => self.jobs.push_back(turn)?,
             Kind::Question | Kind::Listing => self.questions.push_back(turn)?,
