@@ -4,7 +4,7 @@ use Rattle.clap.specs.Words.{AddsArg, AddsInTurn, AddsSubcommand, App, Rule, app
 use Rattle.clap.specs.declared.builder.arg.Arg.{Arg}
 use Rattle.clap.specs.declared.builder.command.Command.{Command}
 use Rattle.clap.specs.declared.builder.command.Command.TheViews.{out-Command as fields_of}
-use Rattle.lpd_words.specs.CommandLine.{AreLocal, with_commands, with_rules}
+use Rattle.lpd_words.specs.CommandLine.{AreLocal, IsCommand, IsWord, with_commands, with_rules}
 
 -- words that were added in turn
 pub words_added : (args : List Arg) (old new : Command) → AddsInTurn AddsArg old args new → AreLocal args → (fields_of old).has_globals ≡ false
@@ -22,18 +22,18 @@ abbrev pub AreOf : List Arg → List Rule → Type 0
 AreOf [] [] = Unit {0}
 AreOf [] (rule ∷ rules) = ⊥
 AreOf (arg ∷ args) [] = ⊥
-AreOf (arg ∷ args) (rule ∷ rules) = (rule_of arg ≡ rule) × AreOf args rules
+AreOf (arg ∷ args) (rule ∷ rules) = IsWord arg rule × AreOf args rules
 
 rules_of : (args : List Arg) (rules : List Rule) → AreOf args rules → map rule_of args ≡ rules
 rules_of [] [] all = refl
 rules_of [] (rule ∷ rules) all = elim all [ ]
 rules_of (arg ∷ args) [] all = elim all [ ]
-rules_of (arg ∷ args) (rule ∷ rules) (here, there) = rw here (ap (λ xs. rule ∷ xs) (rules_of args rules there))
+rules_of (arg ∷ args) (rule ∷ rules) (here, there) = rw here.0 (ap (λ xs. rule ∷ xs) (rules_of args rules there))
 
 -- a command with these words, whose rules are known
-pub ok_rules : {E : Type 0} (r : Result Command E) (base app : App) (items args : List Arg) (rules : List Rule) → IfOk r (λ c. app_of c ≡ with_rules base (map rule_of items)) → items ≡ args → base ≡ app
-    → AreOf args rules → IfOk r (λ c. app_of c ≡ with_rules app rules)
-ok_rules (Ok c) base app items args rules h same from all = h ∙ ap (λ x. with_rules x (map rule_of items)) from ∙ ap (λ x. with_rules app (map rule_of x)) same ∙ ap (with_rules app) (rules_of args rules all)
+pub ok_rules : {E : Type 0} (r : Result Command E) (base app : App) (items args : List Arg) (rules : List Rule) → IfOk r (λ c. IsCommand c (with_rules base (map rule_of items))) → items ≡ args → base ≡ app
+    → AreOf args rules → IfOk r (λ c. IsCommand c (with_rules app rules))
+ok_rules (Ok c) base app items args rules h same from all = (h.0 ∙ ap (λ x. with_rules x (map rule_of items)) from ∙ ap (λ x. with_rules app (map rule_of x)) same ∙ ap (with_rules app) (rules_of args rules all), h.1)
 ok_rules (Err e) base app items args rules h same from all = tt
 
 -- what holds of each command that words were added to holds of what comes
@@ -51,7 +51,7 @@ AreCommands [] [] = Unit {0}
 AreCommands [] (app ∷ apps) = ⊥
 AreCommands (command ∷ commands) [] = ⊥
 AreCommands (command ∷ commands) (app ∷ apps) =
-    ((app_of command ≡ app) × ((fields_of command).has_globals ≡ false)) × AreCommands commands apps
+    IsCommand command app × AreCommands commands apps
 
 commands_added : (subs : List Command) (apps : List App) (old new : Command) (app : App) → AddsInTurn AddsSubcommand old subs new → AreCommands subs apps → app_of old ≡ app
     → app_of new ≡ with_commands app apps

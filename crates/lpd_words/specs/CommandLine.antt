@@ -1,7 +1,9 @@
 -- The words that the program takes, as clap sees them.
 use Rattle.std.specs.Prelude.{◌≡◌, ◌∷◌, List, Some, codes, false, pos, true, []}
-use Rattle.clap.specs.Words.{App, Rule, Text, new_app, new_rule, with_rule, with_subcommand}
+use Rattle.clap.specs.Words.{App, Rule, Text, app_of, new_app, new_rule, rule_of, with_rule, with_subcommand}
 use Rattle.clap.specs.declared.builder.arg.Arg.{Arg}
+use Rattle.clap.specs.declared.builder.command.Command.{Command}
+use Rattle.clap.specs.declared.builder.command.Command.TheViews.{out-Command as fields_of}
 use Rattle.clap.specs.declared.builder.action.ArgAction.TheVariants.{SetTrue}
 use Rattle.clap.specs.declared.builder.value_parser.ValueParser.{ValueParser}
 use Rattle.clap.specs.declared.builder.value_parser.ValueParser.TheVariants as parser
@@ -10,6 +12,14 @@ use Rattle.clap.specs.declared.builder.value_parser.ValueParser.TheVariants as p
 abbrev pub AreLocal : List Arg → Type 0
 AreLocal [] = Unit {0}
 AreLocal (arg ∷ args) = (arg.global ≡ false) × AreLocal args
+
+-- a word by this rule, which isn't one of all commands
+abbrev pub IsWord : Arg → Rule → Type 0
+IsWord arg rule = (rule_of arg ≡ rule) × (arg.global ≡ false)
+
+-- a command that is this, without words of all commands
+abbrev pub IsCommand : Command → App → Type 0
+IsCommand command app = (app_of command ≡ app) × ((fields_of command).has_globals ≡ false)
 
 -- a word that has to be there
 abbrev pub word : Text → Rule

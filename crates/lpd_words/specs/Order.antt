@@ -1,13 +1,12 @@
 -- What is done with files, and which fault comes first.
-use Rattle.std.specs.Prelude.{◌≡◌, ◌⊎◌, ◌++◌, ◌∷◌, ℕ, List, [], Option, Some, Result, Err, length}
+use Rattle.std.specs.Prelude.{◌≡◌, ◌⊎◌, ℕ, Bool, List, Option, Some, Result, Err}
 use Rattle.config_values.specs.Config as C
 use Rattle.lpd_commands.specs.Ends.{Writes, one_more}
 use Rattle.lpd_script.specs.Streams.{HasGivenAll}
 use Rattle.lpd_script.specs.declared.fault.Fault.TheVariants as script
 use Rattle.lpd_words.specs.declared.fault.Fault.{Fault}
 use Rattle.lpd_words.specs.declared.fault.Fault.TheVariants.{Run}
-use Rattle.lpd_words.specs.Sizes.{size_lines}
-use Rattle.lpd_words.specs.Summary.{summary_of, summary_text}
+use Rattle.lpd_words.specs.Summary.{check_text}
 use Rattle.spool_config.specs.Answers.{GivesConfig, fault_of}
 use Rattle.spool_config.specs.declared.settings.ConfigFault.{ConfigFault}
 use Rattle.spool_config.specs.declared.settings.ConfigFault.TheVariants as config
@@ -25,19 +24,11 @@ IsConfigFault left rest (Run (script.Config fault)) =
 IsConfigFault left rest fault =
     (fault ≡ Run script.ReadFile) ⊎ (fault ≡ Run script.Memory)
 
--- all of a text was read, it gives a configuration, and the line that says what spool that is for was written
-abbrev pub Checked : (left rest was now : Option (List ℕ)) → Type 0
-Checked left rest was now =
+-- all of a text was read, it gives a configuration, and what is said of that was written
+abbrev pub Checked : Bool → (left rest was now : Option (List ℕ)) → Type 0
+Checked sizes left rest was now =
     (text : List ℕ) × HasGivenAll left rest text
-    × ((due : C.Config) × GivesConfig text due
-    × Writes was now (summary_text (summary_of due) ++ 10 ∷ []))
-
--- the same, and then a line for each of its queues, that says how many jobs of it fit into the account
-abbrev pub CheckedSizes : (left rest was now : Option (List ℕ)) → Type 0
-CheckedSizes left rest was now =
-    (text : List ℕ) × HasGivenAll left rest text
-    × ((due : C.Config) × GivesConfig text due
-    × Writes was now (summary_text (summary_of due) ++ 10 ∷ size_lines due (length due.queues)))
+    × ((due : C.Config) × GivesConfig text due × Writes was now (check_text due sizes))
 
 -- what may be told of a configuration with this first fault: that a file can't be read, the fault, or want of memory
 abbrev pub StopsAt : {A : Type 0} → ConfigFault → Result A Fault → Type 0

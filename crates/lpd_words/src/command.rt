@@ -1,16 +1,15 @@
 //! The command line, as `clap` reads it.
 
-ghost use Rattle.std.specs.Prelude.{◌≡◌, IfOk, codes, false, map, pos};
+ghost use Rattle.std.specs.Prelude.{◌≡◌, IfOk, false, map};
 ghost use Rattle.clap.specs.Words.{app_of, new_app, rule_of};
 ghost use Rattle.clap.specs.declared.builder.command.Command.TheViews.{out-Command as fields_of};
-ghost use Rattle.clap.specs.declared.builder.value_parser.ValueParser.TheVariants as parser;
-ghost use Rattle.lpd_words.specs.CommandLine.{AreLocal, check_app, command_line, count, flag};
-ghost use Rattle.lpd_words.specs.CommandLine.{listening_port, number, number_option, option};
-ghost use Rattle.lpd_words.specs.CommandLine.{program_app, replay_app, send_app, serve_app, sessions};
+ghost use Rattle.lpd_words.specs.CommandLine.{AreLocal, IsCommand, IsWord, check_app, command_line};
+ghost use Rattle.lpd_words.specs.CommandLine.{count, flag, listening_port, number, number_option};
+ghost use Rattle.lpd_words.specs.CommandLine.{option, program_app, replay_app, send_app, serve_app};
 ghost use Rattle.lpd_words.specs.CommandLine.{with_rules, word, words};
 
 use clap::builder::ValueParser;
-use clap::{Arg, ArgAction, Command, value_parser};
+use clap::{Arg, ArgAction, Command};
 use std::alloc::{AllocError, Global};
 
 /// What a configuration's file is.
@@ -74,8 +73,7 @@ Examples:
 
 /// A word that has to be there.
 fn word<'a>(alloc: Global, id: &'a str, name: &'a str, help: &'a str) -> Arg<'a>
-    ensures rule { rule_of result ≡ word id.now }
-    ensures local { result.global ≡ false }
+    ensures { IsWord result (word id.now) }
 {
     Arg::new(alloc, id)
         .value_name(name)
@@ -85,64 +83,29 @@ fn word<'a>(alloc: Global, id: &'a str, name: &'a str, help: &'a str) -> Arg<'a>
 
 /// One word or more, up to 52, that have to be there.
 fn words<'a>(alloc: Global, id: &'a str, name: &'a str, help: &'a str) -> Arg<'a>
-    ensures rule { rule_of result ≡ words id.now }
-    ensures local { result.global ≡ false }
+    ensures { IsWord result (words id.now) }
 {
     word(alloc, id, name, help).num_args(1..=52)
 }
 
 /// An option with one value, `--ID NAME`.
 fn option<'a>(alloc: Global, id: &'a str, name: &'a str, help: &'a str) -> Arg<'a>
-    ensures rule { rule_of result ≡ option id.now }
-    ensures local { result.global ≡ false }
+    ensures { IsWord result (option id.now) }
 {
     Arg::new(alloc, id).value_name(name).help(help).long(id)
 }
 
-/// The ports that there are.
-fn port_range<'a>() -> ValueParser<'a>
-    ensures { result ≡ parser.Signed (pos 1) (pos 65535) }
+/// A word that has to be there, a number of a range.
+fn number<'a>(
+    alloc: Global,
+    id: &'a str,
+    name: &'a str,
+    help: &'a str,
+    range: ValueParser<'a>,
+) -> Arg<'a>
+    ensures { IsWord result (number id.now range.entry) }
 {
-    value_parser!(u16).range(1..)
-}
-
-/// The numbers that a job may have.
-fn job_range<'a>() -> ValueParser<'a>
-    ensures { result ≡ parser.Signed (pos 0) (pos 999) }
-{
-    value_parser!(u16).range(0..=999)
-}
-
-/// The numbers of sessions at once that a server may have.
-fn sessions_range<'a>() -> ValueParser<'a>
-    ensures { result ≡ parser.Signed (pos 1) (pos 64) }
-{
-    value_parser!(u32).range(1..=64)
-}
-
-/// The numbers that count something: 1 or more.
-fn count_range<'a>() -> ValueParser<'a>
-    ensures { result ≡ parser.Signed (pos 1) (pos 4294967295) }
-{
-    value_parser!(u32).range(1..)
-}
-
-/// A word that has to be there, a port.
-fn port<'a>(alloc: Global) -> Arg<'a>
-    ensures rule { rule_of result ≡ number (codes "port") (parser.Signed (pos 1) (pos 65535)) }
-    ensures local { result.global ≡ false }
-{
-    let help = "The port of a server at 127.0.0.1: 1 to 65535";
-    word(alloc, "port", "PORT", help).value_parser(port_range())
-}
-
-/// A word that has to be there, the number of a job.
-fn number<'a>(alloc: Global) -> Arg<'a>
-    ensures rule { rule_of result ≡ number (codes "number") (parser.Signed (pos 0) (pos 999)) }
-    ensures local { result.global ≡ false }
-{
-    let help = "The number of the job: 0 to 999";
-    word(alloc, "number", "NUMBER", help).value_parser(job_range())
+    word(alloc, id, name, help).value_parser(range)
 }
 
 /// An option whose value is a number of a range.
@@ -153,24 +116,21 @@ fn number_option<'a>(
     help: &'a str,
     range: ValueParser<'a>,
 ) -> Arg<'a>
-    ensures rule { rule_of result ≡ number_option id.now range.entry }
-    ensures local { result.global ≡ false }
+    ensures { IsWord result (number_option id.now range.entry) }
 {
     option(alloc, id, name, help).value_parser(range)
 }
 
 /// An option whose value counts something.
 fn count<'a>(alloc: Global, id: &'a str, name: &'a str, help: &'a str) -> Arg<'a>
-    ensures rule { rule_of result ≡ count id.now }
-    ensures local { result.global ≡ false }
+    ensures { IsWord result (count id.now) }
 {
-    number_option(alloc, id, name, help, count_range())
+    number_option(alloc, id, name, help, ValueParser::signed(1, 4_294_967_295))
 }
 
 /// An option without a value, `--ID`.
 fn flag<'a>(alloc: Global, id: &'a str, help: &'a str) -> Arg<'a>
-    ensures rule { rule_of result ≡ flag id.now }
-    ensures local { result.global ≡ false }
+    ensures { IsWord result (flag id.now) }
 {
     Arg::new(alloc, id)
         .long(id)
@@ -180,26 +140,15 @@ fn flag<'a>(alloc: Global, id: &'a str, help: &'a str) -> Arg<'a>
 
 /// The option that has to be there, the port to listen on.
 fn listening_port<'a>(alloc: Global) -> Arg<'a>
-    ensures rule { rule_of result ≡ listening_port }
-    ensures local { result.global ≡ false }
+    ensures { IsWord result listening_port }
 {
     let help = "The port to listen on: 1 to 65535";
-    number_option(alloc, "port", "PORT", help, port_range()).required(true)
-}
-
-/// The option of how many sessions there are at once.
-fn sessions<'a>(alloc: Global) -> Arg<'a>
-    ensures rule { rule_of result ≡ sessions }
-    ensures local { result.global ≡ false }
-{
-    let help = "How many connections are served at once: 1 to 64 [default: 8]";
-    number_option(alloc, "sessions", "SESSIONS", help, sessions_range())
+    number_option(alloc, "port", "PORT", help, ValueParser::signed(1, 65_535)).required(true)
 }
 
 /// A command of this name without words.
 fn plain<'a>(alloc: Global, name: &'a str, about: &'a str, more: &'a str) -> Command<'a>
-    ensures app { app_of result ≡ new_app name.now }
-    ensures local { (fields_of result).has_globals ≡ false }
+    ensures { IsCommand result (new_app name.now) }
 {
     Command::new(alloc, name).about(about).after_help(more)
 }
@@ -208,17 +157,15 @@ fn plain<'a>(alloc: Global, name: &'a str, about: &'a str, more: &'a str) -> Com
 fn with_words<'a>(command: Command<'a>, words: Vec<Arg<'a>>) -> Result<Command<'a>, AllocError>
     requires words { AreLocal words.items }
     requires before { (fields_of command).has_globals ≡ false }
-    ensures app { IfOk result (λ r.
-        app_of r ≡ with_rules (app_of command.entry) (map rule_of words.entry.items)) }
-    ensures local { IfOk result (λ r. (fields_of r).has_globals ≡ false) }
+    ensures { IfOk result (λ r.
+        IsCommand r (with_rules (app_of command.entry) (map rule_of words.entry.items))) }
 {
     command.args(words)
 }
 
 /// The command that reads a configuration.
 fn check<'a>(alloc: Global) -> Result<Command<'a>, AllocError>
-    ensures app { IfOk result (λ command. app_of command ≡ check_app) }
-    ensures local { IfOk result (λ command. (fields_of command).has_globals ≡ false) }
+    ensures { IfOk result (λ command. IsCommand command check_app) }
 {
     let about = "Reads a configuration, and says what spool it is for";
     let sizes = "Says how many jobs fit into the account";
@@ -231,8 +178,7 @@ fn check<'a>(alloc: Global) -> Result<Command<'a>, AllocError>
 
 /// The command that runs a script.
 fn replay<'a>(alloc: Global) -> Result<Command<'a>, AllocError>
-    ensures app { IfOk result (λ command. app_of command ≡ replay_app) }
-    ensures local { IfOk result (λ command. (fields_of command).has_globals ≡ false) }
+    ensures { IfOk result (λ command. IsCommand command replay_app) }
 {
     let about = "Runs the script of a file on the spool of a configuration";
     let words = vec![in alloc;
@@ -244,18 +190,19 @@ fn replay<'a>(alloc: Global) -> Result<Command<'a>, AllocError>
 
 /// The command that sends a job.
 fn send<'a>(alloc: Global) -> Result<Command<'a>, AllocError>
-    ensures app { IfOk result (λ command. app_of command ≡ send_app) }
-    ensures local { IfOk result (λ command. (fields_of command).has_globals ≡ false) }
+    ensures { IfOk result (λ command. IsCommand command send_app) }
 {
     let about = "Sends a job to a server at 127.0.0.1";
+    let port = "The port of a server at 127.0.0.1: 1 to 65535";
     let queue = "The name of a queue: 1 to 1022 octets, no white space";
+    let job = "The number of the job: 0 to 999";
     let host = "The host that sends the job: 1 to 120 octets, no white space";
     let user = "The user that sends the job: 1 to 255 octets in one line";
     let files = "The files to print: 1 to 52, none of them empty";
     let words = vec![in alloc;
-        port(alloc),
+        number(alloc, "port", "PORT", port, ValueParser::signed(1, 65_535)),
         word(alloc, "queue", "QUEUE", queue),
-        number(alloc),
+        number(alloc, "number", "NUMBER", job, ValueParser::signed(0, 999)),
         word(alloc, "host", "HOST", host),
         word(alloc, "user", "USER", user),
         words(alloc, "file", "FILE", files),
@@ -265,12 +212,12 @@ fn send<'a>(alloc: Global) -> Result<Command<'a>, AllocError>
 
 /// The command that serves.
 fn serve<'a>(alloc: Global) -> Result<Command<'a>, AllocError>
-    ensures app { IfOk result (λ command. app_of command ≡ serve_app) }
-    ensures local { IfOk result (λ command. (fields_of command).has_globals ≡ false) }
+    ensures { IfOk result (λ command. IsCommand command serve_app) }
 {
     let about = "Serves the queues of a configuration to the network";
     let bind = "The IPv4 address to listen on [default: 127.0.0.1]";
     let out = "The directory of the printers' files [default: .]";
+    let sessions = "How many connections are served at once: 1 to 64 [default: 8]";
     let connections = "Ends after so many connections [default: none is the last]";
     let rotate = "Rotates the account after each so many connections";
     let silence = "Ends a session whose peer is silent for so many seconds";
@@ -282,7 +229,13 @@ fn serve<'a>(alloc: Global) -> Result<Command<'a>, AllocError>
         listening_port(alloc),
         option(alloc, "bind", "BIND", bind),
         option(alloc, "out", "DIR", out),
-        sessions(alloc),
+        number_option(
+            alloc,
+            "sessions",
+            "SESSIONS",
+            sessions,
+            ValueParser::signed(1, 64)
+        ),
         count(alloc, "connections", "CONNECTIONS", connections),
         count(alloc, "rotate", "ROTATE", rotate),
         count(alloc, "silence", "SECONDS", silence),

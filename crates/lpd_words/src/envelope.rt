@@ -7,7 +7,7 @@ ghost use Rattle.lpr_client.specs.Sendable.{is_sendable};
 
 use lpd_script::FaultName;
 use lpr_client::{Control, FileName, Octets};
-use std::alloc::{AllocError, AllocFailed};
+use std::alloc::AllocError;
 use thiserror::Error;
 
 /// What is known of a job before its files are read: it can be sent, with files under the names of
@@ -57,14 +57,6 @@ impl From<AllocError> for EnvelopeFault {
     ghost from_gives = { λ _ fault. fault ≡ envelope.Memory };
 
     fn from(_error: AllocError) -> EnvelopeFault {
-        EnvelopeFault::Memory
-    }
-}
-
-impl<T: Drop> From<AllocFailed<T>> for EnvelopeFault {
-    ghost from_gives = { λ _ fault. fault ≡ envelope.Memory };
-
-    fn from(_error: AllocFailed<T>) -> EnvelopeFault {
         EnvelopeFault::Memory
     }
 }

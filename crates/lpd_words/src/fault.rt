@@ -2,11 +2,11 @@
 
 ghost use Rattle.std.specs.Prelude.{◌≡◌};
 ghost use Rattle.lpd_words.specs.Status.{status_of};
-ghost use Rattle.lpd_words.specs.declared.fault.Fault.TheVariants.{Memory, Run, Send};
+ghost use Rattle.lpd_words.specs.declared.fault.Fault.TheVariants.{Memory, Run};
 
 use lpd_script::FaultName;
 use lpr_client::SendFault;
-use std::alloc::{AllocError, AllocFailed};
+use std::alloc::AllocError;
 use thiserror::Error;
 
 /// Why the program stopped.
@@ -34,27 +34,11 @@ impl From<AllocError> for Fault {
     }
 }
 
-impl<T: Drop> From<AllocFailed<T>> for Fault {
-    ghost from_gives = { λ _ fault. fault ≡ Memory };
-
-    fn from(_error: AllocFailed<T>) -> Fault {
-        Fault::Memory
-    }
-}
-
 impl From<lpd_script::Fault> for Fault {
     ghost from_gives = { λ cause fault. fault ≡ Run cause };
 
     fn from(fault: lpd_script::Fault) -> Fault {
         Fault::Run(fault)
-    }
-}
-
-impl From<SendFault> for Fault {
-    ghost from_gives = { λ cause fault. fault ≡ Send cause };
-
-    fn from(fault: SendFault) -> Fault {
-        Fault::Send(fault)
     }
 }
 

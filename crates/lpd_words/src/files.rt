@@ -1,17 +1,15 @@
 //! What is done with files: a configuration is checked, a script is run.
 
-ghost use Rattle.std.specs.Prelude.{◌≡◌, ◌≢◌, ◌++◌, ◌∷◌, [], OnOk, IfOk, IfErr, Err, Some, List, ℕ};
-ghost use Rattle.lpd_commands.specs.Ends.{Writes, one_more};
+ghost use Rattle.std.specs.Prelude.{◌≡◌, ◌≢◌, OnOk, IfOk, IfErr, Err, Some, List, ℕ};
+ghost use Rattle.lpd_commands.specs.Ends.{Writes};
 ghost use Rattle.lpd_script.specs.declared.fault.Fault.TheVariants.{ReadFile, WriteFile};
 ghost use Rattle.lpd_words.specs.declared.fault.Fault.TheVariants.{Run};
-ghost use Rattle.lpd_words.specs.Order.{Checked, CheckedSizes, IsConfigFault, ReadsConfig, StopsAt};
-ghost use Rattle.lpd_words.specs.Order.{write_faults};
+ghost use Rattle.lpd_words.specs.Order.{Checked, IsConfigFault, ReadsConfig, StopsAt, write_faults};
 ghost use Rattle.spool_config.specs.Answers.{fault_of};
 ghost use Rattle.spool_config.specs.declared.settings.ConfigFault.{ConfigFault};
 
 use crate::fault::Fault;
-use crate::sizes::sizes_text;
-use crate::summary::summary_of;
+use crate::summary::check_text;
 use config_values::Config;
 use lpd_commands::{OctetRead, OctetWrite, write_all};
 use lpd_script::{read_all, run_parts};
@@ -45,14 +43,16 @@ pub fn read_config<I: OctetRead>(alloc: Global, input: &mut I) -> Result<Config,
     }
 }
 
-/// Reads a configuration to its end, and prints what spool it is for. Answers the first fault:
-/// `ReadFile`, a fault of the configuration, `WriteFile`, and `Memory`.
+/// Reads a configuration to its end, and prints what spool it is for; where sizes are asked for, also
+/// how many jobs of each queue fit into the account. Answers the first fault: `ReadFile`, a fault of
+/// the configuration, `WriteFile`, and `Memory`.
 pub fn check<I: OctetRead, W: OctetWrite>(
     alloc: Global,
     config: &mut I,
+    sizes: bool,
     output: &mut W,
 ) -> Result<(), Fault>
-    ensures checked { OnOk result (Checked (I.left config.old) (I.left config.new)
+    ensures checked { OnOk result (Checked sizes (I.left config.old) (I.left config.new)
         (W.written output.old) (W.written output.new)) }
     ensures read_fault { I.faults config.new ≢ I.faults config.old → result ≡ Err (Run ReadFile) }
     ensures write_fault { W.faults output.new ≡ write_faults (W.faults output.old) result }
@@ -61,27 +61,8 @@ pub fn check<I: OctetRead, W: OctetWrite>(
         fault_of text ≡ Some due →
         StopsAt due result × (W.written output.new ≡ W.written output.old) }
 {
-    let summary = summary_of(&read_config(alloc, config)?);
-    print(output, format!(in alloc; "{summary}\n")?.as_bytes())
-}
-
-/// Reads a configuration to its end, and prints what spool it is for, and how many jobs of each
-/// queue fit into the account. Answers the first fault, as `check` does.
-pub fn check_sizes<I: OctetRead, W: OctetWrite>(
-    alloc: Global,
-    config: &mut I,
-    output: &mut W,
-) -> Result<(), Fault>
-    ensures checked { OnOk result (CheckedSizes (I.left config.old) (I.left config.new)
-        (W.written output.old) (W.written output.new)) }
-    ensures read_fault { I.faults config.new ≢ I.faults config.old → result ≡ Err (Run ReadFile) }
-    ensures write_fault { W.faults output.new ≡ write_faults (W.faults output.old) result }
-    ensures faulty { (text : List ℕ) → I.left config.old ≡ Some text → (due : ConfigFault) →
-        fault_of text ≡ Some due →
-        StopsAt due result × (W.written output.new ≡ W.written output.old) }
-{
     let config = read_config(alloc, config)?;
-    print(output, sizes_text(alloc, &config)?.as_slice())
+    print(output, check_text(alloc, &config, sizes)?.as_slice())
 }
 
 /// Reads a configuration and a script to their ends, and runs the script on the spool that the

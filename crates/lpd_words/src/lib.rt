@@ -4,22 +4,18 @@
 mod command;
 mod envelope;
 mod fault;
-mod file;
 mod files;
 mod naming;
 mod running;
 mod sending;
-mod serving;
-mod sizes;
 mod summary;
 mod words;
 
 pub use envelope::{Envelope, EnvelopeFault};
 pub use fault::Fault;
-pub use file::FileReader;
-pub use files::{check, check_sizes, read_config, replay};
+pub use files::{check, read_config, replay};
+pub use lpd_script::StreamReader as FileReader;
 pub use running::{Outcome, run, tell_unread};
 pub use sending::{data_file, send};
 pub use server_settings::Settings;
-pub use summary::{Summary, summary_of};
 pub use words::{Asked, Sending, Unread, read_words, words_of};

@@ -3,7 +3,7 @@
 ghost use Rattle.std.specs.Prelude.{◌≡◌, ◌<◌, ◌≤◌, ◌∷◌, ◌++◌, [], IsTrue, IfOk, IfErr, length, map};
 ghost use Rattle.std.specs.List.{list_all};
 ghost use Rattle.control_file.specs.View.{contents};
-ghost use Rattle.lpd_values.specs.Kept.{is_line_feed, is_operand, is_operand_len, is_print_list};
+ghost use Rattle.lpd_values.specs.Kept.{is_line_feed, is_operand, is_print_list};
 ghost use Rattle.lpd_values.specs.Name.{is_data_name};
 ghost use Rattle.lpd_values.specs.Pieces.{is_kept};
 ghost use Rattle.lpd_words.specs.Naming.{IsEnvelope, data_names, file_name, is_head, letter_of};
@@ -80,32 +80,23 @@ fn data_names(
     Ok(names)
 }
 
-/// Whether a host or a user has 1 to 255 octets.
-fn has_operand_len(octets: &[u8]) -> bool
-    ensures { result ≡ is_operand_len (length octets.now) }
-{
-    1 <= octets.len() && octets.len() <= MAX_OPERAND
-}
-
 fn is_one_line(octets: &[u8]) -> bool
     ensures { result ≡ list_all (is_kept is_line_feed) octets.now }
 {
     octets.iter().all(|octet| *octet != b'\n')
 }
 
+/// Whether a host or a user has 1 to 255 octets in one line.
 fn is_operand(octets: &[u8]) -> bool
     ensures { result ≡ is_operand octets.now }
 {
-    has_operand_len(octets) && is_one_line(octets)
+    !octets.is_empty() && octets.len() <= MAX_OPERAND && is_one_line(octets)
 }
 
 fn is_data_name(name: &FileName) -> bool
     ensures { result ≡ is_data_name name.now }
 {
-    if name.is_control() {
-        return false;
-    }
-    true
+    !name.is_control()
 }
 
 fn all_data_names(names: &[FileName]) -> bool
@@ -117,8 +108,7 @@ fn all_data_names(names: &[FileName]) -> bool
 fn is_print_list(names: &FileNames) -> bool
     ensures { result ≡ is_print_list names.now }
 {
-    let fits = 1 <= names.len() && names.len() <= MAX_PRINTS;
-    fits && all_data_names(names.as_slice())
+    !names.is_empty() && names.len() <= MAX_PRINTS && all_data_names(names.as_slice())
 }
 
 /// The control file of a job.

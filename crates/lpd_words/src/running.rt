@@ -17,13 +17,12 @@ ghost use Rattle.lpd_words.specs.declared.words.Asked.TheVariants.{Serve};
 
 use crate::envelope::Envelope;
 use crate::fault::Fault;
-use crate::file::FileReader;
-use crate::files::{check, check_sizes, print, replay};
+use crate::files::{check, print, replay};
 use crate::naming::three_digits;
 use crate::sending::{data_files, send};
 use crate::words::{Asked, Sending, Unread, read_words};
 use lpd_commands::{OctetRead, OctetWrite, write_all};
-use lpd_script::{run_input, tell};
+use lpd_script::{StreamReader, run_input, tell};
 use server_settings::Settings;
 use std::alloc::{AllocError, Global};
 use std::fs::Files;
@@ -60,12 +59,12 @@ fn send_files<R: Files + Net, W: OctetWrite>(
     alloc: Global,
     rt: &R,
     sending: &Sending,
-    envelope: Envelope,
+    envelope: &Envelope,
     output: &mut W,
 ) -> Result<(), Fault>
     ensures write_fault { W.faults output.new ≡ write_faults (W.faults output.old) result }
     ensures sent { OnOk result (Writes (W.written output.old) (W.written output.new)
-        (sent_line envelope.control.number)) }
+        (sent_line envelope.now.control.number)) }
 {
     let names = envelope.control.prints.as_slice();
     let files = data_files(alloc, rt, names, sending.files.as_slice())?;
@@ -86,22 +85,14 @@ fn run_asked<R: Files + Net, W: OctetWrite>(
     match asked {
         Asked::Input | Asked::Serve { .. } => Ok(()),
         Asked::Check { config, sizes } => {
-            let mut config = FileReader::open(rt, config);
-            if sizes {
-                return check_sizes(alloc, &mut config, output);
-            }
-            check(alloc, &mut config, output)
+            check(alloc, &mut StreamReader::open(rt, config), sizes, output)
         }
         Asked::Replay { config, script } => {
-            let mut config = FileReader::open(rt, config);
-            replay(
-                alloc,
-                &mut config,
-                &mut FileReader::open(rt, script),
-                output,
-            )
+            let mut config = StreamReader::open(rt, config);
+            let mut script = StreamReader::open(rt, script);
+            replay(alloc, &mut config, &mut script, output)
         }
-        Asked::Send { sending, envelope } => send_files(alloc, rt, &sending, envelope, output),
+        Asked::Send { sending, envelope } => send_files(alloc, rt, &sending, &envelope, output),
     }
 }
 

@@ -13,16 +13,12 @@ ghost use Rattle.lpr_client.specs.Sendable.{is_sendable, is_sendable_file};
 
 use crate::envelope::Envelope;
 use crate::fault::Fault;
-use crate::file::FileReader;
 use lpd_commands::OctetRead;
 use lpd_script::{StreamReader, StreamWriter, read_all};
 use lpr_client::{DataFile, FileName, Octets, send_job};
 use std::alloc::Global;
 use std::fs::Files;
 use std::net::{Ipv4Addr, Net, OpenStream, SocketAddr, TcpStream};
-
-/// A file can't be read.
-const UNREAD: Fault = Fault::Run(lpd_script::Fault::ReadFile);
 
 /// Reads a data file of this name to its end. Answers `ReadFile` where it can't be read or has no
 /// octets, and `Memory`.
@@ -43,7 +39,7 @@ pub fn data_file<F: OctetRead>(
 {
     let octets = read_all(alloc, file)?;
     if octets.is_empty() {
-        return Err(UNREAD);
+        return Err(Fault::Run(lpd_script::Fault::ReadFile));
     }
     Ok(DataFile {
         name,
@@ -68,8 +64,10 @@ pub(crate) fn data_files<R: Files>(
 {
     let mut read = Vec::new(alloc);
     for (name, path) in names.iter().zip(paths.iter()) {
-        let mut file = FileReader::open(files, path);
-        read.push(data_file(alloc, *name, &mut file)?)?;
+        let mut file = StreamReader::open(files, path);
+        if read.push(data_file(alloc, *name, &mut file)?).is_err() {
+            return Err(Fault::Memory);
+        }
     }
     Ok(read)
 }
@@ -93,28 +91,18 @@ pub fn send<R: Net>(
     alloc: Global,
     net: &R,
     port: u16,
-    envelope: Envelope,
+    envelope: &Envelope,
     files: &[DataFile],
 ) -> Result<(), Fault>
-    requires { IsTrue (is_sendable envelope.queue envelope.name envelope.control files.now) }
+    requires { IsTrue (is_sendable envelope.now.queue envelope.now.name envelope.now.control
+        files.now) }
     ensures { IfErr result IsNetworkFault }
 {
     let (reader, writer) = connect(net, port)?;
-    let mut reader = StreamReader::new(reader);
-    let mut writer = StreamWriter::new(writer);
-    let Envelope {
-        queue,
-        name,
-        control,
-    } = envelope;
-    send_job(
-        alloc,
-        &mut reader,
-        &mut writer,
-        &queue,
-        &name,
-        &control,
-        files,
-    )?;
-    Ok(())
+    let (mut reader, mut writer) = (StreamReader::new(reader), StreamWriter::new(writer));
+    let (queue, name, control) = (&envelope.queue, &envelope.name, &envelope.control);
+    match send_job(alloc, &mut reader, &mut writer, queue, name, control, files) {
+        Ok(()) => Ok(()),
+        Err(fault) => Err(Fault::Send(fault)),
+    }
 }

@@ -1,24 +1,36 @@
 //! What the words ask for.
 
-ghost use Rattle.std.specs.Prelude.{◌≡◌, [], IfOk, IfErr, None, Some, map, string_bytes};
+ghost use Rattle.std.specs.Prelude.{◌≡◌, [], IfOk, IfErr, None, Some, codes, map, string_bytes};
+ghost use Rattle.std.specs.Prelude.{unwrap_or};
 ghost use Rattle.clap.specs.Words.{all_of, fault_of, first_of, found_of, kind_of, rows_of};
 ghost use Rattle.clap.specs.Words.{subcommand_of, subcommand_rows_of};
-ghost use Rattle.lpd_words.specs.Asked.{HasNoNumber, IsAsked, IsAskedBy, IsNumber, IsSending};
+ghost use Rattle.lpd_words.specs.Asked.{HasNoNumber, IsAddress, IsAsked, IsAskedBy, IsFlag, IsGiven};
+ghost use Rattle.lpd_words.specs.Asked.{IsGivenOr, IsNumber, IsSending, IsServing};
 ghost use Rattle.lpd_words.specs.CommandLine.{command_line};
-ghost use Rattle.lpd_words.specs.declared.envelope.EnvelopeFault.TheVariants.{Missing};
+ghost use Rattle.lpd_words.specs.Refused.{AsksNothing, HasNoAddress, HasNoCount, HasNoSessions};
+ghost use Rattle.lpd_words.specs.Refused.{HasNoWords, IsUnread, IsUnreadBy, IsUnreadFor};
+ghost use Rattle.lpd_words.specs.Refused.{LacksServing, LacksWords};
+ghost use Rattle.lpd_words.specs.declared.envelope.EnvelopeFault.TheVariants.{Address, Missing};
 ghost use Rattle.lpd_words.specs.declared.words.Unread.TheVariants.{Memory};
-ghost use Rattle.lpd_words.specs.Refused.{AsksNothing, IsUnread, IsUnreadBy, IsUnreadFor};
-ghost use Rattle.lpd_words.specs.Refused.{HasNoWords, LacksWords};
 
 use crate::command::command;
 use crate::envelope::{Envelope, EnvelopeFault};
-use crate::serving::{flag_of, serving_of};
 use clap::error::ErrorKind;
 use clap::{ArgMatches, Command, Error};
 use server_settings::Settings;
 use std::alloc::{AllocError, Global};
 use std::env::Env;
 use std::io;
+use std::net::Ipv4Addr;
+
+/// How many connections are served at once where the words don't say it.
+const SESSIONS: u32 = 8;
+
+/// The address that is listened on where the words don't say it.
+const BIND: &str = "127.0.0.1";
+
+/// The directory of the printers' files where the words don't say it.
+const OUT: &str = ".";
 
 /// A job that is to be sent to a port of 127.0.0.1.
 #[derive(Debug, Drop)]
@@ -119,12 +131,82 @@ fn texts_of<'a, 'm>(matches: &'m ArgMatches<'a>, id: &str) -> Result<&'m [&'a st
 }
 
 /// The number that a word is, which has to be there.
-pub(crate) fn number_of(matches: &ArgMatches, id: &str) -> Result<u16, EnvelopeFault>
+fn number_of(matches: &ArgMatches, id: &str) -> Result<u16, EnvelopeFault>
     ensures number { IfOk result (IsNumber (rows_of (found_of matches.now)) id.now) }
     ensures fault { IfErr result (λ fault. (fault ≡ Missing)
         × HasNoNumber (rows_of (found_of matches.now)) id.now) }
 {
     matches.get_one::<u16>(id).ok_or(EnvelopeFault::Missing)
+}
+
+/// Whether an option without a value is there.
+fn flag_of(matches: &ArgMatches, id: &str) -> bool
+    ensures { IsFlag (rows_of (found_of matches.now)) id.now result }
+{
+    matches.get_flag(id)
+}
+
+/// The text of an option, or this one where it isn't there.
+fn text_or<'a>(matches: &ArgMatches<'a>, id: &str, other: &'a str) -> &'a str
+    ensures { result.now ≡ unwrap_or (first_of id.now (rows_of (found_of matches.now))) other.now }
+{
+    matches.get_str(id).unwrap_or(other)
+}
+
+/// The address to listen on. `Address` where the text isn't one.
+fn address_of(matches: &ArgMatches) -> Result<Ipv4Addr, EnvelopeFault>
+    ensures address { IfOk result (IsAddress (rows_of (found_of matches.now))) }
+    ensures fault { IfErr result (λ fault. (fault ≡ Address)
+        × HasNoAddress (rows_of (found_of matches.now))) }
+{
+    match text_or(matches, "bind", BIND).parse() {
+        Ok(address) => Ok(address),
+        Err(_) => Err(EnvelopeFault::Address),
+    }
+}
+
+/// The number that an option is, if it is there. `Missing` where it is no number.
+fn count_of(matches: &ArgMatches, id: &str) -> Result<Option<u64>, EnvelopeFault>
+    ensures count { IfOk result (IsGiven 64 (rows_of (found_of matches.now)) id.now) }
+    ensures fault { IfErr result (λ fault. (fault ≡ Missing)
+        × HasNoCount (rows_of (found_of matches.now)) id.now) }
+{
+    match matches.try_get_one::<u64>(id) {
+        Ok(count) => Ok(count),
+        Err(_) => Err(EnvelopeFault::Missing),
+    }
+}
+
+/// How many connections are served at once. `Missing` where the option is no number.
+fn sessions_of(matches: &ArgMatches) -> Result<u32, EnvelopeFault>
+    ensures sessions { IfOk result
+        (IsGivenOr 8 (rows_of (found_of matches.now)) (codes "sessions")) }
+    ensures fault { IfErr result (λ fault. (fault ≡ Missing)
+        × HasNoSessions (rows_of (found_of matches.now))) }
+{
+    match matches.try_get_one::<u32>("sessions") {
+        Ok(sessions) => Ok(sessions.unwrap_or(SESSIONS)),
+        Err(_) => Err(EnvelopeFault::Missing),
+    }
+}
+
+/// What words say of a server that is to run.
+fn serving_of<'a>(matches: &ArgMatches<'a>) -> Result<Settings<'a>, EnvelopeFault>
+    ensures read { IfOk result (IsServing (rows_of (found_of matches.now))) }
+    ensures fault { IfErr result (LacksServing (rows_of (found_of matches.now))) }
+{
+    Ok(Settings {
+        port: number_of(matches, "port")?,
+        bind: address_of(matches)?,
+        out: text_or(matches, "out", OUT),
+        sessions: sessions_of(matches)?,
+        connections: count_of(matches, "connections")?,
+        rotate: count_of(matches, "rotate")?,
+        silence: count_of(matches, "silence")?,
+        per_host: count_of(matches, "per-host")?,
+        slowest: count_of(matches, "slowest")?,
+        keep_room: flag_of(matches, "keep-room"),
+    })
 }
 
 /// What words say of a job that is to be sent.

@@ -2,7 +2,7 @@ use Rattle.lpd_words.proofs.command.send.Goals as goal
 use Rattle.lpd_words.specs.CommandLine.{send_words}
 use Rattle.lpd_words.proofs.CommandLemmas.{ok_rules}
 
-pub returns-clause-app : goal.returns-clause-app
-returns-clause-app c =
-    ok_rules _ _ _ _ _ send_words c.with_words.ensures.app c.in_ok-words.ensures.items c.plain.ensures.app
-    (c.port.ensures.rule, (c.word.ensures.rule, (c.number.ensures.rule, (c.word-2.ensures.rule, (c.word-3.ensures.rule, (c.words.ensures.rule, tt))))))
+pub returns : goal.returns
+returns c =
+    ok_rules _ _ _ _ _ send_words c.with_words.ensures c.in_ok-words.ensures.items c.plain.ensures.0
+    (rw c.signed.ensures at c.number.ensures, (c.word.ensures, (rw c.signed-2.ensures at c.number-2.ensures, (c.word-2.ensures, (c.word-3.ensures, (c.words.ensures, tt))))))

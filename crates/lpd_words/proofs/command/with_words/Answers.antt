@@ -1,8 +1,5 @@
 use Rattle.lpd_words.proofs.command.with_words.Goals as goal
 use Rattle.lpd_words.proofs.CommandLemmas.{ok_words}
 
-pub returns-clause-app : goal.returns-clause-app
-returns-clause-app c = ok_words _ _ _ _ c.args-2.ensures c.requires.words c.requires.before (λ new app local. app)
-
-pub returns-clause-local : goal.returns-clause-local
-returns-clause-local c = ok_words _ _ _ _ c.args-2.ensures c.requires.words c.requires.before (λ new app local. local)
+pub returns : goal.returns
+returns c = ok_words _ _ _ _ c.args-2.ensures c.requires.words c.requires.before (λ new app local. (app, local))
