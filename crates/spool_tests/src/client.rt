@@ -272,15 +272,16 @@ fn ann(alloc: Global) -> Result<Words, AllocError> {
 #[test]
 fn questions(rt: HostRuntime) -> Result<(), Fail> {
     let alloc = rt.alloc();
-    let queue = Octets::copy_of(alloc, b"lp")?;
-    let line = state_bytes(alloc, queue, Words::new(alloc), false)?;
+    let (queue, agent) = (
+        Octets::copy_of(alloc, b"lp")?,
+        Octets::copy_of(alloc, b"root")?,
+    );
+    let ann = ann(alloc)?;
+    let line = state_bytes(alloc, &queue, &Words::new(alloc), false)?;
     expect(&rt, b"state", line.as_slice(), b"\x03lp\n");
-    let queue = Octets::copy_of(alloc, b"lp")?;
-    let line = state_bytes(alloc, queue, ann(alloc)?, true)?;
+    let line = state_bytes(alloc, &queue, &ann, true)?;
     expect(&rt, b"long state", line.as_slice(), b"\x04lp ann\n");
-    let queue = Octets::copy_of(alloc, b"lp")?;
-    let agent = Octets::copy_of(alloc, b"root")?;
-    let line = remove_bytes(alloc, queue, agent, ann(alloc)?)?;
+    let line = remove_bytes(alloc, &queue, &agent, &ann)?;
     expect(&rt, b"removal", line.as_slice(), b"\x05lp root ann\n");
     Ok(())
 }
