@@ -1,8 +1,10 @@
 //! The bells of the seats: on each one only its seat waits.
 
+ghost use Rattle.std.specs.Prelude.{◌≡◌};
+
 use crate::line::{Calls, Room, Row};
 use crate::spool::SharedSpool;
-use locked_spool::Config;
+use locked_spool::{Config, Receipt};
 use spool_ledgers::SpoolLedger;
 use std::alloc::{AllocError, Global};
 use std::sync::Condvar;
@@ -59,11 +61,7 @@ fn rows_of(alloc: Global, doors: &[Door], all: Row) -> Result<Vec<Row>, AllocErr
 
 /// So many bells.
 fn bells_of(alloc: Global, count: u32) -> Result<Vec<Condvar>, AllocError> {
-    let mut bells = Vec::new(alloc);
-    for _i in 0..count {
-        bells.push(Condvar::new())?;
-    }
-    Ok(bells)
+    (0..count).map(|_| Condvar::new()).collect(alloc)
 }
 
 impl Bells {
@@ -90,12 +88,9 @@ impl Bells {
 
     /// The printers of the queue of a name, or all where no queue has it.
     pub(crate) fn row_of(&self, name: &[u8]) -> Row {
-        for door in self.doors.iter() {
-            if door.name.as_slice() == name {
-                return door.row;
-            }
-        }
-        self.all
+        let mut doors = self.doors.iter();
+        let found = doors.find(|door| door.name.as_slice() == name);
+        found.map_or(self.all, |door| door.row)
     }
 }
 
@@ -138,11 +133,8 @@ impl<E: SpoolLedger, K: Ledger, H: Ledger> SharedSpool<E, K, H> {
     /// Calls all printers of these that wait and need not any more, and rings their bells.
     pub(crate) fn ring_printers(&self, room: &mut Room<E, K, H>, row: Row) {
         for first in row.first..row.past {
-            let one = Row {
-                first,
-                past: first.saturating_add(1),
-            };
-            self.ring_printer(room.call_printer(one));
+            let past = first.saturating_add(1);
+            self.ring_printer(room.call_printer(Row { first, past }));
         }
     }
 
@@ -150,23 +142,40 @@ impl<E: SpoolLedger, K: Ledger, H: Ledger> SharedSpool<E, K, H> {
     /// the account where it may.
     pub(crate) fn ring_all(&self, room: &mut Room<E, K, H>, row: Row) {
         self.ring_printers(room, row);
-        for place in room.line.sessions.iter() {
-            if let Some(waiter) = place {
-                self.ring_session(Some(waiter.waiting.seat));
-            }
+        for waiter in room.line.sessions.iter().flatten() {
+            self.ring_session(Some(waiter.waiting.seat));
         }
         if room.may_rotate() {
             self.bells.rotates.notify_one();
         }
     }
 
-    /// A session's job is whole. Where it isn't the last one that the seat opened, its queue isn't known.
-    pub(crate) fn call_for(&self, room: &mut Room<E, K, H>, row: Option<Row>) -> Calls {
+    /// Who is called after such an answer: somebody where a job is whole by it. Where that isn't the last one that the seat
+    /// opened, its queue isn't known.
+    pub(crate) fn calls_after<X>(
+        &self,
+        room: &mut Room<E, K, H>,
+        row: Option<Row>,
+        answer: &Result<Receipt, X>,
+    ) -> Calls {
+        if !matches!(answer, Ok(Receipt::Received)) {
+            return Calls::default();
+        }
         if let Some(row) = row {
             return room.call(row);
         }
         self.ring_printers(room, self.bells.all);
         room.call_one_session()
+    }
+
+    /// An answer, of which others are told where an entry was written.
+    pub(crate) fn told<T, X>(&self, answer: Result<T, X>) -> Result<T, X>
+        ensures { result ≡ answer }
+    {
+        if answer.is_ok() {
+            self.changed.notify_all();
+        }
+        answer
     }
 
     /// The printers of all queues.

@@ -73,18 +73,9 @@ pub(crate) struct Row {
 impl Line {
     /// Nobody waits of so many printers and sessions.
     pub(crate) fn new(alloc: Global, printers: u32, sessions: u32) -> Result<Line, AllocError> {
-        let mut places = Vec::new(alloc);
-        places.push(false)?;
-        for _i in 0..printers {
-            places.push(false)?;
-        }
-        let mut waiters = Vec::new(alloc);
-        for _i in 0..sessions {
-            waiters.push(None)?;
-        }
         Ok(Line {
-            printers: places,
-            sessions: waiters,
+            printers: (0..=printers).map(|_| false).collect(alloc)?,
+            sessions: (0..sessions).map(|_| None).collect(alloc)?,
             waiting: 0,
             events: 0,
             round: 0,
@@ -131,30 +122,16 @@ impl Line {
 
     /// The session of the first job among those that didn't ask since so many events.
     fn first(&self, events: u64) -> Option<u32> {
-        let mut found: Option<Waiter> = None;
-        for place in self.sessions.iter() {
-            if let Some(waiter) = place {
-                let is_first = match found {
-                    Some(other) => waiter.waiting.job < other.waiting.job,
-                    None => true,
-                };
-                if waiter.asked < events && is_first {
-                    found = Some(*waiter);
-                }
-            }
-        }
-        found.map(|waiter| waiter.waiting.seat)
+        let waiters = self.sessions.iter().flatten();
+        let late = waiters.filter(|waiter| waiter.asked < events);
+        let first = late.min_by_key(|waiter| waiter.waiting.job)?;
+        Some(first.waiting.seat)
     }
 
     /// The sessions that wait, by the numbers of their seats.
     pub(crate) fn all_waiting(&self, alloc: Global) -> Result<Vec<Waiting>, AllocError> {
-        let mut all = Vec::new(alloc);
-        for place in self.sessions.iter() {
-            if let Some(waiter) = place {
-                all.push(waiter.waiting)?;
-            }
-        }
-        Ok(all)
+        let waiters = self.sessions.iter().flatten();
+        waiters.map(|waiter| waiter.waiting).collect(alloc)
     }
 
     /// Calls the next session of the round, or the first of the next round where more happened since.

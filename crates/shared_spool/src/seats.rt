@@ -65,10 +65,7 @@ impl<E: Ledger, K: Ledger, H: Ledger> SessionSeat<E, K, H> {
 
     /// The printers of a job's queue, where it is the last one that was opened here.
     pub(crate) fn row_for(&self, job: u64) -> Option<Row> {
-        if self.opened == job {
-            return Some(self.row);
-        }
-        None
+        (self.opened == job).then_some(self.row)
     }
 }
 

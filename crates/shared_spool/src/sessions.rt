@@ -43,16 +43,14 @@ impl<E: SpoolLedger, K: Ledger, H: Ledger> SharedSpool<E, K, H> {
     ) -> Result<u64, Refusal>
         ensures { seat.new ≡ when_done kind.Opened result seat.old }
     {
-        let mut room = self.state.lock(rt);
-        let answer = room.locked.open(&mut seat.shares, sender, queue);
-        drop(room);
+        let shares = &mut seat.shares;
+        let answer = self.state.lock(rt).locked.open(shares, sender, queue);
         if let Ok(job) = &answer {
             seat.opened = *job;
             seat.put = 0;
             seat.row = self.bells.row_of(queue);
-            self.changed.notify_all();
         }
-        answer
+        self.told(answer)
     }
 
     /// Lends a page to a job, which has to come back by `put` or `abort`; or answers Later, where no page is free or the state
@@ -70,10 +68,7 @@ impl<E: SpoolLedger, K: Ledger, H: Ledger> SharedSpool<E, K, H> {
         ensures shares { seat.new ≡ when_lent result seat.old }
     {
         let answer = self.state.lock(rt).locked.ask(&mut seat.shares, job);
-        if answer.is_ok() {
-            self.changed.notify_all();
-        }
-        answer
+        self.told(answer)
     }
 
     /// Begins a data file of so many octets.
@@ -91,16 +86,16 @@ impl<E: SpoolLedger, K: Ledger, H: Ledger> SharedSpool<E, K, H> {
         requires { 0 < count }
         ensures { seat.new ≡ when_done kind.Began result seat.old }
     {
+        let shares = &mut seat.shares;
         let answer = self
             .state
             .lock(rt)
             .locked
-            .begin_file(&mut seat.shares, job, name, count);
+            .begin_file(shares, job, name, count);
         if answer.is_ok() {
             seat.lacks = count;
-            self.changed.notify_all();
         }
-        answer
+        self.told(answer)
     }
 
     /// Puts the next page of a job's open file.
@@ -121,9 +116,8 @@ impl<E: SpoolLedger, K: Ledger, H: Ledger> SharedSpool<E, K, H> {
         if answer.is_ok() {
             seat.lacks = seat.lacks.saturating_sub(octets);
             seat.put = seat.put.saturating_add(octets);
-            self.changed.notify_all();
         }
-        answer
+        self.told(answer)
     }
 
     /// Ends the open file of a job, and says whether the job is whole by that.
@@ -140,17 +134,10 @@ impl<E: SpoolLedger, K: Ledger, H: Ledger> SharedSpool<E, K, H> {
         let row = seat.row_for(job);
         let mut room = self.state.lock(rt);
         let answer = room.locked.end_file(&mut seat.shares, job);
-        if matches!(&answer, Ok(Receipt::Received)) {
-            let calls = self.call_for(&mut *room, row);
-            drop(room);
-            self.ring(calls);
-        } else {
-            drop(room);
-        }
-        if answer.is_ok() {
-            self.changed.notify_all();
-        }
-        answer
+        let calls = self.calls_after(&mut *room, row, &answer);
+        drop(room);
+        self.ring(calls);
+        self.told(answer)
     }
 
     /// Takes the control file of a job, and says whether the job is whole by that.
@@ -170,17 +157,10 @@ impl<E: SpoolLedger, K: Ledger, H: Ledger> SharedSpool<E, K, H> {
         let row = seat.row_for(job);
         let mut room = self.state.lock(rt);
         let answer = room.locked.control(&mut seat.shares, job, control);
-        if matches!(&answer, Ok(Receipt::Received)) {
-            let calls = self.call_for(&mut *room, row);
-            drop(room);
-            self.ring(calls);
-        } else {
-            drop(room);
-        }
-        if answer.is_ok() {
-            self.changed.notify_all();
-        }
-        answer
+        let calls = self.calls_after(&mut *room, row, &answer);
+        drop(room);
+        self.ring(calls);
+        self.told(answer)
     }
 
     /// Ends a job that is being received, or takes back the page that was lent to one that has ended.
