@@ -1,15 +1,10 @@
 -- The values of a parse, by its rows.
-use Rattle.std.proofs.Common.{◌≡◌, ◌∙◌, ◌⊎◌, ◌<◌, ◌^◌, [], inl, inr, sym, refl, true, ℕ, List, Option, Some, None, Result, IfOk, IfErr, map, option_map, ok_or, Box, codes}
+use Rattle.std.proofs.Common.{◌≡◌, ◌∙◌, ◌⊎◌, ◌<◌, ◌^◌, [], inl, inr, sym, refl, true, ℕ, List, Option, Some, None, Result, IfOk, IfErr, map, option_map, ok_or, codes}
 use Rattle.std.specs.Borrow.{Bor}
 use Rattle.std.specs.Str.Parse.{ParsesUnsigned, digits_value, without_leading_plus}
-use Rattle.std.specs.Box.{box_value}
-use Rattle.clap.specs.Words.{IsAmong, ReadsOne, Row, Text, fault_of, is_simple, is_simple_and_free, one_of, rows_of, subcommand_name_of, subcommand_of, subcommand_rows, subcommand_rows_of}
-use Rattle.clap.specs.declared.parser.matches.ArgMatches.{ArgMatches}
-use Rattle.clap.specs.declared.parser.matches.ArgMatches.TheViews.{out-SubCommand}
-use Rattle.clap.specs.declared.parser.matches.SubCommand.{SubCommand}
+use Rattle.clap.specs.Words.{IsAmong, ReadsOne, Row, Text, fault_of, is_simple, is_simple_and_free, one_of, subcommand_of}
 use Rattle.clap.proofs.OnLiterals.{clap_on_literals}
 use Rattle.lpd_words.specs.CommandLine.{command_line}
-use Rattle.clap.specs.declared.parser.matches.Found.{Found}
 use Rattle.lpd_words.specs.Asked.{HasNoNumber, IsNumber, IsSending}
 use Rattle.lpd_words.specs.Refused.{AsksNothing, IsUnread, IsUnreadBy, IsUnreadFor, IsWrong}
 use Rattle.lpd_words.specs.declared.words.Unread.{Unread}

@@ -3,7 +3,7 @@ use Rattle.std.specs.List.{list_all}
 use Rattle.lpd_values.specs.Name.{is_data_name}
 use Rattle.lpr_client.specs.declared.file.DataFile.{DataFile}
 use Rattle.lpr_client.specs.Sendable.{is_sendable_file}
-use Rattle.lpd_words.proofs.sending.data_files.Given as goal
+use Rattle.lpd_words.proofs.running.data_files.Given as goal
 
 -- the names of these files
 abbrev pub names : List DataFile → List (List ℕ)
