@@ -2,7 +2,7 @@
 
 ghost use Rattle.std.specs.Prelude.{◌≡◌};
 ghost use Rattle.std.specs.List.{list_all};
-ghost use Rattle.lpd_values.specs.Kinds.{is_space, is_word_octet, is_text_octet, is_digit, is_letter};
+ghost use Rattle.lpd_values.specs.Kinds.{is_space, is_word_octet, is_text_octet, is_digit};
 
 /// Space, horizontal tab, vertical tab and form feed.
 pub fn is_space(octet: u8) -> bool
@@ -21,13 +21,7 @@ pub(crate) fn is_word_octet(octet: u8) -> bool
 pub fn is_digit(octet: u8) -> bool
     ensures { result ≡ is_digit octet }
 {
-    b'0' <= octet && octet <= b'9'
-}
-
-pub(crate) fn is_letter(octet: u8) -> bool
-    ensures { result ≡ is_letter octet }
-{
-    b'A' <= octet && octet <= b'Z' || b'a' <= octet && octet <= b'z'
+    octet.is_ascii_digit()
 }
 
 pub fn all_spaces(octets: &[u8]) -> bool

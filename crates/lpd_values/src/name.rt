@@ -2,9 +2,9 @@
 
 ghost use Rattle.std.specs.Prelude.{◌≡◌, ◌≤◌, ◌-◌, IsTrue, MatchResult, true, false, length};
 ghost use Rattle.lpd_values.specs.Kinds.{is_digit};
-ghost use Rattle.lpd_values.specs.Name.{is_control_name, is_data_name, is_file_name, is_name, has_head, number_of, padded, IsFileName};
+ghost use Rattle.lpd_values.specs.Name.{is_control_name, is_data_name, is_file_name, is_name, number_of, padded, IsFileName};
 
-use crate::kinds::{all_digits, all_word_octets, is_letter};
+use crate::kinds::{all_digits, all_word_octets};
 use crate::limits::{MAX_NAME, MIN_NAME};
 use crate::refusal::Refusal;
 use std::marker::Model;
@@ -60,28 +60,19 @@ impl Eq for FileName {
     ghost laws = { nat_list_eq_equiv };
 }
 
-fn has_head(kind: u8, octets: &[u8]) -> bool
-    requires { MIN_NAME ≤ length octets.now }
-    ensures { result ≡ has_head kind octets.now }
-{
-    octets[0] == kind && octets[1] == b'f' && is_letter(octets[2])
-}
-
 /// Whether the octets are a name of this kind, `c` or `d`.
 fn is_name(kind: u8, octets: &[u8]) -> bool
-    ensures { result ≡ is_name kind octets.now }
+    ensures value { result ≡ is_name kind octets.now }
+    ensures within { IsTrue result → length octets.now ≤ MAX_NAME }
 {
     if octets.len() < MIN_NAME || octets.len() > MAX_NAME {
         return false;
     }
-    has_head(kind, octets) && all_digits(&octets[3..6]) && all_word_octets(&octets[6..])
-}
-
-fn is_file_name(octets: &[u8]) -> bool
-    ensures value { result ≡ is_file_name octets.now }
-    ensures within { IsTrue result → length octets.now ≤ MAX_NAME }
-{
-    is_name(b'c', octets) || is_name(b'd', octets)
+    octets[0] == kind
+        && octets[1] == b'f'
+        && octets[2].is_ascii_alphabetic()
+        && all_digits(&octets[3..6])
+        && all_word_octets(&octets[6..])
 }
 
 /// The octets with zeros behind them.
@@ -108,7 +99,7 @@ impl FileName {
         ensures { MatchResult result (λ n. (n ≡ octets.now) × IsFileName octets.now)
             (λ e. (e ≡ Refusal.BadName) × (is_file_name octets.now ≡ false)) }
     {
-        if !is_file_name(octets) {
+        if !is_name(b'c', octets) && !is_name(b'd', octets) {
             return Err(Refusal::BadName);
         }
         Ok(FileName {

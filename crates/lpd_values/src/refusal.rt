@@ -12,49 +12,49 @@ use std::fmt;
 #[derive(Clone, Copy, Debug, PartialEq, Eq)]
 pub enum Refusal {
     /// The queue isn't configured.
-    UnknownQueue,
+    UnknownQueue = 1,
     /// As many jobs are held as there may be.
-    TableFull,
+    TableFull = 2,
     /// The account has no room for one job more.
-    AccountFull,
+    AccountFull = 3,
     /// The spool was closed.
-    Closed,
+    Closed = 4,
     /// The job would hold more pages than its queue allows.
-    OverClaim,
+    OverClaim = 5,
     /// The job has a control file already.
-    ControlTwice,
+    ControlTwice = 6,
     /// The job has a data file of that name already.
-    NameTaken,
+    NameTaken = 7,
     /// The job has as many data files as it may have.
-    FilesFull,
+    FilesFull = 8,
     /// A data file of the job is open.
-    FileOpen,
+    FileOpen = 9,
     /// The job isn't being received, or nothing is open where the request needs it.
-    NotOpen,
+    NotOpen = 10,
     /// Memory was refused.
-    Memory,
+    Memory = 12,
     /// The line has no code, or one that isn't known.
-    BadCode,
+    BadCode = 30,
     /// The line isn't laid out as its code asks.
-    BadLine,
+    BadLine = 31,
     /// The line has more than 1,023 octets.
-    LineTooLong,
+    LineTooLong = 32,
     /// The count isn't 1 to 19 decimal digits, or it is 0 for a data file.
-    BadCount,
+    BadCount = 33,
     /// The name isn't a file name of the kind that is due.
-    BadName,
+    BadName = 34,
     /// A file isn't followed by an octet of zeros.
-    NoZero,
+    NoZero = 35,
     /// The control file has no line for the host.
-    NoHost,
+    NoHost = 40,
     /// The control file has no line for the user.
-    NoUser,
+    NoUser = 41,
     /// The control file has no line that prints a file.
-    NoPrintLine,
+    NoPrintLine = 42,
     /// The control file has more than `MAX_PRINTS` lines that print a file.
-    TooManyPrints,
+    TooManyPrints = 43,
     /// A control file, its host or its user has a length that isn't allowed.
-    BadLength,
+    BadLength = 44,
 }
 
 impl Refusal {
@@ -62,30 +62,7 @@ impl Refusal {
     pub fn number(self) -> u8
         ensures { result ≡ number_of self }
     {
-        match self {
-            Refusal::UnknownQueue => 1,
-            Refusal::TableFull => 2,
-            Refusal::AccountFull => 3,
-            Refusal::Closed => 4,
-            Refusal::OverClaim => 5,
-            Refusal::ControlTwice => 6,
-            Refusal::NameTaken => 7,
-            Refusal::FilesFull => 8,
-            Refusal::FileOpen => 9,
-            Refusal::NotOpen => 10,
-            Refusal::Memory => 12,
-            Refusal::BadCode => 30,
-            Refusal::BadLine => 31,
-            Refusal::LineTooLong => 32,
-            Refusal::BadCount => 33,
-            Refusal::BadName => 34,
-            Refusal::NoZero => 35,
-            Refusal::NoHost => 40,
-            Refusal::NoUser => 41,
-            Refusal::NoPrintLine => 42,
-            Refusal::TooManyPrints => 43,
-            Refusal::BadLength => 44,
-        }
+        self as u8
     }
 
     /// Its name, as it is printed.
