@@ -86,7 +86,12 @@ impl Counts {
         requires { length self.now ≡ length other.now }
         ensures { IsTrue result ↔ Fits self.now (amount other.now) }
     {
-        fits(self.amounts.as_slice(), other.amounts.as_slice())
+        for k in 0..self.amounts.len() {
+            if self.amounts[k] > other.amounts[k] {
+                return false;
+            }
+        }
+        true
     }
 
     /// Adds each amount of the other.
@@ -95,7 +100,9 @@ impl Counts {
         requires room { (kind : ℕ) → amount self.old kind + amount more.now kind < 2 ^ 32 }
         ensures { self.new ≡ sum_of self.old more.now }
     {
-        add_each(self.amounts.as_mut_slice(), more.amounts.as_slice());
+        for k in 0..more.kinds() {
+            self.amounts[k] += more.amounts[k];
+        }
     }
 
     /// Adds each amount of the other, where all sums are at most 4,294,967,295. Otherwise
@@ -107,10 +114,12 @@ impl Counts {
         ensures sum { OnOk result (self.new ≡ sum_of self.old more.now) }
         ensures unchanged { OnErr result (self.new ≡ self.old) }
     {
-        if !has_room(self.amounts.as_slice(), more.amounts.as_slice()) {
-            return Err(TooLarge);
+        for k in 0..more.amounts.len() {
+            if self.amounts[k].checked_add(more.amounts[k]).is_none() {
+                return Err(TooLarge);
+            }
         }
-        add_each(self.amounts.as_mut_slice(), more.amounts.as_slice());
+        self.add(more);
         Ok(())
     }
 
@@ -120,7 +129,9 @@ impl Counts {
         requires enough { Fits less.now (amount self.old) }
         ensures { self.new ≡ rest_of self.old less.now }
     {
-        take_each(self.amounts.as_mut_slice(), less.amounts.as_slice());
+        for k in 0..less.kinds() {
+            self.amounts[k] -= less.amounts[k];
+        }
     }
 
     /// Becomes equal to the other.
@@ -148,49 +159,3 @@ impl Counts {
 fn are_small(amounts: &[u32])
     ensures { (kind : ℕ) → amount amounts.now kind < 2 ^ 32 }
 {}
-
-fn fits(need: &[u32], free: &[u32]) -> bool
-    requires { length need.now ≡ length free.now }
-    ensures { IsTrue result ↔ Fits need.now (amount free.now) }
-{
-    for k in 0..need.len() {
-        if need[k] > free[k] {
-            return false;
-        }
-    }
-    true
-}
-
-/// Whether each sum is an amount.
-fn has_room(amounts: &[u32], more: &[u32]) -> bool
-    requires { length more.now ≡ length amounts.now }
-    ensures { IsTrue result
-        ↔ ((kind : ℕ) → amount amounts.now kind + amount more.now kind < 2 ^ 32) }
-{
-    for k in 0..more.len() {
-        if amounts[k].checked_add(more[k]).is_none() {
-            return false;
-        }
-    }
-    true
-}
-
-fn add_each(sums: &mut [u32], more: &[u32])
-    requires kinds { length more.now ≡ length sums.old }
-    requires room { (kind : ℕ) → amount sums.old kind + amount more.now kind < 2 ^ 32 }
-    ensures { sums.new ≡ sum_of sums.old more.now }
-{
-    for k in 0..more.len() {
-        sums[k] += more[k];
-    }
-}
-
-fn take_each(rests: &mut [u32], less: &[u32])
-    requires kinds { length less.now ≡ length rests.old }
-    requires enough { Fits less.now (amount rests.old) }
-    ensures { rests.new ≡ rest_of rests.old less.now }
-{
-    for k in 0..less.len() {
-        rests[k] -= less[k];
-    }
-}
