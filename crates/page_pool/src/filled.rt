@@ -1,17 +1,16 @@
 //! A page that may be read.
 
-ghost use Rattle.std.specs.Prelude.{◌≡◌, ◌<◌, ◌≤◌, [], length, vec_len, vec_capacity};
+ghost use Rattle.std.specs.Prelude.{◌≡◌, ◌<◌, ◌≤◌, [], length};
 ghost use Rattle.sha2.specs.Sha256.{sha256};
 
 use crate::ticket::PageTicket;
-use sha2::{Digest, Sha256};
 use std::marker::Model;
 
 /// A page with at least one octet and the SHA-256 of its octets. It has to be spent: unsealed.
 pub struct FilledPage {
-    octets: Vec<u8>,
-    page_size: usize,
-    digest: [u8; 32],
+    pub(crate) octets: Vec<u8>,
+    pub(crate) page_size: usize,
+    pub(crate) digest: [u8; 32],
 }
 
 impl Model for FilledPage {
@@ -28,21 +27,6 @@ impl Model for FilledPage {
 }
 
 impl FilledPage {
-    /// The page with what is in this buffer.
-    pub(crate) fn of(octets: Vec<u8>, page_size: usize) -> FilledPage
-        requires some { 0 < vec_len octets }
-        requires fits { vec_len octets ≤ page_size }
-        requires room { page_size ≤ vec_capacity octets }
-        ensures { result ≡ record { octets = octets.items; page_size = page_size } }
-    {
-        let digest = Sha256::digest(octets.as_slice());
-        FilledPage {
-            octets,
-            page_size,
-            digest,
-        }
-    }
-
     /// The octets on the page.
     pub fn bytes(&self) -> &[u8]
         ensures bytes { result.now ≡ self.now.octets }
@@ -85,6 +69,6 @@ impl FilledPage {
             page_size,
             digest: _,
         } = self;
-        PageTicket::emptied(octets, page_size)
+        PageTicket { octets, page_size }.wiped()
     }
 }

@@ -70,10 +70,7 @@ impl Pool {
         if !is_size(pages) || !is_size(page_size) {
             return Err(PoolError::BadSize);
         }
-        match Pool::filled(alloc, pages, page_size) {
-            Ok(pool) => Ok(pool),
-            Err(_) => Err(PoolError::Memory),
-        }
+        Pool::filled(alloc, pages, page_size).or(Err(PoolError::Memory))
     }
 
     fn filled(alloc: Global, pages: usize, page_size: usize) -> Result<Pool, AllocError>

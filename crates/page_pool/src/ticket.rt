@@ -3,13 +3,14 @@
 ghost use Rattle.std.specs.Prelude.{◌≡◌, ◌+◌, ◌-◌, ◌<◌, ◌≤◌, ◌++◌, [], length, take, min, vec_len, vec_capacity, IsTrue, ◌↔◌, IfOk};
 
 use crate::filled::FilledPage;
+use sha2::{Digest, Sha256};
 use std::alloc::{AllocError, Global};
 use std::marker::Model;
 
 /// A page that is being filled. It has to be spent: put back, sealed or surrendered.
 pub struct PageTicket {
-    octets: Vec<u8>,
-    page_size: usize,
+    pub(crate) octets: Vec<u8>,
+    pub(crate) page_size: usize,
 }
 
 impl Model for PageTicket {
@@ -44,10 +45,8 @@ impl PageTicket {
     {
         let room = self.page_size - self.len();
         let fitting = octets.len().min(room);
-        match self.octets.extend_from_slice(&octets[..fitting]) {
-            Ok(()) => fitting,
-            Err(_) => unreachable!(),
-        }
+        self.octets.extend_from_slice(&octets[..fitting]).unwrap();
+        fitting
     }
 
     /// How many octets are on the page.
@@ -86,7 +85,12 @@ impl PageTicket {
         ensures { result ≡ self }
     {
         let PageTicket { octets, page_size } = self;
-        FilledPage::of(octets, page_size)
+        let digest = Sha256::digest(octets.as_slice());
+        FilledPage {
+            octets,
+            page_size,
+            digest,
+        }
     }
 
     /// Spends a page that its pool doesn't take back.
@@ -97,21 +101,11 @@ impl PageTicket {
         } = self;
     }
 
-    /// A page in this buffer, with nothing on it.
-    pub(crate) fn emptied(mut octets: Vec<u8>, page_size: usize) -> PageTicket
-        requires some { 0 < page_size }
-        requires room { page_size ≤ vec_capacity octets }
-        ensures { result ≡ record { octets = []; page_size = page_size } }
-    {
-        octets.clear();
-        PageTicket { octets, page_size }
-    }
-
     /// The same page with nothing on it.
-    pub(crate) fn wiped(self) -> PageTicket
+    pub(crate) fn wiped(mut self) -> PageTicket
         ensures { result ≡ record self { octets = [] } }
     {
-        let PageTicket { octets, page_size } = self;
-        PageTicket::emptied(octets, page_size)
+        self.octets.clear();
+        self
     }
 }
