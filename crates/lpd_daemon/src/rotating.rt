@@ -28,7 +28,7 @@ pub(crate) fn has_turn(every: Option<u64>, handed_on: u64) -> bool
     }
 }
 
-/// Rotations that aren't printed yet: of each segment that was put away its number, and its entries.
+/// Rotations that aren't printed yet: of each segment that was put away its number and its entries.
 #[derive(Drop)]
 pub(crate) struct Rotations {
     rotated: Mutex<Vec<(u64, u64)>>,

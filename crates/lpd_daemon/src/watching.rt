@@ -126,6 +126,5 @@ pub(crate) fn watch<R: Clock + Log + Wait, E: SpoolLedger, K: Ledger, H: Ledger>
             warn!(rt; "memory was refused to look for peers that are gone");
         }
     }
-    let Watcher { seat, .. } = watcher;
-    seat
+    watcher.seat
 }
