@@ -109,24 +109,11 @@ impl Job {
         ensures back { OnOk result (self.new.back ≤ self.old.back + 1) }
     {
         match entry {
-            Entry::Opened(_, _, _) => {}
-            Entry::OfJob(job, act) => {
-                if *job == self.number {
-                    self.act(alloc, act)?;
-                }
-            }
-            Entry::AtPrinter(_, sheet, turn) => {
-                if sheet.job == self.number {
-                    self.turn(*turn);
-                }
-            }
-            Entry::Removed(_, jobs) => {
-                if is_named(self.number, jobs.as_slice()) {
-                    self.ended = true;
-                }
-            }
-            Entry::Started(_) => {}
+            Entry::OfJob(job, act) if *job == self.number => self.act(alloc, act)?,
+            Entry::AtPrinter(_, sheet, turn) if sheet.job == self.number => self.turn(*turn),
+            Entry::Removed(_, jobs) if is_named(self.number, jobs.as_slice()) => self.ended = true,
             Entry::Closed => self.ended = true,
+            _ => {}
         }
         Ok(())
     }
