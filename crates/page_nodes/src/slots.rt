@@ -11,10 +11,7 @@ pub fn no_pages(alloc: Global, count: usize) -> Result<Vec<Option<FilledPage>>, 
 {
     let mut slots = Vec::with_capacity(alloc, count)?;
     'slots: for _ in 0..count {
-        match slots.push(None) {
-            Ok(()) => {}
-            Err(_) => unreachable!(),
-        }
+        slots.push_reserved(None);
     }
     Ok(slots)
 }
@@ -37,10 +34,7 @@ pub fn page_in(slots: &[Option<FilledPage>], slot: usize) -> &FilledPage
     requires { IsSome (slice_index_or slots.now slot None) }
     ensures { slice_index_or slots.now slot None ≡ Some result.now }
 {
-    match &slots[slot] {
-        Some(page) => page,
-        None => unreachable!(),
-    }
+    slots[slot].as_ref().unwrap()
 }
 
 /// Takes the page out of a slot.
@@ -49,19 +43,14 @@ pub fn empty(slots: &mut Vec<Option<FilledPage>>, slot: usize) -> FilledPage
     ensures page { slice_index_or slots.old.items slot None ≡ Some result }
     ensures slots { slots.new.items ≡ slice_set slots.old.items slot None }
 {
-    let place = &mut slots[slot];
-    match place.take() {
-        Some(page) => page,
-        None => unreachable!(),
-    }
+    slots[slot].take().unwrap()
 }
 
 /// Spends pages.
 pub fn surrender_all(mut slots: Vec<Option<FilledPage>>) {
     'slots: while let Some(slot) = slots.pop() {
-        match slot {
-            Some(page) => page.unseal().surrender(),
-            None => {}
+        if let Some(page) = slot {
+            page.unseal().surrender();
         }
     }
     slots.destroy_empty();
