@@ -5,6 +5,7 @@ ghost use Rattle.account.specs.Kinds.{handed_in, kinds_in};
 ghost use Rattle.account.specs.Seen.{event_seen, history};
 
 use crate::entry::Entry;
+use crate::kind::Kind;
 use std::alloc::{AllocError, Global};
 use std::marker::Model;
 
@@ -27,33 +28,6 @@ impl Model for Account {
       events = history (reverse a.entries.items);
       room = vec_capacity a.entries;
     } };
-}
-
-/// The sum of the numbers of the kinds of these entries.
-fn kinds_of(entries: &[Entry]) -> u64
-    requires { 13 * length entries.now < 2 ^ 64 }
-    ensures value { result ≡ kinds_in (history (reverse entries.now)) }
-    ensures within { result ≤ 13 * length entries.now }
-{
-    let mut sum = 0;
-    for entry in entries {
-        sum += entry.kind().number();
-    }
-    sum
-}
-
-/// How many of these entries tell of a page that was handed to a printer.
-fn handed_of(entries: &[Entry]) -> u64
-    ensures value { result ≡ handed_in (history (reverse entries.now)) }
-    ensures within { result ≤ length entries.now }
-{
-    let mut count = 0;
-    for entry in entries {
-        if entry.kind().is_handed() {
-            count += 1;
-        }
-    }
-    count
 }
 
 impl Account {
@@ -118,7 +92,11 @@ impl Account {
         ensures value { result ≡ kinds_in self.now.events }
         ensures within { result ≤ 13 * length self.now.events }
     {
-        kinds_of(self.entries.as_slice())
+        let mut sum = 0;
+        for entry in self.entries() {
+            sum += entry.kind().number();
+        }
+        sum
     }
 
     /// How many of the entries tell of a page that was handed to a printer.
@@ -126,6 +104,12 @@ impl Account {
         ensures value { result ≡ handed_in self.now.events }
         ensures within { result ≤ length self.now.events }
     {
-        handed_of(self.entries.as_slice())
+        let mut count = 0;
+        for entry in self.entries() {
+            if matches!(entry.kind(), Kind::Handed) {
+                count += 1;
+            }
+        }
+        count
     }
 }

@@ -12,7 +12,7 @@ ghost use Rattle.account.specs.After.{printer_in, printers_after, started, stopp
 ghost use Rattle.account.specs.Seen.{base_seen, event_seen, history};
 
 use crate::base::Base;
-use crate::entry::Entry;
+use crate::entry::{Entry, Turn};
 use config_values::Config;
 use std::alloc::{AllocError, Global};
 
@@ -99,14 +99,12 @@ impl Reading {
     {
         match entry {
             Entry::Opened(_, _, _) => self.accepted += 1,
-            Entry::AtPrinter(printer, _, turn) => {
-                if turn.is_failed() {
-                    stop(self.printers.as_mut_slice(), *printer);
-                }
+            Entry::AtPrinter(printer, _, Turn::Failed) => {
+                stop(self.printers.as_mut_slice(), *printer);
             }
             Entry::Started(queue) => start(self.printers.as_mut_slice(), *queue),
             Entry::Closed => self.closed = true,
-            Entry::OfJob(_, _) | Entry::Removed(_, _) => {}
+            Entry::OfJob(_, _) | Entry::AtPrinter(_, _, _) | Entry::Removed(_, _) => {}
         }
     }
 }

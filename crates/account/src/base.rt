@@ -36,12 +36,6 @@ impl Base {
     pub fn was_stopped(&self, printer: u32) -> bool
         ensures { result ≡ B.was_stopped (base_seen self.now) printer }
     {
-        if printer == 0 {
-            return false;
-        }
-        match self.stopped.get(printer as usize - 1) {
-            Some(stopped) => *stopped,
-            None => false,
-        }
+        printer != 0 && matches!(self.stopped.get(printer as usize - 1), Some(true))
     }
 }

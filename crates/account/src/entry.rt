@@ -76,20 +76,14 @@ impl Turn {
     pub fn is_handed(self) -> bool
         ensures { result ≡ D.is_handed (turn_seen self) }
     {
-        match self {
-            Turn::Handed => true,
-            Turn::Printed(_) | Turn::Failed => false,
-        }
+        matches!(self, Turn::Handed)
     }
 
     /// Whether a page failed.
     pub fn is_failed(self) -> bool
         ensures { result ≡ D.is_failed (turn_seen self) }
     {
-        match self {
-            Turn::Failed => true,
-            Turn::Printed(_) | Turn::Handed => false,
-        }
+        matches!(self, Turn::Failed)
     }
 }
 

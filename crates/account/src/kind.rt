@@ -1,8 +1,8 @@
 //! The kinds of entries.
 
 ghost use Rattle.std.specs.Prelude.{◌≡◌, ◌≤◌};
-ghost use Rattle.account.specs.Kinds.{act_kind, is_handed_kind, kind_of, number_of, turn_kind};
-ghost use Rattle.account.specs.Seen.{act_seen, event_seen, turn_seen};
+ghost use Rattle.account.specs.Kinds.{kind_of, number_of};
+ghost use Rattle.account.specs.Seen.{event_seen};
 
 use crate::entry::{Act, Entry, Turn};
 
@@ -10,31 +10,31 @@ use crate::entry::{Act, Entry, Turn};
 #[derive(Clone, Copy, Debug, PartialEq, Eq)]
 pub enum Kind {
     /// A job was accepted.
-    Opened,
+    Opened = 1,
     /// A page was lent to a session.
-    Granted,
+    Granted = 2,
     /// A data file began.
-    Began,
+    Began = 3,
     /// A page was put into a file.
-    Put,
+    Put = 4,
     /// A data file ended.
-    FileEnded,
+    FileEnded = 5,
     /// A control file came.
-    Controlled,
+    Controlled = 6,
     /// A job was aborted.
-    Aborted,
+    Aborted = 7,
     /// A page was handed to a printer.
-    Handed,
+    Handed = 8,
     /// A page was printed.
-    Printed,
+    Printed = 9,
     /// A page failed at a printer.
-    Failed,
+    Failed = 10,
     /// The printers of a queue were started.
-    Started,
+    Started = 11,
     /// Jobs were removed.
-    Removed,
+    Removed = 12,
     /// The spool was closed.
-    Closed,
+    Closed = 13,
 }
 
 impl Kind {
@@ -43,57 +43,7 @@ impl Kind {
         ensures value { result ≡ number_of self }
         ensures within { result ≤ 13 }
     {
-        match self {
-            Kind::Opened => 1,
-            Kind::Granted => 2,
-            Kind::Began => 3,
-            Kind::Put => 4,
-            Kind::FileEnded => 5,
-            Kind::Controlled => 6,
-            Kind::Aborted => 7,
-            Kind::Handed => 8,
-            Kind::Printed => 9,
-            Kind::Failed => 10,
-            Kind::Started => 11,
-            Kind::Removed => 12,
-            Kind::Closed => 13,
-        }
-    }
-
-    /// Whether it is that of a page that was handed to a printer.
-    pub(crate) fn is_handed(self) -> bool
-        ensures { result ≡ is_handed_kind self }
-    {
-        matches!(self, Kind::Handed)
-    }
-}
-
-impl Act {
-    /// The kind of an entry about it.
-    fn kind(&self) -> Kind
-        ensures { result ≡ act_kind (act_seen self.now) }
-    {
-        match self {
-            Act::Granted => Kind::Granted,
-            Act::Began(_, _) => Kind::Began,
-            Act::Put(_, _, _) => Kind::Put,
-            Act::FileEnded(_, _) => Kind::FileEnded,
-            Act::Controlled(_, _) => Kind::Controlled,
-            Act::Aborted => Kind::Aborted,
-        }
-    }
-}
-
-impl Turn {
-    /// The kind of an entry about it.
-    fn kind(self) -> Kind
-        ensures { result ≡ turn_kind (turn_seen self) }
-    {
-        match self {
-            Turn::Handed => Kind::Handed,
-            Turn::Printed(_) => Kind::Printed,
-            Turn::Failed => Kind::Failed,
-        }
+        self as u64
     }
 }
 
@@ -104,8 +54,15 @@ impl Entry {
     {
         match self {
             Entry::Opened(_, _, _) => Kind::Opened,
-            Entry::OfJob(_, act) => act.kind(),
-            Entry::AtPrinter(_, _, turn) => turn.kind(),
+            Entry::OfJob(_, Act::Granted) => Kind::Granted,
+            Entry::OfJob(_, Act::Began(_, _)) => Kind::Began,
+            Entry::OfJob(_, Act::Put(_, _, _)) => Kind::Put,
+            Entry::OfJob(_, Act::FileEnded(_, _)) => Kind::FileEnded,
+            Entry::OfJob(_, Act::Controlled(_, _)) => Kind::Controlled,
+            Entry::OfJob(_, Act::Aborted) => Kind::Aborted,
+            Entry::AtPrinter(_, _, Turn::Handed) => Kind::Handed,
+            Entry::AtPrinter(_, _, Turn::Printed(_)) => Kind::Printed,
+            Entry::AtPrinter(_, _, Turn::Failed) => Kind::Failed,
             Entry::Removed(_, _) => Kind::Removed,
             Entry::Started(_) => Kind::Started,
             Entry::Closed => Kind::Closed,
