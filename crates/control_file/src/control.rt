@@ -58,12 +58,8 @@ impl Control {
         ensures { GivesControl result
             (control_with number (first_host text.now) (first_user text.now) (prints_of text.now)) }
     {
-        let Some(host) = first_operand(Field::Host, text) else {
-            return Err(Refusal::NoHost);
-        };
-        let Some(user) = first_operand(Field::User, text) else {
-            return Err(Refusal::NoUser);
-        };
+        let host = first_operand(Field::Host, text).ok_or(Refusal::NoHost)?;
+        let user = first_operand(Field::User, text).ok_or(Refusal::NoUser)?;
         if !has_operand_len(host) || !has_operand_len(user) {
             return Err(Refusal::BadLength);
         }

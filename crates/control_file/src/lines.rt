@@ -129,17 +129,12 @@ pub(crate) fn check_prints(text: &[u8]) -> Result<(), Refusal>
         (λ _. print_list (prints_of text.now) ≡ Ok (prints_of text.now))
         (λ e. print_list (prints_of text.now) ≡ Err e) }
 {
-    let count = count_prints(text);
-    if count == 0 {
-        return Err(Refusal::NoPrintLine);
+    match count_prints(text) {
+        0 => Err(Refusal::NoPrintLine),
+        count if count > MAX_PRINTS => Err(Refusal::TooManyPrints),
+        _ if all_data_names(text) => Ok(()),
+        _ => Err(Refusal::BadName),
     }
-    if count > MAX_PRINTS {
-        return Err(Refusal::TooManyPrints);
-    }
-    if !all_data_names(text) {
-        return Err(Refusal::BadName);
-    }
-    Ok(())
 }
 
 /// The names of the lines that print a file, in order.
