@@ -139,7 +139,7 @@ impl Table {
             (i < length self.now.rows) × ((row_at self.now.rows i).number ≡ number)) }
         ensures absent { IfNone result (All (λ row. row.number ≢ number) self.now.rows) }
     {
-        position(self.rows.as_slice(), number)
+        self.rows.iter().position(|row| row.number == number)
     }
 
     /// Adds a row that holds nothing yet. Refused, and then nothing changes, where it needs more
@@ -264,13 +264,4 @@ fn new_row(
         held: Counts::zero(alloc, need.kinds())?,
         need: need.copy(alloc)?,
     })
-}
-
-/// The place of the row with this number.
-fn position(rows: &[Row], number: u64) -> Option<usize>
-    ensures found { IfSome result (λ i.
-        (i < length rows.now) × ((row_at rows.now i).number ≡ number)) }
-    ensures absent { IfNone result (All (λ row. row.number ≢ number) rows.now) }
-{
-    rows.iter().position(|row| row.number == number)
 }
