@@ -10,8 +10,7 @@ use account::Kind;
 use std::marker::Model;
 use std::sync::ledger::{Book, Ledger};
 
-/// The totals of the three ledgers.
-/// They are kept under the lock, beside what they count.
+/// The totals of the three ledgers, which are kept under the lock, beside what they count.
 #[derive(Drop)]
 pub struct Books<E: Ledger, K: Ledger, H: Ledger> {
     entries: Book<E>,
@@ -42,25 +41,19 @@ impl<E: Ledger, K: Ledger, H: Ledger> Books<E, K, H> {
         ensures books { result.0 ≡ no_sums 0 }
         ensures shares { result.1 ≡ no_sums E.parts }
     {
-        let Blanks {
-            entries,
-            kinds,
-            handed,
-        } = blanks;
-        let (entries, all_entries) = entries.open::<E>();
-        let (kinds, all_kinds) = kinds.open::<K>();
-        let (handed, all_handed) = handed.open::<H>();
+        let (entries, all_entries) = blanks.entries.open::<E>();
+        let (kinds, all_kinds) = blanks.kinds.open::<K>();
+        let (handed, all_handed) = blanks.handed.open::<H>();
         let mut all = Shares {
             entries: all_entries,
             kinds: all_kinds,
             handed: all_handed,
         };
-        let rest = all.empty();
         let books = Books {
             entries,
             kinds,
             handed,
-            rest,
+            rest: all.empty(),
         };
         (books, all)
     }
@@ -79,12 +72,9 @@ impl<E: Ledger, K: Ledger, H: Ledger> Books<E, K, H> {
         ensures books { self.new ≡ with_entry kind self.old }
         ensures shares { mine.new ≡ with_entry kind mine.old }
     {
-        let handed = match kind {
-            Kind::Handed => 1,
-            _ => 0,
-        };
         self.entries.add(&mut mine.entries, 1);
         self.kinds.add(&mut mine.kinds, kind.number());
+        let handed = u64::from(matches!(kind, Kind::Handed));
         self.handed.add(&mut mine.handed, handed);
     }
 

@@ -40,13 +40,10 @@ impl<E: Ledger, K: Ledger, H: Ledger> Shares<E, K, H> {
         ensures parts { self.new.parts + 1 ≡ self.old.parts }
         ensures fresh { self.new ≡ no_sums self.new.parts }
     {
-        let entries = self.entries.split_off(1, 0);
-        let kinds = self.kinds.split_off(1, 0);
-        let handed = self.handed.split_off(1, 0);
         Shares {
-            entries,
-            kinds,
-            handed,
+            entries: self.entries.split_off(1, 0),
+            kinds: self.kinds.split_off(1, 0),
+            handed: self.handed.split_off(1, 0),
         }
     }
 
@@ -55,13 +52,10 @@ impl<E: Ledger, K: Ledger, H: Ledger> Shares<E, K, H> {
         ensures none { result ≡ no_sums 0 }
         ensures same { self.new ≡ self.old }
     {
-        let entries = self.entries.empty();
-        let kinds = self.kinds.empty();
-        let handed = self.handed.empty();
         Shares {
-            entries,
-            kinds,
-            handed,
+            entries: self.entries.empty(),
+            kinds: self.kinds.empty(),
+            handed: self.handed.empty(),
         }
     }
 
@@ -69,13 +63,8 @@ impl<E: Ledger, K: Ledger, H: Ledger> Shares<E, K, H> {
     pub fn merge(&mut self, other: Shares<E, K, H>)
         ensures { self.new ≡ both self.old other }
     {
-        let Shares {
-            entries,
-            kinds,
-            handed,
-        } = other;
-        self.entries.merge(entries);
-        self.kinds.merge(kinds);
-        self.handed.merge(handed);
+        self.entries.merge(other.entries);
+        self.kinds.merge(other.kinds);
+        self.handed.merge(other.handed);
     }
 }
