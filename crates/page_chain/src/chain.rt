@@ -93,12 +93,11 @@ impl Chain {
         }) }
         ensures held { IfOk result (λ c. (nodes : Chains) → IsFreeRow nodes row → IsHeld c nodes) }
     {
-        let prints = Vec::with_capacity(alloc, MAX_PRINTS)?;
         Ok(Chain {
             row,
             files: Vec::with_capacity(alloc, files)?,
             is_open: false,
-            prints,
+            prints: Vec::with_capacity(alloc, MAX_PRINTS)?,
             printed: 0,
             turned: 0,
             last: None,
@@ -152,10 +151,7 @@ impl Chain {
         if let Some(error) = self.refusal(&name) {
             return Err(error);
         }
-        match self.files.push(Run { name, pages: 0 }) {
-            Ok(()) => {}
-            Err(_) => unreachable!(),
-        }
+        self.files.push_reserved(Run { name, pages: 0 });
         self.is_open = true;
         Ok(())
     }

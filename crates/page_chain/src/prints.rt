@@ -33,8 +33,5 @@ pub fn is_to_come(prints: &[usize], turned: usize, place: Place) -> bool
     let Some((&file, later)) = prints.split_first() else {
         return false;
     };
-    if file == place.file && turned <= place.number {
-        return true;
-    }
-    later.contains(&place.file)
+    file == place.file && turned <= place.number || later.contains(&place.file)
 }
