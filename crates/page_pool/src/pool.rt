@@ -84,8 +84,8 @@ impl Pool {
             pages,
         };
         for _ in 0..pages {
-            let ticket = PageTicket::blank(alloc, page_size)?;
-            pool.put_back(ticket);
+            let octets = Vec::with_capacity(alloc, page_size)?;
+            pool.put_back(PageTicket { octets, page_size });
         }
         Ok(pool)
     }

@@ -1,10 +1,9 @@
 //! A page that is being filled.
 
-ghost use Rattle.std.specs.Prelude.{◌≡◌, ◌+◌, ◌-◌, ◌<◌, ◌≤◌, ◌++◌, [], length, take, min, vec_len, vec_capacity, IsTrue, ◌↔◌, IfOk};
+ghost use Rattle.std.specs.Prelude.{◌≡◌, ◌+◌, ◌-◌, ◌<◌, ◌≤◌, ◌++◌, [], length, take, min, IsTrue, ◌↔◌};
 
 use crate::filled::FilledPage;
 use sha2::{Digest, Sha256};
-use std::alloc::{AllocError, Global};
 use std::marker::Model;
 
 /// A page that is being filled. It has to be spent: put back, sealed or surrendered.
@@ -25,17 +24,6 @@ impl Model for PageTicket {
 }
 
 impl PageTicket {
-    /// A page with nothing on it.
-    pub(crate) fn blank(alloc: Global, page_size: usize) -> Result<Self, AllocError>
-        requires { 0 < page_size }
-        ensures { IfOk result (λ t. t ≡ record { octets = []; page_size = page_size }) }
-    {
-        Ok(PageTicket {
-            octets: Vec::with_capacity(alloc, page_size)?,
-            page_size,
-        })
-    }
-
     /// Appends as many of the octets as fit, and answers how many that are.
     pub fn push(&mut self, octets: &[u8]) -> usize
         ensures count { result
