@@ -4,7 +4,7 @@ ghost use Rattle.std.specs.Prelude.{◌≡◌, ◌+◌, ◌<◌, ◌≤◌, ◌+
 ghost use Rattle.page_nodes.specs.Chains.{Chains, chain_of, with_chain, total, AreOfSize};
 
 use crate::slots::{empty, fill, no_pages, page_in, surrender_all};
-use crate::strand::{Strand, extended, no_strands};
+use crate::strand::{Strand, extended};
 use page_pool::{FilledPage, Pool};
 use slab::Slab;
 use std::alloc::{AllocError, Global};
@@ -58,7 +58,12 @@ impl Nodes {
         ensures { IfOk result (λ n. n ≡ record { chains = replicate chains []; room = pages }) }
     {
         let links = Slab::with_capacity(alloc, pages)?;
-        let strands = no_strands(alloc, chains)?;
+        let none = Strand {
+            first: 0,
+            last: 0,
+            len: 0,
+        };
+        let strands = vec![in alloc; none; chains]?;
         let slots = no_pages(alloc, links.capacity())?;
         Ok(Nodes {
             links,
