@@ -1,11 +1,11 @@
 //! Control files as they are sent.
 
 ghost use Rattle.std.specs.Prelude.{◌≡◌, [], ◌∷◌, ◌++◌, IfOk, OnOk};
-ghost use Rattle.control_file.specs.Written.{control_text, print_lines};
+ghost use Rattle.control_file.specs.Written.{control_text};
 ghost use Rattle.control_file.specs.View.{contents};
 
 use crate::control::Control;
-use lpd_values::{FileNames, Octets};
+use lpd_values::Octets;
 use std::alloc::{AllocError, Global};
 
 /// Puts a line of this letter and operand, with its LF, at the end of the text.
@@ -15,16 +15,6 @@ fn put_line(text: &mut Vec<u8>, letter: u8, operand: &[u8]) -> Result<(), AllocE
     text.push(letter)?;
     text.extend_from_slice(operand)?;
     text.push(b'\n')?;
-    Ok(())
-}
-
-/// Puts a line that prints the file, for each name, at the end of the text.
-fn put_prints(text: &mut Vec<u8>, names: &FileNames) -> Result<(), AllocError>
-    ensures { OnOk result (text.new.items ≡ text.old.items ++ print_lines names.now) }
-{
-    for name in names.as_slice() {
-        put_line(text, b'f', name.octets())?;
-    }
     Ok(())
 }
 
@@ -38,7 +28,9 @@ impl Control {
         let mut text = Vec::new(alloc);
         put_line(&mut text, b'H', self.host.as_slice())?;
         put_line(&mut text, b'P', self.user.as_slice())?;
-        put_prints(&mut text, &self.prints)?;
+        for name in self.prints.as_slice() {
+            put_line(&mut text, b'f', name.octets())?;
+        }
         Ok(Octets::from_vec(text))
     }
 }
