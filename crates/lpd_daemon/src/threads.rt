@@ -80,6 +80,30 @@ fn keep<T: Drop, F: Drop>(
     }
 }
 
+/// Joins the threads of sessions that have ended, closes the spool once nothing is left to do, and joins the others: their seats.
+/// One is missing where memory for it is refused.
+fn close<R: Threads + Wait, E: SpoolLedger, K: Ledger, H: Ledger>(
+    rt: &R,
+    alloc: Global,
+    spool: &SharedSpool<E, K, H>,
+    seat: SessionSeat<E, K, H>,
+    ended: &AtomicBool,
+    answering: Vec<JoinHandle<SessionSeat<E, K, H>>>,
+    looking: Vec<JoinHandle<SessionSeat<E, K, H>>>,
+    printing: Vec<JoinHandle<PrinterSeat<E, K, H>>>,
+) -> Seats<E, K, H> {
+    let mut seat = seat;
+    let (mut sessions, mut printers) = (Vec::new(alloc), Vec::new(alloc));
+    join_all(rt, answering, &mut sessions);
+    spool.idle_wait(rt);
+    spool.close(rt, &mut seat);
+    ended.store(true, Ordering::SeqCst);
+    join_all(rt, looking, &mut sessions);
+    join_all(rt, printing, &mut printers);
+    let _ = sessions.push(seat);
+    Seats { sessions, printers }
+}
+
 impl<'a, R: Clock + Log + Threads + Wait + Sync> Server<'a, R> {
     /// Starts a thread for each seat, has connections accepted and served, and joins all threads.
     /// The last two of the sessions' seats are of who looks for peers that are gone, and of who
@@ -184,18 +208,11 @@ impl<'a, R: Clock + Log + Threads + Wait + Sync> Server<'a, R> {
                 let admitted = porter.admit(started, output);
                 // However it went, all threads are joined before the seats are looked at.
                 desk.end(rt);
-                let Porter { mut seat, .. } = porter;
-                let (mut sessions, mut printers) = (Vec::new(alloc), Vec::new(alloc));
-                join_all(rt, answering, &mut sessions);
-                spool.idle_wait(rt);
-                spool.close(rt, &mut seat);
-                ended.store(true, Ordering::SeqCst);
-                join_all(rt, looking, &mut sessions);
-                join_all(rt, printing, &mut printers);
-                let _ = sessions.push(seat);
+                let Porter { seat, .. } = porter;
+                let seats = close(rt, alloc, spool, seat, ended, answering, looking, printing);
                 // What was rotated while sessions ended.
                 let told = announce_all(rt, alloc, output, admitted, rotations);
-                (told, Seats { sessions, printers }, output)
+                (told, seats, output)
             },
         );
         (told, seats)
