@@ -7,17 +7,6 @@ ghost use Rattle.ordered_safety.specs.Scan.{CountsAhead, rows_at};
 
 use crate::rows::Rows;
 
-/// Whether two rows are of one sender and queue.
-fn are_of_one_line(rows: &Rows, place: usize, other: usize) -> bool
-    requires here { place < length rows.now }
-    requires there { other < length rows.now }
-    ensures { result ≡ same_line (row_at rows.now place) (row_at rows.now other) }
-{
-    let row = rows.get(place);
-    let other = rows.get(other);
-    row.sender == other.sender && row.queue == other.queue
-}
-
 /// How many of the rows at these places are of the row's sender and queue.
 fn count_line(rows: &Rows, earlier: &[usize], place: usize) -> u32
     requires here { place < length rows.now }
@@ -27,7 +16,7 @@ fn count_line(rows: &Rows, earlier: &[usize], place: usize) -> u32
 {
     let mut count = 0;
     for &j in earlier {
-        if are_of_one_line(rows, place, j) {
+        if rows.are_of_one_line(place, j) {
             count += 1;
         }
     }
@@ -59,7 +48,7 @@ pub fn count_less(rows: &Rows, left: &[usize], ahead: &mut Vec<u32>, gone: usize
     ensures room { vec_capacity ahead.old ≤ vec_capacity ahead.new }
 {
     for at in gone + 1..left.len() {
-        if ahead[at] > 0 && are_of_one_line(rows, left[at], left[gone]) {
+        if ahead[at] > 0 && rows.are_of_one_line(left[at], left[gone]) {
             ahead[at] -= 1;
         }
     }

@@ -12,15 +12,6 @@ use crate::find::find;
 use crate::kept::Kept;
 use crate::rows::Rows;
 
-/// What is known of the rows of a kept order that are still there.
-#[derive(Clone, Copy)]
-struct Found {
-    /// Each is of the sender and the queue that were kept for it.
-    same: bool,
-    /// The greatest number in the kept order.
-    greatest: u64,
-}
-
 /// Puts the places of all rows in the carried order into `places`. Where it answers true, that
 /// order keeps all lines.
 pub fn carry(rows: &Rows, kept: &[Kept], met: &mut Vec<bool>, places: &mut Vec<usize>) -> bool
@@ -38,9 +29,9 @@ pub fn carry(rows: &Rows, kept: &[Kept], met: &mut Vec<bool>, places: &mut Vec<u
 {
     mark_none(met, rows.len());
     places.clear();
-    let found = place_found(rows, kept, met, places);
-    let above = place_others(rows, met.as_slice(), found.greatest, places);
-    found.same && above
+    let (same, greatest) = put_met(rows, kept, met, places);
+    let above = put_others(rows, met.as_slice(), greatest, places);
+    same && above
 }
 
 /// So many marks, none of them set.
@@ -56,8 +47,10 @@ fn mark_none(met: &mut Vec<bool>, rows: usize)
     }
 }
 
-/// Appends the places of the rows that the kept order has, in its order, and marks them.
-fn place_found(rows: &Rows, kept: &[Kept], met: &mut Vec<bool>, places: &mut Vec<usize>) -> Found
+/// Appends the places of the rows that the kept order has, in its order, and marks them. Answers
+/// whether each is of the sender and the queue that were kept for it, and the greatest number in
+/// the kept order.
+fn put_met(rows: &Rows, kept: &[Kept], met: &mut Vec<bool>, places: &mut Vec<usize>) -> (bool, u64)
     requires rising { Pairwise IsLower rows.now }
     requires lines { KeepsLines kept.now }
     requires met { vec_len met.old ≡ length rows.now }
@@ -70,12 +63,12 @@ fn place_found(rows: &Rows, kept: &[Kept], met: &mut Vec<bool>, places: &mut Vec
     ensures once { (others : List Row)
         → IsOrderOf (filter (is_lacked (kept_numbers kept.now)) rows.now) others
         → IsOrderOf rows.now (rows_at rows.now places.new.items ++ others) }
-    ensures line { IsTrue result.same
+    ensures line { IsTrue result.0
         → Pairwise KeepsLine (rows_at rows.now places.new.items) }
     ensures among { All (λ place.
         is_among (kept_numbers kept.now) (row_at rows.now place) ≡ true) places.new.items }
     ensures greatest { All (λ place.
-        (row_at rows.now place).number ≤ result.greatest) places.new.items }
+        (row_at rows.now place).number ≤ result.1) places.new.items }
     ensures marks { AreMet rows.now (kept_numbers kept.now) met.new.items }
     ensures count { vec_len places.new + count_by not met.new.items ≡ length rows.now }
     ensures met { vec_len met.new ≡ length rows.now }
@@ -89,17 +82,15 @@ fn place_found(rows: &Rows, kept: &[Kept], met: &mut Vec<bool>, places: &mut Vec
         let Some(place) = find(rows, row.number, row.place) else {
             continue;
         };
-        if !row.is_of_line(rows.get(place)) {
-            same = false;
-        }
+        same &= row.is_of_line(rows.get(place));
         met[place] = true;
         places.push(place).unwrap();
     }
-    Found { same, greatest }
+    (same, greatest)
 }
 
 /// Appends the places that aren't marked. Answers whether no row there has a number below this.
-fn place_others(rows: &Rows, met: &[bool], greatest: u64, places: &mut Vec<usize>) -> bool
+fn put_others(rows: &Rows, met: &[bool], greatest: u64, places: &mut Vec<usize>) -> bool
     requires met { length met.now ≡ length rows.now }
     requires there { All (λ j. j < length rows.now) places.old.items }
     requires room { vec_len places.old + count_by not met.now ≤ vec_capacity places.old }
@@ -117,9 +108,7 @@ fn place_others(rows: &Rows, met: &[bool], greatest: u64, places: &mut Vec<usize
         if met[place] {
             continue;
         }
-        if rows.get(place).number < greatest {
-            above = false;
-        }
+        above &= rows.get(place).number >= greatest;
         places.push(place).unwrap();
     }
     above

@@ -13,15 +13,13 @@ use crate::scratch::Verdict;
 use counts::Counts;
 
 /// Whether none of the rows at these places is of the row's sender and queue.
-pub fn is_head(rows: &Rows, earlier: &[usize], place: usize) -> bool
+fn is_head(rows: &Rows, earlier: &[usize], place: usize) -> bool
     requires here { place < length rows.now }
     requires there { All (λ j. j < length rows.now) earlier.now }
     ensures { IsTrue result ↔ IsHead rows.now earlier.now place }
 {
-    let row = rows.get(place);
     for &j in earlier {
-        let other = rows.get(j);
-        if row.sender == other.sender && row.queue == other.queue {
+        if rows.are_of_one_line(place, j) {
             return false;
         }
     }
@@ -36,8 +34,7 @@ fn turn_of(rows: &Rows, left: &[usize], number: u64) -> Option<usize>
     ensures none { IfNone result ((at : ℕ) → HasTurn rows.now left.now number at → ⊥) }
 {
     for at in 0..left.len() {
-        let place = left[at];
-        if rows.get(place).number == number && is_head(rows, &left[..at], place) {
+        if rows.get(left[at]).number == number && is_head(rows, &left[..at], left[at]) {
             return Some(at);
         }
     }
@@ -73,8 +70,6 @@ pub fn follow(rows: &Rows, left: &mut Vec<usize>, free: &mut Counts, numbers: &[
         left.remove(at);
         free.add(&row.held);
     }
-    Verdict {
-        safe: left.is_empty(),
-        tests,
-    }
+    let safe = left.is_empty();
+    Verdict { safe, tests }
 }

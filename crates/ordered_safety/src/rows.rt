@@ -2,6 +2,7 @@
 
 ghost use Rattle.std.specs.Prelude.{◌≡◌, ◌<◌, length, slice_set};
 ghost use Rattle.claims.specs.Claims.{row_at};
+ghost use Rattle.claims.specs.Safety.{same_line};
 
 use claims::Row;
 use std::marker::Model;
@@ -66,5 +67,16 @@ impl<'a> Rows<'a> {
             Some(change) if change.place == place => change.row,
             _ => &self.rows[place],
         }
+    }
+
+    /// Whether the rows at two places are of one sender and queue.
+    pub fn are_of_one_line(&self, place: usize, other: usize) -> bool
+        requires here { place < length self.now }
+        requires there { other < length self.now }
+        ensures { result ≡ same_line (row_at self.now place) (row_at self.now other) }
+    {
+        let row = self.get(place);
+        let other = self.get(other);
+        row.sender == other.sender && row.queue == other.queue
     }
 }

@@ -93,7 +93,7 @@ pub fn safe_after_page(scratch: &mut Scratch, table: &Table, row: usize) -> Verd
         return tried;
     }
     take_page(table.free(), &mut scratch.free);
-    let scanned = scan(
+    let mut scanned = scan(
         &rows,
         &mut scratch.left,
         &mut scratch.ahead,
@@ -103,10 +103,8 @@ pub fn safe_after_page(scratch: &mut Scratch, table: &Table, row: usize) -> Verd
     if scanned.safe {
         keep(&rows, scratch.places.as_slice(), &mut scratch.kept);
     }
-    Verdict {
-        safe: scanned.safe,
-        tests: tried.tests + scanned.tests,
-    }
+    scanned.tests += tried.tests;
+    scanned
 }
 
 /// Whether these are the numbers of all rows in a finishing order. It stops at the first number

@@ -12,45 +12,35 @@ use crate::rows::Rows;
 use crate::scratch::Verdict;
 use counts::Counts;
 
-/// What may go next, and how often a need was compared.
-#[derive(Clone, Copy)]
-struct Choice {
-    at: Option<usize>,
-    tests: u64,
-}
-
 /// The first of these places whose row may go now: its need fits, and no earlier row that is left
 /// is of its sender and queue. It compares the needs of the rows that no earlier one of these
-/// precedes, up to the one that goes.
-fn pick(rows: &Rows, left: &[usize], ahead: &[u32], free: &Counts) -> Choice
+/// precedes, up to the one that goes, and also answers how many these are.
+fn pick(rows: &Rows, left: &[usize], ahead: &[u32], free: &Counts) -> (Option<usize>, u64)
     requires kinds { HaveKinds (length free.now) rows.now }
     requires there { All (λ j. j < length rows.now) left.now }
     requires ahead { CountsAhead (rows_at rows.now left.now) ahead.now }
     requires few { length left.now < 2 ^ 32 }
-    ensures found { IfSome result.at (MayGoAt rows.now left.now free.now) }
-    ensures none { IfNone result.at ((at : ℕ) → MayGoAt rows.now left.now free.now at → ⊥) }
-    ensures first { IfSome result.at (λ at.
+    ensures found { IfSome result.0 (MayGoAt rows.now left.now free.now) }
+    ensures none { IfNone result.0 ((at : ℕ) → MayGoAt rows.now left.now free.now at → ⊥) }
+    ensures first { IfSome result.0 (λ at.
         (k : ℕ) → k < at → MayGoAt rows.now left.now free.now k → ⊥) }
-    ensures tests { IfSome result.at (λ at.
-        result.tests ≡ compared (rows_at rows.now left.now) (at + 1)) }
-    ensures all { IfNone result.at
-        (result.tests ≡ compared (rows_at rows.now left.now) (length left.now)) }
-    ensures most { result.tests ≤ length left.now }
-    ensures least { 0 < length left.now → 0 < result.tests }
+    ensures tests { IfSome result.0 (λ at.
+        result.1 ≡ compared (rows_at rows.now left.now) (at + 1)) }
+    ensures all { IfNone result.0
+        (result.1 ≡ compared (rows_at rows.now left.now) (length left.now)) }
+    ensures most { result.1 ≤ length left.now }
+    ensures least { 0 < length left.now → 0 < result.1 }
 {
     let mut tests = 0;
     for at in 0..left.len() {
         if ahead[at] == 0 {
             tests += 1;
             if rows.get(left[at]).need.le(free) {
-                return Choice {
-                    at: Some(at),
-                    tests,
-                };
+                return (Some(at), tests);
             }
         }
     }
-    Choice { at: None, tests }
+    (None, tests)
 }
 
 /// Takes rows that may go, the first one each time, until none is left or none may go. Where all
@@ -87,9 +77,9 @@ pub fn scan(
     places.clear();
     let mut tests = 0;
     'turns: while !left.is_empty() {
-        let choice = pick(rows, left.as_slice(), ahead.as_slice(), free);
-        tests += choice.tests;
-        let Some(at) = choice.at else {
+        let (choice, compared) = pick(rows, left.as_slice(), ahead.as_slice(), free);
+        tests += compared;
+        let Some(at) = choice else {
             return Verdict { safe: false, tests };
         };
         count_less(rows, left.as_slice(), ahead, at);

@@ -13,7 +13,7 @@ use Rattle.ordered_safety.specs.Compared.{CheckTakes, IsNext}
 use Rattle.ordered_safety.proofs.Picks.{row_there, same_remove, is_next, has_turn}
 use Rattle.ordered_safety.proofs.Turns.{Followed, leaving_all, all_rows, leaving_others, given_back, room_back, followed_none, followed_over, followed_more, followed_all}
 use Rattle.ordered_safety.proofs.follow.follow.Goals as goal
-use Rattle.ordered_safety.proofs.follow.follow.Goals.{In-numbers, In_default, After-get-row, Then-not-le, After-is_empty}
+use Rattle.ordered_safety.proofs.follow.follow.Goals.{In-numbers, In_default, After-get-row, Then-not-le, After-is_empty-safe}
 
 pub numbers-init : goal.numbers-init
 numbers-init c =
@@ -95,7 +95,7 @@ numbers-preserved c =
     }
 
 -- where no number is left
-all : (c : After-is_empty) → ((rows_at c.args.rows.now c.numbers.left.items ≡ []) ↔ AreFinishing (amount c.args.free.now) c.args.rows.now c.args.numbers.now)
+all : (c : After-is_empty-safe) → ((rows_at c.args.rows.now c.numbers.left.items ≡ []) ↔ AreFinishing (amount c.args.free.now) c.args.rows.now c.args.numbers.now)
     × CheckTakes (amount c.args.free.now) c.args.rows.now c.args.numbers.now c.numbers.tests
 all c = followed_all (rw (drop_all c.numbers.number-index c.args.numbers.now (omega arith)) at c.numbers.invariant.followed)
 

@@ -96,7 +96,7 @@ returns-clause-tests c =
     let rows = rows_are s.After-with-rows in
     let tried = failed s.Else-tried rows in
     let scanned = rw (rows, page_taken c.free-2.ensures.free c.take_page-2.ensures) at c.scan-scanned.ensures.tests in
-    inr (tried.0, c.try_kept-tried.result.tests, c.scan-scanned.result.tests, refl, tried.1, scanned)
+    inr (tried.0, c.try_kept-tried.result.tests, c.scan-scanned.result.tests, omega arith, tried.1, scanned)
 
 pub returns-clause-few : goal.returns-clause-few
 returns-clause-few c = λ serves.

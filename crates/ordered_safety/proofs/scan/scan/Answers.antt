@@ -41,13 +41,13 @@ turns-init c =
     }
 
 -- none may go
-stuck : (c : In_default) → ¬ (HasFinishingOrder (amount c.args.free.now) c.args.rows.now) × ScanTakes (amount c.args.free.now) c.args.rows.now (c.turns.tests + c.pick-choice.result.tests)
+stuck : (c : In_default) → ¬ (HasFinishingOrder (amount c.args.free.now) c.args.rows.now) × ScanTakes (amount c.args.free.now) c.args.rows.now (c.turns.tests + c.pick-choice.result.1)
 stuck c =
     let left = c.turns.left.items in
     let n = length-map left (row_at c.args.rows.now) in
     let none = rw (c.in_default.is, c.as_slice-in-turns.ensures.value) at c.pick-choice.ensures.none in
-    let all : c.pick-choice.result.tests ≡ compared (rows_at c.args.rows.now left) (length left) = rw (c.in_default.is, c.as_slice-in-turns.ensures.value) at c.pick-choice.ensures.all in
-    scanned_stuck c.turns.invariant.scanned c.pick-choice.result.tests (grind (arith, common_steps, nat_tests)) c.turns.invariant.leaving.rising
+    let all : c.pick-choice.result.1 ≡ compared (rows_at c.args.rows.now left) (length left) = rw (c.in_default.is, c.as_slice-in-turns.ensures.value) at c.pick-choice.ensures.all in
+    scanned_stuck c.turns.invariant.scanned c.pick-choice.result.1 (grind (arith, common_steps, nat_tests)) c.turns.invariant.leaving.rising
     (λ at g. none at (may_go_at c.args.rows.now left at c.turns.free g)) (all ∙ ap (compared (rows_at c.args.rows.now left)) (sym n))
 
 pub returns-in_default-clause-exact : goal.returns-in_default-clause-exact
@@ -102,16 +102,16 @@ turns-preserved c =
     let pushed : c.push.new.self.items ≡ places ++ get_or left at 0 ∷ [] = rw place at (pushed (c.remove-place.result ∷ []) refl c.unwrap.ensures c.push.ensures.items) in
     let longer : length c.push.new.self.items ≡ length places + 1 = ap length pushed ∙ length_push places (get_or left at 0) in
     let gone = ap (rows_at rows) pushed ∙ (map_push (row_at rows) places (get_or left at 0) ∙ ap (λ (r : Row). rows_at rows places ++ r ∷ []) (sym (row_there rows left at there))) in
-    let tested : c.pick-choice.result.tests ≤ length left = rw slice at c.pick-choice.ensures.most in
-    let some : 0 < c.pick-choice.result.tests = c.pick-choice.ensures.least (rw slice (omega arith)) in
-    let turn : c.pick-choice.result.tests ≡ compared (rows_at rows left) (at + 1) = rw (c.in-Some.is, slice) at c.pick-choice.ensures.tests in
+    let tested : c.pick-choice.result.1 ≤ length left = rw slice at c.pick-choice.ensures.most in
+    let some : 0 < c.pick-choice.result.1 = c.pick-choice.ensures.least (rw slice (omega arith)) in
+    let turn : c.pick-choice.result.1 ≡ compared (rows_at rows left) (at + 1) = rw (c.in-Some.is, slice) at c.pick-choice.ensures.tests in
     record {
       leaving = leaving_others old.leaving at next.0.there row c.add.new.self c.remove-place.new.self.items c.requires.kinds c.add.ensures items;
       scanned = rw (others, gone, given_back old.leaving at next.0.there row c.add.new.self c.requires.kinds c.add.ensures)
-          (scanned_more old.scanned at c.pick-choice.result.tests old.leaving.rising next turn);
+          (scanned_more old.scanned at c.pick-choice.result.1 old.leaving.rising next turn);
       gone = rw pushed (All-push (λ j. j < length rows) places (get_or left at 0) old.gone (All-get_or (λ j. j < length rows) left at 0 there old.leaving.there));
       counts = rw (others, ← c.as_slice-in-turns-3.ensures.value) c.count_less.ensures.counts;
-      most = rw items (few_tests c.turns.tests c.pick-choice.result.tests (length left) (length (remove left at)) (length rows * (length rows + 1)) tested old.most len);
+      most = rw items (few_tests c.turns.tests c.pick-choice.result.1 (length left) (length (remove left at)) (length rows * (length rows + 1)) tested old.most len);
       least = let l = old.least in omega arith;
       all = rw items (let l = old.all in omega arith);
       left = let r = old.left in let e = c.remove-place.ensures.capacity in omega arith;

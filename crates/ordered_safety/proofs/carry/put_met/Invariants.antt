@@ -1,7 +1,7 @@
 use Rattle.std.proofs.Common.{◌≤◌}
 use Rattle.std.specs.Prelude.{vec_capacity}
 use Rattle.ordered_safety.proofs.Carries.{Carrying}
-use Rattle.ordered_safety.proofs.carry.place_found.Given as goal
+use Rattle.ordered_safety.proofs.carry.put_met.Given as goal
 
 abbrev pub invariant-loop-row : goal.invariant-loop-row
 invariant-loop-row l = record {

@@ -1,10 +1,10 @@
-use Rattle.std.proofs.Common.{◌≡◌, ◌≤◌, ◌∷◌, [], true, refl, ap, sym, ◌∙◌, arith}
+use Rattle.std.proofs.Common.{◌∷◌, [], refl, ap, arith}
+use Rattle.std.proofs.lemmas.Bool.Decides.{nat_tests}
+use Rattle.std.proofs.lemmas.Grind.{common_steps}
 use Rattle.std.proofs.lemmas.Slice.{pushed}
 use Rattle.claims.specs.declared.row.Row.{Row}
-use Rattle.claims.specs.Claims.{row_at}
 use Rattle.ordered_safety.proofs.Carries.{adding_none, adding_marked, adding_found}
-use Rattle.ordered_safety.proofs.carry.place_others.Goals as goal
-use Rattle.ordered_safety.proofs.carry.place_others.Goals.{then-get-greatest, else-get-greatest}
+use Rattle.ordered_safety.proofs.carry.put_others.Goals as goal
 
 pub loop-place-init : goal.loop-place-init
 loop-place-init c = record {
@@ -26,12 +26,8 @@ loop-place-preserved c =
     let old = c.loop-place.invariant in
     let items = pushed (c.loop-place.place ∷ []) refl c.unwrap.ensures c.push.ensures.items in
     let lt = c.loop-place-test.true in
-    let still : c.if-get-greatest.above ≡ true → (c.loop-place.above ≡ true) × (c.args.greatest ≤ (row_at c.args.rows.now c.loop-place.place).number) = λ e.
-    elim c.if-get-greatest.branch [
-      | then-get-greatest w ↦ absurd (cc (w.above-is, e))
-      | else-get-greatest w ↦ let n = ap (λ (r : Row). r.number) c.get.ensures in let le = w.if-get-greatest.false in (sym w.above-is ∙ e, omega arith)
-    ] in
+    let n = ap (λ (r : Row). r.number) c.get.ensures in
     record {
-      adding = rw items (adding_found (let l = c.len-place-end.ensures in omega arith) c.requires.met old.adding c.if-met-place.false still);
+      adding = rw items (adding_found (let l = c.len-place-end.ensures in omega arith) c.requires.met old.adding c.if-met-place.false (λ e. (grind (arith, common_steps, nat_tests), grind (arith, common_steps, nat_tests))));
       room = let e = c.push.ensures.capacity in let r = old.room in omega arith;
     }

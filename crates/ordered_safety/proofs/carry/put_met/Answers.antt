@@ -1,13 +1,12 @@
-use Rattle.std.proofs.Common.{◌≡◌, ◌≤◌, ℕ, ◌∷◌, [], get_or, true, refl, sym, ◌∙◌, arith, nat_cmp}
-use Rattle.std.specs.Prelude.{IsTrue}
+use Rattle.std.proofs.Common.{◌≡◌, ◌≤◌, ◌&&◌, ℕ, ◌∷◌, [], get_or, true, refl, arith, nat_cmp}
 use Rattle.std.specs.Ordering.{ord_max}
+use Rattle.std.proofs.lemmas.Bool.{and_parts}
 use Rattle.std.proofs.lemmas.Grind.{common_steps}
 use Rattle.std.proofs.lemmas.List.{nil_from_length, take_all}
 use Rattle.std.proofs.lemmas.Slice.{pushed}
 use Rattle.claims.specs.Claims.{row_at}
 use Rattle.ordered_safety.proofs.Carries.{IsKept, no_kept, carried_none, carried_missed, carried_found, carried_room}
-use Rattle.ordered_safety.proofs.carry.place_found.Goals as goal
-use Rattle.ordered_safety.proofs.carry.place_found.Goals.{then-not-is_of_line, else-not-is_of_line}
+use Rattle.ordered_safety.proofs.carry.put_met.Goals as goal
 
 max_left : (a b m : ℕ) → m ≡ ord_max nat_cmp a b → a ≤ m
 max_left a b m e = grind (arith, common_steps)
@@ -45,14 +44,10 @@ loop-row-preserved c =
     let old = c.loop-row.invariant in
     let stands = c.in-Some.ensures.found in
     let items = pushed (c.in-Some.place ∷ []) refl c.unwrap.ensures c.push.ensures.items in
-    let still : c.if-not-is_of_line.same ≡ true → (c.loop-row.same ≡ true) × IsKept kept (row_at c.args.rows.now c.in-Some.place) = λ e.
-    elim c.if-not-is_of_line.branch [
-      | then-not-is_of_line w ↦ absurd (cc (w.same-is, e))
-      | else-not-is_of_line w ↦
-          let yes : IsTrue c.is_of_line.result = w.if-not-is_of_line.false in
-          let line = rw c.get.ensures at (c.is_of_line.ensures.0 yes) in
-          (sym w.same-is ∙ e, record { number = stands.numbered; sender = line.0; queue = line.1 })
-    ] in
+    let still : (c.loop-row.same && c.is_of_line-same.result) ≡ true → (c.loop-row.same ≡ true) × IsKept kept (row_at c.args.rows.now c.in-Some.place) = λ e.
+    let yes = and_parts c.loop-row.same c.is_of_line-same.result e in
+    let line = rw c.get.ensures at (c.is_of_line-same.ensures.0 yes.1) in
+    (yes.0, record { number = stands.numbered; sender = line.0; queue = line.1 }) in
     record {
       carrying = rw items (carried_found c.loop-row-test.true old.carrying c.requires.rising c.requires.lines c.in-Some.place stands
           (max_left c.loop-row.greatest kept.number c.max-greatest.result c.max-greatest.ensures)

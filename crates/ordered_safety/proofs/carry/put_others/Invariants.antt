@@ -1,7 +1,7 @@
 use Rattle.std.proofs.Common.{◌≤◌}
 use Rattle.std.specs.Prelude.{vec_capacity}
 use Rattle.ordered_safety.proofs.Carries.{Adding}
-use Rattle.ordered_safety.proofs.carry.place_others.Given as goal
+use Rattle.ordered_safety.proofs.carry.put_others.Given as goal
 
 abbrev pub invariant-loop-place : goal.invariant-loop-place
 invariant-loop-place l = record {
