@@ -35,15 +35,9 @@ pub fn is_safe(scratch: &mut Scratch, table: &Table) -> Verdict
     ensures some { result.safe ≡ false → 0 < result.tests }
     ensures kept { scratch.new ≡ scratch.old }
 {
-    scratch.free.copy_from(table.free());
+    scratch.work.free.copy_from(table.free());
     let rows = Rows::plain(table.rows());
-    scan(
-        &rows,
-        &mut scratch.left,
-        &mut scratch.ahead,
-        &mut scratch.free,
-        &mut scratch.places,
-    )
+    scan(&rows, &mut scratch.work)
 }
 
 /// Whether a finishing order exists once this row holds one page more and needs one less, and one
@@ -78,30 +72,16 @@ pub fn safe_after_page(scratch: &mut Scratch, table: &Table, row: usize) -> Verd
     let rows = table.rows();
     copy_with_page(&rows[row], &mut scratch.asking);
     let rows = Rows::with(rows, row, &scratch.asking);
-    take_page(table.free(), &mut scratch.free);
-    let tried = try_kept(
-        &rows,
-        scratch.kept.as_slice(),
-        &mut scratch.met,
-        &mut scratch.places,
-        &mut scratch.numbers,
-        &mut scratch.left,
-        &mut scratch.free,
-    );
+    take_page(table.free(), &mut scratch.work.free);
+    let tried = try_kept(&rows, scratch.kept.as_slice(), &mut scratch.work);
     if tried.safe {
-        keep(&rows, scratch.places.as_slice(), &mut scratch.kept);
+        keep(&rows, scratch.work.places.as_slice(), &mut scratch.kept);
         return tried;
     }
-    take_page(table.free(), &mut scratch.free);
-    let mut scanned = scan(
-        &rows,
-        &mut scratch.left,
-        &mut scratch.ahead,
-        &mut scratch.free,
-        &mut scratch.places,
-    );
+    take_page(table.free(), &mut scratch.work.free);
+    let mut scanned = scan(&rows, &mut scratch.work);
     if scanned.safe {
-        keep(&rows, scratch.places.as_slice(), &mut scratch.kept);
+        keep(&rows, scratch.work.places.as_slice(), &mut scratch.kept);
     }
     scanned.tests += tried.tests;
     scanned
@@ -119,14 +99,10 @@ pub fn check_order(scratch: &mut Scratch, table: &Table, order: &Order) -> Verdi
     ensures each { IsTrue result.safe → result.tests ≡ length table.now.rows }
     ensures kept { scratch.new ≡ scratch.old }
 {
-    scratch.free.copy_from(table.free());
+    scratch.work.free.copy_from(table.free());
     let rows = Rows::plain(table.rows());
-    follow(
-        &rows,
-        &mut scratch.left,
-        &mut scratch.free,
-        order.as_slice(),
-    )
+    let order = order.as_slice();
+    follow(&rows, &mut scratch.work.left, &mut scratch.work.free, order)
 }
 
 /// A finishing order, if there is one, and how many comparisons it took to find or exclude it: with
@@ -147,20 +123,15 @@ pub fn find_order(
     ensures some { IfOk result (λ found. IfNone found.0 (0 < found.1)) }
     ensures kept { scratch.new ≡ scratch.old }
 {
-    scratch.free.copy_from(table.free());
+    scratch.work.free.copy_from(table.free());
     let rows = Rows::plain(table.rows());
-    let verdict = scan(
-        &rows,
-        &mut scratch.left,
-        &mut scratch.ahead,
-        &mut scratch.free,
-        &mut scratch.places,
-    );
+    let verdict = scan(&rows, &mut scratch.work);
     if !verdict.safe {
         return Ok((None, verdict.tests));
     }
-    put_numbers(&rows, scratch.places.as_slice(), &mut scratch.numbers);
-    let order = Order::copy_of(alloc, scratch.numbers.as_slice())?;
+    let places = scratch.work.places.as_slice();
+    put_numbers(&rows, places, &mut scratch.work.numbers);
+    let order = Order::copy_of(alloc, scratch.work.numbers.as_slice())?;
     Ok((Some(order), verdict.tests))
 }
 

@@ -9,7 +9,7 @@ ghost use Rattle.ordered_safety.specs.Compared.{ScanTakes, compared};
 
 use crate::ahead::{count_ahead, count_less};
 use crate::rows::Rows;
-use crate::scratch::Verdict;
+use crate::scratch::{Verdict, Work};
 use counts::Counts;
 
 /// The first of these places whose row may go now: its need fits, and no earlier row that is left
@@ -45,47 +45,44 @@ fn pick(rows: &Rows, left: &[usize], ahead: &[u32], free: &Counts) -> (Option<us
 
 /// Takes rows that may go, the first one each time, until none is left or none may go. Where all
 /// went, `places` has their places in this order.
-pub fn scan(
-    rows: &Rows,
-    left: &mut Vec<usize>,
-    ahead: &mut Vec<u32>,
-    free: &mut Counts,
-    places: &mut Vec<usize>,
-) -> Verdict
-    requires kinds { HaveKinds (length free.old) rows.now }
+pub fn scan(rows: &Rows, work: &mut Work) -> Verdict
+    requires kinds { HaveKinds (length work.old.free) rows.now }
     requires few { length rows.now < 2 ^ 32 }
-    requires small { StaysSmall free.old rows.now }
+    requires small { StaysSmall work.old.free rows.now }
     requires rising { Pairwise IsLower rows.now }
-    requires left { length rows.now ≤ vec_capacity left.old }
-    requires ahead { length rows.now ≤ vec_capacity ahead.old }
-    requires places { length rows.now ≤ vec_capacity places.old }
-    ensures exact { IsTrue result.safe ↔ HasFinishingOrder (amount free.old) rows.now }
-    ensures there { All (λ j. j < length rows.now) places.new.items }
-    ensures order { IsTrue result.safe → IsFinishingOrder (amount free.old) rows.now
-        (rows_at rows.now places.new.items) }
-    ensures tests { ScanTakes (amount free.old) rows.now result.tests }
+    requires left { length rows.now ≤ vec_capacity work.old.left }
+    requires ahead { length rows.now ≤ vec_capacity work.old.ahead }
+    requires places { length rows.now ≤ vec_capacity work.old.places }
+    ensures exact { IsTrue result.safe ↔ HasFinishingOrder (amount work.old.free) rows.now }
+    ensures there { All (λ j. j < length rows.now) work.new.places.items }
+    ensures order { IsTrue result.safe → IsFinishingOrder (amount work.old.free) rows.now
+        (rows_at rows.now work.new.places.items) }
+    ensures tests { ScanTakes (amount work.old.free) rows.now result.tests }
     ensures most { 2 * result.tests ≤ length rows.now * (length rows.now + 1) }
     ensures each { IsTrue result.safe → length rows.now ≤ result.tests }
     ensures some { result.safe ≡ false → 0 < result.tests }
-    ensures left { vec_capacity left.old ≤ vec_capacity left.new }
-    ensures ahead { vec_capacity ahead.old ≤ vec_capacity ahead.new }
-    ensures places { vec_capacity places.old ≤ vec_capacity places.new }
-    ensures same { length free.new ≡ length free.old }
+    ensures left { vec_capacity work.old.left ≤ vec_capacity work.new.left }
+    ensures ahead { vec_capacity work.old.ahead ≤ vec_capacity work.new.ahead }
+    ensures places { vec_capacity work.old.places ≤ vec_capacity work.new.places }
+    ensures met { vec_capacity work.old.met ≤ vec_capacity work.new.met }
+    ensures numbers { vec_capacity work.old.numbers ≤ vec_capacity work.new.numbers }
+    ensures same { length work.new.free ≡ length work.old.free }
 {
-    fill(left, rows.len());
-    count_ahead(rows, left.as_slice(), ahead);
-    places.clear();
+    fill(&mut work.left, rows.len());
+    count_ahead(rows, work.left.as_slice(), &mut work.ahead);
+    work.places.clear();
     let mut tests = 0;
-    'turns: while !left.is_empty() {
-        let (choice, compared) = pick(rows, left.as_slice(), ahead.as_slice(), free);
+    'turns: while !work.left.is_empty() {
+        let left = work.left.as_slice();
+        let (choice, compared) = pick(rows, left, work.ahead.as_slice(), &work.free);
         tests += compared;
         let Some(at) = choice else {
             return Verdict { safe: false, tests };
         };
-        count_less(rows, left.as_slice(), ahead, at);
-        let place = left.remove(at);
-        free.add(&rows.get(place).held);
-        places.push(place).unwrap();
+        count_less(rows, left, &mut work.ahead, at);
+        let place = work.left.remove(at);
+        work.free.add(&rows.get(place).held);
+        work.places.push(place).unwrap();
     }
     Verdict { safe: true, tests }
 }

@@ -18,23 +18,30 @@ pub struct Verdict {
     pub tests: u64,
 }
 
+/// What a decision works with, and writes anew.
+#[derive(Drop)]
+pub struct Work {
+    /// Places of rows in the order that is tried, or that a scan finds.
+    pub places: Vec<usize>,
+    /// Which places the kept order has.
+    pub met: Vec<bool>,
+    /// Numbers of rows in the order of `places`.
+    pub numbers: Vec<u64>,
+    /// Places of the rows that haven't gone.
+    pub left: Vec<usize>,
+    /// For each of `left`, how many before it are of its sender and queue.
+    pub ahead: Vec<u32>,
+    /// What is free once the others have gone.
+    pub free: Counts,
+}
+
 /// Room for a decision, and the finishing order that `safe_after_page` found last. Contracts see
 /// for how many rows and of how many kinds there is room, and the numbers of that order.
 #[derive(Drop)]
 pub struct Scratch {
     /// The rows of the kept order, in that order.
     pub(crate) kept: Vec<Kept>,
-    /// Places of rows in the order that is tried, or that a scan finds.
-    pub(crate) places: Vec<usize>,
-    /// Which places the kept order has.
-    pub(crate) met: Vec<bool>,
-    /// Numbers of rows in the order of `places`.
-    pub(crate) numbers: Vec<u64>,
-    /// Places of the rows that haven't gone.
-    pub(crate) left: Vec<usize>,
-    /// For each of `left`, how many before it are of its sender and queue.
-    pub(crate) ahead: Vec<u32>,
-    pub(crate) free: Counts,
+    pub(crate) work: Work,
     /// The row that a page is asked for, as it is once it has the page.
     pub(crate) asking: Row,
     pub(crate) rows: usize,
@@ -49,20 +56,20 @@ impl Model for Scratch {
 
     ghost view = { λ s. record {
       rows = s.rows;
-      kinds = length s.free;
+      kinds = length s.work.free;
       order = kept_numbers s.kept.items;
     } };
 
     ghost invariant = { λ s.
         KeepsLines s.kept.items
         × (s.rows ≤ vec_capacity s.kept)
-        × (s.rows ≤ vec_capacity s.places)
-        × (s.rows ≤ vec_capacity s.met)
-        × (s.rows ≤ vec_capacity s.numbers)
-        × (s.rows ≤ vec_capacity s.left)
-        × (s.rows ≤ vec_capacity s.ahead)
-        × (length s.asking.held ≡ length s.free)
-        × (length s.asking.need ≡ length s.free) };
+        × (s.rows ≤ vec_capacity s.work.places)
+        × (s.rows ≤ vec_capacity s.work.met)
+        × (s.rows ≤ vec_capacity s.work.numbers)
+        × (s.rows ≤ vec_capacity s.work.left)
+        × (s.rows ≤ vec_capacity s.work.ahead)
+        × (length s.asking.held ≡ length s.work.free)
+        × (length s.asking.need ≡ length s.work.free) };
 }
 
 impl Scratch {
@@ -72,12 +79,14 @@ impl Scratch {
     {
         Ok(Scratch {
             kept: Vec::with_capacity(alloc, rows)?,
-            places: Vec::with_capacity(alloc, rows)?,
-            met: Vec::with_capacity(alloc, rows)?,
-            numbers: Vec::with_capacity(alloc, rows)?,
-            left: Vec::with_capacity(alloc, rows)?,
-            ahead: Vec::with_capacity(alloc, rows)?,
-            free: Counts::zero(alloc, kinds)?,
+            work: Work {
+                places: Vec::with_capacity(alloc, rows)?,
+                met: Vec::with_capacity(alloc, rows)?,
+                numbers: Vec::with_capacity(alloc, rows)?,
+                left: Vec::with_capacity(alloc, rows)?,
+                ahead: Vec::with_capacity(alloc, rows)?,
+                free: Counts::zero(alloc, kinds)?,
+            },
             asking: Row {
                 number: 0,
                 sender: 0,

@@ -13,53 +13,46 @@ use crate::carry::carry;
 use crate::follow::follow;
 use crate::kept::Kept;
 use crate::rows::Rows;
-use crate::scratch::Verdict;
+use crate::scratch::{Verdict, Work};
 use crate::walk::walk;
-use counts::Counts;
 
 /// Whether the rows finish in the kept order, carried to them. `places` has that order.
-pub fn try_kept(
-    rows: &Rows,
-    kept: &[Kept],
-    met: &mut Vec<bool>,
-    places: &mut Vec<usize>,
-    numbers: &mut Vec<u64>,
-    left: &mut Vec<usize>,
-    free: &mut Counts,
-) -> Verdict
-    requires kinds { HaveKinds (length free.old) rows.now }
+pub fn try_kept(rows: &Rows, kept: &[Kept], work: &mut Work) -> Verdict
+    requires kinds { HaveKinds (length work.old.free) rows.now }
     requires few { length rows.now < 2 ^ 32 }
-    requires small { StaysSmall free.old rows.now }
+    requires small { StaysSmall work.old.free rows.now }
     requires rising { Pairwise IsLower rows.now }
     requires lines { KeepsLines kept.now }
-    requires met { length rows.now ≤ vec_capacity met.old }
-    requires places { length rows.now ≤ vec_capacity places.old }
-    requires numbers { length rows.now ≤ vec_capacity numbers.old }
-    requires left { length rows.now ≤ vec_capacity left.old }
+    requires met { length rows.now ≤ vec_capacity work.old.met }
+    requires places { length rows.now ≤ vec_capacity work.old.places }
+    requires numbers { length rows.now ≤ vec_capacity work.old.numbers }
+    requires left { length rows.now ≤ vec_capacity work.old.left }
     ensures exact { IsTrue result.safe
-        ↔ AreFinishing (amount free.old) rows.now (carried rows.now (kept_numbers kept.now)) }
-    ensures there { All (λ j. j < length rows.now) places.new.items }
-    ensures order { IsTrue result.safe → IsFinishingOrder (amount free.old) rows.now
-        (rows_at rows.now places.new.items) }
-    ensures carried { numbers_of (rows_at rows.now places.new.items)
+        ↔ AreFinishing (amount work.old.free) rows.now (carried rows.now (kept_numbers kept.now)) }
+    ensures there { All (λ j. j < length rows.now) work.new.places.items }
+    ensures order { IsTrue result.safe → IsFinishingOrder (amount work.old.free) rows.now
+        (rows_at rows.now work.new.places.items) }
+    ensures carried { numbers_of (rows_at rows.now work.new.places.items)
         ≡ carried rows.now (kept_numbers kept.now) }
-    ensures tests { CheckTakes (amount free.old) rows.now
+    ensures tests { CheckTakes (amount work.old.free) rows.now
         (carried rows.now (kept_numbers kept.now)) result.tests }
     ensures most { result.tests ≤ length rows.now }
     ensures each { IsTrue result.safe → result.tests ≡ length rows.now }
-    ensures met { vec_capacity met.old ≤ vec_capacity met.new }
-    ensures places { vec_capacity places.old ≤ vec_capacity places.new }
-    ensures numbers { vec_capacity numbers.old ≤ vec_capacity numbers.new }
-    ensures left { vec_capacity left.old ≤ vec_capacity left.new }
-    ensures same { length free.new ≡ length free.old }
+    ensures met { vec_capacity work.old.met ≤ vec_capacity work.new.met }
+    ensures places { vec_capacity work.old.places ≤ vec_capacity work.new.places }
+    ensures numbers { vec_capacity work.old.numbers ≤ vec_capacity work.new.numbers }
+    ensures left { vec_capacity work.old.left ≤ vec_capacity work.new.left }
+    ensures ahead { vec_capacity work.old.ahead ≤ vec_capacity work.new.ahead }
+    ensures same { length work.new.free ≡ length work.old.free }
 {
-    if carry(rows, kept, met, places) {
-        return walk(rows, places.as_slice(), free);
+    if carry(rows, kept, &mut work.met, &mut work.places) {
+        return walk(rows, work.places.as_slice(), &mut work.free);
     }
     // Rows of other senders than the kept ones, or lower numbers: whether each line is kept has to
     // be looked at row by row.
-    put_numbers(rows, places.as_slice(), numbers);
-    follow(rows, left, free, numbers.as_slice())
+    put_numbers(rows, work.places.as_slice(), &mut work.numbers);
+    let numbers = work.numbers.as_slice();
+    follow(rows, &mut work.left, &mut work.free, numbers)
 }
 
 /// Makes `numbers` the numbers of the rows at these places.
