@@ -1,14 +1,13 @@
 //! The kept order, carried to the rows that there are now.
 
-ghost use Rattle.std.specs.Prelude.{◌≡◌, ℕ, ◌+◌, ◌<◌, ◌≤◌, List, ◌++◌, true, false, not, IsTrue, length, slice_index_or, vec_len, vec_capacity, All, filter, count_by};
+ghost use Rattle.std.specs.Prelude.{◌≡◌, ℕ, ◌+◌, ◌<◌, ◌≤◌, List, ◌++◌, true, false, not, IsTrue, length, slice_index_or, vec_len, vec_capacity, All, filter, count_by, IfSome, IfNone};
 ghost use Rattle.claims.specs.declared.row.Row.{Row};
 ghost use Rattle.claims.specs.Claims.{IsLower, Pairwise, row_at};
 ghost use Rattle.claims.specs.Safety.{IsOrderOf, KeepsLine};
 ghost use Rattle.ordered_safety.specs.Scan.{rows_at};
-ghost use Rattle.ordered_safety.specs.Carried.{carried, has_row, is_among, is_lacked, AreMet, numbers_of};
+ghost use Rattle.ordered_safety.specs.Carried.{carried, has_row, is_among, is_lacked, AreMet, numbers_of, StandsAt};
 ghost use Rattle.ordered_safety.specs.Kept.{kept_numbers, KeepsLines};
 
-use crate::find::find;
 use crate::kept::Kept;
 use crate::rows::Rows;
 
@@ -112,4 +111,31 @@ fn put_others(rows: &Rows, met: &[bool], greatest: u64, places: &mut Vec<usize>)
         places.push(place).unwrap();
     }
     above
+}
+
+/// The place of the row with this number: `hint` if it stands there, otherwise by halves, since
+/// the numbers rise.
+fn find(rows: &Rows, number: u64, hint: usize) -> Option<usize>
+    requires { Pairwise IsLower rows.now }
+    ensures found { IfSome result (StandsAt rows.now number) }
+    ensures none { IfNone result ((place : ℕ) → StandsAt rows.now number place → ⊥) }
+{
+    if hint < rows.len() && rows.get(hint).number == number {
+        return Some(hint);
+    }
+    let mut low = 0;
+    let mut high = rows.len();
+    'halves: while low < high {
+        let middle = low + (high - low) / 2;
+        let found = rows.get(middle).number;
+        if found == number {
+            return Some(middle);
+        }
+        if found < number {
+            low = middle + 1;
+        } else {
+            high = middle;
+        }
+    }
+    None
 }

@@ -3,9 +3,7 @@
 //! is this project's own).
 #![tactic(auto)]
 
-mod ahead;
 mod carry;
-mod find;
 mod follow;
 mod kept;
 mod laws;
@@ -15,7 +13,6 @@ mod safety;
 mod scan;
 mod scratch;
 mod trial;
-mod walk;
 
 pub use claims::Table;
 pub use laws::tests_are_determined;

@@ -3,7 +3,7 @@ use Rattle.std.specs.Prelude.{count_by}
 use Rattle.claims.specs.Claims.{row_at}
 use Rattle.claims.specs.Safety.{same_line}
 use Rattle.ordered_safety.specs.Scan.{rows_at}
-use Rattle.ordered_safety.proofs.ahead.count_line.Given as goal
+use Rattle.ordered_safety.proofs.scan.count_line.Given as goal
 
 abbrev pub invariant-loop-j : goal.invariant-loop-j
 invariant-loop-j l = record {

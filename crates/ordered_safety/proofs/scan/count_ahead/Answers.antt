@@ -3,7 +3,7 @@ use Rattle.std.proofs.lemmas.Grind.{common_steps}
 use Rattle.std.proofs.lemmas.Slice.{pushed}
 use Rattle.ordered_safety.specs.Scan.{ahead_of, rows_at}
 use Rattle.ordered_safety.proofs.Waiting.{counts_more, ahead_there}
-use Rattle.ordered_safety.proofs.ahead.count_ahead.Goals as goal
+use Rattle.ordered_safety.proofs.scan.count_ahead.Goals as goal
 
 pub loop-at-preserved : goal.loop-at-preserved
 loop-at-preserved c =

@@ -2,7 +2,7 @@ use Rattle.std.proofs.Common.{◌≡◌, length, drop}
 use Rattle.counts.specs.Amounts.{amount}
 use Rattle.ordered_safety.specs.Scan.{StaysSmall, rows_at}
 use Rattle.ordered_safety.proofs.Walks.{Walked}
-use Rattle.ordered_safety.proofs.walk.walk.Given as goal
+use Rattle.ordered_safety.proofs.trial.walk.Given as goal
 
 abbrev pub invariant-loop-place : goal.invariant-loop-place
 invariant-loop-place l = record {

@@ -11,8 +11,8 @@ use Rattle.ordered_safety.specs.Scan.{rows_at}
 use Rattle.ordered_safety.proofs.Picks.{row_there}
 use Rattle.ordered_safety.proofs.Turns.{given, kinds_at}
 use Rattle.ordered_safety.proofs.Walks.{WalkTakes, walked_over, walked_more, check_as_walked, finishing_is, as_many, held_same}
-use Rattle.ordered_safety.proofs.walk.walk.Goals as goal
-use Rattle.ordered_safety.proofs.walk.walk.Goals.{After-get-row, After-loop-place, Then-not-le}
+use Rattle.ordered_safety.proofs.trial.walk.Goals as goal
+use Rattle.ordered_safety.proofs.trial.walk.Goals.{After-get-row, After-loop-place, Then-not-le}
 
 pub loop-place-init : goal.loop-place-init
 loop-place-init c =

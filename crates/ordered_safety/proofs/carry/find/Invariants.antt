@@ -1,6 +1,6 @@
 use Rattle.std.proofs.Common.{ℕ, ◌<◌, ◌≤◌, ◌-◌, length}
 use Rattle.claims.specs.Claims.{row_at}
-use Rattle.ordered_safety.proofs.find.find.Given as goal
+use Rattle.ordered_safety.proofs.carry.find.Given as goal
 
 abbrev pub invariant-halves : goal.invariant-halves
 invariant-halves l = record {

@@ -8,8 +8,8 @@ use Rattle.claims.specs.Safety.{same_line}
 use Rattle.ordered_safety.specs.Scan.{rows_at, row_of, CountsAhead}
 use Rattle.ordered_safety.proofs.Picks.{row_there}
 use Rattle.ordered_safety.proofs.Waiting.{Less, less_first, less_kept, less_taken, less_removed, waits}
-use Rattle.ordered_safety.proofs.ahead.count_less.Goals as goal
-use Rattle.ordered_safety.proofs.ahead.count_less.Goals.{then-index-gt0+then-are_of_one_line, else-index-gt0, else-index-gt0-via-then-index-gt0+else-are_of_one_line, else-index-gt0-via-else-index-gt0}
+use Rattle.ordered_safety.proofs.scan.count_less.Goals as goal
+use Rattle.ordered_safety.proofs.scan.count_less.Goals.{then-index-gt0+then-are_of_one_line, else-index-gt0, else-index-gt0-via-then-index-gt0+else-are_of_one_line, else-index-gt0-via-else-index-gt0}
 
 pub loop-at-init : goal.loop-at-init
 loop-at-init c =

@@ -1,7 +1,7 @@
 use Rattle.std.proofs.Common.{◌+◌, ◌-◌, ◌/◌, ap, arith}
 use Rattle.claims.specs.declared.row.Row.{Row}
 use Rattle.ordered_safety.proofs.OneNumber.{low_upto}
-use Rattle.ordered_safety.proofs.find.find.Goals as goal
+use Rattle.ordered_safety.proofs.carry.find.Goals as goal
 
 pub halves-preserved-then-found-number-2 : goal.halves-preserved-then-found-number-2
 halves-preserved-then-found-number-2 c =

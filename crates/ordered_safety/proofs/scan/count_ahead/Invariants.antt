@@ -1,7 +1,7 @@
 use Rattle.std.proofs.Common.{◌≡◌, ℕ, ◌<◌, ◌≤◌}
 use Rattle.std.specs.Prelude.{slice_index, vec_len, vec_capacity}
 use Rattle.ordered_safety.specs.Scan.{ahead_of, rows_at}
-use Rattle.ordered_safety.proofs.ahead.count_ahead.Given as goal
+use Rattle.ordered_safety.proofs.scan.count_ahead.Given as goal
 
 abbrev pub invariant-loop-at : goal.invariant-loop-at
 invariant-loop-at l = record {
