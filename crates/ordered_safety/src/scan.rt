@@ -43,7 +43,7 @@ fn pick(rows: &Rows, left: &[usize], ahead: &[u32], free: &Counts) -> (Option<us
 }
 
 /// Takes rows that may go, the first one each time, until none is left or none may go. Where all
-/// went, `places` has their places in this order.
+/// went, `work.places` has their places in this order.
 pub fn scan(rows: &Rows, work: &mut Work) -> Verdict
     requires kinds { HaveKinds (length work.old.free) rows.now }
     requires few { length rows.now < 2 ^ 32 }

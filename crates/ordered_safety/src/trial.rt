@@ -16,7 +16,7 @@ use crate::rows::Rows;
 use crate::scratch::{Verdict, Work};
 use counts::Counts;
 
-/// Whether the rows finish in the kept order, carried to them. `places` has that order.
+/// Whether the rows finish in the kept order, carried to them. `work.places` has that order.
 pub fn try_kept(rows: &Rows, kept: &[Kept], work: &mut Work) -> Verdict
     requires kinds { HaveKinds (length work.old.free) rows.now }
     requires few { length rows.now < 2 ^ 32 }
