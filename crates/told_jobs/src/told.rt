@@ -92,28 +92,19 @@ pub(crate) fn number_of<J: ToldJob>(job: &J) -> u16
     ensures value { result ≡ number_in (J.told job.now).control }
     ensures within { result ≤ 999 }
 {
-    match job.control() {
-        Some(control) => control.number,
-        None => 0,
-    }
+    job.control().map_or(0, |control| control.number)
 }
 
 /// The user, as its control file has it, or nothing where there is none.
 pub(crate) fn user_of<J: ToldJob>(job: &J) -> &[u8]
     ensures { result.now ≡ user_in (J.told job.now).control }
 {
-    match job.control() {
-        Some(control) => control.user.as_slice(),
-        None => &[],
-    }
+    job.control().map_or(&[], |control| control.user.as_slice())
 }
 
 /// The host, as its control file has it, or nothing where there is none.
 pub(crate) fn host_of<J: ToldJob>(job: &J) -> &[u8]
     ensures { result.now ≡ host_in (J.told job.now).control }
 {
-    match job.control() {
-        Some(control) => control.host.as_slice(),
-        None => &[],
-    }
+    job.control().map_or(&[], |control| control.host.as_slice())
 }
