@@ -87,12 +87,8 @@ impl Book {
     pub fn turn_of(&self, queue: u32, began: Option<u64>) -> Option<usize>
         ensures { TurnAt (facts_in self.now.jobs) queue began result }
     {
-        let Some(number) = began else {
-            return self.ready(queue);
-        };
-        match self.begun(number) {
-            Some(i) => Some(i),
-            None => self.ready(queue),
-        }
+        began
+            .and_then(|number| self.begun(number))
+            .or_else(|| self.ready(queue))
     }
 }
