@@ -2,7 +2,6 @@
 //! is put away.
 
 ghost use Rattle.std.specs.Prelude.{◌≡◌, [], map};
-ghost use Rattle.held_jobs.specs.Turns.{is_ended};
 ghost use Rattle.spool_calls.specs.Calls.{IsRight, Admits, Starts, Closes, Rotates};
 ghost use Rattle.core_steps.proofs.Stocks.{CanEnd, is_out, stock, stock_after};
 ghost use Rattle.core_steps.proofs.EndingMany.{EndsTo, IsStocked};
@@ -17,13 +16,6 @@ use ordered_safety::PAGES;
 use page_pool::Pool;
 use queues::Book;
 use spool_calls::Printer;
-
-/// Whether a job has ended.
-fn has_ended(job: &Job) -> bool
-    ensures { result ≡ is_ended job.now.phase }
-{
-    matches!(job.phase(), Phase::Ended)
-}
 
 /// Whether a page of a job is lent, or at a printer.
 fn has_page_out(job: &Job) -> bool
@@ -46,7 +38,7 @@ fn end_job(book: &mut Book, pool: &mut Pool, table: &mut Table, i: usize)
         ≡ stock_after (stock book.old pool.old table.old) i }
 {
     let job = book.job(i);
-    if has_ended(job) {
+    if job.phase() == Phase::Ended {
         return;
     }
     let queue = job.queue() as usize;

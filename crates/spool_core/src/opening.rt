@@ -1,12 +1,12 @@
 //! The acceptance of jobs.
 
-ghost use Rattle.std.specs.Prelude.{◌≡◌, ◌≢◌, ◌↔◌, ◌+◌, ◌<◌, ◌≤◌, All, IsTrue, IfErr, IfOk, OnErr, OnOk, length};
+ghost use Rattle.std.specs.Prelude.{◌≡◌, ◌≢◌, ◌<◌, ◌≤◌, All, IfErr, IfOk, OnErr, OnOk, length};
 ghost use Rattle.counts.specs.Amounts.{amount, Fits};
 ghost use Rattle.claims.specs.declared.row.Row.{Row};
 ghost use Rattle.claims.specs.Changes.{opened};
 ghost use Rattle.config_values.specs.Config as C;
 ghost use Rattle.held_jobs.specs.Jobs.{HeldJob};
-ghost use Rattle.config_values.specs.Config.{queue_named, reserve_of};
+ghost use Rattle.config_values.specs.Config.{queue_named};
 ghost use Rattle.spool_history.specs.Refusals.{RefusesJob};
 ghost use Rattle.spool_calls.specs.Calls.{IsRight, Opens, OpensFor, before};
 ghost use Rattle.spool_core.specs.Places.{Accepts};
@@ -20,14 +20,6 @@ use config_values::Config;
 use lpd_values::Refusal;
 use queues::Book;
 use std::alloc::{AllocError, Global};
-
-/// Whether the account has room for the entries of one more job of a queue.
-fn has_room(config: &Config, reserved: u64, queue: u32) -> bool
-    ensures { IsTrue result ↔ (reserved + reserve_of config.now queue + 1 ≤ config.now.account) }
-{
-    let entries = u128::from(reserved) + u128::from(config.reserve_of(queue)) + 1;
-    entries <= u128::from(config.account())
-}
 
 /// Adds a job to the book and its row to the table. AllocError where memory for either is refused; nothing changes then.
 fn add_job(
@@ -83,7 +75,8 @@ impl Core {
         if self.config.max_jobs() as usize <= self.book.len() {
             return Err(Refusal::TableFull);
         }
-        if !has_room(&self.config, self.reserved, number) || self.accepted == u64::MAX {
+        let reserve = u128::from(self.reserved) + u128::from(self.config.reserve_of(number));
+        if u128::from(self.config.account()) <= reserve || self.accepted == u64::MAX {
             return Err(Refusal::AccountFull);
         }
         Ok(number)
