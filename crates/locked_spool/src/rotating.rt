@@ -21,11 +21,11 @@ use std::{fmt, mem};
 #[derive(Clone, Copy, Debug, PartialEq, Eq)]
 pub enum RotateError {
     /// A job is held.
-    JobsHeld,
+    JobsHeld = 14,
     /// The next segment would have no number, or the sums over all segments would pass what a number holds.
-    AccountFull,
+    AccountFull = 3,
     /// Memory was refused.
-    Memory,
+    Memory = 12,
 }
 
 impl RotateError {
@@ -33,11 +33,7 @@ impl RotateError {
     pub fn number(self) -> u8
         ensures { result ≡ number_of self }
     {
-        match self {
-            RotateError::JobsHeld => 14,
-            RotateError::AccountFull => 3,
-            RotateError::Memory => 12,
-        }
+        self as u8
     }
 }
 
