@@ -253,10 +253,8 @@ impl<E: SpoolLedger, K: Ledger, H: Ledger> Room<E, K, H> {
 
     /// Whether who rotates the account waits, and need not any more.
     pub(crate) fn may_rotate(&self) -> bool {
-        match self.line.rotates_from {
-            Some(least) => self.line.closed || self.is_at_rest(least),
-            None => false,
-        }
+        let least = self.line.rotates_from;
+        least.is_some_and(|least| self.line.closed || self.is_at_rest(least))
     }
 
     /// Whether who rotates the account has to wait. It is called while it has to.
