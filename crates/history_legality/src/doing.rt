@@ -93,10 +93,7 @@ fn is_open_for(config: &Config, files: &[File], place: u64, number: u64, page: &
     let Some((last, before)) = files.split_last() else {
         return false;
     };
-    if before.len() as u64 != place {
-        return false;
-    }
-    if last.ended {
+    if before.len() as u64 != place || last.ended {
         return false;
     }
     is_next_page(config, last, number, page)
@@ -110,10 +107,7 @@ fn is_open_at_end(config: &Config, files: &[File], place: u64) -> bool
     let Some((last, before)) = files.split_last() else {
         return false;
     };
-    if before.len() as u64 != place {
-        return false;
-    }
-    if last.ended {
+    if before.len() as u64 != place || last.ended {
         return false;
     }
     has_pages(config, last)

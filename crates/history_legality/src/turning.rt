@@ -24,10 +24,8 @@ fn is_out(state: &State, printer: u32, sheet: &Sheet) -> bool
         ↔ (slice_index_or (X.no_printer ∷ map printer_seen state.now.printers.items) printer X.no_printer).out
         ≡ Some (sheet_seen sheet.now) }
 {
-    match printer_numbered(state, printer).out {
-        Some(out) => is_same_sheet(&out, sheet),
-        None => false,
-    }
+    let out = printer_numbered(state, printer).out;
+    out.is_some_and(|out| is_same_sheet(&out, sheet))
 }
 
 /// Whether this page is the one that a printer gets next.
