@@ -154,10 +154,8 @@ fn queue(alloc: Global, table: &Table) -> Result<Queue, ConfigFault>
     let name = name(table)?;
     let limit = number(table, Key::Limit)?;
     let printers = number(table, Key::Printers)?;
-    match String::from_str(alloc, name) {
-        Ok(name) => Ok(Queue::new(name, limit, printers)),
-        Err(_) => Err(ConfigFault::Memory),
-    }
+    let name = String::from_str(alloc, name).or(Err(ConfigFault::Memory))?;
+    Ok(Queue::new(name, limit, printers))
 }
 
 /// The text at `name`, which is a queue's name.
