@@ -129,10 +129,8 @@ fn parse_connect(alloc: Global, host: &[u8]) -> Result<ScriptLine, LineFault>
     if !is_host(host) {
         return Err(LineFault::Bad);
     }
-    match Octets::copy_of(alloc, host) {
-        Ok(host) => Ok(ScriptLine::Connect { host }),
-        Err(_) => Err(LineFault::Memory),
-    }
+    let host = Octets::copy_of(alloc, host).or(Err(LineFault::Memory))?;
+    Ok(ScriptLine::Connect { host })
 }
 
 /// Whether a word may name a host: 1 to 64 octets, each from 21 to 7E in hexadecimal.
