@@ -230,10 +230,7 @@ fn write<W: OctetWrite>(octets: &[u8], output: &mut W) -> Result<(), Fault>
     ensures write_fault { W.faults output.new ≡ write_faults (W.faults output.old) result }
     ensures fault { IfErr result (λ fault. fault ≡ WriteFile) }
 {
-    match write_all(output, octets) {
-        Ok(()) => Ok(()),
-        Err(_) => Err(Fault::WriteFile),
-    }
+    write_all(output, octets).or(Err(Fault::WriteFile))
 }
 
 /// The first line of a text, and what follows its LF.
