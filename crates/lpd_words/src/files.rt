@@ -26,10 +26,7 @@ pub(crate) fn print<W: OctetWrite>(output: &mut W, text: &[u8]) -> Result<(), Fa
     ensures write_fault { W.faults output.new ≡ write_faults (W.faults output.old) result }
     ensures fault { IfErr result (λ fault. fault ≡ Run WriteFile) }
 {
-    match write_all(output, text) {
-        Ok(()) => Ok(()),
-        Err(_) => Err(Fault::Run(lpd_script::Fault::WriteFile)),
-    }
+    write_all(output, text).or(Err(Fault::Run(lpd_script::Fault::WriteFile)))
 }
 
 /// Reads a configuration to its end. Answers the first fault: `ReadFile`, a fault of the

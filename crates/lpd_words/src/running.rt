@@ -118,13 +118,10 @@ fn data_files<R: Files>(
 fn connect<R: Net>(net: &R, port: u16) -> Result<(R::Stream, R::Stream), Fault>
     ensures { IfErr result (λ fault. fault ≡ Network) }
 {
-    let Ok(stream) = TcpStream::connect(net, SocketAddr::from((Ipv4Addr::LOCALHOST, port))) else {
-        return Err(Fault::Network);
-    };
-    match stream.try_clone() {
-        Ok(again) => Ok((stream, again)),
-        Err(_) => Err(Fault::Network),
-    }
+    let address = SocketAddr::from((Ipv4Addr::LOCALHOST, port));
+    let stream = TcpStream::connect(net, address).or(Err(Fault::Network))?;
+    let again = stream.try_clone().or(Err(Fault::Network))?;
+    Ok((stream, again))
 }
 
 /// Sends a job to the server at this port of 127.0.0.1. Answers `Network` where it can't be
@@ -143,10 +140,8 @@ pub fn send<R: Net>(
     let (reader, writer) = connect(net, port)?;
     let (mut reader, mut writer) = (StreamReader::new(reader), StreamWriter::new(writer));
     let (queue, name, control) = (&envelope.queue, &envelope.name, &envelope.control);
-    match send_job(alloc, &mut reader, &mut writer, queue, name, control, files) {
-        Ok(()) => Ok(()),
-        Err(fault) => Err(Fault::Send(fault)),
-    }
+    let sent = send_job(alloc, &mut reader, &mut writer, queue, name, control, files);
+    sent.map_err(Fault::Send)
 }
 
 /// Reads a job's files, sends it, and says so.
