@@ -42,8 +42,5 @@ pub(crate) fn print<W: OctetWrite>(alloc: Global, output: &mut W, line: Line) ->
     ensures fault { IfErr result IsRunningFault }
 {
     let text = format!(in alloc; "{line}\n")?;
-    match write_all(output, text.as_bytes()) {
-        Ok(()) => Ok(()),
-        Err(_) => Err(Fault::Output),
-    }
+    write_all(output, text.as_bytes()).or(Err(Fault::Output))
 }

@@ -41,10 +41,7 @@ pub(crate) fn listen<R: Net<Listener = TcpListener, Stream = TcpStream>>(
     let address = SocketAddr::from((settings.bind, settings.port));
     let places = places(descriptor_limit(), kept).max(1);
     let connections = settings.connections.unwrap_or(u64::MAX);
-    match Lobby::new(rt, alloc, address, places, connections) {
-        Ok(opened) => Ok(opened),
-        Err(_) => Err(Fault::Network),
-    }
+    Lobby::new(rt, alloc, address, places, connections).or(Err(Fault::Network))
 }
 
 /// Prints all rotations that aren't printed yet, where all was printed until now. Where one can't

@@ -22,10 +22,7 @@ const PAUSE: u64 = 1;
 pub(crate) fn has_turn(every: Option<u64>, handed_on: u64) -> bool
     ensures { IsTrue result ↔ HasTurn every handed_on }
 {
-    match every {
-        Some(every) => every != 0 && handed_on != 0 && handed_on % every == 0,
-        None => false,
-    }
+    every.is_some_and(|every| every != 0 && handed_on != 0 && handed_on % every == 0)
 }
 
 /// Rotations that aren't printed yet: of each segment that was put away its number and its entries.

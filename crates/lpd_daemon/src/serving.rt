@@ -38,10 +38,8 @@ const KEPT: u64 = 64;
 /// Opens a printer's file at its end. A pipe is opened for reading too: so it doesn't wait for a
 /// reader, and one that ends and is started again stops no printer.
 fn open_sink<R: Files<File = File>>(rt: &R, path: &str) -> io::Result<File> {
-    let is_pipe = match fs::metadata(rt, path) {
-        Ok(metadata) => metadata.file_type().is_fifo(),
-        Err(_) => false,
-    };
+    let metadata = fs::metadata(rt, path);
+    let is_pipe = metadata.is_ok_and(|metadata| metadata.file_type().is_fifo());
     let mut options = OpenOptions::new();
     options.read(is_pipe).append(true).create(true);
     options.open(rt, path)

@@ -74,10 +74,7 @@ fn keep<T: Drop, F: Drop>(
     threads: &mut Vec<JoinHandle<T>>,
     started: Result<JoinHandle<T>, SpawnError<F>>,
 ) -> bool {
-    match started {
-        Ok(thread) => threads.push(thread).is_ok(),
-        Err(_) => false,
-    }
+    started.is_ok_and(|thread| threads.push(thread).is_ok())
 }
 
 /// Joins the threads of sessions that have ended, closes the spool once nothing is left to do, and joins the others: their seats.
