@@ -100,8 +100,9 @@ impl Counts {
         requires room { (kind : ℕ) → amount self.old kind + amount more.now kind < 2 ^ 32 }
         ensures { self.new ≡ sum_of self.old more.now }
     {
-        for k in 0..more.kinds() {
-            self.amounts[k] += more.amounts[k];
+        let (sums, added) = (self.amounts.as_mut_slice(), more.as_slice());
+        for k in 0..added.len() {
+            sums[k] += added[k];
         }
     }
 
@@ -129,8 +130,9 @@ impl Counts {
         requires enough { Fits less.now (amount self.old) }
         ensures { self.new ≡ rest_of self.old less.now }
     {
-        for k in 0..less.kinds() {
-            self.amounts[k] -= less.amounts[k];
+        let (rests, taken) = (self.amounts.as_mut_slice(), less.as_slice());
+        for k in 0..taken.len() {
+            rests[k] -= taken[k];
         }
     }
 
