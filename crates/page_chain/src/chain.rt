@@ -95,9 +95,10 @@ impl Chain {
     {
         Ok(Chain {
             row,
+            // In this order both are found sooner by the C library's allocator.
+            prints: Vec::with_capacity(alloc, MAX_PRINTS)?,
             files: Vec::with_capacity(alloc, files)?,
             is_open: false,
-            prints: Vec::with_capacity(alloc, MAX_PRINTS)?,
             printed: 0,
             turned: 0,
             last: None,
