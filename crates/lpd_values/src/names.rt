@@ -1,10 +1,10 @@
 //! Lists of file names.
 
-ghost use Rattle.std.specs.Prelude.{◌≡◌, ◌==◌, [], ◌∷◌, ◌++◌, length, IfOk, OnOk, OnErr};
+ghost use Rattle.std.specs.Prelude.{◌≡◌, ◌==◌, [], ◌∷◌, ◌++◌, length, IfErr, IfOk, OnOk, OnErr};
 ghost use Rattle.lpd_values.specs.Kept.{is_among};
 
 use crate::name::FileName;
-use std::alloc::{AllocError, Global};
+use std::alloc::{AllocError, AllocFailed, Global};
 use std::marker::Model;
 
 /// A list of file names.
@@ -31,13 +31,13 @@ impl FileNames {
         }
     }
 
-    /// Puts a name at the end. Where memory is short the list stays as it was.
-    pub fn push(&mut self, name: FileName) -> Result<(), AllocError>
+    /// Puts a name at the end. Where memory is short the list stays as it was, and the name comes back.
+    pub fn push(&mut self, name: FileName) -> Result<(), AllocFailed<FileName>>
         ensures ok { OnOk result (self.new ≡ self.old ++ name ∷ []) }
         ensures err { OnErr result (self.new ≡ self.old) }
+        ensures back { IfErr result (λ e. e.value ≡ name) }
     {
-        self.names.push(name)?;
-        Ok(())
+        self.names.push(name)
     }
 
     /// The names in order.

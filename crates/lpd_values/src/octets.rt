@@ -1,8 +1,8 @@
 //! Octets and lists of words that a value owns.
 
-ghost use Rattle.std.specs.Prelude.{◌≡◌, [], ◌∷◌, ◌++◌, IfOk, OnOk, OnErr};
+ghost use Rattle.std.specs.Prelude.{◌≡◌, [], ◌∷◌, ◌++◌, IfErr, IfOk, OnOk, OnErr};
 
-use std::alloc::{AllocError, Global};
+use std::alloc::{AllocError, AllocFailed, Global};
 use std::marker::Model;
 
 /// Octets that a value owns.
@@ -76,13 +76,13 @@ impl Words {
         }
     }
 
-    /// Puts a word at the end. Where memory is short the list stays as it was.
-    pub fn push(&mut self, word: Octets) -> Result<(), AllocError>
+    /// Puts a word at the end. Where memory is short the list stays as it was, and the word comes back.
+    pub fn push(&mut self, word: Octets) -> Result<(), AllocFailed<Octets>>
         ensures ok { OnOk result (self.new ≡ self.old ++ word ∷ []) }
         ensures err { OnErr result (self.new ≡ self.old) }
+        ensures back { IfErr result (λ e. e.value ≡ word) }
     {
-        self.words.push(word)?;
-        Ok(())
+        self.words.push(word)
     }
 
     /// The words in order.
