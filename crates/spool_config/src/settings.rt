@@ -3,8 +3,8 @@
 ghost use Rattle.std.specs.Prelude.{◌≡◌};
 ghost use Rattle.spool_config.specs.Keys.{word_of, most_of};
 
-use std::error::Error;
 use std::fmt;
+use thiserror::Error;
 
 /// A key, which a fault names.
 #[derive(Clone, Copy, Debug, PartialEq, Eq)]
@@ -74,7 +74,7 @@ impl fmt::Display for Key {
 }
 
 /// Why a text is no configuration.
-#[derive(Clone, Copy, Debug, PartialEq, Eq)]
+#[derive(Clone, Copy, Debug, PartialEq, Eq, Error)]
 pub enum ConfigFault {
     /// It isn't TOML.
     NotToml,
@@ -111,5 +111,3 @@ impl fmt::Display for ConfigFault {
         }
     }
 }
-
-impl Error for ConfigFault {}
