@@ -9,7 +9,11 @@ mod replying;
 mod requests;
 
 pub use carrying::{Outcome, carry_out};
+pub use control_file::Control;
+pub use lpd_values::{FileName, Octets, Refusal};
+pub use page_pool::{FilledPage, PageTicket};
 pub use pages::{first, keep, spend};
+pub use receiver::{Need, Receiver};
 pub use replying::reply;
 pub use requests::Requests;
 pub use spool_calls::{Asked, Receipt, ReturnedControl, ReturnedPage, ReturnedTicket};
