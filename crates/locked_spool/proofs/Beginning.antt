@@ -12,6 +12,7 @@ use Rattle.spool_calls.specs.Looks.Detail.{Outlines}
 use Rattle.spool_calls.specs.Kept.{Kept, Leaves}
 use Rattle.spool_ledgers.specs.Sums.{Sums, no_sums}
 use Rattle.locked_spool.specs.Held.{IsHeld}
+use Rattle.locked_spool.proofs.Marked.{none_marked}
 use Rattle.locked_spool.proofs.Stopped.{one_more}
 
 none_stopped : (p : ℕ) → was_stopped first_base p ≡ false
@@ -31,12 +32,12 @@ none_counts c = none_counted (up_to (printer_count c))
 
 -- what the lock keeps of it
 pub begun : (config : Config) (k : Kept) (base : Base) (events : List (Event Outline)) (room : ℕ) (totals : Sums) → k.config ≡ config → IsConfig config → Leaves Outlines first_base [] k → base ≡ first_base → events ≡ [] → 1 ≤ room → totals ≡ no_sums 0
-    → IsHeld config (record { core = k; base = base; events = events; number = 1; before = 0; kinds_before = 0; handed_before = 0 }) room totals
+    → IsHeld config (record { core = k; base = base; events = events; number = 1; before = 0; kinds_before = 0; handed_before = 0 }) room totals false
 begun config k base events room totals same ranges left first none one no_sum =
     let reserved : k.reserved ≡ 0 + 0 = left.kept.reserved in
-    subst (λ (b : Base). IsHeld config (record { core = k; base = b; events = events; number = 1; before = 0; kinds_before = 0; handed_before = 0 }) room totals) (sym first)
-    (subst (λ (es : List (Event Outline)). IsHeld config (record { core = k; base = first_base; events = es; number = 1; before = 0; kinds_before = 0; handed_before = 0 }) room totals) (sym none)
-    (subst (λ (s : Sums). IsHeld config (record { core = k; base = first_base; events = []; number = 1; before = 0; kinds_before = 0; handed_before = 0 }) room s) (sym no_sum) (record {
+    subst (λ (b : Base). IsHeld config (record { core = k; base = b; events = events; number = 1; before = 0; kinds_before = 0; handed_before = 0 }) room totals false) (sym first)
+    (subst (λ (es : List (Event Outline)). IsHeld config (record { core = k; base = first_base; events = es; number = 1; before = 0; kinds_before = 0; handed_before = 0 }) room totals false) (sym none)
+    (subst (λ (s : Sums). IsHeld config (record { core = k; base = first_base; events = []; number = 1; before = 0; kinds_before = 0; handed_before = 0 }) room s false) (sym no_sum) (record {
       config_is = same;
       ranges = ranges;
       left = left;
@@ -48,4 +49,5 @@ begun config k base events room totals same ranges left first none one no_sum =
       few = omega arith;
       few_kinds = omega arith;
       few_handed = omega arith;
+      stops = none_marked config;
     })))

@@ -1,4 +1,5 @@
 mod Beginning
+mod Marked
 mod Removed
 mod Rotated
 mod Segments

@@ -1,5 +1,5 @@
 -- What holds of the account.
-use Rattle.std.proofs.Common.{◌≡◌, ℕ, ◌+◌, List, length, sym, ◌∙◌, ap, subst, arith}
+use Rattle.std.proofs.Common.{◌≡◌, ℕ, ◌+◌, Bool, List, length, sym, ◌∙◌, ap, subst, arith}
 use Rattle.std.specs.Prelude.{reverse}
 use Rattle.std.proofs.lemmas.List.{length-map, length-reverse}
 use Rattle.account.specs.Seen.{event_seen, history, octets}
@@ -20,7 +20,7 @@ use Rattle.locked_spool.proofs.Written.{in_ranges}
 pub as_many : (entries : List Entry) → length (history (reverse entries)) ≡ length entries
 as_many entries = length-map (reverse entries) event_seen ∙ length-reverse entries
 
-module _ {config : Config} {h : Held} {room : ℕ} {totals : Sums} (is : IsHeld config h room totals) where
+module _ {config : Config} {h : Held} {room : ℕ} {totals : Sums} {marked : Bool} (is : IsHeld config h room totals marked) where
   -- it is a legal history
   pub legal : (base : Base) (events : List (Event Outline)) → base ≡ h.base → events ≡ h.events → IsLegal octets config base events
   legal base events same e =

@@ -1,11 +1,12 @@
 -- What the lock keeps.
-use Rattle.std.specs.Prelude.{◌≡◌, ℕ, ◌+◌, ◌*◌, ◌<◌, ◌≤◌, ◌^◌, List, length}
+use Rattle.std.specs.Prelude.{◌≡◌, ℕ, ◌+◌, ◌*◌, ◌<◌, ◌≤◌, ◌^◌, ◌==◌, ◌&&◌, Bool, true, List, count_by, length}
 use Rattle.account.specs.declared.entry.Outline.{Outline}
 use Rattle.account.specs.Kinds.{kinds_in, handed_in}
-use Rattle.config_values.specs.Config.{Config}
+use Rattle.config_values.specs.Config.{Config, IsQueue}
 use Rattle.config_values.specs.Ranges.{IsConfig}
 use Rattle.spool_history.specs.Base.{Base}
 use Rattle.spool_history.specs.Events.{Event}
+use Rattle.spool_history.specs.Now.{Printer, now}
 use Rattle.spool_laws.specs.Reserve.{CountsStops}
 use Rattle.spool_calls.specs.Looks.Detail.{Outlines}
 use Rattle.spool_calls.specs.Kept.{Kept, Leaves}
@@ -24,8 +25,16 @@ pub record Held : Type 0 where
   pub kinds_before : ℕ
   pub handed_before : ℕ
 
+-- how many printers of a queue are stopped after these events
+abbrev pub stopped_of : Config → Base → List (Event Outline) → (queue : ℕ) → ℕ
+stopped_of c b h q = count_by (λ (p : Printer Outline). (p.queue == q) && p.stopped) (now c b h).printers
+
+-- where a printer of some queue is stopped, this is marked; where none is, it may be marked all the same
+abbrev pub AreMarked : Config → Base → List (Event Outline) → (marked : Bool) → Type 0
+AreMarked c b h marked = (q : ℕ) → IsQueue c q → 0 < stopped_of c b h q → marked ≡ true
+
 -- what the lock keeps of a spool of this configuration
-pub record IsHeld (config : Config) (h : Held) (room : ℕ) (totals : Sums) : Type 0 where
+pub record IsHeld (config : Config) (h : Held) (room : ℕ) (totals : Sums) (marked : Bool) : Type 0 where
   -- it is of this configuration, which is in its ranges
   pub config_is : h.core.config ≡ config
   pub ranges : IsConfig config
@@ -42,3 +51,5 @@ pub record IsHeld (config : Config) (h : Held) (room : ℕ) (totals : Sums) : Ty
   pub few : 13 * h.before < 2 ^ 64
   pub few_kinds : h.kinds_before ≤ 13 * h.before
   pub few_handed : h.handed_before ≤ h.before
+  -- no printer is stopped that isn't marked
+  pub stops : AreMarked config h.base h.events marked

@@ -1,5 +1,5 @@
 -- Which printers are stopped, and which have to wait.
-use Rattle.std.specs.Prelude.{◌≡◌, ◌<◌, ℕ, List}
+use Rattle.std.specs.Prelude.{◌≡◌, ◌<◌, ◌⊎◌, ℕ, List, length}
 use Rattle.config_values.specs.Config.{Config, IsPrinter, IsQueue, queue_named}
 use Rattle.spool_history.specs.Base.{Base}
 use Rattle.spool_history.specs.Events.{Event}
@@ -8,6 +8,7 @@ use Rattle.spool_calls.specs.declared.answers.Next.TheVariants as next
 use Rattle.spool_calls.specs.Looks.{Detail, What}
 use Rattle.spool_calls.specs.Looks.Detail.{Outlines}
 use Rattle.spool_calls.specs.Kept.{Kept}
+use Rattle.spool_calls.specs.Calls.{before}
 use Rattle.spool_calls.specs.Readers.{stopped_for}
 use Rattle.spool_core.specs.Printers.{MustWait}
 use Rattle.locked_spool.specs.Held.{Held}
@@ -20,6 +21,10 @@ module _ (d : Detail) (b : Base) (h : List (Event (What d))) (k : Kept) where
   -- a printer of some queue is stopped
   abbrev pub HasStopped : Type 0
   HasStopped = (q : ℕ) × IsQueue k.config q × IsStopped q
+
+  -- no job is held, or a printer is stopped: nothing happens any more until somebody calls
+  abbrev pub IsIdle : Type 0
+  IsIdle = (length (before d b h k).jobs ≡ 0) ⊎ HasStopped
 
   -- no printer of a queue of this name is stopped
   abbrev pub HasNoStopped : List ℕ → Type 0

@@ -15,11 +15,15 @@ mod rotating;
 mod unopened;
 
 pub use account::{Account, Base, Entry, Kind, Segment};
+pub use control_file::Control;
 pub use laws::accounts_are_outlines;
 pub use locked::Locked;
+pub use lpd_values::{FileName, Octets, Refusal};
+pub use page_pool::{FilledPage, PageTicket};
 pub use rotating::RotateError;
 pub use spool_core::{
     Asked, Config, Foreign, HandedPage, Next, Pages, Progress, Receipt, ReturnedControl,
     ReturnedPage, ReturnedTicket,
 };
+pub use spool_ledgers::{Blanks, Shares, SpoolLedger};
 pub use unopened::Unopened;

@@ -29,6 +29,8 @@ pub struct Locked<E: SpoolLedger, K: Ledger, H: Ledger> {
     pub(crate) kinds_before: u64,
     pub(crate) handed_before: u64,
     pub(crate) books: Books<E, K, H>,
+    // A printer may be stopped. Where this is false none is, and none is looked at.
+    pub(crate) may_be_stopped: bool,
 }
 
 impl<E: SpoolLedger, K: Ledger, H: Ledger> Model for Locked<E, K, H> {
@@ -55,7 +57,7 @@ impl<E: SpoolLedger, K: Ledger, H: Ledger> Model for Locked<E, K, H> {
       before = s.before;
       kinds_before = s.kinds_before;
       handed_before = s.handed_before;
-    }) s.account.room s.books };
+    }) s.account.room s.books s.may_be_stopped };
 }
 
 /// Writes an entry into the account, and counts it.
@@ -113,6 +115,7 @@ impl<E: SpoolLedger, K: Ledger, H: Ledger> Locked<E, K, H> {
             kinds_before: 0,
             handed_before: 0,
             books,
+            may_be_stopped: false,
         };
         Ok((locked, all))
     }
@@ -145,6 +148,7 @@ impl<E: SpoolLedger, K: Ledger, H: Ledger> Locked<E, K, H> {
             kinds_before,
             handed_before,
             mut books,
+            may_be_stopped: _,
         } = self;
         drop(core);
         books.audit(all);

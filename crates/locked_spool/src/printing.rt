@@ -128,6 +128,7 @@ impl<E: SpoolLedger, K: Ledger, H: Ledger> Locked<E, K, H> {
             return Err(Foreign { page });
         };
         self.core.failed(printer, page)?;
+        self.may_be_stopped = true;
         let entry = Entry::AtPrinter(printer, sheet, Turn::Failed);
         write(&mut self.account, &mut self.books, mine, entry);
         Ok(())

@@ -29,10 +29,8 @@ impl<E: SpoolLedger, K: Ledger, H: Ledger> Locked<E, K, H> {
         Some(number)
     }
 
-    /// Starts the stopped printers of a queue. Where none is stopped nothing changes.
-    ///
-    /// Closed once the spool is closed; UnknownQueue where no queue has this name.
-    pub fn start(&mut self, mine: &mut Shares<E, K, H>, queue: &[u8]) -> Result<(), Refusal>
+    /// Starts the stopped printers of a queue, and writes the entry of that where one is stopped.
+    fn start_queue(&mut self, mine: &mut Shares<E, K, H>, queue: &[u8]) -> Result<(), Refusal>
         requires { 0 < mine.old.parts }
         ensures answer { IsRight self.old.core (λ d b h.
             Starts d b h self.old.core queue.now self.new.core result) }
@@ -46,6 +44,21 @@ impl<E: SpoolLedger, K: Ledger, H: Ledger> Locked<E, K, H> {
             write(&mut self.account, &mut self.books, mine, entry);
         }
         Ok(())
+    }
+
+    /// Starts the stopped printers of a queue. Where none is stopped nothing changes.
+    ///
+    /// Closed once the spool is closed; UnknownQueue where no queue has this name.
+    pub fn start(&mut self, mine: &mut Shares<E, K, H>, queue: &[u8]) -> Result<(), Refusal>
+        requires { 0 < mine.old.parts }
+        ensures answer { IsRight self.old.core (λ d b h.
+            Starts d b h self.old.core queue.now self.new.core result) }
+        ensures account { WritesStarted self.old self.new queue.now result }
+        ensures shares { WhenStarted result mine.old mine.new }
+    {
+        let answer = self.start_queue(mine, queue);
+        self.look_for_stopped();
+        answer
     }
 
     /// Removes the jobs of a queue that an agent removes by a list, or its active job alone where the list is empty, and

@@ -1,11 +1,11 @@
 //! What a locked spool tells of itself. No reader takes memory, and none changes anything.
 
-ghost use Rattle.std.specs.Prelude.{◌≡◌, ◌+◌, ◌↔◌, ◌<◌, ◌⊎◌, IsTrue, length};
+ghost use Rattle.std.specs.Prelude.{◌≡◌, ◌+◌, ◌↔◌, ◌<◌, IsTrue, length};
 ghost use Rattle.config_values.specs.Config.{IsPrinter};
 ghost use Rattle.spool_calls.specs.Calls.{IsRight, before};
 ghost use Rattle.spool_calls.specs.Readers.{ArePlaced};
 ghost use Rattle.spool_core.specs.Printers.{MustWait};
-ghost use Rattle.locked_spool.specs.Waiting.{HasStopped, Waits};
+ghost use Rattle.locked_spool.specs.Waiting.{HasStopped, IsIdle, Waits};
 
 use crate::locked::Locked;
 use spool_core::Pages;
@@ -38,8 +38,8 @@ impl<E: SpoolLedger, K: Ledger, H: Ledger> Locked<E, K, H> {
         self.core.pages_by_place()
     }
 
-    /// Whether a printer of some queue is stopped.
-    fn has_stopped(&self) -> bool
+    /// Whether a printer of some queue is stopped. It looks at each queue.
+    fn finds_stopped(&self) -> bool
         ensures { IsRight self.now.core (λ d b h. IsTrue result ↔ HasStopped d b h self.now.core) }
     {
         let queues = self.core.config().queues().len() as u32;
@@ -51,10 +51,24 @@ impl<E: SpoolLedger, K: Ledger, H: Ledger> Locked<E, K, H> {
         false
     }
 
+    /// Whether a printer of some queue is stopped. The queues are looked at only where a page failed since all printers were
+    /// seen to run.
+    fn has_stopped(&self) -> bool
+        ensures { IsRight self.now.core (λ d b h. IsTrue result ↔ HasStopped d b h self.now.core) }
+    {
+        self.may_be_stopped && self.finds_stopped()
+    }
+
+    /// Looks whether a printer is stopped still.
+    pub(crate) fn look_for_stopped(&mut self)
+        ensures { self.new ≡ self.old }
+    {
+        self.may_be_stopped = self.finds_stopped();
+    }
+
     /// Whether no job is held, or a printer is stopped.
     pub fn is_idle(&self) -> bool
-        ensures { IsRight self.now.core (λ d b h. IsTrue result
-            ↔ ((length (before d b h self.now.core).jobs ≡ 0) ⊎ HasStopped d b h self.now.core)) }
+        ensures { IsRight self.now.core (λ d b h. IsTrue result ↔ IsIdle d b h self.now.core) }
     {
         self.core.held() == 0 || self.has_stopped()
     }

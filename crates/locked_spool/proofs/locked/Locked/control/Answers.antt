@@ -50,4 +50,4 @@ invariant_of-self-2 g c =
     let got = c.in_ok-receipt.receipt in
     written_here i c.write.new.account.events c.write.new.account.room c.write.new.books
     (there b h a.core c.control.new.self c.args.job (contents c.args.control) (contents c.in-Ok.copy) got c.eq-whole.result c.in-Ok.ensures
-    (c.eq-whole.ensures ∙ whole_is got) (s.answer _ _ _ i.left)) s.config refl w.events w.room w.books
+    (c.eq-whole.ensures ∙ whole_is got) (s.answer _ _ _ i.left)) s.config refl refl w.events w.room w.books

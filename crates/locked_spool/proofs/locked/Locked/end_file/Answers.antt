@@ -57,7 +57,7 @@ write-requires-clause-room g c = room_here c.self.invariant (ended g (goal.at.wr
 pub invariant_of-self-2 : goal.invariant_of-self-2
 invariant_of-self-2 g c =
     let w = c.write.ensures in
-    written_here c.self.invariant c.write.new.account.events c.write.new.account.room c.write.new.books (ended g (goal.at.invariant_of-self-2 g c).After-eq-whole) c.in_ok-file.ensures.config refl w.events w.room w.books
+    written_here c.self.invariant c.write.new.account.events c.write.new.account.room c.write.new.books (ended g (goal.at.invariant_of-self-2 g c).After-eq-whole) c.in_ok-file.ensures.config refl refl w.events w.room w.books
 
 pub returns-clause-account : goal.returns-clause-account
 returns-clause-account g c =

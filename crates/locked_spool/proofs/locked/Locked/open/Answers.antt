@@ -1,4 +1,4 @@
-use Rattle.std.proofs.Common.{◌≡◌, ℕ, ◌+◌, ◌<◌, ◌≤◌, List, ◌∷◌, length, sym, ◌∙◌, ap, subst, arith}
+use Rattle.std.proofs.Common.{◌≡◌, ℕ, ◌+◌, ◌<◌, ◌≤◌, List, ◌∷◌, length, sym, ◌∙◌, ap, refl, subst, arith, rules}
 use Rattle.std.specs.Prelude.{sum_by}
 use Rattle.std.proofs.lemmas.List.Sums.{sum_by_push}
 use Rattle.account.specs.Seen.{base_seen}
@@ -10,7 +10,7 @@ use Rattle.spool_history.specs.Said.{Opening, openings}
 use Rattle.spool_calls.specs.Looks.Detail.{Outlines}
 use Rattle.spool_calls.specs.Kept.{Kept, Leaves}
 use Rattle.locked_spool.specs.Held.{Held}
-use Rattle.locked_spool.proofs.Written.{room_for, written}
+use Rattle.locked_spool.proofs.Written.{calm, room_for, written, same_marks}
 use Rattle.locked_spool.proofs.locked.Locked.open.Given.{Over}
 use Rattle.locked_spool.proofs.locked.Locked.open.Goals.{In_ok-job}
 use Rattle.locked_spool.proofs.locked.Locked.open.Goals as goal
@@ -61,4 +61,20 @@ invariant_of-self-2 g c =
     let n = (goal.at.invariant_of-self-2 g c).In_ok-job in
     let w = c.write.ensures in
     written c.self.invariant c.write.new.account.events c.write.new.account.room c.write.new.books (opened g n) c.in_ok-job.ensures.config (w.events ∙ ap (λ (es : List (Event Outline)). event g n ∷ es) c.in_ok-reserve.ensures.events)
-    (subst (λ (m : ℕ). (k g n).reserved + 1 ≤ m) (sym w.room) (within g n)) w.books
+    (subst (λ (m : ℕ). (k g n).reserved + 1 ≤ m) (sym w.room) (within g n)) w.books (calm c.self.invariant (event g n) refl)
+
+pub invariant_of-self-in_err-job : goal.invariant_of-self-in_err-job
+invariant_of-self-in_err-job g c = record {
+  config_is = search rules;
+  ranges = search rules;
+  left = search rules;
+  counts = search rules;
+  room_is = search rules;
+  entries = search rules;
+  kinds = search rules;
+  handed = search rules;
+  few = search rules;
+  few_kinds = search rules;
+  few_handed = search rules;
+  stops = same_marks c.self.invariant c.reserve.new.self.events c.in_ok-reserve.ensures.events;
+}

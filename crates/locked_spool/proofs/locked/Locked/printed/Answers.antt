@@ -1,4 +1,4 @@
-use Rattle.std.proofs.Common.{◌≡◌, ℕ, List, ◌∷◌, refl, ap, subst}
+use Rattle.std.proofs.Common.{◌≡◌, ℕ, List, ◌∷◌, refl, ap, subst, rules}
 use Rattle.std.specs.Prelude.{Ok}
 use Rattle.account.specs.Seen.{base_seen, progress_seen}
 use Rattle.account.specs.declared.entry.Outline.{Outline}
@@ -12,7 +12,7 @@ use Rattle.spool_calls.specs.Looks.Detail.{Outlines}
 use Rattle.spool_calls.specs.Kept.{Kept, Leaves}
 use Rattle.spool_calls.specs.Calls.{IsRight, Prints}
 use Rattle.locked_spool.specs.Held.{Held}
-use Rattle.locked_spool.proofs.Written.{room_here}
+use Rattle.locked_spool.proofs.Written.{room_here, calm_at}
 use Rattle.locked_spool.proofs.locked.Locked.printed.Goals as goal
 
 -- what came back is what was handed, by its length and digest
@@ -34,3 +34,19 @@ right old now new printer page said e a = subst (λ (z : Kept). IsRight z (λ d 
 pub returns-clause-answer : goal.returns-clause-answer
 returns-clause-answer g c _ =
     right c.self.inside.core c.args.self.now.core c.printed.new.self c.args.printer c.args.page c.in_ok-said.said (ap (λ (z : Held). z.core) c.self.view_is) c.in_ok-said.ensures.answer
+
+pub invariant_of-self-2 : goal.invariant_of-self-2
+invariant_of-self-2 g c = record {
+  config_is = search rules;
+  ranges = search rules;
+  left = search rules;
+  counts = search rules;
+  room_is = search rules;
+  entries = search rules;
+  kinds = search rules;
+  handed = search rules;
+  few = search rules;
+  few_kinds = search rules;
+  few_handed = search rules;
+  stops = calm_at c.self.invariant c.write.new.account.events c.write.ensures.events refl;
+}

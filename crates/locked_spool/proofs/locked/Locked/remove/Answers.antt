@@ -117,7 +117,7 @@ pub invariant_of-self-2 : goal.invariant_of-self-2
 invariant_of-self-2 g c =
     let n = (goal.at.invariant_of-self-2 g c).In_ok-text in
     let w = c.write.ensures in
-    written_here c.self.invariant c.write.new.account.events c.write.new.account.room c.write.new.books (gone g n c.if-is_empty.ensures) c.in_ok-text.ensures.config refl w.events w.room w.books
+    written_here c.self.invariant c.write.new.account.events c.write.new.account.room c.write.new.books (gone g n c.if-is_empty.ensures) c.in_ok-text.ensures.config refl refl w.events w.room w.books
 
 pub returns-clause-account : goal.returns-clause-account
 returns-clause-account g c =

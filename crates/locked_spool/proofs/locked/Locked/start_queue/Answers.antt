@@ -15,9 +15,9 @@ use Rattle.locked_spool.specs.Entries.{WritesStarted}
 use Rattle.locked_spool.specs.Waiting.{HasNoStopped, IsStopped}
 use Rattle.locked_spool.proofs.Stopped.{may_not_start, may_start}
 use Rattle.locked_spool.proofs.Written.{room_here, unchanged, written_here}
-use Rattle.locked_spool.proofs.locked.Locked.start.Given.{Over}
-use Rattle.locked_spool.proofs.locked.Locked.start.Goals.{In_ok-start}
-use Rattle.locked_spool.proofs.locked.Locked.start.Goals as goal
+use Rattle.locked_spool.proofs.locked.Locked.start_queue.Given.{Over}
+use Rattle.locked_spool.proofs.locked.Locked.start_queue.Goals.{In_ok-start}
+use Rattle.locked_spool.proofs.locked.Locked.start_queue.Goals as goal
 
 module _ (g : Over) (c : In_ok-start g) where
   -- what the lock held before
@@ -83,7 +83,7 @@ pub invariant_of-self-in-Some : goal.invariant_of-self-in-Some
 invariant_of-self-in-Some g c =
     let n = (goal.at.invariant_of-self-in-Some g c).In_ok-start in
     let w = c.write.ensures in
-    written_here c.self.invariant c.write.new.account.events c.write.new.account.room c.write.new.books (started g n c.in-Some.number c.in-Some.ensures) c.in_ok-start.ensures.config refl w.events w.room w.books
+    written_here c.self.invariant c.write.new.account.events c.write.new.account.room c.write.new.books (started g n c.in-Some.number c.in-Some.ensures) c.in_ok-start.ensures.config refl refl w.events w.room w.books
 
 pub invariant_of-self-in_default : goal.invariant_of-self-in_default
 invariant_of-self-in_default g c = unchanged c.self.invariant c.start.new.self (still g (goal.at.invariant_of-self-in_default g c).In_ok-start c.in_default.ensures)
