@@ -54,5 +54,6 @@ entries_by sessions printers = sum_by (λ (s : Sums). s.entries) sessions + sum_
 abbrev pub kinds_by : List Sums → List Desk → ℕ
 kinds_by sessions printers = sum_by (λ (s : Sums). s.kinds) sessions + sum_by (λ (d : Desk). d.sums.kinds) printers
 
-abbrev pub handed_by_all : List Sums → List Desk → ℕ
-handed_by_all sessions printers = sum_by (λ (s : Sums). s.handed) sessions + sum_by (λ (d : Desk). d.sums.handed) printers
+-- the hand-outs, of which a session's seat has none
+abbrev pub handed_by_all : List Desk → ℕ
+handed_by_all printers = sum_by (λ (d : Desk). d.sums.handed) printers

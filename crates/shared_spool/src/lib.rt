@@ -15,7 +15,7 @@ mod waiting;
 
 pub use account::{Act, Outline, Sheet, Turn};
 pub use control_file::Control;
-pub use line::Waiting;
+pub use line::{AbortError, Waiting};
 pub use locked_spool::{
     Account, Asked, Base, Config, Entry, Foreign, HandedPage, Kind, Next, Pages, Progress, Receipt,
     ReturnedControl, ReturnedPage, ReturnedTicket, RotateError, Segment, Unopened,

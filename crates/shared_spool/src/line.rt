@@ -4,11 +4,14 @@
 //! wait any more. A session stands in it until it goes on. One session at a time is called after the events that may have ended
 //! a wait: it asks again, and then calls the next one that hasn't asked since the event, by the numbers of their jobs.
 
-ghost use Rattle.std.specs.Prelude.{◌≡◌, ◌↔◌, IsTrue};
+ghost use Rattle.std.specs.Prelude.{◌≡◌, ◌↔◌, ◌<◌, IsTrue};
+ghost use Rattle.account.specs.declared.kind.Kind.TheVariants as kind;
+ghost use Rattle.locked_spool.specs.Shares.{when_done};
 ghost use Rattle.locked_spool.specs.Waiting.{Waits};
+ghost use Rattle.shared_spool.specs.Line.{EndsWait, waits_at};
 
 use locked_spool::Locked;
-use spool_ledgers::SpoolLedger;
+use spool_ledgers::{Shares, SpoolLedger};
 use std::alloc::{AllocError, Global};
 use std::sync::ledger::Ledger;
 
@@ -23,6 +26,15 @@ pub struct Waiting {
     pub lacks: u64,
     /// How many octets of files were put through its seat since the last job was opened there.
     pub put: u64,
+}
+
+/// Why the job of a session that waits isn't ended. Nothing has changed then.
+#[derive(Clone, Copy, Debug, PartialEq, Eq)]
+pub enum AbortError {
+    /// The session doesn't wait for that: what it waits for now, if it waits.
+    Moved(Option<Waiting>),
+    /// It waits for that, and its job isn't being received any more: it is told so when it asks next.
+    NotOpen,
 }
 
 /// A session that waits, and how many events there were when it asked last.
@@ -51,8 +63,6 @@ pub(crate) struct Line {
     rotates_from: Option<u64>,
     // The spool was closed.
     closed: bool,
-    // A printer may be stopped: one failed since all were seen to run.
-    may_be_stopped: bool,
 }
 
 /// Who is to be called once the lock is free.
@@ -82,7 +92,6 @@ impl Line {
             called: None,
             rotates_from: None,
             closed: false,
-            may_be_stopped: false,
         })
     }
 
@@ -126,6 +135,16 @@ impl Line {
         let late = waiters.filter(|waiter| waiter.asked < events);
         let first = late.min_by_key(|waiter| waiter.waiting.job)?;
         Some(first.waiting.seat)
+    }
+
+    /// For what the session of a seat waits, if it does.
+    fn waits_at(&self, seat: u32) -> Option<Waiting>
+        ensures { result ≡ waits_at self.now.sessions.items seat }
+    {
+        match self.sessions.get(seat as usize) {
+            Some(Some(waiter)) => Some(waiter.waiting),
+            _ => None,
+        }
     }
 
     /// The sessions that wait, by the numbers of their seats.
@@ -229,6 +248,30 @@ impl<E: SpoolLedger, K: Ledger, H: Ledger> Room<E, K, H> {
         self.pass(seat)
     }
 
+    /// Ends the job of a session that waits for exactly this.
+    pub(crate) fn abort_waiting(
+        &mut self,
+        mine: &mut Shares<E, K, H>,
+        waiting: Waiting,
+    ) -> Result<(), AbortError>
+        requires { 0 < mine.old.parts }
+        ensures answer { EndsWait self.old.locked self.new.locked self.old.line.sessions.items
+            waiting result }
+        ensures shares { mine.new ≡ when_done kind.Aborted result mine.old }
+    {
+        let now = self.line.waits_at(waiting.seat);
+        if now != Some(waiting) {
+            return Err(AbortError::Moved(now));
+        }
+        match self.locked.abort(mine, waiting.job, None) {
+            Ok(()) => Ok(()),
+            Err(returned) => {
+                returned.surrender();
+                Err(AbortError::NotOpen)
+            }
+        }
+    }
+
     /// A job ended or is whole: a printer of its queue may go on, and a session.
     pub(crate) fn call(&mut self, row: Row) -> Calls {
         Calls {
@@ -276,23 +319,5 @@ impl<E: SpoolLedger, K: Ledger, H: Ledger> Room<E, K, H> {
         ensures { self.new.locked ≡ self.old.locked }
     {
         self.line.closed = true;
-    }
-
-    /// A page failed at a printer.
-    pub(crate) fn fails(&mut self)
-        ensures { self.new.locked ≡ self.old.locked }
-    {
-        self.line.may_be_stopped = true;
-    }
-
-    /// Whether no job is held, or a printer is stopped. All printers are looked at only where one failed.
-    pub(crate) fn is_idle(&mut self) -> bool
-        ensures { self.new.locked ≡ self.old.locked }
-    {
-        if self.locked.held() == 0 {
-            return true;
-        }
-        self.line.may_be_stopped = self.line.may_be_stopped && self.locked.is_idle();
-        self.line.may_be_stopped
     }
 }

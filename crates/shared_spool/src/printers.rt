@@ -86,7 +86,6 @@ impl<E: SpoolLedger, K: Ledger, H: Ledger> SharedSpool<E, K, H> {
         let mut room = self.state.lock(rt);
         let answer = room.locked.failed(&mut seat.shares, printer, page);
         if answer.is_ok() {
-            room.fails();
             let calls = room.call(row);
             drop(room);
             self.ring(calls);

@@ -30,13 +30,15 @@ impl<E: Ledger, K: Ledger, H: Ledger> Model for SessionSeat<E, K, H> {
 
     ghost view = { λ s. s.shares };
 
-    ghost invariant = { λ s. s.shares.parts ≡ 1 };
+    // No page is handed out through it.
+    ghost invariant = { λ s. (s.shares.parts ≡ 1) × (s.shares.handed ≡ 0) };
 }
 
 impl<E: Ledger, K: Ledger, H: Ledger> SessionSeat<E, K, H> {
     /// A seat with its part.
     pub(crate) fn new(number: u32, shares: Shares<E, K, H>) -> SessionSeat<E, K, H>
-        requires { shares.parts ≡ 1 }
+        requires part { shares.parts ≡ 1 }
+        requires none { shares.handed ≡ 0 }
         ensures { result ≡ shares }
     {
         SessionSeat {
@@ -58,6 +60,7 @@ impl<E: Ledger, K: Ledger, H: Ledger> SessionSeat<E, K, H> {
     pub(crate) fn into_shares(self) -> Shares<E, K, H>
         ensures same { result ≡ self }
         ensures one { self.parts ≡ 1 }
+        ensures none { self.handed ≡ 0 }
     {
         let SessionSeat { shares, .. } = self;
         shares

@@ -78,7 +78,7 @@ fn merge_sessions<E: SpoolLedger, K: Ledger, H: Ledger>(
     ensures parts { all.new.parts ≡ all.old.parts + vec_len seats }
     ensures entries { all.new.entries ≡ all.old.entries + sum_by (λ s. s.entries) seats.items }
     ensures kinds { all.new.kinds ≡ all.old.kinds + sum_by (λ s. s.kinds) seats.items }
-    ensures handed { all.new.handed ≡ all.old.handed + sum_by (λ s. s.handed) seats.items }
+    ensures handed { all.new.handed ≡ all.old.handed }
 {
     for seat in seats {
         all.merge(seat.into_shares());
@@ -190,7 +190,7 @@ impl<E: SpoolLedger, K: Ledger, H: Ledger> SharedSpool<E, K, H> {
             ≡ entries_by sessions.items printers.items) }
         ensures kinds { IfOk result (λ s. all_kinds s ≡ kinds_by sessions.items printers.items) }
         ensures handed { IfOk result (λ s. all_handed s
-            ≡ handed_by_all sessions.items printers.items) }
+            ≡ handed_by_all printers.items) }
         ensures missing { IsErr result ↔ (vec_len sessions + vec_len printers ≢ self) }
         ensures back { IfErr result (λ u. (u.spool ≡ self) × (u.sessions ≡ sessions)
             × (u.printers ≡ printers)) }

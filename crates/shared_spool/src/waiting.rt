@@ -1,22 +1,26 @@
 //! The calls that wait for another one.
 
-ghost use Rattle.std.specs.Prelude.{◌≡◌, ◌≢◌, ◌<◌, ◌^◌, Ok, IfOk, IfSome};
+ghost use Rattle.std.specs.Prelude.{◌≡◌, ◌≢◌, ◌<◌, ◌^◌, Ok, Err, Some, IfOk, IfSome};
+ghost use Rattle.std.specs.Sync.Mutex.{mutex_guard_value};
+ghost use Rattle.account.specs.declared.kind.Kind.TheVariants as kind;
+ghost use Rattle.spool_calls.specs.Calls.{IsRight};
 ghost use Rattle.spool_calls.specs.declared.answers.Asked.TheVariants as asked;
 ghost use Rattle.spool_calls.specs.declared.answers.Next.TheVariants as next;
 ghost use Rattle.spool_core.specs.Tickets.{IsBlank};
 ghost use Rattle.locked_spool.specs.Segments.{HasHeadline, IsLegalSegment};
-ghost use Rattle.locked_spool.specs.Shares.{when_lent};
+ghost use Rattle.locked_spool.specs.Shares.{when_done, when_lent};
+ghost use Rattle.locked_spool.specs.Waiting.{IsIdle};
 ghost use Rattle.shared_spool.specs.Seats.{next_desk};
 
-use crate::line::Waiting;
+use crate::line::{AbortError, Room, Waiting};
 use crate::seats::{PrinterSeat, SessionSeat};
 use crate::spool::SharedSpool;
 use locked_spool::{Asked, Next, RotateError, Segment};
 use lpd_values::Refusal;
 use spool_ledgers::SpoolLedger;
 use std::alloc::{AllocError, Global};
-use std::sync::Wait;
 use std::sync::ledger::Ledger;
+use std::sync::{MutexGuard, Wait};
 
 impl<E: SpoolLedger, K: Ledger, H: Ledger> SharedSpool<E, K, H> {
     /// Lends a page to a job, once one may be lent. It waits while `ask` would answer Later.
@@ -75,10 +79,24 @@ impl<E: SpoolLedger, K: Ledger, H: Ledger> SharedSpool<E, K, H> {
         answer
     }
 
+    /// What the lock keeps, once no job is held or a printer is stopped.
+    fn idle_room<R: Wait>(&self, rt: &R) -> MutexGuard<'_, Room<E, K, H>>
+        ensures { IsRight (mutex_guard_value result).locked.core (λ d b h.
+            IsIdle d b h (mutex_guard_value result).locked.core) }
+    {
+        let mut room = self.state.lock(rt);
+        for _ in rt.forever() {
+            if room.locked.is_idle() {
+                return room;
+            }
+            room = self.changed.wait(rt, room);
+        }
+        unreachable!()
+    }
+
     /// Waits until no job is held, or a printer is stopped.
     pub fn idle_wait<R: Wait>(&self, rt: &R) {
-        let room = self.state.lock(rt);
-        let _room = self.changed.wait_while(rt, room, |r| !r.is_idle());
+        drop(self.idle_room(rt));
     }
 
     /// Waits until no job is held and at least so many entries are counted, and rotates the account then, before another job can
@@ -105,6 +123,30 @@ impl<E: SpoolLedger, K: Ledger, H: Ledger> SharedSpool<E, K, H> {
             return None;
         }
         Some(room.locked.rotate())
+    }
+
+    /// Ends the job of a session that waits for exactly this: for the same page of the same job, with nothing put since. So
+    /// whoever saw it wait, and looked at its connection after that, ends no session that went on meanwhile.
+    ///
+    /// Moved where it doesn't wait, or waits for another page, with what it waits for; NotOpen where its job isn't being received
+    /// any more. Nothing has changed then.
+    pub fn abort_waiting<R: Wait>(
+        &self,
+        rt: &R,
+        seat: &mut SessionSeat<E, K, H>,
+        waiting: Waiting,
+    ) -> Result<(), AbortError>
+        ensures moved { result ≢ Err (AbortError.Moved (Some waiting)) }
+        ensures shares { seat.new ≡ when_done kind.Aborted result seat.old }
+    {
+        let mut room = self.state.lock(rt);
+        let answer = room.abort_waiting(&mut seat.shares, waiting);
+        if answer.is_ok() {
+            self.ring_all(&mut *room, self.all_printers());
+            drop(room);
+            self.changed.notify_all();
+        }
+        answer
     }
 
     /// The sessions that wait for a page, by the numbers of their seats.

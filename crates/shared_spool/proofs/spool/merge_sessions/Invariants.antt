@@ -7,5 +7,5 @@ invariant-loop-seat g l = record {
   parts : l.all.parts ≡ l.fn.all.parts + length l.yielded;
   entries : l.all.entries ≡ l.fn.all.entries + sum_by (λ s. s.entries) l.yielded;
   kinds : l.all.kinds ≡ l.fn.all.kinds + sum_by (λ s. s.kinds) l.yielded;
-  handed : l.all.handed ≡ l.fn.all.handed + sum_by (λ s. s.handed) l.yielded;
+  handed : l.all.handed ≡ l.fn.all.handed;
 }

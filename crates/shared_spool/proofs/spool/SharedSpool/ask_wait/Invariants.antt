@@ -6,4 +6,5 @@ abbrev pub invariant-loop : goal.invariant-loop
 invariant-loop g l = record {
   same : l.seat-inside.shares ≡ l.fn.seat;
   one : l.seat-inside.shares.parts ≡ 1;
+  none : l.seat-inside.shares.handed ≡ 0;
 }
