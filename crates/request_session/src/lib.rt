@@ -7,12 +7,16 @@
 
 mod alone;
 mod ending;
+mod input;
 mod requests;
 mod session;
 mod talk;
 
 pub use alone::serve_alone;
 pub use ending::SessionEnd;
+pub use input::{BUFFER_SIZE, Input};
 pub use lpd_commands::{OctetFault, OctetRead, OctetWrite};
+pub use lpd_values::Refusal;
 pub use request_calls::Requests;
-pub use session::{BUFFER_SIZE, MOST_READS, serve_by};
+pub use session::{MOST_READS, serve_by, serve_with};
+pub use spool_core::Core;

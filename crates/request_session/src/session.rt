@@ -7,15 +7,13 @@ ghost use Rattle.request_session.specs.Served.{HasRead, ServedBy, around, side, 
 ghost use Rattle.request_session.specs.Turned.{EndsThere, IsEnding, moment};
 
 use crate::ending::{SessionEnd, say_last};
+use crate::input::Input;
 use crate::talk::Talk;
 use lpd_commands::{OctetFault, OctetRead, OctetWrite};
 use receiver::Receiver;
 use request_calls::Requests;
 use std::alloc::Global;
 use std::sync::Wait;
-
-/// How many octets are read at once, at most.
-pub const BUFFER_SIZE: usize = 65_536;
 
 /// How many reads a session makes, at most.
 pub const MOST_READS: u32 = u32::MAX;
@@ -87,8 +85,37 @@ impl Talk {
 /// written; where that page isn't taken it is surrendered.
 ///
 /// It waits where what carries the requests out does. One that is asked for a page and answers
-/// Later is asked again at once. Memory for the buffer and the receiver is taken at first, and
-/// where it is refused the end is Memory.
+/// Later is asked again at once. The octets that it reads wait in `input`, of which nothing is used
+/// that an earlier session left there. Memory for the receiver is taken at first, and where it is
+/// refused the end is Memory.
+pub fn serve_with<T: Requests, R: Wait, I: OctetRead, W: OctetWrite>(
+    rt: &R,
+    alloc: Global,
+    input: &mut Input,
+    spool: &mut T,
+    sender: u32,
+    reader: &mut I,
+    writer: &mut W,
+) -> SessionEnd
+    ensures { ServedBy T.carries T.ends result sender
+        (around (source (I.left reader.old) (I.faults reader.old) (I.reads reader.old))
+        (side (W.written writer.old) (W.faults writer.old)) spool.old)
+        (around (source (I.left reader.new) (I.faults reader.new) (I.reads reader.new))
+        (side (W.written writer.new) (W.faults writer.new)) spool.new) }
+{
+    let Ok(receiver) = Receiver::new(alloc) else {
+        return SessionEnd::Memory;
+    };
+    let mut talk = Talk::new(sender, receiver);
+    let buffer = input.octets.as_mut_slice();
+    let end = talk.read_all(rt, spool, reader, writer, buffer);
+    // The pages of the job go back before the peer is waited for.
+    talk.hang_up(spool);
+    say_last(writer, end)
+}
+
+/// Serves a session as `serve_with` does, with an input of its own. Memory for that is taken before
+/// that for the receiver, and where it is refused the end is Memory.
 pub fn serve_by<T: Requests, R: Wait, I: OctetRead, W: OctetWrite>(
     rt: &R,
     alloc: Global,
@@ -103,16 +130,8 @@ pub fn serve_by<T: Requests, R: Wait, I: OctetRead, W: OctetWrite>(
         (around (source (I.left reader.new) (I.faults reader.new) (I.reads reader.new))
         (side (W.written writer.new) (W.faults writer.new)) spool.new) }
 {
-    let Ok(mut buffer) = vec![in alloc; 0u8; BUFFER_SIZE] else {
+    let Ok(mut input) = Input::new(alloc) else {
         return SessionEnd::Memory;
     };
-    let Ok(receiver) = Receiver::new(alloc) else {
-        return SessionEnd::Memory;
-    };
-    let mut talk = Talk::new(sender, receiver);
-    let octets = buffer.as_mut_slice();
-    let end = talk.read_all(rt, spool, reader, writer, octets);
-    // The pages of the job go back before the peer is waited for.
-    talk.hang_up(spool);
-    say_last(writer, end)
+    serve_with(rt, alloc, &mut input, spool, sender, reader, writer)
 }

@@ -9,7 +9,9 @@ mod seated;
 mod session;
 
 pub use lpd_values::Refusal;
-pub use request_session::{BUFFER_SIZE, MOST_READS, OctetFault, OctetRead, OctetWrite, SessionEnd};
+pub use request_session::{
+    BUFFER_SIZE, Input, MOST_READS, OctetFault, OctetRead, OctetWrite, SessionEnd, serve_with,
+};
 pub use seated::Seated;
 pub use session::serve;
 pub use shared_spool::{SessionSeat, SharedSpool};
