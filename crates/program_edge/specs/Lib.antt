@@ -1,0 +1,4 @@
+-- The words of this crate's contracts.
+pub mod NetworkParts
+pub mod Networks
+pub mod Told

@@ -1,0 +1,63 @@
+//! How a server is to run.
+
+use crate::networks::Network;
+use std::net::Ipv4Addr;
+use std::num::NonZeroU64;
+
+/// The most threads that serve connections.
+pub const MOST_SESSIONS: u32 = 64;
+
+/// For how many seconds a peer whose connection brings no job may be silent, or not read, where a
+/// session serves such ones alone: what the program's words give.
+pub const NO_JOB_SECONDS: u64 = 5;
+
+/// How a server is to run.
+#[derive(Debug, Drop)]
+pub struct Settings<'a> {
+    /// The address to listen on.
+    pub bind: Ipv4Addr,
+    /// The port to listen on. At 0, which no words give, the system picks a free one.
+    pub port: u16,
+    /// The path of the directory where the printers' files are.
+    pub out: &'a str,
+    /// How many threads serve connections, 1 to `MOST_SESSIONS`. A number outside stands for the
+    /// nearest one inside. Two more serve connections that bring no job.
+    pub sessions: u32,
+    /// After how many connections the server ends. Without it the server runs on.
+    pub connections: Option<u64>,
+    /// After how many connections the account is rotated, again and again.
+    pub rotate: Option<NonZeroU64>,
+    /// Whether the account is rotated as soon as no job is held, once a quarter of it is counted,
+    /// and new jobs wait for that for a moment where it is nearly full.
+    pub keep_room: bool,
+    /// What peers may do.
+    pub limits: Limits,
+    /// The networks whose addresses are let in. Where there is none, each address is.
+    pub allowed: Vec<Network>,
+}
+
+/// What the peers of a server may do. Where a number isn't given there is no limit.
+#[derive(Clone, Copy, Debug)]
+pub struct Limits {
+    /// For how many seconds a peer may be silent, or not read, before its session ends; and for how
+    /// many nothing at all may happen while sessions wait for pages, before these are ended.
+    pub silence: Option<NonZeroU64>,
+    /// How many of the threads that serve any connection one address may have at once.
+    pub per_host: Option<NonZeroU64>,
+    /// How many octets a second a peer has to send at the least, over a minute for which it is
+    /// waited for, or its session ends.
+    pub slowest: Option<NonZeroU64>,
+    /// For how many seconds, 1 at the least, a session that serves no jobs waits for its peer at
+    /// each read and at each write, before it ends.
+    pub no_job_seconds: u64,
+}
+
+impl Limits {
+    /// Nothing is limited by a word.
+    pub const NONE: Limits = Limits {
+        silence: None,
+        per_host: None,
+        slowest: None,
+        no_job_seconds: NO_JOB_SECONDS,
+    };
+}
