@@ -2,52 +2,49 @@
 
 ghost use Rattle.std.specs.Prelude.{◌≡◌, ◌≢◌, ◌↔◌, ◌+◌, ◌-◌, ◌^◌, IsSome, IsTrue, Some, min};
 ghost use Rattle.server_edge.specs.Desk.{HasPlace, IsFree};
-ghost use Rattle.server_edge.specs.declared.desk.Served.TheVariants.{Questions};
-ghost use Rattle.server_edge.specs.declared.first_line.Kind.TheVariants.{Job, Listing};
+ghost use Rattle.server_edge.specs.declared.desk.Serves.TheVariants.{NoJobs};
+ghost use Rattle.server_edge.specs.declared.first_line.Errand.TheVariants.{Job, Listing};
 
-use crate::first_line::Kind;
-use crate::waiting_room::{Turn, Visit};
+use crate::first_line::Errand;
+use crate::waiting_room::{Ready, Visit};
+use crossbeam_channel::{Receiver, Sender};
 use mio::Waker;
-use std::alloc::Global;
+use std::alloc::{AllocError, Global};
 use std::collections::VecDeque;
 use std::mem;
-use std::sync::{Condvar, Mutex, Wait};
+use std::sync::{Mutex, Wait};
 
 /// The most long listings that are answered at once: each may hold megabytes.
 const MOST_LISTINGS: u32 = 8;
 
 /// Which connections a session serves.
 #[derive(Clone, Copy)]
-pub enum Served {
+pub enum Serves {
     /// Any.
     All,
     /// All but jobs.
-    Questions,
+    NoJobs,
 }
 
-/// Sessions of one sort: how many are free, and what was handed to them and isn't taken yet. Each handed one had a free session,
-/// which isn't counted as free any more.
+/// Sessions of one sort: how many are free. One that a connection was handed to isn't counted any more.
 #[derive(Drop)]
 struct Window {
     free: u32,
-    handed: VecDeque<Visit>,
 }
 
 impl Window {
-    fn new(alloc: Global) -> Window {
-        Window {
-            free: 0,
-            handed: VecDeque::new(alloc),
-        }
-    }
-
-    /// Hands on where a session is free. Whether it has.
-    fn hand(&mut self, visit: Visit) -> bool {
-        if self.free == 0 || self.handed.push_back(visit).is_err() {
+    /// Takes one off, where one is free. Whether it has.
+    fn take_one(&mut self) -> bool {
+        if self.free == 0 {
             return false;
         }
         self.free -= 1;
         true
+    }
+
+    /// One more is free.
+    fn give_one(&mut self) {
+        self.free = self.free.saturating_add(1);
     }
 }
 
@@ -55,7 +52,7 @@ impl Window {
 #[derive(Drop)]
 struct Hall {
     all: Window,
-    questions: Window,
+    no_jobs: Window,
     // The hosts that sessions for all serve, each as often as it has one, and how many one host may have.
     hosts: Vec<u32>,
     per_host: u32,
@@ -63,14 +60,13 @@ struct Hall {
     listings: u32,
     // Something is ready for which no session was free.
     wanted: bool,
-    ended: bool,
 }
 
 impl Hall {
-    fn window(&mut self, served: Served) -> &mut Window {
-        match served {
-            Served::All => &mut self.all,
-            Served::Questions => &mut self.questions,
+    fn window(&mut self, serves: Serves) -> &mut Window {
+        match serves {
+            Serves::All => &mut self.all,
+            Serves::NoJobs => &mut self.no_jobs,
         }
     }
 
@@ -84,54 +80,53 @@ impl Hall {
     }
 
     /// Whether a session is free for this one.
-    fn is_free(&self, turn: Turn) -> bool
-        ensures { IsTrue result ↔ IsFree turn.kind self.now.all.free self.now.questions.free
-            self.now.listings self.now.hosts.items turn.host self.now.per_host }
+    fn is_free(&self, ready: Ready) -> bool
+        ensures { IsTrue result ↔ IsFree ready.errand self.now.all.free self.now.no_jobs.free
+            self.now.listings self.now.hosts.items ready.host self.now.per_host }
     {
-        match turn.kind {
-            Kind::Job => self.has_place(turn.host),
-            Kind::Listing if self.listings >= MOST_LISTINGS => false,
-            Kind::Question | Kind::Listing => {
-                self.questions.free > 0 || self.has_place(turn.host)
+        match ready.errand {
+            Errand::Job => self.has_place(ready.host),
+            Errand::Listing if self.listings >= MOST_LISTINGS => false,
+            Errand::Short | Errand::Listing => {
+                self.no_jobs.free > 0 || self.has_place(ready.host)
             }
         }
     }
 
-    /// Hands on where a session is free: a question to one for questions first, so that the others stay free for jobs. What is
-    /// answered is to which; None where none is free, or memory is refused.
-    fn hand(&mut self, visit: Visit) -> Option<Served>
-        ensures job { visit.kind ≡ Job → result ≢ Some Questions }
-        ensures listing { visit.kind ≡ Listing → IsSome result
+    /// Takes a session that is free for one that comes for this: one that brings no job takes one for no jobs first, so that
+    /// the others stay free for jobs. Answers which; None where none is free, or memory is refused.
+    fn hand(&mut self, errand: Errand, host: u32) -> Option<Serves>
+        ensures job { errand ≡ Job → result ≢ Some NoJobs }
+        ensures listing { errand ≡ Listing → IsSome result
             → self.new.listings ≡ min (self.old.listings + 1) (2 ^ 32 - 1) }
-        ensures other { visit.kind ≢ Listing → self.new.listings ≡ self.old.listings }
+        ensures other { errand ≢ Listing → self.new.listings ≡ self.old.listings }
     {
-        let (kind, host) = (visit.kind, visit.host());
-        let served = if !matches!(kind, Kind::Job) && self.questions.free > 0 {
-            self.questions.hand(visit).then_some(Served::Questions)
+        let serves = if !matches!(errand, Errand::Job) && self.no_jobs.take_one() {
+            Some(Serves::NoJobs)
         } else if self.hosts.push(host).is_ok() {
-            let is_handed = self.all.hand(visit);
-            if !is_handed {
+            let is_free = self.all.take_one();
+            if !is_free {
                 self.hosts.pop();
             }
-            is_handed.then_some(Served::All)
+            is_free.then_some(Serves::All)
         } else {
             None
         };
-        if matches!(kind, Kind::Listing) && served.is_some() {
+        if matches!(errand, Errand::Listing) && serves.is_some() {
             self.listings = self.listings.saturating_add(1);
         }
-        served
+        serves
     }
 
     /// A session has served this.
-    fn leave(&mut self, served: Served, kind: Kind, host: u32)
-        ensures listing { kind ≡ Listing → self.new.listings ≡ self.old.listings - 1 }
-        ensures other { kind ≢ Listing → self.new.listings ≡ self.old.listings }
+    fn leave(&mut self, serves: Serves, errand: Errand, host: u32)
+        ensures listing { errand ≡ Listing → self.new.listings ≡ self.old.listings - 1 }
+        ensures other { errand ≢ Listing → self.new.listings ≡ self.old.listings }
     {
-        if matches!(kind, Kind::Listing) {
+        if matches!(errand, Errand::Listing) {
             self.listings = self.listings.saturating_sub(1);
         }
-        if matches!(served, Served::All) {
+        if matches!(serves, Serves::All) {
             if let Some(at) = self.hosts.iter().position(|other| *other == host) {
                 self.hosts.remove(at);
             }
@@ -139,102 +134,116 @@ impl Hall {
     }
 }
 
-/// What one thread hands on, and sessions take.
+/// Where sessions take what one thread hands on.
 #[derive(Drop)]
 pub struct Desk {
     hall: Mutex<Hall>,
-    came_for_all: Condvar,
-    came_for_questions: Condvar,
+    for_all: Receiver<Visit>,
+    for_no_jobs: Receiver<Visit>,
+}
+
+/// What one thread hands on by. Once it is dropped nothing more comes; what was handed on is still taken.
+#[derive(Drop)]
+pub struct Doors {
+    all: Sender<Visit>,
+    no_jobs: Sender<Visit>,
+}
+
+impl Doors {
+    /// Hands on where a session is free that serves its errand. Whether it has; where it hasn't, the connection is closed. Never
+    /// waits for a session.
+    pub fn hand<R: Wait>(&self, rt: &R, desk: &Desk, visit: Visit) -> bool {
+        let (errand, host) = (visit.errand, visit.host());
+        let Some(serves) = desk.hall.lock(rt).hand(errand, host) else {
+            return false;
+        };
+        let door = match serves {
+            Serves::All => &self.all,
+            Serves::NoJobs => &self.no_jobs,
+        };
+        // The channel has no bound: only memory can be refused.
+        let is_sent = door.send(rt, visit).is_ok();
+        if !is_sent {
+            let mut hall = desk.hall.lock(rt);
+            hall.leave(serves, errand, host);
+            hall.window(serves).give_one();
+        }
+        is_sent
+    }
 }
 
 impl Desk {
-    /// A desk with no session. One host may have so many sessions for all at once.
-    pub fn new(alloc: Global, per_host: u32) -> Desk {
-        Desk {
-            hall: Mutex::new(Hall {
-                all: Window::new(alloc),
-                questions: Window::new(alloc),
-                hosts: Vec::new(alloc),
-                per_host,
-                listings: 0,
-                wanted: false,
-                ended: false,
-            }),
-            came_for_all: Condvar::new(),
-            came_for_questions: Condvar::new(),
-        }
+    /// A desk with no session, and what is handed on by. One host may have `per_host` sessions for all at once. An error where
+    /// memory is refused.
+    pub fn new(alloc: Global, per_host: u32) -> Result<(Desk, Doors), AllocError> {
+        let (all, for_all) = crossbeam_channel::unbounded(alloc)?;
+        let (no_jobs, for_no_jobs) = crossbeam_channel::unbounded(alloc)?;
+        let hall = Mutex::new(Hall {
+            all: Window { free: 0 },
+            no_jobs: Window { free: 0 },
+            hosts: Vec::new(alloc),
+            per_host,
+            listings: 0,
+            wanted: false,
+        });
+        let desk = Desk {
+            hall,
+            for_all,
+            for_no_jobs,
+        };
+        Ok((desk, Doors { all, no_jobs }))
     }
 
     /// Takes out the first of these for which a session is free. Only whoever hands on takes that away. Where there is none, the
     /// next session that is free says so. Where no session is free that serves them, none of them is looked at.
-    pub(crate) fn first_free<R: Wait>(&self, rt: &R, turns: &mut VecDeque<Turn>) -> Option<Turn> {
+    pub(crate) fn first_free<R: Wait>(
+        &self,
+        rt: &R,
+        waiting: &mut VecDeque<Ready>,
+    ) -> Option<Ready> {
         let mut hall = self.hall.lock(rt);
-        for (at, turn) in turns.iter().enumerate() {
-            let is_job = matches!(turn.kind, Kind::Job);
-            if hall.all.free == 0 && (is_job || hall.questions.free == 0) {
+        for (at, ready) in waiting.iter().enumerate() {
+            let is_job = matches!(ready.errand, Errand::Job);
+            if hall.all.free == 0 && (is_job || hall.no_jobs.free == 0) {
                 break;
             }
-            if hall.is_free(*turn) {
-                return turns.remove(at);
+            if hall.is_free(*ready) {
+                return waiting.remove(at);
             }
         }
-        hall.wanted |= !turns.is_empty();
+        hall.wanted |= !waiting.is_empty();
         None
     }
 
     /// Whether a session is free for this one. Only whoever hands on takes that away. Where none is, the next session that is
     /// free says so.
-    pub(crate) fn is_free<R: Wait>(&self, rt: &R, turn: Turn) -> bool {
+    pub(crate) fn is_free<R: Wait>(&self, rt: &R, ready: Ready) -> bool {
         let mut hall = self.hall.lock(rt);
-        let is_free = hall.is_free(turn);
+        let is_free = hall.is_free(ready);
         hall.wanted |= !is_free;
         is_free
     }
 
-    /// What tells the sessions that serve these that something was handed on.
-    fn came(&self, served: Served) -> &Condvar {
-        match served {
-            Served::All => &self.came_for_all,
-            Served::Questions => &self.came_for_questions,
-        }
-    }
-
-    /// Hands on where a session is free that serves its kind. Whether it has; where it hasn't, the connection is closed. It never
-    /// waits for a session.
-    pub fn hand<R: Wait>(&self, rt: &R, visit: Visit) -> bool {
-        let handed = self.hall.lock(rt).hand(visit);
-        if let Some(served) = handed {
-            self.came(served).notify_one();
-        }
-        handed.is_some()
-    }
-
     /// A session has served this. The connection is closed.
-    pub fn leave<R: Wait>(&self, rt: &R, served: Served, visit: Visit) {
-        let (kind, host) = (visit.kind, visit.host());
+    pub fn leave<R: Wait>(&self, rt: &R, serves: Serves, visit: Visit) {
+        let (errand, host) = (visit.errand, visit.host());
         drop(visit);
-        self.hall.lock(rt).leave(served, kind, host);
+        self.hall.lock(rt).leave(serves, errand, host);
     }
 
     /// The next connection for a session, which is free until then; None after the end. Where whoever hands on has to be told,
     /// it is woken while the session is free.
-    pub fn take<R: Wait>(&self, rt: &R, served: Served, waker: &Waker) -> Option<Visit> {
+    pub fn take<R: Wait>(&self, rt: &R, serves: Serves, waker: &Waker) -> Option<Visit> {
         let mut hall = self.hall.lock(rt);
-        let window = hall.window(served);
-        window.free = window.free.saturating_add(1);
+        hall.window(serves).give_one();
         if mem::replace(&mut hall.wanted, false) {
             let _ = waker.wake();
         }
-        let mut hall = self.came(served).wait_while(rt, hall, |hall| {
-            !hall.ended && hall.window(served).handed.is_empty()
-        });
-        hall.window(served).handed.pop_front()
-    }
-
-    /// Nothing more is handed on. What was handed on is still taken.
-    pub fn end<R: Wait>(&self, rt: &R) {
-        self.hall.lock(rt).ended = true;
-        self.came_for_all.notify_all();
-        self.came_for_questions.notify_all();
+        drop(hall);
+        let door = match serves {
+            Serves::All => &self.for_all,
+            Serves::NoJobs => &self.for_no_jobs,
+        };
+        door.recv(rt).ok()
     }
 }

@@ -1,23 +1,21 @@
-//! The edge of a server: connections that wait for their first line, sessions that are free, peers that are gone, the three
-//! standard descriptors, and a log that holds up no one.
+//! The edge of a server: connections that wait for their first line, sessions that are free, and peers that are gone.
 #![tactic(auto)]
 
-mod descriptors;
 mod desk;
+mod doorway;
 mod first_line;
 mod guests;
 mod limits;
 mod lobby;
-mod log_queue;
 mod peers;
+mod throttle;
 mod waiting_room;
 
-pub use descriptors::fill_standard_descriptors;
-pub use desk::{Desk, Served};
-pub use first_line::{Kind, is_whole, kind_of};
+pub use desk::{Desk, Doors, Serves};
+pub use doorway::Doorway;
+pub use first_line::{Errand, errand_of, is_whole};
 pub use guests::{Guest, Stage, who_leaves};
-pub use limits::{MOST_GUESTS, descriptor_limit, places};
-pub use lobby::Lobby;
-pub use log_queue::{LineLog, LineQueue};
-pub use peers::{Peer, Standing, ask_peer, keep_asking, may_end, unread_octets};
+pub use limits::{MOST_GUESTS, places};
+pub use lobby::{Listening, Lobby};
+pub use peers::{Peer, Standing, ask_peer, keep_asking, may_end, send_in_pieces, unread_octets};
 pub use waiting_room::Visit;

@@ -13,8 +13,9 @@ ghost use Rattle.std.specs.Prelude.{◌≡◌, ◌<◌, ◌↔◌, ◌++◌, IsT
 ghost use Rattle.std.specs.Fmt.{decimal};
 
 use crate::desk::Desk;
-use crate::first_line::Kind;
-use crate::waiting_room::{Turn, Visit, WaitingRoom};
+use crate::doorway::Doorway;
+use crate::first_line::Errand;
+use crate::waiting_room::{Ready, Visit, WaitingRoom};
 use log::{Log, warn};
 use mio::unix::SourceFd;
 use mio::{Events, Interest, Poll, Token, Waker};
@@ -23,6 +24,7 @@ use std::fmt::Display;
 use std::io::ErrorKind;
 use std::net::{Net, SocketAddr, TcpListener, TcpStream};
 use std::os::fd::{AsRawFd, RawFd};
+use std::rt::Clock;
 use std::sync::Wait;
 use std::time::Duration;
 use std::{fmt, io};
@@ -39,10 +41,10 @@ const EVENTS: usize = 256;
 /// How many connections the system keeps that aren't accepted yet.
 const BACKLOG: i32 = 4_096;
 
-/// For how many milliseconds it is waited before it is accepted again, where a connection couldn't be accepted.
-const PAUSE: u64 = 100;
+/// The milliseconds until the next try where a connection couldn't be accepted.
+const ACCEPT_PAUSE_MS: u64 = 100;
 
-/// Why a connection is closed that waited: so many were for want of room.
+/// Why a connection that waited is closed: for want of room, as N were by now.
 #[derive(Clone, Copy)]
 struct WantOfRoom(u64);
 
@@ -74,20 +76,36 @@ pub struct Lobby {
     left: u64,
     accepted: u64,
     room: WaitingRoom,
-    pause: Option<u64>,
+    pause_ms: Option<u64>,
     closed: u64,
+    doorway: Doorway,
+}
+
+/// What a lobby listens at, and for whom.
+#[derive(Drop)]
+pub struct Listening {
+    pub address: SocketAddr,
+    /// How many connections may wait.
+    pub places: u64,
+    /// How many are accepted, those that may not come in too.
+    pub connections: u64,
+    pub doorway: Doorway,
 }
 
 impl Lobby {
-    /// A lobby with so many places behind a listener at this address, which accepts so many connections; what wakes its thread;
-    /// and the listener's port.
+    /// A lobby; what wakes its thread; and the listener's port. An error where the system doesn't give what it takes, or memory is
+    /// refused.
     pub fn new<R: Net<Listener = TcpListener, Stream = TcpStream>>(
         rt: &R,
         alloc: Global,
-        address: SocketAddr,
-        places: u64,
-        connections: u64,
+        listening: Listening,
     ) -> io::Result<(Lobby, Waker, u16)> {
+        let Listening {
+            address,
+            places,
+            connections,
+            doorway,
+        } = listening;
         let listener = TcpListener::bind(rt, address)?;
         let mut lobby = Lobby {
             listener,
@@ -97,15 +115,15 @@ impl Lobby {
             accepted: 0,
             room: WaitingRoom::new(alloc),
             // The first round accepts.
-            pause: Some(0),
+            pause_ms: Some(0),
             closed: 0,
+            doorway,
         };
         let (waker, port) = lobby.open(places)?;
         Ok((lobby, waker, port))
     }
 
-    /// Makes places, and has the system tell what comes at the listener. What is answered wakes the thread, and is the
-    /// listener's port.
+    /// Makes places, and has the system tell what comes at the listener. Answers what wakes the thread, and the listener's port.
     fn open(&mut self, places: u64) -> io::Result<(Waker, u16)> {
         self.room.grow(places)?;
         self.listener.set_nonblocking(true)?;
@@ -148,9 +166,16 @@ impl Lobby {
         }
     }
 
-    /// Gives a connection that was accepted a place, and looks at what it has sent.
-    fn admit<R: Log>(&mut self, rt: &R, visit: Visit) -> Result<(), AllocError> {
+    /// Gives a connection that was accepted a place, and looks at what it has sent; or closes it,
+    /// where its address isn't let in.
+    fn admit<R: Clock + Log>(&mut self, rt: &R, visit: Visit) -> Result<(), AllocError> {
         self.left = self.left.saturating_sub(1);
+        if !self.doorway.lets_in(visit.peer) {
+            let (peer, host) = (visit.peer, visit.host());
+            drop(visit);
+            self.doorway.refused.refuse(rt, peer, host);
+            return Ok(());
+        }
         self.accepted = self.accepted.saturating_add(1);
         self.make_place(rt);
         let (descriptor, peer) = (visit.stream.as_raw_fd(), visit.peer);
@@ -176,46 +201,53 @@ impl Lobby {
             .register(&mut SourceFd(&descriptor), token, Interest::READABLE)
     }
 
-    /// Accepts what waits at the listener, so many at once. For how many milliseconds it is then waited at most before it is
-    /// accepted again; None where the system tells when to.
-    fn accept<R: Log>(&mut self, rt: &R) -> Result<Option<u64>, AllocError> {
+    /// Accepts what waits at the listener, `EVENTS` connections at most. Answers after how many milliseconds it accepts again at
+    /// the latest; None where the system tells when.
+    fn accept<R: Clock + Log>(&mut self, rt: &R) -> Result<Option<u64>, AllocError> {
         for _ in 0..EVENTS {
             if self.left == 0 {
                 return Ok(None);
             }
             if !self.room.has_room() {
-                // All are ready: it is accepted again once one was handed on.
-                return Ok(Some(PAUSE));
+                // All are ready: there is room once one was handed on.
+                return Ok(Some(ACCEPT_PAUSE_MS));
             }
             match self.listener.accept() {
                 Ok((stream, peer)) => {
-                    let kind = Kind::Question;
-                    self.admit(rt, Visit { stream, peer, kind })?;
+                    let errand = Errand::Short;
+                    self.admit(
+                        rt,
+                        Visit {
+                            stream,
+                            peer,
+                            errand,
+                        },
+                    )?;
                 }
                 Err(error) if error.kind() == ErrorKind::WouldBlock => return Ok(None),
                 Err(error) => {
                     tell(rt, &"a connection wasn't accepted", &error);
-                    return Ok(Some(PAUSE));
+                    return Ok(Some(ACCEPT_PAUSE_MS));
                 }
             }
         }
         Ok(Some(0))
     }
 
-    /// The next connection for which a session is free: a question, or else a job, where jobs are let in. Its stream is as it was
-    /// accepted, with no octet read.
+    /// The next connection for which a session is free: one that brings no job, or else a job, where jobs are let in. Its stream is
+    /// as it was accepted, with no octet read.
     pub fn next<R: Wait>(&mut self, rt: &R, desk: &Desk, lets_jobs_in: bool) -> Option<Visit> {
-        let mut turn = desk.first_free(rt, &mut self.room.questions);
-        if turn.is_none() && lets_jobs_in {
-            turn = desk.first_free(rt, &mut self.room.jobs);
-            if turn.is_none() && self.left == 0 {
-                let last = self.room.last_turn()?;
-                turn = desk.is_free(rt, last).then_some(last);
+        let mut ready = desk.first_free(rt, &mut self.room.others);
+        if ready.is_none() && lets_jobs_in {
+            ready = desk.first_free(rt, &mut self.room.jobs);
+            if ready.is_none() && self.left == 0 {
+                let last = self.room.last_guest()?;
+                ready = desk.is_free(rt, last).then_some(last);
             }
         }
-        let Turn { at, kind, .. } = turn?;
+        let Ready { at, errand, .. } = ready?;
         let mut visit = self.release(at)?;
-        visit.kind = kind;
+        visit.errand = errand;
         Some(visit)
     }
 
@@ -226,14 +258,20 @@ impl Lobby {
         !self.room.jobs.is_empty()
     }
 
-    /// One round: waits for something to happen, for so many milliseconds at most where there is such a number, and accepts and
-    /// looks at what came.
-    pub fn round<R: Log + Wait>(&mut self, rt: &R, limit: Option<u64>) -> io::Result<()> {
-        let pause = self.pause.unwrap_or(u64::MAX);
-        let pause = pause.min(limit.unwrap_or(u64::MAX));
-        let patience = (pause < u64::MAX).then_some(Duration::from_millis(pause));
+    /// One round: waits for something to happen, for `limit_ms` milliseconds at most where there is such a number, and accepts and
+    /// looks at what came. An error where the system doesn't tell what happened, or memory is refused.
+    pub fn round<R: Clock + Log + Wait>(
+        &mut self,
+        rt: &R,
+        limit_ms: Option<u64>,
+    ) -> io::Result<()> {
+        let pause_ms = self.pause_ms.unwrap_or(u64::MAX);
+        let pause_ms = pause_ms.min(limit_ms.unwrap_or(u64::MAX));
+        let pause_ms = pause_ms.min(self.doorway.patience_ms());
+        let patience = (pause_ms < u64::MAX).then_some(Duration::from_millis(pause_ms));
         self.poll.poll(&mut self.events, patience)?;
-        let mut accepts = self.pause.is_some();
+        self.doorway.refused.tell_again(rt);
+        let mut accepts = self.pause_ms.is_some();
         for event in self.events.iter() {
             let token = event.token();
             if token == LISTENER {
@@ -244,7 +282,7 @@ impl Lobby {
             }
         }
         if accepts {
-            self.pause = self.accept(rt)?;
+            self.pause_ms = self.accept(rt)?;
         }
         Ok(())
     }

@@ -4,7 +4,8 @@ ghost use Rattle.std.specs.Prelude.{◌≡◌, ◌+◌, ◌-◌, ◌<◌, ◌≤
 
 use libc::net::{
     IPPROTO_TCP, MSG_DONTWAIT, MSG_PEEK, POLLERR, POLLHUP, POLLIN, POLLNVAL, POLLRDHUP,
-    SO_KEEPALIVE, SOL_SOCKET, TCP_KEEPCNT, TCP_KEEPIDLE, TCP_KEEPINTVL, poll, recv, setsockopt,
+    SO_KEEPALIVE, SO_SNDBUF, SOL_SOCKET, TCP_KEEPCNT, TCP_KEEPIDLE, TCP_KEEPINTVL, poll, recv,
+    setsockopt,
 };
 use libc::types::pollfd;
 use std::net::TcpStream;
@@ -77,17 +78,40 @@ pub fn may_end(standing: &Standing) -> bool
     u128::from(standing.left) < u128::from(standing.unread) + u128::from(in_hand)
 }
 
-/// Has the system ask a silent peer each so many seconds whether it is there, and end the connection where it isn't three times.
+/// A number as C keeps an int.
+fn as_int(value: u32) -> [u8; 16] {
+    let mut octets = [0u8; 16];
+    let [first, second, third, fourth] = value.to_ne_bytes();
+    octets[0] = first;
+    octets[1] = second;
+    octets[2] = third;
+    octets[3] = fourth;
+    octets
+}
+
+/// Has the system ask a silent peer every `seconds` seconds whether it is there, and end the connection where it isn't three times.
 pub fn keep_asking(stream: &TcpStream, seconds: u8) {
+    let seconds = u32::from(seconds);
     for (level, option, value) in [
         (IPPROTO_TCP, TCP_KEEPCNT, 3),
         (IPPROTO_TCP, TCP_KEEPIDLE, seconds),
         (IPPROTO_TCP, TCP_KEEPINTVL, seconds),
         (SOL_SOCKET, SO_KEEPALIVE, 1),
     ] {
-        // As C keeps an int.
-        let mut octets = [0u8; 16];
-        octets[0] = value;
-        let _ = unsafe { setsockopt(stream.as_raw_fd(), level, option, &octets, 4) };
+        let _ = unsafe { setsockopt(stream.as_raw_fd(), level, option, &as_int(value), 4) };
     }
+}
+
+/// Has the system keep some N octets of what is written to a stream and its peer hasn't read, and not more: so a write comes to
+/// its end soon where the peer reads, and not at all where it doesn't.
+pub fn send_in_pieces(stream: &TcpStream, octets: u32) {
+    let _ = unsafe {
+        setsockopt(
+            stream.as_raw_fd(),
+            SOL_SOCKET,
+            SO_SNDBUF,
+            &as_int(octets),
+            4,
+        )
+    };
 }

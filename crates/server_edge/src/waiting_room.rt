@@ -1,10 +1,10 @@
-//! The places of connections that wait, and in which order their turns come.
+//! The places of connections that wait, and in which order those that are ready are handed on.
 
 ghost use Rattle.std.specs.Prelude.{◌≡◌};
 ghost use Rattle.std.specs.Net.Socket.{socket_ip};
 ghost use Rattle.server_edge.specs.Hosts.{host_number};
 
-use crate::first_line::{Kind, LONGEST, is_whole, kind_of};
+use crate::first_line::{Errand, FIRST_LINE_OCTETS, errand_of, is_whole};
 use crate::guests::{Guest, Stage, who_leaves};
 use crate::peers::unread_octets;
 use std::alloc::{AllocError, Global};
@@ -19,7 +19,7 @@ pub struct Visit {
     /// Its peer.
     pub peer: SocketAddr,
     /// What it comes for.
-    pub kind: Kind,
+    pub errand: Errand,
 }
 
 impl Visit {
@@ -34,11 +34,11 @@ impl Visit {
     }
 }
 
-/// The turn of a guest whose first line is whole: its place, what it comes for, and its host.
+/// A guest that is ready, as its first line is whole: its place, what it comes for, and its host.
 #[derive(Clone, Copy)]
-pub(crate) struct Turn {
+pub(crate) struct Ready {
     pub(crate) at: usize,
-    pub(crate) kind: Kind,
+    pub(crate) errand: Errand,
     pub(crate) host: u32,
 }
 
@@ -48,14 +48,14 @@ pub(crate) struct WaitingRoom {
     guests: Vec<Option<Guest>>,
     pub(crate) visits: Vec<Option<Visit>>,
     pub(crate) free: Vec<usize>,
-    /// The turns of those that are ready, by when they were.
-    pub(crate) jobs: VecDeque<Turn>,
-    pub(crate) questions: VecDeque<Turn>,
+    /// Those that are ready, by when they were: that bring a job, and that bring none.
+    pub(crate) jobs: VecDeque<Ready>,
+    pub(crate) others: VecDeque<Ready>,
 }
 
 /// How far a connection has come by what it has sent, which is left unread, and what it comes for.
-fn stage_of(stream: &TcpStream, is_ended: bool) -> (Stage, Kind) {
-    let mut octets = [0u8; LONGEST];
+fn stage_of(stream: &TcpStream, is_ended: bool) -> (Stage, Errand) {
+    let mut octets = [0u8; FIRST_LINE_OCTETS];
     let came = unread_octets(stream, &mut octets);
     let count = came.unwrap_or(0);
     let octets = &octets[..count];
@@ -64,7 +64,7 @@ fn stage_of(stream: &TcpStream, is_ended: bool) -> (Stage, Kind) {
         0 => Stage::Silent,
         _ => Stage::Begun,
     };
-    (stage, kind_of(octets.first().copied()))
+    (stage, errand_of(octets.first().copied()))
 }
 
 impl WaitingRoom {
@@ -75,11 +75,11 @@ impl WaitingRoom {
             visits: Vec::new(alloc),
             free: Vec::new(alloc),
             jobs: VecDeque::new(alloc),
-            questions: VecDeque::new(alloc),
+            others: VecDeque::new(alloc),
         }
     }
 
-    /// So many places more, all free.
+    /// Adds N places, all free. An error where memory is refused.
     pub(crate) fn grow(&mut self, places: u64) -> Result<(), AllocError> {
         for _ in 0..places {
             self.free.push(self.visits.len())?;
@@ -103,19 +103,19 @@ impl WaitingRoom {
         }
     }
 
-    /// The turn of the first guest whose first line isn't whole, where nobody is ready. A session for all waits for it as long as its
-    /// peer may be silent.
-    pub(crate) fn last_turn(&self) -> Option<Turn> {
-        if !self.jobs.is_empty() || !self.questions.is_empty() {
+    /// The first guest whose first line isn't whole, where nobody is ready, as one that brings a job. A session for all waits for
+    /// its line as long as its peer may be silent.
+    pub(crate) fn last_guest(&self) -> Option<Ready> {
+        if !self.jobs.is_empty() || !self.others.is_empty() {
             return None;
         }
         let at = who_leaves(self.guests.as_slice())?;
         let Some(Some(visit)) = self.visits.get(at) else {
             return None;
         };
-        Some(Turn {
+        Some(Ready {
             at,
-            kind: Kind::Job,
+            errand: Errand::Job,
             host: visit.host(),
         })
     }
@@ -157,16 +157,16 @@ impl WaitingRoom {
         if matches!(stage, Stage::Ready) {
             return Ok(true);
         }
-        let (stage, kind) = stage_of(&visit.stream, is_ended);
+        let (stage, errand) = stage_of(&visit.stream, is_ended);
         let host = visit.host();
         self.mark(at, Some(Guest { number, stage }));
         if !matches!(stage, Stage::Ready) {
             return Ok(false);
         }
-        let turn = Turn { at, kind, host };
-        match kind {
-            Kind::Job => self.jobs.push_back(turn)?,
-            Kind::Question | Kind::Listing => self.questions.push_back(turn)?,
+        let ready = Ready { at, errand, host };
+        match errand {
+            Errand::Job => self.jobs.push_back(ready)?,
+            Errand::Short | Errand::Listing => self.others.push_back(ready)?,
         }
         Ok(true)
     }
