@@ -8,4 +8,3 @@ pub mod Scripts
 pub mod Status
 pub mod Steps
 pub mod Streams
-pub mod Told

@@ -5,8 +5,6 @@ mod fault;
 mod hosts;
 mod run;
 mod runner;
-mod streams;
 
-pub use fault::{Fault, FaultName, tell};
+pub use fault::Fault;
 pub use run::{read_all, run_input, run_parts};
-pub use streams::{StreamReader, StreamWriter};

@@ -16,9 +16,10 @@ ghost use Rattle.spool_config.specs.declared.settings.ConfigFault.TheVariants.{M
 ghost use Rattle.lpd_script.specs.Streams.{HasGivenAll, HasGivenUp, IsReadOut, IsReadOutAfter, IsUnread};
 ghost use Rattle.lpd_script.specs.Streams.{IsUntouched, IsReadingFault, write_faults};
 
-use crate::fault::{Fault, tell};
+use crate::fault::Fault;
 use crate::runner::{NotRun, Runner};
 use lpd_commands::{OctetRead, OctetWrite, write_all};
+use program_edge::tell;
 use script_lines::{LineFault, parse_line};
 use std::alloc::Global;
 
