@@ -11,9 +11,9 @@ use Rattle.lpd_words.specs.declared.words.Unread.{Unread}
 use Rattle.lpd_words.specs.declared.words.Unread.TheVariants.{Memory, Refused, Shown}
 use Rattle.clap.specs.declared.error.kind.ErrorKind.{ErrorKind}
 use Rattle.clap.specs.declared.error.kind.ErrorKind.TheVariants.{DisplayHelp, DisplayVersion, OutOfMemory}
-use Rattle.lpd_words.specs.declared.envelope.EnvelopeFault.{EnvelopeFault}
-use Rattle.lpd_words.specs.declared.envelope.EnvelopeFault.TheVariants.{Files, Host, Missing, Number, Queue, User}
-use Rattle.lpd_words.specs.declared.envelope.EnvelopeFault.TheVariants as envelope
+use Rattle.lpd_words.specs.declared.envelope.WordFault.{WordFault}
+use Rattle.lpd_words.specs.declared.envelope.WordFault.TheVariants.{Files, Host, Missing, Number, Queue, User}
+use Rattle.lpd_words.specs.declared.envelope.WordFault.TheVariants as envelope
 use Rattle.lpd_words.specs.declared.words.Sending.{Sending}
 
 -- what is read of a word, or that it isn't there
@@ -59,13 +59,14 @@ module _ {E : Type 0} (A B : Text → Result ℕ E → Type 0) (rows : List Row)
           read.1.0 (is.2, small)
 
 -- a job's words are wrong
-pub names_no_job : (name : Text) (rows : List Row) (s : Sending) (fault : EnvelopeFault) → name ≡ codes "send" → IsSending rows s → IsWrong s fault → AsksNothing (Some (name, rows)) fault
+pub names_no_job : (name : Text) (rows : List Row) (s : Sending) (fault : WordFault) → name ≡ codes "send" → IsSending rows s → IsWrong s fault → AsksNothing (Some (name, rows)) fault
 names_no_job name rows s Queue is sending wrong = (is, (s, sending, wrong))
 names_no_job name rows s Host is sending wrong = (is, (s, sending, wrong))
 names_no_job name rows s User is sending wrong = (is, (s, sending, wrong))
 names_no_job name rows s Files is sending wrong = (is, (s, sending, wrong))
 names_no_job name rows s Number is sending wrong = (is, (s, sending, wrong))
 names_no_job name rows s envelope.Address is sending wrong = absurd wrong
+names_no_job name rows s (envelope.Network text) is sending wrong = absurd wrong
 names_no_job name rows s Missing is sending wrong = absurd wrong
 names_no_job name rows s envelope.Memory is sending wrong = tt
 
@@ -92,7 +93,7 @@ unread_by words kind (Refused text) (inl none) h = absurd (h.0 none)
 unread_by words kind (Refused text) (inr is) h = inl (kind, is, h.1, h.2)
 
 -- words that clap takes, and that ask for nothing, aren't read
-pub asks_nothing : (words : List Text) (fault : EnvelopeFault) (unread : Unread) → fault_of command_line words ≡ [] → AsksNothing (subcommand_of command_line words) fault → IsUnreadFor fault unread → IsUnread words unread
+pub asks_nothing : (words : List Text) (fault : WordFault) (unread : Unread) → fault_of command_line words ≡ [] → AsksNothing (subcommand_of command_line words) fault → IsUnreadFor fault unread → IsUnread words unread
 asks_nothing words fault Memory none nothing h = tt
 asks_nothing words fault (Shown text) none nothing h = absurd h
 asks_nothing words fault (Refused text) none nothing h = inr (none, (fault, h, nothing))

@@ -1,5 +1,7 @@
+mod AllowLemmas
 mod AskedLemmas
 mod CommandLemmas
+mod DataFileLemmas
 mod EnvelopeLemmas
 mod OrderLemmas
 mod ServingLemmas

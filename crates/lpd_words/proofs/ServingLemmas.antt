@@ -4,18 +4,18 @@ use Rattle.std.specs.Borrow.{Bor}
 use Rattle.std.specs.Str.Parse.{ParsesUnsigned, digits_value, without_leading_plus}
 use Rattle.clap.specs.Words.{Row, Text, TriesOne, one_of}
 use Rattle.lpd_words.specs.Asked.{IsAsked, IsGiven}
-use Rattle.lpd_words.specs.Refused.{AsksNothing, LacksServing}
-use Rattle.lpd_words.specs.declared.envelope.EnvelopeFault.{EnvelopeFault}
-use Rattle.lpd_words.specs.declared.envelope.EnvelopeFault.TheVariants as envelope
-use Rattle.lpd_words.specs.declared.words.Asked.{Asked}
-use Rattle.lpd_words.specs.declared.words.Asked.TheVariants.{Input, Check, Replay, Send, Serve}
+use Rattle.lpd_words.specs.Refused.{AsksNothing, HasNoCount, HasNoLimit, LacksServing}
+use Rattle.lpd_words.specs.declared.envelope.WordFault.{WordFault}
+use Rattle.lpd_words.specs.declared.envelope.WordFault.TheVariants as envelope
+use Rattle.lpd_words.specs.declared.words.Ask.{Ask}
+use Rattle.lpd_words.specs.declared.words.Ask.TheVariants.{Input, Check, Replay, Send, Serve}
 
 -- the text of an option, or another where it isn't there
 pub text_or : (o : Option (Bor Text)) (first : Option Text) (other : Bor Text) → option_map (λ s. s.now) o ≡ first → (unwrap_or o other).now ≡ unwrap_or first other.now
 text_or None first other h = rw (← h) refl
 text_or (Some s) first other h = rw (← h) refl
 
--- the number that is read of an option of so many bits, or that it is none
+-- the number that is read of an option of at most `bits` bits, or that it is none
 module _ {E : Type 0} (A B : Text → Result ℕ E → Type 0) (bits : ℕ) (rows : List Row) (id : Text) where
   abbrev Tries : Text → Result (Option ℕ) E → Type 0
   Tries t r = TriesOne (λ text r. ParsesUnsigned bits 10 text r × A text r × B text r) t r
@@ -55,7 +55,7 @@ below : (n : ℕ) → n < 114 → 114 ≡ n → ⊥
 below n small e = absurd (omega (arith, small, e))
 
 -- words that ask to serve, and don't say how, ask for nothing
-no_server : (name : Text) (rows : List Row) → name ≡ codes "serve" → LacksServing rows envelope.Missing → (asked : Asked) → IsAsked (Some (name, rows)) asked → ⊥
+no_server : (name : Text) (rows : List Row) → name ≡ codes "serve" → LacksServing rows envelope.Missing → (asked : Ask) → IsAsked (Some (name, rows)) asked → ⊥
 no_server name rows is lacks Input h = absurd h
 no_server name rows is lacks (Check config sizes) h =
     below 101 (omega arith) (third name (codes "check") is h.0)
@@ -65,8 +65,9 @@ no_server name rows is lacks (Send sending envelope) h =
     below 110 (omega arith) (third name (codes "send") is h.0)
 no_server name rows is lacks (Serve config settings) h = lacks settings h.2
 
-pub asks_no_server : (name : Text) (rows : List Row) (fault : EnvelopeFault) → name ≡ codes "serve" → LacksServing rows fault → AsksNothing (Some (name, rows)) fault
+pub asks_no_server : (name : Text) (rows : List Row) (fault : WordFault) → name ≡ codes "serve" → LacksServing rows fault → AsksNothing (Some (name, rows)) fault
 asks_no_server name rows envelope.Address is lacks = (is, lacks)
+asks_no_server name rows (envelope.Network text) is lacks = (is, lacks)
 asks_no_server name rows envelope.Missing is lacks = no_server name rows is lacks
 asks_no_server name rows envelope.Queue is lacks = absurd lacks
 asks_no_server name rows envelope.Host is lacks = absurd lacks
@@ -74,3 +75,8 @@ asks_no_server name rows envelope.User is lacks = absurd lacks
 asks_no_server name rows envelope.Files is lacks = absurd lacks
 asks_no_server name rows envelope.Number is lacks = absurd lacks
 asks_no_server name rows envelope.Memory is lacks = tt
+
+-- what is no number is none above 0
+pub no_limit : (rows : List Row) (id : Text) → HasNoCount rows id → HasNoLimit rows id
+no_limit rows id none None is = none None is
+no_limit rows id none (Some n) is = none (Some n) is.0

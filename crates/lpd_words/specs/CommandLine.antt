@@ -4,7 +4,7 @@ use Rattle.clap.specs.Words.{App, Rule, Text, app_of, new_app, new_rule, rule_of
 use Rattle.clap.specs.declared.builder.arg.Arg.{Arg}
 use Rattle.clap.specs.declared.builder.command.Command.{Command}
 use Rattle.clap.specs.declared.builder.command.Command.TheViews.{out-Command as fields_of}
-use Rattle.clap.specs.declared.builder.action.ArgAction.TheVariants.{SetTrue}
+use Rattle.clap.specs.declared.builder.action.ArgAction.TheVariants.{Append, SetTrue}
 use Rattle.clap.specs.declared.builder.value_parser.ValueParser.{ValueParser}
 use Rattle.clap.specs.declared.builder.value_parser.ValueParser.TheVariants as parser
 
@@ -36,6 +36,10 @@ words id = record (word id) { range = Some (record { start_inclusive = 1; end_in
 -- an option with one value, --id
 abbrev pub option : Text → Rule
 option id = record (new_rule id) { long = Some id; value_names = 1 }
+
+-- an option with one value, --id, that may stand several times
+abbrev pub repeated : Text → Rule
+repeated id = record (option id) { action = Some Append }
 
 -- an option whose value is a number
 abbrev pub number_option : Text → ValueParser → Rule
@@ -96,7 +100,8 @@ abbrev pub serve_words : List Rule
 serve_words =
     word (codes "config") ∷ listening_port ∷ option (codes "bind") ∷ option (codes "out")
     ∷ sessions ∷ count (codes "connections") ∷ count (codes "rotate") ∷ count (codes "silence")
-    ∷ count (codes "per-host") ∷ count (codes "slowest") ∷ flag (codes "keep-room") ∷ []
+    ∷ count (codes "per-host") ∷ count (codes "slowest") ∷ flag (codes "keep-room")
+    ∷ repeated (codes "allow") ∷ []
 
 abbrev pub serve_app : App
 serve_app = with_rules (new_app (codes "serve")) serve_words

@@ -3,7 +3,7 @@ use Rattle.std.specs.Prelude.{ℕ, List}
 use Rattle.std.specs.Borrow.{Bor}
 use Rattle.lpd_words.specs.declared.running.Outcome.{Outcome}
 use Rattle.lpd_words.specs.declared.running.Outcome.TheVariants.{Ended, Serve}
-use Rattle.server_settings.specs.declared.settings.Settings.{Settings}
+use Rattle.program_edge.specs.declared.settings.Settings.{Settings}
 
 -- a fact of the exit status, if the program ends
 abbrev pub IfEnded : Outcome → (ℕ → Type 0) → Type 0

@@ -1,6 +1,6 @@
 -- Why words ask for nothing.
 use Rattle.std.specs.Prelude.{◌≡◌, ◌≢◌, ◌⊎◌, ◌<◌, ◌&&◌, ℕ, Bool, false, nat_le, List, []}
-use Rattle.std.specs.Prelude.{Option, Some, None, length, codes}
+use Rattle.std.specs.Prelude.{Option, Some, None, length, codes, string_bytes}
 use Rattle.std.specs.List.{list_all}
 use Rattle.std.specs.declared.net.ipv4_addr.Ipv4Addr.{Ipv4Addr}
 use Rattle.clap.specs.Words.{IsAmong, Kinds, Row, Text, fault_of, subcommand_of}
@@ -12,28 +12,32 @@ use Rattle.lpd_commands.specs.declared.command.Command.TheVariants.{Receive}
 use Rattle.lpd_values.specs.Kept.{is_operand}
 use Rattle.lpd_values.specs.Kinds.{is_word_octet}
 use Rattle.lpd_values.specs.declared.limits.TheConstants.{MAX_FILES}
-use Rattle.lpd_words.specs.Asked.{IsAddress, IsAsked, IsGiven, IsGivenOr, IsSending, IsServing}
+use Rattle.lpd_words.specs.Asked.{AreAllowed, AreLimits, IsAddress, IsAsked, IsGiven, IsGivenOr, IsLimit}
+use Rattle.lpd_words.specs.Asked.{IsSending, IsServing}
 use Rattle.lpd_words.specs.CommandLine.{command_line}
-use Rattle.lpd_words.specs.declared.envelope.EnvelopeFault.{EnvelopeFault}
-use Rattle.lpd_words.specs.declared.envelope.EnvelopeFault.TheVariants as envelope
-use Rattle.lpd_words.specs.declared.words.Asked.{Asked}
+use Rattle.lpd_words.specs.declared.envelope.WordFault.{WordFault}
+use Rattle.lpd_words.specs.declared.envelope.WordFault.TheVariants as envelope
+use Rattle.lpd_words.specs.declared.words.Ask.{Ask}
 use Rattle.lpd_words.specs.declared.words.Sending.{Sending}
 use Rattle.lpd_words.specs.declared.words.Unread.{Unread}
 use Rattle.lpd_words.specs.declared.words.Unread.TheVariants.{Shown, Refused, Memory}
-use Rattle.server_settings.specs.declared.settings.Settings.{Settings}
+use Rattle.program_edge.specs.Networks.{IsNetworkText}
+use Rattle.program_edge.specs.declared.networks.Network.{Network}
+use Rattle.program_edge.specs.declared.settings.Limits.{Limits}
+use Rattle.program_edge.specs.declared.settings.Settings.{Settings}
 
 -- a host that can stand in the names of files: 1 to 120 octets of words
 abbrev pub is_host : List ℕ → Bool
 is_host host = nat_le 1 (length host) && nat_le (length host) 120 && list_all is_word_octet host
 
 -- a host doesn't fit, or memory was refused
-abbrev pub IsHostFault : List ℕ → EnvelopeFault → Type 0
+abbrev pub IsHostFault : List ℕ → WordFault → Type 0
 IsHostFault host envelope.Host = is_host host ≡ false
 IsHostFault host envelope.Memory = Unit {0}
 IsHostFault host fault = ⊥
 
 -- what is wrong with the words of a job
-abbrev pub IsWrong : Sending → EnvelopeFault → Type 0
+abbrev pub IsWrong : Sending → WordFault → Type 0
 IsWrong s envelope.Queue = command_has_line (Receive s.queue.now) ≡ false
 IsWrong s envelope.Host = is_host s.host.now ≡ false
 IsWrong s envelope.User = is_operand s.user.now ≡ false
@@ -41,11 +45,12 @@ IsWrong s envelope.Files =
     (length s.files.items ≡ 0) ⊎ (MAX_FILES < length s.files.items)
 IsWrong s envelope.Number = 999 < s.number
 IsWrong s envelope.Address = ⊥
+IsWrong s (envelope.Network text) = ⊥
 IsWrong s envelope.Missing = ⊥
 IsWrong s envelope.Memory = Unit {0}
 
 -- the words of a job aren't all there, or memory was refused
-abbrev pub LacksWords : List Row → EnvelopeFault → Type 0
+abbrev pub LacksWords : List Row → WordFault → Type 0
 LacksWords rows envelope.Missing = (s : Sending) → IsSending rows s → ⊥
 LacksWords rows envelope.Memory = Unit {0}
 LacksWords rows fault = ⊥
@@ -58,14 +63,32 @@ HasNoAddress rows = (address : Ipv4Addr) → IsAddress rows address → ⊥
 abbrev pub HasNoCount : List Row → Text → Type 0
 HasNoCount rows id = (count : Option ℕ) → IsGiven 64 rows id count → ⊥
 
+-- an option is there, and no number above 0 of 64 bits
+abbrev pub HasNoLimit : List Row → Text → Type 0
+HasNoLimit rows id = (limit : Option ℕ) → IsLimit rows id limit → ⊥
+
+-- what a server's peers may do isn't given by numbers above 0
+abbrev pub HasNoLimits : List Row → Type 0
+HasNoLimits rows = (limits : Limits) → AreLimits rows limits → ⊥
+
+-- a text names no network, and so the option names none that may be let in; or memory was refused
+abbrev pub HasNoNetworks : List Row → WordFault → Type 0
+HasNoNetworks rows (envelope.Network text) =
+    ((network : Network) → IsNetworkText (string_bytes text) network → ⊥)
+    × ((networks : List Network) → AreAllowed rows networks → ⊥)
+HasNoNetworks rows envelope.Memory = Unit {0}
+HasNoNetworks rows fault = ⊥
+
 -- the sessions of a server are there, and no number of 32 bits
 abbrev pub HasNoSessions : List Row → Type 0
 HasNoSessions rows = (sessions : ℕ) → IsGivenOr 8 rows (codes "sessions") sessions → ⊥
 
 -- the words of a server aren't all there, or its address isn't one
-abbrev pub LacksServing : List Row → EnvelopeFault → Type 0
+abbrev pub LacksServing : List Row → WordFault → Type 0
 LacksServing rows envelope.Address = HasNoAddress rows
 LacksServing rows envelope.Missing = (s : Settings) → IsServing rows s → ⊥
+LacksServing rows (envelope.Network text) = HasNoNetworks rows (envelope.Network text)
+LacksServing rows envelope.Memory = Unit {0}
 LacksServing rows fault = ⊥
 
 -- words ask to serve, and give no address
@@ -73,17 +96,23 @@ abbrev pub NamesNoAddress : Option (Text × List Row) → Type 0
 NamesNoAddress None = ⊥
 NamesNoAddress (Some met) = (met.0 ≡ codes "serve") × HasNoAddress met.1
 
+-- words ask to serve, and name no networks
+abbrev pub NamesNoNetworks : Option (Text × List Row) → WordFault → Type 0
+NamesNoNetworks None fault = ⊥
+NamesNoNetworks (Some met) fault = (met.0 ≡ codes "serve") × HasNoNetworks met.1 fault
+
 -- words ask to send a job, and this is wrong with its words
-abbrev pub NamesNoJob : Option (Text × List Row) → EnvelopeFault → Type 0
+abbrev pub NamesNoJob : Option (Text × List Row) → WordFault → Type 0
 NamesNoJob None fault = ⊥
 NamesNoJob (Some met) fault =
     (met.0 ≡ codes "send") × ((s : Sending) × IsSending met.1 s × IsWrong s fault)
 
 -- why what clap reads of words asks for nothing: a word isn't there, or those of a job or a server are wrong
-abbrev pub AsksNothing : Option (Text × List Row) → EnvelopeFault → Type 0
+abbrev pub AsksNothing : Option (Text × List Row) → WordFault → Type 0
 AsksNothing met envelope.Address = NamesNoAddress met
+AsksNothing met (envelope.Network text) = NamesNoNetworks met (envelope.Network text)
 AsksNothing met envelope.Memory = Unit {0}
-AsksNothing met envelope.Missing = (asked : Asked) → IsAsked met asked → ⊥
+AsksNothing met envelope.Missing = (asked : Ask) → IsAsked met asked → ⊥
 AsksNothing met fault = NamesNoJob met fault
 
 -- clap finds a mistake in words: not that they ask for help or the version
@@ -104,7 +133,7 @@ IsTaken words =
 abbrev pub IsRefused : List Text → Type 0
 IsRefused words =
     IsMistake (fault_of command_line words)
-    ⊎ ((fault_of command_line words ≡ []) × ((fault : EnvelopeFault) × (fault ≢ envelope.Memory)
+    ⊎ ((fault_of command_line words ≡ []) × ((fault : WordFault) × (fault ≢ envelope.Memory)
     × AsksNothing (subcommand_of command_line words) fault))
 
 -- what an error of clap comes to, by its kind
@@ -115,7 +144,7 @@ IsUnreadBy kind (Refused text) =
 IsUnreadBy kind Memory = Unit {0}
 
 -- what a fault of the words comes to
-abbrev pub IsUnreadFor : EnvelopeFault → Unread → Type 0
+abbrev pub IsUnreadFor : WordFault → Unread → Type 0
 IsUnreadFor fault (Shown text) = ⊥
 IsUnreadFor fault (Refused text) = fault ≢ envelope.Memory
 IsUnreadFor fault Memory = Unit {0}

@@ -5,8 +5,8 @@ ghost use Rattle.clap.specs.Words.{app_of, new_app, rule_of};
 ghost use Rattle.clap.specs.declared.builder.command.Command.TheViews.{out-Command as fields_of};
 ghost use Rattle.lpd_words.specs.CommandLine.{AreLocal, IsCommand, IsWord, check_app, command_line};
 ghost use Rattle.lpd_words.specs.CommandLine.{count, flag, listening_port, number, number_option};
-ghost use Rattle.lpd_words.specs.CommandLine.{option, program_app, replay_app, send_app, serve_app};
-ghost use Rattle.lpd_words.specs.CommandLine.{with_rules, word, words};
+ghost use Rattle.lpd_words.specs.CommandLine.{option, program_app, repeated, replay_app, send_app};
+ghost use Rattle.lpd_words.specs.CommandLine.{serve_app, with_rules, word, words};
 
 use clap::builder::ValueParser;
 use clap::{Arg, ArgAction, Command};
@@ -86,6 +86,13 @@ fn words<'a>(alloc: Global, id: &'a str, name: &'a str, help: &'a str) -> Arg<'a
     ensures { IsWord result (words id.now) }
 {
     word(alloc, id, name, help).num_args(1..=52)
+}
+
+/// An option with one value, `--ID NAME`, that may stand several times.
+fn repeated<'a>(alloc: Global, id: &'a str, name: &'a str, help: &'a str) -> Arg<'a>
+    ensures { IsWord result (repeated id.now) }
+{
+    option(alloc, id, name, help).action(ArgAction::Append)
 }
 
 /// An option with one value, `--ID NAME`.
@@ -224,6 +231,7 @@ fn serve<'a>(alloc: Global) -> Result<Command<'a>, AllocError>
     let per_host = "Serves at most so many connections of one address at once";
     let slowest = "Ends a session whose peer sends less than so many octets a second for a minute";
     let keep_room = "Rotates the account as soon as no job is held, and has new jobs wait for that";
+    let allow = "Lets in this network alone, and each other that is named so, as 10.0.0.0/8";
     let words = vec![in alloc;
         word(alloc, "config", "CONFIG", CONFIG),
         listening_port(alloc),
@@ -242,6 +250,7 @@ fn serve<'a>(alloc: Global) -> Result<Command<'a>, AllocError>
         count(alloc, "per-host", "SESSIONS", per_host),
         count(alloc, "slowest", "OCTETS", slowest),
         flag(alloc, "keep-room", keep_room),
+        repeated(alloc, "allow", "NETWORK", allow),
     ]?;
     with_words(plain(alloc, "serve", about, MORE_OF_SERVE), words)
 }

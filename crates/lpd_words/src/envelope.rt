@@ -2,12 +2,12 @@
 
 ghost use Rattle.std.specs.Prelude.{◌≡◌, ◌≤◌, [], IsTrue, length};
 ghost use Rattle.lpd_values.specs.declared.limits.TheConstants.{MAX_FILES};
-ghost use Rattle.lpd_words.specs.declared.envelope.EnvelopeFault.TheVariants as envelope;
+ghost use Rattle.lpd_words.specs.declared.envelope.WordFault.TheVariants as envelope;
 ghost use Rattle.lpr_client.specs.Sendable.{is_sendable};
 
-use lpd_script::FaultName;
 use lpr_client::{Control, FileName, Octets};
-use std::alloc::AllocError;
+use program_edge::FaultName;
+use std::alloc::{AllocError, AllocFailed};
 use thiserror::Error;
 
 /// What is known of a job before its files are read: it can be sent, with files under the names of
@@ -25,8 +25,8 @@ pub struct Envelope {
 }
 
 /// Why words name no job, or no server.
-#[derive(Clone, Copy, Debug, PartialEq, Eq, Error)]
-pub enum EnvelopeFault {
+#[derive(Debug, PartialEq, Eq, Drop, Error)]
+pub enum WordFault {
     /// The queue is no word of 1 to 1,022 octets.
     #[error("QUEUE isn't 1 to 1022 octets without white space")]
     Queue,
@@ -45,6 +45,9 @@ pub enum EnvelopeFault {
     /// The address to listen on isn't one.
     #[error("BIND isn't four numbers of 0 to 255 with points between")]
     Address,
+    /// This text names no network.
+    #[error("'{0}' is no NETWORK: an IPv4 address, or one with / and 0 to 32 behind it, no bit of which is set behind those")]
+    Network(String),
     /// A word isn't there.
     #[error("a word is missing")]
     Missing,
@@ -53,10 +56,18 @@ pub enum EnvelopeFault {
     Memory,
 }
 
-impl From<AllocError> for EnvelopeFault {
+impl From<AllocError> for WordFault {
     ghost from_gives = { λ _ fault. fault ≡ envelope.Memory };
 
-    fn from(_error: AllocError) -> EnvelopeFault {
-        EnvelopeFault::Memory
+    fn from(_error: AllocError) -> WordFault {
+        WordFault::Memory
+    }
+}
+
+impl<T: Drop> From<AllocFailed<T>> for WordFault {
+    ghost from_gives = { λ _ fault. fault ≡ envelope.Memory };
+
+    fn from(_failed: AllocFailed<T>) -> WordFault {
+        WordFault::Memory
     }
 }

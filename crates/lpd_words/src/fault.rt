@@ -4,8 +4,8 @@ ghost use Rattle.std.specs.Prelude.{◌≡◌};
 ghost use Rattle.lpd_words.specs.Status.{status_of};
 ghost use Rattle.lpd_words.specs.declared.fault.Fault.TheVariants.{Memory, Run};
 
-use lpd_script::FaultName;
 use lpr_client::SendFault;
+use program_edge::FaultName;
 use std::alloc::AllocError;
 use thiserror::Error;
 

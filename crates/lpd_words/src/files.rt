@@ -17,7 +17,7 @@ use lpd_commands::{OctetRead, OctetWrite, write_all};
 use lpd_script::{read_all, run_parts};
 use std::alloc::{AllocError, Global};
 
-/// Below so many jobs that fit into the account it is said that they are few.
+/// Where fewer jobs than these fit into the account, the line says that they are few.
 const FEW: u64 = 50;
 
 /// Writes a text to the output.
@@ -45,7 +45,7 @@ pub fn read_config<I: OctetRead>(alloc: Global, input: &mut I) -> Result<Config,
     }
 }
 
-/// What is said where so many jobs are few.
+/// What is said of this number of jobs where it is few.
 fn few_text(jobs: u64) -> &'static str
     ensures { result.now ≡ few_text jobs }
 {

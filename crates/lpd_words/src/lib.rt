@@ -6,13 +6,13 @@ mod envelope;
 mod fault;
 mod files;
 mod naming;
+mod readers;
 mod running;
 mod words;
 
-pub use envelope::{Envelope, EnvelopeFault};
+pub use envelope::{Envelope, WordFault};
 pub use fault::Fault;
 pub use files::{check, read_config, replay};
-pub use lpd_script::StreamReader as FileReader;
+pub use program_edge::{Limits, Settings};
 pub use running::{Outcome, data_file, run, send, tell_unread};
-pub use server_settings::Settings;
-pub use words::{Asked, Sending, Unread, read_words, words_of};
+pub use words::{Ask, Sending, Unread, read_words, words_of};

@@ -10,7 +10,7 @@ ghost use Rattle.lpd_words.specs.Naming.{IsEnvelope, data_names, file_name, is_h
 ghost use Rattle.lpd_words.specs.Naming.{said_of, three_digits};
 ghost use Rattle.lpd_words.specs.Refused.{IsHostFault, IsWrong};
 
-use crate::envelope::{Envelope, EnvelopeFault};
+use crate::envelope::{Envelope, WordFault};
 use crate::words::Sending;
 use lpd_values::{FileNames, MAX_FILES, MAX_OPERAND, MAX_PRINTS};
 use lpr_client::{Control, FileName, Octets, is_sendable};
@@ -39,12 +39,7 @@ pub(crate) fn three_digits(number: u16) -> [u8; 3]
 }
 
 /// The name of a file of this kind, letter, job and host.
-fn file_name(
-    alloc: Global,
-    head: [u8; 3],
-    number: u16,
-    host: &[u8],
-) -> Result<FileName, EnvelopeFault>
+fn file_name(alloc: Global, head: [u8; 3], number: u16, host: &[u8]) -> Result<FileName, WordFault>
     requires head { IsTrue (is_head head) }
     requires number { number ≤ 999 }
     ensures name { IfOk result (λ name. name ≡ file_name head number host.now) }
@@ -55,17 +50,12 @@ fn file_name(
     octets.extend_from_slice(host)?;
     match FileName::read(octets.as_slice()) {
         Ok(name) => Ok(name),
-        Err(_) => Err(EnvelopeFault::Host),
+        Err(_) => Err(WordFault::Host),
     }
 }
 
-/// The names of so many data files, in order.
-fn data_names(
-    alloc: Global,
-    count: usize,
-    number: u16,
-    host: &[u8],
-) -> Result<FileNames, EnvelopeFault>
+/// The names of N data files, in order.
+fn data_names(alloc: Global, count: usize, number: u16, host: &[u8]) -> Result<FileNames, WordFault>
     requires count { count ≤ MAX_FILES }
     requires number { number ≤ 999 }
     ensures names { IfOk result (λ names. names ≡ data_names count number host.now) }
@@ -112,27 +102,27 @@ fn is_print_list(names: &FileNames) -> bool
 }
 
 /// The control file of a job.
-fn control_of(alloc: Global, sending: &Sending) -> Result<Control, EnvelopeFault>
+fn control_of(alloc: Global, sending: &Sending) -> Result<Control, WordFault>
     ensures said { IfOk result (λ control. contents control ≡ said_of sending.now) }
     ensures few { IfOk result (λ control. length control.prints ≤ MAX_FILES) }
     ensures fault { IfErr result (IsWrong sending.now) }
 {
     if sending.number > 999 {
-        return Err(EnvelopeFault::Number);
+        return Err(WordFault::Number);
     }
     if sending.files.len() > MAX_FILES {
-        return Err(EnvelopeFault::Files);
+        return Err(WordFault::Files);
     }
     let host = sending.host.as_bytes();
     let prints = data_names(alloc, sending.files.len(), sending.number, host)?;
     if !is_operand(host) {
-        return Err(EnvelopeFault::Host);
+        return Err(WordFault::Host);
     }
     if !is_operand(sending.user.as_bytes()) {
-        return Err(EnvelopeFault::User);
+        return Err(WordFault::User);
     }
     if !is_print_list(&prints) {
-        return Err(EnvelopeFault::Files);
+        return Err(WordFault::Files);
     }
     Ok(Control {
         host: Octets::copy_of(alloc, host)?,
@@ -149,7 +139,7 @@ impl Envelope {
     /// `Number` for one over 999, `Files` for none or over 52 of them, `Host` for one that isn't 1
     /// to 120 octets of words, `User` for one that isn't 1 to 255 octets without LF, `Queue` for
     /// one that isn't 1 to 1,022 octets of words, and `Memory`.
-    pub fn new(alloc: Global, sending: &Sending) -> Result<Envelope, EnvelopeFault>
+    pub fn new(alloc: Global, sending: &Sending) -> Result<Envelope, WordFault>
         ensures envelope { IfOk result (λ envelope. IsEnvelope sending.now envelope) }
         ensures fault { IfErr result (IsWrong sending.now) }
     {
@@ -157,7 +147,7 @@ impl Envelope {
         let name = file_name(alloc, *b"cfA", sending.number, sending.host.as_bytes())?;
         let queue = Octets::copy_of(alloc, sending.queue.as_bytes())?;
         if !is_sendable(alloc, &queue, &name, &control, &[])? {
-            return Err(EnvelopeFault::Queue);
+            return Err(WordFault::Queue);
         }
         Ok(Envelope {
             queue,

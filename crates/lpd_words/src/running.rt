@@ -11,6 +11,7 @@ ghost use Rattle.lpd_values.specs.Name.{is_data_name};
 ghost use Rattle.lpd_words.specs.Asked.{IsAsked};
 ghost use Rattle.lpd_words.specs.Causes.{IsFileFault, IsNetworkFault};
 ghost use Rattle.lpd_words.specs.CommandLine.{command_line};
+ghost use Rattle.lpd_words.specs.DataFiles.{AreRead};
 ghost use Rattle.lpd_words.specs.Naming.{sent_line};
 ghost use Rattle.lpd_words.specs.Order.{write_faults};
 ghost use Rattle.lpd_words.specs.Outcome.{IfEnded, IfServes};
@@ -19,7 +20,7 @@ ghost use Rattle.lpd_words.specs.Refused.{IsRefused, IsTaken};
 ghost use Rattle.lpd_words.specs.Unread.{IsUnreadStatus};
 ghost use Rattle.lpd_words.specs.declared.fault.Fault.TheVariants.{Network, Run};
 ghost use Rattle.lpd_words.specs.declared.running.Outcome.TheVariants.{Ended};
-ghost use Rattle.lpd_words.specs.declared.words.Asked.TheVariants.{Serve};
+ghost use Rattle.lpd_words.specs.declared.words.Ask.TheVariants.{Serve};
 ghost use Rattle.lpr_client.specs.Sendable.{is_sendable, is_sendable_file};
 ghost use Rattle.lpr_client.specs.declared.file.DataFile.{DataFile};
 
@@ -27,20 +28,23 @@ use crate::envelope::Envelope;
 use crate::fault::Fault;
 use crate::files::{check, print, replay};
 use crate::naming::three_digits;
-use crate::words::{Asked, Sending, Unread, read_words};
+use crate::readers::OpenReaders;
+use crate::words::{Ask, Sending, Unread, read_words};
+use log::Log;
 use lpd_commands::{OctetRead, OctetWrite, write_all};
-use lpd_script::{StreamReader, StreamWriter, read_all, run_input, tell};
+use lpd_script::{read_all, run_input};
 use lpr_client::{DataFile, FileName, Octets, send_job};
-use server_settings::Settings;
+use program_edge::{Settings, StreamReader, StreamWriter, tell, tell_cause};
 use std::alloc::{AllocError, Global};
 use std::fs::Files;
+use std::io;
 use std::net::{Ipv4Addr, Net, OpenStream, SocketAddr, TcpStream};
 
 /// The exit status where the words can't be read.
 const UNREAD: u8 = 1;
 
 /// What comes of words.
-#[derive(Clone, Copy, Debug)]
+#[derive(Debug, Drop)]
 pub enum Outcome<'a> {
     /// It was done, or a fault was told: the exit status.
     Ended(u8),
@@ -89,9 +93,35 @@ pub fn data_file<F: OctetRead>(
     })
 }
 
+/// Reads the data file of this name, as `data_file` does. The log is told why the file at this path is
+/// none to be sent.
+fn data_file_at<R: OpenReaders>(
+    alloc: Global,
+    files: &R,
+    name: FileName,
+    path: &str,
+    file: &mut R::Reader,
+) -> Result<DataFile, Fault>
+    ensures ok { IfOk result (λ read. (read.name ≡ name)
+        × HasGivenAll (R.Reader.left file.old) (R.Reader.left file.new) read.octets × (0 < length read.octets)) }
+    ensures read_fault { R.Reader.faults file.new ≢ R.Reader.faults file.old → result ≡ Err (Run ReadFile) }
+    ensures empty { R.Reader.left file.old ≡ Some [] → IsErr result }
+    // A file is refused only where reading it failed, or it has no octets.
+    ensures cause { result ≡ Err (Run ReadFile) →
+        IsUnread (R.Reader.faults file.old) (R.Reader.faults file.new) (R.Reader.left file.old) (R.Reader.left file.new)
+        ⊎ HasGivenAll (R.Reader.left file.old) (R.Reader.left file.new) [] }
+    ensures fault { IfErr result IsFileFault }
+{
+    let read = data_file(alloc, name, file);
+    if let Err(Fault::Run(lpd_script::Fault::ReadFile)) = &read {
+        files.tell_why(path, file);
+    }
+    read
+}
+
 /// The data files of these names, read from the files at these paths, in order. Answers as
-/// `data_file` does.
-fn data_files<R: Files>(
+/// `data_file_at` does.
+fn data_files<R: OpenReaders>(
     alloc: Global,
     files: &R,
     names: &[FileName],
@@ -102,33 +132,49 @@ fn data_files<R: Files>(
         × (length read.items ≤ length names.now)) }
     ensures named { IfOk result (λ read. map (λ (file : DataFile). file.name) read.items
         ≡ take (length paths.now) names.now) }
+    ensures whole { IfOk result (λ read. AreRead (R.contents files.now)
+        (map (λ path. path.now) paths.now) read.items) }
     ensures fault { IfErr result IsFileFault }
 {
     let mut read = Vec::new(alloc);
     for (name, path) in names.iter().zip(paths.iter()) {
-        let mut file = StreamReader::open(files, path);
-        if read.push(data_file(alloc, *name, &mut file)?).is_err() {
+        let mut file = files.open_reader(path);
+        if read
+            .push(data_file_at(alloc, files, *name, path, &mut file)?)
+            .is_err()
+        {
             return Err(Fault::Memory);
         }
     }
     Ok(read)
 }
 
-/// Two ends of a connection to this port of 127.0.0.1.
-fn connect<R: Net>(net: &R, port: u16) -> Result<(R::Stream, R::Stream), Fault>
-    ensures { IfErr result (λ fault. fault ≡ Network) }
-{
-    let address = SocketAddr::from((Ipv4Addr::LOCALHOST, port));
-    let stream = TcpStream::connect(net, address).or(Err(Fault::Network))?;
-    let again = stream.try_clone().or(Err(Fault::Network))?;
+/// Two ends of a connection to this address.
+fn both_ends<R: Net>(rt: &R, address: SocketAddr) -> io::Result<(R::Stream, R::Stream)> {
+    let stream = TcpStream::connect(rt, address)?;
+    let again = stream.try_clone()?;
     Ok((stream, again))
 }
 
+/// Two ends of a connection to this address. Answers `Network` where it can't be reached; the log
+/// is told why.
+fn connect<R: Net + Log>(rt: &R, address: SocketAddr) -> Result<(R::Stream, R::Stream), Fault>
+    ensures { IfErr result (λ fault. fault ≡ Network) }
+{
+    match both_ends(rt, address) {
+        Ok(ends) => Ok(ends),
+        Err(error) => {
+            tell_cause(rt, &address, Some(error));
+            Err(Fault::Network)
+        }
+    }
+}
+
 /// Sends a job to the server at this port of 127.0.0.1. Answers `Network` where it can't be
-/// reached, and the faults of `send_job`.
-pub fn send<R: Net>(
+/// reached, and the faults of `send_job`. The log is told why the connection failed.
+pub fn send<R: Net + Log>(
     alloc: Global,
-    net: &R,
+    rt: &R,
     port: u16,
     envelope: &Envelope,
     files: &[DataFile],
@@ -137,15 +183,17 @@ pub fn send<R: Net>(
         files.now) }
     ensures { IfErr result IsNetworkFault }
 {
-    let (reader, writer) = connect(net, port)?;
+    let address = SocketAddr::from((Ipv4Addr::LOCALHOST, port));
+    let (reader, writer) = connect(rt, address)?;
     let (mut reader, mut writer) = (StreamReader::new(reader), StreamWriter::new(writer));
     let (queue, name, control) = (&envelope.queue, &envelope.name, &envelope.control);
     let sent = send_job(alloc, &mut reader, &mut writer, queue, name, control, files);
+    tell_cause(rt, &address, reader.cause().or(writer.cause()));
     sent.map_err(Fault::Send)
 }
 
 /// Reads a job's files, sends it, and says so.
-fn send_files<R: Files + Net, W: OctetWrite>(
+fn send_files<R: Files + Net + Log, W: OctetWrite>(
     alloc: Global,
     rt: &R,
     sending: &Sending,
@@ -163,26 +211,60 @@ fn send_files<R: Files + Net, W: OctetWrite>(
     print(output, line.as_slice())
 }
 
-/// Does what is asked for, but for what the standard input asks and for serving.
-fn run_asked<R: Files + Net, W: OctetWrite>(
+/// Checks the configuration at this path. The log is told why it can't be read.
+fn check_file<R: Files + Log, W: OctetWrite>(
     alloc: Global,
     rt: &R,
-    asked: Asked,
+    config: &str,
+    sizes: bool,
     output: &mut W,
 ) -> Result<(), Fault>
     ensures write_fault { W.faults output.new ≡ write_faults (W.faults output.old) result }
 {
-    match asked {
-        Asked::Input | Asked::Serve { .. } => Ok(()),
-        Asked::Check { config, sizes } => {
-            check(alloc, &mut StreamReader::open(rt, config), sizes, output)
+    let mut file = StreamReader::open(rt, config);
+    let end = check(alloc, &mut file, sizes, output);
+    tell_cause(rt, &config, file.cause());
+    end
+}
+
+/// Runs the script at a path on the spool that the configuration at a path gives. The log is told
+/// which of the two can't be read first, and why.
+fn replay_files<R: Files + Log, W: OctetWrite>(
+    alloc: Global,
+    rt: &R,
+    config: &str,
+    script: &str,
+    output: &mut W,
+) -> Result<(), Fault>
+    ensures write_fault { W.faults output.new ≡ write_faults (W.faults output.old) result }
+{
+    let mut config_file = StreamReader::open(rt, config);
+    let mut script_file = StreamReader::open(rt, script);
+    let end = replay(alloc, &mut config_file, &mut script_file, output);
+    if let Err(Fault::Run(lpd_script::Fault::ReadFile)) = &end {
+        // The configuration is read first: where that failed the script wasn't read.
+        match config_file.cause() {
+            None => tell_cause(rt, &script, script_file.cause()),
+            cause => tell_cause(rt, &config, cause),
         }
-        Asked::Replay { config, script } => {
-            let mut config = StreamReader::open(rt, config);
-            let mut script = StreamReader::open(rt, script);
-            replay(alloc, &mut config, &mut script, output)
-        }
-        Asked::Send { sending, envelope } => send_files(alloc, rt, &sending, &envelope, output),
+    }
+    end
+}
+
+/// Does what is asked for, but for what the standard input asks and for serving.
+fn run_asked<R: Files + Net + Log, W: OctetWrite>(
+    alloc: Global,
+    rt: &R,
+    ask: Ask,
+    output: &mut W,
+) -> Result<(), Fault>
+    ensures write_fault { W.faults output.new ≡ write_faults (W.faults output.old) result }
+{
+    match ask {
+        Ask::Input | Ask::Serve { .. } => Ok(()),
+        Ask::Check { config, sizes } => check_file(alloc, rt, config, sizes, output),
+        Ask::Replay { config, script } => replay_files(alloc, rt, config, script, output),
+        Ask::Send { sending, envelope } => send_files(alloc, rt, &sending, &envelope, output),
     }
 }
 
@@ -205,15 +287,15 @@ fn ended<E: OctetWrite>(alloc: Global, end: Result<(), Fault>, faults: &mut E) -
 /// is done yet. Otherwise `Ended` has the exit status: 0 where it was done, or help or the version
 /// was asked for and printed; 1 where the words can't be read, which `faults` is told; otherwise
 /// that of the fault, which is told there in one line. Faults are looked for in this order: the
-/// words, files read, the configuration, the network.
-pub fn run<'a, R: Files + Net, I: OctetRead, W: OctetWrite, E: OctetWrite>(
-    alloc: Global,
-    rt: &R,
-    words: &'a [String],
-    input: &mut I,
-    output: &mut W,
-    faults: &mut E,
-) -> Outcome<'a>
+/// words, files read, the configuration, the network. Before a fault for a file or the network the
+/// log is told at INFO which file or address it is about, and why.
+pub fn run<
+    'a,
+    R: Files + Net + Log + Alloc<A = Global>,
+    I: OctetRead,
+    W: OctetWrite,
+    E: OctetWrite,
+>(rt: &R, words: &'a [String], input: &mut I, output: &mut W, faults: &mut E) -> Outcome<'a>
     ensures status { IfEnded result (λ status. status ≤ 5) }
     ensures taken { result ≡ Ended 0 → IsTaken (map string_bytes words.entry.now) }
     ensures refused { result ≡ Ended 1 → IsRefused (map string_bytes words.entry.now) }
@@ -236,19 +318,20 @@ pub fn run<'a, R: Files + Net, I: OctetRead, W: OctetWrite, E: OctetWrite>(
     ensures serve_faults { IfServes result (λ _ _. IsUntouched
         (E.written faults.old) (E.faults faults.old) (E.written faults.new) (E.faults faults.new)) }
 {
+    let alloc = rt.alloc();
     match read_words(alloc, words) {
-        Ok(Asked::Input) => Outcome::Ended(run_input(alloc, input, output, faults)),
-        Ok(Asked::Serve { config, settings }) => Outcome::Serve { config, settings },
-        Ok(asked) => {
-            let end = run_asked(alloc, rt, asked, output);
+        Ok(Ask::Input) => Outcome::Ended(run_input(alloc, input, output, faults)),
+        Ok(Ask::Serve { config, settings }) => Outcome::Serve { config, settings },
+        Ok(ask) => {
+            let end = run_asked(alloc, rt, ask, output);
             Outcome::Ended(ended(alloc, end, faults))
         }
         Err(unread) => Outcome::Ended(tell_unread(alloc, unread, output, faults)),
     }
 }
 
-/// Prints the text that words asked for, or tells why they can't be read. What is answered is the
-/// exit status: 0, 1, or 4 for memory and where the text can't be written.
+/// Prints the text that words asked for, or tells why they can't be read. Answers the exit status:
+/// 0, 1, or 4 for memory and where the text can't be written.
 pub fn tell_unread<W: OctetWrite, E: OctetWrite>(
     alloc: Global,
     unread: Unread,

@@ -1,27 +1,31 @@
 //! What the words ask for.
 
 ghost use Rattle.std.specs.Prelude.{◌≡◌, [], IfOk, IfErr, None, Some, codes, map, string_bytes};
-ghost use Rattle.std.specs.Prelude.{unwrap_or};
+ghost use Rattle.std.specs.Prelude.{option_map, unwrap_or};
+ghost use Rattle.std.specs.Int.NonZero.{non_zero_u64_get};
 ghost use Rattle.clap.specs.Words.{all_of, fault_of, first_of, found_of, kind_of, rows_of};
 ghost use Rattle.clap.specs.Words.{subcommand_of, subcommand_rows_of};
-ghost use Rattle.lpd_words.specs.Asked.{HasNoNumber, IsAddress, IsAsked, IsAskedBy, IsFlag, IsGiven};
-ghost use Rattle.lpd_words.specs.Asked.{IsGivenOr, IsNumber, IsSending, IsServing};
+ghost use Rattle.lpd_words.specs.Asked.{AreAllowed, AreLimits, HasNoNumber, IsAddress, IsAsked, IsAskedBy};
+ghost use Rattle.lpd_words.specs.Asked.{IsFlag, IsGiven, IsGivenOr, IsLimit, IsNumber, IsSending};
+ghost use Rattle.lpd_words.specs.Asked.{IsServing};
 ghost use Rattle.lpd_words.specs.CommandLine.{command_line};
-ghost use Rattle.lpd_words.specs.Refused.{AsksNothing, HasNoAddress, HasNoCount, HasNoSessions};
+ghost use Rattle.lpd_words.specs.Refused.{AsksNothing, HasNoAddress, HasNoCount, HasNoLimit};
+ghost use Rattle.lpd_words.specs.Refused.{HasNoLimits, HasNoNetworks, HasNoSessions};
 ghost use Rattle.lpd_words.specs.Refused.{HasNoWords, IsUnread, IsUnreadBy, IsUnreadFor};
 ghost use Rattle.lpd_words.specs.Refused.{LacksServing, LacksWords};
-ghost use Rattle.lpd_words.specs.declared.envelope.EnvelopeFault.TheVariants.{Address, Missing};
+ghost use Rattle.lpd_words.specs.declared.envelope.WordFault.TheVariants.{Address, Missing};
 ghost use Rattle.lpd_words.specs.declared.words.Unread.TheVariants.{Memory};
 
 use crate::command::command;
-use crate::envelope::{Envelope, EnvelopeFault};
+use crate::envelope::{Envelope, WordFault};
 use clap::error::ErrorKind;
 use clap::{ArgMatches, Command, Error};
-use server_settings::Settings;
+use program_edge::{Limits, NO_JOB_SECONDS, Network, Settings};
 use std::alloc::{AllocError, Global};
 use std::env::Env;
 use std::io;
 use std::net::Ipv4Addr;
+use std::num::NonZeroU64;
 
 /// How many connections are served at once where the words don't say it.
 const SESSIONS: u32 = 8;
@@ -51,7 +55,7 @@ pub struct Sending<'a> {
 
 /// What the words ask for.
 #[derive(Debug, Drop)]
-pub enum Asked<'a> {
+pub enum Ask<'a> {
     /// No word: to run what the standard input has.
     Input,
     /// To read the configuration at this path.
@@ -111,32 +115,32 @@ fn why_unread(alloc: Global, error: &Error) -> Unread
 }
 
 /// The text of a word, which has to be there.
-fn text_of<'a>(matches: &ArgMatches<'a>, id: &str) -> Result<&'a str, EnvelopeFault>
+fn text_of<'a>(matches: &ArgMatches<'a>, id: &str) -> Result<&'a str, WordFault>
     ensures text { IfOk result (λ text.
         first_of id.now (rows_of (found_of matches.now)) ≡ Some text.now) }
     ensures fault { IfErr result (λ fault. (fault ≡ Missing)
         × (first_of id.now (rows_of (found_of matches.now)) ≡ None)) }
 {
-    matches.get_str(id).ok_or(EnvelopeFault::Missing)
+    matches.get_str(id).ok_or(WordFault::Missing)
 }
 
 /// The texts of a word that may stand several times, and has to be there.
-fn texts_of<'a, 'm>(matches: &'m ArgMatches<'a>, id: &str) -> Result<&'m [&'a str], EnvelopeFault>
+fn texts_of<'a, 'm>(matches: &'m ArgMatches<'a>, id: &str) -> Result<&'m [&'a str], WordFault>
     ensures texts { IfOk result (λ texts.
         all_of id.now (rows_of (found_of matches.now)) ≡ Some (map (λ text. text.now) texts.now)) }
     ensures fault { IfErr result (λ fault. (fault ≡ Missing)
         × (all_of id.now (rows_of (found_of matches.now)) ≡ None)) }
 {
-    matches.get_strs(id).ok_or(EnvelopeFault::Missing)
+    matches.get_strs(id).ok_or(WordFault::Missing)
 }
 
 /// The number that a word is, which has to be there.
-fn number_of(matches: &ArgMatches, id: &str) -> Result<u16, EnvelopeFault>
+fn number_of(matches: &ArgMatches, id: &str) -> Result<u16, WordFault>
     ensures number { IfOk result (IsNumber (rows_of (found_of matches.now)) id.now) }
     ensures fault { IfErr result (λ fault. (fault ≡ Missing)
         × HasNoNumber (rows_of (found_of matches.now)) id.now) }
 {
-    matches.get_one::<u16>(id).ok_or(EnvelopeFault::Missing)
+    matches.get_one::<u16>(id).ok_or(WordFault::Missing)
 }
 
 /// Whether an option without a value is there.
@@ -154,31 +158,31 @@ fn text_or<'a>(matches: &ArgMatches<'a>, id: &str, other: &'a str) -> &'a str
 }
 
 /// The address to listen on. `Address` where the text isn't one.
-fn address_of(matches: &ArgMatches) -> Result<Ipv4Addr, EnvelopeFault>
+fn address_of(matches: &ArgMatches) -> Result<Ipv4Addr, WordFault>
     ensures address { IfOk result (IsAddress (rows_of (found_of matches.now))) }
     ensures fault { IfErr result (λ fault. (fault ≡ Address)
         × HasNoAddress (rows_of (found_of matches.now))) }
 {
     match text_or(matches, "bind", BIND).parse() {
         Ok(address) => Ok(address),
-        Err(_) => Err(EnvelopeFault::Address),
+        Err(_) => Err(WordFault::Address),
     }
 }
 
 /// The number that an option is, if it is there. `Missing` where it is no number.
-fn count_of(matches: &ArgMatches, id: &str) -> Result<Option<u64>, EnvelopeFault>
+fn count_of(matches: &ArgMatches, id: &str) -> Result<Option<u64>, WordFault>
     ensures count { IfOk result (IsGiven 64 (rows_of (found_of matches.now)) id.now) }
     ensures fault { IfErr result (λ fault. (fault ≡ Missing)
         × HasNoCount (rows_of (found_of matches.now)) id.now) }
 {
     match matches.try_get_one::<u64>(id) {
         Ok(count) => Ok(count),
-        Err(_) => Err(EnvelopeFault::Missing),
+        Err(_) => Err(WordFault::Missing),
     }
 }
 
 /// How many connections are served at once. `Missing` where the option is no number.
-fn sessions_of(matches: &ArgMatches) -> Result<u32, EnvelopeFault>
+fn sessions_of(matches: &ArgMatches) -> Result<u32, WordFault>
     ensures sessions { IfOk result
         (IsGivenOr 8 (rows_of (found_of matches.now)) (codes "sessions")) }
     ensures fault { IfErr result (λ fault. (fault ≡ Missing)
@@ -186,12 +190,60 @@ fn sessions_of(matches: &ArgMatches) -> Result<u32, EnvelopeFault>
 {
     match matches.try_get_one::<u32>("sessions") {
         Ok(sessions) => Ok(sessions.unwrap_or(SESSIONS)),
-        Err(_) => Err(EnvelopeFault::Missing),
+        Err(_) => Err(WordFault::Missing),
     }
 }
 
+/// The number above 0 that an option is, if it is there. `Missing` where it is no such number.
+fn limit_of(matches: &ArgMatches, id: &str) -> Result<Option<NonZeroU64>, WordFault>
+    ensures limit { IfOk result (λ limit.
+        IsLimit (rows_of (found_of matches.now)) id.now (option_map non_zero_u64_get limit)) }
+    ensures fault { IfErr result (λ fault. (fault ≡ Missing)
+        × HasNoLimit (rows_of (found_of matches.now)) id.now) }
+{
+    match count_of(matches, id) {
+        Ok(None) => Ok(None),
+        Ok(Some(0)) => Err(WordFault::Missing),
+        Ok(Some(limit)) => Ok(NonZeroU64::new(limit)),
+        Err(fault) => Err(fault),
+    }
+}
+
+/// What words say of a server's peers. `Missing` where an option is no number above 0.
+fn limits_of(matches: &ArgMatches) -> Result<Limits, WordFault>
+    ensures limits { IfOk result (AreLimits (rows_of (found_of matches.now))) }
+    ensures fault { IfErr result (λ fault. (fault ≡ Missing)
+        × HasNoLimits (rows_of (found_of matches.now))) }
+{
+    Ok(Limits {
+        silence: limit_of(matches, "silence")?,
+        per_host: limit_of(matches, "per-host")?,
+        slowest: limit_of(matches, "slowest")?,
+        no_job_seconds: NO_JOB_SECONDS,
+    })
+}
+
+/// The networks that are let in. `Network` with the first text that names none, and `Memory`.
+fn networks_of(alloc: Global, matches: &ArgMatches) -> Result<Vec<Network>, WordFault>
+    ensures networks { IfOk result (λ networks.
+        AreAllowed (rows_of (found_of matches.now)) networks.items) }
+    ensures fault { IfErr result (HasNoNetworks (rows_of (found_of matches.now))) }
+{
+    let mut networks = Vec::new(alloc);
+    let Ok(texts) = texts_of(matches, "allow") else {
+        return Ok(networks);
+    };
+    for text in texts {
+        match Network::read(text) {
+            Some(network) => networks.push(network)?,
+            None => return Err(WordFault::Network(String::from_str(alloc, text)?)),
+        }
+    }
+    Ok(networks)
+}
+
 /// What words say of a server that is to run.
-fn serving_of<'a>(matches: &ArgMatches<'a>) -> Result<Settings<'a>, EnvelopeFault>
+fn serving_of<'a>(alloc: Global, matches: &ArgMatches<'a>) -> Result<Settings<'a>, WordFault>
     ensures read { IfOk result (IsServing (rows_of (found_of matches.now))) }
     ensures fault { IfErr result (LacksServing (rows_of (found_of matches.now))) }
 {
@@ -201,16 +253,15 @@ fn serving_of<'a>(matches: &ArgMatches<'a>) -> Result<Settings<'a>, EnvelopeFaul
         out: text_or(matches, "out", OUT),
         sessions: sessions_of(matches)?,
         connections: count_of(matches, "connections")?,
-        rotate: count_of(matches, "rotate")?,
-        silence: count_of(matches, "silence")?,
-        per_host: count_of(matches, "per-host")?,
-        slowest: count_of(matches, "slowest")?,
+        rotate: limit_of(matches, "rotate")?,
         keep_room: flag_of(matches, "keep-room"),
+        limits: limits_of(matches)?,
+        allowed: networks_of(alloc, matches)?,
     })
 }
 
 /// What words say of a job that is to be sent.
-fn sending_of<'a>(alloc: Global, matches: &ArgMatches<'a>) -> Result<Sending<'a>, EnvelopeFault>
+fn sending_of<'a>(alloc: Global, matches: &ArgMatches<'a>) -> Result<Sending<'a>, WordFault>
     ensures read { IfOk result (IsSending (rows_of (found_of matches.now))) }
     ensures fault { IfErr result (LacksWords (rows_of (found_of matches.now))) }
 {
@@ -231,11 +282,7 @@ fn sending_of<'a>(alloc: Global, matches: &ArgMatches<'a>) -> Result<Sending<'a>
 }
 
 /// What a command and its words ask for.
-fn asked_by<'a>(
-    alloc: Global,
-    name: &str,
-    matches: &ArgMatches<'a>,
-) -> Result<Asked<'a>, EnvelopeFault>
+fn asked_by<'a>(alloc: Global, name: &str, matches: &ArgMatches<'a>) -> Result<Ask<'a>, WordFault>
     ensures asked { IfOk result (IsAskedBy name.now (rows_of (found_of matches.now))) }
     ensures fault { IfErr result (AsksNothing (Some (name.now, rows_of (found_of matches.now)))) }
 {
@@ -243,47 +290,43 @@ fn asked_by<'a>(
         "check" => {
             let config = text_of(matches, "config")?;
             let sizes = flag_of(matches, "sizes");
-            Ok(Asked::Check { config, sizes })
+            Ok(Ask::Check { config, sizes })
         }
         "replay" => {
             let config = text_of(matches, "config")?;
             let script = text_of(matches, "script")?;
-            Ok(Asked::Replay { config, script })
+            Ok(Ask::Replay { config, script })
         }
         "send" => {
             let sending = sending_of(alloc, matches)?;
             let envelope = Envelope::new(alloc, &sending)?;
-            Ok(Asked::Send { sending, envelope })
+            Ok(Ask::Send { sending, envelope })
         }
         "serve" => {
             let config = text_of(matches, "config")?;
-            let settings = serving_of(matches)?;
-            Ok(Asked::Serve { config, settings })
+            let settings = serving_of(alloc, matches)?;
+            Ok(Ask::Serve { config, settings })
         }
-        _ => Err(EnvelopeFault::Missing),
+        _ => Err(WordFault::Missing),
     }
 }
 
 /// What a parse of the words asks for.
-fn asked_of<'a>(alloc: Global, matches: &ArgMatches<'a>) -> Result<Asked<'a>, EnvelopeFault>
+fn asked_of<'a>(alloc: Global, matches: &ArgMatches<'a>) -> Result<Ask<'a>, WordFault>
     ensures asked { IfOk result (IsAsked (subcommand_rows_of matches.now)) }
     ensures fault { IfErr result (AsksNothing (subcommand_rows_of matches.now)) }
 {
     match matches.subcommand() {
         Some((name, inner)) => asked_by(alloc, name, inner),
-        None => Ok(Asked::Input),
+        None => Ok(Ask::Input),
     }
 }
 
 /// Why words that `clap` reads ask for nothing, with the text for the user.
-fn why_nothing(
-    alloc: Global,
-    command: &mut Command,
-    fault: EnvelopeFault,
-) -> Result<Unread, AllocError>
+fn why_nothing(alloc: Global, command: &mut Command, fault: WordFault) -> Result<Unread, AllocError>
     ensures { IfOk result (IsUnreadFor fault) }
 {
-    if let EnvelopeFault::Memory = fault {
+    if let WordFault::Memory = fault {
         return Ok(Unread::Memory);
     }
     let why = format!(in alloc; "{fault}")?;
@@ -293,7 +336,7 @@ fn why_nothing(
 
 /// Reads the words, of which the first is the program's name. `Shown` has the text of `--help` or
 /// `--version` where they ask for that, `Refused` what is wrong and how the program is used.
-pub fn read_words<'a>(alloc: Global, words: &'a [String]) -> Result<Asked<'a>, Unread>
+pub fn read_words<'a>(alloc: Global, words: &'a [String]) -> Result<Ask<'a>, Unread>
     ensures asked { IfOk result (IsAsked
         (subcommand_of command_line (map string_bytes words.entry.now))) }
     ensures taken { IfOk result (λ _.

@@ -1,13 +1,18 @@
-use Rattle.std.proofs.Common.{◌≡◌, ◌≤◌, ◌+◌, ◌++◌, ℕ, List, length, map, take, IsTrue}
+use Rattle.std.proofs.Common.{◌≡◌, ◌≤◌, ◌+◌, ◌++◌, ℕ, Bor, List, length, map, take, IsTrue}
 use Rattle.std.specs.List.{list_all}
 use Rattle.lpd_values.specs.Name.{is_data_name}
 use Rattle.lpr_client.specs.declared.file.DataFile.{DataFile}
 use Rattle.lpr_client.specs.Sendable.{is_sendable_file}
+use Rattle.lpd_words.proofs.DataFileLemmas.{Continues}
 use Rattle.lpd_words.proofs.running.data_files.Given as goal
 
 -- the names of these files
 abbrev pub names : List DataFile → List (List ℕ)
 names files = map (λ (file : DataFile). file.name) files
+
+-- these paths
+abbrev pub texts : List (Bor (List ℕ)) → List (List ℕ)
+texts paths = map (λ (path : Bor (List ℕ)). path.now) paths
 
 abbrev pub invariant-loop-name : goal.invariant-loop-name
 invariant-loop-name g l = record {
@@ -15,4 +20,5 @@ invariant-loop-name g l = record {
   named : IsTrue (list_all is_data_name l.name-iterator.a.rest.now);
   fewer : length l.read.items + length l.name-iterator.a.rest.now ≤ length l.fn.names;
   told : names l.read.items ++ take (length l.name-iterator.b.rest.now) l.name-iterator.a.rest.now ≡ take (length l.fn.paths) l.fn.names;
+  whole : Continues (g.R.OpenReaders.contents l.fn.files) (texts l.fn.paths) (texts l.name-iterator.b.rest.now) l.read.items;
 }
