@@ -6,7 +6,7 @@ use Rattle.lpd_commands.proofs.Writing.{Writes-append, Writes-none}
 use Rattle.lpd_daemon.specs.Faults.{IsRunningFault, write_faults}
 use Rattle.lpd_daemon.specs.Lines.{TellsRotations, WritesAll, WritesRotations, line_octets, rotation_octets}
 use Rattle.lpd_daemon.specs.declared.faults.Fault.{Fault}
-use Rattle.lpd_daemon.specs.declared.lines.Line.TheVariants.{Closed, Listening, Rotated}
+use Rattle.lpd_daemon.specs.declared.lines.PrintedLine.TheVariants.{Closed, Listening, Rotated}
 
 pub rotation_octets-append : (a b : List (ℕ × ℕ)) → rotation_octets (a ++ b) ≡ rotation_octets a ++ rotation_octets b
 rotation_octets-append [] b = refl

@@ -5,15 +5,15 @@ use Rattle.lpd_commands.specs.Ends.{Writes}
 use Rattle.lpd_daemon.specs.Faults.{IsRunningFault, write_faults}
 use Rattle.lpd_daemon.specs.declared.faults.Fault.{Fault}
 use Rattle.lpd_daemon.specs.declared.faults.Fault.TheVariants.{Network, PrinterFile}
-use Rattle.lpd_daemon.specs.declared.lines.Line.{Line}
-use Rattle.lpd_daemon.specs.declared.lines.Line.TheVariants.{Closed, Listening, Rotated}
+use Rattle.lpd_daemon.specs.declared.lines.PrintedLine.{PrintedLine}
+use Rattle.lpd_daemon.specs.declared.lines.PrintedLine.TheVariants.{Closed, Listening, Rotated}
 
-abbrev pub line_text : Line → List ℕ
+abbrev pub line_text : PrintedLine → List ℕ
 line_text (Listening port) = codes "listening " ++ decimal port
 line_text (Rotated number entries) = codes "rotated " ++ decimal number ++ codes " entries " ++ decimal entries
 line_text (Closed entries) = codes "closed entries " ++ decimal entries
 
-abbrev pub line_octets : Line → List ℕ
+abbrev pub line_octets : PrintedLine → List ℕ
 line_octets line = line_text line ++ 10 ∷ []
 
 -- the lines of rotations: the number and the entries of each segment, in order

@@ -3,14 +3,14 @@
 ghost use Rattle.std.specs.Prelude.{◌≡◌, option_map};
 ghost use Rattle.lpd_daemon.specs.Ends.{failure_text};
 
-use crate::posts::Posts;
+use crate::house::House;
 use log::{Log, warn};
-use lpd_script::{StreamReader, StreamWriter};
-use mio::Waker;
-use server_edge::{Desk, Served, Visit, keep_asking};
-use session::{SessionEnd, SessionSeat, SharedSpool};
+use lpd_commands::{OctetRead, OctetWrite};
+use program_edge::{StreamReader, StreamWriter};
+use request_session::{Input, Requests, serve_with};
+use server_edge::{Serves, Visit, keep_asking, send_in_pieces};
+use session::{Seated, SessionEnd, SessionSeat};
 use shared_spool::SpoolLedger;
-use std::alloc::Global;
 use std::fmt::Display;
 use std::io;
 use std::io::Read;
@@ -26,53 +26,25 @@ const PIECE: usize = 4_096;
 /// How many octets that come after the end of a session are passed over, at most.
 const MOST_PASSED: usize = 1 << 20;
 
-/// For how many seconds octets that come after the end of a session are passed over, at most.
-const LEAVE: u64 = 5;
+/// The longest time that octets after the end of a session are passed over, in seconds.
+const LEAVE_SECONDS: u64 = 5;
 
-/// How many seconds the peer is waited for at each of these reads.
-const PATIENCE: u64 = 1;
+/// The longest time that each of these reads waits for the peer, in seconds.
+const PATIENCE_SECONDS: u64 = 1;
 
-/// For how many seconds the peer of a connection that brings no job may be silent, or not read,
-/// where a session serves such ones alone.
-const QUESTION: u64 = 5;
+/// How many octets the system keeps of an answer that its peer hasn't read, where a session serves
+/// no jobs: few, so that each write comes to its end while the peer reads, and the limit of a write
+/// leaves those alone that don't.
+const UNREAD_OCTETS: u32 = 65_536;
 
-/// After how many seconds of silence the system asks a peer whether it is there.
-const KEEPALIVE: u8 = 30;
-
-/// Where sessions get their connections, and what they do with them.
-#[derive(Clone, Copy)]
-pub(crate) struct Front<'a> {
-    pub(crate) desk: &'a Desk,
-    pub(crate) waker: &'a Waker,
-    pub(crate) posts: &'a Posts,
-    pub(crate) served: Served,
-    /// For how many seconds a peer may be silent, or not read. At 0 for any time.
-    pub(crate) silence: u64,
-    /// How many octets a second a peer has to send.
-    pub(crate) slowest: u64,
-}
-
-impl Front<'_> {
-    /// Has octets sent at once and peers asked whether they are there, and limits how long a peer
-    /// may be silent or not read.
-    fn set_up(&self, stream: &TcpStream) -> io::Result<()> {
-        stream.set_nodelay(true)?;
-        keep_asking(stream, KEEPALIVE);
-        let limit = match self.served {
-            Served::All if self.silence == 0 => None,
-            Served::All => Some(Duration::from_secs(self.silence)),
-            Served::Questions => Some(Duration::from_secs(QUESTION)),
-        };
-        stream.set_read_timeout(limit)?;
-        stream.set_write_timeout(limit)
-    }
-}
+/// The silence after which the system asks a peer whether it is there, in seconds.
+const KEEPALIVE_SECONDS: u8 = 30;
 
 /// Ends what is sent, and passes over what the peer still sends, for a while: a connection that is
 /// closed with octets unread may take the last answer away from its peer.
 fn take_leave<R: Clock>(rt: &R, stream: &TcpStream) -> io::Result<()> {
     stream.shutdown(Shutdown::Write)?;
-    stream.set_read_timeout(Some(Duration::from_secs(PATIENCE)))?;
+    stream.set_read_timeout(Some(Duration::from_secs(PATIENCE_SECONDS)))?;
     let start = Instant::now(rt)?;
     let mut passed_over = [0u8; PIECE];
     let mut stream = stream;
@@ -80,7 +52,7 @@ fn take_leave<R: Clock>(rt: &R, stream: &TcpStream) -> io::Result<()> {
     for _ in 0..MOST_PASSED {
         let count = stream.read(&mut passed_over)?;
         passed = passed.saturating_add(count);
-        if count == 0 || passed >= MOST_PASSED || start.elapsed(rt)?.as_secs() >= LEAVE {
+        if count == 0 || passed >= MOST_PASSED || start.elapsed(rt)?.as_secs() >= LEAVE_SECONDS {
             break;
         }
     }
@@ -105,62 +77,101 @@ fn failure_of(end: SessionEnd) -> Option<&'static str>
     }
 }
 
-/// Serves a connection.
-fn answer<E: SpoolLedger, K: Ledger, H: Ledger, R: Clock + Wait + Log>(
-    rt: &R,
-    alloc: Global,
-    spool: &SharedSpool<E, K, H>,
-    seat: SessionSeat<E, K, H>,
-    visit: &Visit,
-    front: Front<'_>,
-) -> SessionSeat<E, K, H> {
-    if let Err(error) = front.set_up(&visit.stream) {
-        complain(rt, visit.peer, &error);
-        return seat;
-    }
-    let stream = &visit.stream;
-    let number = seat.number();
-    let meter = front.posts.begin(rt, number, stream, front.slowest);
-    let mut reader = StreamReader::new(meter);
-    let mut writer = StreamWriter::new(stream);
-    let (seat, end) = session::serve(
-        rt,
-        alloc,
-        spool,
-        seat,
-        visit.host(),
-        &mut reader,
-        &mut writer,
-    );
-    front.posts.end(rt, number);
-    if let SessionEnd::Refused(refusal) = end {
-        complain(rt, visit.peer, &refusal);
-    }
-    if let Some(why) = failure_of(end) {
-        complain(rt, visit.peer, &why);
-    }
-    if matches!(end, SessionEnd::Finished | SessionEnd::Refused(_)) {
-        // A peer that is gone already has lost nothing.
-        let _ = take_leave(rt, stream);
-    }
-    seat
-}
-
-/// Serves connections, one after another, until no more can come.
-pub(crate) fn answer_all<E: SpoolLedger, K: Ledger, H: Ledger, R: Clock + Wait + Log>(
-    rt: &R,
-    alloc: Global,
-    spool: &SharedSpool<E, K, H>,
-    seat: SessionSeat<E, K, H>,
-    front: Front<'_>,
-) -> SessionSeat<E, K, H> {
-    let mut seat = seat;
-    for _ in rt.forever() {
-        let Some(visit) = front.desk.take(rt, front.served, front.waker) else {
-            break;
+impl<R: Clock + Wait + Log, E: SpoolLedger, K: Ledger, H: Ledger> House<'_, R, E, K, H> {
+    /// Has octets sent at once and peers asked whether they are there, and limits how long a peer
+    /// may be silent or not read.
+    fn set_up(&self, stream: &TcpStream, serves: Serves) -> io::Result<()> {
+        stream.set_nodelay(true)?;
+        keep_asking(stream, KEEPALIVE_SECONDS);
+        let limit = match serves {
+            Serves::All => self
+                .limits
+                .silence
+                .map(|silence| Duration::from_secs(silence.get())),
+            Serves::NoJobs => {
+                send_in_pieces(stream, UNREAD_OCTETS);
+                Some(Duration::from_secs(self.limits.no_job_seconds.max(1)))
+            }
         };
-        seat = answer(rt, alloc, spool, seat, &visit, front);
-        front.desk.leave(rt, front.served, visit);
+        stream.set_read_timeout(limit)?;
+        stream.set_write_timeout(limit)
     }
-    seat
+
+    /// Serves a session over the input of its thread, which is made where it isn't there yet;
+    /// `requests` carries out what it asks for.
+    fn serve_session<T: Requests, I: OctetRead, W: OctetWrite>(
+        &self,
+        requests: &mut T,
+        input: &mut Option<Input>,
+        sender: u32,
+        reader: &mut I,
+        writer: &mut W,
+    ) -> SessionEnd {
+        if input.is_none() {
+            *input = Input::new(self.alloc).ok();
+        }
+        match input {
+            Some(input) => serve_with(self.rt, self.alloc, input, requests, sender, reader, writer),
+            None => SessionEnd::Memory,
+        }
+    }
+
+    /// Serves a connection at the post of this number; `requests` carries out what it asks for.
+    fn answer<T: Requests>(
+        &self,
+        requests: &mut T,
+        input: &mut Option<Input>,
+        number: u32,
+        visit: &Visit,
+        serves: Serves,
+    ) {
+        let (rt, stream) = (self.rt, &visit.stream);
+        if let Err(error) = self.set_up(stream, serves) {
+            complain(rt, visit.peer, &error);
+            return;
+        }
+        let meter = self.posts.begin(rt, number, stream, self.limits.slowest);
+        let mut reader = StreamReader::new(meter);
+        let mut writer = StreamWriter::new(stream);
+        let sender = visit.host();
+        let end = self.serve_session(requests, input, sender, &mut reader, &mut writer);
+        self.posts.end(rt, number);
+        if let SessionEnd::Refused(refusal) = end {
+            complain(rt, visit.peer, &refusal);
+        }
+        if let Some(why) = failure_of(end) {
+            complain(rt, visit.peer, &why);
+        }
+        if matches!(end, SessionEnd::Finished | SessionEnd::Refused(_)) {
+            // A peer that is gone already has lost nothing.
+            let _ = take_leave(rt, stream);
+        }
+    }
+
+    /// Serves connections, one after another, until no more can come. `requests` carries out what
+    /// they ask for.
+    fn serve_all<T: Requests>(&self, requests: &mut T, number: u32, serves: Serves) {
+        // What the thread keeps from one connection to the next.
+        let mut input = None;
+        for _ in self.rt.forever() {
+            let Some(visit) = self.desk.take(self.rt, serves, &self.waker) else {
+                break;
+            };
+            self.answer(requests, &mut input, number, &visit, serves);
+            self.desk.leave(self.rt, serves, visit);
+        }
+    }
+
+    /// Serves connections through a seat, one after another, until no more can come. Answers the
+    /// seat.
+    pub(crate) fn answer_all(
+        &self,
+        seat: SessionSeat<E, K, H>,
+        serves: Serves,
+    ) -> SessionSeat<E, K, H> {
+        let number = seat.number();
+        let mut seated = Seated::new(self.rt, &self.spool, seat);
+        self.serve_all(&mut seated, number, serves);
+        seated.into_seat()
+    }
 }

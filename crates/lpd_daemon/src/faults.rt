@@ -1,9 +1,9 @@
 //! What stops a server.
 
-ghost use Rattle.std.specs.Prelude.{◌≡◌};
-ghost use Rattle.lpd_daemon.specs.declared.faults.Fault.TheVariants.{Memory};
+ghost use Rattle.std.specs.Prelude.{◌≡◌, ◌↔◌, IsTrue};
+ghost use Rattle.lpd_daemon.specs.declared.faults.Fault.TheVariants.{Memory, Output};
 
-use lpd_script::FaultName;
+use program_edge::FaultName;
 use std::alloc::{AllocError, AllocFailed};
 use thiserror::Error;
 
@@ -41,6 +41,14 @@ impl<T: Drop> From<AllocFailed<T>> for Fault {
 }
 
 impl Fault {
+    /// Whether the server has logged it by itself when it ends: a line of the output that can't be
+    /// written is told at once, and once.
+    pub fn is_told(&self) -> bool
+        ensures { IsTrue result ↔ self.now ≡ Output }
+    {
+        matches!(self, Fault::Output)
+    }
+
     /// The exit status, 4 for each.
     pub fn status(&self) -> u8
         ensures { result ≡ 4 }

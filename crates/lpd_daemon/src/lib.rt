@@ -5,19 +5,22 @@
 #![tactic(auto)]
 
 mod answering;
+mod crew;
 mod faults;
+mod house;
 mod lines;
 mod listening;
 mod posts;
+mod printing;
+mod roles;
 mod room;
 mod rotating;
 mod serving;
 mod sink;
-mod threads;
 mod watching;
 
 pub use faults::Fault;
 pub use printer_worker::{PrintSink, SinkFault};
-pub use server_settings::{MOST_SESSIONS, Settings};
+pub use program_edge::{Limits, MOST_SESSIONS, Settings};
 pub use serving::serve;
-pub use sink::FileSink;
+pub use sink::{Explains, FileSink};

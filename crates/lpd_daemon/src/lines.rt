@@ -6,13 +6,14 @@ ghost use Rattle.lpd_daemon.specs.Faults.{IsRunningFault, write_faults};
 ghost use Rattle.lpd_daemon.specs.Lines.{line_octets, line_text};
 
 use crate::faults::Fault;
+use log::{Log, error};
 use lpd_commands::{OctetWrite, write_all};
 use std::alloc::Global;
 use std::fmt;
 
 /// A line that a server prints.
 #[derive(Clone, Copy)]
-pub(crate) enum Line {
+pub(crate) enum PrintedLine {
     /// It listens at this port.
     Listening { port: u16 },
     /// The account was rotated: the segment's number, and its entries.
@@ -21,21 +22,28 @@ pub(crate) enum Line {
     Closed { entries: u64 },
 }
 
-impl fmt::Display for Line {
+impl fmt::Display for PrintedLine {
     ghost output = { λ line. Some (line_text line) };
 
     fn fmt<W: fmt::Write>(&self, f: &mut fmt::Formatter<W>) -> fmt::Result {
         match *self {
-            Line::Listening { port } => write!(f, "listening {port}"),
-            Line::Rotated { number, entries } => write!(f, "rotated {number} entries {entries}"),
-            Line::Closed { entries } => write!(f, "closed entries {entries}"),
+            PrintedLine::Listening { port } => write!(f, "listening {port}"),
+            PrintedLine::Rotated { number, entries } => write!(
+                f,
+                "rotated {number} entries {entries}"
+            ),
+            PrintedLine::Closed { entries } => write!(f, "closed entries {entries}"),
         }
     }
 }
 
 /// Writes a line to the output. Output where it can't be written; Memory where memory for it is
 /// refused.
-pub(crate) fn print<W: OctetWrite>(alloc: Global, output: &mut W, line: Line) -> Result<(), Fault>
+pub(crate) fn print<W: OctetWrite>(
+    alloc: Global,
+    output: &mut W,
+    line: PrintedLine,
+) -> Result<(), Fault>
     ensures written { OnOk result
         (Writes (W.written output.old) (W.written output.new) (line_octets line)) }
     ensures write_fault { W.faults output.new ≡ write_faults (W.faults output.old) result }
@@ -43,4 +51,23 @@ pub(crate) fn print<W: OctetWrite>(alloc: Global, output: &mut W, line: Line) ->
 {
     let text = format!(in alloc; "{line}\n")?;
     write_all(output, text.as_bytes()).or(Err(Fault::Output))
+}
+
+/// Writes a line to the output, as `print` does. Where it can't be written that is logged.
+pub(crate) fn print_or_tell<R: Log, W: OctetWrite>(
+    rt: &R,
+    alloc: Global,
+    output: &mut W,
+    line: PrintedLine,
+) -> Result<(), Fault>
+    ensures written { OnOk result
+        (Writes (W.written output.old) (W.written output.new) (line_octets line)) }
+    ensures write_fault { W.faults output.new ≡ write_faults (W.faults output.old) result }
+    ensures fault { IfErr result IsRunningFault }
+{
+    let printed = print(alloc, output, line);
+    if let Err(Fault::Output) = &printed {
+        error!(rt; "{}", Fault::Output);
+    }
+    printed
 }

@@ -5,43 +5,56 @@ ghost use Rattle.lpd_daemon.specs.Lines.{TellsRotations};
 ghost use Rattle.lpd_daemon.specs.declared.faults.Fault.TheVariants.{Network};
 
 use crate::faults::Fault;
-use crate::lines::{Line, print};
-use crate::room::Room;
+use crate::house::House;
+use crate::lines::{PrintedLine, print};
+use crate::room::AccountRoom;
 use crate::rotating::{Rotations, has_turn};
 use log::{Log, error, warn};
 use lpd_commands::OctetWrite;
 use mio::Waker;
-use server_edge::{Desk, Lobby, Visit, descriptor_limit, places};
-use server_settings::Settings;
-use shared_spool::{SessionSeat, SharedSpool, SpoolLedger};
+use program_edge::{Settings, descriptor_limit, tell_cause};
+use server_edge::{Doors, Doorway, Listening, Lobby, Visit, places};
+use shared_spool::{SessionSeat, SpoolLedger};
 use std::alloc::Global;
 use std::net::{Net, SocketAddr, TcpListener, TcpStream};
+use std::num::NonZeroU64;
 use std::rt::Clock;
 use std::sync::Wait;
 use std::sync::ledger::Ledger;
-use std::thread;
 use std::time::Duration;
+use std::{mem, thread};
 
-/// For how many milliseconds it is waited after the system didn't tell what happened.
-const PAUSE: u64 = 100;
+/// The pause after the system didn't tell what happened, in milliseconds.
+const PAUSE_MS: u64 = 100;
 
-/// After how many milliseconds it is looked again whether jobs that wait are let in.
-const LOOK: u64 = 10;
+/// The time between two looks at whether jobs that wait are let in, in milliseconds.
+const LOOK_MS: u64 = 10;
 
-/// A lobby at the address of the settings, what wakes its thread, and its port. So many descriptors
-/// are kept for others. Network where the system doesn't give what it takes.
-pub(crate) fn listen<R: Net<Listener = TcpListener, Stream = TcpStream>>(
+/// A lobby at the address of the settings, what wakes its thread, and its port. `kept` descriptors
+/// are left for others. Network where the system doesn't give what it takes; the log is told why.
+pub(crate) fn listen<R: Log + Net<Listener = TcpListener, Stream = TcpStream>>(
     rt: &R,
     alloc: Global,
-    settings: &Settings<'_>,
+    settings: &mut Settings<'_>,
     kept: u64,
 ) -> Result<(Lobby, Waker, u16), Fault>
     ensures { IfErr result (λ fault. fault ≡ Network) }
 {
     let address = SocketAddr::from((settings.bind, settings.port));
-    let places = places(descriptor_limit(), kept).max(1);
-    let connections = settings.connections.unwrap_or(u64::MAX);
-    Lobby::new(rt, alloc, address, places, connections).or(Err(Fault::Network))
+    let allowed = mem::replace(&mut settings.allowed, Vec::new(alloc));
+    let listening = Listening {
+        address,
+        places: places(descriptor_limit(), kept).max(1),
+        connections: settings.connections.unwrap_or(u64::MAX),
+        doorway: Doorway::new(alloc, allowed),
+    };
+    match Lobby::new(rt, alloc, listening) {
+        Ok(listening) => Ok(listening),
+        Err(error) => {
+            tell_cause(rt, &address, Some(error));
+            Err(Fault::Network)
+        }
+    }
 }
 
 /// Prints all rotations that aren't printed yet, where all was printed until now. Where one can't
@@ -61,7 +74,7 @@ pub(crate) fn announce_all<R: Log + Wait, W: OctetWrite>(
     let rotated = rotations.take(rt, alloc);
     told?;
     for (number, entries) in rotated {
-        let printed = print(alloc, output, Line::Rotated { number, entries });
+        let printed = print(alloc, output, PrintedLine::Rotated { number, entries });
         if let Err(fault) = &printed {
             error!(rt; "{fault}: nothing more is printed, and the server goes on");
             return printed;
@@ -70,29 +83,54 @@ pub(crate) fn announce_all<R: Log + Wait, W: OctetWrite>(
     Ok(())
 }
 
+/// What connections come by, and are handed on by.
+#[derive(Drop)]
+pub(crate) struct Gate {
+    pub(crate) lobby: Lobby,
+    pub(crate) doors: Doors,
+    /// After how many connections the account is rotated.
+    pub(crate) every: Option<NonZeroU64>,
+    /// AccountRoom in the account, where it is kept.
+    pub(crate) room: Option<AccountRoom>,
+}
+
 /// The thread that holds connections and hands them on, and rotates the account in between.
 #[derive(Drop)]
 pub(crate) struct Porter<'a, R, E: SpoolLedger, K: Ledger, H: Ledger> {
-    pub(crate) rt: &'a R,
-    pub(crate) alloc: Global,
-    pub(crate) spool: &'a SharedSpool<E, K, H>,
-    pub(crate) seat: SessionSeat<E, K, H>,
-    pub(crate) desk: &'a Desk,
-    pub(crate) rotations: &'a Rotations,
-    pub(crate) lobby: Lobby,
-    /// After how many connections the account is rotated, and how many were handed on.
-    pub(crate) every: Option<u64>,
-    pub(crate) handed_on: u64,
-    /// Room in the account, where it is kept.
-    pub(crate) room: Option<Room>,
+    house: &'a House<'a, R, E, K, H>,
+    seat: SessionSeat<E, K, H>,
+    gate: Gate,
+    // How many connections were handed on.
+    handed_on: u64,
 }
 
 impl<'a, R: Clock + Log + Wait, E: SpoolLedger, K: Ledger, H: Ledger> Porter<'a, R, E, K, H> {
+    /// A porter that hasn't handed on any connection.
+    pub(crate) fn new(
+        house: &'a House<'a, R, E, K, H>,
+        seat: SessionSeat<E, K, H>,
+        gate: Gate,
+    ) -> Porter<'a, R, E, K, H> {
+        Porter {
+            house,
+            seat,
+            gate,
+            handed_on: 0,
+        }
+    }
+
+    /// Nothing more is handed on. The seat.
+    pub(crate) fn leave(self) -> SessionSeat<E, K, H> {
+        let Porter { seat, gate, .. } = self;
+        drop(gate);
+        seat
+    }
+
     /// Whether new jobs are let in.
     fn lets_jobs_in(&mut self) -> bool {
-        match &mut self.room {
-            Some(room) if self.lobby.has_job() => {
-                room.lets_jobs_in(self.rt, self.spool, &mut self.seat)
+        match &mut self.gate.room {
+            Some(room) if self.gate.lobby.has_job() => {
+                room.lets_jobs_in(self.house.rt, &self.house.spool, &mut self.seat)
             }
             _ => true,
         }
@@ -100,30 +138,38 @@ impl<'a, R: Clock + Log + Wait, E: SpoolLedger, K: Ledger, H: Ledger> Porter<'a,
 
     /// Waits for something to happen, or for a moment where jobs have to wait.
     fn wait(&mut self, lets_jobs_in: bool) {
-        let limit = if lets_jobs_in { None } else { Some(LOOK) };
-        if let Err(error) = self.lobby.round(self.rt, limit) {
-            warn!(self.rt; "connections can't be looked at: {error}");
-            thread::sleep(self.rt, Duration::from_millis(PAUSE));
+        let rt = self.house.rt;
+        let limit = if lets_jobs_in { None } else { Some(LOOK_MS) };
+        if let Err(error) = self.gate.lobby.round(rt, limit) {
+            warn!(rt; "connections can't be looked at: {error}");
+            thread::sleep(rt, Duration::from_millis(PAUSE_MS));
         }
     }
 
-    /// Hands a connection on. Where the account has its turn before, it is waited until no job is
-    /// held or a printer is stopped, and the account is rotated.
-    fn hand_on(&mut self, visit: Visit) {
-        if has_turn(self.every, self.handed_on) {
-            self.spool.idle_wait(self.rt);
-            let rotated = self.spool.rotate(self.rt, &mut self.seat);
-            self.rotations.add(self.rt, rotated);
+    /// Where the account has its turn before the next connection, waits until no job is held or a
+    /// printer is stopped, and rotates it.
+    fn take_turn(&mut self) {
+        let (house, rt) = (self.house, self.house.rt);
+        if has_turn(self.gate.every, self.handed_on) {
+            house.spool.idle_wait(rt);
+            let rotated = house.spool.rotate(rt, &mut self.seat);
+            house.rotations.add(rt, rotated);
         }
+    }
+
+    /// Hands a connection on.
+    fn hand_on(&mut self, visit: Visit) {
+        let (house, rt) = (self.house, self.house.rt);
         let peer = visit.peer;
-        if !self.desk.hand(self.rt, visit) {
-            warn!(self.rt; "{peer}: memory was refused");
+        if !self.gate.doors.hand(rt, &house.desk, visit) {
+            warn!(rt; "{peer}: memory was refused");
         }
         self.handed_on = self.handed_on.saturating_add(1);
     }
 
     /// Holds connections and hands each on, until all that are to come have come; none where not
-    /// all threads were started. Says in lines when the account was rotated.
+    /// all threads were started. Says in lines when the account was rotated, each before the next
+    /// connection is handed on.
     ///
     /// Output where such a line couldn't be written, Memory where memory for it was refused: all
     /// have been handed on.
@@ -135,16 +181,21 @@ impl<'a, R: Clock + Log + Wait, E: SpoolLedger, K: Ledger, H: Ledger> Porter<'a,
         ensures { TellsRotations (W.written output.old) (W.faults output.old)
             (W.written output.new) (W.faults output.new) result }
     {
+        let (rt, alloc) = (self.house.rt, self.house.alloc);
         let mut told = Ok(());
         if !started {
             return told;
         }
-        'rounds: for _ in self.rt.forever() {
-            told = announce_all(self.rt, self.alloc, output, told, self.rotations);
+        'rounds: for _ in rt.forever() {
             let lets_jobs_in = self.lets_jobs_in();
-            match self.lobby.next(self.rt, self.desk, lets_jobs_in) {
+            let visit = self.gate.lobby.next(rt, &self.house.desk, lets_jobs_in);
+            if visit.is_some() {
+                self.take_turn();
+            }
+            told = announce_all(rt, alloc, output, told, &self.house.rotations);
+            match visit {
                 Some(visit) => self.hand_on(visit),
-                None if self.lobby.is_over() => break,
+                None if self.gate.lobby.is_over() => break,
                 None => self.wait(lets_jobs_in),
             }
         }

@@ -6,13 +6,14 @@ use std::alloc::{AllocError, Global};
 use std::io;
 use std::io::{Error, ErrorKind, Read};
 use std::net::TcpStream;
+use std::num::NonZeroU64;
 use std::rt::Clock;
 use std::sync::atomic::{AtomicU64, Ordering};
 use std::sync::{Mutex, Wait};
 use std::time::Instant;
 
-/// For how many seconds a peer is waited for before it is judged as slow.
-const MINUTE: u64 = 60;
+/// The time waited for a peer after which its pace is judged, in seconds.
+const JUDGED_AFTER_SECONDS: u64 = 60;
 
 /// What the session of a seat is at.
 #[derive(Drop)]
@@ -31,7 +32,7 @@ pub(crate) struct Posts {
 }
 
 impl Posts {
-    /// Of so many seats, the first ones.
+    /// Posts for the first N seats. An error where memory is refused.
     pub(crate) fn new(alloc: Global, seats: usize) -> Result<Posts, AllocError> {
         let mut posts = Vec::new(alloc);
         for _seat in 0..seats {
@@ -44,15 +45,15 @@ impl Posts {
         Ok(Posts { posts })
     }
 
-    /// A session serves this connection, and reads it by the meter that is answered: at 0 octets a
-    /// second no peer is too slow. Where the system gives no second number for the connection, its
+    /// A session serves this connection, and reads it by the meter that is answered: without a
+    /// number of octets a second no peer is too slow. Where the system gives no second number for the connection, its
     /// peer isn't looked at.
     pub(crate) fn begin<'a, R: Wait>(
         &'a self,
         rt: &'a R,
         seat: u32,
         stream: &'a TcpStream,
-        slowest: u64,
+        slowest: Option<NonZeroU64>,
     ) -> Meter<'a, R> {
         let post = self.posts.get(seat as usize);
         if let Some(post) = post {
@@ -65,7 +66,7 @@ impl Posts {
             stream,
             post,
             slowest,
-            waited: 0,
+            waited_ms: 0,
             octets: 0,
         }
     }
@@ -79,7 +80,8 @@ impl Posts {
 
     /// Whether the peer of a session that waits for a page is gone: the connection is broken, or it
     /// sends no more, and what came and isn't used can't end the open file. `buffer` is room for
-    /// octets that are looked at.
+    /// octets that are looked at. Right only where the session still waits for that when this
+    /// returns: `SharedSpool::abort_waiting` compares it.
     pub(crate) fn is_gone<R: Wait>(&self, rt: &R, waiting: Waiting, buffer: &mut [u8]) -> bool {
         let Some(post) = self.posts.get(waiting.seat as usize) else {
             return false;
@@ -109,27 +111,28 @@ pub(crate) struct Meter<'a, R> {
     rt: &'a R,
     stream: &'a TcpStream,
     post: Option<&'a Post>,
-    slowest: u64,
-    // The milliseconds for which it was waited, and the octets that came by that.
-    waited: u64,
+    slowest: Option<NonZeroU64>,
+    // For how many milliseconds its reads waited, and the octets that came by that.
+    waited_ms: u64,
     octets: u64,
 }
 
 impl<R: Clock> Meter<'_, R> {
-    /// The peer was waited for since this moment, and sent so many octets. Whether it is too slow.
-    fn is_slow(&mut self, start: Instant, octets: u64) -> bool {
+    /// The peer was waited for since this moment, and sent `octets` octets. Whether it is too slow,
+    /// where it has to send `slowest` a second.
+    fn is_slow(&mut self, start: Instant, octets: u64, slowest: NonZeroU64) -> bool {
         let Ok(waited) = start.elapsed(self.rt) else {
             return false;
         };
-        let waited = u64::try_from(waited.as_millis()).unwrap_or(u64::MAX);
-        self.waited = self.waited.saturating_add(waited);
+        let waited_ms = u64::try_from(waited.as_millis()).unwrap_or(u64::MAX);
+        self.waited_ms = self.waited_ms.saturating_add(waited_ms);
         self.octets = self.octets.saturating_add(octets);
-        let seconds = self.waited / 1_000;
-        if seconds < MINUTE {
+        let seconds = self.waited_ms / 1_000;
+        if seconds < JUDGED_AFTER_SECONDS {
             return false;
         }
-        let is_slow = self.octets < self.slowest.saturating_mul(seconds);
-        self.waited = 0;
+        let is_slow = self.octets < slowest.get().saturating_mul(seconds);
+        self.waited_ms = 0;
         self.octets = 0;
         is_slow
     }
@@ -137,10 +140,9 @@ impl<R: Clock> Meter<'_, R> {
 
 impl<R: Clock> Read for Meter<'_, R> {
     fn read(&mut self, into: &mut [u8]) -> io::Result<usize> {
-        let start = if self.slowest == 0 {
-            None
-        } else {
-            Instant::now(self.rt).ok()
+        let start = match self.slowest {
+            None => None,
+            Some(slowest) => Instant::now(self.rt).ok().map(|start| (start, slowest)),
         };
         let mut stream = self.stream;
         let count = stream.read(into)?;
@@ -151,8 +153,8 @@ impl<R: Clock> Read for Meter<'_, R> {
             post.received.store(received, Ordering::SeqCst);
             post.last.store(octets, Ordering::SeqCst);
         }
-        if let Some(start) = start {
-            if count > 0 && self.is_slow(start, octets) {
+        if let Some((start, slowest)) = start {
+            if count > 0 && self.is_slow(start, octets, slowest) {
                 return Err(Error::from(ErrorKind::TimedOut));
             }
         }

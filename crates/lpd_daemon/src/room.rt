@@ -1,4 +1,4 @@
-//! Room in the account: new jobs wait for a rotation for a moment where it is nearly full.
+//! AccountRoom in the account: new jobs wait for a rotation for a moment where it is nearly full.
 
 ghost use Rattle.std.specs.Prelude.{◌≤◌, ◌+◌, ◌-◌, ℕ};
 ghost use Rattle.config_values.specs.Config.{IsQueue, reserve_of};
@@ -11,11 +11,11 @@ use std::sync::Wait;
 use std::sync::ledger::Ledger;
 use std::time::Instant;
 
-/// For how many milliseconds new jobs wait until the held ones have gone, at most.
-const LONGEST: u64 = 1_000;
+/// The longest time that new jobs wait until the held ones have gone, in milliseconds.
+const LONGEST_WAIT_MS: u64 = 1_000;
 
-/// After how many seconds without room it is told again.
-const TELL: u64 = 60;
+/// The time without room after which that is told, and told again, in seconds.
+const TELL_SECONDS: u64 = 60;
 
 /// Whether new jobs wait.
 ///
@@ -31,18 +31,17 @@ enum Hold {
     No,
     /// They wait since this moment.
     Since(Instant),
-    /// They have waited in vain: so many jobs were held then.
+    /// They have waited in vain: `held` jobs were held then.
     Over { held: usize },
 }
 
-/// Room in the account, where it is kept.
+/// AccountRoom in the account, where it is kept.
 #[derive(Clone, Copy)]
-pub(crate) struct Room {
+pub(crate) struct AccountRoom {
     /// From how many counted entries on the account is rotated.
     pub(crate) least: u64,
-    // Where more entries are counted than these, new jobs wait. With so many there is room for two
-    // jobs of the largest limit in each session; or the account isn't rotated yet, where that is
-    // more.
+    // Where more entries are counted than these, new jobs wait. Up to here there is room for two jobs
+    // of the largest limit in each session; or the account isn't rotated yet, where that is more.
     most: u64,
     // Where more are counted than these, there is no room for a job of the largest limit.
     full: u64,
@@ -59,10 +58,10 @@ fn milliseconds_since<R: Clock>(rt: &R, start: Instant) -> u64 {
     }
 }
 
-impl Room {
-    /// In an account of this configuration, which is rotated once a quarter of it is counted, where
-    /// so many threads serve connections that may bring a job.
-    pub(crate) fn new(config: &Config, sessions: u32) -> Room
+impl AccountRoom {
+    /// Room in the account of this configuration, which is rotated once a quarter of it is counted,
+    /// where `sessions` threads serve connections that may bring a job.
+    pub(crate) fn new(config: &Config, sessions: u32) -> AccountRoom
         ensures room { (queue : ℕ) → IsQueue config.now queue
             → result.full ≤ config.now.account - (reserve_of config.now queue + 1) }
     {
@@ -77,7 +76,7 @@ impl Room {
         let account = u64::from(config.account());
         let least = (account / 4).max(1);
         let most = account.saturating_sub((largest + 1).saturating_mul(jobs));
-        Room {
+        AccountRoom {
             least,
             most: most.max(least.saturating_sub(1)),
             full: account.saturating_sub(largest + 1),
@@ -96,7 +95,7 @@ impl Room {
             return;
         };
         let (since, told) = self.full_since.unwrap_or((now, now));
-        if milliseconds_since(rt, told) < TELL.saturating_mul(1_000) {
+        if milliseconds_since(rt, told) < TELL_SECONDS.saturating_mul(1_000) {
             self.full_since = Some((since, told));
             return;
         }
@@ -124,7 +123,9 @@ impl Room {
         };
         self.hold = match self.hold {
             Hold::No => Hold::Since(now),
-            Hold::Since(start) if milliseconds_since(rt, start) < LONGEST => Hold::Since(start),
+            Hold::Since(start) if milliseconds_since(rt, start) < LONGEST_WAIT_MS => Hold::Since(
+                start,
+            ),
             Hold::Over { held: before } if held < before => Hold::Since(now),
             Hold::Since(_) | Hold::Over { .. } => Hold::Over { held },
         };

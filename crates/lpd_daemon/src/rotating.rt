@@ -1,28 +1,29 @@
 //! When the account is rotated.
 
-ghost use Rattle.std.specs.Prelude.{◌↔◌, IsTrue};
+ghost use Rattle.std.specs.Int.NonZero.{non_zero_u64_get};
+ghost use Rattle.std.specs.Prelude.{◌↔◌, IsTrue, option_map};
 ghost use Rattle.lpd_daemon.specs.Rotating.{HasTurn};
 
-use crate::room::Room;
+use crate::house::House;
 use log::{Log, error, warn};
-use mio::Waker;
-use shared_spool::{RotateError, Segment, SessionSeat, SharedSpool, SpoolLedger};
+use shared_spool::{RotateError, Segment, SessionSeat, SpoolLedger};
 use std::alloc::Global;
+use std::num::NonZeroU64;
 use std::rt::Clock;
 use std::sync::ledger::Ledger;
 use std::sync::{Mutex, Wait};
 use std::time::Duration;
 use std::{mem, thread};
 
-/// For how many seconds it is waited after a rotation that was refused.
-const PAUSE: u64 = 1;
+/// The pause after a rotation that was refused, in seconds.
+const PAUSE_SECONDS: u64 = 1;
 
-/// Whether the account has its turn after so many connections: after each `every` of them, if there
-/// is such a number.
-pub(crate) fn has_turn(every: Option<u64>, handed_on: u64) -> bool
-    ensures { IsTrue result ↔ HasTurn every handed_on }
+/// Whether the account has its turn after `handed_on` connections: after each `every` of them, if
+/// there is such a number.
+pub(crate) fn has_turn(every: Option<NonZeroU64>, handed_on: u64) -> bool
+    ensures { IsTrue result ↔ HasTurn (option_map non_zero_u64_get every) handed_on }
 {
-    every.is_some_and(|every| every != 0 && handed_on != 0 && handed_on % every == 0)
+    every.is_some_and(|every| handed_on != 0 && handed_on % every.get() == 0)
 }
 
 /// Rotations that aren't printed yet: of each segment that was put away its number and its entries.
@@ -44,7 +45,7 @@ impl Rotations {
         mem::replace(&mut *self.rotated.lock(rt), Vec::new(alloc))
     }
 
-    /// One more. Where the account wasn't rotated it is told why, and the server goes on.
+    /// One more. Where the account wasn't rotated the log is told why, and the server goes on.
     pub(crate) fn add<R: Log + Wait>(&self, rt: &R, rotated: Result<Segment, RotateError>) {
         match rotated {
             Ok(segment) => {
@@ -58,31 +59,26 @@ impl Rotations {
     }
 }
 
-/// Rotates the account as soon as no job is held and so many entries are counted as its room says,
-/// again and again until the spool is closed; never where no room is kept. Answers its seat.
-pub(crate) fn keep_rotating<E: SpoolLedger, K: Ledger, H: Ledger, R: Clock + Wait + Log>(
-    rt: &R,
-    spool: &SharedSpool<E, K, H>,
-    seat: SessionSeat<E, K, H>,
-    room: Option<Room>,
-    rotations: &Rotations,
-    waker: &Waker,
-) -> SessionSeat<E, K, H> {
-    let Some(room) = room else {
-        return seat;
-    };
-    let mut seat = seat;
-    for _ in rt.forever() {
-        let Some(rotated) = spool.rotate_wait(rt, &mut seat, room.least) else {
-            break;
+impl<R: Clock + Wait + Log, E: SpoolLedger, K: Ledger, H: Ledger> House<'_, R, E, K, H> {
+    /// Rotates the account as soon as no job is held and `least` entries are counted, again and again
+    /// until the spool is closed; never where no room is kept. Answers the seat.
+    pub(crate) fn keep_rotating(&self, seat: SessionSeat<E, K, H>) -> SessionSeat<E, K, H> {
+        let Some(least) = self.least else {
+            return seat;
         };
-        let is_refused = rotated.is_err();
-        rotations.add(rt, rotated);
-        if is_refused {
-            thread::sleep(rt, Duration::from_secs(PAUSE));
-        } else {
-            let _ = waker.wake();
+        let (rt, mut seat) = (self.rt, seat);
+        for _ in rt.forever() {
+            let Some(rotated) = self.spool.rotate_wait(rt, &mut seat, least) else {
+                break;
+            };
+            let is_refused = rotated.is_err();
+            self.rotations.add(rt, rotated);
+            if is_refused {
+                thread::sleep(rt, Duration::from_secs(PAUSE_SECONDS));
+            } else {
+                let _ = self.waker.wake();
+            }
         }
+        seat
     }
-    seat
 }

@@ -1,39 +1,44 @@
 //! A server, from its start to its end.
 
-ghost use Rattle.std.specs.Prelude.{◌≡◌, ℕ, Ok, OnOk, IfErr};
+ghost use Rattle.std.specs.Int.NonZero.{non_zero_u64_get};
+ghost use Rattle.std.specs.Prelude.{◌≡◌, ◌≤◌, ◌+◌, ◌-◌, ◌^◌, ℕ, min, None, Some, Ok, OnOk, IfErr, option_map};
 ghost use Rattle.lpd_daemon.specs.Faults.{IsOpeningFault, IsRunningFault, write_faults};
 ghost use Rattle.lpd_daemon.specs.Lines.{IsQuiet, WritesAll, line_octets};
-ghost use Rattle.lpd_daemon.specs.declared.lines.Line.TheVariants.{Closed};
+ghost use Rattle.lpd_daemon.specs.declared.lines.PrintedLine.TheVariants.{Closed};
 ghost use Rattle.lpd_commands.specs.Ends.{Writes};
 ghost use Rattle.spool_ledgers.specs.Blanks.{AreFor, mark};
 
 use crate::faults::Fault;
-use crate::lines::{Line, print};
-use crate::listening::listen;
+use crate::house::House;
+use crate::lines::{PrintedLine, print_or_tell};
+use crate::listening::{Gate, listen};
 use crate::posts::Posts;
-use crate::room::Room;
+use crate::roles::{NO_JOB_SESSIONS, OTHERS, Roles, Seats};
+use crate::room::AccountRoom;
+use crate::rotating::Rotations;
 use crate::sink::FileSink;
-use crate::threads::{OTHERS, QUESTIONS, Seats};
 use config_values::Config;
 use log::Log;
 use lpd_commands::OctetWrite;
 use mio::Waker;
-use server_edge::Lobby;
-use server_settings::{MOST_SESSIONS, Settings};
+use program_edge::{MOST_SESSIONS, Settings, tell_cause};
+use server_edge::{Desk, Lobby};
 use shared_spool::{Blanks, Opened, SharedSpool, SpoolLedger};
 use std::alloc::{AllocError, Global};
 use std::fs::{File, Files, OpenOptions};
 use std::marker::Brand;
 use std::net::{Net, TcpListener, TcpStream};
+use std::num::NonZeroU64;
 use std::os::unix::fs::FileTypeExt;
 use std::rt::Clock;
 use std::sync::Wait;
+use std::sync::atomic::AtomicBool;
 use std::sync::ledger::Ledger;
 use std::thread::Threads;
 use std::{fs, io};
 
 /// How many descriptors are kept for more than connections that wait.
-const KEPT: u64 = 64;
+const KEPT_DESCRIPTORS: u64 = 64;
 
 /// Opens a printer's file at its end. A pipe is opened for reading too: so it doesn't wait for a
 /// reader, and one that ends and is started again stops no printer.
@@ -45,10 +50,11 @@ fn open_sink<R: Files<File = File>>(rt: &R, path: &str) -> io::Result<File> {
     options.open(rt, path)
 }
 
-/// Opens the files of so many printers in a directory, `printer-1` and so on, at their ends.
+/// Opens the files of N printers in a directory, `printer-1` to `printer-N`, at their ends.
 ///
-/// PrinterFile with the path of the first that can't be opened; Memory.
-fn open_sinks<R: Files<File = File>>(
+/// PrinterFile with the path of the first that can't be opened, of which the log is told why;
+/// Memory.
+fn open_sinks<R: Files<File = File> + Log>(
     rt: &R,
     alloc: Global,
     directory: &str,
@@ -62,7 +68,10 @@ fn open_sinks<R: Files<File = File>>(
         let path = format!(in alloc; "{directory}/printer-{number}")?;
         match open_sink(rt, path.as_str()) {
             Ok(file) => sinks.push(FileSink::new(file))?,
-            Err(_) => return Err(Fault::PrinterFile(path)),
+            Err(error) => {
+                tell_cause(rt, &path, Some(error));
+                return Err(Fault::PrinterFile(path));
+            }
         }
     }
     Ok(sinks)
@@ -71,8 +80,10 @@ fn open_sinks<R: Files<File = File>>(
 /// Takes all seats back, and prints how many entries all segments of the account have, where all
 /// was well until now.
 ///
-/// Output where the line can't be written; Memory where a seat or memory for the line is missing.
-fn finish<E: SpoolLedger, K: Ledger, H: Ledger, W: OctetWrite>(
+/// Output where the line can't be written, which is logged; Memory where a seat or memory for the
+/// line is missing.
+fn finish<R: Log, E: SpoolLedger, K: Ledger, H: Ledger, W: OctetWrite>(
+    rt: &R,
     alloc: Global,
     spool: SharedSpool<E, K, H>,
     seats: Seats<E, K, H>,
@@ -91,25 +102,39 @@ fn finish<E: SpoolLedger, K: Ledger, H: Ledger, W: OctetWrite>(
         return Err(Fault::Memory);
     };
     let entries = segment.before.saturating_add(segment.entries.len() as u64);
-    print(alloc, output, Line::Closed { entries })
+    print_or_tell(rt, alloc, output, PrintedLine::Closed { entries })
 }
 
-/// A server that listens.
+/// How many sessions one host may have: without a number as many as there are.
+fn most_of(per_host: Option<NonZeroU64>) -> u32
+    ensures any { per_host ≡ None → result ≡ 2 ^ 32 - 1 }
+    ensures most { (most : ℕ) → option_map non_zero_u64_get per_host ≡ Some most
+        → result ≡ min most (2 ^ 32 - 1) }
+{
+    match per_host {
+        None => u32::MAX,
+        Some(most) => u32::try_from(most.get()).unwrap_or(u32::MAX),
+    }
+}
+
+/// A server that listens, before its spool is opened.
 #[derive(Drop)]
-pub(crate) struct Server<'a, R> {
-    pub(crate) rt: &'a R,
-    pub(crate) alloc: Global,
-    pub(crate) settings: Settings<'a>,
-    pub(crate) lobby: Lobby,
-    pub(crate) waker: Waker,
-    pub(crate) posts: Posts,
-    pub(crate) sinks: Vec<FileSink<File>>,
+struct Server<'a, R> {
+    rt: &'a R,
+    alloc: Global,
+    settings: Settings<'a>,
+    // How many threads serve connections.
+    sessions: u32,
+    lobby: Lobby,
+    waker: Waker,
+    port: u16,
+    sinks: Vec<FileSink<File>>,
 }
 
 /// Runs a server: opens the printers' files in the directory of the settings, `printer-1` and so
 /// on, at their ends; listens, and prints `listening N` with the port; holds connections until
-/// their first line is there and a session is free; serves them by `session::serve`, and has pages
-/// printed by `printer_worker::work`. Sessions that end neither as finished nor as closed are
+/// their first line is there and a session is free; serves them by `request_session::serve_with` at a
+/// session's seat, and has pages printed by `printer_worker::work`. Sessions that end neither as finished nor as closed are
 /// logged, with the peer's address. Once a second jobs are ended that wait for a page and whose
 /// peers are gone.
 ///
@@ -123,7 +148,8 @@ pub(crate) struct Server<'a, R> {
 /// segments.
 ///
 /// PrinterFile where a printer's file can't be opened, before it listens; Network where it can't
-/// listen; Output where a line couldn't be written: after the first one it goes on to its end;
+/// listen; Output where a line couldn't be written, which is logged at once: after the first one it
+/// goes on to its end;
 /// Memory where memory or a thread is refused. A printer's file that fails later stops its printer.
 pub fn serve<
     R: Files<File = File>
@@ -138,35 +164,35 @@ pub fn serve<
     rt: &R,
     alloc: Global,
     config: Config,
-    settings: &Settings<'_>,
+    settings: Settings<'_>,
     output: &mut W,
 ) -> Result<(), Fault>
     ensures printed { OnOk result (WritesAll (W.written output.old) (W.written output.new)) }
     ensures quiet { IfErr result (IsQuiet (W.written output.old) (W.written output.new)) }
     ensures write_fault { W.faults output.new ≡ write_faults (W.faults output.old) result }
 {
-    let sessions = settings.sessions.clamp(1, MOST_SESSIONS) + QUESTIONS;
-    let posts = Posts::new(alloc, sessions as usize)?;
+    let mut settings = settings;
+    let sessions = settings.sessions.clamp(1, MOST_SESSIONS) + NO_JOB_SESSIONS;
     let sinks = open_sinks(rt, alloc, settings.out, config.printer_count())?;
     let printers = u64::from(config.printer_count());
-    let kept = KEPT + printers + 2 * u64::from(sessions);
-    let (lobby, waker, port) = listen(rt, alloc, settings, kept)?;
+    let kept = KEPT_DESCRIPTORS + printers + 2 * u64::from(sessions);
+    let (lobby, waker, port) = listen(rt, alloc, &mut settings, kept)?;
     let blanks = Blanks::new(&config, sessions + OTHERS);
     let server = Server {
         rt,
         alloc,
-        settings: *settings,
+        settings,
+        sessions,
         lobby,
         waker,
-        posts,
+        port,
         sinks,
     };
-    server.run::<Brand, Brand, Brand, W>(port, config, sessions + OTHERS, blanks, output)
+    server.run::<Brand, Brand, Brand, W>(config, blanks, output)
 }
 
 impl<'a, R: Clock + Log + Threads + Wait + Sync> Server<'a, R> {
-    /// Runs at this port with a spool that has so many sessions' seats: those of the sessions, and
-    /// of the other threads.
+    /// Runs with a spool that has a seat for each session, and for each of the other threads.
     ///
     /// Output where a line can't be written; Memory where memory or a thread is refused.
     fn run<
@@ -174,36 +200,51 @@ impl<'a, R: Clock + Log + Threads + Wait + Sync> Server<'a, R> {
         K: Ledger + Send + Sync,
         H: Ledger + Send + Sync,
         W: OctetWrite,
-    >(
-        self,
-        port: u16,
-        config: Config,
-        sessions: u32,
-        blanks: Blanks,
-        output: &mut W,
-    ) -> Result<(), Fault>
-        requires { AreFor blanks config sessions E.config (mark E.name E.parts)
+    >(self, config: Config, blanks: Blanks, output: &mut W) -> Result<(), Fault>
+        requires few { self.sessions ≤ 66 }
+        requires blanks { AreFor blanks config (self.sessions + OTHERS) E.config (mark E.name E.parts)
             (mark K.name K.parts) (mark H.name H.parts) }
         ensures printed { OnOk result
             (WritesAll (W.written output.old) (W.written output.new)) }
         ensures write_fault { W.faults output.new ≡ write_faults (W.faults output.old) result }
         ensures fault { IfErr result IsRunningFault }
     {
-        let room = Room::new(&config, sessions);
-        let room = self.settings.keep_room.then_some(room);
-        let alloc = self.alloc;
-        let opened = SharedSpool::<E, K, H>::new(alloc, blanks, config, sessions);
-        let Opened {
-            spool,
-            mut sessions,
-            printers,
-        } = opened.map_err(AllocError::from)?;
-        let Some(seat) = sessions.pop() else {
-            return Err(Fault::Memory);
+        let (rt, alloc, sessions) = (self.rt, self.alloc, self.sessions);
+        let seats = sessions + OTHERS;
+        let room = self
+            .settings
+            .keep_room
+            .then_some(AccountRoom::new(&config, seats));
+        let opened = SharedSpool::<E, K, H>::new(alloc, blanks, config, seats);
+        let opened = opened.map_err(AllocError::from)?;
+        let roles = Roles::deal(opened.sessions, opened.printers)?;
+        let (desk, doors) = Desk::new(alloc, most_of(self.settings.limits.per_host))?;
+        let posts = Posts::new(alloc, sessions as usize)?;
+        print_or_tell(
+            rt,
+            alloc,
+            output,
+            PrintedLine::Listening { port: self.port },
+        )?;
+        let house = House {
+            rt,
+            alloc,
+            spool: opened.spool,
+            limits: self.settings.limits,
+            least: room.map(|room| room.least),
+            desk,
+            posts,
+            rotations: Rotations::new(alloc),
+            waker: self.waker,
+            ended: AtomicBool::new(false),
         };
-        print(alloc, output, Line::Listening { port })?;
-        let seats = Seats { sessions, printers };
-        let (told, seats) = self.work(&spool, seats, seat, room, output);
-        finish(alloc, spool, seats, told, output)
+        let gate = Gate {
+            lobby: self.lobby,
+            doors,
+            every: self.settings.rotate,
+            room,
+        };
+        let (told, seats) = house.work(roles, self.sinks, gate, output);
+        finish(rt, alloc, house.spool, seats, told, output)
     }
 }

@@ -1,11 +1,21 @@
 //! The file of a printer.
 
-ghost use Rattle.std.specs.Prelude.{◌≡◌};
+ghost use Rattle.std.specs.Prelude.{◌≡◌, Option};
+ghost use Rattle.std.specs.declared.io.Error.{Error};
 
 use lpd_commands::write_all;
-use lpd_script::StreamWriter;
 use printer_worker::{HandedPage, PrintSink, SinkFault};
-use std::io::Write;
+use program_edge::StreamWriter;
+use std::io::{Error, Write};
+
+/// What keeps why a page wasn't written.
+pub trait Explains {
+    ghost why: { Self → Option Error };
+
+    /// Why the last page that wasn't written wasn't; None where all were.
+    fn cause(&self) -> Option<Error>
+        ensures { result ≡ why self.now };
+}
 
 /// A file that the pages of a printer are written to, one after another.
 #[derive(Drop)]
@@ -25,6 +35,14 @@ impl<F: Write + Drop> FileSink<F> {
             written: 0,
             faults: 0,
         }
+    }
+}
+
+impl<F: Write + Drop> Explains for FileSink<F> {
+    ghost why = { λ sink. sink.file.cause };
+
+    fn cause(&self) -> Option<Error> {
+        self.file.cause()
     }
 }
 

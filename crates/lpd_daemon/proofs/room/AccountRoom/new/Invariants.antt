@@ -1,6 +1,6 @@
 use Rattle.std.proofs.Common.{◌≤◌, ◌<◌, ◌^◌, ℕ}
 use Rattle.config_values.specs.Config.{reserve_of}
-use Rattle.lpd_daemon.proofs.room.Room.new.Given as goal
+use Rattle.lpd_daemon.proofs.room.AccountRoom.new.Given as goal
 
 abbrev pub invariant-loop-queue : goal.invariant-loop-queue
 invariant-loop-queue l = record {

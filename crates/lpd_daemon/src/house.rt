@@ -1,0 +1,29 @@
+//! What all threads of a server share.
+
+use crate::posts::Posts;
+use crate::rotating::Rotations;
+use mio::Waker;
+use program_edge::Limits;
+use server_edge::Desk;
+use shared_spool::{SharedSpool, SpoolLedger};
+use std::alloc::Global;
+use std::sync::atomic::AtomicBool;
+use std::sync::ledger::Ledger;
+
+/// What all threads of a server share. Whoever runs the server owns it, and lends it to each.
+#[derive(Drop)]
+pub(crate) struct House<'a, R, E: SpoolLedger, K: Ledger, H: Ledger> {
+    pub(crate) rt: &'a R,
+    pub(crate) alloc: Global,
+    pub(crate) spool: SharedSpool<E, K, H>,
+    pub(crate) limits: Limits,
+    /// From how many counted entries on the account is rotated, where room is kept in it.
+    pub(crate) least: Option<u64>,
+    pub(crate) desk: Desk,
+    pub(crate) posts: Posts,
+    pub(crate) rotations: Rotations,
+    /// What wakes the porter.
+    pub(crate) waker: Waker,
+    /// The spool is closed.
+    pub(crate) ended: AtomicBool,
+}
