@@ -5,13 +5,16 @@ ghost use Rattle.std.specs.Prelude.{◌≤◌};
 ghost use Rattle.std.specs.Process.{exit_status};
 ghost use Rattle.lpd_words.specs.Outcome.{IfEnded};
 
+use log::sink::Console;
 use log::{Level, Log, Logged, error};
-use lpd_script::{FaultName, StreamReader, StreamWriter};
-use lpd_words::{FileReader, Outcome, Settings};
-use server_edge::{LineLog, LineQueue, fill_standard_descriptors};
+use lpd_words::Outcome;
+use program_edge::{
+    FaultName, LineLog, LineQueue, Settings, StreamReader, StreamWriter, fill_standard_descriptors,
+    tell, tell_cause,
+};
 use std::alloc::Global;
 use std::fs::{File, Files};
-use std::io::{Lock, Write};
+use std::io::{IsTerminal, Lock, Write};
 use std::net::{Net, TcpListener, TcpStream};
 use std::process::ExitCode;
 use std::rt::Clock;
@@ -23,8 +26,18 @@ use std::{io, thread};
 /// How many lines of the log wait to be written, at most.
 const LINES: usize = 256;
 
-/// For how many seconds it is waited at the end until the log is written.
-const PATIENCE: u64 = 2;
+/// The longest time that the end waits until the log is written, in seconds.
+const PATIENCE_SECONDS: u64 = 2;
+
+/// What is logged at the most: at a terminal also why a file can't be opened or an address can't be
+/// listened on, in a line before the fault.
+fn most_told(is_terminal: bool) -> Level {
+    if is_terminal {
+        Level::Info
+    } else {
+        Level::Warn
+    }
+}
 
 /// Does what the words ask for, but for serving.
 fn run<'a>(rt: &HostRuntime, words: &'a [String]) -> Outcome<'a>
@@ -32,8 +45,9 @@ fn run<'a>(rt: &HostRuntime, words: &'a [String]) -> Outcome<'a>
 {
     let mut input = StreamReader::new(rt.stdin().lock());
     let mut output = StreamWriter::new(rt.stdout().lock());
-    let mut faults = StreamWriter::new(rt.stderr().lock());
-    lpd_words::run(rt.alloc(), rt, words, &mut input, &mut output, &mut faults)
+    let mut faults = StreamWriter::new(rt.stderr());
+    let logged = Logged::new(*rt, most_told(rt.stderr().is_terminal()), Console(*rt));
+    lpd_words::run(&logged, words, &mut input, &mut output, &mut faults)
 }
 
 /// Starts the thread that writes what is logged, so that no other waits for whoever reads that. It
@@ -54,8 +68,8 @@ fn start_log<R: Threads + Wait + Copy + Send + 'static, W: Write + Drop + Send +
     Ok(queue)
 }
 
-/// Serves the queues of the configuration at this path. Faults are told in the log. What is
-/// answered is the exit status.
+/// Serves the queues of the configuration at this path. Faults are told in the log. Answers the
+/// exit status.
 fn serve<
     R: Files<File = File>
         + Net<Listener = TcpListener, Stream = TcpStream>
@@ -69,17 +83,21 @@ fn serve<
     ensures { result ≤ 5 }
 {
     let mut output = StreamWriter::new(output);
-    let config = match lpd_words::read_config(alloc, &mut FileReader::open(rt, config)) {
+    let mut file = StreamReader::open(rt, config);
+    let config = match lpd_words::read_config(alloc, &mut file) {
         Ok(config) => config,
         Err(fault) => {
+            tell_cause(rt, &config, file.cause());
             error!(rt; "{fault}");
             return fault.status();
         }
     };
-    match lpd_daemon::serve(rt, alloc, config, &settings, &mut output) {
+    match lpd_daemon::serve(rt, alloc, config, settings, &mut output) {
         Ok(()) => 0,
         Err(fault) => {
-            error!(rt; "{fault}");
+            if !fault.is_told() {
+                error!(rt; "{fault}");
+            }
             fault.status()
         }
     }
@@ -110,16 +128,20 @@ fn main(rt: HostRuntime) -> ExitCode {
         Outcome::Ended(status) => code(status),
         Outcome::Serve { config, settings } => {
             let Ok(queue) = start_log(&rt, alloc, rt.stderr()) else {
+                let mut faults = StreamWriter::new(rt.stderr());
+                // Where standard error can't be written, the status alone tells.
+                let _ = tell(alloc, &FaultName::Memory, &mut faults);
                 return code(4);
             };
-            let logged = Logged::new(rt, Level::Info, LineLog::new(&rt, alloc, &queue));
+            let level = most_told(rt.stderr().is_terminal());
+            let logged = Logged::new(rt, level, LineLog::new(&rt, alloc, &queue));
             let status = if filled {
                 serve(&logged, alloc, config, settings, rt.stdout())
             } else {
                 error!(logged; "{} /dev/null", FaultName::ReadFile);
                 4
             };
-            queue.end(&rt, Duration::from_secs(PATIENCE));
+            queue.end(&rt, Duration::from_secs(PATIENCE_SECONDS));
             code(status)
         }
     }
