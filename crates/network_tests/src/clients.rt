@@ -4,11 +4,11 @@ ghost use Rattle.std.specs.Prelude.{IsTrue, ◌≡◌};
 ghost use Rattle.lpr_client.specs.Sendable.{is_sendable};
 
 use libc::net::{AF_INET, SO_RCVBUF, SOCK_CLOEXEC, SOCK_STREAM, SOL_SOCKET, setsockopt, socket};
-use lpd_script::{StreamReader, StreamWriter};
 use lpr_client::{
     Control, DataFile, FileName, Octets, SendFault, is_sendable, job_bytes, send_job,
 };
 use os::FromRawFd;
+use program_edge::{StreamReader, StreamWriter};
 use std::alloc::Global;
 use std::io::{Read, Write};
 use std::net::{Ipv4Addr, Net, SocketAddr, TcpStream};

@@ -3,7 +3,7 @@
 use crate::clients::{connect, is_answered, is_ended, octets_of, send, send_more, stop, write};
 use crate::jobs::{are_in_order, job_text, jobs_in, pages_of};
 use crate::place::{make, printed, remove};
-use crate::server::{SMALL, Spool, ends_well, settings};
+use crate::server::{SMALL, Spool, ends_well, settings, silent_for};
 use lpd_daemon::Settings;
 use std::alloc::Global;
 use std::net::{Net, Shutdown, TcpStream};
@@ -129,8 +129,8 @@ fn good_jobs_are_printed_beside_bad_clients(rt: HostRuntime) {
     let out = "good_jobs_are_printed_beside_bad_clients";
     make(&rt, out);
     let settings = Settings {
-        silence: Some(SILENCE),
-        ..settings(out, CONNECTIONS)
+        limits: silent_for(SILENCE),
+        ..settings(&rt, out, CONNECTIONS)
     };
     let text = ends_well(&rt, SPOOL, settings, |port| {
         let stopped = stop(&rt, port);

@@ -8,10 +8,11 @@ use crate::jobs::HELLO;
 use crate::pipe::Pipe;
 use crate::place::{is_printed, make, remove};
 use crate::server::{SMALL, Spool, ends_well, settings};
-use lpd_daemon::Settings;
+use lpd_daemon::{Limits, Settings};
 use lpr_client::SendFault;
 use std::io::{Read, Write};
 use std::net::{Net, Shutdown, TcpStream};
+use std::num::NonZeroU64;
 use std::process::Abort;
 use std::thread;
 use std::time::{Clock, Duration, Instant};
@@ -62,7 +63,7 @@ fn a_printer_that_takes_no_page(rt: HostRuntime) {
     pipe.stand_for_printer(&rt, out);
     let settings = Settings {
         keep_room: true,
-        ..settings(out, CLIENTS as u64 * u64::from(JOBS + JOBS / ASKS))
+        ..settings(&rt, out, CLIENTS as u64 * u64::from(JOBS + JOBS / ASKS))
     };
     ends_well(&rt, FOURTEEN, settings, |port| {
         let taken = thread::map_indices(&rt, rt.alloc(), CLIENTS, &|_| send_some(&rt, port));
@@ -98,7 +99,7 @@ fn sessions_that_all_wait(rt: HostRuntime) {
     make(&rt, out);
     let settings = Settings {
         sessions: 3,
-        ..settings(out, 6)
+        ..settings(&rt, out, 6)
     };
     ends_well(&rt, SIX_PAGES, settings, |port| {
         let halting = stop(&rt, port);
@@ -133,6 +134,100 @@ fn sessions_that_all_wait(rt: HostRuntime) {
     is_printed(&rt, out, HELLO);
 }
 
+/// How many jobs lose their peers, and how many whole jobs wait beside them.
+const PAIRS: u32 = 8;
+
+/// A spool of two pages for a job whose printer takes none, and two for each that loses its peer.
+const TWO_EACH: Spool = Spool {
+    pages: 2 + 2 * PAIRS,
+    jobs: 64,
+    ..SMALL
+};
+
+/// A job that has sent 16 octets of 24, which fill two pages; the octet that answers its second line
+/// is left unread, so that the connection breaks when it is dropped.
+fn cut_short<R: Abort + AllocGlobal + Net<Stream = TcpStream>>(
+    rt: &R,
+    port: u16,
+    number: u32,
+) -> TcpStream {
+    let begun = format!(in rt.alloc(); "\x02lp\n\x0324 dfA{number:03}h1\ncccccccccccccccc").expect(
+        rt, "memory",
+    );
+    let stream = connect(rt, port);
+    write(rt, &stream, begun.as_bytes());
+    is_answered(rt, &stream, &[0]);
+    stream
+}
+
+/// A job that has sent its control file, and no octet of 24 yet.
+fn begun_whole<R: Abort + AllocGlobal + Net<Stream = TcpStream>>(
+    rt: &R,
+    port: u16,
+    number: u32,
+) -> TcpStream {
+    let begun = format!(in rt.alloc();
+        "\x02lp\n\x0219 cfA{number:03}h1\nHh1\nPann\nfdfA{number:03}h1\n\0\x0324 dfA{number:03}h1\n"
+    ).expect(rt, "memory");
+    let stream = connect(rt, port);
+    write(rt, &stream, begun.as_bytes());
+    is_answered(rt, &stream, &[0; 4]);
+    stream
+}
+
+/// Jobs that came whole, whose peers have ended their sending, wait for the pages of jobs whose
+/// peers break. None of them is ended, whenever in a look for peers that are gone it goes on and
+/// waits again; once the printer takes pages each is printed.
+#[test]
+fn whole_jobs_beside_peers_that_leave(rt: HostRuntime) {
+    let out = "whole_jobs_beside_peers_that_leave";
+    make(&rt, out);
+    let pipe = Pipe::full(&rt);
+    pipe.stand_for_printer(&rt, out);
+    let settings = Settings {
+        sessions: 2 * PAIRS + 1,
+        ..settings(&rt, out, 2 * u64::from(PAIRS) + 1)
+    };
+    ends_well(&rt, TWO_EACH, settings, |port| {
+        let moment = Duration::from_millis(500);
+        assert_eq!(rt; send(&rt, &connect(&rt, port), 1, HELLO), Ok(()));
+        let mut leaving = Vec::new(rt.alloc());
+        let mut whole = Vec::new(rt.alloc());
+        for number in 0..PAIRS {
+            let stream = cut_short(&rt, port, number + 2);
+            leaving.push(stream).expect(&rt, "memory");
+            let stream = begun_whole(&rt, port, number + 100);
+            whole.push(stream).expect(&rt, "memory");
+        }
+        thread::sleep(&rt, moment);
+        // No page is free now, so the ones wait for their third pages, the others for their first.
+        for stream in leaving.iter() {
+            write(&rt, stream, b"cccc");
+        }
+        for stream in whole.iter() {
+            write(&rt, stream, b"wwww");
+        }
+        thread::sleep(&rt, moment);
+        for stream in whole.iter() {
+            write(&rt, stream, b"wwwwwwwwwwwwwwwwwwww\0");
+            stream.shutdown(Shutdown::Write).expect(&rt, "the end");
+        }
+        drop(leaving);
+        // In this time the server looks twice for peers that are gone.
+        thread::sleep(&rt, Duration::from_millis(2_500));
+        pipe.empty(&rt);
+        for stream in whole.iter() {
+            is_answered(&rt, stream, &[0]);
+            is_ended(&rt, stream);
+        }
+        let printed = pipe.read(&rt, HELLO.len() + 24 * PAIRS as usize);
+        let (first, rest) = (printed.as_slice().split_at_checked(HELLO.len())).expect(&rt, "a job");
+        assert_eq!(rt; first, HELLO);
+        assert!(rt; rest.iter().all(|octet| *octet == b'w'));
+    });
+    remove(&rt, out);
+}
+
 /// How many connections say nothing, or an octet.
 const SILENT: u64 = 60;
 
@@ -144,7 +239,7 @@ fn silent_connections(rt: HostRuntime) {
     make(&rt, out);
     let settings = Settings {
         sessions: 1,
-        ..settings(out, SILENT + 5)
+        ..settings(&rt, out, SILENT + 5)
     };
     ends_well(&rt, SMALL, settings, |port| {
         let first = connect(&rt, port);
@@ -179,8 +274,11 @@ fn a_host_has_its_share(rt: HostRuntime) {
     make(&rt, out);
     let settings = Settings {
         sessions: 3,
-        per_host: Some(2),
-        ..settings(out, 4)
+        limits: Limits {
+            per_host: NonZeroU64::new(2),
+            ..Limits::NONE
+        },
+        ..settings(&rt, out, 4)
     };
     ends_well(&rt, SMALL, settings, |port| {
         let line = b"\x02lp\n";
@@ -206,7 +304,7 @@ fn refused_peers_that_send_on(rt: HostRuntime) {
     make(&rt, out);
     let settings = Settings {
         sessions: 1,
-        ..settings(out, 3)
+        ..settings(&rt, out, 3)
     };
     ends_well(&rt, SMALL, settings, |port| {
         let flooding = refused(&rt, port);

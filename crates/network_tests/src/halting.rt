@@ -3,7 +3,7 @@
 use crate::clients::{connect, is_answered, is_ended, octets_of, send, stop, write};
 use crate::jobs::HELLO;
 use crate::place::{is_printed, make};
-use crate::server::{SMALL, Spool, ends_well, settings};
+use crate::server::{SMALL, Spool, ends_well, settings, silent_for};
 use lpd_daemon::Settings;
 
 /// A peer that says nothing, at first or in the middle of a job, loses the only thread after two
@@ -14,8 +14,8 @@ fn silent_peers_are_left(rt: HostRuntime) {
     make(&rt, out);
     let settings = Settings {
         sessions: 1,
-        silence: Some(2),
-        ..settings(out, 3)
+        limits: silent_for(2),
+        ..settings(&rt, out, 3)
     };
     ends_well(&rt, SMALL, settings, |port| {
         let silent = connect(&rt, port);
@@ -46,8 +46,8 @@ fn a_halting_peer_gives_its_pages_back(rt: HostRuntime) {
     let out = "a_halting_peer_gives_its_pages_back";
     make(&rt, out);
     let settings = Settings {
-        silence: Some(3),
-        ..settings(out, 3)
+        limits: silent_for(3),
+        ..settings(&rt, out, 3)
     };
     ends_well(&rt, NARROW, settings, |port| {
         let halting = stop(&rt, port);

@@ -2,6 +2,8 @@
 #![tactic(auto)]
 
 #[cfg(test)]
+mod allowing;
+#[cfg(test)]
 mod clients;
 #[cfg(test)]
 mod crowd;
@@ -13,6 +15,8 @@ mod freezing;
 mod halting;
 #[cfg(test)]
 mod jobs;
+#[cfg(test)]
+mod listings;
 #[cfg(test)]
 mod logging;
 #[cfg(test)]

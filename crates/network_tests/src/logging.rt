@@ -1,16 +1,17 @@
 //! What is logged, by a log that holds up no one.
 
-use crate::clients::{ask, ask_from, connect, is_answered, is_ended, refused, write};
+use crate::clients::{ask, ask_from, connect, is_answered, is_ended, refused, send, write};
 use crate::place::{make, path, remove};
-use crate::server::{SMALL, Spool, ends_well, settings};
+use crate::server::{SMALL, Spool, ends_well, settings, silent_for};
 use log::{Level, Logged, error, warn};
 use lpd_daemon::Settings;
-use server_edge::{LineLog, LineQueue};
+use program_edge::{LineLog, LineQueue};
 use std::alloc::Global;
 use std::io::Read;
 use std::net::{Net, Shutdown, TcpStream};
 use std::os::unix::fs::symlink;
 use std::process::Abort;
+use std::sync::Wait;
 use std::thread;
 use std::time::{Clock, Duration};
 
@@ -43,9 +44,21 @@ fn two_lines_wait(rt: HostRuntime) {
     );
 }
 
+/// The lines of faults that are written of a log to which no more comes.
+pub fn faults_in<R: Abort + AllocGlobal + Clock + Wait>(rt: &R, queue: &LineQueue) -> String {
+    let text = all_lines(rt, rt.alloc(), queue);
+    let mut faults = String::new(rt.alloc());
+    for line in text.as_str().split_inclusive('\n') {
+        if line.starts_with("fault ") {
+            faults.push_str(line).expect(rt, "memory");
+        }
+    }
+    faults
+}
+
 /// A spool for so many jobs that the system doesn't keep their long listing for a peer that doesn't
 /// read it.
-const MANY_JOBS: Spool = Spool {
+pub const MANY_JOBS: Spool = Spool {
     pages: 512,
     jobs: 512,
     account: 1_000_000,
@@ -54,7 +67,7 @@ const MANY_JOBS: Spool = Spool {
 
 /// How many jobs there are. Their listing has two and a half megabytes, and the system keeps less
 /// than two.
-const JOBS: u32 = 300;
+pub const JOBS: u32 = 300;
 
 /// How often a job prints its file: as often as a control file has room for a name of 126 octets.
 const PRINTS: usize = 63;
@@ -75,7 +88,7 @@ fn job_octets<R: Abort>(rt: &R, alloc: Global, number: u32) -> String {
 }
 
 /// Sends so many jobs over one connection, from the one of this number on.
-fn send_jobs<R: Abort + AllocGlobal + Net<Stream = TcpStream>>(
+pub fn send_jobs<R: Abort + AllocGlobal + Net<Stream = TcpStream>>(
     rt: &R,
     port: u16,
     first: u32,
@@ -126,13 +139,28 @@ fn count_cut<R: Abort + AllocGlobal + Clock + Net<Stream = TcpStream>>(
     cut
 }
 
+/// All lines that wait in a queue, to which no more come.
+pub fn all_lines<R: Abort + Clock + Wait>(rt: &R, alloc: Global, queue: &LineQueue) -> String {
+    queue.end(rt, Duration::from_millis(1));
+    let mut written = Vec::new(alloc);
+    queue.write_all(rt, alloc, &mut written);
+    let text = str::from_utf8(written.as_slice()).expect(rt, "text");
+    String::from_str(alloc, text).expect(rt, "memory")
+}
+
 /// Whether this line tells why a session ended.
 fn is_told(line: &str, why: &str) -> bool {
     line.starts_with("[WARN  lpd_daemon::answering] 127.0.0.1:") && line.ends_with(why)
 }
 
+/// Whether this line tells that a printer's first page wasn't written, and why.
+fn is_of_printer(line: &str) -> bool {
+    line.starts_with("[WARN  lpd_daemon::printing] printer 1: job ")
+        && line.ends_with(", place 0: No space left on device (os error 28)")
+}
+
 /// The log tells of three sessions why they ended, and then of as many whose answers couldn't be
-/// written as were cut, by a line among those; and of nothing else.
+/// written as were cut, by a line among those; of a printer whose file is full; and of nothing else.
 fn all_is_told<R: Abort>(rt: &R, alloc: Global, text: &str) {
     let mut lines = text.lines();
     for why in [
@@ -153,14 +181,17 @@ fn all_is_told<R: Abort>(rt: &R, alloc: Global, text: &str) {
     let cut = format!(in alloc; "[WARN  network_tests::logging] {failed} answers were cut").expect(
         rt, "memory",
     );
+    let mut printers = 0usize;
     let mut others = 0usize;
     for line in lines {
-        if !is_told(line, unwritten) {
+        if is_of_printer(line) {
+            printers = printers.saturating_add(1);
+        } else if !is_told(line, unwritten) {
             assert_eq!(rt; line, cut.as_str());
             others = others.saturating_add(1);
         }
     }
-    assert_eq!(rt; others, 1);
+    assert_eq!(rt; (others, printers), (1, 1));
 }
 
 /// Each session that ends neither as finished nor as closed is told, with its peer and why; no
@@ -176,8 +207,8 @@ fn each_end_is_logged(rt: HostRuntime) {
     let logged = Logged::new(rt, Level::Info, LineLog::new(&rt, alloc, &queue));
     let settings = Settings {
         sessions: 1,
-        silence: Some(4),
-        ..settings(out, 9)
+        limits: silent_for(4),
+        ..settings(&rt, out, 9)
     };
     ends_well(&logged, MANY_JOBS, settings, |port| {
         refused(&rt, port);
@@ -197,9 +228,26 @@ fn each_end_is_logged(rt: HostRuntime) {
         warn!(logged; "{cut} answers were cut");
     });
     remove(&rt, out);
-    queue.end(&rt, Duration::from_millis(1));
-    let mut written = Vec::new(alloc);
-    queue.write_all(&rt, alloc, &mut written);
-    let text = str::from_utf8(written.as_slice()).expect(&rt, "text");
-    all_is_told(&rt, alloc, text);
+    all_is_told(&rt, alloc, all_lines(&rt, alloc, &queue).as_str());
+}
+
+/// A page that isn't written is told once, with its printer, its job, its place and why; nothing
+/// else is, and the job is acknowledged all the same.
+#[test]
+fn a_page_that_isnt_written_is_told(rt: HostRuntime) {
+    let out = "a_page_that_isnt_written_is_told";
+    make(&rt, out);
+    let file = path(&rt, rt.alloc(), out, 1);
+    symlink(&rt, "/dev/full", file.as_str()).expect(&rt, "a link");
+    let alloc = rt.alloc();
+    let queue = LineQueue::new(alloc, 64);
+    let logged = Logged::new(rt, Level::Info, LineLog::new(&rt, alloc, &queue));
+    ends_well(&logged, SMALL, settings(&rt, out, 1), |port| {
+        assert_eq!(rt; send(&rt, &connect(&rt, port), 1, b"hello world"), Ok(()));
+    });
+    remove(&rt, out);
+    assert_eq!(rt;
+        all_lines(&rt, alloc, &queue).as_str(),
+        "[WARN  lpd_daemon::printing] printer 1: job 1, place 0: No space left on device (os error 28)\n"
+    );
 }

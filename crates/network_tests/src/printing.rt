@@ -4,10 +4,11 @@ use crate::clients::{connect, is_answered, is_ended, octets_of, send, waits, wri
 use crate::jobs::HELLO;
 use crate::pipe::Pipe;
 use crate::place::{is_printed, make, path, remove};
-use crate::server::{SMALL, Spool, ends_well, settings};
+use crate::server::{ENDLESS, Paper, SMALL, Spool, Terminal, ends_well, port_of, run, settings};
 use lpd_daemon::Settings;
 use lpr_client::SendFault;
 use std::net::{Net, TcpStream};
+use std::num::NonZeroU64;
 use std::process::Abort;
 use std::time::Duration;
 use std::{fs, thread};
@@ -20,7 +21,7 @@ fn one_job(rt: HostRuntime) {
     make(&rt, out);
     let file = path(&rt, rt.alloc(), out, 1);
     fs::write(&rt, file.as_str(), "title ").expect(&rt, "a file");
-    let text = ends_well(&rt, SMALL, settings(out, 1), |port| {
+    let text = ends_well(&rt, SMALL, settings(&rt, out, 1), |port| {
         assert_eq!(rt; send(&rt, &connect(&rt, port), 1, HELLO), Ok(()));
     });
     assert_eq!(rt; text.as_str(), "closed entries 13\n");
@@ -43,9 +44,8 @@ fn send_two<R: Abort + AllocGlobal + Net<Stream = TcpStream>>(
     send(rt, &connect(rt, port), 2, HELLO)
 }
 
-/// Each connection is followed by a rotation; or each second one, which is the last here; at 0
-/// none, as without a number. Where there is no room for one job more the second one is refused for
-/// now.
+/// Each connection is followed by a rotation, which makes room where there is none for one job more;
+/// or each second one, which is the last here. Without a rotation the second job is refused for now where there is no room.
 #[test]
 fn the_account_has_its_turn(rt: HostRuntime) {
     let out = "the_account_has_its_turn";
@@ -59,14 +59,20 @@ fn the_account_has_its_turn(rt: HostRuntime) {
             "rotated 1 entries 12\nclosed entries 25\n",
             both,
         ),
+        (
+            ONE_JOB,
+            Some(1),
+            Ok(()),
+            "rotated 1 entries 12\nclosed entries 25\n",
+            both,
+        ),
         (SMALL, Some(2), Ok(()), "closed entries 25\n", both),
-        (SMALL, Some(0), Ok(()), "closed entries 25\n", both),
         (ONE_JOB, None, full, "closed entries 13\n", HELLO),
     ] {
         make(&rt, out);
         let settings = Settings {
-            rotate,
-            ..settings(out, 2)
+            rotate: rotate.and_then(|every| NonZeroU64::new(every)),
+            ..settings(&rt, out, 2)
         };
         let text = ends_well(&rt, spool, settings, |port| {
             assert_eq!(rt; send_two(&rt, port), sent, "rotated {rotate:?}");
@@ -74,6 +80,43 @@ fn the_account_has_its_turn(rt: HostRuntime) {
         assert_eq!(rt; text.as_str(), lines, "rotated {rotate:?}");
         is_printed(&rt, out, printed);
     }
+}
+
+/// The line of a rotation is written before the next connection is handed on, however long that
+/// takes: before that one's first octet is answered.
+#[test]
+fn a_rotation_is_told_first(rt: HostRuntime) {
+    let out = "a_rotation_is_told_first";
+    make(&rt, out);
+    let settings = Settings {
+        rotate: NonZeroU64::new(1),
+        ..settings(&rt, out, 2)
+    };
+    let slow = Paper {
+        pause_ms: 300,
+        ..ENDLESS
+    };
+    let terminal = Terminal::new(rt.alloc());
+    let config = SMALL.config(&rt, rt.alloc());
+    let (told, ended) = thread::join(
+        &rt,
+        || {
+            let first = terminal.text(&rt, false);
+            let port = port_of(first.as_str()).expect(&rt, "the server listens");
+            assert_eq!(rt; send(&rt, &connect(&rt, port), 1, HELLO), Ok(()));
+            let second = connect(&rt, port);
+            write(&rt, &second, b"\x02lp\n");
+            is_answered(&rt, &second, &[0]);
+            terminal.text(&rt, false)
+        },
+        || run(&rt, &terminal, config, settings, slow),
+    );
+    assert_eq!(rt; ended, Ok(()));
+    assert!(rt;
+        told.as_str().ends_with("\nrotated 1 entries 12\n"),
+        "{told}"
+    );
+    is_printed(&rt, out, HELLO);
 }
 
 /// While a page is held, since the pipe in the place of its printer's file is full, the end waits,
@@ -89,8 +132,8 @@ fn a_page_is_held(rt: HostRuntime) {
         let pipe = Pipe::full(&rt);
         pipe.stand_for_printer(&rt, out);
         let settings = Settings {
-            rotate,
-            ..settings(out, 2)
+            rotate: rotate.and_then(|every| NonZeroU64::new(every)),
+            ..settings(&rt, out, 2)
         };
         let text = ends_well(&rt, SMALL, settings, |port| {
             assert_eq!(rt; send(&rt, &connect(&rt, port), 1, HELLO), Ok(()));
@@ -123,7 +166,7 @@ fn room_is_kept(rt: HostRuntime) {
     make(&rt, out);
     let settings = Settings {
         keep_room: true,
-        ..settings(out, 2)
+        ..settings(&rt, out, 2)
     };
     let text = ends_well(&rt, ONE_JOB, settings, |port| {
         assert_eq!(rt; send_two(&rt, port), Ok(()));
@@ -140,7 +183,7 @@ fn room_is_kept(rt: HostRuntime) {
 fn a_job_finds_no_room(rt: HostRuntime) {
     let out = "a_job_finds_no_room";
     make(&rt, out);
-    let text = ends_well(&rt, ONE_JOB, settings(out, 1), |port| {
+    let text = ends_well(&rt, ONE_JOB, settings(&rt, out, 1), |port| {
         let stream = connect(&rt, port);
         assert_eq!(rt; send(&rt, &stream, 1, HELLO), Ok(()));
         write(&rt, &stream, b"\x0311 dfA002h1\n");

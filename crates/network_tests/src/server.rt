@@ -6,10 +6,11 @@ ghost use Rattle.std.specs.Thread.{IsSend, IsSync};
 use config_values::Config;
 use log::Log;
 use lpd_commands::{OctetFault, OctetWrite};
-use lpd_daemon::{Fault, Settings, serve};
+use lpd_daemon::{Fault, Limits, Settings, serve};
 use std::alloc::Global;
 use std::fs::{File, Files};
 use std::net::{Ipv4Addr, Net, TcpListener, TcpStream};
+use std::num::NonZeroU64;
 use std::process::Abort;
 use std::sync::{Condvar, Mutex, Wait};
 use std::thread;
@@ -20,7 +21,7 @@ use std::time::{Clock, Duration};
 const LIMIT_SECONDS: u64 = 30;
 
 /// Settings of a server that ends after so many connections, at a port that the system picks.
-pub fn settings(out: &str, connections: u64) -> Settings<'_> {
+pub fn settings<'a, R: AllocGlobal>(rt: &R, out: &'a str, connections: u64) -> Settings<'a> {
     Settings {
         bind: Ipv4Addr::LOCALHOST,
         port: 0,
@@ -28,10 +29,17 @@ pub fn settings(out: &str, connections: u64) -> Settings<'_> {
         sessions: 8,
         connections: Some(connections),
         rotate: None,
-        silence: None,
-        per_host: None,
-        slowest: None,
         keep_room: false,
+        limits: Limits::NONE,
+        allowed: Vec::new(rt.alloc()),
+    }
+}
+
+/// Limits by which a peer may be silent for so many seconds.
+pub fn silent_for(seconds: u64) -> Limits {
+    Limits {
+        silence: NonZeroU64::new(seconds),
+        ..Limits::NONE
     }
 }
 
@@ -101,27 +109,45 @@ pub struct Terminal {
     changed: Condvar,
 }
 
-/// The end of a terminal that a server writes to, which takes so many lines more; then each write
-/// fails.
+/// How a server's lines are taken.
+#[derive(Clone, Copy)]
+pub struct Paper {
+    /// How many lines it has room for; then each write fails.
+    pub lines: u64,
+    /// For how many milliseconds each line but the first is written.
+    pub pause_ms: u64,
+}
+
+/// Paper that takes all lines, each at once.
+pub const ENDLESS: Paper = Paper {
+    lines: u64::MAX,
+    pause_ms: 0,
+};
+
+/// The end of a terminal that a server writes to.
 #[derive(Drop)]
 struct Output<'a, R: Wait> {
     rt: &'a R,
     terminal: &'a Terminal,
-    left: u64,
+    paper: Paper,
+    taken: u64,
     faults: u64,
 }
 
-impl<R: Wait> OctetWrite for Output<'_, R> {
+impl<R: Clock + Wait> OctetWrite for Output<'_, R> {
     ghost written = { λ _. None };
 
     ghost faults = { λ output. output.faults };
 
     fn write(&mut self, octets: &[u8]) -> Result<usize, OctetFault> {
-        if self.left == 0 || !self.terminal.add(self.rt, octets) {
+        if self.taken > 0 && self.paper.pause_ms > 0 {
+            thread::sleep(self.rt, Duration::from_millis(self.paper.pause_ms));
+        }
+        if self.taken >= self.paper.lines || !self.terminal.add(self.rt, octets) {
             self.faults = self.faults.saturating_add(1);
             return Err(OctetFault);
         }
-        self.left -= 1;
+        self.taken += 1;
         Ok(octets.len())
     }
 }
@@ -167,15 +193,12 @@ impl Terminal {
 }
 
 /// The port in the line `listening N`.
-fn port_of(line: &str) -> Option<u16> {
+pub fn port_of(line: &str) -> Option<u16> {
     let number = line.strip_prefix("listening ")?.strip_suffix('\n')?;
     number.parse::<u16>().ok()
 }
 
-/// All lines that a server prints.
-pub const ALL: u64 = u64::MAX;
-
-/// Runs a server whose output is the terminal, which takes so many lines.
+/// Runs a server whose output is the terminal, with this paper.
 pub fn run<
     R: Abort
         + AllocGlobal
@@ -191,20 +214,21 @@ pub fn run<
     terminal: &Terminal,
     config: Config,
     settings: Settings<'_>,
-    lines: u64,
+    paper: Paper,
 ) -> Result<(), Fault> {
     let mut output = Output {
         rt,
         terminal,
-        left: lines,
+        paper,
+        taken: 0,
         faults: 0,
     };
-    let ended = serve(rt, rt.alloc(), config, &settings, &mut output);
+    let ended = serve(rt, rt.alloc(), config, settings, &mut output);
     terminal.end(rt);
     ended
 }
 
-/// Runs a server beside its clients, who are told its port; so many of its lines can be written.
+/// Runs a server beside its clients, who are told its port; its lines are written on this paper.
 /// How it ended, and what it printed after its first line, `listening PORT`.
 pub fn beside<
     R: Abort
@@ -221,7 +245,7 @@ pub fn beside<
     rt: &R,
     config: Config,
     settings: Settings<'_>,
-    lines: u64,
+    paper: Paper,
     clients: F,
 ) -> (Result<(), Fault>, String)
     requires { F.IsAlwaysCallable clients }
@@ -239,7 +263,7 @@ pub fn beside<
             let rest = text.as_str().strip_prefix(first.as_str());
             String::from_str(rt.alloc(), rest.expect(rt, "the first line")).expect(rt, "memory")
         },
-        || run(rt, &terminal, config, settings, lines),
+        || run(rt, &terminal, config, settings, paper),
     );
     (ended, text)
 }
@@ -261,7 +285,7 @@ pub fn ends_well<
     requires { F.IsAlwaysCallable clients }
 {
     let config = spool.config(rt, rt.alloc());
-    let (ended, text) = beside(rt, config, settings, ALL, clients);
+    let (ended, text) = beside(rt, config, settings, ENDLESS, clients);
     assert_eq!(rt; ended, Ok(()));
     text
 }

@@ -1,7 +1,8 @@
 //! Configurations and scripts, and what the program prints for them.
 
 use crate::rows::octets;
-use lpd_script::{StreamReader, StreamWriter, run_input};
+use lpd_script::run_input;
+use program_edge::{StreamReader, StreamWriter};
 use std::alloc::{AllocError, Global};
 
 /// The configuration of a script that has none of its own.

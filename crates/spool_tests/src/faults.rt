@@ -3,7 +3,8 @@
 ghost use Rattle.std.specs.Prelude.{None};
 
 use lpd_commands::{OctetFault, OctetRead, OctetWrite};
-use lpd_script::{StreamReader, StreamWriter, run_input};
+use lpd_script::run_input;
+use program_edge::{StreamReader, StreamWriter};
 use std::alloc::Global;
 use std::io;
 use std::io::{Error, ErrorKind, Read, Write};

@@ -1,6 +1,7 @@
 //! Sessions that are sent in several pieces, from the program's input to its output.
 
-use lpd_script::{StreamReader, StreamWriter, run_input};
+use lpd_script::run_input;
+use program_edge::{StreamReader, StreamWriter};
 use std::alloc::{AllocError, Global};
 use std::process::Abort;
 use std::test::Fail;

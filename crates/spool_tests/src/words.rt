@@ -1,9 +1,9 @@
 //! The program's words, with files and a socket on loopback.
 
 use crate::rows::expect;
-use lpd_script::{StreamReader, StreamWriter};
 use lpd_words::{Fault, Outcome, Settings, run};
 use lpr_client::{Control, DataFile, FileName, Octets, SendFault, is_sendable, job_bytes};
+use program_edge::{Limits, StreamReader, StreamWriter};
 use std::alloc::{AllocError, Global};
 use std::io::{Read, Write};
 use std::net::{Ipv4Addr, OpenListener, SocketAddr, TcpListener};
@@ -73,14 +73,7 @@ fn told(rt: &HostRuntime, words: &[&str], input: &[u8]) -> Result<Vec<u8>, Alloc
     let mut output = StreamWriter::new(Vec::new(alloc));
     let mut faults = StreamWriter::new(Vec::new(alloc));
     let mut input = StreamReader::new(input);
-    let outcome = run(
-        alloc,
-        rt,
-        all.as_slice(),
-        &mut input,
-        &mut output,
-        &mut faults,
-    );
+    let outcome = run(rt, all.as_slice(), &mut input, &mut output, &mut faults);
     let mut told = output.into_stream();
     told.extend_from_slice(faults.into_stream().as_slice())?;
     let end = match status_of(outcome) {
@@ -243,13 +236,18 @@ fn line_of(alloc: Global, config: &str, settings: &Settings) -> Result<String, A
         sessions,
         connections,
         rotate,
+        keep_room,
+        limits,
+        allowed,
+    } = settings;
+    let Limits {
         silence,
         per_host,
         slowest,
-        keep_room,
-    } = *settings;
+        no_job_seconds,
+    } = *limits;
     format!(in alloc;
-        "{config} {port} {bind} {out} {sessions} {connections:?} {rotate:?} {silence:?} {per_host:?} {slowest:?} {keep_room}\n"
+        "{config} {port} {bind} {out} {sessions} {connections:?} {rotate:?} {silence:?} {per_host:?} {slowest:?} {no_job_seconds} {keep_room} {allowed:?}\n"
     )
 }
 
@@ -261,14 +259,7 @@ fn served(rt: &HostRuntime, line: &str) -> Result<String, AllocError> {
     let mut output = StreamWriter::new(Vec::new(alloc));
     let mut faults = StreamWriter::new(Vec::new(alloc));
     let mut input = StreamReader::new(b"".as_slice());
-    let outcome = run(
-        alloc,
-        rt,
-        all.as_slice(),
-        &mut input,
-        &mut output,
-        &mut faults,
-    );
+    let outcome = run(rt, all.as_slice(), &mut input, &mut output, &mut faults);
     match outcome {
         Outcome::Serve { config, settings } => line_of(alloc, config, &settings),
         Outcome::Ended(status) => format!(in alloc; "status {status}\n"),
@@ -278,13 +269,13 @@ fn served(rt: &HostRuntime, line: &str) -> Result<String, AllocError> {
 #[test]
 fn servers(rt: HostRuntime) -> Result<(), Fail> {
     let answer = served(&rt, "serve spool.toml --port 515")?;
-    let line = b"spool.toml 515 127.0.0.1 . 8 None None None None None false\n";
+    let line = b"spool.toml 515 127.0.0.1 . 8 None None None None None 5 false []\n";
     expect(&rt, b"serve", answer.as_bytes(), line);
     let words = "serve --port=65535 --bind 10.0.200.255 --out pages --sessions 64 --connections 3 \
-        --rotate 4294967295 --silence 60 --per-host 4 --slowest 100 --keep-room spool.toml";
+        --rotate 4294967295 --silence 60 --per-host 4 --slowest 100 --keep-room --allow 10.0.0.0/8 --allow 192.168.1.7 spool.toml";
     let answer = served(&rt, words)?;
     let line =
-        b"spool.toml 65535 10.0.200.255 pages 64 Some(3) Some(4294967295) Some(60) Some(4) Some(100) true\n";
+        b"spool.toml 65535 10.0.200.255 pages 64 Some(3) Some(4294967295) Some(60) Some(4) Some(100) 5 true [Network { address: 10.0.0.0, bits: 8 }, Network { address: 192.168.1.7, bits: 32 }]\n";
     expect(&rt, b"serve with options", answer.as_bytes(), line);
     let answer = told(&rt, &["serve", "a", "--port", "1"], b"free\n")?;
     expect(&rt, b"what serve tells", answer.as_slice(), b"serves\n");
@@ -310,6 +301,17 @@ fn bad_words_of_serve(rt: HostRuntime) -> Result<(), Fail> {
         "serve a --port 515 --silence long",
         "serve a --port 515 --per-host 0",
         "serve a --port 515 --keep-room yes",
+        "serve a --port 515 --allow 10.0.0.0/33",
+        "serve a --port 515 --allow 10.0.0.0/08",
+        "serve a --port 515 --allow 10.0.0.0/+8",
+        "serve a --port 515 --allow 10.0.0.1/8",
+        "serve a --port 515 --allow 256.0.0.0/8",
+        "serve a --port 515 --allow 010.0.0.0/8",
+        "serve a --port 515 --allow 10.0.0.0/8/8",
+        "serve a --port 515 --allow 10.0.0.0/8 --allow localhost",
+        "serve a --port 515 --allow 10.0.0/8",
+        "serve a --port 515 --allow 10.0.0.0/",
+        "serve a --port 515 --allow",
         "serve a --port 515 --quiet",
     ];
     for line in bad {

@@ -11,7 +11,8 @@ use control_file::Control;
 use lpd_values::{FileName, Octets};
 use page_pool::PageTicket;
 use shared_spool::{
-    Asked, Foreign, HandedPage, Next, PrinterSeat, ReturnedTicket, SessionSeat, SpoolLedger,
+    AbortError, Asked, Foreign, HandedPage, Next, PrinterSeat, ReturnedTicket, SessionSeat,
+    SpoolLedger, Waiting,
 };
 use std::alloc::AllocError;
 use std::sync::Wait;
@@ -21,6 +22,9 @@ use std::{mem, thread};
 
 /// How long a waiter is seen to wait on, in milliseconds.
 const REST: u64 = 30;
+
+/// How often a session is looked for among those that wait, a rest apart.
+const MOST_LOOKS: u32 = 200;
 
 /// A page of octets.
 const PAGE: [u8; PAGE_SIZE] = [b'a'; PAGE_SIZE];
@@ -40,6 +44,10 @@ pub enum Step {
     Controlled(u64),
     /// A job is aborted.
     Aborted(u64),
+    /// A job whose session waits is ended by what the session waits for.
+    WaitEnded(u64),
+    /// The same by what the session doesn't wait for: nothing happens.
+    WaitKept(u64),
     /// A job is removed.
     Removed(u64),
     /// The queue is started.
@@ -208,6 +216,41 @@ impl<'a, R: AllocGlobal + Clock + Wait, E: SpoolLedger, K: Ledger, H: Ledger> Di
         }
     }
 
+    /// For what the session of a job waits.
+    fn wait_of(&self, job: u64) -> Option<Waiting> {
+        let Stage { rt, spool, .. } = self.stage;
+        for _ in 0..MOST_LOOKS {
+            let waiting = spool.waiting(*rt, rt.alloc()).ok()?;
+            let found = waiting.iter().find(|waiting| waiting.job == job);
+            if let Some(waiting) = found {
+                return Some(*waiting);
+            }
+            thread::sleep(*rt, Duration::from_millis(REST));
+        }
+        None
+    }
+
+    /// Ends a job whose session waits.
+    fn end_wait(&mut self, job: u64) -> Done {
+        let waiting = self.wait_of(job)?;
+        let Stage { rt, spool, .. } = self.stage;
+        spool.abort_waiting(*rt, &mut self.seat, waiting).ok()
+    }
+
+    /// Tries to end it by what its session doesn't wait for, and is told what that waits for.
+    fn keep_wait(&mut self, job: u64) -> Done {
+        let waiting = self.wait_of(job)?;
+        let other = Waiting {
+            put: waiting.put.wrapping_add(1),
+            ..waiting
+        };
+        let Stage { rt, spool, .. } = self.stage;
+        match spool.abort_waiting(*rt, &mut self.seat, other) {
+            Err(AbortError::Moved(now)) if now == Some(waiting) => Some(()),
+            _ => None,
+        }
+    }
+
     /// A job is removed.
     fn remove(&mut self, job: u64) -> Done {
         let Stage { rt, spool, .. } = self.stage;
@@ -288,6 +331,8 @@ impl<'a, R: AllocGlobal + Clock + Wait, E: SpoolLedger, K: Ledger, H: Ledger> Di
             Step::FileEnds(job) => self.end_file(job)?,
             Step::Controlled(job) => self.control(job)?,
             Step::Aborted(job) => self.abort(job)?,
+            Step::WaitEnded(job) => self.end_wait(job)?,
+            Step::WaitKept(job) => self.keep_wait(job)?,
             Step::Removed(job) => self.remove(job)?,
             Step::Started => spool.start(rt, &mut self.seat, QUEUE).ok()?,
             Step::Closed => spool.close(rt, &mut self.seat),

@@ -23,11 +23,22 @@ const PIECE: usize = 7;
 
 /// Octets in memory, which tells those that are left.
 #[derive(Drop)]
-struct Known<'a> {
+pub struct Known<'a> {
     rest: &'a [u8],
     reads: u64,
     /// Never more.
     faults: u64,
+}
+
+impl<'a> Known<'a> {
+    /// A reader that has these octets to give.
+    pub fn new(rest: &'a [u8]) -> Known<'a> {
+        Known {
+            rest,
+            reads: 0,
+            faults: 0,
+        }
+    }
 }
 
 impl OctetRead for Known<'_> {
@@ -55,11 +66,7 @@ fn serve_known<R: Abort + AllocGlobal + Clock + Wait, E: SpoolLedger, K: Ledger,
     octets: &[u8],
 ) -> (SessionEnd, usize) {
     let (alloc, board) = (rt.alloc(), Board::new(rt.alloc()));
-    let mut reader = Known {
-        rest: octets,
-        reads: 0,
-        faults: 0,
-    };
+    let mut reader = Known::new(octets);
     let mut writer = Writer::new(rt, alloc, &board, 0, served(7, octets));
     let (_, end) = serve(rt, alloc, spool, seat, 7, &mut reader, &mut writer);
     assert!(rt; writer.octets.as_slice() == [0u8; 5].as_slice());

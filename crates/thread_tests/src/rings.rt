@@ -3,7 +3,7 @@
 use crate::board::Answer::{Idle, NoPage, Page};
 use crate::director::Step::{
     self, Aborted, Begins, Begun, Closed, Controlled, Failed, FileEnds, Goes, Handed, Lent,
-    Printed, Removed, Started, Stays, Waits, Whole,
+    Printed, Removed, Started, Stays, WaitEnded, WaitKept, Waits, Whole,
 };
 use crate::stage::{Script, happen};
 use crate::waiters::Waiter::{Nobody, Printer, Session, Turns};
@@ -163,6 +163,45 @@ const BY_ABORT: [Row<'static>; 4] = [
 #[test]
 fn an_aborted_job_ends_waits(rt: HostRuntime) -> Result<(), Fail> {
     are_so(&rt, &BY_ABORT)
+}
+
+/// A session's wait is ended by another seat.
+const BY_OTHERS: [Row<'static>; 2] = [
+    (
+        "it waits for another page than was said, and then for that",
+        &[
+            Begun(1, 3, 0),
+            Whole(2, 1),
+            Whole(3, 3),
+            Waits(0, Session(1)),
+            WaitKept(1),
+            Stays(0),
+            WaitEnded(1),
+            Goes(0, NoPage),
+        ],
+    ),
+    (
+        "a job is behind the one whose session waits",
+        &[
+            Begun(1, 3, 0),
+            Whole(1, 1),
+            Whole(2, 3),
+            Handed(1),
+            Waits(0, Session(1)),
+            Waits(1, Printer(2)),
+            WaitEnded(1),
+            Goes(0, NoPage),
+            Goes(1, Page),
+            Printed(1),
+        ],
+    ),
+];
+
+/// A job whose session waits is ended by a seat that didn't open it, only where the session waits
+/// for exactly what was said.
+#[test]
+fn a_wait_is_ended_by_another_seat(rt: HostRuntime) -> Result<(), Fail> {
+    are_so(&rt, &BY_OTHERS)
 }
 
 /// A page is printed.
