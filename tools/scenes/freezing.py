@@ -7,6 +7,7 @@ import fcntl
 import os
 import signal
 import socket
+import struct
 import subprocess
 import sys
 import threading
@@ -137,6 +138,79 @@ def a_peer_that_leaves_in_a_small_file():
             time.sleep(0.1)
         check(os.path.getsize(server.path(1)) == 3000, "the whole job isn't printed")
         return f"its pages are back after {gone:.1f} s, and the half-closed one's job is printed"
+
+
+# How many servers a scene that repeats runs, and how many of them at once.
+TRIALS, AT_ONCE = 200, 20
+
+
+def fill(path):
+    """Fills a printer's pipe, so that it takes no page. Answers its descriptor, and how many octets are in it."""
+    pipe = os.open(path, os.O_RDWR | os.O_NONBLOCK)
+    fcntl.fcntl(pipe, fcntl.F_SETPIPE_SZ, 4096)
+    filled = 0
+    with contextlib.suppress(BlockingIOError):
+        while True:
+            filled += os.write(pipe, b"." * 64)
+    return pipe, filled
+
+
+def a_whole_job_beside_a_peer_that_leaves(_number):
+    """Four pages of 8 octets, two of which a job holds whose printer takes none. The second job has the other two when its peer
+    breaks; the third one came whole, with 4 octets in hand and 21 unread, and its peer has half-closed. Answers after how many
+    seconds the second one was ended, and whether the third one was refused before the printer went on."""
+    with Server(PROGRAM, spool(pages=4, size=8, limit=3, jobs=8, account=100_000), "--sessions", "8", device="fifo") as server:
+        pipe, filled = fill(server.path())
+        check(send(server.port, 1, b"hello world") == 0, "the first job isn't stored")
+        leaver = begin(server.port, 2, 24, b"c" * 20)
+        time.sleep(0.3)
+        text = control(3)
+        half = connect(server.port)
+        half.sendall(b"\x02lp\n" + f"\x02{len(text)} cfA003h1\n".encode() + text + b"\0\x0324 dfA003h1\nwwww")
+        check([answer(half) for _ in range(4)] == [0] * 4, "the third job isn't begun")
+        time.sleep(0.2)
+        half.sendall(b"w" * 20 + b"\0")
+        half.shutdown(socket.SHUT_WR)
+        leaver.setsockopt(socket.SOL_SOCKET, socket.SO_LINGER, struct.pack("ii", 1, 0))
+        start = time.monotonic()
+        leaver.close()
+        while "job 2, which waits for a page, is ended" not in server.log():
+            check(time.monotonic() - start < 10, "the second job isn't ended")
+            time.sleep(0.02)
+        gone = time.monotonic() - start
+        # In this time the watcher looks once more.
+        half.settimeout(1.2)
+        with contextlib.suppress(TimeoutError):
+            check(answer(half) == 2, "the third job is stored while no page is free")
+            return gone, True
+        half.settimeout(10)
+        while filled > 0:
+            filled -= len(os.read(pipe, filled))
+        check(answer(half) == 0, "the third job isn't stored")
+        printed = b""
+        for _ in range(100):
+            with contextlib.suppress(BlockingIOError):
+                printed += os.read(pipe, 64)
+            if len(printed) == 35:
+                break
+            time.sleep(0.05)
+        check(printed == b"hello world" + b"w" * 24, printed)
+        os.close(pipe)
+        return gone, False
+
+
+def whole_jobs_beside_peers_that_leave():
+    """Of 200 times no job that came whole is ended because another one's pages came back while the watcher looked, and a job whose
+    peer broke is ended within 2 s."""
+    gone, refused = [], 0
+    for _ in range(0, TRIALS, AT_ONCE):
+        for one in together(AT_ONCE, a_whole_job_beside_a_peer_that_leaves):
+            check(isinstance(one, tuple), one)
+            gone.append(one[0])
+            refused += one[1]
+    check(refused == 0, f"{refused} of {len(gone)} whole jobs are refused")
+    check(max(gone) < 2, f"a job whose peer broke is ended after {max(gone):.2f} s")
+    return f"{len(gone)} times, a job whose peer broke is ended after {max(gone):.2f} s at most"
 
 
 def idle_connections():
@@ -368,7 +442,7 @@ def room_under_load():
     return f"{rates[0]:.0f} jobs a second, {rates[0] / rates[1]:.2f} of the rate with an account that is never full"
 
 
-SCENES = [value for value in list(globals().values()) if callable(value) and getattr(value, "__module__", "") == "__main__" and value is not check]
+SCENES = [value for value in list(globals().values()) if callable(value) and getattr(value, "__module__", "") == "__main__" and value not in (check, fill, a_whole_job_beside_a_peer_that_leaves)]
 
 
 def main():
