@@ -4,7 +4,7 @@ use crate::clock::nanoseconds;
 use control_file::Control;
 use lpd_commands::FileName;
 use page_pool::{FilledPage, PageTicket};
-use spool_core::{Asked, Core, Foreign, Next, ReturnedPage};
+use spool_core::{Asked, Core, Foreign, Next, Octets, ReturnedPage};
 use std::io;
 use std::rt::Clock;
 
@@ -29,6 +29,12 @@ const LONG: &str = "pages = 65536\npage_size = 1\nmax_jobs = 1\naccount = 160000
 /// The control file of each job.
 const CONTROL: &[u8] = b"Hh1\nPann\nfdfA001h1\n";
 
+/// The names under which the control files come: of a job that is printed, and of one that is removed, which its number alone
+/// tells apart.
+const PRINTED: &[u8] = b"cfA001h1";
+
+const REMOVED: &[u8] = b"cfA002h1";
+
 /// Jobs that go through a core.
 #[derive(Clone, Copy)]
 struct Load {
@@ -43,7 +49,15 @@ struct Load {
     page: &'static [u8],
 }
 
-/// The calls that a job needs on its way, and what it needs beside them.
+/// Whose job is sent, where to, and under which name its control file comes.
+#[derive(Clone, Copy)]
+struct Sent {
+    sender: u32,
+    queue: &'static str,
+    control: &'static [u8],
+}
+
+/// The calls that a job needs on its way, a removal and a start, and what is done beside them.
 #[derive(Clone, Copy)]
 enum Call {
     Open,
@@ -54,11 +68,13 @@ enum Call {
     Control,
     Next,
     Printed,
+    Remove,
+    Start,
     Beside,
 }
 
 /// What the calls are called, in the order of `Call`.
-const NAMES: [&str; 8] = [
+const NAMES: [&str; 10] = [
     "open",
     "begin_file",
     "ask",
@@ -67,6 +83,8 @@ const NAMES: [&str; 8] = [
     "control",
     "next",
     "printed",
+    "remove",
+    "start",
 ];
 
 /// The calls of one kind: how many there were, and how long they took in all.
@@ -81,7 +99,7 @@ struct Total {
 struct Times {
     /// What the clock showed when the last call had ended.
     last: u128,
-    totals: [Total; 9],
+    totals: [Total; 11],
 }
 
 impl Times {
@@ -126,20 +144,19 @@ fn send_file<R: Clock>(
     Some(())
 }
 
-/// Sends a whole job of this sender to this queue. None where a call was refused.
+/// Sends a whole job. None where a call was refused.
 fn send<R: AllocGlobal + Clock>(
     rt: &R,
     core: &mut Core,
     times: &mut Times,
     load: Load,
-    sender: u32,
-    queue: &str,
+    sent: Sent,
 ) -> Option<()> {
     times.end(rt, Call::Beside);
-    let job = core.open(sender, queue.as_bytes()).ok()?;
+    let job = core.open(sent.sender, sent.queue.as_bytes()).ok()?;
     times.end(rt, Call::Open);
     send_file(rt, core, times, load, job)?;
-    let name = FileName::read(b"cfA001h1").ok()?;
+    let name = FileName::read(sent.control).ok()?;
     let control = Control::parse(rt.alloc(), &name, CONTROL).ok()?;
     times.end(rt, Call::Beside);
     core.control(job, control).ok()?;
@@ -222,7 +239,35 @@ fn print_oldest<R: Clock>(
     Some(())
 }
 
-/// Sends the jobs, and prints the oldest once so many are held. None where a call was refused.
+/// Sends one more job, removes it by its number, and starts the printers of its queue, of which none is stopped. None where a
+/// call was refused.
+fn send_and_remove<R: AllocGlobal + Clock>(
+    rt: &R,
+    core: &mut Core,
+    times: &mut Times,
+    load: Load,
+    sent: Sent,
+) -> Option<()> {
+    // The account has room for one of the longest jobs alone.
+    if core.held() == 0 {
+        core.rotated();
+    }
+    send(rt, core, times, load, sent)?;
+    let list = [Octets::copy_of(rt.alloc(), b"2").ok()?];
+    let queue = sent.queue.as_bytes();
+    times.end(rt, Call::Beside);
+    let text = core.remove(queue, b"ann", list.as_slice()).ok()?;
+    times.end(rt, Call::Remove);
+    if text.as_slice() != b"removed 002 ann\n".as_slice() {
+        return None;
+    }
+    times.end(rt, Call::Beside);
+    core.start(queue).ok()?;
+    times.end(rt, Call::Start);
+    Some(())
+}
+
+/// Sends the jobs, prints the oldest once so many are held, and removes another one then. None where a call was refused.
 fn drive<R: AllocGlobal + Clock>(
     rt: &R,
     core: &mut Core,
@@ -231,9 +276,18 @@ fn drive<R: AllocGlobal + Clock>(
 ) -> Option<()> {
     for number in 0..load.jobs {
         // A sender's jobs go to all queues in turn.
-        let queue = QUEUES[(number / SENDERS) as usize % QUEUES.len()];
-        send(rt, core, times, load, number % SENDERS, queue)?;
+        let printed = Sent {
+            sender: number % SENDERS,
+            queue: QUEUES[(number / SENDERS) as usize % QUEUES.len()],
+            control: PRINTED,
+        };
+        send(rt, core, times, load, printed)?;
         print_oldest(rt, core, times, load, number + 1)?;
+        let removed = Sent {
+            control: REMOVED,
+            ..printed
+        };
+        send_and_remove(rt, core, times, load, removed)?;
     }
     Some(())
 }
@@ -248,7 +302,7 @@ fn through_core<R: AllocGlobal + Clock>(rt: &R, load: Load) -> Option<Times> {
     };
     let mut times = Times {
         last: 0,
-        totals: [none; 9],
+        totals: [none; 11],
     };
     drive(rt, &mut core, &mut times, load).map(|()| times)
 }
@@ -270,7 +324,7 @@ fn measure<R: AllocGlobal + Clock + Print>(rt: &R, load: Load) -> io::Result<()>
     println!(rt;)
 }
 
-/// Prints what each call took with so many jobs held, and what it took for one job of so many pages.
+/// Prints what each call took with so many jobs held, and what it took for a job of so many pages.
 pub fn run<R: AllocGlobal + Clock + Print>(rt: &R) -> io::Result<()> {
     for held in [8, 64, 1024] {
         measure(
