@@ -1,6 +1,6 @@
 -- Jobs are removed.
-use Rattle.std.proofs.Common.{inl, inr, ◌⊎◌, ◌≡◌, ◌≢◌, ◌==◌, ℕ, ◌+◌, ◌<◌, Bool, true, false, List, [], ◌∷◌, length, get_or, map, filter, take, refl, sym, ◌∙◌, subst, arith}
-use Rattle.std.specs.Prelude.{◌&&◌, not, All, AllPairs, Contains, Ok}
+use Rattle.std.proofs.Common.{◌≡◌, ◌≢◌, ◌==◌, ℕ, ◌+◌, ◌<◌, Bool, true, false, List, [], ◌∷◌, length, get_or, map, filter, take, refl, arith}
+use Rattle.std.specs.Prelude.{◌&&◌, not, All, AllPairs, Contains}
 use Rattle.std.specs.List.{list_any}
 use Rattle.std.specs.List.Sorted.{IsStrictlyIncreasing}
 use Rattle.std.proofs.lemmas.Bool.{and_parts, not-true}
@@ -11,29 +11,20 @@ use Rattle.spool_moves.specs.Standing.{no_job}
 use Rattle.spool_moves.proofs.Standing.{has_get}
 use Rattle.std.proofs.lemmas.Bool.Decides.{nat_tests}
 use Rattle.lpd_values.specs.Choice as K
-use Rattle.lpd_values.specs.Texts.{removal_text}
-use Rattle.held_jobs.specs.Jobs.{Facts}
-use Rattle.held_jobs.specs.Turns.{facts_in}
-use Rattle.held_jobs.specs.Told.{told_in}
-use Rattle.config_values.specs.Config.{IsQueue, queue_named}
+use Rattle.config_values.specs.Config.{IsQueue}
 use Rattle.spool_history.specs.Base.{Base}
 use Rattle.spool_history.specs.Events.{Event}
 use Rattle.spool_history.specs.Events.Event.{Removed}
 use Rattle.spool_history.specs.Now.{Job, State, is_received}
 use Rattle.spool_history.specs.Choice as H
-use Rattle.spool_history.specs.Texts as X
 use Rattle.spool_history.specs.Told.{told_of}
 use Rattle.spool_history.specs.Legal.{HasJob, May, MayBeRemoved}
 use Rattle.spool_laws.proofs.Pigeons.{Rises}
 use Rattle.spool_laws.proofs.Busy.{rising_jobs}
 use Rattle.spool_calls.specs.Looks.{Detail, What, size}
 use Rattle.spool_calls.specs.Kept.{Kept, Leaves, left_by}
-use Rattle.spool_calls.specs.Calls.{Removes, removed_by}
-use Rattle.core_steps.proofs.Stocks.{Stock}
-use Rattle.core_steps.proofs.EndingMany.{EndsTo}
-use Rattle.core_steps.proofs.Leaving.{is_open, takes, stock_of}
-use Rattle.core_steps.proofs.Closing.{listed, removed_leaves, with_stock}
-use Rattle.core_steps.proofs.Telling.{numbers_left, removal_left}
+use Rattle.spool_calls.specs.Calls.{removed_by}
+use Rattle.core_steps.proofs.Leaving.{is_open}
 
 -- the jobs that are chosen
 
@@ -103,7 +94,7 @@ module _ (d : Detail) (b : Base) (h : List (Event (What d))) (k : Kept) (l : Lea
   v = left_by d b h k
 
   -- what a removal takes may be removed
-  may_remove : (agent : List ℕ) (list : List (List ℕ)) (q : ℕ) → k.closed ≡ false → IsQueue k.config q → removed_by d b h k q agent list ≢ []
+  pub may_remove : (agent : List ℕ) (list : List (List ℕ)) (q : ℕ) → k.closed ≡ false → IsQueue k.config q → removed_by d b h k q agent list ≢ []
       → May (size d) v (Removed q (removed_by d b h k q agent list))
   may_remove agent list q c is ne =
       let number : Job (What d) → ℕ = λ x. x.number in
@@ -117,37 +108,3 @@ module _ (d : Detail) (b : Base) (h : List (Event (What d))) (k : Kept) (l : Lea
         recursion_from_All P (map number jobs) (All-map P number jobs (λ i e lt.
             record { job = get_or jobs i e; there = (s.each i e lt).0; number = refl; is = removable q (get_or jobs i e) (s.each i e lt).1 })),
       )
-
-  module _ (name agent : List ℕ) (list : List (List ℕ)) (q : ℕ) (c : k.closed ≡ false) (e : queue_named k.config name ≡ q) (is : IsQueue k.config q) where
-    module _ (text numbers : List ℕ) (et : text ≡ removal_text told_in q agent list (facts_in k.book.jobs))
-        (en : numbers ≡ map {A = Facts} {B = ℕ} (λ j. j.number) (K.chosen told_in q agent list (facts_in k.book.jobs))) where
-      taken : numbers ≡ removed_by d b h k q agent list
-      taken = en ∙ numbers_left d b h k l q agent list
-
-      -- what a removal leaves, by the number of its queue
-      abbrev Outcome : Kept → ℕ → Type 0
-      Outcome new n =
-          ((removed_by d b h k n agent list ≡ []) × (new ≡ k))
-          ⊎ ((removed_by d b h k n agent list ≢ []) × Leaves d b (Removed n (removed_by d b h k n agent list) ∷ h) new)
-
-      removed : {new : Kept} → Outcome new q → Removes d b h k name agent list new (Ok text)
-      removed {new} o = (
-        takes d b h k l name q c e is,
-        subst (λ (n : ℕ). text ≡ X.removal_text v n agent list) (sym e) (et ∙ removal_left d b h k l q agent list),
-        subst (Outcome new) (sym e) o,
-      )
-
-      -- no job is chosen
-      pub remove_none : numbers ≡ [] → Removes d b h k name agent list k (Ok text)
-      remove_none none = removed (inl (sym taken ∙ none, refl))
-
-      module _ (t : Stock) (ne : numbers ≢ []) (to : EndsTo (listed numbers) (stock_of k) t) where
-        -- the chosen jobs have ended
-        pub remove_leaves : Leaves d b (Removed q numbers ∷ h) (with_stock k t)
-        remove_leaves =
-            removed_leaves d b h k l q numbers t
-            (subst (λ (m : List ℕ). May (size d) v (Removed q m)) (sym taken) (may_remove agent list q c is (λ z. ne (taken ∙ z)))) to
-
-        pub remove_done : Removes d b h k name agent list (with_stock k t) (Ok text)
-        remove_done =
-            removed (inr (λ z. ne (taken ∙ z), subst (λ (m : List ℕ). Leaves d b (Removed q m ∷ h) (with_stock k t)) taken remove_leaves))

@@ -1,6 +1,6 @@
 -- Sessions are admitted to a queue, and its stopped printers are started.
 use Rattle.std.proofs.Common.{inl, inr, ◌≡◌, ◌≢◌, ◌==◌, ℕ, zero, suc, ◌+◌, ◌<◌, Bool, true, false, cond, List, ◌∷◌, ◌++◌, length, get_or, set, take, drop, map, refl, sym, ◌∙◌, ap, subst, arith}
-use Rattle.std.specs.Prelude.{◌&&◌, ◌⊎◌, Ok, None}
+use Rattle.std.specs.Prelude.{◌&&◌, ◌⊎◌, None}
 use Rattle.std.specs.List.{list_any}
 use Rattle.std.proofs.lemmas.Bool.{and_parts, cond_both, false_from_ne_true}
 use Rattle.std.proofs.lemmas.List.{get_or-map, get_or_default, length-append, length-drop, length-map, length-take}
@@ -8,7 +8,7 @@ use Rattle.std.proofs.lemmas.List.Edits.{map_over_more}
 use Rattle.std.proofs.lemmas.List.Folds.{Any-from_list_any, list_any_at, map_fixed}
 use Rattle.std.proofs.lemmas.Simd.{map-map}
 use Rattle.std.proofs.lemmas.Bool.Decides.{nat_tests}
-use Rattle.config_values.specs.Config.{IsPrinter, IsQueue, printer_count, queue_named}
+use Rattle.config_values.specs.Config.{IsPrinter, IsQueue, printer_count}
 use Rattle.spool_history.specs.Base.{Base}
 use Rattle.spool_history.specs.Events.{Event}
 use Rattle.spool_history.specs.Events.Event.{Started}
@@ -21,8 +21,7 @@ use Rattle.spool_laws.proofs.Adding.{length_up_to}
 use Rattle.spool_calls.specs.declared.printer.Printer.{Printer}
 use Rattle.spool_calls.specs.Looks.{Detail, What, size}
 use Rattle.spool_calls.specs.Kept.{Kept, Leaves, left_by, kept_printer}
-use Rattle.spool_calls.specs.Calls.{Starts}
-use Rattle.core_steps.proofs.Leaving.{is_open, takes}
+use Rattle.core_steps.proofs.Leaving.{is_open}
 use Rattle.core_steps.proofs.Printers.{printers_many}
 use Rattle.core_steps.proofs.EndingMany.{leaves_same}
 
@@ -139,13 +138,12 @@ module _ (d : Detail) (b : Base) (h : List (Event (What d))) (k : Kept) (l : Lea
   pub start_same : (q : ℕ) → has_stopped q k.printers ≡ false → started_core k q ≡ k
   start_same q none = ap (λ (ps : List Printer). record k { printers = ps }) (all_same' q k.printers none)
 
-  pub start_done : (name : List ℕ) (q : ℕ) → k.closed ≡ false → queue_named k.config name ≡ q → IsQueue k.config q → Starts d b h k name (started_core k q) (Ok tt)
-  start_done name q c e is = (takes d b h k l name q c e is, subst Outcome (sym e) (by (has_stopped q k.printers) refl))
+  -- they were started, if one was stopped
+  pub start_leads : (q : ℕ) → k.closed ≡ false → IsQueue k.config q
+      → (May (size d) v (Started q) × Leaves d b (Started q ∷ h) (started_core k q)) ⊎ ((May (size d) v (Started q) → ⊥) × (started_core k q ≡ k))
+  start_leads q c is = by (has_stopped q k.printers) refl
     where
-      Outcome : ℕ → Type 0
-      Outcome n = (May (size d) v (Started n) × Leaves d b (Started n ∷ h) (started_core k q)) ⊎ ((May (size d) v (Started n) → ⊥) × (started_core k q ≡ k))
-
-      by : (s : Bool) → has_stopped q k.printers ≡ s → Outcome q
+      by : (s : Bool) → has_stopped q k.printers ≡ s → (May (size d) v (Started q) × Leaves d b (Started q ∷ h) (started_core k q)) ⊎ ((May (size d) v (Started q) → ⊥) × (started_core k q ≡ k))
       by true e = inl (may q c is e, start_leaves q c is e)
       by false e = inr (never q e, start_same q e)
 

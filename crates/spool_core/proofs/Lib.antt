@@ -4,3 +4,4 @@ pub mod Packs
 pub mod Beginning
 pub mod Outs
 pub mod Standing
+pub mod Halves

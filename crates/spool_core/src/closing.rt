@@ -1,8 +1,10 @@
 //! The calls on a queue or on the whole spool: sessions are admitted, printers are started, the spool is closed, and its history
 //! is put away.
 
-ghost use Rattle.std.specs.Prelude.{◌≡◌, [], map};
+ghost use Rattle.std.specs.Prelude.{◌≡◌, [], IfOk, map};
 ghost use Rattle.spool_calls.specs.Calls.{IsRight, Admits, Starts, Closes, Rotates};
+ghost use Rattle.spool_core.specs.Halves.{FindsStart, StartsQueue};
+ghost use Rattle.spool_core.specs.Places.{Takes};
 ghost use Rattle.core_steps.proofs.Stocks.{CanEnd, is_out, stock, stock_after};
 ghost use Rattle.core_steps.proofs.EndingMany.{EndsTo, IsStocked};
 ghost use Rattle.core_steps.proofs.Closing.{all_end, listed, stopped_among, with_none};
@@ -16,6 +18,15 @@ use ordered_safety::PAGES;
 use page_pool::Pool;
 use queues::Book;
 use spool_calls::Printer;
+
+/// What a start finds, before it is carried out.
+#[derive(Clone, Copy, Debug, PartialEq, Eq)]
+pub struct Started {
+    /// The number of the queue.
+    pub queue: u32,
+    /// How many of its printers are stopped.
+    pub stopped: u32,
+}
 
 /// Whether a page of a job is lent, or at a printer.
 fn has_page_out(job: &Job) -> bool
@@ -125,6 +136,34 @@ impl Core {
         }
     }
 
+    /// The queue of a name, and how many of its printers a start would start.
+    ///
+    /// Closed once the spool is closed; UnknownQueue where no queue has this name.
+    pub fn start_of(&self, queue: &[u8]) -> Result<Started, Refusal>
+        ensures answer { IsRight self.now (λ d b h. FindsStart d b h self.now queue.now result) }
+        ensures takes { IfOk result (λ found. Takes self.now found.queue) }
+    {
+        if self.closed {
+            return Err(Refusal::Closed);
+        }
+        let Some(number) = self.config.queue_named(queue) else {
+            return Err(Refusal::UnknownQueue);
+        };
+        Ok(Started {
+            queue: number,
+            stopped: self.stopped_in(number),
+        })
+    }
+
+    /// Starts the stopped printers of the queue of a number that `start_of` answered. Where none is stopped nothing changes.
+    pub fn start_printers(&mut self, queue: u32)
+        requires { Takes self.old queue }
+        ensures config { self.new.config ≡ self.old.config }
+        ensures answer { IsRight self.old (λ d b h. StartsQueue d b h self.old queue self.new) }
+    {
+        start_printers(self.printers.as_mut_slice(), queue);
+    }
+
     /// Starts the stopped printers of a queue. Where none is stopped nothing changes.
     ///
     /// Closed once the spool is closed; UnknownQueue where no queue has this name.
@@ -133,13 +172,8 @@ impl Core {
         ensures answer { IsRight self.old (λ d b h.
             Starts d b h self.old queue.now self.new result) }
     {
-        if self.closed {
-            return Err(Refusal::Closed);
-        }
-        let Some(number) = self.config.queue_named(queue) else {
-            return Err(Refusal::UnknownQueue);
-        };
-        start_printers(self.printers.as_mut_slice(), number);
+        let found = self.start_of(queue)?;
+        self.start_printers(found.queue);
         Ok(())
     }
 

@@ -14,6 +14,7 @@ mod receiving;
 mod telling;
 mod unmade;
 
+pub use closing::Started;
 pub use config_values::{Config, Queue};
 pub use control_file::Control;
 pub use core_state::Core;
@@ -25,4 +26,5 @@ pub use spool_calls::{
     Asked, Foreign, HandedPage, Next, Progress, Receipt, ReturnedControl, ReturnedPage,
     ReturnedTicket, Sheet,
 };
+pub use telling::Removal;
 pub use unmade::Unmade;

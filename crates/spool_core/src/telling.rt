@@ -7,6 +7,7 @@ ghost use Rattle.held_jobs.specs.Told.{told_in};
 ghost use Rattle.held_jobs.specs.Turns.{facts_in};
 ghost use Rattle.spool_calls.specs.Calls.{IsRight, Removes, Tells};
 ghost use Rattle.spool_calls.specs.Telling.{Chooses, serving, stopped_in};
+ghost use Rattle.spool_core.specs.Halves.{FindsRemoval, MayRemove, RemovesJobs};
 
 use crate::closing::end_listed;
 use crate::core_state::Core;
@@ -16,6 +17,17 @@ use lpd_values::{Octets, Refusal};
 use queues::Book;
 use spool_calls::Printer;
 use std::alloc::AllocError;
+
+/// What a removal takes, before it is carried out.
+#[derive(Drop)]
+pub struct Removal {
+    /// The number of the queue.
+    pub queue: u32,
+    /// The numbers of the jobs, in order of acceptance.
+    pub numbers: Vec<u64>,
+    /// The text that tells of them.
+    pub text: Octets,
+}
 
 /// The text for the state of a queue.
 fn state_of(
@@ -71,6 +83,50 @@ impl Core {
         Ok(numbers)
     }
 
+    /// What a removal by this agent and list takes of a queue: its jobs, or its active job alone where the list is empty.
+    ///
+    /// Closed; UnknownQueue; Memory where memory for the text or for the numbers of the jobs is refused.
+    pub fn removal_of(
+        &self,
+        queue: &[u8],
+        agent: &[u8],
+        list: &[Octets],
+    ) -> Result<Removal, Refusal>
+        ensures answer { IsRight self.now (λ d b h.
+            FindsRemoval d b h self.now queue.now agent.now list.now result) }
+        ensures takes { IfOk result (λ r. IsRight self.now (λ d b h.
+            MayRemove d b h self.now r.queue r.numbers.items)) }
+    {
+        if self.closed {
+            return Err(Refusal::Closed);
+        }
+        let Some(q) = self.config.queue_named(queue) else {
+            return Err(Refusal::UnknownQueue);
+        };
+        let text = self.book.removal(q, agent, list)?;
+        let numbers = self.book.chosen(q, agent, list)?;
+        Ok(Removal {
+            queue: q,
+            numbers,
+            text: Octets::from_vec(text),
+        })
+    }
+
+    /// Removes the jobs that `removal_of` answered. Where there are none nothing changes.
+    pub fn remove_chosen(&mut self, removal: &Removal)
+        requires { IsRight self.old (λ d b h.
+            MayRemove d b h self.old removal.now.queue removal.now.numbers.items) }
+        ensures config { self.new.config ≡ self.old.config }
+        ensures answer { IsRight self.old (λ d b h.
+            RemovesJobs d b h self.old removal.now.queue removal.now.numbers.items self.new) }
+    {
+        if removal.numbers.is_empty() {
+            return;
+        }
+        let numbers = removal.numbers.as_slice();
+        end_listed(&mut self.book, &mut self.pool, &mut self.table, numbers);
+    }
+
     /// Removes the jobs of a queue that an agent removes by a list, or its active job alone where the list is empty, and
     /// answers the text that tells of them.
     ///
@@ -80,23 +136,8 @@ impl Core {
         ensures answer { IsRight self.old (λ d b h.
             Removes d b h self.old queue.now agent.now list.now self.new result) }
     {
-        if self.closed {
-            return Err(Refusal::Closed);
-        }
-        let Some(q) = self.config.queue_named(queue) else {
-            return Err(Refusal::UnknownQueue);
-        };
-        let Ok(text) = self.book.removal(q, agent, list) else {
-            return Err(Refusal::Memory);
-        };
-        let Ok(numbers) = self.book.chosen(q, agent, list) else {
-            return Err(Refusal::Memory);
-        };
-        if numbers.is_empty() {
-            return Ok(Octets::from_vec(text));
-        }
-        let numbers = numbers.as_slice();
-        end_listed(&mut self.book, &mut self.pool, &mut self.table, numbers);
-        Ok(Octets::from_vec(text))
+        let removal = self.removal_of(queue, agent, list)?;
+        self.remove_chosen(&removal);
+        Ok(removal.text)
     }
 }
