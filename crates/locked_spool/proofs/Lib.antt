@@ -3,6 +3,7 @@ mod Marked
 mod Removed
 mod Rotated
 mod Segments
+pub mod Starting
 mod Stopped
 mod Sums
 mod Written

@@ -4,4 +4,5 @@ pub mod Held
 pub mod Rotation
 pub mod Segments
 pub mod Shares
+pub mod Telling
 pub mod Waiting

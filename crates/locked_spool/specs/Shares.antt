@@ -1,5 +1,5 @@
 -- How an answer moves the share of whoever called: by one entry of the call's kind where the answer is one that writes an entry.
-use Rattle.std.specs.Prelude.{◌≡◌, ◌⊎◌, ℕ, ◌++◌, [], ◌∷◌, List, Result, Ok, Err, if◌then◌else◌, codes}
+use Rattle.std.specs.Prelude.{◌≡◌, ◌⊎◌, ℕ, ◌++◌, ◌==◌, [], ◌∷◌, List, Result, Ok, Err, if◌then◌else◌, codes, vec_len}
 use Rattle.std.specs.Str.{bytes_eq}
 use Rattle.lpd_values.specs.declared.refusal.Refusal.{Refusal}
 use Rattle.account.specs.declared.kind.Kind.{Kind}
@@ -8,6 +8,8 @@ use Rattle.spool_calls.specs.declared.answers.Asked.{Asked}
 use Rattle.spool_calls.specs.declared.answers.Asked.TheVariants as asked
 use Rattle.spool_calls.specs.declared.answers.Next.{Next}
 use Rattle.spool_calls.specs.declared.answers.Next.TheVariants as next
+use Rattle.spool_core.specs.declared.closing.Started.{Started}
+use Rattle.spool_core.specs.declared.telling.Removal.{Removal}
 use Rattle.spool_ledgers.specs.Sums.{Sums, with_entry}
 
 -- a call that did what it was to do writes an entry of this kind
@@ -34,6 +36,16 @@ nothing_removed = codes "nothing removed" ++ 10 ∷ []
 abbrev pub when_removed : Result (List ℕ) Refusal → Sums → Sums
 when_removed (Ok text) s = if bytes_eq text nothing_removed then s else with_entry kind.Removed s
 when_removed (Err refusal) s = s
+
+-- a removal that took a job, as the numbers of its jobs tell
+abbrev pub when_taken : Result Removal Refusal → Sums → Sums
+when_taken (Ok removal) s = if vec_len removal.numbers == 0 then s else with_entry kind.Removed s
+when_taken (Err refusal) s = s
+
+-- a start that started a printer, as its answer tells
+abbrev pub when_started : Result Started Refusal → Sums → Sums
+when_started (Ok found) s = if found.stopped == 0 then s else with_entry kind.Started s
+when_started (Err refusal) s = s
 
 -- an answer that doesn't tell whether an entry of this kind was written: one or none
 abbrev pub OneOrNone : Kind → (old new : Sums) → Type 0

@@ -1,6 +1,6 @@
 -- Which printers are stopped, and which have to wait.
 use Rattle.std.specs.Prelude.{◌≡◌, ◌<◌, ◌⊎◌, ℕ, List, length}
-use Rattle.config_values.specs.Config.{Config, IsPrinter, IsQueue, queue_named}
+use Rattle.config_values.specs.Config.{Config, IsPrinter, IsQueue}
 use Rattle.spool_history.specs.Base.{Base}
 use Rattle.spool_history.specs.Events.{Event}
 use Rattle.spool_calls.specs.declared.answers.Next.{Next}
@@ -25,10 +25,6 @@ module _ (d : Detail) (b : Base) (h : List (Event (What d))) (k : Kept) where
   -- no job is held, or a printer is stopped: nothing happens any more until somebody calls
   abbrev pub IsIdle : Type 0
   IsIdle = (length (before d b h k).jobs ≡ 0) ⊎ HasStopped
-
-  -- no printer of a queue of this name is stopped
-  abbrev pub HasNoStopped : List ℕ → Type 0
-  HasNoStopped name = IsQueue k.config (queue_named k.config name) → stopped_for d b h k (queue_named k.config name) ≡ 0
 
 -- a printer of this configuration has to wait
 abbrev pub Waits : Config → Held → (printer : ℕ) → Type 0

@@ -20,10 +20,11 @@ pub use laws::accounts_are_outlines;
 pub use locked::Locked;
 pub use lpd_values::{FileName, Octets, Refusal};
 pub use page_pool::{FilledPage, PageTicket};
+pub use receiving::Accepted;
 pub use rotating::RotateError;
 pub use spool_core::{
-    Asked, Config, Foreign, HandedPage, Next, Pages, Progress, Receipt, ReturnedControl,
-    ReturnedPage, ReturnedTicket,
+    Asked, Config, Foreign, HandedPage, Next, Pages, Progress, Receipt, Removal, ReturnedControl,
+    ReturnedPage, ReturnedTicket, Started,
 };
 pub use spool_ledgers::{Blanks, Shares, SpoolLedger};
 pub use unopened::Unopened;

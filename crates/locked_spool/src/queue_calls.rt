@@ -1,49 +1,60 @@
 //! The calls on a queue or on the whole spool.
 
-ghost use Rattle.std.specs.Prelude.{◌≡◌, ◌<◌, MatchOption};
+ghost use Rattle.std.specs.Prelude.{◌≡◌, ◌<◌};
 ghost use Rattle.account.specs.declared.kind.Kind.TheVariants as kind;
-ghost use Rattle.config_values.specs.Config.{IsQueue, queue_named};
 ghost use Rattle.spool_calls.specs.Calls.{IsRight, Closes, Removes, Starts, Tells};
+ghost use Rattle.spool_core.specs.Halves.{FindsRemoval, FindsStart};
 ghost use Rattle.locked_spool.specs.Entries.{WritesClosed, WritesRemoved, WritesStarted};
-ghost use Rattle.locked_spool.specs.Shares.{OneOrNone, WhenStarted, when_removed};
-ghost use Rattle.locked_spool.specs.Waiting.{HasNoStopped, IsStopped};
+ghost use Rattle.locked_spool.specs.Shares.{OneOrNone, WhenStarted, when_removed, when_started, when_taken};
+ghost use Rattle.locked_spool.specs.Telling.{done_of, text_of};
 
 use crate::locked::{Locked, write};
 use account::Entry;
 use lpd_values::{Octets, Refusal};
+use spool_core::{Removal, Started};
 use spool_ledgers::{Shares, SpoolLedger};
 use std::sync::ledger::Ledger;
 
 impl<E: SpoolLedger, K: Ledger, H: Ledger> Locked<E, K, H> {
-    /// The number of the queue of a name, where a printer of it is stopped.
-    fn stopped_queue(&self, name: &[u8]) -> Option<u32>
-        ensures { IsRight self.now.core (λ d b h.
-            MatchOption result (HasNoStopped d b h self.now.core name.now)
-            (λ q. (queue_named self.now.core.config name.now ≡ q)
-            × IsQueue self.now.core.config q × IsStopped d b h self.now.core q)) }
+    /// Starts the stopped printers of a queue, and writes the entry of that where one is stopped.
+    fn start_queue(&mut self, mine: &mut Shares<E, K, H>, queue: &[u8]) -> Result<Started, Refusal>
+        requires { 0 < mine.old.parts }
+        ensures found { IsRight self.old.core (λ d b h.
+            FindsStart d b h self.old.core queue.now result) }
+        ensures answer { IsRight self.old.core (λ d b h.
+            Starts d b h self.old.core queue.now self.new.core (done_of result)) }
+        ensures account { WritesStarted self.old self.new queue.now (done_of result) }
+        ensures shares { mine.new ≡ when_started result mine.old }
     {
-        let number = self.core.queue_number(name)?;
-        if self.core.stopped_in(number) == 0 {
-            return None;
+        let found = self.core.start_of(queue)?;
+        if found.stopped == 0 {
+            return Ok(found);
         }
-        Some(number)
+        self.core.start_printers(found.queue);
+        let entry = Entry::Started(found.queue);
+        write(&mut self.account, &mut self.books, mine, entry);
+        Ok(found)
     }
 
-    /// Starts the stopped printers of a queue, and writes the entry of that where one is stopped.
-    fn start_queue(&mut self, mine: &mut Shares<E, K, H>, queue: &[u8]) -> Result<(), Refusal>
+    /// Starts the stopped printers of a queue, and answers the number of the queue and how many of its printers it started.
+    ///
+    /// Refused as `start` is.
+    pub fn start_telling(
+        &mut self,
+        mine: &mut Shares<E, K, H>,
+        queue: &[u8],
+    ) -> Result<Started, Refusal>
         requires { 0 < mine.old.parts }
+        ensures found { IsRight self.old.core (λ d b h.
+            FindsStart d b h self.old.core queue.now result) }
         ensures answer { IsRight self.old.core (λ d b h.
-            Starts d b h self.old.core queue.now self.new.core result) }
-        ensures account { WritesStarted self.old self.new queue.now result }
-        ensures shares { WhenStarted result mine.old mine.new }
+            Starts d b h self.old.core queue.now self.new.core (done_of result)) }
+        ensures account { WritesStarted self.old self.new queue.now (done_of result) }
+        ensures shares { mine.new ≡ when_started result mine.old }
     {
-        let stopped = self.stopped_queue(queue);
-        self.core.start(queue)?;
-        if let Some(number) = stopped {
-            let entry = Entry::Started(number);
-            write(&mut self.account, &mut self.books, mine, entry);
-        }
-        Ok(())
+        let answer = self.start_queue(mine, queue);
+        self.look_for_stopped();
+        answer
     }
 
     /// Starts the stopped printers of a queue. Where none is stopped nothing changes.
@@ -56,9 +67,41 @@ impl<E: SpoolLedger, K: Ledger, H: Ledger> Locked<E, K, H> {
         ensures account { WritesStarted self.old self.new queue.now result }
         ensures shares { WhenStarted result mine.old mine.new }
     {
-        let answer = self.start_queue(mine, queue);
-        self.look_for_stopped();
-        answer
+        self.start_telling(mine, queue)?;
+        Ok(())
+    }
+
+    /// Removes the jobs of a queue that an agent removes by a list, or its active job alone where the list is empty, and
+    /// answers the number of the queue, the numbers of these jobs, and the text that tells of them.
+    ///
+    /// Refused as `remove` is.
+    pub fn remove_telling(
+        &mut self,
+        mine: &mut Shares<E, K, H>,
+        queue: &[u8],
+        agent: &[u8],
+        list: &[Octets],
+    ) -> Result<Removal, Refusal>
+        requires { 0 < mine.old.parts }
+        ensures found { IsRight self.old.core (λ d b h.
+            FindsRemoval d b h self.old.core queue.now agent.now list.now result) }
+        ensures answer { IsRight self.old.core (λ d b h.
+            Removes d b h self.old.core queue.now agent.now list.now self.new.core
+            (text_of result)) }
+        ensures account { WritesRemoved self.old self.new queue.now agent.now list.now
+            (text_of result) }
+        ensures numbers { mine.new ≡ when_taken result mine.old }
+        ensures text { mine.new ≡ when_removed (text_of result) mine.old }
+    {
+        let removal = self.core.removal_of(queue, agent, list)?;
+        if removal.numbers.is_empty() {
+            return Ok(removal);
+        }
+        let jobs = Vec::from_slice(self.alloc, removal.numbers.as_slice())?;
+        self.core.remove_chosen(&removal);
+        let entry = Entry::Removed(removal.queue, jobs);
+        write(&mut self.account, &mut self.books, mine, entry);
+        Ok(removal)
     }
 
     /// Removes the jobs of a queue that an agent removes by a list, or its active job alone where the list is empty, and
@@ -78,17 +121,8 @@ impl<E: SpoolLedger, K: Ledger, H: Ledger> Locked<E, K, H> {
         ensures account { WritesRemoved self.old self.new queue.now agent.now list.now result }
         ensures shares { mine.new ≡ when_removed result mine.old }
     {
-        let jobs = self.core.chosen(queue, agent, list)?;
-        let Some(number) = self.core.queue_number(queue) else {
-            return Err(Refusal::UnknownQueue);
-        };
-        let text = self.core.remove(queue, agent, list)?;
-        if jobs.is_empty() {
-            return Ok(text);
-        }
-        let entry = Entry::Removed(number, jobs);
-        write(&mut self.account, &mut self.books, mine, entry);
-        Ok(text)
+        let removal = self.remove_telling(mine, queue, agent, list)?;
+        Ok(removal.text)
     }
 
     /// The text that answers a question for the state of a queue. A closed spool answers too.

@@ -2,11 +2,13 @@
 
 ghost use Rattle.std.specs.Prelude.{◌≡◌, ◌<◌, IfErr, IfOk};
 ghost use Rattle.account.specs.declared.kind.Kind.TheVariants as kind;
+ghost use Rattle.config_values.specs.Config.{queue_named};
 ghost use Rattle.control_file.specs.View.{contents};
 ghost use Rattle.spool_calls.specs.Calls.{IsRight, Aborts, Admits, Asks, Begins, Ends, Opens, Puts};
 ghost use Rattle.spool_core.specs.Tickets.{IsBlank};
 ghost use Rattle.locked_spool.specs.Entries.{Controls, WritesAborted, WritesBegan, WritesControlled, WritesFileEnded, WritesGranted, WritesOpened, WritesPut};
 ghost use Rattle.locked_spool.specs.Shares.{when_done, when_lent};
+ghost use Rattle.locked_spool.specs.Telling.{job_of};
 
 use crate::locked::{Locked, write};
 use account::{Act, Entry};
@@ -18,6 +20,15 @@ use spool_core::{Asked, Receipt, ReturnedControl, ReturnedPage, ReturnedTicket};
 use spool_ledgers::{Shares, SpoolLedger};
 use std::sync::ledger::Ledger;
 
+/// A job that was accepted.
+#[derive(Clone, Copy, Debug, PartialEq, Eq)]
+pub struct Accepted {
+    /// The number of the job.
+    pub job: u64,
+    /// The number of its queue.
+    pub queue: u32,
+}
+
 impl<E: SpoolLedger, K: Ledger, H: Ledger> Locked<E, K, H> {
     /// Whether a session may send jobs to the queue of a name.
     ///
@@ -26,6 +37,33 @@ impl<E: SpoolLedger, K: Ledger, H: Ledger> Locked<E, K, H> {
         ensures { IsRight self.now.core (λ d b h. Admits d b h self.now.core queue.now result) }
     {
         self.core.admits(queue)
+    }
+
+    /// Accepts a job from a sender for a queue, and answers its number and that of the queue.
+    ///
+    /// Refused as `open` is.
+    pub fn open_telling(
+        &mut self,
+        mine: &mut Shares<E, K, H>,
+        sender: u32,
+        queue: &[u8],
+    ) -> Result<Accepted, Refusal>
+        requires { 0 < mine.old.parts }
+        ensures named { IfOk result (λ a. queue_named self.old.core.config queue.now ≡ a.queue) }
+        ensures answer { IsRight self.old.core (λ d b h.
+            Opens d b h self.old.core sender queue.now self.new.core (job_of result)) }
+        ensures account { WritesOpened self.old self.new sender queue.now (job_of result) }
+        ensures shares { mine.new ≡ when_done kind.Opened (job_of result) mine.old }
+    {
+        let number = self.core.admission(queue)?;
+        let reserve = self.core.config().reserve_of(number);
+        // No entry that is to come may be refused for want of memory.
+        self.account
+            .reserve(self.core.counted_reserve() + reserve + 1)?;
+        let job = self.core.accept(sender, number)?;
+        let entry = Entry::Opened(job, sender, number);
+        write(&mut self.account, &mut self.books, mine, entry);
+        Ok(Accepted { job, queue: number })
     }
 
     /// Accepts a job from a sender for a queue, and answers its number: 1, 2, 3 and so on, over all queues.
@@ -44,15 +82,8 @@ impl<E: SpoolLedger, K: Ledger, H: Ledger> Locked<E, K, H> {
         ensures account { WritesOpened self.old self.new sender queue.now result }
         ensures shares { mine.new ≡ when_done kind.Opened result mine.old }
     {
-        let number = self.core.admission(queue)?;
-        let reserve = self.core.config().reserve_of(number);
-        // No entry that is to come may be refused for want of memory.
-        self.account
-            .reserve(self.core.counted_reserve() + reserve + 1)?;
-        let job = self.core.accept(sender, number)?;
-        let entry = Entry::Opened(job, sender, number);
-        write(&mut self.account, &mut self.books, mine, entry);
-        Ok(job)
+        let accepted = self.open_telling(mine, sender, queue)?;
+        Ok(accepted.job)
     }
 
     /// Lends a page to a job, which has to come back by `put` or `abort`; or answers Later, where no page is free or the state

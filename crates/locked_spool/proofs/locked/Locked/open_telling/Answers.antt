@@ -11,9 +11,9 @@ use Rattle.spool_calls.specs.Looks.Detail.{Outlines}
 use Rattle.spool_calls.specs.Kept.{Kept, Leaves}
 use Rattle.locked_spool.specs.Held.{Held}
 use Rattle.locked_spool.proofs.Written.{calm, room_for, written, same_marks}
-use Rattle.locked_spool.proofs.locked.Locked.open.Given.{Over}
-use Rattle.locked_spool.proofs.locked.Locked.open.Goals.{In_ok-job}
-use Rattle.locked_spool.proofs.locked.Locked.open.Goals as goal
+use Rattle.locked_spool.proofs.locked.Locked.open_telling.Given.{Over}
+use Rattle.locked_spool.proofs.locked.Locked.open_telling.Goals.{In_ok-job}
+use Rattle.locked_spool.proofs.locked.Locked.open_telling.Goals as goal
 
 module _ (g : Over) (c : In_ok-job g) where
   -- what the lock held before
