@@ -10,14 +10,7 @@ use std::alloc::{AllocError, Global};
 use std::sync::Condvar;
 use std::sync::ledger::Ledger;
 
-/// A queue's name and its printers.
-#[derive(Drop)]
-pub(crate) struct Door {
-    name: Vec<u8>,
-    row: Row,
-}
-
-/// The bells of the seats, and the queues.
+/// The bells of the seats, and the printers of each queue.
 #[derive(Drop)]
 pub(crate) struct Bells {
     // By the printers' numbers. None has the number 0.
@@ -26,34 +19,33 @@ pub(crate) struct Bells {
     sessions: Vec<Condvar>,
     // Of the one who rotates the account.
     pub(crate) rotates: Condvar,
-    doors: Vec<Door>,
+    // The printers of each queue, by its number. None has the number 0.
+    queues: Vec<Row>,
     // The printers of the queue that each printer serves, by its number. None has the number 0.
     rows: Vec<Row>,
     all: Row,
 }
 
-/// The queues of a configuration, with their printers.
-fn doors_of(alloc: Global, config: &Config) -> Result<Vec<Door>, AllocError> {
-    let mut doors = Vec::new(alloc);
-    let mut first = 1u32;
+/// The printers of each queue of a configuration, and all of them for 0.
+fn rows_of_queues(alloc: Global, config: &Config, all: Row) -> Result<Vec<Row>, AllocError> {
+    let mut rows = Vec::new(alloc);
+    rows.push(all)?;
+    let mut first = all.first;
     for queue in config.queues().iter() {
         let past = first.saturating_add(queue.printers());
-        doors.push(Door {
-            name: Vec::from_slice(alloc, queue.name())?,
-            row: Row { first, past },
-        })?;
+        rows.push(Row { first, past })?;
         first = past;
     }
-    Ok(doors)
+    Ok(rows)
 }
 
 /// The printers of the queue that each printer serves, and all of them for 0.
-fn rows_of(alloc: Global, doors: &[Door], all: Row) -> Result<Vec<Row>, AllocError> {
+fn rows_of_printers(alloc: Global, queues: &[Row], all: Row) -> Result<Vec<Row>, AllocError> {
     let mut rows = Vec::new(alloc);
     rows.push(all)?;
-    for door in doors.iter() {
-        for _printer in door.row.first..door.row.past {
-            rows.push(door.row)?;
+    for row in queues.iter().skip(1) {
+        for _printer in row.first..row.past {
+            rows.push(*row)?;
         }
     }
     Ok(rows)
@@ -69,13 +61,13 @@ impl Bells {
     pub(crate) fn new(alloc: Global, config: &Config, sessions: u32) -> Result<Bells, AllocError> {
         let past = config.printer_count().saturating_add(1);
         let all = Row { first: 1, past };
-        let doors = doors_of(alloc, config)?;
-        let rows = rows_of(alloc, doors.as_slice(), all)?;
+        let queues = rows_of_queues(alloc, config, all)?;
+        let rows = rows_of_printers(alloc, queues.as_slice(), all)?;
         Ok(Bells {
             printers: bells_of(alloc, past)?,
             sessions: bells_of(alloc, sessions)?,
             rotates: Condvar::new(),
-            doors,
+            queues,
             rows,
             all,
         })
@@ -86,11 +78,9 @@ impl Bells {
         self.rows.get(printer as usize).copied().unwrap_or(self.all)
     }
 
-    /// The printers of the queue of a name, or all where no queue has it.
-    pub(crate) fn row_of(&self, name: &[u8]) -> Row {
-        let mut doors = self.doors.iter();
-        let found = doors.find(|door| door.name.as_slice() == name);
-        found.map_or(self.all, |door| door.row)
+    /// The printers of the queue of a number, or all where no queue has it.
+    pub(crate) fn row_of(&self, queue: u32) -> Row {
+        self.queues.get(queue as usize).copied().unwrap_or(self.all)
     }
 }
 

@@ -18,7 +18,8 @@ pub use control_file::Control;
 pub use line::{AbortError, Waiting};
 pub use locked_spool::{
     Account, Asked, Base, Config, Entry, Foreign, HandedPage, Kind, Next, Pages, Progress, Receipt,
-    ReturnedControl, ReturnedPage, ReturnedTicket, RotateError, Segment, Unopened,
+    Removal, ReturnedControl, ReturnedPage, ReturnedTicket, RotateError, Segment, Started,
+    Unopened,
 };
 pub use lpd_values::{FileName, Octets, Refusal};
 pub use page_pool::{FilledPage, PageTicket};

@@ -4,13 +4,15 @@
 //! wait any more. A session stands in it until it goes on. One session at a time is called after the events that may have ended
 //! a wait: it asks again, and then calls the next one that hasn't asked since the event, by the numbers of their jobs.
 
-ghost use Rattle.std.specs.Prelude.{◌≡◌, ◌↔◌, ◌<◌, IsTrue};
+ghost use Rattle.std.specs.Prelude.{◌≡◌, ◌<◌, ◌^◌};
 ghost use Rattle.account.specs.declared.kind.Kind.TheVariants as kind;
-ghost use Rattle.locked_spool.specs.Shares.{when_done};
-ghost use Rattle.locked_spool.specs.Waiting.{Waits};
+ghost use Rattle.locked_spool.specs.Entries.{WritesHanded};
+ghost use Rattle.locked_spool.specs.Shares.{when_done, when_handed};
+ghost use Rattle.locked_spool.specs.Waiting.{Waits, WhereNothing};
 ghost use Rattle.shared_spool.specs.Line.{EndsWait, waits_at};
 
-use locked_spool::Locked;
+use crate::seats::PrinterSeat;
+use locked_spool::{Locked, Next};
 use spool_ledgers::{Shares, SpoolLedger};
 use std::alloc::{AllocError, Global};
 use std::sync::ledger::Ledger;
@@ -173,14 +175,20 @@ pub(crate) struct Room<E: SpoolLedger, K: Ledger, H: Ledger> {
 }
 
 impl<E: SpoolLedger, K: Ledger, H: Ledger> Room<E, K, H> {
-    /// Whether a printer has to wait. It stands in the line while it has to.
-    pub(crate) fn must_wait(&mut self, printer: u32) -> bool
-        ensures same { self.new.locked ≡ self.old.locked }
-        ensures here { IsTrue result ↔ Waits E.config self.new.locked printer }
+    /// Gives the printer of a seat its next page, if there is one. Where it has to wait it stands in the line from then on.
+    pub(crate) fn next(&mut self, seat: &mut PrinterSeat<E, K, H>) -> Next
+        ensures seat { seat.new
+            ≡ record seat.old { sums = when_handed result seat.old.sums } }
+        ensures bound { seat.new.sums.handed < 2 ^ 64 }
+        ensures waits { WhereNothing result
+            (Waits E.config self.old.locked seat.old.printer) }
+        ensures account { WritesHanded self.old.locked self.new.locked seat.old.printer result }
     {
-        let waits = self.locked.must_wait(printer);
+        let printer = seat.printer;
+        let answer = self.locked.next(&mut seat.shares, printer);
+        let waits = matches!(&answer, Next::Nothing | Next::Stopped);
         self.line.set_printer(printer, waits);
-        waits
+        answer
     }
 
     /// Calls a printer of a queue that waits and need not any more, if one does.

@@ -3,17 +3,39 @@
 ghost use Rattle.std.specs.Prelude.{◌≡◌, ◌+◌, IfOk};
 ghost use Rattle.account.specs.declared.kind.Kind.TheVariants as kind;
 ghost use Rattle.locked_spool.specs.Segments.{HasHeadline, IsLegalSegment};
-ghost use Rattle.locked_spool.specs.Shares.{OneOrNone, WhenStarted, when_removed};
+ghost use Rattle.locked_spool.specs.Shares.{OneOrNone, WhenStarted, when_removed, when_started, when_taken};
+ghost use Rattle.locked_spool.specs.Telling.{text_of};
 
 use crate::seats::SessionSeat;
 use crate::spool::SharedSpool;
-use locked_spool::{Pages, RotateError, Segment};
+use locked_spool::{Pages, Removal, RotateError, Segment, Started};
 use lpd_values::{Octets, Refusal};
 use spool_ledgers::SpoolLedger;
 use std::sync::Wait;
 use std::sync::ledger::Ledger;
 
 impl<E: SpoolLedger, K: Ledger, H: Ledger> SharedSpool<E, K, H> {
+    /// Starts the stopped printers of a queue, and answers the number of the queue and how many of its printers it started.
+    ///
+    /// Refused as `start` is.
+    pub fn start_telling<R: Wait>(
+        &self,
+        rt: &R,
+        seat: &mut SessionSeat<E, K, H>,
+        queue: &[u8],
+    ) -> Result<Started, Refusal>
+        ensures { seat.new ≡ when_started result seat.old }
+    {
+        let mut room = self.state.lock(rt);
+        let answer = room.locked.start_telling(&mut seat.shares, queue);
+        if let Ok(started) = &answer {
+            self.ring_printers(&mut *room, self.bells.row_of(started.queue));
+            drop(room);
+            self.changed.notify_all();
+        }
+        answer
+    }
+
     /// Starts the stopped printers of a queue. Where none is stopped nothing changes.
     ///
     /// Closed once the spool is closed; UnknownQueue where no queue has this name.
@@ -25,10 +47,31 @@ impl<E: SpoolLedger, K: Ledger, H: Ledger> SharedSpool<E, K, H> {
     ) -> Result<(), Refusal>
         ensures { WhenStarted result seat.old seat.new }
     {
+        self.start_telling(rt, seat, queue)?;
+        Ok(())
+    }
+
+    /// Removes the jobs of a queue that an agent removes by a list, or its active job alone where the list is empty, and
+    /// answers the number of the queue, the numbers of these jobs, and the text that tells of them.
+    ///
+    /// Refused as `remove` is.
+    pub fn remove_telling<R: Wait>(
+        &self,
+        rt: &R,
+        seat: &mut SessionSeat<E, K, H>,
+        queue: &[u8],
+        agent: &[u8],
+        list: &[Octets],
+    ) -> Result<Removal, Refusal>
+        ensures numbers { seat.new ≡ when_taken result seat.old }
+        ensures text { seat.new ≡ when_removed (text_of result) seat.old }
+    {
         let mut room = self.state.lock(rt);
-        let answer = room.locked.start(&mut seat.shares, queue);
-        if answer.is_ok() {
-            self.ring_printers(&mut *room, self.bells.row_of(queue));
+        let answer = room
+            .locked
+            .remove_telling(&mut seat.shares, queue, agent, list);
+        if let Ok(removal) = &answer {
+            self.ring_all(&mut *room, self.bells.row_of(removal.queue));
             drop(room);
             self.changed.notify_all();
         }
@@ -49,14 +92,8 @@ impl<E: SpoolLedger, K: Ledger, H: Ledger> SharedSpool<E, K, H> {
     ) -> Result<Octets, Refusal>
         ensures { seat.new ≡ when_removed result seat.old }
     {
-        let mut room = self.state.lock(rt);
-        let answer = room.locked.remove(&mut seat.shares, queue, agent, list);
-        if answer.is_ok() {
-            self.ring_all(&mut *room, self.bells.row_of(queue));
-            drop(room);
-            self.changed.notify_all();
-        }
-        answer
+        let removal = self.remove_telling(rt, seat, queue, agent, list)?;
+        Ok(removal.text)
     }
 
     /// The text that answers a question for the state of a queue. A closed spool answers too.

@@ -44,13 +44,14 @@ impl<E: SpoolLedger, K: Ledger, H: Ledger> SharedSpool<E, K, H> {
         ensures { seat.new ≡ when_done kind.Opened result seat.old }
     {
         let shares = &mut seat.shares;
-        let answer = self.state.lock(rt).locked.open(shares, sender, queue);
-        if let Ok(job) = &answer {
-            seat.opened = *job;
-            seat.put = 0;
-            seat.row = self.bells.row_of(queue);
-        }
-        self.told(answer)
+        let mut room = self.state.lock(rt);
+        let accepted = room.locked.open_telling(shares, sender, queue)?;
+        drop(room);
+        seat.opened = accepted.job;
+        seat.put = 0;
+        seat.row = self.bells.row_of(accepted.queue);
+        self.changed.notify_all();
+        Ok(accepted.job)
     }
 
     /// Lends a page to a job, which has to come back by `put` or `abort`; or answers Later, where no page is free or the state

@@ -69,14 +69,19 @@ impl<E: SpoolLedger, K: Ledger, H: Ledger> SharedSpool<E, K, H> {
         ensures bound { seat.new.sums.handed < 2 ^ 64 }
         ensures something { (result ≢ next.Nothing) × (result ≢ next.Stopped) }
     {
-        let printer = seat.printer;
-        let room = self.state.lock(rt);
-        let bell = self.printer_bell(printer);
-        let mut room = bell.wait_while(rt, room, |r| r.must_wait(printer));
-        let answer = room.locked.next(&mut seat.shares, printer);
-        drop(room);
-        self.hands(seat, &answer);
-        answer
+        let mut room = self.state.lock(rt);
+        for _ in rt.forever() {
+            match room.next(&mut *seat) {
+                Next::Nothing | Next::Stopped => {}
+                answer => {
+                    drop(room);
+                    self.hands(seat, &answer);
+                    return answer;
+                }
+            }
+            room = self.printer_bell(seat.printer).wait(rt, room);
+        }
+        unreachable!()
     }
 
     /// What the lock keeps, once no job is held or a printer is stopped.

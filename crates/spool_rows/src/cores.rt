@@ -8,6 +8,8 @@
 //! | `opens QUEUE`, `controls J`: whether a job, a control file would be refused | `yes` |
 //! | `file J` | `file F page N`, `no file` |
 //! | `chosen QUEUE AGENT WORD..` | `jobs J..` |
+//! | `removal QUEUE AGENT WORD..`: what a removal would take, and its text | `queue Q jobs J.., TEXT` |
+//! | `starts QUEUE`: what a start would start | `queue Q stopped N` |
 //! | `rotate`, where no job is held | `yes` |
 //!
 //! `other CALL` is a call of a second core, for which a line `other spool ..` has a configuration, and `trade` exchanges all
@@ -40,16 +42,43 @@ fn rotate(core: &mut Core) -> &'static str {
     "yes"
 }
 
-/// Appends the jobs that a removal would take.
-fn push_chosen(told: &mut String, alloc: Global, core: &Core, rest: &str) -> Result<(), Refusal> {
+/// Appends jobs by their numbers.
+fn push_jobs(told: &mut String, jobs: &[u64]) -> Result<(), AllocError> {
+    told.push_str("jobs")?;
+    for job in jobs.iter() {
+        write!(told, " {job}")?;
+    }
+    Ok(())
+}
+
+/// Appends the jobs that a removal would take, and with the whole of it the number of the queue and the text.
+fn push_removal(
+    told: &mut String,
+    alloc: Global,
+    core: &Core,
+    is_whole: bool,
+    rest: &str,
+) -> Result<(), Refusal> {
     let (queue, rest) = word(rest);
     let (agent, list) = word(rest);
     let list = words(alloc, list)?;
-    let numbers = core.chosen(queue.as_bytes(), agent.as_bytes(), list.as_slice())?;
-    told.push_str("jobs")?;
-    for number in numbers.iter() {
-        write!(told, " {number}")?;
+    let (queue, agent, list) = (queue.as_bytes(), agent.as_bytes(), list.as_slice());
+    if !is_whole {
+        let jobs = core.chosen(queue, agent, list)?;
+        return Ok(push_jobs(told, jobs.as_slice())?);
     }
+    let removal = core.removal_of(queue, agent, list)?;
+    write!(told, "queue {} ", removal.queue)?;
+    push_jobs(told, removal.numbers.as_slice())?;
+    write!(told, ", {}", removal.text.as_slice().escape_ascii())?;
+    Ok(())
+}
+
+/// Appends the number of a queue, and how many printers a start of it would start.
+fn push_start(told: &mut String, core: &Core, queue: &str) -> Result<(), Refusal> {
+    let found = core.start_of(queue.as_bytes())?;
+    let (number, stopped) = (u64::from(found.queue), u64::from(found.stopped));
+    push_numbers(told, &[("queue", number), ("stopped", stopped)])?;
     Ok(())
 }
 
@@ -77,7 +106,8 @@ fn is_told(told: &mut String, alloc: Global, core: &mut Core, call: &str) -> Res
         }
         "free" => push_numbers(told, &[("free", core.free() as u64)])?,
         "reserve" => push_numbers(told, &[("reserve", core.counted_reserve())])?,
-        "chosen" => push_chosen(told, alloc, core, rest)?,
+        "chosen" | "removal" => push_removal(told, alloc, core, call == "removal", rest)?,
+        "starts" => push_start(told, core, rest)?,
         "opens" => push_yes(told, core.open_refusal(rest.as_bytes()))?,
         "controls" => push_yes(told, core.control_refusal(number(rest)))?,
         "rotate" => told.push_str(rotate(core))?,
