@@ -46,9 +46,6 @@ begin_none d b h k job name count l none = ((λ m. none_has d b h k job IsReceiv
 pub put_none : (d : Detail) (b : Base) (h : List (Event (What d))) (k : Kept) (job : ℕ) (page : Page) (back : ReturnedPage) → Leaves d b h k → All (λ (j : HeldJob). j.facts.number ≢ job) k.book.jobs → back.page ≡ page → Puts d b h k job page k (Err back)
 put_none d b h k job page back l none e = ((λ m. none_has d b h k job (JobMay (size d) k.config (Put m.0 m.1 (see d page.octets))) l none m.2.0), refl, e)
 
-pub put_size : (d : Detail) (b : Base) (h : List (Event (What d))) (k : Kept) (job : ℕ) (page : Page) (back : ReturnedPage) → (page.page_size ≡ k.config.page_size → ⊥) → back.page ≡ page → Puts d b h k job page k (Err back)
-put_size d b h k job page back never e = ((λ m. never m.2.1), refl, e)
-
 last_mapped : {C : Type 0} (z : ℕ) (fs : List (File C)) (y : File C) → last_size (map {A = File C} {B = DataFile} (size_of z) (fs ++ y ∷ [])) ≡ size_of z y
 last_mapped z [] y = refl
 last_mapped z (g ∷ []) y = refl

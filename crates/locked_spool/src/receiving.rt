@@ -153,7 +153,7 @@ impl<E: SpoolLedger, K: Ledger, H: Ledger> Locked<E, K, H> {
             return Err(ReturnedPage { page });
         }
         let outline = outline_of(&page);
-        let (file, number) = self.core.put_next(job, page)?;
+        let (file, number) = self.core.put_sized(job, page)?;
         let entry = Entry::OfJob(job, Act::Put(file, number, outline));
         write(&mut self.account, &mut self.books, mine, entry);
         Ok(())

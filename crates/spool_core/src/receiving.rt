@@ -208,6 +208,32 @@ impl Core {
         Ok(())
     }
 
+    /// Takes the page that was lent to a job, which has the spool's size, as the next one of its open file, and says of which file
+    /// which page that is: their numbers, from 0.
+    ///
+    /// Refused, with the page, where the job isn't being received, no file of it is open, no page is lent to it, or the page
+    /// isn't the one that the file awaits: full, or with its last octets.
+    pub fn put_sized(&mut self, job: u64, page: FilledPage) -> Result<(u64, u64), ReturnedPage>
+        requires { page.page_size ≡ self.old.config.page_size }
+        ensures config { self.new.config ≡ self.old.config }
+        ensures back { IfErr result (λ e. e.page ≡ page) }
+        ensures put { IfOk result (λ r. IsRight self.old (λ d b h.
+            PutsAs d b h self.old job page self.new r.0 r.1)) }
+        ensures refused { IfErr result (λ e. IsRight self.old (λ d b h.
+            Puts d b h self.old job page self.new (Err e))) }
+    {
+        let page_size = u64::from(self.config.page_size());
+        let Some(i) = self.book.find(job) else {
+            return Err(ReturnedPage { page });
+        };
+        if !awaits(&self.book, i, page.len() as u64, page_size) {
+            return Err(ReturnedPage { page });
+        }
+        let next = last_file(self.book.job(i));
+        self.book.put(i, page);
+        Ok(next)
+    }
+
     /// Takes the page that was lent to a job as the next one of its open file, and says of which file which page that is: their
     /// numbers, from 0.
     ///
@@ -221,19 +247,10 @@ impl Core {
         ensures refused { IfErr result (λ e. IsRight self.old (λ d b h.
             Puts d b h self.old job page self.new (Err e))) }
     {
-        let page_size = self.config.page_size();
-        if page.page_size() != page_size as usize {
+        if page.page_size() != self.config.page_size() as usize {
             return Err(ReturnedPage { page });
         }
-        let Some(i) = self.book.find(job) else {
-            return Err(ReturnedPage { page });
-        };
-        if !awaits(&self.book, i, page.len() as u64, u64::from(page_size)) {
-            return Err(ReturnedPage { page });
-        }
-        let next = last_file(self.book.job(i));
-        self.book.put(i, page);
-        Ok(next)
+        self.put_sized(job, page)
     }
 
     /// Takes the page that was lent to a job as the next one of its open file.

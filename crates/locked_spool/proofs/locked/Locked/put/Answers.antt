@@ -22,7 +22,7 @@ module _ (g : Over) (c : In_ok-file g) where
   h = let a = c.self.inside in record { core = a.core; base = base_seen a.base; events = a.account.events; number = a.number; before = a.before; kinds_before = a.kinds_before; handed_before = a.handed_before }
 
   abbrev k : Kept
-  k = c.put_next.new.self
+  k = c.put_sized.new.self
 
   abbrev file : ℕ
   file = c.in_ok-file.file
@@ -65,5 +65,5 @@ returns-clause-account g c =
 pub returns-in_err-file-clause-answer : goal.returns-in_err-file-clause-answer
 returns-in_err-file-clause-answer g c =
     let told : c.from_residual.result ≡ Err c.in_err-file.field-0.0 = search rules in
-    subst (λ (r : Result (Unit {0}) ReturnedPage). IsRight c.args.self.now.core (λ d b h. Puts d b h c.args.self.now.core c.args.job c.args.page c.put_next.new.self r)) (sym told)
-    (subst (λ (z : Kept). IsRight z (λ d b h. Puts d b h z c.args.job c.args.page c.put_next.new.self (Err c.in_err-file.field-0.0))) (ap (λ (z : Held). z.core) c.self.view_is) c.in_err-file.ensures.refused)
+    subst (λ (r : Result (Unit {0}) ReturnedPage). IsRight c.args.self.now.core (λ d b h. Puts d b h c.args.self.now.core c.args.job c.args.page c.put_sized.new.self r)) (sym told)
+    (subst (λ (z : Kept). IsRight z (λ d b h. Puts d b h z c.args.job c.args.page c.put_sized.new.self (Err c.in_err-file.field-0.0))) (ap (λ (z : Held). z.core) c.self.view_is) c.in_err-file.ensures.refused)

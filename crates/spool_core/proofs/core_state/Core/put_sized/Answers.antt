@@ -1,5 +1,5 @@
-use Rattle.std.proofs.Common.{◌≡◌, ℕ, ◌+◌, ◌-◌, ◌<◌, ◌^◌, List, length, refl, ap, subst, sym, ◌∙◌, arith}
-use Rattle.std.specs.Prelude.{Result, Ok, Err}
+use Rattle.std.proofs.Common.{◌≡◌, ℕ, ◌+◌, ◌-◌, ◌<◌, ◌^◌, List, length, refl, ap, subst, sym, ◌∙◌}
+use Rattle.std.specs.Prelude.{Result, Err}
 use Rattle.page_pool.specs.Page.{Page}
 use Rattle.held_jobs.specs.Jobs.{Facts, last_size}
 use Rattle.held_jobs.specs.Books.{Books, job_at}
@@ -16,9 +16,9 @@ use Rattle.spool_core.proofs.Cores.{found, stays, still}
 use Rattle.held_jobs.specs.Moves.{Awaits}
 use Rattle.spool_calls.specs.declared.answers.ReturnedPage.{ReturnedPage}
 use Rattle.spool_calls.specs.Calls.{Puts, PutsAs}
-use Rattle.core_steps.proofs.Filing.{can_put, put_done, put_none, put_refused, put_size}
-use Rattle.spool_core.proofs.core_state.Core.put_next.Goals.{After-awaits, After-put}
-use Rattle.spool_core.proofs.core_state.Core.put_next.Goals as goal
+use Rattle.core_steps.proofs.Filing.{can_put, put_done, put_none, put_refused}
+use Rattle.spool_core.proofs.core_state.Core.put_sized.Goals.{After-awaits, After-put}
+use Rattle.spool_core.proofs.core_state.Core.put_sized.Goals as goal
 
 abbrev Same : ℕ → Page → Result (Unit {0}) ReturnedPage → Kept → (d : Detail) → Base → List (Event (What d)) → Type 0
 Same job page r k d b h = Puts d b h k job page k r
@@ -36,16 +36,16 @@ module _ (c : After-awaits) where
   place : Found (core_view a) c.args.job c.in-Some.i
   place = found a c.args.job c.in-Some.i c.in-Some.ensures.found
 
-  size : c.from.result ≡ a.config.page_size
-  size = c.from.ensures ∙ c.page_size-page_size.ensures.value
+  size : c.from-page_size.result ≡ a.config.page_size
+  size = c.from-page_size.ensures ∙ c.page_size.ensures.value
 
-  awaited : Awaits (job_at a.book c.in-Some.i) c.len.result c.from.result → Awaits (job_at a.book c.in-Some.i) (length c.args.page.octets) a.config.page_size
-  awaited w = subst (λ (z : ℕ). Awaits (job_at a.book c.in-Some.i) (length c.args.page.octets) z) size (subst (λ (n : ℕ). Awaits (job_at a.book c.in-Some.i) n c.from.result) c.len.ensures.len w)
+  awaited : Awaits (job_at a.book c.in-Some.i) c.len.result c.from-page_size.result → Awaits (job_at a.book c.in-Some.i) (length c.args.page.octets) a.config.page_size
+  awaited w = subst (λ (z : ℕ). Awaits (job_at a.book c.in-Some.i) (length c.args.page.octets) z) size (subst (λ (n : ℕ). Awaits (job_at a.book c.in-Some.i) n c.from-page_size.result) c.len.ensures.len w)
 
-  unawaited : Awaits (job_at a.book c.in-Some.i) (length c.args.page.octets) a.config.page_size → Awaits (job_at a.book c.in-Some.i) c.len.result c.from.result
-  unawaited w = subst (λ (n : ℕ). Awaits (job_at a.book c.in-Some.i) n c.from.result) (sym c.len.ensures.len) (subst (λ (z : ℕ). Awaits (job_at a.book c.in-Some.i) (length c.args.page.octets) z) (sym size) w)
+  unawaited : Awaits (job_at a.book c.in-Some.i) (length c.args.page.octets) a.config.page_size → Awaits (job_at a.book c.in-Some.i) c.len.result c.from-page_size.result
+  unawaited w = subst (λ (n : ℕ). Awaits (job_at a.book c.in-Some.i) n c.from-page_size.result) (sym c.len.ensures.len) (subst (λ (z : ℕ). Awaits (job_at a.book c.in-Some.i) (length c.args.page.octets) z) (sym size) w)
 
-  can : Awaits (job_at a.book c.in-Some.i) c.len.result c.from.result → (a.book.stored < a.book.pages) × ((last_size (job_at a.book c.in-Some.i).facts.files).pages + 1 < 2 ^ 64)
+  can : Awaits (job_at a.book c.in-Some.i) c.len.result c.from-page_size.result → (a.book.stored < a.book.pages) × ((last_size (job_at a.book c.in-Some.i).facts.files).pages + 1 < 2 ^ 64)
   can w =
       let r = c.self.invariant.reached in
       let n = can_put Outlines r.0 r.1 (core_view a) r.2 c.args.job c.in-Some.i place c.args.page c.self.invariant.ranges (awaited w) in
@@ -77,7 +77,7 @@ module _ (c : After-put) (w : Awaits (job_at c.self.inside.book c.in-Some.i) (le
 
   puts : Answer k
   puts d b h l =
-      let size : c.args.page.page_size ≡ k.config.page_size = (let n = c.page_size-page_size.ensures.value in let m = c.page_size.ensures.size in let t = c.if-page_size.false in omega (arith, n, m, t)) in
+      let size : c.args.page.page_size ≡ k.config.page_size = subst (λ (z : Kept). c.args.page.page_size ≡ z.config.page_size) (sym c.self.view_is) c.requires in
       let file = c.last_file-next.ensures.0 ∙ ap (λ (y : Facts). length y.files - 1) c.job.ensures in
       let number = c.last_file-next.ensures.1 ∙ ap (λ (y : Facts). (last_size y.files).pages) c.job.ensures in
       subst (λ (n : ℕ). PutsAs d b h k c.args.job c.args.page new n c.last_file-next.result.1) (sym file)
