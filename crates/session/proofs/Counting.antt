@@ -40,7 +40,7 @@ at_end true job old new x = x.1
 at_end false job old new x = x
 
 pub counted : (end : SessionEnd) (sender : ℕ) (before after : Around Sums) → ServedBy Carries seats.Ends end sender before after
-    → Served end sender before.reader after.reader before.writer after.writer before.spool after.spool
+    → Served end sender before after
 counted end sender before after x =
     let a = all_added sender x.course before.spool x.asked x.ends.right x.carried in
     record {

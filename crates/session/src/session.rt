@@ -1,6 +1,6 @@
 //! Serving a session.
 
-ghost use Rattle.request_session.specs.Served.{side, source};
+ghost use Rattle.request_session.specs.Served.{around, side, source};
 ghost use Rattle.session.specs.Served.{Served};
 
 use crate::seated::Seated;
@@ -28,10 +28,10 @@ pub fn serve<E: SpoolLedger, K: Ledger, H: Ledger, R: Wait, I: OctetRead, W: Oct
     writer: &mut W,
 ) -> (SessionSeat<E, K, H>, SessionEnd)
     ensures { Served result.1 sender
-        (source (I.left reader.old) (I.faults reader.old) (I.reads reader.old))
-        (source (I.left reader.new) (I.faults reader.new) (I.reads reader.new))
-        (side (W.written writer.old) (W.faults writer.old))
-        (side (W.written writer.new) (W.faults writer.new)) seat result.0 }
+        (around (source (I.left reader.old) (I.faults reader.old) (I.reads reader.old))
+        (side (W.written writer.old) (W.faults writer.old)) seat)
+        (around (source (I.left reader.new) (I.faults reader.new) (I.reads reader.new))
+        (side (W.written writer.new) (W.faults writer.new)) result.0) }
 {
     let mut seated = Seated::new(rt, spool, seat);
     let end = serve_by(rt, alloc, &mut seated, sender, reader, writer);

@@ -13,6 +13,6 @@ returns g c =
     let reader' : Source = source (r.left c.serve_by-end.new.reader) (r.faults c.serve_by-end.new.reader) (r.reads c.serve_by-end.new.reader) in
     let writer : Side = side (w.written c.args.writer.now) (w.faults c.args.writer.now) in
     let writer' : Side = side (w.written c.serve_by-end.new.writer) (w.faults c.serve_by-end.new.writer) in
-    subst (λ (s : Sums). Served c.serve_by-end.result c.args.sender reader reader' writer writer' s c.into_seat.result) c.new-seated.ensures
-    (subst (λ (s : Sums). Served c.serve_by-end.result c.args.sender reader reader' writer writer' c.new-seated.result s) (sym c.into_seat.ensures)
+    subst (λ (s : Sums). Served c.serve_by-end.result c.args.sender (around reader writer s) (around reader' writer' c.into_seat.result)) c.new-seated.ensures
+    (subst (λ (s : Sums). Served c.serve_by-end.result c.args.sender (around reader writer c.new-seated.result) (around reader' writer' s)) (sym c.into_seat.ensures)
     (counted c.serve_by-end.result c.args.sender (around reader writer c.new-seated.result) (around reader' writer' c.serve_by-end.new.spool) c.serve_by-end.ensures))
