@@ -19,13 +19,13 @@ use Rattle.spool_calls.specs.Looks.Detail.{Outlines}
 use Rattle.spool_calls.specs.Kept.{Kept}
 use Rattle.spool_calls.specs.Calls.{IsRight, Admits, Opens, Begins, Asks, Puts, Ends, Controls, Aborts, Starts, Tells, Removes}
 use Rattle.spool_requests.specs.declared.answer.Answer.{Answer}
-use Rattle.spool_requests.specs.Follows.{Follows, Stood, aborted_by, asked_by, controlled_by, done_by, kept_by, opened_by, put_by, told_by}
+use Rattle.spool_requests.specs.Follows.{Follows, Stood, from_session, aborted_by, asked_by, controlled_by, done_by, kept_by, opened_by, put_by, told_by}
 use Rattle.spool_requests.proofs.Bridge.{abort_follows, control_follows, end_follows, file_follows, open_follows, page_follows, put_follows, queue_follows, removal_follows, start_follows, state_follows}
 use Rattle.request_calls.specs.Carried.{Carries}
 
 module _ {old new : Kept} {sender job : ℕ} where
   -- a call whose outcome is one that the request may have
-  follows : {r : Request} {answer : Answer} → new.config ≡ old.config → ((d : Detail) (b : Base) (h : List (Event (What d))) → Stood d b h old new → Follows d b h old new sender job r answer)
+  follows : {r : Request} {answer : Answer} → new.config ≡ old.config → ((d : Detail) (b : Base) (h : List (Event (What d))) → Stood d b h old new → Follows d b h old new (from_session sender job r) answer)
       → Carries old sender job r answer new
   follows e due = record { config = e; follows = λ ranges d b h l. due d b h (record { ranges = ranges; config = e; left = l }) }
 

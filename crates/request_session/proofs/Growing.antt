@@ -6,17 +6,19 @@ use Rattle.config_values.specs.Ranges.{IsConfig}
 use Rattle.receiver.specs.Reading.{Due, Ends, Requests, Waits, Writes}
 use Rattle.spool_history.specs.Base.{Base}
 use Rattle.spool_history.specs.Events.{Event}
+use Rattle.spool_history.specs.Now.{now}
 use Rattle.spool_calls.specs.declared.answers.ReturnedTicket.{ReturnedTicket}
 use Rattle.spool_calls.specs.Looks.{Detail, What}
 use Rattle.spool_calls.specs.Kept.{Kept, Leaves}
 use Rattle.spool_calls.specs.Calls as calls
 use Rattle.spool_requests.specs.declared.answer.Answer.{Answer}
 use Rattle.spool_trace.specs.declared.reply.Deed.TheVariants as deed
+use Rattle.spool_requests.specs.Shows.{with_event}
 use Rattle.spool_trace.specs.Sessions.{due_in}
 use Rattle.request_calls.specs.Carried.{Carries}
 use Rattle.request_calls.specs.Carried as core
 use Rattle.request_session.specs.declared.ending.SessionEnd.{SessionEnd}
-use Rattle.request_session.specs.Alone.{AllAnswered, IsAnswered, LeavesEnded, ServedAlone, grown, with_answer}
+use Rattle.request_session.specs.Alone.{AllAnswered, IsAnswered, LeavesEnded, ServedAlone, event_due, grown}
 use Rattle.request_session.specs.Carried.{AtEnd, CarriesAll, CarriesDue}
 use Rattle.request_session.specs.Course.{Course, Came, Did, session_after}
 use Rattle.request_session.specs.Served.{Around, ServedBy}
@@ -24,7 +26,7 @@ use Rattle.request_session.specs.Served.{Around, ServedBy}
 -- the core has grown by one answer
 pub record OneMore (due : Due) (sender job : ℕ) (answer : Answer) (old new : Kept) : Type 0 where
   pub config : new.config ≡ old.config
-  pub follows : IsConfig old.config → calls.IsRight old (λ d b h. IsAnswered d old.config b sender due job answer h × Leaves d b (with_answer d old.config b sender due job answer h) new)
+  pub follows : IsConfig old.config → calls.IsRight old (λ d b h. IsAnswered d (now old.config b h) sender job due answer × Leaves d b (with_event (event_due d (now old.config b h) sender job due answer) h) new)
 
 one_more : (due : Due) (sender job : ℕ) (answer : Answer) (old new : Kept) → CarriesDue Carries sender due job answer old new → OneMore due sender job answer old new
 one_more Ends sender job answer old new x = absurd x
@@ -57,7 +59,7 @@ all_more (Did (deed.Asked kind answer) ∷ c) sender old new (before, all, one) 
       config = o.config ∙ m.config;
       follows = λ ranges d b h l.
           let k = m.follows ranges d b h l in
-          let f = subst (λ (g : Config). IsConfig g → IsAnswered d g b sender (due_in s) s.job answer (grown d old.config b sender c h) × Leaves d b (with_answer d g b sender (due_in s) s.job answer (grown d old.config b sender c h)) new) m.config
+          let f = subst (λ (g : Config). IsConfig g → IsAnswered d (now g b (grown d old.config b sender c h)) sender s.job (due_in s) answer × Leaves d b (with_event (event_due d (now g b (grown d old.config b sender c h)) sender s.job (due_in s) answer) (grown d old.config b sender c h)) new) m.config
           (λ r. o.follows r d b (grown d old.config b sender c h) k.1) ranges in
           ((k.0, f.0), f.1);
     }

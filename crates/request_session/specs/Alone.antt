@@ -1,5 +1,5 @@
 -- A session whose requests a core carries out that it has alone: how the core's history grows.
-use Rattle.std.specs.Prelude.{◌≡◌, ◌⊎◌, ℕ, Bool, true, List, [], ◌∷◌}
+use Rattle.std.specs.Prelude.{◌≡◌, ◌⊎◌, ℕ, Bool, true, List, [], ◌∷◌, None, Option}
 use Rattle.config_values.specs.Config.{Config}
 use Rattle.config_values.specs.Ranges.{IsConfig}
 use Rattle.receiver.specs.Reading.{Due, Requests}
@@ -7,7 +7,7 @@ use Rattle.spool_history.specs.Base.{Base}
 use Rattle.spool_history.specs.Events.{Event}
 use Rattle.spool_history.specs.Events.Act.{Aborted}
 use Rattle.spool_history.specs.Events.Event.{OfJob}
-use Rattle.spool_history.specs.Now.{now}
+use Rattle.spool_history.specs.Now.{State, now}
 use Rattle.spool_calls.specs.Looks.{Detail, What}
 use Rattle.spool_calls.specs.Kept.{Kept, Leaves}
 use Rattle.spool_calls.specs.Calls.{IsRight}
@@ -20,29 +20,32 @@ use Rattle.request_session.specs.declared.ending.SessionEnd.{SessionEnd}
 use Rattle.request_session.specs.Course.{Course, Did, session_after}
 use Rattle.request_session.specs.Served.{Around, Ends, HasRead}
 
-module _ (d : Detail) (config : Config) (b : Base) (sender : ℕ) where
-  -- the history with the event, if any, that the request which was due shows with its answer
-  abbrev pub with_answer : Due → (job : ℕ) → Answer → List (Event (What d)) → List (Event (What d))
-  with_answer (Requests r items text) job answer h = with_event (event_of d (now config b h) sender job r answer) h
-  with_answer due job answer h = h
+-- the event, if any, that the request which was due shows with its answer, where a history left the spool so
+abbrev pub event_due : (d : Detail) → State (What d) → (sender job : ℕ) → Due → Answer → Option (Event (What d))
+event_due d v sender job (Requests r items text) answer = event_of d v sender job r answer
+event_due d v sender job due answer = None
 
+-- the answer was due to the request that was
+abbrev pub IsAnswered : (d : Detail) → State (What d) → (sender job : ℕ) → Due → Answer → Type 0
+IsAnswered d v sender job (Requests r items text) answer = IsAnswer d v sender job r answer
+IsAnswered d v sender job due answer = ⊥
+
+module _ (d : Detail) (config : Config) (b : Base) (sender : ℕ) where
   -- how a history has grown by what a session did
   abbrev pub grown : Course → List (Event (What d)) → List (Event (What d))
   grown [] h = h
   grown (Did (deed.Asked asked answer) ∷ c) h =
-      with_answer (due_in (session_after sender c)) (session_after sender c).job answer (grown c h)
+      with_event
+      (event_due d (now config b (grown c h)) sender (session_after sender c).job (due_in (session_after sender c)) answer)
+      (grown c h)
   grown (move ∷ c) h = grown c h
 
-  -- the answer was due to the request that was
-  abbrev pub IsAnswered : Due → (job : ℕ) → Answer → List (Event (What d)) → Type 0
-  IsAnswered (Requests r items text) job answer h = IsAnswer d (now config b h) sender job r answer
-  IsAnswered due job answer h = ⊥
-
-  -- so was each, after what the session had done before
+  -- each request was answered so, after what the session had done before
   abbrev pub AllAnswered : Course → List (Event (What d)) → Type 0
   AllAnswered [] h = Unit {0}
   AllAnswered (Did (deed.Asked asked answer) ∷ c) h =
-      AllAnswered c h × IsAnswered (due_in (session_after sender c)) (session_after sender c).job answer (grown c h)
+      AllAnswered c h
+      × IsAnswered d (now config b (grown c h)) sender (session_after sender c).job (due_in (session_after sender c)) answer
   AllAnswered (move ∷ c) h = AllAnswered c h
 
 -- the history leaves the core here, with one more event, where the job in hand was aborted at the end

@@ -1,6 +1,6 @@
 -- From what a call of a core answers follows that the answer is due to the request, and that the history which the core is
 -- left by has grown by the event that the request shows.
-use Rattle.std.specs.Prelude.{◌≡◌, ℕ, Bool, true, false, List, Option, None, Result, Ok, Err, Contains}
+use Rattle.std.specs.Prelude.{◌≡◌, ℕ, Bool, List, Option, None, Result, Ok, Err, Contains, MatchBool}
 use Rattle.lpd_values.specs.Contents.{Contents}
 use Rattle.lpd_values.specs.declared.refusal.Refusal.{Refusal}
 use Rattle.lpd_values.specs.declared.refusal.Refusal.TheVariants.{NotOpen}
@@ -67,73 +67,82 @@ pub record Stood (d : Detail) (b : Base) (h : List (Event (What d))) (old new : 
   pub config : new.config ≡ old.config
   pub left : Leaves d b h old
 
+-- a request of the session of a sender that opened this job last
+pub record FromSession : Type 0 where
+  pub sender : ℕ
+  pub job : ℕ
+  pub request : Request
+
+abbrev pub from_session : (sender job : ℕ) → Request → FromSession
+from_session sender job r = record { sender = sender; job = job; request = r }
+
 -- the answer is due to the request, and the history that leaves the core has grown by what the request shows
-pub record Follows (d : Detail) (b : Base) (h : List (Event (What d))) (old new : Kept) (sender job : ℕ) (r : Request)
+pub record Follows (d : Detail) (b : Base) (h : List (Event (What d))) (old new : Kept) (from : FromSession)
     (answer : Answer) : Type 0 where
-  pub is : IsAnswer d (before d b h old) sender job r answer
-  pub left : Leaves d b (with_event (event_of d (before d b h old) sender job r answer) h) new
+  pub is : IsAnswer d (before d b h old) from.sender from.job from.request answer
+  pub left : Leaves d b (with_event (event_of d (before d b h old) from.sender from.job from.request answer) h) new
 
 -- so it is of any call that C says is right
 abbrev pub Always :
-    (Answers : Type 0)
-    (C : (d : Detail) (b : Base) (h : List (Event (What d))) → Kept → Kept → Answers → (sender job : ℕ) → Type 0) → Request
-    → (Answers → Answer) → Type 0
+    (Answers : Type 0) (C : (d : Detail) (b : Base) (h : List (Event (What d))) → Kept → Kept → Answers → FromSession → Type 0)
+    → Request → (Answers → Answer) → Type 0
 Always Answers C r answer_of =
     (d : Detail) (b : Base) (h : List (Event (What d))) (old new : Kept) (sender job : ℕ) (result : Answers) →
-    Stood d b h old new → C d b h old new result sender job → Follows d b h old new sender job r (answer_of result)
+    Stood d b h old new → C d b h old new result (from_session sender job r)
+    → Follows d b h old new (from_session sender job r) (answer_of result)
 
 abbrev pub QueueFollows : Type 0
 QueueFollows =
     (name : List ℕ) → Always (Result (Unit {0}) Refusal)
-    (λ d b h old new result sender job. (new ≡ old) × Admits d b h old name result) (Queue name) done_by
+    (λ d b h old new result from. (new ≡ old) × Admits d b h old name result) (Queue name) done_by
 
 abbrev pub OpenFollows : Type 0
 OpenFollows =
     (name : List ℕ) → Always (Result ℕ Refusal)
-    (λ d b h old new result sender job. Opens d b h old sender name new result) (Open name) opened_by
+    (λ d b h old new result from. Opens d b h old from.sender name new result) (Open name) opened_by
 
 abbrev pub FileFollows : Type 0
 FileFollows =
     (name : List ℕ) (count : ℕ) → Always (Result (Unit {0}) Refusal)
-    (λ d b h old new result sender job. Begins d b h old job name count new result) (BeginFile name count) done_by
+    (λ d b h old new result from. Begins d b h old from.job name count new result) (BeginFile name count) done_by
 
 abbrev pub PageFollows : Type 0
 PageFollows =
-    Always (Result Asked Refusal) (λ d b h old new result sender job. Asks d b h old job new result) AskPage asked_by
+    Always (Result Asked Refusal) (λ d b h old new result from. Asks d b h old from.job new result) AskPage asked_by
 
 abbrev pub PutFollows : Type 0
 PutFollows =
     (page : Page) → Always (Result (Unit {0}) ReturnedPage)
-    (λ d b h old new result sender job. Puts d b h old job page new result) (Filled page) put_by
+    (λ d b h old new result from. Puts d b h old from.job page new result) (Filled page) put_by
 
 abbrev pub EndFollows : Type 0
-EndFollows = Always (Result Receipt Refusal) (λ d b h old new result sender job. Ends d b h old job new result) EndFile kept_by
+EndFollows = Always (Result Receipt Refusal) (λ d b h old new result from. Ends d b h old from.job new result) EndFile kept_by
 
 abbrev pub ControlFollows : Type 0
 ControlFollows =
     (control : Contents) → Always (Result Receipt ReturnedControl)
-    (λ d b h old new result sender job. Controls d b h old job control new result) (Control control) controlled_by
+    (λ d b h old new result from. Controls d b h old from.job control new result) (Control control) controlled_by
 
 -- between blocks no page is in hand
 abbrev pub AbortFollows : Type 0
 AbortFollows =
-    Always (Result (Unit {0}) ReturnedTicket) (λ d b h old new result sender job. Aborts d b h old job None new result)
+    Always (Result (Unit {0}) ReturnedTicket) (λ d b h old new result from. Aborts d b h old from.job None new result)
     AbortJob aborted_by
 
 abbrev pub StartFollows : Type 0
 StartFollows =
     (name : List ℕ) → Always (Result (Unit {0}) Refusal)
-    (λ d b h old new result sender job. Starts d b h old name new result) (StartPrinters name) done_by
+    (λ d b h old new result from. Starts d b h old name new result) (StartPrinters name) done_by
 
 abbrev pub StateFollows : Type 0
 StateFollows =
     (name : List ℕ) (list : List (List ℕ)) (long : Bool) → Always (Result (List ℕ) Refusal)
-    (λ d b h old new result sender job. (new ≡ old) × Tells d b h old name list long result) (QueueState name list long) told_by
+    (λ d b h old new result from. (new ≡ old) × Tells d b h old name list long result) (QueueState name list long) told_by
 
 abbrev pub RemovalFollows : Type 0
 RemovalFollows =
     (name agent : List ℕ) (list : List (List ℕ)) → Always (Result (List ℕ) Refusal)
-    (λ d b h old new result sender job. Removes d b h old name agent list new result) (RemoveJobs name agent list) told_by
+    (λ d b h old new result from. Removes d b h old name agent list new result) (RemoveJobs name agent list) told_by
 
 module _ (d : Detail) (b : Base) (h : List (Event (What d))) (old new : Kept) (job : ℕ) where
   -- a page is in hand exactly where one is lent to the job
@@ -141,16 +150,15 @@ module _ (d : Detail) (b : Base) (h : List (Event (What d))) (old new : Kept) (j
   HasItsPage ticket =
       (w : Job (What d)) → Contains (before d b h old).jobs w → w.number ≡ job → IsLent w.lent old.config.page_size ticket
 
-  -- at its end a session aborts the job that it has in hand, with the page in its hand, whatever is answered
-  abbrev pub EndsSession : (in_hand : Bool) → Option Page → Type 0
-  EndsSession false ticket = new ≡ old
-  EndsSession true ticket =
+  -- the job was aborted with the page in hand, whatever was answered
+  abbrev pub AbortsInHand : Option Page → Type 0
+  AbortsInHand ticket =
       HasItsPage ticket × (result : Result (Unit {0}) ReturnedTicket) × Aborts d b h old job ticket new result
 
--- what a session in its end does shows an abort exactly where the job may be aborted
+-- At its end a session aborts the job that it has in hand. That shows an abort exactly where the job may be aborted.
 abbrev pub SessionEndFollows : Type 0
 SessionEndFollows =
     (d : Detail) (b : Base) (h : List (Event (What d))) (old new : Kept) (job : ℕ) (in_hand : Bool) (ticket : Option Page) →
-    Stood d b h old new → EndsSession d b h old new job in_hand ticket
+    Stood d b h old new → MatchBool in_hand (AbortsInHand d b h old new job ticket) (new ≡ old)
     → MayCome d (before d b h old) (end_of (before d b h old) in_hand job)
     × Leaves d b (with_event (end_of (before d b h old) in_hand job) h) new

@@ -73,7 +73,7 @@ EndShows b h old new s =
 abbrev pub AskFollows : Type 0
 AskFollows = Always (λ b h old new ss.
     (n : ℕ) (r : Request) (items : List Item) (text : List ℕ) (answer : Answer) → IsAt ss n (Requests r items text)
-    → requests.Follows Octets b h old new (session_at ss n).sender (session_at ss n).job r answer
+    → requests.Follows Octets b h old new (requests.from_session (session_at ss n).sender (session_at ss n).job r) answer
     → StepFollows b h old new ss (step.Turn n) (reply.Turned (deed.Asked (request_kind r) answer)))
 
 -- a request for which the reader lacked memory, a refusal that was written, and the end: the session is over

@@ -35,7 +35,7 @@ use Rattle.request_calls.specs.Pages.{first_page, is_lent}
 use Rattle.spool_world.specs.declared.connection.Connection.{Connection}
 use Rattle.spool_world.specs.Stands as stands
 use Rattle.spool_world.specs.Stands.{GoesOn, Stands, page_of}
-use Rattle.spool_world.specs.Turns.{AbortsIt, Answered, Does, IsEnded, IsOf}
+use Rattle.spool_world.specs.Turns.{AbortsIt, Answered, Does, IsEnded, IsOf, here}
 use Rattle.spool_world.proofs.Ends.{at, ended, fine, good, no_page, none_kept, quiet_held, stood, true_false}
 use Rattle.spool_world.proofs.Ties.{SizeOf, before_quiet, filled_size, filling_held, is_filled, none_has, request_tie}
 
@@ -282,7 +282,7 @@ module _ (old : Kept) (t : Trace) (n : ℕ) (k : Connection) (o : IsOf old t n k
 
   -- a request was carried out and answered
   pub asks_right : (new : Progress) (count : ℕ) (want : Need) (r : Request) (l : Connection) (core : Kept) (done : Deed) (reader : Progress) (last : ℕ) (keeps : Option Page) → Gives p k.unread.items count want new (due p (p.tail ++ k.unread.items))
-      → outputs want ≡ Asked r ∷ [] → new.owed ≡ Some (kind_of r) → Answered old core k.sender k.job r done new reader last k.kept keeps → core.config ≡ old.config → Left l reader (drop count k.unread.items) → l.job ≡ last → l.kept ≡ keeps
+      → outputs want ≡ Asked r ∷ [] → new.owed ≡ Some (kind_of r) → Answered k.sender r done (here old new k.job k.kept) (here core reader last keeps) → core.config ≡ old.config → Left l reader (drop count k.unread.items) → l.job ≡ last → l.kept ≡ keeps
       → Does old core t (step.Turn n) (reply.Turned done) l (turns done s)
   asks_right new count want r l core done reader last keeps g outs owed a same f job kept =
       let w = ask_is_due p new k.unread.items count want s (advanced new count want g) r outs in
@@ -291,14 +291,14 @@ module _ (old : Kept) (t : Trace) (n : ℕ) (k : Connection) (o : IsOf old t n k
       let d : Due = Requests r w.0 w.1 in
       let x = fine_at d w.2 in
       let x' = a.answer in
-      let c = a.carries o.ranges Octets first_base h o.left in
-      let follows : requests.Follows Octets first_base h old core s.sender s.job r x' =
-      subst (λ (i : ℕ). requests.Follows Octets first_base h old core i s.job r x') o.stands.sender (subst (λ (i : ℕ). requests.Follows Octets first_base h old core k.sender i r x') o.stands.job c.follows) in
+      let c = a.carries.follows o.ranges Octets first_base h o.left in
+      let follows : requests.Follows Octets first_base h old core (requests.from_session s.sender s.job r) x' =
+      subst (λ (i : ℕ). requests.Follows Octets first_base h old core (requests.from_session i s.job r) x') o.stands.sender (subst (λ (i : ℕ). requests.Follows Octets first_base h old core (requests.from_session k.sender i r) x') o.stands.job c) in
       let asked' : Deed = deed.Asked (request_kind r) x' in
       let reader' : reader ≡ answered (kind_of r) (reply_of x') new = a.reader' ∙ ap (λ (i : Option Kind). answered_owed i (reply_of x') new) owed in
       let st' : reading.Stands reader left (turns asked' s) = subst (λ (i : Progress). reading.Stands i left (turns asked' s)) (sym reader') (w.3 x') in
       let none = kept_before r w.0 w.1 (is_filled r) refl w.2 in
-      let tie = request_tie size k.job s.outputs (before Octets first_base h old) s.job s.progress s.progress.job (good old t n k o p e).stage s.unread r x' w.0 w.1 reader.tail a.page x follows.is.due refl (size_of r w.0 w.1 w.2) c.blank' in
+      let tie = request_tie size k.job s.outputs (before Octets first_base h old) s.job s.progress s.progress.job (good old t n k o p e).stage s.unread r x' w.0 w.1 reader.tail a.page x follows.is.due refl (size_of r w.0 w.1 w.2) a.blank' in
       let keeps' : l.kept ≡ (if is_lent x' then None else a.page) = kept ∙ a.keeps' ∙ ap (first_page (if is_lent x' then None else a.page)) none ∙ first_none (if is_lent x' then None else a.page) in
       subst (λ (y : Deed). Does old core t (step.Turn n) (reply.Turned y) l (turns y s)) (sym a.is) (record {
         follows = ask_follows first_base h old core (sessions t) (stood old t n k o p e core same) n r w.0 w.1 x' (is_at d w.2) follows;

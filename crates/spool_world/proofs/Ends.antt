@@ -1,5 +1,6 @@
 -- A session of a right trace, its connection, and its end.
 use Rattle.std.proofs.Common.{◌≡◌, ℕ, Bool, true, false, List, [], ◌∷◌, Option, Some, None, refl, sym, subst, ap, ◌∙◌}
+use Rattle.std.specs.Prelude.{MatchBool}
 use Rattle.page_pool.specs.Page.{Page}
 use Rattle.receiver.specs.Script.{Item, Output, PageOctets}
 use Rattle.receiver.specs.Reading.{Progress}
@@ -12,7 +13,7 @@ use Rattle.spool_calls.specs.Calls.{before, IsLent}
 use Rattle.spool_calls.specs.Tickets.{HasLent}
 use Rattle.spool_requests.specs.Shows.{end_of, with_event}
 use Rattle.spool_requests.specs.Due.{MayCome}
-use Rattle.spool_requests.specs.Follows.{Stood, EndsSession, HasItsPage}
+use Rattle.spool_requests.specs.Follows.{AbortsInHand, Stood, HasItsPage}
 use Rattle.spool_requests.proofs.Bridge.{session_end_follows}
 use Rattle.spool_trace.specs.Trace.{Trace}
 use Rattle.spool_trace.specs.Sessions.{Session, due_in, session_at, sessions}
@@ -73,7 +74,7 @@ module _ (old : Kept) (t : Trace) (n : ℕ) (k : Connection) (o : IsOf old t n k
       is_lent_page (has_page s) w.lent old.config.page_size (page_of p k) at.page
       (in_hand old.config t o.right n o.there at.open' job w there (number ∙ o.stands.job))
 
-  ends_it : (new : Kept) (in_hand' : Bool) → in_hand' ≡ s.progress.job → AbortsIt old new in_hand' k.job (page_of p k) → EndsSession Octets first_base (events old.config t) old new k.job in_hand' (page_of p k)
+  ends_it : (new : Kept) (in_hand' : Bool) → in_hand' ≡ s.progress.job → AbortsIt old new in_hand' k.job (page_of p k) → MatchBool in_hand' (AbortsInHand Octets first_base (events old.config t) old new k.job (page_of p k)) (new ≡ old)
   ends_it new false same ends = ends
   ends_it new true same ends =
       let r = ends Octets first_base (events old.config t) o.left in

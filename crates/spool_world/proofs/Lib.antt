@@ -1,4 +1,3 @@
-pub mod Answers
 pub mod Ends
 pub mod Ties
 pub mod Doing

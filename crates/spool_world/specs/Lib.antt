@@ -1,4 +1,3 @@
-pub mod Carried
 pub mod Stands
 pub mod Turns
 pub mod Worlds

@@ -23,22 +23,32 @@ use Rattle.spool_trace.specs.Shown.{events}
 use Rattle.spool_trace.specs.Replies.{IsSession, IsTrace}
 use Rattle.spool_trace.specs.Follows.{StepFollows}
 use Rattle.spool_world.specs.declared.connection.Connection.{Connection}
-use Rattle.request_calls.specs.Pages.{IsLentPage, first_page, is_lent}
-use Rattle.spool_world.specs.Carried.{Carries}
+use Rattle.request_calls.specs.Carried.{Carries}
+use Rattle.request_calls.specs.Pages.{IsLentPage, blank, first_page, is_lent, page_with}
 use Rattle.spool_world.specs.Stands.{Stands, page_of}
 
+-- where a request is carried out: the core, the reader of the connection, the number of its last job, and a page that is kept
+pub record Here : Type 0 where
+  pub core : Kept
+  pub reader : Progress
+  pub job : ℕ
+  pub kept : Option Page
+
+abbrev pub here : Kept → Progress → (job : ℕ) → Option Page → Here
+here core reader job kept = record { core = core; reader = reader; job = job; kept = kept }
+
 -- a request was carried out and answered to the reader: the last job is the one that was accepted,
--- if one was, and a page that came with a refusal is kept
-pub record Answered (old new : Kept) (sender job : ℕ) (r : Request) (done : Deed)
-    (reader left : Progress) (last : ℕ) (kept keeps : Option Page) : Type 0 where
+-- if one was, and a page that came with a refusal is kept, with nothing on it
+pub record Answered (sender : ℕ) (r : Request) (done : Deed) (before after : Here) : Type 0 where
   pub answer : Answer
   pub page : Option Page
   pub is : done ≡ deed.Asked (request_kind r) answer
-  pub carries : Carries old new sender job r answer page
+  pub carries : Carries before.core sender before.job r answer after.core
+  pub blank' : page ≡ blank (page_with r answer)
   pub lent : IsLentPage answer page
-  pub reader' : left ≡ after_reply reader (reply_of answer)
-  pub last' : last ≡ job_after job answer
-  pub keeps' : keeps ≡ first_page (if is_lent answer then None else page) kept
+  pub reader' : after.reader ≡ after_reply before.reader (reply_of answer)
+  pub last' : after.job ≡ job_after before.job answer
+  pub keeps' : after.kept ≡ first_page (if is_lent answer then None else page) before.kept
 
 -- the job in hand is aborted with the page in hand, whatever is answered
 abbrev pub AbortsIt : (old new : Kept) → (in_hand : Bool) → (job : ℕ) → Option Page → Type 0

@@ -4,7 +4,7 @@ ghost use Rattle.std.specs.Prelude.{◌≡◌, ◌∷◌, [], None, IsSome};
 ghost use Rattle.receiver.specs.Script as script;
 ghost use Rattle.receiver.specs.Script.{Request};
 ghost use Rattle.receiver.specs.View.{BeginsSome, asked, outputs};
-ghost use Rattle.spool_world.specs.Turns.{Answered, EndsIt, IsEnded, TurnsRight};
+ghost use Rattle.spool_world.specs.Turns.{Answered, EndsIt, IsEnded, TurnsRight, here};
 
 use crate::connection::Connection;
 use crate::requests::kind_of;
@@ -30,8 +30,8 @@ fn answer(
     ensures config { core.new.config ≡ core.old.config }
     ensures answered { reader.new.owed ≡ None }
     ensures done { (r : Request) → outputs request ≡ script.Asked r ∷ []
-        → Answered core.old core.new sender job.old r result reader.old reader.new job.new kept.old
-        kept.new }
+        → Answered sender r result (here core.old reader.old job.old kept.old)
+        (here core.new reader.new job.new kept.new) }
 {
     let kind = kind_of(&request);
     let Outcome { answer, page } = carry_out(core, sender, *job, request);

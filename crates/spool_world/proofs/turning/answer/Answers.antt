@@ -8,10 +8,9 @@ use Rattle.spool_trace.specs.Sessions.{job_after}
 use Rattle.receiver.specs.Reading.{IsFitting, Kind}
 use Rattle.receiver.specs.View.{asked}
 use Rattle.spool_trace.specs.Sessions.{reply_of}
-use Rattle.spool_world.specs.Carried.{Carries}
-use Rattle.request_calls.specs.Pages.{IsLentPage, first_page}
+use Rattle.request_calls.specs.Carried.{Carries}
+use Rattle.request_calls.specs.Pages.{IsLentPage, blank, first_page, page_with}
 use Rattle.request_calls.proofs.Requested.{asked_request}
-use Rattle.spool_world.proofs.Answers.{carried}
 use Rattle.spool_world.proofs.turning.answer.Goals as goal
 use Rattle.spool_world.proofs.turning.answer.Goals.{in-Accepted, in_default}
 
@@ -43,8 +42,8 @@ returns-clause-done c r e =
       answer = c.match-answer.answer;
       page = c.carry_out-answer.result.page;
       is = ap (λ (k : RequestKind). deed.Asked k c.match-answer.answer) (c.kind_of-kind.ensures r e);
-      carries = subst (λ (a : Answer). Carries c.args.core.now c.carry_out-answer.new.spool c.args.sender c.args.job.now r a c.carry_out-answer.result.page) (sym same)
-          (carried c.args.core.now c.carry_out-answer.new.spool c.args.sender c.args.job.now r c.carry_out-answer.result.answer c.carry_out-answer.result.page (c.carry_out-answer.ensures.carries r e) (c.carry_out-answer.ensures.page r e));
+      carries = subst (λ (a : Answer). Carries c.args.core.now c.args.sender c.args.job.now r a c.carry_out-answer.new.spool) (sym same) (c.carry_out-answer.ensures.carries r e);
+      blank' = c.carry_out-answer.ensures.page r e ∙ ap (λ (a : Answer). blank (page_with r a)) (sym same);
       lent = subst (λ (a : Answer). IsLentPage a c.carry_out-answer.result.page) (sym same) c.carry_out-answer.ensures.lent;
       reader' = c.reply.ensures.answered;
       last' = last;
