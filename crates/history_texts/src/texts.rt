@@ -8,7 +8,7 @@ use config_values::Config;
 use history_reader::{Printer, State};
 use lpd_values::Octets;
 use std::alloc::{AllocError, Global};
-use told_jobs::Printers;
+use told_jobs::{Shown, StateQuery};
 
 /// How many of these printers serve a queue.
 fn count_printers(queue: u32, printers: &[Printer]) -> usize
@@ -46,12 +46,13 @@ pub fn state_text(
     ensures { IfOk result (λ text. text.items
         ≡ state_text (state_seen config.now state.now) queue list.now long) }
 {
-    let name = config.name_of(queue);
-    let printers = Printers {
+    let query = StateQuery { queue, list, long };
+    let shown = Shown {
+        name: config.name_of(queue),
         serving: count_printers(queue, state.printers.as_slice()),
         stopped: count_stopped(queue, state.printers.as_slice()),
     };
-    told_jobs::state_text(alloc, state, queue, name, printers, list, long)
+    told_jobs::state_text(alloc, state, &query, &shown)
 }
 
 /// What a removal is answered with: a line for each job that the agent removes by the list, or of the active job alone

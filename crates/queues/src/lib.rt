@@ -13,3 +13,4 @@ pub use held_jobs::{DataFile, Job, Phase};
 pub use lpd_values::{FileName, Octets};
 pub use page_chain::{ChainError, Place};
 pub use page_pool::{FilledPage, Pool};
+pub use told_jobs::StateQuery;

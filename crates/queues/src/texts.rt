@@ -8,7 +8,7 @@ ghost use Rattle.held_jobs.specs.Turns.{facts_in};
 use crate::book::Book;
 use lpd_values::Octets;
 use std::alloc::AllocError;
-use told_jobs::{Printers, listing, removal_text, state_text};
+use told_jobs::{Shown, StateQuery, listing, removal_text, state_text};
 
 impl Book {
     /// The lines of the jobs of a queue that a list chooses, of all listed ones where it is empty; in the long form with a
@@ -19,7 +19,8 @@ impl Book {
         ensures { IfOk result (λ text. text.items
             ≡ T.listing told_in queue list.now long (facts_in self.now.jobs)) }
     {
-        listing(self.alloc(), self, queue, list, long)
+        let query = StateQuery { queue, list, long };
+        listing(self.alloc(), self, &query)
     }
 
     /// What a queue's state is answered with, where the queue has this name, so many printers serve it and so many of them
@@ -39,11 +40,13 @@ impl Book {
             ≡ T.state_text told_in queue name.now printers stopped list.now long
             (facts_in self.now.jobs)) }
     {
-        let printers = Printers {
+        let query = StateQuery { queue, list, long };
+        let shown = Shown {
+            name,
             serving: printers,
             stopped,
         };
-        state_text(self.alloc(), self, queue, name, printers, list, long)
+        state_text(self.alloc(), self, &query, &shown)
     }
 
     /// What a removal is answered with: a line for each job that the agent removes by the list, or of the active job alone

@@ -14,7 +14,7 @@ use crate::core_state::Core;
 use crate::printers::{count_serving, count_stopped_in};
 use config_values::Config;
 use lpd_values::{Octets, Refusal};
-use queues::Book;
+use queues::{Book, StateQuery};
 use spool_calls::Printer;
 use std::alloc::AllocError;
 
@@ -34,19 +34,19 @@ fn state_of(
     config: &Config,
     book: &Book,
     printers: &[Printer],
-    queue: u32,
-    list: &[Octets],
-    long: bool,
+    query: &StateQuery,
 ) -> Result<Octets, AllocError>
     ensures { IfOk result (λ text. text
-        ≡ state_text told_in queue (queue_at config.now queue).name
-        (length (serving queue printers.now)) (length (stopped_in queue printers.now)) list.now long
-        (facts_in book.now.jobs)) }
+        ≡ state_text told_in query.now.queue (queue_at config.now query.now.queue).name
+        (length (serving query.now.queue printers.now))
+        (length (stopped_in query.now.queue printers.now))
+        query.now.list.now query.now.long (facts_in book.now.jobs)) }
 {
+    let queue = query.queue;
     let name = config.name_of(queue);
     let serving = count_serving(printers, queue);
     let stopped = count_stopped_in(printers, queue);
-    let text = book.state(queue, name, serving, stopped, list, long)?;
+    let text = book.state(queue, name, serving, stopped, query.list, query.long)?;
     Ok(Octets::from_vec(text))
 }
 
@@ -62,7 +62,12 @@ impl Core {
             return Err(Refusal::UnknownQueue);
         };
         let printers = self.printers.as_slice();
-        let text = state_of(&self.config, &self.book, printers, q, list, long)?;
+        let query = StateQuery {
+            queue: q,
+            list,
+            long,
+        };
+        let text = state_of(&self.config, &self.book, printers, &query)?;
         Ok(text)
     }
 

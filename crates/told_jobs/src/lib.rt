@@ -9,5 +9,5 @@ mod told;
 mod words;
 
 pub use choice::{is_picked, may_remove};
-pub use texts::{Printers, active, listed, listing, removal_text, state_text};
+pub use texts::{Shown, StateQuery, active, listed, listing, removal_text, state_text};
 pub use told::{ToldFile, ToldJob, ToldJobs};

@@ -11,10 +11,23 @@ use crate::told::{ToldJob, ToldJobs};
 use lpd_values::Octets;
 use std::alloc::{AllocError, Global};
 
-/// The printers of a queue.
+/// What is asked of a queue's state.
 #[derive(Clone, Copy)]
-pub struct Printers {
-    /// How many serve it.
+pub struct StateQuery<'a> {
+    /// The number of the queue.
+    pub queue: u32,
+    /// The words that choose among its jobs; all listed ones are shown where there are none.
+    pub list: &'a [Octets],
+    /// Whether a line is shown for each file that a job prints.
+    pub long: bool,
+}
+
+/// What the first line of a queue's state shows beside how many jobs are listed.
+#[derive(Clone, Copy)]
+pub struct Shown<'a> {
+    /// The name of the queue.
+    pub name: &'a [u8],
+    /// How many printers serve it.
     pub serving: usize,
     /// How many of these are stopped.
     pub stopped: usize,
@@ -45,21 +58,19 @@ pub fn active<J: ToldJobs>(jobs: &J, queue: u32) -> Option<usize>
     None
 }
 
-/// Puts the lines of a job behind a text, where it is shown for the state of a queue.
+/// Puts the lines of a job behind a text, where the answer shows it.
 fn put_where_shown<J: ToldJob>(
     alloc: Global,
     text: &mut Vec<u8>,
-    queue: u32,
-    list: &[Octets],
-    long: bool,
+    query: &StateQuery,
     job: &J,
 ) -> Result<(), AllocError>
     ensures { OnOk result (text.new.items ≡ text.old.items
-        ++ (if C.is_shown queue list.now (J.told job.now)
-        then T.job_lines long (J.told job.now) else [])) }
+        ++ (if C.is_shown query.now.queue query.now.list.now (J.told job.now)
+        then T.job_lines query.now.long (J.told job.now) else [])) }
 {
-    if is_shown(queue, list, job) {
-        put_job_lines(alloc, text, long, job)?;
+    if is_shown(query.queue, query.list, job) {
+        put_job_lines(alloc, text, query.long, job)?;
     }
     Ok(())
 }
@@ -69,15 +80,13 @@ fn put_listing<J: ToldJobs>(
     alloc: Global,
     text: &mut Vec<u8>,
     jobs: &J,
-    queue: u32,
-    list: &[Octets],
-    long: bool,
+    query: &StateQuery,
 ) -> Result<(), AllocError>
     ensures { OnOk result (text.new.items ≡ text.old.items
-        ++ T.listing J.told queue list.now long (J.jobs jobs.now)) }
+        ++ T.listing J.told query.now.queue query.now.list.now query.now.long (J.jobs jobs.now)) }
 {
     for i in 0..jobs.len() {
-        put_where_shown(alloc, text, queue, list, long, jobs.job(i))?;
+        put_where_shown(alloc, text, query, jobs.job(i))?;
     }
     Ok(())
 }
@@ -89,58 +98,45 @@ fn put_listing<J: ToldJobs>(
 pub fn listing<J: ToldJobs>(
     alloc: Global,
     jobs: &J,
-    queue: u32,
-    list: &[Octets],
-    long: bool,
+    query: &StateQuery,
 ) -> Result<Vec<u8>, AllocError>
     ensures { IfOk result (λ text. text.items
-        ≡ T.listing J.told queue list.now long (J.jobs jobs.now)) }
+        ≡ T.listing J.told query.now.queue query.now.list.now query.now.long (J.jobs jobs.now)) }
 {
     let mut text = Vec::new(alloc);
-    put_listing(alloc, &mut text, jobs, queue, list, long)?;
+    put_listing(alloc, &mut text, jobs, query)?;
     Ok(text)
 }
 
-/// Puts the first line of a queue's state behind a text.
-fn put_head(
-    alloc: Global,
-    text: &mut Vec<u8>,
-    name: &[u8],
-    jobs: usize,
-    printers: Printers,
-) -> Result<(), AllocError>
+/// Puts the first line of the state of a queue behind a text, of which so many jobs are listed.
+fn put_head(alloc: Global, text: &mut Vec<u8>, shown: &Shown, jobs: usize) -> Result<(), AllocError>
     ensures { OnOk result (text.new.items ≡ text.old.items
-        ++ T.queue_line name.now jobs printers.serving printers.stopped) }
+        ++ T.queue_line shown.now.name.now jobs shown.now.serving shown.now.stopped) }
 {
-    let Printers { serving, stopped } = printers;
-    put_word(text, b"queue ".as_slice(), name)?;
+    put_word(text, b"queue ".as_slice(), shown.name)?;
     put_count(alloc, text, b" jobs ".as_slice(), jobs as u128)?;
-    put_count(alloc, text, b" printers ".as_slice(), serving as u128)?;
-    put_count(alloc, text, b" stopped ".as_slice(), stopped as u128)?;
+    put_count(alloc, text, b" printers ".as_slice(), shown.serving as u128)?;
+    put_count(alloc, text, b" stopped ".as_slice(), shown.stopped as u128)?;
     text.push(b'\n')?;
     Ok(())
 }
 
-/// What a queue's state is answered with, where the queue has this name and these printers: a line for the queue, and then
-/// its listing.
+/// What a queue's state is answered with, where this is shown of the queue: a line for it, and then its listing.
 ///
 /// AllocError where memory for it is refused.
 pub fn state_text<J: ToldJobs>(
     alloc: Global,
     jobs: &J,
-    queue: u32,
-    name: &[u8],
-    printers: Printers,
-    list: &[Octets],
-    long: bool,
+    query: &StateQuery,
+    shown: &Shown,
 ) -> Result<Vec<u8>, AllocError>
     ensures { IfOk result (λ text. text.items
-        ≡ T.state_text J.told queue name.now printers.serving printers.stopped list.now long
-        (J.jobs jobs.now)) }
+        ≡ T.state_text J.told query.now.queue shown.now.name.now shown.now.serving shown.now.stopped
+        query.now.list.now query.now.long (J.jobs jobs.now)) }
 {
     let mut text = Vec::new(alloc);
-    put_head(alloc, &mut text, name, listed(jobs, queue), printers)?;
-    put_listing(alloc, &mut text, jobs, queue, list, long)?;
+    put_head(alloc, &mut text, shown, listed(jobs, query.queue))?;
+    put_listing(alloc, &mut text, jobs, query)?;
     Ok(text)
 }
 
