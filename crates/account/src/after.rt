@@ -98,7 +98,7 @@ impl Reading {
             ≡ printers_after (event_seen entry.now) self.old.printers.items }
     {
         match entry {
-            Entry::Opened(_, _, _) => self.accepted += 1,
+            Entry::Opened { .. } => self.accepted += 1,
             Entry::AtPrinter(printer, _, Turn::Failed) => {
                 stop(self.printers.as_mut_slice(), *printer);
             }

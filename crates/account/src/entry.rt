@@ -20,14 +20,36 @@ pub struct Outline {
 pub enum Act {
     /// An empty page was lent to it.
     Granted,
-    /// A data file began, of this name and of so many octets.
-    Began(FileName, u64),
-    /// Into the file of this number the page of this number was put.
-    Put(u64, u64, Outline),
-    /// The file of this number ended, and the job is whole by that or not.
-    FileEnded(u64, bool),
-    /// The control file came, and the job is whole by that or not.
-    Controlled(Control, bool),
+    /// A data file began.
+    Began {
+        /// Its name.
+        name: FileName,
+        /// The octets that it is to have.
+        count: u64,
+    },
+    /// A page was put into a file.
+    Put {
+        /// The number of the file in the job, from 0.
+        file: u64,
+        /// The number of the page in that file, from 0.
+        number: u64,
+        /// What is on it.
+        page: Outline,
+    },
+    /// A data file ended.
+    FileEnded {
+        /// Its number in the job, from 0.
+        file: u64,
+        /// Whether the job is whole by that.
+        is_whole: bool,
+    },
+    /// The control file came.
+    Controlled {
+        /// What it says.
+        control: Control,
+        /// Whether the job is whole by that.
+        is_whole: bool,
+    },
     /// The job was aborted.
     Aborted,
 }
@@ -90,8 +112,15 @@ impl Turn {
 /// What happened to a spool.
 #[derive(Drop)]
 pub enum Entry {
-    /// The job of this number was accepted, from this sender and for the queue of this number.
-    Opened(u64, u32, u32),
+    /// A job was accepted.
+    Opened {
+        /// The number that it was given.
+        job: u64,
+        /// The number of its sender.
+        sender: u32,
+        /// The number of its queue.
+        queue: u32,
+    },
     /// The session of the job of this number did this.
     OfJob(u64, Act),
     /// At the printer of this number this became of a page.

@@ -53,12 +53,12 @@ impl Entry {
         ensures { result ≡ kind_of (event_seen self.now) }
     {
         match self {
-            Entry::Opened(_, _, _) => Kind::Opened,
+            Entry::Opened { .. } => Kind::Opened,
             Entry::OfJob(_, Act::Granted) => Kind::Granted,
-            Entry::OfJob(_, Act::Began(_, _)) => Kind::Began,
-            Entry::OfJob(_, Act::Put(_, _, _)) => Kind::Put,
-            Entry::OfJob(_, Act::FileEnded(_, _)) => Kind::FileEnded,
-            Entry::OfJob(_, Act::Controlled(_, _)) => Kind::Controlled,
+            Entry::OfJob(_, Act::Began { .. }) => Kind::Began,
+            Entry::OfJob(_, Act::Put { .. }) => Kind::Put,
+            Entry::OfJob(_, Act::FileEnded { .. }) => Kind::FileEnded,
+            Entry::OfJob(_, Act::Controlled { .. }) => Kind::Controlled,
             Entry::OfJob(_, Act::Aborted) => Kind::Aborted,
             Entry::AtPrinter(_, _, Turn::Handed) => Kind::Handed,
             Entry::AtPrinter(_, _, Turn::Printed(_)) => Kind::Printed,

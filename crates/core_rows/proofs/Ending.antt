@@ -6,14 +6,11 @@ use Rattle.claims.specs.Claims.{Claims}
 use Rattle.claims.specs.Changes.{given_back, need_ended}
 use Rattle.config_values.specs.Config.{Config, IsQueue}
 use Rattle.spool_history.specs.Now.{Job, is_held, pages_held, pages_out, printers_held, printers_needed, row_of, capacity}
+use Rattle.spool_calls.specs.Stocks.{HeldAddsUp}
 use Rattle.spool_laws.specs.Sums.{chained_of}
 use Rattle.spool_laws.proofs.Known.{test}
 use Rattle.core_rows.proofs.Tables.{Here, WithRow, given_row, ended_row, given_leaves, ended_here, after_ended}
 use Rattle.core_rows.proofs.Amounts.{row_with_amounts, row_is, queue_kind, ended_printers}
-
--- the pages that a job holds are those in its chain and those that are out
-abbrev pub HeldAddsUp : {C : Type 0} → Job C → Type 0
-HeldAddsUp x = pages_held x ≡ chained_of x + pages_out x
 
 -- the row of an ended job
 row_ended : {C : Type 0} (c : Config) (x : Job C) → row_of c (record x { ended = true }) ≡ row_with_amounts c x (pages_out x) (printers_held x) 0 0

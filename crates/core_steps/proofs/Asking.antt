@@ -31,7 +31,8 @@ use Rattle.spool_calls.specs.Kept.{Kept, Leaves, look, shown_job}
 use Rattle.spool_calls.specs.Calls.{Asks}
 use Rattle.std.proofs.lemmas.List.{get_or-set_same}
 use Rattle.core_rows.proofs.Tables.{WithRow}
-use Rattle.core_steps.proofs.Stocks.{one_set, stock}
+use Rattle.spool_calls.specs.Stocks.{stock}
+use Rattle.core_steps.proofs.Stocks.{one_set}
 use Rattle.core_steps.proofs.Leaving.{Found, held_unended, jobs_left, leaves_row, none_has, pool_even, look_at, sees, stock_left, stock_moved, stock_of}
 use Rattle.core_steps.proofs.Phases.{can_ask, ask_can}
 

@@ -52,15 +52,12 @@ use Rattle.spool_calls.specs.declared.handed.HandedPage.{HandedPage}
 use Rattle.spool_calls.specs.Looks.{Detail, What, outline_of, size}
 use Rattle.spool_calls.specs.Kept.{Kept, Leaves, kept_out, kept_printer, last_of, left_by, look, shown_job, spots}
 use Rattle.spool_calls.specs.Calls.{Fails, IsOut, Prints}
+use Rattle.spool_calls.specs.Printers.{said_of}
 use Rattle.core_steps.proofs.Leaving.{Found, closed_free, every_counted, leaves_out, leaves_row, none_has, one_stored, pool_even, row_stands, sees, look_at}
 use Rattle.core_steps.proofs.Phases.{ended_is, phase_tie}
 use Rattle.core_steps.proofs.Printers.{behind, printer_seen, printer_there, printers_many, printers_set}
 use Rattle.core_steps.proofs.Ranges.{some_counted}
 use Rattle.core_steps.proofs.Handing.{handed_few}
-
--- what is said of a job when a page of it was printed
-abbrev pub said_of : HeldJob → Progress
-said_of j = cond (is_ended j.facts.phase) Ended (cond (length j.chain.places == 0) Done Going)
 
 -- the page is the one that is out
 abbrev pub IsOutOf : Option SheetOut → HandedPage → ℕ → Type 0

@@ -1,7 +1,6 @@
 -- The spool is closed, jobs are removed, and a history is put away.
-use Rattle.std.proofs.Common.{inl, ◌≡◌, ◌==◌, ℕ, Bool, true, false, cond, List, [], ◌∷◌, length, map, refl, sym, ◌∙◌, ap, subst, arith}
-use Rattle.std.specs.Prelude.{None, count_by}
-use Rattle.std.specs.List.{list_any}
+use Rattle.std.proofs.Common.{inl, ◌≡◌, ℕ, true, false, cond, List, [], ◌∷◌, length, map, refl, sym, ◌∙◌, ap, subst, arith}
+use Rattle.std.specs.Prelude.{None}
 use Rattle.std.proofs.lemmas.List.{nil_from_length}
 use Rattle.std.proofs.lemmas.Simd.{map-map}
 use Rattle.spool_history.specs.Base.{Base}
@@ -18,17 +17,11 @@ use Rattle.spool_calls.specs.declared.printer.Printer.{Printer}
 use Rattle.spool_calls.specs.Looks.{Detail, What, size}
 use Rattle.spool_calls.specs.Kept.{Kept, IsKeptOf, Leaves, left_by, kept_printer}
 use Rattle.spool_calls.specs.Calls.{Closes, Rotates}
+use Rattle.spool_calls.specs.Printers.{stopped_among, with_none}
 use Rattle.core_steps.proofs.Leaving.{jobs_len, stock_left, stock_of}
-use Rattle.core_steps.proofs.Stocks.{Stock, stock_of_other}
-use Rattle.core_steps.proofs.EndingMany.{EndsTo, leaves_ended}
-
--- every job ends
-abbrev pub all_end : ℕ → Bool
-all_end n = true
-
--- the jobs of these numbers end
-abbrev pub listed : List ℕ → ℕ → Bool
-listed numbers n = list_any (λ k. k == n) numbers
+use Rattle.spool_calls.specs.Stocks.{all_end, EndsTo, listed, Stock}
+use Rattle.core_steps.proofs.Stocks.{stock_of_other}
+use Rattle.core_steps.proofs.EndingMany.{leaves_ended}
 
 -- what is kept with another stock
 abbrev pub with_stock : Kept → Stock → Kept
@@ -44,14 +37,6 @@ module _ (d : Detail) (b : Base) (h : List (Event (What d))) (k : Kept) (l : Lea
   -- where jobs of a queue may be removed, that leaves the core with these ended
   pub removed_leaves : (q : ℕ) (numbers : List ℕ) (t : Stock) → May (size d) (left_by d b h k) (Removed q numbers) → EndsTo (listed numbers) (stock_of k) t → Leaves d b (Removed q numbers ∷ h) (with_stock k t)
   removed_leaves q numbers t may to = leaves_ended d b h k (Removed q numbers) (listed numbers) t k.printers k.closed l may refl (λ x. refl) l.kept.printers l.kept.closed to
-
--- a printer that began no job
-abbrev pub with_none : Printer → Printer
-with_none p = record p { began = None }
-
--- how many of these printers are stopped
-abbrev pub stopped_among : List Printer → ℕ
-stopped_among printers = count_by (λ (p : Printer). p.stopped) printers
 
 -- what is kept once the history is put away
 abbrev pub rotated_core : Kept → Kept

@@ -8,22 +8,16 @@ use Rattle.spool_history.specs.Events.{Event}
 use Rattle.spool_history.specs.Now.{Job, State, is_held}
 use Rattle.spool_history.specs.Steps.{change, accepted_by, printers_after, closed_after}
 use Rattle.spool_history.specs.Legal.{May}
-use Rattle.spool_laws.proofs.Known.{Has}
+use Rattle.spool_laws.proofs.Known.{has_contained}
+use Rattle.spool_laws.proofs.Joined.{contained}
 use Rattle.spool_moves.specs.Standing.{no_job}
 use Rattle.spool_moves.proofs.Standing.{has_get, none_changed}
 use Rattle.spool_calls.specs.declared.printer.Printer.{Printer}
 use Rattle.spool_calls.specs.Looks.{Detail, What, size}
 use Rattle.spool_calls.specs.Kept.{Kept, Leaves, left_by, kept_printer}
 use Rattle.core_steps.proofs.Leaving.{leaves_stock, stock_left, stock_of}
-use Rattle.core_steps.proofs.Stocks.{CanEnd, IsStockOf, MayEnd, Stock, can_end, end_place, ended_job, len_of, may_end, one_ends, stock_after, tie_at, with_jobs}
-
--- a job ends where the test says yes to its number
-abbrev pub marked : {C : Type 0} → (ℕ → Bool) → Job C → Job C
-marked ends x = cond (ends x.number) (record x { ended = true }) x
-
--- these jobs, once those end; the ones of which no page is out go
-abbrev pub left_when : {C : Type 0} → (ℕ → Bool) → List (Job C) → List (Job C)
-left_when ends jobs = filter is_held (map (marked ends) jobs)
+use Rattle.spool_calls.specs.Stocks.{AllMayEnd, CanEnd, EndsTo, IsStocked, IsStockOf, left_when, marked, MayEnd, Stock, stock_after, with_jobs}
+use Rattle.core_steps.proofs.Stocks.{can_end, end_place, ended_job, len_of, may_end, one_ends, tie_at}
 
 -- the same, where only those from a place on have ended yet
 abbrev pub partly : {C : Type 0} → (ℕ → Bool) → List (Job C) → ℕ → List (Job C)
@@ -31,22 +25,10 @@ partly ends jobs zero = left_when ends jobs
 partly ends [] (suc i) = []
 partly ends (x ∷ jobs) (suc i) = x ∷ partly ends jobs i
 
--- each of these jobs may end
-abbrev pub AllMayEnd : {C : Type 0} → State C → Type 0
-AllMayEnd {C} v = (x : Job C) → Has x v.jobs → MayEnd v.config x
-
--- the stock is what is kept of some state
-abbrev pub IsStocked : Stock → Type 0
-IsStocked s = (d : Detail) × (v : State (What d)) × AllMayEnd v × IsStockOf d v s
-
 -- of whatever state a stock is kept, the other is kept of that state with the chosen jobs ended from a place on
 abbrev pub EndsFrom : (ℕ → Bool) → ℕ → Stock → Stock → Type 0
 EndsFrom ends i s t =
     (d : Detail) (v : State (What d)) → AllMayEnd v → IsStockOf d v s → IsStockOf d (with_jobs v (partly ends v.jobs i)) t
-
--- and with all chosen jobs ended
-abbrev pub EndsTo : (ℕ → Bool) → Stock → Stock → Type 0
-EndsTo ends s t = (d : Detail) (v : State (What d)) → AllMayEnd v → IsStockOf d v s → IsStockOf d (with_jobs v (left_when ends v.jobs)) t
 
 cond_cons : {X : Type 0} (b : Bool) (x : X) (xs ys : List X) → cond b (x ∷ xs) (x ∷ ys) ≡ x ∷ cond b xs ys
 cond_cons true x xs ys = refl
@@ -105,7 +87,7 @@ module _ (ends : ℕ → Bool) (s t : Stock) (i : ℕ) (e : EndsFrom ends (suc i
     here = many ends v.jobs i lt'
 
     may : MayEnd v.config (get_or w.jobs i no_job)
-    may = subst (λ (y : Job (What d)). MayEnd v.config y) (sym (stands ends v.jobs i lt')) (all (get_or v.jobs i no_job) (has_get v.jobs i no_job lt'))
+    may = subst (λ (y : Job (What d)). MayEnd v.config y) (sym (stands ends v.jobs i lt')) (all (get_or v.jobs i no_job) (contained (get_or v.jobs i no_job) v.jobs (has_get v.jobs i no_job lt')))
 
     step_can : CanEnd t i
     step_can = can_end d w t (e d v all is) i here may
@@ -120,7 +102,7 @@ module _ (ends : ℕ → Bool) (s t : Stock) (i : ℕ) (e : EndsFrom ends (suc i
     step_keeps : ends (job_at t.book i).facts.number ≡ false → IsStockOf d (with_jobs v (partly ends v.jobs i)) t
     step_keeps miss =
         subst (λ (l : List (Job (What d))). IsStockOf d (with_jobs v l) t)
-        (unchosen ends v.jobs i lt' (all (get_or v.jobs i no_job) (has_get v.jobs i no_job lt')).held (sym number ∙ miss)) (e d v all is)
+        (unchosen ends v.jobs i lt' (all (get_or v.jobs i no_job) (contained (get_or v.jobs i no_job) v.jobs (has_get v.jobs i no_job lt'))).held (sym number ∙ miss)) (e d v all is)
 
 -- how far it is: so many of the first places are still to be looked at
 pub record Ending (ends : ℕ → Bool) (s t : Stock) (i : ℕ) : Type 0 where
@@ -160,7 +142,7 @@ module _ (ends : ℕ → Bool) (s t : Stock) (m : ℕ) (g : Ending ends s t m) w
     }
 
 pub all_may_end : (d : Detail) (b : Base) (h : List (Event (What d))) (k : Kept) → Leaves d b h k → AllMayEnd (left_by d b h k)
-all_may_end d b h k l x has = may_end (size d) k.config b h x l.legal has
+all_may_end d b h k l x has = may_end (size d) k.config b h x l.legal (has_contained x (left_by d b h k).jobs has)
 
 pub stocked : (d : Detail) (b : Base) (h : List (Event (What d))) (k : Kept) → Leaves d b h k → IsStocked (stock_of k)
 stocked d b h k l = (d, left_by d b h k, all_may_end d b h k l, stock_left d b h k l)
@@ -183,4 +165,4 @@ pub leaves_same : (d : Detail) (b : Base) (h : List (Event (What d))) (k : Kept)
     → Leaves d b (e ∷ h) (record k { printers = printers; closed = closed })
 leaves_same d b h k e printers closed l may none same prs cl =
     leaves_ended d b h k e (λ n. false) (stock_of k) printers closed l may none same prs cl
-    (λ d' v all is. subst (λ (js : List (Job (What d'))). IsStockOf d' (with_jobs v js) (stock_of k)) (sym (none_changed (marked (λ n. false)) v.jobs (λ z has. refl) (λ z has. (all z has).held))) is)
+    (λ d' v all is. subst (λ (js : List (Job (What d'))). IsStockOf d' (with_jobs v js) (stock_of k)) (sym (none_changed (marked (λ n. false)) v.jobs (λ z has. refl) (λ z has. (all z (contained z v.jobs has)).held))) is)

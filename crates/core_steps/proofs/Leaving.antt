@@ -27,7 +27,8 @@ use Rattle.spool_moves.proofs.Moving.{act_set}
 use Rattle.claims.specs.Changes.{closed}
 use Rattle.core_rows.proofs.Tables.{Here, WithRow, WithoutRow, closed_drops, same_leaves}
 use Rattle.core_rows.proofs.Handing
-use Rattle.core_steps.proofs.Stocks.{IsStockOf, Stock, chain, even, len_of, may_end, one_gone, one_set, stock, stock_of_other, tie_at, with_jobs, within}
+use Rattle.spool_calls.specs.Stocks.{IsStockOf, Stock, stock, with_jobs}
+use Rattle.core_steps.proofs.Stocks.{chain, even, len_of, may_end, one_gone, one_set, stock_of_other, tie_at, within}
 use Rattle.spool_calls.specs.declared.printer.Printer.{Printer}
 use Rattle.spool_calls.specs.Looks.{Detail, What, size}
 use Rattle.spool_calls.specs.Kept.{Kept, IsKeptOf, Leaves, facts_of, left_by, look, shown_job, kept_printer}

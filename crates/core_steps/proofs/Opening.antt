@@ -32,7 +32,8 @@ use Rattle.spool_calls.specs.Looks.{Detail, What, size}
 use Rattle.spool_calls.specs.Kept.{Kept, Leaves, left_by, look, shown_job}
 use Rattle.spool_calls.specs.Calls.{OpensFor}
 use Rattle.core_steps.proofs.Leaving.{jobs_len, leaves_with, pool_even, stock_left, stock_moved, stock_of, tie}
-use Rattle.core_steps.proofs.Stocks.{becomes, stock}
+use Rattle.spool_calls.specs.Stocks.{stock}
+use Rattle.core_steps.proofs.Stocks.{becomes}
 use Rattle.core_steps.proofs.Ranges.{limit_pages}
 
 -- the new job's number is above all others

@@ -27,21 +27,15 @@ use Rattle.spool_moves.proofs.Standing.{has_here, has_job}
 use Rattle.spool_calls.specs.declared.printer.Printer.{Printer}
 use Rattle.spool_calls.specs.Looks.{Detail, What, size}
 use Rattle.spool_calls.specs.Kept.{Kept, Leaves, left_by, look, shown_job, kept_out, kept_printer}
-use Rattle.spool_calls.specs.Readers.{ArePlaced, HasOpenFile, IsOpenFile, stopped_for}
+use Rattle.spool_calls.specs.Printers.{out_among}
+use Rattle.spool_calls.specs.Stocks.{lent_among}
+use Rattle.spool_calls.specs.Readers.{ArePlaced, HasOpenFile, IsOpenFile, placed, stopped_for}
 use Rattle.spool_calls.specs.Telling.{stopped_in}
 use Rattle.core_steps.proofs.Leaving.{Found, none_has, sees, look_at}
 use Rattle.core_steps.proofs.Phases.{open_tie}
 use Rattle.core_steps.proofs.Filing.{files_many, is_receiving, last_is, left_of, not_receiving, open_last}
 use Rattle.core_steps.proofs.Printers.{printers_len}
 use Rattle.core_steps.proofs.Starting.{is_stopped_for}
-
--- how many of these printers have a page out
-abbrev pub out_among : List Printer → ℕ
-out_among printers = count_by (λ (p : Printer). is_some p.out) printers
-
--- to how many of these jobs a page is lent
-abbrev pub lent_among : List HeldJob → ℕ
-lent_among jobs = count_by (λ (j : HeldJob). j.facts.lent) jobs
 
 count_map : {X Y : Type 0} (p : Y → Bool) (f : X → Y) (xs : List X) → count_by p (map f xs) ≡ count_by (λ x. p (f x)) xs
 count_map p f xs = sum_map (λ y. cond (p y) 1 0) f xs
@@ -90,7 +84,7 @@ module _ (d : Detail) (b : Base) (h : List (Event (What d))) (k : Kept) (l : Lea
       ap out_among l.kept.printers
       ∙ (count_map (λ (p : Printer). is_some p.out) (kept_printer d) v.printers ∙ ap (λ (p : N.Printer (What d) → Bool). count_by p v.printers) (λ i p. out_kept d p i))
 
-  pub places_read : (free chain session printer : ℕ) → free ≡ k.pool.free → chain ≡ k.book.stored → session ≡ lent_among k.book.jobs → printer ≡ out_among k.printers → ArePlaced d b h k free chain session printer
+  pub places_read : (free chain session printer : ℕ) → free ≡ k.pool.free → chain ≡ k.book.stored → session ≡ lent_among k.book.jobs → printer ≡ out_among k.printers → ArePlaced d b h k (placed free chain session printer)
   places_read free chain session printer ef ec es ep =
       let f = ef ∙ reads_free in
       let c = ec ∙ l.kept.book.stored in

@@ -1,6 +1,6 @@
 -- Sessions are admitted to a queue, and its stopped printers are started.
 use Rattle.std.proofs.Common.{inl, inr, ◌≡◌, ◌≢◌, ◌==◌, ℕ, zero, suc, ◌+◌, ◌<◌, Bool, true, false, cond, List, ◌∷◌, ◌++◌, length, get_or, set, take, drop, map, refl, sym, ◌∙◌, ap, subst, arith}
-use Rattle.std.specs.Prelude.{◌&&◌, ◌⊎◌, None}
+use Rattle.std.specs.Prelude.{◌&&◌, ◌⊎◌}
 use Rattle.std.specs.List.{list_any}
 use Rattle.std.proofs.lemmas.Bool.{and_parts, cond_both, false_from_ne_true}
 use Rattle.std.proofs.lemmas.List.{get_or-map, get_or_default, length-append, length-drop, length-map, length-take}
@@ -21,6 +21,7 @@ use Rattle.spool_laws.proofs.Adding.{length_up_to}
 use Rattle.spool_calls.specs.declared.printer.Printer.{Printer}
 use Rattle.spool_calls.specs.Looks.{Detail, What, size}
 use Rattle.spool_calls.specs.Kept.{Kept, Leaves, left_by, kept_printer}
+use Rattle.spool_calls.specs.Printers.{no_kept, started}
 use Rattle.core_steps.proofs.Leaving.{is_open}
 use Rattle.core_steps.proofs.Printers.{printers_many}
 use Rattle.core_steps.proofs.EndingMany.{leaves_same}
@@ -34,14 +35,6 @@ pub mapped_more : {X : Type 0} (f : X → X) (xs ys zs : List X) (i : ℕ) (d : 
 mapped_more f xs ys zs i d m there set' =
     let lt : i < length ys = omega (arith, there, ap length m.is, length-append (map f (take i xs)) (drop i xs), length-map (take i xs) f, length-take i xs, length-drop i xs) in
     record { is = set' ∙ map_over_more f xs ys i (get_or ys i d) there m.is (get_or_default ys i d (get_or ys i d) lt) }
-
--- a printer of this queue, started
-abbrev pub started : ℕ → Printer → Printer
-started q p = cond (p.queue == q) (record p { stopped = false }) p
-
--- a printer that isn't there
-abbrev pub no_kept : Printer
-no_kept = record { queue = 0; out = None; began = None; stopped = false }
 
 -- the printer at the next place started, where it is of the queue
 pub started_more : (q : ℕ) (xs ys zs : List Printer) (i : ℕ) → IsMapped (started q) xs ys i → i < length xs → (get_or ys i no_kept).queue ≡ q → zs ≡ set ys i (record (get_or ys i no_kept) { stopped = false }) → IsMapped (started q) xs zs (i + 1)

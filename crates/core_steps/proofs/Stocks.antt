@@ -1,26 +1,25 @@
 -- A job ends in the book, the pool and the table of a core.
-use Rattle.std.proofs.Common.{◌≡◌, ◌==◌, ℕ, zero, suc, [], ◌∷◌, ◌+◌, ◌-◌, ◌<◌, ◌≤◌, ◌^◌, Bool, true, false, List, length, get_or, set, map, refl, sym, ◌∙◌, ap, subst, arith}
-use Rattle.std.specs.Prelude.{◌||◌, not, cond, remove, sum_by}
+use Rattle.std.proofs.Common.{◌≡◌, ◌==◌, ℕ, zero, suc, [], ◌∷◌, ◌+◌, ◌-◌, ◌<◌, ◌≤◌, Bool, true, false, List, length, get_or, set, map, refl, sym, ◌∙◌, ap, subst, arith}
+use Rattle.std.specs.Prelude.{not, cond, remove, sum_by}
 use Rattle.std.proofs.lemmas.Bool.{or_parts}
 use Rattle.std.proofs.lemmas.List.{map-set, get_or-map, length-map, set-get_or}
 use Rattle.std.proofs.lemmas.List.Sums.{sum_by-set, sum_by-remove, get_or-le-sum_by}
 use Rattle.std.proofs.lemmas.Bool.Decides.{nat_tests}
 use Rattle.counts.specs.Amounts.{amount}
 use Rattle.claims.specs.declared.row.Row.{Row}
-use Rattle.claims.specs.Claims.{Claims, IsTable, row_at}
+use Rattle.claims.specs.Claims.{Claims, IsTable}
 use Rattle.claims.specs.Changes.{closed, given_back, need_ended}
 use Rattle.page_pool.specs.Page.{Pages}
-use Rattle.page_chain.specs.Files.{every_page}
 use Rattle.held_jobs.specs.Jobs.{HeldJob, Facts}
 use Rattle.held_jobs.specs.Jobs as J
-use Rattle.held_jobs.specs.Books.{Books, job_at, with_job}
+use Rattle.held_jobs.specs.Books.{job_at, with_job}
 use Rattle.held_jobs.specs.Moves.{drained_job}
 use Rattle.held_jobs.specs.Shown.{ShownJob, see_job}
 use Rattle.held_jobs.specs.Turns.{is_ended}
-use Rattle.config_values.specs.Config.{Config, IsQueue}
+use Rattle.config_values.specs.Config.{Config}
 use Rattle.spool_history.specs.Base.{Base}
 use Rattle.spool_history.specs.Events.{Event}
-use Rattle.spool_history.specs.Now.{Job, State, now, is_held, is_received, has_page_out, pages_held, pages_out, places, row_of, free_pages}
+use Rattle.spool_history.specs.Now.{Job, State, now, is_held, is_received, has_page_out, pages_held, pages_out, row_of}
 use Rattle.spool_history.specs.Legal.{IsLegal}
 use Rattle.spool_laws.specs.Sums.{chained_of}
 use Rattle.spool_laws.proofs.Known.{Has}
@@ -36,42 +35,15 @@ use Rattle.core_rows.proofs.Tables.{Here, WithRow, WithoutRow, closed_drops, her
 use Rattle.core_rows.proofs.Amounts.{queue_kind}
 use Rattle.core_rows.proofs.Handing.{row_stands}
 use Rattle.core_rows.proofs.Receiving.{held_in_row}
-use Rattle.core_rows.proofs.Ending.{HeldAddsUp, ended_leaves, ended_same}
+use Rattle.spool_calls.specs.Stocks.{CanEnd, is_out, IsStockOf, MayEnd, pages_at, Stock, stock, stock_after, stock_ended, stock_gone, with_jobs}
+use Rattle.core_rows.proofs.Ending.{ended_leaves, ended_same}
 use Rattle.spool_calls.specs.Looks.{Detail, What}
-use Rattle.spool_calls.specs.Kept.{IsBookOf, look, shown_job}
+use Rattle.spool_calls.specs.Kept.{look, shown_job}
 use Rattle.core_steps.proofs.Phases.{ended_is, facts_tie, phase_tie}
-
--- the parts of a core in which jobs end
-pub record Stock : Type 0 where
-  pub book : Books
-  pub pool : Pages
-  pub table : Claims
-
-abbrev pub stock : Books → Pages → Claims → Stock
-stock book pool table = record { book = book; pool = pool; table = table }
-
--- they are what is kept of this state
-pub record IsStockOf (d : Detail) (v : State (What d)) (s : Stock) : Type 0 where
-  pub book : IsBookOf d v s.book
-  pub table : IsTableOf s.table v
-  pub pool : s.pool ≡ record { page_size = v.config.page_size; pages = v.config.pages; free = free_pages v }
-
--- the state with other jobs
-abbrev pub with_jobs : {C : Type 0} → State C → List (Job C) → State C
-with_jobs v jobs = record v { jobs = jobs }
 
 -- a job that has ended
 abbrev pub ended_job : {C : Type 0} → Job C → Job C
 ended_job x = record x { ended = true }
-
--- what is known of each held job
-pub record MayEnd {C : Type 0} (c : Config) (x : Job C) : Type 0 where
-  pub held : is_held x ≡ true
-  pub adds_up : HeldAddsUp x
-  pub queued : IsQueue c x.queue
-  pub back : x.back ≤ x.handed
-  pub out : x.handed ≤ x.back + 1
-  pub within : x.handed ≤ length (places x)
 
 pub may_end : {C : Type 0} (size : C → ℕ) (c : Config) (b : Base) (h : List (Event C)) (x : Job C) → IsLegal size c b h → Has x (now c b h).jobs → MayEnd c x
 may_end size c b h x l has = record {
@@ -82,46 +54,6 @@ may_end size c b h x l has = record {
   out = one_is_out size c b h x l has;
   within = handed_within size c b h x l has;
 }
-
--- how many pages the job at a place has in its chain
-abbrev pub pages_at : Books → ℕ → ℕ
-pages_at book i = length (every_page (job_at book i).chain.files)
-
--- a page of a job is lent, or at a printer
-abbrev pub is_out : Facts → Bool
-is_out g = g.lent || not (g.handed == g.back)
-
--- the job at a place ends while a page of it is out
-abbrev pub stock_ended : Stock → ℕ → Stock
-stock_ended s i = record {
-  book = record (with_job s.book i (drained_job (job_at s.book i))) { stored = s.book.stored - pages_at s.book i };
-  pool = record s.pool { free = s.pool.free + pages_at s.book i };
-  table = given_back (need_ended (need_ended s.table i 0) i (job_at s.book i).facts.queue) i 0 (pages_at s.book i);
-}
-
--- the job at a place ends and goes
-abbrev pub stock_gone : Stock → ℕ → Stock
-stock_gone s i = record {
-  book = record s.book { jobs = remove s.book.jobs i; stored = s.book.stored - pages_at s.book i };
-  pool = record s.pool { free = s.pool.free + pages_at s.book i };
-  table = closed s.table i;
-}
-
--- the job at a place ends, unless it has
-abbrev pub stock_after : Stock → ℕ → Stock
-stock_after s i =
-    cond (is_ended (job_at s.book i).facts.phase) s (cond (is_out (job_at s.book i).facts) (stock_ended s i) (stock_gone s i))
-
--- what that asks of the stock
-pub record CanEnd (s : Stock) (i : ℕ) : Type 0 where
-  pub here : i < length s.book.jobs
-  pub size : s.pool.page_size ≡ s.book.page_size
-  pub room : s.pool.free + pages_at s.book i ≤ s.pool.pages
-  pub row : i < length s.table.rows
-  pub kind : 0 < length s.table.capacity
-  pub queue : (job_at s.book i).facts.queue < length s.table.capacity
-  pub held : pages_at s.book i ≤ amount (row_at s.table.rows i).held 0
-  pub small : pages_at s.book i < 2 ^ 32
 
 -- what the job becomes among these
 abbrev pub end_place : {C : Type 0} → List (Job C) → ℕ → List (Job C)

@@ -189,10 +189,10 @@ fn job_may(config: &Config, job: &Job, act: &Act) -> bool
 {
     match act {
         Act::Granted => may_ask(config, job),
-        Act::Began(name, count) => may_begin(config, job, name, *count),
-        Act::Put(file, number, page) => may_put(config, job, *file, *number, page),
-        Act::FileEnded(file, whole) => may_end_file(config, job, *file, *whole),
-        Act::Controlled(control, whole) => may_control(job, control, *whole),
+        Act::Began { name, count } => may_begin(config, job, name, *count),
+        Act::Put { file, number, page } => may_put(config, job, *file, *number, page),
+        Act::FileEnded { file, is_whole } => may_end_file(config, job, *file, *is_whole),
+        Act::Controlled { control, is_whole } => may_control(job, control, *is_whole),
         Act::Aborted => may_abort(job),
     }
 }

@@ -52,8 +52,8 @@ fn may_act(
     }
     match act {
         Act::Granted => may_grant(alloc, config, state, number),
-        Act::Began(_, count) => Ok(0 < *count),
-        Act::Put(_, _, _) | Act::FileEnded(_, _) | Act::Controlled(_, _) | Act::Aborted => Ok(true),
+        Act::Began { count, .. } => Ok(0 < *count),
+        Act::Put { .. } | Act::FileEnded { .. } | Act::Controlled { .. } | Act::Aborted => Ok(true),
     }
 }
 
@@ -63,7 +63,7 @@ pub fn may(alloc: Global, config: &Config, state: &State, entry: &Entry) -> Resu
         ↔ L.May octets (state_seen config.now state.now) (event_seen entry.now)) }
 {
     match entry {
-        Entry::Opened(job, _, queue) => Ok(may_open(config, state, *job, *queue)),
+        Entry::Opened { job, queue, .. } => Ok(may_open(config, state, *job, *queue)),
         Entry::OfJob(job, act) => may_act(alloc, config, state, *job, act),
         Entry::AtPrinter(printer, sheet, turn) => {
             if !config.is_printer(*printer) {

@@ -58,18 +58,18 @@ impl Job {
                 self.granted += 1;
                 self.lent = true;
             }
-            Act::Began(name, count) => self.files.push(File {
+            Act::Began { name, count } => self.files.push(File {
                 name: *name,
                 count: *count,
                 pages: Vec::new(alloc),
                 ended: false,
             })?,
-            Act::Put(_, _, page) => {
+            Act::Put { page, .. } => {
                 self.lent = false;
                 put_in_last(self.files.as_mut_slice(), *page)?;
             }
-            Act::FileEnded(_, _) => end_last(self.files.as_mut_slice()),
-            Act::Controlled(control, _) => self.control = Some(control.copy(alloc)?),
+            Act::FileEnded { .. } => end_last(self.files.as_mut_slice()),
+            Act::Controlled { control, .. } => self.control = Some(control.copy(alloc)?),
             Act::Aborted => {
                 self.lent = false;
                 self.ended = true;

@@ -17,7 +17,7 @@ pub fn openings(alloc: Global, entries: &[Entry]) -> Result<Vec<Opening>, AllocE
         return Ok(Vec::new(alloc));
     };
     let mut found = openings(alloc, before)?;
-    if let Entry::Opened(job, sender, queue) = entry {
+    if let Entry::Opened { job, sender, queue } = entry {
         found.push(Opening {
             job: *job,
             sender: *sender,

@@ -1,5 +1,5 @@
 -- What a start adds, by how many printers it found stopped.
-use Rattle.std.proofs.Common.{◌≡◌, ◌==◌, ℕ, inl, inr, refl, subst, sym}
+use Rattle.std.proofs.Common.{◌≡◌, ◌==◌, inl, inr, refl, subst, sym}
 use Rattle.std.specs.Prelude.{Ok}
 use Rattle.std.proofs.lemmas.Bool.{cond_both}
 use Rattle.account.specs.declared.kind.Kind.TheVariants as kind

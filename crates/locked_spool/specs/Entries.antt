@@ -8,7 +8,6 @@ use Rattle.account.specs.Seen.{progress_seen}
 use Rattle.account.specs.declared.entry.Outline.{Outline}
 use Rattle.account.specs.declared.entry.Progress.{Progress}
 use Rattle.config_values.specs.Config.{queue_named}
-use Rattle.spool_history.specs.Base.{Base}
 use Rattle.spool_history.specs.Events as E
 use Rattle.spool_history.specs.Events.{Event, Sheet}
 use Rattle.spool_history.specs.Events.Act.{Granted, Began, Put, FileEnded, Controlled, Aborted}
@@ -27,7 +26,7 @@ use Rattle.spool_calls.specs.declared.answers.ReturnedControl.{ReturnedControl}
 use Rattle.spool_calls.specs.declared.answers.ReturnedPage.{ReturnedPage}
 use Rattle.spool_calls.specs.declared.answers.ReturnedTicket.{ReturnedTicket}
 use Rattle.spool_calls.specs.declared.handed.HandedPage.{HandedPage}
-use Rattle.spool_calls.specs.Looks.{Detail, What, outline_of, size}
+use Rattle.spool_calls.specs.Looks.{What, outline_of, size}
 use Rattle.spool_calls.specs.Looks.Detail.{Outlines}
 use Rattle.spool_calls.specs.Kept.{Kept}
 use Rattle.spool_calls.specs.Calls as calls
@@ -124,9 +123,9 @@ module _ (old new : Held) where
   WritesClosed = ((here.closed ≡ false) × Writes E.Event.Closed) ⊎ ((here.closed ≡ true) × (new ≡ old))
 
 -- the control file came; memory may be refused for the account's copy where nothing else is
-abbrev pub Controls : (d : Detail) → (b : Base) → (h : List (Event (What d))) → (old : Kept) → (job : ℕ) → Contents
-    → (new : Kept) → Result Receipt ReturnedControl → Type 0
-Controls d b h old job control new (Ok got) = calls.Controls d b h old job control new (Ok got)
-Controls d b h old job control new (Err back) =
+abbrev pub Controls : (old : Kept) → (job : ℕ) → Contents → (new : Kept) → Result Receipt ReturnedControl → Type 0
+Controls old job control new (Ok got) = calls.IsRight old (λ d b h. calls.Controls d b h old job control new (Ok got))
+Controls old job control new (Err back) =
+    calls.IsRight old (λ d b h.
     OrMemory (MayControl (calls.before d b h old) job) (RefusesControl (calls.before d b h old) job) back.refusal
-    × (new ≡ old) × (contents back.control ≡ control)
+    × (new ≡ old) × (contents back.control ≡ control))

@@ -3,7 +3,7 @@
 ghost use Rattle.std.specs.Prelude.{◌≡◌, ◌+◌, ◌↔◌, ◌<◌, IsTrue, length};
 ghost use Rattle.config_values.specs.Config.{IsPrinter};
 ghost use Rattle.spool_calls.specs.Calls.{IsRight, before};
-ghost use Rattle.spool_calls.specs.Readers.{ArePlaced};
+ghost use Rattle.spool_calls.specs.Readers.{ArePlaced, placed};
 ghost use Rattle.spool_core.specs.Printers.{MustWait};
 ghost use Rattle.locked_spool.specs.Waiting.{HasStopped, IsIdle, Waits};
 
@@ -32,7 +32,8 @@ impl<E: SpoolLedger, K: Ledger, H: Ledger> Locked<E, K, H> {
     /// The pages by where they are. All together are the pages of the spool.
     pub fn pages_by_place(&self) -> Pages
         ensures placed { IsRight self.now.core (λ d b h.
-            ArePlaced d b h self.now.core result.free result.chained result.lent result.out) }
+            ArePlaced d b h self.now.core
+            (placed result.free result.chained result.lent result.out)) }
         ensures all { result.chained + result.lent + result.out + result.free ≡ E.config.pages }
     {
         self.core.pages_by_place()

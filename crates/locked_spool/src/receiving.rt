@@ -16,7 +16,9 @@ use control_file::Control;
 use lpd_values::{FileName, Refusal};
 use page_pool::{FilledPage, PageTicket};
 use spool_calls::outline_of;
-use spool_core::{Asked, Receipt, ReturnedControl, ReturnedPage, ReturnedTicket};
+use spool_core::{
+    Asked, EndedFile, FilePage, Receipt, ReturnedControl, ReturnedPage, ReturnedTicket,
+};
 use spool_ledgers::{Shares, SpoolLedger};
 use std::sync::ledger::Ledger;
 
@@ -61,7 +63,11 @@ impl<E: SpoolLedger, K: Ledger, H: Ledger> Locked<E, K, H> {
         self.account
             .reserve(self.core.counted_reserve() + reserve + 1)?;
         let job = self.core.accept(sender, number)?;
-        let entry = Entry::Opened(job, sender, number);
+        let entry = Entry::Opened {
+            job,
+            sender,
+            queue: number,
+        };
         write(&mut self.account, &mut self.books, mine, entry);
         Ok(Accepted { job, queue: number })
     }
@@ -128,7 +134,7 @@ impl<E: SpoolLedger, K: Ledger, H: Ledger> Locked<E, K, H> {
         ensures shares { mine.new ≡ when_done kind.Began result mine.old }
     {
         self.core.begin_file(job, name, count)?;
-        let entry = Entry::OfJob(job, Act::Began(name, count));
+        let entry = Entry::OfJob(job, Act::Began { name, count });
         write(&mut self.account, &mut self.books, mine, entry);
         Ok(())
     }
@@ -153,8 +159,13 @@ impl<E: SpoolLedger, K: Ledger, H: Ledger> Locked<E, K, H> {
             return Err(ReturnedPage { page });
         }
         let outline = outline_of(&page);
-        let (file, number) = self.core.put_sized(job, page)?;
-        let entry = Entry::OfJob(job, Act::Put(file, number, outline));
+        let FilePage { file, number } = self.core.put_sized(job, page)?;
+        let put = Act::Put {
+            file,
+            number,
+            page: outline,
+        };
+        let entry = Entry::OfJob(job, put);
         write(&mut self.account, &mut self.books, mine, entry);
         Ok(())
     }
@@ -169,9 +180,9 @@ impl<E: SpoolLedger, K: Ledger, H: Ledger> Locked<E, K, H> {
         ensures account { WritesFileEnded self.old self.new job result }
         ensures shares { mine.new ≡ when_done kind.FileEnded result mine.old }
     {
-        let (file, receipt) = self.core.end_last(job)?;
-        let whole = receipt == Receipt::Received;
-        let entry = Entry::OfJob(job, Act::FileEnded(file, whole));
+        let EndedFile { file, receipt } = self.core.end_last(job)?;
+        let is_whole = receipt == Receipt::Received;
+        let entry = Entry::OfJob(job, Act::FileEnded { file, is_whole });
         write(&mut self.account, &mut self.books, mine, entry);
         Ok(receipt)
     }
@@ -187,8 +198,7 @@ impl<E: SpoolLedger, K: Ledger, H: Ledger> Locked<E, K, H> {
         control: Control,
     ) -> Result<Receipt, ReturnedControl>
         requires { 0 < mine.old.parts }
-        ensures answer { IsRight self.old.core (λ d b h.
-            Controls d b h self.old.core job (contents control) self.new.core result) }
+        ensures answer { Controls self.old.core job (contents control) self.new.core result }
         ensures back { IfErr result (λ e. e.control ≡ control) }
         ensures account { WritesControlled self.old self.new job (contents control) result }
         ensures shares { mine.new ≡ when_done kind.Controlled result mine.old }
@@ -201,8 +211,12 @@ impl<E: SpoolLedger, K: Ledger, H: Ledger> Locked<E, K, H> {
             return Err(ReturnedControl { control, refusal });
         };
         let receipt = self.core.control(job, control)?;
-        let whole = receipt == Receipt::Received;
-        let entry = Entry::OfJob(job, Act::Controlled(copy, whole));
+        let is_whole = receipt == Receipt::Received;
+        let controlled = Act::Controlled {
+            control: copy,
+            is_whole,
+        };
+        let entry = Entry::OfJob(job, controlled);
         write(&mut self.account, &mut self.books, mine, entry);
         Ok(receipt)
     }

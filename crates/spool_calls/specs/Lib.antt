@@ -4,3 +4,5 @@ pub mod Calls
 pub mod Tickets
 pub mod Readers
 pub mod Telling
+pub mod Printers
+pub mod Stocks

@@ -10,14 +10,24 @@ use Rattle.spool_calls.specs.Looks.{Detail, What}
 use Rattle.spool_calls.specs.Kept.{Kept}
 use Rattle.spool_calls.specs.Calls.{before}
 
--- the pages of a spool by where they are: free, in the chains of jobs, lent to sessions, and out at printers
-pub record ArePlaced (d : Detail) (b : Base) (h : List (Event (What d))) (k : Kept) (free chain session printer : ℕ) : Type 0 where
-  pub free_is : free ≡ free_pages (before d b h k)
-  pub chain_is : chain ≡ chained (before d b h k)
-  pub session_is : session ≡ lent (before d b h k)
-  pub printer_is : printer ≡ at_printers (before d b h k)
+-- how many pages are free, in the chains of jobs, lent to sessions, and out at printers
+pub record Placed : Type 0 where
+  pub free : ℕ
+  pub chained : ℕ
+  pub lent : ℕ
+  pub out : ℕ
+
+abbrev pub placed : (free chained lent out : ℕ) → Placed
+placed free chained lent out = record { free = free; chained = chained; lent = lent; out = out }
+
+-- so many pages of a spool are there
+pub record ArePlaced (d : Detail) (b : Base) (h : List (Event (What d))) (k : Kept) (p : Placed) : Type 0 where
+  pub free_is : p.free ≡ free_pages (before d b h k)
+  pub chain_is : p.chained ≡ chained (before d b h k)
+  pub session_is : p.lent ≡ lent (before d b h k)
+  pub printer_is : p.out ≡ at_printers (before d b h k)
   -- there are no others
-  pub all : chain + session + printer + free ≡ k.config.pages
+  pub all : p.chained + p.lent + p.out + p.free ≡ k.config.pages
 
 module _ (d : Detail) (b : Base) (h : List (Event (What d))) (k : Kept) where
   -- how many printers of a queue are stopped

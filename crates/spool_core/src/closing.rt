@@ -5,10 +5,8 @@ ghost use Rattle.std.specs.Prelude.{◌≡◌, [], IfOk, map};
 ghost use Rattle.spool_calls.specs.Calls.{IsRight, Admits, Starts, Closes, Rotates};
 ghost use Rattle.spool_core.specs.Halves.{FindsStart, StartsQueue};
 ghost use Rattle.spool_core.specs.Places.{Takes};
-ghost use Rattle.core_steps.proofs.Stocks.{CanEnd, is_out, stock, stock_after};
-ghost use Rattle.core_steps.proofs.EndingMany.{EndsTo, IsStocked};
-ghost use Rattle.core_steps.proofs.Closing.{all_end, listed, stopped_among, with_none};
-ghost use Rattle.core_steps.proofs.Starting.{started};
+ghost use Rattle.spool_calls.specs.Printers.{started, stopped_among, with_none};
+ghost use Rattle.spool_calls.specs.Stocks.{all_end, CanEnd, EndsTo, is_out, IsStocked, listed, stock, stock_after};
 
 use crate::core_state::Core;
 use claims::Table;

@@ -22,6 +22,7 @@ pub use laws::headline_stands;
 pub use lpd_values::{FileName, Octets, Refusal};
 pub use page_pool::{FilledPage, PageTicket};
 pub use reading::Pages;
+pub use receiving::{EndedFile, FilePage};
 pub use spool_calls::{
     Asked, Foreign, HandedPage, Next, Progress, Receipt, ReturnedControl, ReturnedPage,
     ReturnedTicket, Sheet,

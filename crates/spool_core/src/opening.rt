@@ -21,29 +21,43 @@ use lpd_values::Refusal;
 use queues::Book;
 use std::alloc::{AllocError, Global};
 
+/// A job that is to be accepted.
+#[derive(Clone, Copy)]
+struct Opening {
+    /// The number that it is given.
+    number: u64,
+    /// The number of its sender.
+    sender: u32,
+    /// The number of its queue.
+    queue: u32,
+}
+
 /// Adds a job to the book and its row to the table. AllocError where memory for either is refused; nothing changes then.
 fn add_job(
     alloc: Global,
     config: &Config,
     book: &mut Book,
     table: &mut Table,
-    number: u64,
-    sender: u32,
-    queue: u32,
+    job: Opening,
 ) -> Result<(), AllocError>
-    requires queue { C.IsQueue config.now queue }
+    requires queue { C.IsQueue config.now job.queue }
     requires room { length book.old.jobs < book.old.max_jobs }
-    requires other { All (λ (j : HeldJob). j.facts.number ≢ number) book.old.jobs }
+    requires other { All (λ (j : HeldJob). j.facts.number ≢ job.number) book.old.jobs }
     requires rows { length table.old.rows < table.old.room }
-    requires greater { All (λ (r : Row). r.number < number) table.old.rows }
-    requires kinds { length (claim_in config.now queue) ≡ length table.old.capacity }
-    requires fits { Fits (claim_in config.now queue) (amount table.old.capacity) }
-    ensures book { OnOk result (book.new ≡ with_new book.old number sender queue) }
+    requires greater { All (λ (r : Row). r.number < job.number) table.old.rows }
+    requires kinds { length (claim_in config.now job.queue) ≡ length table.old.capacity }
+    requires fits { Fits (claim_in config.now job.queue) (amount table.old.capacity) }
+    ensures book { OnOk result (book.new ≡ with_new book.old job.number job.sender job.queue) }
     ensures table { OnOk result (table.new
-        ≡ opened table.old number sender queue (claim_in config.now queue)) }
+        ≡ opened table.old job.number job.sender job.queue (claim_in config.now job.queue)) }
     ensures same_book { OnErr result (book.new ≡ book.old) }
     ensures same_table { OnErr result (table.new ≡ table.old) }
 {
+    let Opening {
+        number,
+        sender,
+        queue,
+    } = job;
     let need = claim_of(alloc, config, queue)?;
     book.add(number, sender, queue)?;
     match table.open_row(number, sender, queue, &need) {
@@ -94,7 +108,12 @@ impl Core {
         let number = self.accepted + 1;
         let book = &mut self.book;
         let table = &mut self.table;
-        add_job(self.alloc, &self.config, book, table, number, sender, queue)?;
+        let job = Opening {
+            number,
+            sender,
+            queue,
+        };
+        add_job(self.alloc, &self.config, book, table, job)?;
         self.accepted = number;
         self.reserved += self.config.reserve_of(queue);
         Ok(number)

@@ -10,7 +10,7 @@ ghost use Rattle.spool_calls.specs.Calls.{IsRight, Hands, Prints, Fails};
 ghost use Rattle.spool_calls.specs.declared.answers.Next.TheVariants as next;
 ghost use Rattle.spool_core.specs.Due.{IsTurn};
 ghost use Rattle.account.specs.declared.entry.Progress.TheVariants as progress;
-ghost use Rattle.core_steps.proofs.Backing.{said_of};
+ghost use Rattle.spool_calls.specs.Printers.{said_of};
 ghost use Rattle.held_jobs.specs.Moves.{pages_of};
 
 use crate::core_state::Core;

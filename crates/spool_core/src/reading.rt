@@ -12,13 +12,13 @@ ghost use Rattle.spool_history.specs.Refusals.{MayControl, RefusesControl, Refus
 ghost use Rattle.spool_calls.specs.Looks.Detail.{Outlines};
 ghost use Rattle.spool_calls.specs.Kept.{Leaves, kept_out};
 ghost use Rattle.spool_calls.specs.Calls.{IsRight, before};
-ghost use Rattle.spool_calls.specs.Readers.{ArePlaced, HasOpenFile, IsOpenFile, stopped_for};
-ghost use Rattle.core_steps.proofs.Reading.{lent_among, out_among};
-ghost use Rattle.core_steps.proofs.Starting.{no_kept};
+ghost use Rattle.spool_calls.specs.Readers.{ArePlaced, HasOpenFile, IsOpenFile, placed, stopped_for};
+ghost use Rattle.spool_calls.specs.Printers.{no_kept, out_among};
+ghost use Rattle.spool_calls.specs.Stocks.{lent_among};
 
 use crate::core_state::Core;
 use crate::printers::count_stopped_in;
-use crate::receiving::{is_receiving, last_file};
+use crate::receiving::{FilePage, is_receiving, next_page};
 use account::Sheet;
 use config_values::Config;
 use lpd_values::Refusal;
@@ -148,12 +148,12 @@ impl Core {
         self.lacks_control(job).err()
     }
 
-    /// The number of a job's open file, and how many pages of it were put; None where the job isn't being received or no file
-    /// of it is open.
-    pub fn open_file(&self, job: u64) -> Option<(u64, u64)>
+    /// The next page of a job's open file, behind those that were put; None where the job isn't being received or no file of it
+    /// is open.
+    pub fn open_file(&self, job: u64) -> Option<FilePage>
         ensures { IsRight self.now (λ d b h.
             MatchOption result (HasOpenFile d b h self.now job → ⊥)
-            (λ r. IsOpenFile d b h self.now job r.0 r.1)) }
+            (λ r. IsOpenFile d b h self.now job r.file r.number)) }
     {
         let Some(i) = self.book.find(job) else {
             return None;
@@ -165,13 +165,14 @@ impl Core {
         if !self.book.is_open(i) {
             return None;
         }
-        Some(last_file(found))
+        Some(next_page(found))
     }
 
     /// The pages by where they are. All together are the pages of the spool.
     pub fn pages_by_place(&self) -> Pages
         ensures { IsRight self.now (λ d b h.
-            ArePlaced d b h self.now result.free result.chained result.lent result.out) }
+            ArePlaced d b h self.now
+            (placed result.free result.chained result.lent result.out)) }
     {
         Pages {
             free: self.pool.free(),

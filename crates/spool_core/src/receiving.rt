@@ -29,6 +29,24 @@ use page_pool::{FilledPage, PageTicket, Pool};
 use queues::Book;
 use spool_calls::{Asked, Receipt, ReturnedControl, ReturnedPage, ReturnedTicket};
 
+/// A page of a job, by where it stands.
+#[derive(Clone, Copy, Debug)]
+pub struct FilePage {
+    /// The number of its file in the job, from 0.
+    pub file: u64,
+    /// Its number in that file, from 0.
+    pub number: u64,
+}
+
+/// A data file that ended.
+#[derive(Clone, Copy, Debug)]
+pub struct EndedFile {
+    /// Its number in the job, from 0.
+    pub file: u64,
+    /// Whether the job is whole by its end.
+    pub receipt: Receipt,
+}
+
 /// Whether a job is being received.
 pub(crate) fn is_receiving(job: &Job) -> bool
     ensures { IsTrue result ↔ (job.now.phase ≡ phase.Receiving) }
@@ -98,14 +116,18 @@ fn may_abort(job: &Job, ticket: &Option<PageTicket>, page_size: usize) -> bool
     }
 }
 
-/// The number of a job's last file, and how many pages of that have come.
-pub(crate) fn last_file(job: &Job) -> (u64, u64)
+/// The page behind those of a job's last file that have come.
+pub(crate) fn next_page(job: &Job) -> FilePage
     requires { 0 < length job.now.files }
-    ensures { (result.0 ≡ length job.now.files - 1) × (result.1 ≡ (last_size job.now.files).pages) }
+    ensures { (result.file ≡ length job.now.files - 1)
+        × (result.number ≡ (last_size job.now.files).pages) }
 {
     let files = job.files();
     let last = files.len() - 1;
-    (last as u64, files[last].pages)
+    FilePage {
+        file: last as u64,
+        number: files[last].pages,
+    }
 }
 
 /// Puts a lent page that came back into the pool, if there is one.
@@ -209,16 +231,16 @@ impl Core {
     }
 
     /// Takes the page that was lent to a job, which has the spool's size, as the next one of its open file, and says of which file
-    /// which page that is: their numbers, from 0.
+    /// which page that is.
     ///
     /// Refused, with the page, where the job isn't being received, no file of it is open, no page is lent to it, or the page
     /// isn't the one that the file awaits: full, or with its last octets.
-    pub fn put_sized(&mut self, job: u64, page: FilledPage) -> Result<(u64, u64), ReturnedPage>
+    pub fn put_sized(&mut self, job: u64, page: FilledPage) -> Result<FilePage, ReturnedPage>
         requires { page.page_size ≡ self.old.config.page_size }
         ensures config { self.new.config ≡ self.old.config }
         ensures back { IfErr result (λ e. e.page ≡ page) }
         ensures put { IfOk result (λ r. IsRight self.old (λ d b h.
-            PutsAs d b h self.old job page self.new r.0 r.1)) }
+            PutsAs d b h self.old job page self.new r.file r.number)) }
         ensures refused { IfErr result (λ e. IsRight self.old (λ d b h.
             Puts d b h self.old job page self.new (Err e))) }
     {
@@ -229,21 +251,20 @@ impl Core {
         if !awaits(&self.book, i, page.len() as u64, page_size) {
             return Err(ReturnedPage { page });
         }
-        let next = last_file(self.book.job(i));
+        let next = next_page(self.book.job(i));
         self.book.put(i, page);
         Ok(next)
     }
 
-    /// Takes the page that was lent to a job as the next one of its open file, and says of which file which page that is: their
-    /// numbers, from 0.
+    /// Takes the page that was lent to a job as the next one of its open file, and says of which file which page that is.
     ///
     /// Refused, with the page, where the job isn't being received, no file of it is open, no page is lent to it, or the page
     /// isn't the one that the file awaits: full, or with its last octets.
-    pub fn put_next(&mut self, job: u64, page: FilledPage) -> Result<(u64, u64), ReturnedPage>
+    pub fn put_next(&mut self, job: u64, page: FilledPage) -> Result<FilePage, ReturnedPage>
         ensures config { self.new.config ≡ self.old.config }
         ensures back { IfErr result (λ e. e.page ≡ page) }
         ensures put { IfOk result (λ r. IsRight self.old (λ d b h.
-            PutsAs d b h self.old job page self.new r.0 r.1)) }
+            PutsAs d b h self.old job page self.new r.file r.number)) }
         ensures refused { IfErr result (λ e. IsRight self.old (λ d b h.
             Puts d b h self.old job page self.new (Err e))) }
     {
@@ -265,13 +286,13 @@ impl Core {
         Ok(())
     }
 
-    /// Ends the open file of a job, and says which one that is: its number, from 0.
+    /// Ends the open file of a job, and says which one that is.
     ///
     /// NotOpen where the job isn't being received, no file of it is open, a page is lent to it, or octets are missing.
-    pub fn end_last(&mut self, job: u64) -> Result<(u64, Receipt), Refusal>
+    pub fn end_last(&mut self, job: u64) -> Result<EndedFile, Refusal>
         ensures config { self.new.config ≡ self.old.config }
         ensures ended { IfOk result (λ r. IsRight self.old (λ d b h.
-            EndsFile d b h self.old job self.new r.1 r.0)) }
+            EndsFile d b h self.old job self.new r.receipt r.file)) }
         ensures refused { IfErr result (λ n. IsRight self.old (λ d b h.
             Ends d b h self.old job self.new (Err n))) }
     {
@@ -281,13 +302,15 @@ impl Core {
         if !can_end(&self.book, i) {
             return Err(Refusal::NotOpen);
         }
-        let (file, _) = last_file(self.book.job(i));
+        let FilePage { file, .. } = next_page(self.book.job(i));
         self.book.end_file(i);
         if !self.book.job(i).has_prints() {
-            return Ok((file, Receipt::Stored));
+            let receipt = Receipt::Stored;
+            return Ok(EndedFile { file, receipt });
         }
         receive(&mut self.book, &mut self.pool, &mut self.table, i);
-        Ok((file, Receipt::Received))
+        let receipt = Receipt::Received;
+        Ok(EndedFile { file, receipt })
     }
 
     /// Ends the open file of a job.
@@ -297,8 +320,8 @@ impl Core {
         ensures config { self.new.config ≡ self.old.config }
         ensures answer { IsRight self.old (λ d b h. Ends d b h self.old job self.new result) }
     {
-        let (_, receipt) = self.end_last(job)?;
-        Ok(receipt)
+        let ended = self.end_last(job)?;
+        Ok(ended.receipt)
     }
 
     /// The place of a job that is being received and has no control file.

@@ -9,7 +9,7 @@ ghost use Rattle.spool_history.specs.Base.{first_base};
 ghost use Rattle.spool_history.specs.Now.{free_pages};
 ghost use Rattle.spool_calls.specs.declared.handed.HandedPage.{HandedPage};
 ghost use Rattle.spool_calls.specs.Looks.Detail.{Octets};
-ghost use Rattle.spool_calls.specs.Readers.{ArePlaced};
+ghost use Rattle.spool_calls.specs.Readers.{ArePlaced, placed};
 ghost use Rattle.spool_world.specs.Worlds.{AddsConnection, IsPlace, Leads, Steps};
 
 use crate::connection::Connection;
@@ -124,7 +124,7 @@ impl World {
     pub fn pages_by_place(&self) -> Pages
         ensures { (t : Trace) → Leads t self.now
             → ArePlaced Octets first_base (events self.now.core.config t) self.now.core
-            result.free result.chained result.lent result.out }
+            (placed result.free result.chained result.lent result.out) }
     {
         self.core.pages_by_place()
     }

@@ -1,6 +1,5 @@
-use Rattle.core_steps.proofs.Stocks.{stock}
+use Rattle.spool_calls.specs.Stocks.{listed, stock}
 use Rattle.core_steps.proofs.EndingMany.{Ending}
-use Rattle.core_steps.proofs.Closing.{listed}
 use Rattle.spool_core.proofs.closing.end_listed.Given as goal
 
 abbrev pub invariant-loop-i : goal.invariant-loop-i

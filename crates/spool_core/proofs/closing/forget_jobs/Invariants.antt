@@ -1,4 +1,4 @@
-use Rattle.core_steps.proofs.Closing.{with_none}
+use Rattle.spool_calls.specs.Printers.{with_none}
 use Rattle.core_steps.proofs.Starting.{IsMapped}
 use Rattle.spool_core.proofs.closing.forget_jobs.Given as goal
 

@@ -1,5 +1,5 @@
 use Rattle.std.proofs.Common.{◌≡◌, ◌≤◌, take}
-use Rattle.core_steps.proofs.Reading.{lent_among}
+use Rattle.spool_calls.specs.Stocks.{lent_among}
 use Rattle.spool_core.proofs.reading.count_lent.Given as goal
 
 abbrev pub invariant-loop-i : goal.invariant-loop-i

@@ -14,10 +14,10 @@ use Rattle.locked_spool.specs.Held.{Held}
 use Rattle.locked_spool.specs.Entries.{WritesFileEnded}
 use Rattle.locked_spool.proofs.Written.{room_here, whole_is, written_here}
 use Rattle.locked_spool.proofs.locked.Locked.end_file.Given.{Over}
-use Rattle.locked_spool.proofs.locked.Locked.end_file.Goals.{After-eq-whole}
+use Rattle.locked_spool.proofs.locked.Locked.end_file.Goals.{After-eq-is_whole}
 use Rattle.locked_spool.proofs.locked.Locked.end_file.Goals as goal
 
-module _ (g : Over) (c : After-eq-whole g) where
+module _ (g : Over) (c : After-eq-is_whole g) where
   -- what the lock held before
   abbrev h : Held
   h = let a = c.self.inside in record { core = a.core; base = base_seen a.base; events = a.account.events; number = a.number; before = a.before; kinds_before = a.kinds_before; handed_before = a.handed_before }
@@ -26,24 +26,24 @@ module _ (g : Over) (c : After-eq-whole g) where
   k = c.end_last.new.self
 
   abbrev got : Receipt
-  got = c.in_ok-file.receipt
+  got = c.in_ok-file.field-0.receipt
 
   abbrev file : ℕ
-  file = c.in_ok-file.file
+  file = c.in_ok-file.field-0.file
 
   end : EndsFile Outlines h.base h.events h.core c.args.job k got file
   end = c.in_ok-file.ensures.ended Outlines h.base h.events c.self.invariant.left
 
-  said : c.eq-whole.result ≡ is_whole got
-  said = c.eq-whole.ensures ∙ whole_is got
+  said : c.eq-is_whole.result ≡ is_whole got
+  said = c.eq-is_whole.ensures ∙ whole_is got
 
-  ended : Leaves Outlines h.base (OfJob c.args.job (FileEnded file c.eq-whole.result) ∷ h.events) k
+  ended : Leaves Outlines h.base (OfJob c.args.job (FileEnded file c.eq-is_whole.result) ∷ h.events) k
   ended = subst (λ (v : Bool). Leaves Outlines h.base (OfJob c.args.job (FileEnded file v) ∷ h.events) k) (sym said) end.1
 
   abbrev Writes : Held → Held → Type 0
   Writes old new = WritesFileEnded old new c.args.job (Ok got)
 
-  told : (events : List (Event Outline)) → events ≡ OfJob c.args.job (FileEnded file c.eq-whole.result) ∷ h.events → Writes h (record h { core = k; events = events })
+  told : (events : List (Event Outline)) → events ≡ OfJob c.args.job (FileEnded file c.eq-is_whole.result) ∷ h.events → Writes h (record h { core = k; events = events })
   told events one = (
     file,
     end.0,
@@ -52,16 +52,16 @@ module _ (g : Over) (c : After-eq-whole g) where
   )
 
 pub write-requires-clause-room : goal.write-requires-clause-room
-write-requires-clause-room g c = room_here c.self.invariant (ended g (goal.at.write-requires-clause-room g c).After-eq-whole) c.in_ok-file.ensures.config refl
+write-requires-clause-room g c = room_here c.self.invariant (ended g (goal.at.write-requires-clause-room g c).After-eq-is_whole) c.in_ok-file.ensures.config refl
 
 pub invariant_of-self-2 : goal.invariant_of-self-2
 invariant_of-self-2 g c =
     let w = c.write.ensures in
-    written_here c.self.invariant c.write.new.account.events c.write.new.account.room c.write.new.books (ended g (goal.at.invariant_of-self-2 g c).After-eq-whole) c.in_ok-file.ensures.config refl refl w.events w.room w.books
+    written_here c.self.invariant c.write.new.account.events c.write.new.account.room c.write.new.books (ended g (goal.at.invariant_of-self-2 g c).After-eq-is_whole) c.in_ok-file.ensures.config refl refl w.events w.room w.books
 
 pub returns-clause-account : goal.returns-clause-account
 returns-clause-account g c =
-    let n = (goal.at.returns-clause-account g c).After-eq-whole in
+    let n = (goal.at.returns-clause-account g c).After-eq-is_whole in
     let es = c.write.new.account.events in
     subst (λ (z : Held). Writes g n z (record (h g n) { core = k g n; events = es })) c.self.view_is (told g n es c.write.ensures.events)
 

@@ -25,10 +25,10 @@ module _ (g : Over) (c : In_ok-file g) where
   k = c.put_sized.new.self
 
   abbrev file : ℕ
-  file = c.in_ok-file.file
+  file = c.in_ok-file.field-0.file
 
   abbrev number : ℕ
-  number = c.in_ok-file.number
+  number = c.in_ok-file.field-0.number
 
   put : PutsAs Outlines h.base h.events h.core c.args.job c.args.page k file number
   put = c.in_ok-file.ensures.put Outlines h.base h.events c.self.invariant.left

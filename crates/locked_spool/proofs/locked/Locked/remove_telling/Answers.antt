@@ -1,4 +1,4 @@
-use Rattle.std.proofs.Common.{◌≡◌, ◌≢◌, ◌∙◌, ℕ, false, List, [], ◌∷◌, refl, sym, subst, inl, inr}
+use Rattle.std.proofs.Common.{◌≡◌, ◌≢◌, ◌∙◌, ℕ, List, [], ◌∷◌, refl, sym, subst, inl, inr}
 use Rattle.account.specs.Seen.{base_seen}
 use Rattle.spool_history.specs.Events.Event.{Removed}
 use Rattle.spool_calls.specs.Looks.Detail.{Outlines}

@@ -2,7 +2,6 @@ use Rattle.std.proofs.Common.{◌≡◌, ◌≢◌, ◌∙◌, ◌<◌, ℕ, Lis
 use Rattle.std.specs.Prelude.{Ok}
 use Rattle.account.specs.Seen.{base_seen}
 use Rattle.account.specs.declared.entry.Outline.{Outline}
-use Rattle.config_values.specs.Config.{queue_named}
 use Rattle.spool_history.specs.Events.{Event}
 use Rattle.spool_history.specs.Events.Event.{Started}
 use Rattle.spool_history.specs.Legal.{May}

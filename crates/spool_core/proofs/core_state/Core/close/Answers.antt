@@ -6,7 +6,7 @@ use Rattle.spool_calls.specs.Looks.{Detail, What}
 use Rattle.spool_calls.specs.Looks.Detail.{Outlines}
 use Rattle.spool_calls.specs.Kept.{Kept}
 use Rattle.spool_calls.specs.Calls.{Closes, IsRight}
-use Rattle.core_steps.proofs.Stocks.{stock}
+use Rattle.spool_calls.specs.Stocks.{stock}
 use Rattle.core_steps.proofs.EndingMany.{stocked}
 use Rattle.core_steps.proofs.Closing.{close_done, close_leaves}
 use Rattle.spool_core.specs.Inside.{core_view}

@@ -25,7 +25,7 @@ use Rattle.spool_calls.specs.Calls.{Ends, EndsFile}
 use Rattle.core_steps.proofs.Reading.{last_file}
 use Rattle.core_steps.proofs.Receiving.{end_counted, end_idle, end_none, end_received, end_refused, end_stored, pool_room}
 use Rattle.spool_core.proofs.Packs.{put_there, received_pack, unprinted}
-use Rattle.spool_core.proofs.core_state.Core.end_last.Goals.{After-end_file, After-has_prints, After-last_file-file, After-receive}
+use Rattle.spool_core.proofs.core_state.Core.end_last.Goals.{After-end_file, After-has_prints, After-next_page-file, After-receive}
 use Rattle.spool_core.proofs.core_state.Core.end_last.Goals as goal
 
 -- the file of this number ended
@@ -48,11 +48,11 @@ returns-then-not-can_end-clause-refused c =
     (λ d b h l. end_refused d b h (core_view a) l c.args.job c.in-Some.i f c.self.invariant.ranges (λ q. absurd (cc (c.if-not-can_end.ensures.1 q))))
 
 -- the number of its last file
-last_of : (c : After-last_file-file) → c.last_file-file.result.0 ≡ length (job_at c.self.inside.book c.in-Some.i).facts.files - 1
-last_of c = c.last_file-file.ensures.0 ∙ ap (λ (y : Facts). length y.files - 1) c.job.ensures
+last_of : (c : After-next_page-file) → c.next_page-file.result.file ≡ length (job_at c.self.inside.book c.in-Some.i).facts.files - 1
+last_of c = c.next_page-file.ensures.0 ∙ ap (λ (y : Facts). length y.files - 1) c.job.ensures
 
-pub last_file-file-requires : goal.last_file-file-requires
-last_file-file-requires c =
+pub next_page-file-requires : goal.next_page-file-requires
+next_page-file-requires c =
     let r = c.self.invariant.reached in
     let w = c.if-not-can_end.ensures.0 refl in
     let g = last_file Outlines r.0 r.1 (core_view c.self.inside) r.2 c.args.job c.in-Some.i (found c.self.inside c.args.job c.in-Some.i c.in-Some.ensures.found) w.0 w.2 in
@@ -103,8 +103,8 @@ invariant_of-self c =
 pub returns-then-not-has_prints-clause-ended : goal.returns-then-not-has_prints-clause-ended
 returns-then-not-has_prints-clause-ended c =
     let x = goal.at.returns-then-not-has_prints-clause-ended c in
-    subst (λ (k : Kept). IsRight k (Ended c.args.job Stored c.last_file-file.result.0 (record (core_view c.self.inside) { book = c.end_file.new.self }) k)) c.self.view_is
-    (stored x.After-end_file (c.if-not-can_end.ensures.0 refl) c.last_file-file.result.0 (last_of x.After-last_file-file) (prints x.After-has_prints ∙ c.if-not-has_prints.true))
+    subst (λ (k : Kept). IsRight k (Ended c.args.job Stored c.next_page-file.result.file (record (core_view c.self.inside) { book = c.end_file.new.self }) k)) c.self.view_is
+    (stored x.After-end_file (c.if-not-can_end.ensures.0 refl) c.next_page-file.result.file (last_of x.After-next_page-file) (prints x.After-has_prints ∙ c.if-not-has_prints.true))
 
 pub receive-requires-clause-idle : goal.receive-requires-clause-idle
 receive-requires-clause-idle c = idle (goal.at.receive-requires-clause-idle c).After-end_file (c.if-not-can_end.ensures.0 refl)
@@ -142,5 +142,5 @@ returns-clause-ended c =
     let x = goal.at.returns-clause-ended c in
     let new : Kept = record (core_view c.self.inside) { pool = c.receive.new.pool; book = c.receive.new.book; table = c.receive.new.table } in
     let got = received x.After-receive (c.if-not-can_end.ensures.0 refl) (prints x.After-has_prints ∙ c.if-not-has_prints.false) in
-    subst (λ (k : Kept). IsRight k (Ended c.args.job Received c.last_file-file.result.0 new k)) c.self.view_is
-    (subst (λ (n : ℕ). IsRight (core_view c.self.inside) (Ended c.args.job Received n new (core_view c.self.inside))) (sym (last_of x.After-last_file-file)) got)
+    subst (λ (k : Kept). IsRight k (Ended c.args.job Received c.next_page-file.result.file new k)) c.self.view_is
+    (subst (λ (n : ℕ). IsRight (core_view c.self.inside) (Ended c.args.job Received n new (core_view c.self.inside))) (sym (last_of x.After-next_page-file)) got)

@@ -37,8 +37,8 @@ returns-then-not-is_open c =
     stays k c.args.self.now (NoFile c.args.job) c.self.view_is
     (λ d b h l. no_file_open d b h k l c.args.job c.in-Some.i f (sym c.if-not-is_open.ensures))
 
-pub last_file-requires : goal.last_file-requires
-last_file-requires c =
+pub next_page-requires : goal.next_page-requires
+next_page-requires c =
     let k = core_view c.self.inside in
     let f = found c.self.inside c.args.job c.in-Some.i c.in-Some.ensures.found in
     let p = sym (ap (λ (g : Facts). g.phase) c.job-found.ensures) ∙ c.if-not-is_receiving.ensures.0 refl in
@@ -51,8 +51,8 @@ returns c =
     let k = core_view c.self.inside in
     let f = found c.self.inside c.args.job c.in-Some.i c.in-Some.ensures.found in
     let p = sym (ap (λ (g : Facts). g.phase) c.job-found.ensures) ∙ c.if-not-is_receiving.ensures.0 refl in
-    let e0 = c.last_file.ensures.0 ∙ ap (λ (y : Facts). length y.files - 1) c.job-found.ensures in
-    let e1 = c.last_file.ensures.1 ∙ ap (λ (y : Facts). (last_size y.files).pages) c.job-found.ensures in
-    stays k c.args.self.now (OneFile c.args.job c.last_file.result.0 c.last_file.result.1) c.self.view_is
-    (λ d b h l. subst (λ (n : ℕ). IsOpenFile d b h k c.args.job n c.last_file.result.1) (sym e0)
+    let e0 = c.next_page.ensures.0 ∙ ap (λ (y : Facts). length y.files - 1) c.job-found.ensures in
+    let e1 = c.next_page.ensures.1 ∙ ap (λ (y : Facts). (last_size y.files).pages) c.job-found.ensures in
+    stays k c.args.self.now (OneFile c.args.job c.next_page.result.file c.next_page.result.number) c.self.view_is
+    (λ d b h l. subst (λ (n : ℕ). IsOpenFile d b h k c.args.job n c.next_page.result.number) (sym e0)
     (subst (λ (n : ℕ). IsOpenFile d b h k c.args.job (length (job_at c.self.inside.book c.in-Some.i).facts.files - 1) n) (sym e1) (last_file d b h k l c.args.job c.in-Some.i f p (sym c.if-not-is_open.ensures)).is))

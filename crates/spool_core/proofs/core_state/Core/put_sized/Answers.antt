@@ -73,14 +73,14 @@ module _ (c : After-put) (w : Awaits (job_at c.self.inside.book c.in-Some.i) (le
   new = record k { book = c.put.new.self }
 
   abbrev Answer : Kept → Type 0
-  Answer z = IsRight z (λ d b h. PutsAs d b h z c.args.job c.args.page new c.last_file-next.result.0 c.last_file-next.result.1)
+  Answer z = IsRight z (λ d b h. PutsAs d b h z c.args.job c.args.page new c.next_page-next.result.file c.next_page-next.result.number)
 
   puts : Answer k
   puts d b h l =
       let size : c.args.page.page_size ≡ k.config.page_size = subst (λ (z : Kept). c.args.page.page_size ≡ z.config.page_size) (sym c.self.view_is) c.requires in
-      let file = c.last_file-next.ensures.0 ∙ ap (λ (y : Facts). length y.files - 1) c.job.ensures in
-      let number = c.last_file-next.ensures.1 ∙ ap (λ (y : Facts). (last_size y.files).pages) c.job.ensures in
-      subst (λ (n : ℕ). PutsAs d b h k c.args.job c.args.page new n c.last_file-next.result.1) (sym file)
+      let file = c.next_page-next.ensures.0 ∙ ap (λ (y : Facts). length y.files - 1) c.job.ensures in
+      let number = c.next_page-next.ensures.1 ∙ ap (λ (y : Facts). (last_size y.files).pages) c.job.ensures in
+      subst (λ (n : ℕ). PutsAs d b h k c.args.job c.args.page new n c.next_page-next.result.number) (sym file)
       (subst (λ (n : ℕ). PutsAs d b h k c.args.job c.args.page new (length (job_at k.book c.in-Some.i).facts.files - 1) n) (sym number)
       (subst (λ (z : Books). PutsAs d b h k c.args.job c.args.page (record k { book = z }) (length (job_at k.book c.in-Some.i).facts.files - 1) (last_size (job_at k.book c.in-Some.i).facts.files).pages) (sym c.put.ensures)
       (put_done d b h k l c.args.job c.in-Some.i (found c.self.inside c.args.job c.in-Some.i c.in-Some.ensures.found) c.args.page w size)))

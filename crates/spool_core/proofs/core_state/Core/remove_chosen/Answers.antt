@@ -7,9 +7,9 @@ use Rattle.spool_calls.specs.Looks.{Detail, What}
 use Rattle.spool_calls.specs.Looks.Detail.{Outlines}
 use Rattle.spool_calls.specs.Kept.{Kept, Leaves}
 use Rattle.spool_calls.specs.Calls.{IsRight}
-use Rattle.core_steps.proofs.Stocks.{stock}
-use Rattle.core_steps.proofs.EndingMany.{EndsTo, stocked}
-use Rattle.core_steps.proofs.Closing.{listed, removed_leaves}
+use Rattle.spool_calls.specs.Stocks.{EndsTo, listed, stock}
+use Rattle.core_steps.proofs.EndingMany.{stocked}
+use Rattle.core_steps.proofs.Closing.{removed_leaves}
 use Rattle.spool_core.specs.Halves.{MayRemove, RemovesJobs}
 use Rattle.spool_core.specs.Inside.{core_view}
 use Rattle.spool_core.proofs.Cores.{still}

@@ -9,7 +9,8 @@ use Rattle.spool_calls.specs.Looks.{Detail, What}
 use Rattle.spool_calls.specs.Looks.Detail.{Outlines}
 use Rattle.spool_calls.specs.Kept.{Kept, left_by}
 use Rattle.spool_calls.specs.Calls.{IsRight, Rotates}
-use Rattle.core_steps.proofs.Closing.{rotate_done, rotated_core, stopped_among, with_none}
+use Rattle.spool_calls.specs.Printers.{stopped_among, with_none}
+use Rattle.core_steps.proofs.Closing.{rotate_done, rotated_core}
 use Rattle.spool_core.specs.Inside.{core_view}
 use Rattle.spool_core.proofs.Cores.{still}
 use Rattle.spool_core.proofs.core_state.Core.rotated.Goals.{After-forget_jobs}

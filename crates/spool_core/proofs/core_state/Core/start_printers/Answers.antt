@@ -8,7 +8,8 @@ use Rattle.spool_calls.specs.Looks.{Detail, What}
 use Rattle.spool_calls.specs.Looks.Detail.{Outlines}
 use Rattle.spool_calls.specs.Kept.{Kept, Leaves}
 use Rattle.spool_calls.specs.Calls.{IsRight}
-use Rattle.core_steps.proofs.Starting.{start_leads, start_reaches, started, started_core}
+use Rattle.spool_calls.specs.Printers.{started}
+use Rattle.core_steps.proofs.Starting.{start_leads, start_reaches, started_core}
 use Rattle.spool_core.specs.Halves.{StartsQueue}
 use Rattle.spool_core.specs.Inside.{core_view}
 use Rattle.spool_core.specs.Places.{Takes}

@@ -2,7 +2,7 @@ use Rattle.std.proofs.Common.{◌-◌, ◌<◌, length, List, ap, subst, sym, �
 use Rattle.held_jobs.specs.declared.file.DataFile.{DataFile}
 use Rattle.held_jobs.specs.Jobs.{last_size}
 use Rattle.held_jobs.proofs.Sizes.{last_at}
-use Rattle.spool_core.proofs.receiving.last_file.Goals as goal
+use Rattle.spool_core.proofs.receiving.next_page.Goals as goal
 
 pub returns : goal.returns
 returns c =
