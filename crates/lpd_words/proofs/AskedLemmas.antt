@@ -5,7 +5,8 @@ use Rattle.std.specs.Str.Parse.{ParsesUnsigned, digits_value, without_leading_pl
 use Rattle.clap.specs.Words.{IsAmong, ReadsOne, Row, Text, fault_of, is_simple, is_simple_and_free, one_of, subcommand_of}
 use Rattle.clap.proofs.OnLiterals.{clap_on_literals}
 use Rattle.lpd_words.specs.CommandLine.{command_line}
-use Rattle.lpd_words.specs.Asked.{HasNoNumber, IsNumber, IsSending}
+use Rattle.lpd_words.specs.Asked.{IsSending}
+use Rattle.lpd_words.specs.Values.{HasNoNumber, IsNumber}
 use Rattle.lpd_words.specs.Refused.{AsksNothing, IsUnread, IsUnreadBy, IsUnreadFor, IsWrong}
 use Rattle.lpd_words.specs.declared.words.Unread.{Unread}
 use Rattle.lpd_words.specs.declared.words.Unread.TheVariants.{Memory, Refused, Shown}

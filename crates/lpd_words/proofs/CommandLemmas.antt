@@ -4,7 +4,7 @@ use Rattle.clap.specs.Words.{AddsArg, AddsInTurn, AddsSubcommand, App, Rule, app
 use Rattle.clap.specs.declared.builder.arg.Arg.{Arg}
 use Rattle.clap.specs.declared.builder.command.Command.{Command}
 use Rattle.clap.specs.declared.builder.command.Command.TheViews.{out-Command as fields_of}
-use Rattle.lpd_words.specs.CommandLine.{AreLocal, IsCommand, IsWord, with_commands, with_rules}
+use Rattle.lpd_words.specs.Rules.{AreLocal, IsCommand, IsWord, with_commands, with_rules}
 
 -- words that were added in turn
 pub words_added : (args : List Arg) (old new : Command) → AddsInTurn AddsArg old args new → AreLocal args → (fields_of old).has_globals ≡ false

@@ -3,7 +3,8 @@ use Rattle.std.proofs.Common.{◌≡◌, ◌∙◌, ◌<◌, ◌^◌, sym, refl,
 use Rattle.std.specs.Borrow.{Bor}
 use Rattle.std.specs.Str.Parse.{ParsesUnsigned, digits_value, without_leading_plus}
 use Rattle.clap.specs.Words.{Row, Text, TriesOne, one_of}
-use Rattle.lpd_words.specs.Asked.{IsAsked, IsGiven}
+use Rattle.lpd_words.specs.Asked.{IsAsked}
+use Rattle.lpd_words.specs.Values.{IsGiven}
 use Rattle.lpd_words.specs.Refused.{AsksNothing, HasNoCount, HasNoLimit, LacksServing}
 use Rattle.lpd_words.specs.declared.envelope.WordFault.{WordFault}
 use Rattle.lpd_words.specs.declared.envelope.WordFault.TheVariants as envelope

@@ -7,7 +7,10 @@ pub mod Naming
 pub mod Order
 pub mod Outcome
 pub mod Refused
+pub mod Rules
+pub mod Serving
 pub mod Sizes
 pub mod Status
 pub mod Summary
 pub mod Unread
+pub mod Values

@@ -12,8 +12,11 @@ use Rattle.lpd_commands.specs.declared.command.Command.TheVariants.{Receive}
 use Rattle.lpd_values.specs.Kept.{is_operand}
 use Rattle.lpd_values.specs.Kinds.{is_word_octet}
 use Rattle.lpd_values.specs.declared.limits.TheConstants.{MAX_FILES}
-use Rattle.lpd_words.specs.Asked.{AreAllowed, AreLimits, IsAddress, IsAsked, IsGiven, IsGivenOr, IsLimit}
-use Rattle.lpd_words.specs.Asked.{IsSending, IsServing}
+use Rattle.lpd_words.specs.Asked.{IsAsked}
+use Rattle.lpd_words.specs.Serving.{AreAllowed, AreLimits, IsAddress}
+use Rattle.lpd_words.specs.Values.{IsGiven, IsGivenOr, IsLimit}
+use Rattle.lpd_words.specs.Asked.{IsSending}
+use Rattle.lpd_words.specs.Serving.{IsServing}
 use Rattle.lpd_words.specs.CommandLine.{command_line}
 use Rattle.lpd_words.specs.declared.envelope.WordFault.{WordFault}
 use Rattle.lpd_words.specs.declared.envelope.WordFault.TheVariants as envelope

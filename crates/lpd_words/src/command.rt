@@ -1,19 +1,18 @@
 //! The command line, as `clap` reads it.
 
-ghost use Rattle.std.specs.Prelude.{◌≡◌, IfOk, false, map};
-ghost use Rattle.clap.specs.Words.{app_of, new_app, rule_of};
-ghost use Rattle.clap.specs.declared.builder.command.Command.TheViews.{out-Command as fields_of};
-ghost use Rattle.lpd_words.specs.CommandLine.{AreLocal, IsCommand, IsWord, check_app, command_line};
-ghost use Rattle.lpd_words.specs.CommandLine.{count, flag, listening_port, number, number_option};
-ghost use Rattle.lpd_words.specs.CommandLine.{option, program_app, repeated, replay_app, send_app};
-ghost use Rattle.lpd_words.specs.CommandLine.{serve_app, with_rules, word, words};
+ghost use Rattle.std.specs.Prelude.{◌≡◌, IfOk};
+ghost use Rattle.clap.specs.Words.{app_of};
+ghost use Rattle.lpd_words.specs.CommandLine.{check_app, command_line, program_app, replay_app, send_app};
+ghost use Rattle.lpd_words.specs.Rules.{IsCommand};
 
+use crate::rules::{flag, number, plain, with_words, word, words};
+use crate::serving::serve;
+use clap::Command;
 use clap::builder::ValueParser;
-use clap::{Arg, ArgAction, Command};
 use std::alloc::{AllocError, Global};
 
 /// What a configuration's file is.
-const CONFIG: &str = "The file of the configuration, in TOML";
+pub(crate) const CONFIG: &str = "The file of the configuration, in TOML";
 
 /// What `--help` says at its end.
 const MORE: &str = "\
@@ -61,115 +60,6 @@ number in three digits. A word that begins with - stands behind a word --.
 Example:
   lpd_server send 515 lp 1 myhost ann letter.txt";
 
-const MORE_OF_SERVE: &str = "\
-Prints `listening N` with its port, `rotated K entries E` when the account is rotated, and after the last
-connection, where there is one, `closed entries E`. The pages of printer K are written to DIR/printer-K, at its end.
-Sessions that fail are told on standard error.
-
-Examples:
-  lpd_server serve spool.toml --port 515 --keep-room
-  lpd_server serve spool.toml --port 5150 --bind 0.0.0.0 --out pages --sessions 16 --silence 60
-  lpd_server serve spool.toml --port 5150 --connections 1";
-
-/// A word that has to be there.
-fn word<'a>(alloc: Global, id: &'a str, name: &'a str, help: &'a str) -> Arg<'a>
-    ensures { IsWord result (word id.now) }
-{
-    Arg::new(alloc, id)
-        .value_name(name)
-        .help(help)
-        .required(true)
-}
-
-/// One word or more, up to 52, that have to be there.
-fn words<'a>(alloc: Global, id: &'a str, name: &'a str, help: &'a str) -> Arg<'a>
-    ensures { IsWord result (words id.now) }
-{
-    word(alloc, id, name, help).num_args(1..=52)
-}
-
-/// An option with one value, `--ID NAME`, that may stand several times.
-fn repeated<'a>(alloc: Global, id: &'a str, name: &'a str, help: &'a str) -> Arg<'a>
-    ensures { IsWord result (repeated id.now) }
-{
-    option(alloc, id, name, help).action(ArgAction::Append)
-}
-
-/// An option with one value, `--ID NAME`.
-fn option<'a>(alloc: Global, id: &'a str, name: &'a str, help: &'a str) -> Arg<'a>
-    ensures { IsWord result (option id.now) }
-{
-    Arg::new(alloc, id).value_name(name).help(help).long(id)
-}
-
-/// A word that has to be there, a number of a range.
-fn number<'a>(
-    alloc: Global,
-    id: &'a str,
-    name: &'a str,
-    help: &'a str,
-    range: ValueParser<'a>,
-) -> Arg<'a>
-    ensures { IsWord result (number id.now range.entry) }
-{
-    word(alloc, id, name, help).value_parser(range)
-}
-
-/// An option whose value is a number of a range.
-fn number_option<'a>(
-    alloc: Global,
-    id: &'a str,
-    name: &'a str,
-    help: &'a str,
-    range: ValueParser<'a>,
-) -> Arg<'a>
-    ensures { IsWord result (number_option id.now range.entry) }
-{
-    option(alloc, id, name, help).value_parser(range)
-}
-
-/// An option whose value counts something.
-fn count<'a>(alloc: Global, id: &'a str, name: &'a str, help: &'a str) -> Arg<'a>
-    ensures { IsWord result (count id.now) }
-{
-    number_option(alloc, id, name, help, ValueParser::signed(1, 4_294_967_295))
-}
-
-/// An option without a value, `--ID`.
-fn flag<'a>(alloc: Global, id: &'a str, help: &'a str) -> Arg<'a>
-    ensures { IsWord result (flag id.now) }
-{
-    Arg::new(alloc, id)
-        .long(id)
-        .help(help)
-        .action(ArgAction::SetTrue)
-}
-
-/// The option that has to be there, the port to listen on.
-fn listening_port<'a>(alloc: Global) -> Arg<'a>
-    ensures { IsWord result listening_port }
-{
-    let help = "The port to listen on: 1 to 65535";
-    number_option(alloc, "port", "PORT", help, ValueParser::signed(1, 65_535)).required(true)
-}
-
-/// A command of this name without words.
-fn plain<'a>(alloc: Global, name: &'a str, about: &'a str, more: &'a str) -> Command<'a>
-    ensures { IsCommand result (new_app name.now) }
-{
-    Command::new(alloc, name).about(about).after_help(more)
-}
-
-/// A command with these words more, in order.
-fn with_words<'a>(command: Command<'a>, words: Vec<Arg<'a>>) -> Result<Command<'a>, AllocError>
-    requires words { AreLocal words.items }
-    requires before { (fields_of command).has_globals ≡ false }
-    ensures { IfOk result (λ r.
-        IsCommand r (with_rules (app_of command.entry) (map rule_of words.entry.items))) }
-{
-    command.args(words)
-}
-
 /// The command that reads a configuration.
 fn check<'a>(alloc: Global) -> Result<Command<'a>, AllocError>
     ensures { IfOk result (λ command. IsCommand command check_app) }
@@ -215,44 +105,6 @@ fn send<'a>(alloc: Global) -> Result<Command<'a>, AllocError>
         words(alloc, "file", "FILE", files),
     ]?;
     with_words(plain(alloc, "send", about, MORE_OF_SEND), words)
-}
-
-/// The command that serves.
-fn serve<'a>(alloc: Global) -> Result<Command<'a>, AllocError>
-    ensures { IfOk result (λ command. IsCommand command serve_app) }
-{
-    let about = "Serves the queues of a configuration to the network";
-    let bind = "The IPv4 address to listen on [default: 127.0.0.1]";
-    let out = "The directory of the printers' files [default: .]";
-    let sessions = "How many connections are served at once: 1 to 64 [default: 8]";
-    let connections = "Ends after so many connections [default: none is the last]";
-    let rotate = "Rotates the account after each so many connections";
-    let silence = "Ends a session whose peer is silent for so many seconds";
-    let per_host = "Serves at most so many connections of one address at once";
-    let slowest = "Ends a session whose peer sends less than so many octets a second for a minute";
-    let keep_room = "Rotates the account as soon as no job is held, and has new jobs wait for that";
-    let allow = "Lets in this network alone, and each other that is named so, as 10.0.0.0/8";
-    let words = vec![in alloc;
-        word(alloc, "config", "CONFIG", CONFIG),
-        listening_port(alloc),
-        option(alloc, "bind", "BIND", bind),
-        option(alloc, "out", "DIR", out),
-        number_option(
-            alloc,
-            "sessions",
-            "SESSIONS",
-            sessions,
-            ValueParser::signed(1, 64)
-        ),
-        count(alloc, "connections", "CONNECTIONS", connections),
-        count(alloc, "rotate", "ROTATE", rotate),
-        count(alloc, "silence", "SECONDS", silence),
-        count(alloc, "per-host", "SESSIONS", per_host),
-        count(alloc, "slowest", "OCTETS", slowest),
-        flag(alloc, "keep-room", keep_room),
-        repeated(alloc, "allow", "NETWORK", allow),
-    ]?;
-    with_words(plain(alloc, "serve", about, MORE_OF_SERVE), words)
 }
 
 /// The program without its commands.

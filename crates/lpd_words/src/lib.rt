@@ -7,7 +7,10 @@ mod fault;
 mod files;
 mod naming;
 mod readers;
+mod rules;
 mod running;
+mod serving;
+mod values;
 mod words;
 
 pub use envelope::{Envelope, WordFault};

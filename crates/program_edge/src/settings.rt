@@ -1,6 +1,10 @@
 //! How a server is to run.
 
+ghost use Rattle.std.specs.Prelude.{◌≡◌, [], None, codes, false};
+ghost use Rattle.std.specs.declared.net.ipv4_addr.TheConstants.Ipv4Addr.{LOCALHOST};
+
 use crate::networks::Network;
+use std::alloc::Global;
 use std::net::Ipv4Addr;
 use std::num::NonZeroU64;
 
@@ -10,6 +14,13 @@ pub const MOST_SESSIONS: u32 = 64;
 /// For how many seconds a peer whose connection brings no job may be silent, or not read, where a
 /// session serves such ones alone: what the program's words give.
 pub const NO_JOB_SECONDS: u64 = 5;
+
+/// For how many seconds octets that come after the end of a session are passed over: what the
+/// program's words give.
+pub const LEAVE_SECONDS: u64 = 5;
+
+/// For how many milliseconds new jobs wait for room in the account: what the program's words give.
+pub const ROOM_MS: u64 = 1_000;
 
 /// How a server is to run.
 #[derive(Debug, Drop)]
@@ -36,6 +47,36 @@ pub struct Settings<'a> {
     pub allowed: Vec<Network>,
 }
 
+impl<'a> Settings<'a> {
+    /// A server at this port of 127.0.0.1, for this computer's own clients, with 8 sessions and the
+    /// printers' files in the directory `.`, of which nothing else is said.
+    pub fn new(alloc: Global, port: u16) -> Settings<'a>
+        ensures bind { result.bind ≡ LOCALHOST }
+        ensures port { result.port ≡ port }
+        ensures out { result.out.now ≡ codes "." }
+        ensures sessions { result.sessions ≡ 8 }
+        ensures connections { result.connections ≡ None }
+        ensures rotate { result.rotate ≡ None }
+        ensures keep_room { result.keep_room ≡ false }
+        ensures limits { (result.limits.silence ≡ None) × (result.limits.per_host ≡ None)
+            × (result.limits.slowest ≡ None) × (result.limits.no_job_seconds ≡ 5)
+            × (result.limits.leave_seconds ≡ 5) × (result.limits.room_ms ≡ 1000) }
+        ensures allowed { result.allowed.items ≡ [] }
+    {
+        Settings {
+            bind: Ipv4Addr::LOCALHOST,
+            port,
+            out: ".",
+            sessions: 8,
+            connections: None,
+            rotate: None,
+            keep_room: false,
+            limits: Limits::NONE,
+            allowed: Vec::new(alloc),
+        }
+    }
+}
+
 /// What the peers of a server may do. Where a number isn't given there is no limit.
 #[derive(Clone, Copy, Debug)]
 pub struct Limits {
@@ -50,6 +91,10 @@ pub struct Limits {
     /// For how many seconds, 1 at the least, a session that serves no jobs waits for its peer at
     /// each read and at each write, before it ends.
     pub no_job_seconds: u64,
+    /// For how many seconds octets that come after the end of a session are passed over, at most.
+    pub leave_seconds: u64,
+    /// For how many milliseconds new jobs wait for room in the account, where it is kept, at most.
+    pub room_ms: u64,
 }
 
 impl Limits {
@@ -59,5 +104,7 @@ impl Limits {
         per_host: None,
         slowest: None,
         no_job_seconds: NO_JOB_SECONDS,
+        leave_seconds: LEAVE_SECONDS,
+        room_ms: ROOM_MS,
     };
 }

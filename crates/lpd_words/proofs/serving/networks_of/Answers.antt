@@ -1,7 +1,7 @@
 use Rattle.std.proofs.Common.{◌≡◌, ◌++◌, ◌∷◌, [], add-one, subst, unwrap_or}
 use Rattle.program_edge.specs.Networks.{IsNetworkText, NameNetworks}
 use Rattle.lpd_words.proofs.AllowLemmas.{one_more_named, one_names_none}
-use Rattle.lpd_words.proofs.words.networks_of.Goals as goal
+use Rattle.lpd_words.proofs.serving.networks_of.Goals as goal
 
 pub returns-in-None-clause-fault : goal.returns-in-None-clause-fault
 returns-in-None-clause-fault c = (

@@ -2,7 +2,7 @@ use Rattle.std.proofs.Common.{◌∙◌}
 use Rattle.clap.specs.Words.{found_of}
 use Rattle.clap.proofs.WalkLemmas.{first_value-rows}
 use Rattle.lpd_words.proofs.ServingLemmas.{text_or}
-use Rattle.lpd_words.proofs.words.text_or.Goals as goal
+use Rattle.lpd_words.proofs.values.text_or.Goals as goal
 
 pub returns : goal.returns
 returns c =

@@ -3,7 +3,7 @@ use Rattle.std.specs.Str.Parse.{ExplainsUnsignedError, HasUnsignedDigitsIfOk}
 use Rattle.clap.specs.Words.{found_of, rows_of}
 use Rattle.clap.proofs.WalkLemmas.{one_text-rows}
 use Rattle.lpd_words.proofs.AskedLemmas.{no_number, number_read}
-use Rattle.lpd_words.proofs.words.number_of.Goals as goal
+use Rattle.lpd_words.proofs.values.number_of.Goals as goal
 
 pub returns-clause-number : goal.returns-clause-number
 returns-clause-number c =

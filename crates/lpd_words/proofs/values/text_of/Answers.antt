@@ -2,7 +2,7 @@ use Rattle.std.proofs.Common.{◌∙◌}
 use Rattle.clap.specs.Words.{found_of}
 use Rattle.clap.proofs.WalkLemmas.{first_value-rows}
 use Rattle.lpd_words.proofs.AskedLemmas.{no_text, text_read}
-use Rattle.lpd_words.proofs.words.text_of.Goals as goal
+use Rattle.lpd_words.proofs.values.text_of.Goals as goal
 
 pub returns-clause-text : goal.returns-clause-text
 returns-clause-text c =

@@ -1,5 +1,5 @@
-use Rattle.lpd_words.proofs.command.serve.Goals as goal
-use Rattle.lpd_words.specs.CommandLine.{serve_words}
+use Rattle.lpd_words.proofs.serving.serve.Goals as goal
+use Rattle.lpd_words.specs.Serving.{serve_words}
 use Rattle.lpd_words.proofs.CommandLemmas.{ok_rules}
 
 pub with_words-requires-clause-words : goal.with_words-requires-clause-words

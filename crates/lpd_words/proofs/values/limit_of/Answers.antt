@@ -1,6 +1,6 @@
 use Rattle.clap.specs.Words.{found_of, rows_of}
 use Rattle.lpd_words.proofs.ServingLemmas.{no_limit}
-use Rattle.lpd_words.proofs.words.limit_of.Goals as goal
+use Rattle.lpd_words.proofs.values.limit_of.Goals as goal
 
 pub returns-in-Err-clause-fault : goal.returns-in-Err-clause-fault
 returns-in-Err-clause-fault c =

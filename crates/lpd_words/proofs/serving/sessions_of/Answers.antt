@@ -3,7 +3,7 @@ use Rattle.std.specs.Str.Parse.{ExplainsUnsignedError, HasUnsignedDigitsIfOk}
 use Rattle.clap.specs.Words.{found_of, rows_of}
 use Rattle.clap.proofs.WalkLemmas.{one_text-rows}
 use Rattle.lpd_words.proofs.ServingLemmas.{none_given, number_given}
-use Rattle.lpd_words.proofs.words.sessions_of.Goals as goal
+use Rattle.lpd_words.proofs.serving.sessions_of.Goals as goal
 
 pub returns-in-Ok-clause-sessions : goal.returns-in-Ok-clause-sessions
 returns-in-Ok-clause-sessions c =

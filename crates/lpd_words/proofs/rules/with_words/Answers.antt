@@ -1,4 +1,4 @@
-use Rattle.lpd_words.proofs.command.with_words.Goals as goal
+use Rattle.lpd_words.proofs.rules.with_words.Goals as goal
 use Rattle.lpd_words.proofs.CommandLemmas.{ok_words}
 
 pub returns : goal.returns

@@ -2,7 +2,7 @@ use Rattle.std.proofs.Common.{◌∙◌}
 use Rattle.clap.specs.Words.{found_of}
 use Rattle.clap.proofs.WalkLemmas.{raw_values-rows}
 use Rattle.lpd_words.proofs.AskedLemmas.{no_texts, texts_read}
-use Rattle.lpd_words.proofs.words.texts_of.Goals as goal
+use Rattle.lpd_words.proofs.values.texts_of.Goals as goal
 
 pub returns-clause-texts : goal.returns-clause-texts
 returns-clause-texts c =

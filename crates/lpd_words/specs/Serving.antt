@@ -1,0 +1,62 @@
+-- The words of `serve`: as clap sees them, and what they say.
+use Rattle.std.specs.Prelude.{◌≡◌, ◌∷◌, List, codes, option_map, pos, true, [], unwrap_or}
+use Rattle.std.specs.Int.NonZero.{non_zero_u64_get}
+use Rattle.std.specs.Net.Grammar.{IsIpv4Text}
+use Rattle.std.specs.declared.net.ipv4_addr.Ipv4Addr.{Ipv4Addr}
+use Rattle.clap.specs.Words.{App, Row, Rule, all_of, first_of, new_app}
+use Rattle.clap.specs.declared.builder.value_parser.ValueParser.TheVariants as parser
+use Rattle.lpd_words.specs.Rules.{count, flag, number_option, option, repeated, with_rules, word}
+use Rattle.lpd_words.specs.Values.{IsFlag, IsGiven, IsGivenOr, IsLimit, IsNumber}
+use Rattle.program_edge.specs.Networks.{NameNetworks}
+use Rattle.program_edge.specs.declared.networks.Network.{Network}
+use Rattle.program_edge.specs.declared.settings.Limits.{Limits}
+use Rattle.program_edge.specs.declared.settings.Settings.{Settings}
+
+-- the port to listen on, which has to be there
+abbrev pub listening_port : Rule
+listening_port =
+    record (number_option (codes "port") (parser.Signed (pos 1) (pos 65535))) { required = true }
+
+abbrev pub sessions : Rule
+sessions = number_option (codes "sessions") (parser.Signed (pos 1) (pos 64))
+
+-- the words and options of `serve`
+abbrev pub serve_words : List Rule
+serve_words =
+    word (codes "config") ∷ listening_port ∷ option (codes "bind") ∷ option (codes "out")
+    ∷ sessions ∷ count (codes "connections") ∷ count (codes "rotate") ∷ count (codes "silence")
+    ∷ count (codes "per-host") ∷ count (codes "slowest") ∷ flag (codes "keep-room")
+    ∷ repeated (codes "allow") ∷ []
+
+abbrev pub serve_app : App
+serve_app = with_rules (new_app (codes "serve")) serve_words
+
+-- the address that is listened on: 127.0.0.1 where no other is given
+abbrev pub IsAddress : List Row → Ipv4Addr → Type 0
+IsAddress rows address =
+    IsIpv4Text (unwrap_or (first_of (codes "bind") rows) (codes "127.0.0.1")) address
+
+-- a server's peers may do what these rows say
+pub record AreLimits (rows : List Row) (limits : Limits) : Type 0 where
+  pub silence : IsLimit rows (codes "silence") (option_map non_zero_u64_get limits.silence)
+  pub per_host : IsLimit rows (codes "per-host") (option_map non_zero_u64_get limits.per_host)
+  pub slowest : IsLimit rows (codes "slowest") (option_map non_zero_u64_get limits.slowest)
+  pub no_job_seconds : limits.no_job_seconds ≡ 5
+  pub leave_seconds : limits.leave_seconds ≡ 5
+  pub room_ms : limits.room_ms ≡ 1000
+
+-- these networks are let in: those that the option names, each time that it is there, in order
+abbrev pub AreAllowed : List Row → List Network → Type 0
+AreAllowed rows networks = NameNetworks (unwrap_or (all_of (codes "allow") rows) []) networks
+
+-- a server runs as these rows say: with 8 sessions at once, in the directory . where they don't say it
+pub record IsServing (rows : List Row) (settings : Settings) : Type 0 where
+  pub port : IsNumber rows (codes "port") settings.port
+  pub bind : IsAddress rows settings.bind
+  pub out : settings.out.now ≡ unwrap_or (first_of (codes "out") rows) (codes ".")
+  pub sessions : IsGivenOr 8 rows (codes "sessions") settings.sessions
+  pub connections : IsGiven 64 rows (codes "connections") settings.connections
+  pub rotate : IsLimit rows (codes "rotate") (option_map non_zero_u64_get settings.rotate)
+  pub keep_room : IsFlag rows (codes "keep-room") settings.keep_room
+  pub limits : AreLimits rows settings.limits
+  pub allowed : AreAllowed rows settings.allowed.items

@@ -1,0 +1,167 @@
+//! The words of `serve`: as `clap` is told them, and what they say.
+
+ghost use Rattle.std.specs.Prelude.{◌≡◌, IfOk, IfErr, codes};
+ghost use Rattle.clap.specs.Words.{found_of, rows_of};
+ghost use Rattle.lpd_words.specs.Refused.{HasNoAddress, HasNoLimits, HasNoNetworks, HasNoSessions};
+ghost use Rattle.lpd_words.specs.Refused.{LacksServing};
+ghost use Rattle.lpd_words.specs.Rules.{IsCommand, IsWord};
+ghost use Rattle.lpd_words.specs.Serving.{AreAllowed, AreLimits, IsAddress, IsServing, listening_port};
+ghost use Rattle.lpd_words.specs.Serving.{serve_app};
+ghost use Rattle.lpd_words.specs.Values.{IsGivenOr};
+ghost use Rattle.lpd_words.specs.declared.envelope.WordFault.TheVariants.{Address, Missing};
+
+use crate::command::CONFIG;
+use crate::envelope::WordFault;
+use crate::rules::{count, flag, number_option, option, plain, repeated, with_words, word};
+use crate::values::{count_of, flag_of, limit_of, number_of, text_or, texts_of};
+use clap::builder::ValueParser;
+use clap::{Arg, ArgMatches, Command};
+use program_edge::{LEAVE_SECONDS, Limits, NO_JOB_SECONDS, Network, ROOM_MS, Settings};
+use std::alloc::{AllocError, Global};
+use std::net::Ipv4Addr;
+
+/// How many connections are served at once where the words don't say it.
+const SESSIONS: u32 = 8;
+
+/// The address that is listened on where the words don't say it.
+const BIND: &str = "127.0.0.1";
+
+/// The directory of the printers' files where the words don't say it.
+const OUT: &str = ".";
+
+const MORE_OF_SERVE: &str = "\
+Prints `listening N` with its port, `rotated K entries E` when the account is rotated, and after the last
+connection, where there is one, `closed entries E`. The pages of printer K are written to DIR/printer-K, at its end.
+Sessions that fail are told on standard error.
+
+Examples:
+  lpd_server serve spool.toml --port 515 --keep-room
+  lpd_server serve spool.toml --port 5150 --bind 0.0.0.0 --out pages --sessions 16 --silence 60
+  lpd_server serve spool.toml --port 5150 --connections 1";
+
+/// The option that has to be there, the port to listen on.
+fn listening_port<'a>(alloc: Global) -> Arg<'a>
+    ensures { IsWord result listening_port }
+{
+    let help = "The port to listen on: 1 to 65535";
+    number_option(alloc, "port", "PORT", help, ValueParser::signed(1, 65_535)).required(true)
+}
+
+/// The command that serves.
+pub(crate) fn serve<'a>(alloc: Global) -> Result<Command<'a>, AllocError>
+    ensures { IfOk result (λ command. IsCommand command serve_app) }
+{
+    let about = "Serves the queues of a configuration to the network";
+    let bind = "The IPv4 address to listen on [default: 127.0.0.1]";
+    let out = "The directory of the printers' files [default: .]";
+    let sessions = "How many connections are served at once: 1 to 64 [default: 8]";
+    let connections = "Ends after so many connections [default: none is the last]";
+    let rotate = "Rotates the account after each so many connections";
+    let silence = "Ends a session whose peer is silent for so many seconds";
+    let per_host = "Serves at most so many connections of one address at once";
+    let slowest = "Ends a session whose peer sends less than so many octets a second for a minute";
+    let keep_room = "Rotates the account as soon as no job is held, and has new jobs wait for that";
+    let allow = "Lets in this network alone, and each other that is named so, as 10.0.0.0/8";
+    let words = vec![in alloc;
+        word(alloc, "config", "CONFIG", CONFIG),
+        listening_port(alloc),
+        option(alloc, "bind", "BIND", bind),
+        option(alloc, "out", "DIR", out),
+        number_option(
+            alloc,
+            "sessions",
+            "SESSIONS",
+            sessions,
+            ValueParser::signed(1, 64)
+        ),
+        count(alloc, "connections", "CONNECTIONS", connections),
+        count(alloc, "rotate", "ROTATE", rotate),
+        count(alloc, "silence", "SECONDS", silence),
+        count(alloc, "per-host", "SESSIONS", per_host),
+        count(alloc, "slowest", "OCTETS", slowest),
+        flag(alloc, "keep-room", keep_room),
+        repeated(alloc, "allow", "NETWORK", allow),
+    ]?;
+    with_words(plain(alloc, "serve", about, MORE_OF_SERVE), words)
+}
+
+/// The address to listen on. `Address` where the text isn't one.
+fn address_of(matches: &ArgMatches) -> Result<Ipv4Addr, WordFault>
+    ensures address { IfOk result (IsAddress (rows_of (found_of matches.now))) }
+    ensures fault { IfErr result (λ fault. (fault ≡ Address)
+        × HasNoAddress (rows_of (found_of matches.now))) }
+{
+    match text_or(matches, "bind", BIND).parse() {
+        Ok(address) => Ok(address),
+        Err(_) => Err(WordFault::Address),
+    }
+}
+
+/// How many connections are served at once. `Missing` where the option is no number.
+fn sessions_of(matches: &ArgMatches) -> Result<u32, WordFault>
+    ensures sessions { IfOk result
+        (IsGivenOr 8 (rows_of (found_of matches.now)) (codes "sessions")) }
+    ensures fault { IfErr result (λ fault. (fault ≡ Missing)
+        × HasNoSessions (rows_of (found_of matches.now))) }
+{
+    match matches.try_get_one::<u32>("sessions") {
+        Ok(sessions) => Ok(sessions.unwrap_or(SESSIONS)),
+        Err(_) => Err(WordFault::Missing),
+    }
+}
+
+/// What words say of a server's peers. `Missing` where an option is no number above 0.
+fn limits_of(matches: &ArgMatches) -> Result<Limits, WordFault>
+    ensures limits { IfOk result (AreLimits (rows_of (found_of matches.now))) }
+    ensures fault { IfErr result (λ fault. (fault ≡ Missing)
+        × HasNoLimits (rows_of (found_of matches.now))) }
+{
+    Ok(Limits {
+        silence: limit_of(matches, "silence")?,
+        per_host: limit_of(matches, "per-host")?,
+        slowest: limit_of(matches, "slowest")?,
+        no_job_seconds: NO_JOB_SECONDS,
+        leave_seconds: LEAVE_SECONDS,
+        room_ms: ROOM_MS,
+    })
+}
+
+/// The networks that are let in. `Network` with the first text that names none, and `Memory`.
+fn networks_of(alloc: Global, matches: &ArgMatches) -> Result<Vec<Network>, WordFault>
+    ensures networks { IfOk result (λ networks.
+        AreAllowed (rows_of (found_of matches.now)) networks.items) }
+    ensures fault { IfErr result (HasNoNetworks (rows_of (found_of matches.now))) }
+{
+    let mut networks = Vec::new(alloc);
+    let Ok(texts) = texts_of(matches, "allow") else {
+        return Ok(networks);
+    };
+    for text in texts {
+        match Network::read(text) {
+            Some(network) => networks.push(network)?,
+            None => return Err(WordFault::Network(String::from_str(alloc, text)?)),
+        }
+    }
+    Ok(networks)
+}
+
+/// What words say of a server that is to run.
+pub(crate) fn serving_of<'a>(
+    alloc: Global,
+    matches: &ArgMatches<'a>,
+) -> Result<Settings<'a>, WordFault>
+    ensures read { IfOk result (IsServing (rows_of (found_of matches.now))) }
+    ensures fault { IfErr result (LacksServing (rows_of (found_of matches.now))) }
+{
+    Ok(Settings {
+        port: number_of(matches, "port")?,
+        bind: address_of(matches)?,
+        out: text_or(matches, "out", OUT),
+        sessions: sessions_of(matches)?,
+        connections: count_of(matches, "connections")?,
+        rotate: limit_of(matches, "rotate")?,
+        keep_room: flag_of(matches, "keep-room"),
+        limits: limits_of(matches)?,
+        allowed: networks_of(alloc, matches)?,
+    })
+}
