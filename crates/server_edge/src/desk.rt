@@ -1,8 +1,10 @@
 //! Handing connections on to sessions that are free.
 
-ghost use Rattle.std.specs.Prelude.{◌≡◌, ◌≢◌, ◌↔◌, ◌+◌, ◌-◌, ◌^◌, IsSome, IsTrue, Some, min};
-ghost use Rattle.server_edge.specs.Desk.{HasPlace, IsFree};
-ghost use Rattle.server_edge.specs.declared.desk.Serves.TheVariants.{NoJobs};
+ghost use Rattle.std.specs.Prelude.{◌≡◌, ◌≢◌, ◌↔◌, ◌<◌, ◌+◌, ◌-◌, ◌^◌, ◌++◌, ◌∷◌, [], ℕ};
+ghost use Rattle.std.specs.Prelude.{IfSome, IsSome, IsTrue, None, Some, false, length, min, slice_get};
+ghost use Rattle.server_edge.specs.Desk.{HasPlace, IsFirstFree, IsFree, IsFreeFor, IsNoneFree};
+ghost use Rattle.server_edge.specs.Desk.{of_host};
+ghost use Rattle.server_edge.specs.declared.desk.Serves.TheVariants.{All, NoJobs};
 ghost use Rattle.server_edge.specs.declared.first_line.Errand.TheVariants.{Job, Listing};
 
 use crate::first_line::Errand;
@@ -34,7 +36,10 @@ struct Window {
 
 impl Window {
     /// Takes one off, where one is free. Whether it has.
-    fn take_one(&mut self) -> bool {
+    fn take_one(&mut self) -> bool
+        ensures taken { IsTrue result ↔ 0 < self.old.free }
+        ensures left { self.new.free ≡ self.old.free - 1 }
+    {
         if self.free == 0 {
             return false;
         }
@@ -43,9 +48,24 @@ impl Window {
     }
 
     /// One more is free.
-    fn give_one(&mut self) {
+    fn give_one(&mut self)
+        ensures { self.new.free ≡ min (self.old.free + 1) (2 ^ 32 - 1) }
+    {
         self.free = self.free.saturating_add(1);
     }
+}
+
+/// The first place of a host among these. None where it has none.
+fn place_of(hosts: &[u32], host: u32) -> Option<usize>
+    ensures place { IfSome result (λ at. slice_get hosts.now at ≡ Some host) }
+    ensures none { result ≡ None → of_host host hosts.now ≡ 0 }
+{
+    for at in 0..hosts.len() {
+        if hosts[at] == host {
+            return Some(at);
+        }
+    }
+    None
 }
 
 /// What is under the lock.
@@ -63,10 +83,13 @@ struct Hall {
 }
 
 impl Hall {
-    fn window(&mut self, serves: Serves) -> &mut Window {
+    /// A session is free again.
+    fn give_one(&mut self, serves: Serves)
+        ensures wanted { self.new.wanted ≡ self.old.wanted }
+    {
         match serves {
-            Serves::All => &mut self.all,
-            Serves::NoJobs => &mut self.no_jobs,
+            Serves::All => self.all.give_one(),
+            Serves::NoJobs => self.no_jobs.give_one(),
         }
     }
 
@@ -93,6 +116,30 @@ impl Hall {
         }
     }
 
+    /// The place of the first of these for which a session is free. Where there is none, somebody wants one.
+    fn first_free(&mut self, waiting: &VecDeque<Ready>) -> Option<usize>
+        ensures first { IfSome result (IsFirstFree (IsFreeFor self.old) waiting.now.items) }
+        ensures none { result ≡ None
+            → IsNoneFree (IsFreeFor self.old) waiting.now.items (length waiting.now.items) }
+    {
+        for at in 0..waiting.len() {
+            if self.is_free(waiting[at]) {
+                return Some(at);
+            }
+        }
+        self.wanted |= !waiting.is_empty();
+        None
+    }
+
+    /// A session is free. Whether somebody wants one, which is told once.
+    fn come(&mut self, serves: Serves) -> bool
+        ensures told { result ≡ self.old.wanted }
+        ensures once { self.new.wanted ≡ false }
+    {
+        self.give_one(serves);
+        mem::replace(&mut self.wanted, false)
+    }
+
     /// Takes a session that is free for one that comes for this: one that brings no job takes one for no jobs first, so that
     /// the others stay free for jobs. Answers which; None where none is free, or memory is refused.
     fn hand(&mut self, errand: Errand, host: u32) -> Option<Serves>
@@ -100,6 +147,10 @@ impl Hall {
         ensures listing { errand ≡ Listing → IsSome result
             → self.new.listings ≡ min (self.old.listings + 1) (2 ^ 32 - 1) }
         ensures other { errand ≢ Listing → self.new.listings ≡ self.old.listings }
+        ensures no_jobs { errand ≢ Job → 0 < self.old.no_jobs.free → result ≡ Some NoJobs }
+        ensures share { result ≡ Some All
+            → self.new.hosts.items ≡ self.old.hosts.items ++ host ∷ [] }
+        ensures no_share { result ≢ Some All → self.new.hosts.items ≡ self.old.hosts.items }
     {
         let serves = if !matches!(errand, Errand::Job) && self.no_jobs.take_one() {
             Some(Serves::NoJobs)
@@ -122,12 +173,17 @@ impl Hall {
     fn leave(&mut self, serves: Serves, errand: Errand, host: u32)
         ensures listing { errand ≡ Listing → self.new.listings ≡ self.old.listings - 1 }
         ensures other { errand ≢ Listing → self.new.listings ≡ self.old.listings }
+        ensures no_jobs { serves ≡ NoJobs → self.new.hosts ≡ self.old.hosts }
+        ensures share { serves ≡ All
+            → of_host host self.new.hosts.items ≡ of_host host self.old.hosts.items - 1 }
+        ensures others { (other : ℕ) → other ≢ host
+            → of_host other self.new.hosts.items ≡ of_host other self.old.hosts.items }
     {
         if matches!(errand, Errand::Listing) {
             self.listings = self.listings.saturating_sub(1);
         }
         if matches!(serves, Serves::All) {
-            if let Some(at) = self.hosts.iter().position(|other| *other == host) {
+            if let Some(at) = place_of(self.hosts.as_slice(), host) {
                 self.hosts.remove(at);
             }
         }
@@ -166,7 +222,7 @@ impl Doors {
         if !is_sent {
             let mut hall = desk.hall.lock(rt);
             hall.leave(serves, errand, host);
-            hall.window(serves).give_one();
+            hall.give_one(serves);
         }
         is_sent
     }
@@ -195,24 +251,14 @@ impl Desk {
     }
 
     /// Takes out the first of these for which a session is free. Only whoever hands on takes that away. Where there is none, the
-    /// next session that is free says so. Where no session is free that serves them, none of them is looked at.
+    /// next session that is free says so.
     pub(crate) fn first_free<R: Wait>(
         &self,
         rt: &R,
         waiting: &mut VecDeque<Ready>,
     ) -> Option<Ready> {
-        let mut hall = self.hall.lock(rt);
-        for (at, ready) in waiting.iter().enumerate() {
-            let is_job = matches!(ready.errand, Errand::Job);
-            if hall.all.free == 0 && (is_job || hall.no_jobs.free == 0) {
-                break;
-            }
-            if hall.is_free(*ready) {
-                return waiting.remove(at);
-            }
-        }
-        hall.wanted |= !waiting.is_empty();
-        None
+        let at = self.hall.lock(rt).first_free(waiting)?;
+        waiting.remove(at)
     }
 
     /// Whether a session is free for this one. Only whoever hands on takes that away. Where none is, the next session that is
@@ -235,8 +281,7 @@ impl Desk {
     /// it is woken while the session is free.
     pub fn take<R: Wait>(&self, rt: &R, serves: Serves, waker: &Waker) -> Option<Visit> {
         let mut hall = self.hall.lock(rt);
-        hall.window(serves).give_one();
-        if mem::replace(&mut hall.wanted, false) {
+        if hall.come(serves) {
             let _ = waker.wake();
         }
         drop(hall);

@@ -1,8 +1,9 @@
 //! The places of connections that wait, and in which order those that are ready are handed on.
 
-ghost use Rattle.std.specs.Prelude.{◌≡◌};
+ghost use Rattle.std.specs.Prelude.{◌≡◌, ◌≢◌, ◌++◌, ◌∷◌, [], IfSome, OnOk};
 ghost use Rattle.std.specs.Net.Socket.{socket_ip};
 ghost use Rattle.server_edge.specs.Hosts.{host_number};
+ghost use Rattle.server_edge.specs.declared.first_line.Errand.TheVariants.{Job};
 
 use crate::first_line::{Errand, FIRST_LINE_OCTETS, errand_of, is_whole};
 use crate::guests::{Guest, Stage, who_leaves};
@@ -105,7 +106,9 @@ impl WaitingRoom {
 
     /// The first guest whose first line isn't whole, where nobody is ready, as one that brings a job. A session for all waits for
     /// its line as long as its peer may be silent.
-    pub(crate) fn last_guest(&self) -> Option<Ready> {
+    pub(crate) fn last_guest(&self) -> Option<Ready>
+        ensures { IfSome result (λ ready. ready.errand ≡ Job) }
+    {
         if !self.jobs.is_empty() || !self.others.is_empty() {
             return None;
         }
@@ -147,6 +150,20 @@ impl WaitingRoom {
         Some(visit)
     }
 
+    /// One more is ready, behind those that were before: jobs among jobs.
+    fn line_up(&mut self, ready: Ready) -> Result<(), AllocError>
+        ensures job { ready.errand ≡ Job → OnOk result
+            (self.new.jobs.items ≡ self.old.jobs.items ++ ready ∷ []) }
+        ensures other { ready.errand ≢ Job → OnOk result
+            (self.new.others.items ≡ self.old.others.items ++ ready ∷ []) }
+    {
+        match ready.errand {
+            Errand::Job => self.jobs.push_back(ready)?,
+            Errand::Short | Errand::Listing => self.others.push_back(ready)?,
+        }
+        Ok(())
+    }
+
     /// Looks at what a guest has sent, and leaves it unread. Whether it is ready.
     pub(crate) fn look(&mut self, at: usize, is_ended: bool) -> Result<bool, AllocError> {
         let (Some(Some(guest)), Some(Some(visit))) = (self.guests.get(at), self.visits.get(at))
@@ -163,11 +180,7 @@ impl WaitingRoom {
         if !matches!(stage, Stage::Ready) {
             return Ok(false);
         }
-        let ready = Ready { at, errand, host };
-        match errand {
-            Errand::Job => self.jobs.push_back(ready)?,
-            Errand::Short | Errand::Listing => self.others.push_back(ready)?,
-        }
+        self.line_up(Ready { at, errand, host })?;
         Ok(true)
     }
 }
