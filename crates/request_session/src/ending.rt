@@ -1,6 +1,8 @@
 //! The end of a session.
 
-ghost use Rattle.std.specs.Prelude.{◌≡◌};
+ghost use Rattle.std.specs.Prelude.{◌≡◌, true};
+ghost use Rattle.receiver.specs.View.{held};
+ghost use Rattle.request_calls.specs.Pages.{first_page};
 ghost use Rattle.request_session.specs.Carried.{AtEnd};
 ghost use Rattle.request_session.specs.Served.{side};
 ghost use Rattle.request_session.specs.Turned.{SaysLast};
@@ -49,7 +51,9 @@ impl Talk {
     /// Aborts the job in hand with the page in hand. Where the spool doesn't take the page it is
     /// surrendered.
     pub(crate) fn hang_up<T: Requests>(self, spool: &mut T)
-        ensures { AtEnd T.ends self.receiver.job self.job spool.old spool.new }
+        ensures ends { AtEnd T.ends self.receiver.job self.job spool.old spool.new }
+        ensures page { self.receiver.job ≡ true → T.ends spool.old self.job
+            (first_page (held self.receiver.items self.receiver.tail) self.kept) spool.new }
     {
         let Talk {
             sender: _,

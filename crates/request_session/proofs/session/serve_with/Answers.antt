@@ -15,7 +15,7 @@ returns g c =
     let over = c.read_all-end.ensures.over in
     subst (λ (n : ℕ). ServedBy g.T.Requests.carries g.T.Requests.ends c.say_last.result n (around reader writer c.args.spool.now) (around reader' writer' c.hang_up.new.spool)) c.new-talk.ensures.sender
     (served g.T.Requests.carries g.T.Requests.ends over.0 (moment c.new-talk.result [] c.args.spool.now writer) (moment c.read_all-end.new.self [] c.read_all-end.new.spool (side (w.written c.read_all-end.new.writer) (w.faults c.read_all-end.new.writer)))
-    reader reader' writer' c.hang_up.new.spool c.hang_up.ensures c.read_all-end.result c.say_last.result over.1 over.2 c.say_last.ensures)
+    reader reader' writer' c.hang_up.new.spool c.hang_up.ensures.ends c.read_all-end.result c.say_last.result over.1 over.2 c.say_last.ensures)
 
 pub returns-in_default : goal.returns-in_default
 returns-in_default g c =
