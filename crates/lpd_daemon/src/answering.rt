@@ -1,12 +1,14 @@
 //! Connections, each served through a session's seat.
 
-ghost use Rattle.std.specs.Prelude.{◌≡◌, option_map};
+ghost use Rattle.std.specs.Int.NonZero.{non_zero_u64_get};
+ghost use Rattle.std.specs.Prelude.{◌≡◌, Some, max, option_map};
 ghost use Rattle.lpd_daemon.specs.Ends.{failure_text};
+ghost use Rattle.server_edge.specs.declared.desk.Serves.TheVariants.{All, NoJobs};
 
 use crate::house::House;
 use log::{Log, warn};
 use lpd_commands::{OctetRead, OctetWrite};
-use program_edge::{StreamReader, StreamWriter};
+use program_edge::{Limits, StreamReader, StreamWriter};
 use request_session::{Input, Requests, serve_with};
 use server_edge::{Serves, Visit, keep_asking, send_in_pieces};
 use session::{Seated, SessionEnd, SessionSeat};
@@ -26,9 +28,6 @@ const PIECE: usize = 4_096;
 /// How many octets that come after the end of a session are passed over, at most.
 const MOST_PASSED: usize = 1 << 20;
 
-/// The longest time that octets after the end of a session are passed over, in seconds.
-const LEAVE_SECONDS: u64 = 5;
-
 /// The longest time that each of these reads waits for the peer, in seconds.
 const PATIENCE_SECONDS: u64 = 1;
 
@@ -40,9 +39,9 @@ const UNREAD_OCTETS: u32 = 65_536;
 /// The silence after which the system asks a peer whether it is there, in seconds.
 const KEEPALIVE_SECONDS: u8 = 30;
 
-/// Ends what is sent, and passes over what the peer still sends, for a while: a connection that is
-/// closed with octets unread may take the last answer away from its peer.
-fn take_leave<R: Clock>(rt: &R, stream: &TcpStream) -> io::Result<()> {
+/// Ends what is sent, and passes over what the peer still sends, for `seconds` seconds at most: a
+/// connection that is closed with octets unread may take the last answer away from its peer.
+fn take_leave<R: Clock>(rt: &R, stream: &TcpStream, seconds: u64) -> io::Result<()> {
     stream.shutdown(Shutdown::Write)?;
     stream.set_read_timeout(Some(Duration::from_secs(PATIENCE_SECONDS)))?;
     let start = Instant::now(rt)?;
@@ -52,7 +51,7 @@ fn take_leave<R: Clock>(rt: &R, stream: &TcpStream) -> io::Result<()> {
     for _ in 0..MOST_PASSED {
         let count = stream.read(&mut passed_over)?;
         passed = passed.saturating_add(count);
-        if count == 0 || passed >= MOST_PASSED || start.elapsed(rt)?.as_secs() >= LEAVE_SECONDS {
+        if count == 0 || passed >= MOST_PASSED || start.elapsed(rt)?.as_secs() >= seconds {
             break;
         }
     }
@@ -77,22 +76,29 @@ fn failure_of(end: SessionEnd) -> Option<&'static str>
     }
 }
 
+/// For how many seconds such a session waits for its peer at each read and at each write; None: for
+/// ever.
+fn patience_of(serves: Serves, limits: &Limits) -> Option<u64>
+    ensures all { serves ≡ All
+        → result ≡ option_map non_zero_u64_get limits.now.silence }
+    ensures no_jobs { serves ≡ NoJobs → result ≡ Some (max limits.now.no_job_seconds 1) }
+{
+    match serves {
+        Serves::All => limits.silence.map(|silence| silence.get()),
+        Serves::NoJobs => Some(limits.no_job_seconds.max(1)),
+    }
+}
+
 impl<R: Clock + Wait + Log, E: SpoolLedger, K: Ledger, H: Ledger> House<'_, R, E, K, H> {
     /// Has octets sent at once and peers asked whether they are there, and limits how long a peer
     /// may be silent or not read.
     fn set_up(&self, stream: &TcpStream, serves: Serves) -> io::Result<()> {
         stream.set_nodelay(true)?;
         keep_asking(stream, KEEPALIVE_SECONDS);
-        let limit = match serves {
-            Serves::All => self
-                .limits
-                .silence
-                .map(|silence| Duration::from_secs(silence.get())),
-            Serves::NoJobs => {
-                send_in_pieces(stream, UNREAD_OCTETS);
-                Some(Duration::from_secs(self.limits.no_job_seconds.max(1)))
-            }
-        };
+        if matches!(serves, Serves::NoJobs) {
+            send_in_pieces(stream, UNREAD_OCTETS);
+        }
+        let limit = patience_of(serves, &self.limits).map(|seconds| Duration::from_secs(seconds));
         stream.set_read_timeout(limit)?;
         stream.set_write_timeout(limit)
     }
@@ -144,7 +150,7 @@ impl<R: Clock + Wait + Log, E: SpoolLedger, K: Ledger, H: Ledger> House<'_, R, E
         }
         if matches!(end, SessionEnd::Finished | SessionEnd::Refused(_)) {
             // A peer that is gone already has lost nothing.
-            let _ = take_leave(rt, stream);
+            let _ = take_leave(rt, stream, self.limits.leave_seconds);
         }
     }
 

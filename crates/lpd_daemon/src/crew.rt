@@ -8,11 +8,10 @@ use crate::faults::Fault;
 use crate::house::House;
 use crate::listening::{Gate, Porter, announce_all};
 use crate::roles::{Roles, Seats, serves_at};
-use crate::sink::FileSink;
+use crate::sink::Sink;
 use log::Log;
 use lpd_commands::OctetWrite;
 use shared_spool::{PrinterSeat, SessionSeat, SpoolLedger};
-use std::fs::File;
 use std::rt::Clock;
 use std::sync::Wait;
 use std::sync::atomic::Ordering;
@@ -51,7 +50,7 @@ impl<E: SpoolLedger + Send + Sync, K: Ledger + Send + Sync, H: Ledger + Send + S
         scope: &Scope<'s, N>,
         house: &'s House<'_, R, E, K, H>,
         roles: Roles<E, K, H>,
-        sinks: Vec<FileSink<File>>,
+        sinks: Vec<Sink>,
     ) -> (Crew<E, K, H>, SessionSeat<E, K, H>) {
         let Roles {
             porter,
@@ -124,7 +123,7 @@ impl<
     pub(crate) fn work<W: OctetWrite>(
         &self,
         roles: Roles<E, K, H>,
-        sinks: Vec<FileSink<File>>,
+        sinks: Vec<Sink>,
         gate: Gate,
         output: &mut W,
     ) -> (Result<(), Fault>, Seats<E, K, H>)

@@ -8,7 +8,7 @@ use crate::faults::Fault;
 use crate::house::House;
 use crate::lines::{PrintedLine, print};
 use crate::room::AccountRoom;
-use crate::rotating::{Rotations, has_turn};
+use crate::rotating::{Rotation, Rotations, has_turn};
 use log::{Log, error, warn};
 use lpd_commands::OctetWrite;
 use mio::Waker;
@@ -73,7 +73,7 @@ pub(crate) fn announce_all<R: Log + Wait, W: OctetWrite>(
 {
     let rotated = rotations.take(rt, alloc);
     told?;
-    for (number, entries) in rotated {
+    for Rotation { number, entries } in rotated {
         let printed = print(alloc, output, PrintedLine::Rotated { number, entries });
         if let Err(fault) = &printed {
             error!(rt; "{fault}: nothing more is printed, and the server goes on");
@@ -90,7 +90,7 @@ pub(crate) struct Gate {
     pub(crate) doors: Doors,
     /// After how many connections the account is rotated.
     pub(crate) every: Option<NonZeroU64>,
-    /// AccountRoom in the account, where it is kept.
+    /// Room in the account, where it is kept.
     pub(crate) room: Option<AccountRoom>,
 }
 

@@ -1,5 +1,8 @@
 //! What sessions are at, for the thread that looks whether their peers are gone.
 
+ghost use Rattle.std.specs.Int.NonZero.{non_zero_u64_get};
+ghost use Rattle.std.specs.Prelude.{◌≡◌, ◌↔◌, ◌<◌, ◌*◌, ◌-◌, ◌^◌, IsTrue, min, unwrap_or};
+
 use server_edge::{Peer, Standing, ask_peer, may_end, unread_octets};
 use shared_spool::Waiting;
 use std::alloc::{AllocError, Global};
@@ -93,15 +96,40 @@ impl Posts {
         match ask_peer(stream) {
             Peer::There => false,
             Peer::Gone => true,
-            Peer::EndedSending => !may_end(&Standing {
-                unread: unread_octets(stream, buffer).unwrap_or(0) as u64,
-                last: post.last.load(Ordering::SeqCst),
-                received: post.received.load(Ordering::SeqCst),
-                taken: waiting.put,
-                left: waiting.lacks,
-            }),
+            Peer::EndedSending => {
+                let unread = unread_octets(stream, buffer);
+                let last = post.last.load(Ordering::SeqCst);
+                let received = post.received.load(Ordering::SeqCst);
+                !may_end(&standing_of(waiting, unread, last, received))
+            }
         }
     }
+}
+
+/// What is known of a session that waits for this, where of its connection so many octets are unread,
+/// its last read gave `last`, and all reads gave `received`.
+fn standing_of(waiting: Waiting, unread: Option<usize>, last: u64, received: u64) -> Standing
+    ensures unread { result.unread ≡ unwrap_or unread 0 }
+    ensures last { result.last ≡ last }
+    ensures received { result.received ≡ received }
+    ensures taken { result.taken ≡ waiting.put }
+    ensures left { result.left ≡ waiting.lacks }
+{
+    Standing {
+        unread: unread.unwrap_or(0) as u64,
+        last,
+        received,
+        taken: waiting.put,
+        left: waiting.lacks,
+    }
+}
+
+/// Whether a peer is too slow that sent `octets` octets in `seconds` seconds for which it was waited
+/// for, where it has to send `slowest` a second.
+fn is_too_slow(octets: u64, slowest: NonZeroU64, seconds: u64) -> bool
+    ensures { IsTrue result ↔ octets < min (non_zero_u64_get slowest * seconds) (2 ^ 64 - 1) }
+{
+    octets < slowest.get().saturating_mul(seconds)
 }
 
 /// The connection of a session, which counts what is read of it, and fails where its peer is too
@@ -131,7 +159,7 @@ impl<R: Clock> Meter<'_, R> {
         if seconds < JUDGED_AFTER_SECONDS {
             return false;
         }
-        let is_slow = self.octets < slowest.get().saturating_mul(seconds);
+        let is_slow = is_too_slow(self.octets, slowest, seconds);
         self.waited_ms = 0;
         self.octets = 0;
         is_slow

@@ -1,7 +1,8 @@
-//! AccountRoom in the account: new jobs wait for a rotation for a moment where it is nearly full.
+//! Room in the account: new jobs wait for a rotation for a moment where it is nearly full.
 
-ghost use Rattle.std.specs.Prelude.{◌≤◌, ◌+◌, ◌-◌, ℕ};
+ghost use Rattle.std.specs.Prelude.{◌≡◌, ◌≤◌, ◌+◌, ◌-◌, ◌*◌, ◌/◌, ℕ, max};
 ghost use Rattle.config_values.specs.Config.{IsQueue, reserve_of};
+ghost use Rattle.lpd_daemon.specs.Rotating.{next_hold};
 
 use config_values::Config;
 use log::{Log, warn};
@@ -11,23 +12,20 @@ use std::sync::Wait;
 use std::sync::ledger::Ledger;
 use std::time::Instant;
 
-/// The longest time that new jobs wait until the held ones have gone, in milliseconds.
-const LONGEST_WAIT_MS: u64 = 1_000;
-
 /// The time without room after which that is told, and told again, in seconds.
 const TELL_SECONDS: u64 = 60;
 
 /// Whether new jobs wait.
 ///
 /// ```text
-///        nearly full          a second passed
+///        nearly full          waited in vain
 ///   No --------------> Since -----------------> Over
 ///    ^                  | ^                      | |
 ///    +------ room ------+ +------ a job left ----+ |
 ///    +------------------- room ---------------------+
 /// ```
 #[derive(Clone, Copy)]
-enum Hold {
+pub(crate) enum Hold {
     No,
     /// They wait since this moment.
     Since(Instant),
@@ -35,7 +33,31 @@ enum Hold {
     Over { held: usize },
 }
 
-/// AccountRoom in the account, where it is kept.
+impl Hold {
+    /// What it is where the account is nearly full at this moment, `held` jobs are held, and those
+    /// that wait have waited for `waited_ms` milliseconds, of `longest_ms` at most.
+    fn goes_on(self, now: Instant, waited_ms: u64, longest_ms: u64, held: usize) -> Hold
+        ensures { result ≡ next_hold self now waited_ms longest_ms held }
+    {
+        match self {
+            Hold::No => Hold::Since(now),
+            Hold::Since(start) if waited_ms < longest_ms => Hold::Since(start),
+            Hold::Since(_) => Hold::Over { held },
+            Hold::Over { held: before } if held < before => Hold::Since(now),
+            Hold::Over { .. } => Hold::Over { held },
+        }
+    }
+
+    /// For how many milliseconds new jobs have waited.
+    fn waited_ms<R: Clock>(self, rt: &R) -> u64 {
+        match self {
+            Hold::Since(start) => milliseconds_since(rt, start),
+            Hold::No | Hold::Over { .. } => 0,
+        }
+    }
+}
+
+/// Room in the account, where it is kept.
 #[derive(Clone, Copy)]
 pub(crate) struct AccountRoom {
     /// From how many counted entries on the account is rotated.
@@ -45,6 +67,8 @@ pub(crate) struct AccountRoom {
     most: u64,
     // Where more are counted than these, there is no room for a job of the largest limit.
     full: u64,
+    // For how many milliseconds new jobs wait, at most.
+    longest_ms: u64,
     hold: Hold,
     // Since when there is no room, and when that was told last.
     full_since: Option<(Instant, Instant)>,
@@ -60,10 +84,15 @@ fn milliseconds_since<R: Clock>(rt: &R, start: Instant) -> u64 {
 
 impl AccountRoom {
     /// Room in the account of this configuration, which is rotated once a quarter of it is counted,
-    /// where `sessions` threads serve connections that may bring a job.
-    pub(crate) fn new(config: &Config, sessions: u32) -> AccountRoom
+    /// where `sessions` threads serve connections that may bring a job. New jobs wait for it for
+    /// `longest_ms` milliseconds at most.
+    pub(crate) fn new(config: &Config, sessions: u32, longest_ms: u64) -> AccountRoom
         ensures room { (queue : ℕ) → IsQueue config.now queue
             → result.full ≤ config.now.account - (reserve_of config.now queue + 1) }
+        ensures least { result.least ≡ max (config.now.account / 4) 1 }
+        ensures most { (queue : ℕ) → IsQueue config.now queue → result.most
+            ≤ max (config.now.account - (reserve_of config.now queue + 1) * (2 * sessions))
+            (result.least - 1) }
     {
         let queues = config.queues().len() as u32;
         let mut largest = 0;
@@ -80,6 +109,7 @@ impl AccountRoom {
             least,
             most: most.max(least.saturating_sub(1)),
             full: account.saturating_sub(largest + 1),
+            longest_ms,
             hold: Hold::No,
             full_since: None,
         }
@@ -121,14 +151,8 @@ impl AccountRoom {
         let Ok(now) = Instant::now(rt) else {
             return true;
         };
-        self.hold = match self.hold {
-            Hold::No => Hold::Since(now),
-            Hold::Since(start) if milliseconds_since(rt, start) < LONGEST_WAIT_MS => Hold::Since(
-                start,
-            ),
-            Hold::Over { held: before } if held < before => Hold::Since(now),
-            Hold::Since(_) | Hold::Over { .. } => Hold::Over { held },
-        };
+        let waited_ms = self.hold.waited_ms(rt);
+        self.hold = self.hold.goes_on(now, waited_ms, self.longest_ms, held);
         matches!(self.hold, Hold::Over { .. })
     }
 }

@@ -1,7 +1,7 @@
 //! When the account is rotated.
 
 ghost use Rattle.std.specs.Int.NonZero.{non_zero_u64_get};
-ghost use Rattle.std.specs.Prelude.{◌↔◌, IsTrue, option_map};
+ghost use Rattle.std.specs.Prelude.{◌≡◌, ◌↔◌, IsTrue, length, option_map};
 ghost use Rattle.lpd_daemon.specs.Rotating.{HasTurn};
 
 use crate::house::House;
@@ -26,10 +26,30 @@ pub(crate) fn has_turn(every: Option<NonZeroU64>, handed_on: u64) -> bool
     every.is_some_and(|every| handed_on != 0 && handed_on % every.get() == 0)
 }
 
-/// Rotations that aren't printed yet: of each segment that was put away its number and its entries.
+/// What is printed of a segment that was put away.
+#[derive(Clone, Copy)]
+pub(crate) struct Rotation {
+    /// The segment's number.
+    pub(crate) number: u64,
+    /// Its entries.
+    pub(crate) entries: u64,
+}
+
+/// What is printed of this segment.
+fn rotation_of(segment: &Segment) -> Rotation
+    ensures number { result.number ≡ segment.now.number }
+    ensures entries { result.entries ≡ length segment.now.entries.items }
+{
+    Rotation {
+        number: segment.number,
+        entries: segment.entries.len() as u64,
+    }
+}
+
+/// Rotations that aren't printed yet.
 #[derive(Drop)]
 pub(crate) struct Rotations {
-    rotated: Mutex<Vec<(u64, u64)>>,
+    rotated: Mutex<Vec<Rotation>>,
 }
 
 impl Rotations {
@@ -41,7 +61,7 @@ impl Rotations {
     }
 
     /// Those that aren't printed yet, which are taken out.
-    pub(crate) fn take<R: Wait>(&self, rt: &R, alloc: Global) -> Vec<(u64, u64)> {
+    pub(crate) fn take<R: Wait>(&self, rt: &R, alloc: Global) -> Vec<Rotation> {
         mem::replace(&mut *self.rotated.lock(rt), Vec::new(alloc))
     }
 
@@ -49,8 +69,8 @@ impl Rotations {
     pub(crate) fn add<R: Log + Wait>(&self, rt: &R, rotated: Result<Segment, RotateError>) {
         match rotated {
             Ok(segment) => {
-                let rotated = (segment.number, segment.entries.len() as u64);
-                if self.rotated.lock(rt).push(rotated).is_err() {
+                let rotation = rotation_of(&segment);
+                if self.rotated.lock(rt).push(rotation).is_err() {
                     warn!(rt; "memory was refused: a rotation isn't printed");
                 }
             }

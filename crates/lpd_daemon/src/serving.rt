@@ -1,7 +1,7 @@
 //! A server, from its start to its end.
 
 ghost use Rattle.std.specs.Int.NonZero.{non_zero_u64_get};
-ghost use Rattle.std.specs.Prelude.{◌≡◌, ◌≤◌, ◌+◌, ◌-◌, ◌^◌, ℕ, min, None, Some, Ok, OnOk, IfErr, option_map};
+ghost use Rattle.std.specs.Prelude.{◌≡◌, ◌≤◌, ◌+◌, ◌-◌, ◌^◌, ◌*◌, ℕ, min, None, Some, Ok, OnOk, IfErr, option_map};
 ghost use Rattle.lpd_daemon.specs.Faults.{IsOpeningFault, IsRunningFault, write_faults};
 ghost use Rattle.lpd_daemon.specs.Lines.{IsQuiet, WritesAll, line_octets};
 ghost use Rattle.lpd_daemon.specs.declared.lines.PrintedLine.TheVariants.{Closed};
@@ -16,7 +16,7 @@ use crate::posts::Posts;
 use crate::roles::{NO_JOB_SESSIONS, OTHERS, Roles, Seats};
 use crate::room::AccountRoom;
 use crate::rotating::Rotations;
-use crate::sink::FileSink;
+use crate::sink::{FileSink, Sink};
 use config_values::Config;
 use log::Log;
 use lpd_commands::OctetWrite;
@@ -59,7 +59,7 @@ fn open_sinks<R: Files<File = File> + Log>(
     alloc: Global,
     directory: &str,
     printers: u32,
-) -> Result<Vec<FileSink<File>>, Fault>
+) -> Result<Vec<Sink>, Fault>
     ensures { IfErr result IsOpeningFault }
 {
     let mut sinks = Vec::new(alloc);
@@ -105,6 +105,14 @@ fn finish<R: Log, E: SpoolLedger, K: Ledger, H: Ledger, W: OctetWrite>(
     print_or_tell(rt, alloc, output, PrintedLine::Closed { entries })
 }
 
+/// How many descriptors are kept for others than connections that wait: for each printer's file, for
+/// each session two of its connection, and some for what the program has beside.
+fn kept_descriptors(printers: u32, sessions: u32) -> u64
+    ensures { result ≡ 64 + printers + 2 * sessions }
+{
+    KEPT_DESCRIPTORS + u64::from(printers) + 2 * u64::from(sessions)
+}
+
 /// How many sessions one host may have: without a number as many as there are.
 fn most_of(per_host: Option<NonZeroU64>) -> u32
     ensures any { per_host ≡ None → result ≡ 2 ^ 32 - 1 }
@@ -128,7 +136,7 @@ struct Server<'a, R> {
     lobby: Lobby,
     waker: Waker,
     port: u16,
-    sinks: Vec<FileSink<File>>,
+    sinks: Vec<Sink>,
 }
 
 /// Runs a server: opens the printers' files in the directory of the settings, `printer-1` and so
@@ -174,8 +182,7 @@ pub fn serve<
     let mut settings = settings;
     let sessions = settings.sessions.clamp(1, MOST_SESSIONS) + NO_JOB_SESSIONS;
     let sinks = open_sinks(rt, alloc, settings.out, config.printer_count())?;
-    let printers = u64::from(config.printer_count());
-    let kept = KEPT_DESCRIPTORS + printers + 2 * u64::from(sessions);
+    let kept = kept_descriptors(config.printer_count(), sessions);
     let (lobby, waker, port) = listen(rt, alloc, &mut settings, kept)?;
     let blanks = Blanks::new(&config, sessions + OTHERS);
     let server = Server {
@@ -211,10 +218,11 @@ impl<'a, R: Clock + Log + Threads + Wait + Sync> Server<'a, R> {
     {
         let (rt, alloc, sessions) = (self.rt, self.alloc, self.sessions);
         let seats = sessions + OTHERS;
-        let room = self
-            .settings
-            .keep_room
-            .then_some(AccountRoom::new(&config, seats));
+        let room = self.settings.keep_room.then_some(AccountRoom::new(
+            &config,
+            seats,
+            self.settings.limits.room_ms,
+        ));
         let opened = SharedSpool::<E, K, H>::new(alloc, blanks, config, seats);
         let opened = opened.map_err(AllocError::from)?;
         let roles = Roles::deal(opened.sessions, opened.printers)?;

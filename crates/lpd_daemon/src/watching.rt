@@ -1,5 +1,7 @@
 //! The thread that gives back the pages of jobs whose peers are gone.
 
+ghost use Rattle.std.specs.Prelude.{◌≡◌, ◌⊎◌, ◌+◌, ◌-◌, ◌^◌, false, min, true};
+
 use crate::house::House;
 use log::{Log, warn};
 use shared_spool::{AbortError, SessionSeat, SpoolLedger, Waiting};
@@ -32,14 +34,45 @@ struct Sample {
     counted: u64,
 }
 
+/// For how many seconds nothing has happened, a second later: where it is the same as then, and for
+/// as many until then.
+fn still_seconds(is_same: bool, seconds: u64) -> u64
+    ensures same { is_same ≡ true → result ≡ min (seconds + 1) (2 ^ 64 - 1) }
+    ensures other { is_same ≡ false → result ≡ 0 }
+{
+    if is_same {
+        seconds.saturating_add(1)
+    } else {
+        0
+    }
+}
+
+/// For how many seconds nothing has happened.
+#[derive(Drop)]
+struct Stillness {
+    // What the spool was at a second ago.
+    last: Sample,
+    seconds: u64,
+}
+
+impl Stillness {
+    /// The spool is at this, a second later.
+    fn see(&mut self, sample: Sample)
+        ensures last { self.new.last ≡ sample }
+        ensures seconds { (self.new.seconds ≡ 0)
+            ⊎ (self.new.seconds ≡ min (self.old.seconds + 1) (2 ^ 64 - 1)) }
+    {
+        self.seconds = still_seconds(sample == self.last, self.seconds);
+        self.last = sample;
+    }
+}
+
 /// Who looks after the sessions that wait for pages.
 #[derive(Drop)]
 struct Watcher<'a, R, E: SpoolLedger, K: Ledger, H: Ledger> {
     house: &'a House<'a, R, E, K, H>,
     seat: SessionSeat<E, K, H>,
-    // What the spool was at a second ago, and for how many seconds nothing has happened.
-    last: Sample,
-    seconds: u64,
+    still: Stillness,
 }
 
 impl<'a, R: Clock + Log + Wait, E: SpoolLedger, K: Ledger, H: Ledger> Watcher<'a, R, E, K, H> {
@@ -87,23 +120,20 @@ impl<'a, R: Clock + Log + Wait, E: SpoolLedger, K: Ledger, H: Ledger> Watcher<'a
         for waiting in sample.waiting.iter() {
             self.judge(*waiting, buffer);
         }
-        self.seconds = if sample == self.last {
-            self.seconds.saturating_add(1)
-        } else {
-            0
-        };
+        self.still.see(sample);
         if house
             .limits
             .silence
-            .is_some_and(|silence| silence.get() <= self.seconds)
+            .is_some_and(|silence| silence.get() <= self.still.seconds)
         {
             let why = "nothing has happened for as long as a peer may be silent";
-            for waiting in sample.waiting.iter() {
+            for at in 0..self.still.last.waiting.len() {
                 // Whoever went on since is no longer silent.
-                self.give_up(*waiting, why);
+                if let Some(waiting) = self.still.last.waiting.get(at).copied() {
+                    self.give_up(waiting, why);
+                }
             }
         }
-        self.last = sample;
         Ok(())
     }
 }
@@ -124,8 +154,7 @@ impl<R: Clock + Log + Wait, E: SpoolLedger, K: Ledger, H: Ledger> House<'_, R, E
         let mut watcher = Watcher {
             house: self,
             seat,
-            last,
-            seconds: 0,
+            still: Stillness { last, seconds: 0 },
         };
         let mut step = 0u64;
         for _ in self.rt.forever() {
