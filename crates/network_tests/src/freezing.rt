@@ -81,6 +81,15 @@ fn a_printer_that_takes_no_page(rt: HostRuntime) {
     remove(&rt, out);
 }
 
+/// Three connections at once, so that each of three sessions serves one.
+fn serve_each<R: Abort + Net<Stream = TcpStream>>(rt: &R, port: u16) {
+    let before = [connect(rt, port), connect(rt, port), connect(rt, port)];
+    for stream in &before {
+        write(rt, stream, b"\x02lp\n");
+        is_answered(rt, stream, &[0]);
+    }
+}
+
 /// A spool of six pages, all of which a job of `lp` may hold.
 const SIX_PAGES: Spool = Spool {
     pages: 6,
@@ -92,16 +101,18 @@ const SIX_PAGES: Spool = Spool {
 /// One session reads a job that halts, and the two others wait for pages that this job may still
 /// need. All the same the state is told, printers are started and nothing is removed. The one that
 /// has three pages gives them back when its peer goes in the middle of its file; the other one's
-/// peer has ended its sending after its whole job, which is printed.
+/// peer has ended its sending after its whole job, which is printed. Each session has served a
+/// connection before.
 #[test]
 fn sessions_that_all_wait(rt: HostRuntime) {
     let out = "sessions_that_all_wait";
     make(&rt, out);
     let settings = Settings {
         sessions: 3,
-        ..settings(&rt, out, 6)
+        ..settings(&rt, out, 9)
     };
     ends_well(&rt, SIX_PAGES, settings, |port| {
+        serve_each(&rt, port);
         let halting = stop(&rt, port);
         let leaving = connect(&rt, port);
         let begun = b"\x02lp\n\x0348 dfA002h1\n0123456701234567012345670123";
@@ -304,6 +315,10 @@ fn refused_peers_that_send_on(rt: HostRuntime) {
     make(&rt, out);
     let settings = Settings {
         sessions: 1,
+        limits: Limits {
+            leave_seconds: 2,
+            ..Limits::NONE
+        },
         ..settings(&rt, out, 3)
     };
     ends_well(&rt, SMALL, settings, |port| {
@@ -324,7 +339,7 @@ fn refused_peers_that_send_on(rt: HostRuntime) {
         next.set_read_timeout(moment).expect(&rt, "a limit");
         let mut reader = &next;
         let mut is_served = false;
-        // It has ten seconds, of which the server waits five.
+        // It has ten seconds, of which the server waits two.
         for _ in 0..20 {
             if !is_served {
                 let _ = writer.write(b"d");

@@ -18,6 +18,8 @@ mod jobs;
 #[cfg(test)]
 mod listings;
 #[cfg(test)]
+mod lobby;
+#[cfg(test)]
 mod logging;
 #[cfg(test)]
 mod pipe;

@@ -24,7 +24,7 @@ const STALLED_MS: u64 = 500;
 
 /// Within how many seconds a peer that reads nothing is left: three writes of a second each, since the
 /// system still finds room for a little at the second one, and what a busy machine adds.
-const LEFT_SECONDS: u64 = 8;
+const LEFT_SECONDS: u64 = 12;
 
 /// The fewest octets of the listing.
 const TWO_MEGABYTES: usize = 2_000_000;

@@ -5,13 +5,24 @@ use crate::jobs::HELLO;
 use crate::pipe::Pipe;
 use crate::place::{is_printed, make, path, remove};
 use crate::server::{ENDLESS, Paper, SMALL, Spool, Terminal, ends_well, port_of, run, settings};
-use lpd_daemon::Settings;
+use lpd_daemon::{Limits, Settings};
 use lpr_client::SendFault;
 use std::net::{Net, TcpStream};
 use std::num::NonZeroU64;
 use std::process::Abort;
 use std::time::Duration;
 use std::{fs, thread};
+
+/// New jobs wait for room as long as a busy machine needs.
+const PATIENT: Limits = Limits {
+    room_ms: 20_000,
+    ..Limits::NONE
+};
+
+/// How often it is looked for a line, and how many milliseconds apart.
+const LOOKS: u32 = 20;
+
+const LOOK_MS: u64 = 100;
 
 /// One job: its octets come out at the printer, behind what its file has, and the account has its
 /// 13 entries.
@@ -119,6 +130,41 @@ fn a_rotation_is_told_first(rt: HostRuntime) {
     is_printed(&rt, out, HELLO);
 }
 
+/// Where room is kept, the line of a rotation is written as soon as the account is rotated, with no
+/// connection coming.
+#[test]
+fn a_rotation_is_told_at_once(rt: HostRuntime) {
+    let out = "a_rotation_is_told_at_once";
+    make(&rt, out);
+    let settings = Settings {
+        keep_room: true,
+        limits: PATIENT,
+        ..settings(&rt, out, 2)
+    };
+    let terminal = Terminal::new(rt.alloc());
+    let config = ONE_JOB.config(&rt, rt.alloc());
+    let (is_told, ended) = thread::join(
+        &rt,
+        || {
+            let first = terminal.text(&rt, false);
+            let port = port_of(first.as_str()).expect(&rt, "the server listens");
+            assert_eq!(rt; send(&rt, &connect(&rt, port), 1, HELLO), Ok(()));
+            let mut is_told = false;
+            for _ in 0..LOOKS {
+                thread::sleep(&rt, Duration::from_millis(LOOK_MS));
+                let text = terminal.text(&rt, false);
+                is_told = is_told || text.as_str().ends_with("\nrotated 1 entries 12\n");
+            }
+            assert_eq!(rt; send(&rt, &connect(&rt, port), 2, b"!"), Ok(()));
+            is_told
+        },
+        || run(&rt, &terminal, config, settings, ENDLESS),
+    );
+    assert_eq!(rt; ended, Ok(()));
+    assert!(rt; is_told);
+    is_printed(&rt, out, b"hello world!");
+}
+
 /// While a page is held, since the pipe in the place of its printer's file is full, the end waits,
 /// and a rotation that is due does: both jobs are printed whole.
 #[test]
@@ -166,6 +212,7 @@ fn room_is_kept(rt: HostRuntime) {
     make(&rt, out);
     let settings = Settings {
         keep_room: true,
+        limits: PATIENT,
         ..settings(&rt, out, 2)
     };
     let text = ends_well(&rt, ONE_JOB, settings, |port| {

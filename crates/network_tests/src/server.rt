@@ -23,15 +23,9 @@ const LIMIT_SECONDS: u64 = 30;
 /// Settings of a server that ends after so many connections, at a port that the system picks.
 pub fn settings<'a, R: AllocGlobal>(rt: &R, out: &'a str, connections: u64) -> Settings<'a> {
     Settings {
-        bind: Ipv4Addr::LOCALHOST,
-        port: 0,
         out,
-        sessions: 8,
         connections: Some(connections),
-        rotate: None,
-        keep_room: false,
-        limits: Limits::NONE,
-        allowed: Vec::new(rt.alloc()),
+        ..Settings::new(rt.alloc(), 0)
     }
 }
 

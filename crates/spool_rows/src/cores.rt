@@ -95,7 +95,7 @@ fn is_told(told: &mut String, alloc: Global, core: &mut Core, call: &str) -> Res
     let (call, rest) = word(call);
     match call {
         "file" => match core.open_file(number(rest)) {
-            Some((file, page)) => push_numbers(told, &[("file", file), ("page", page)])?,
+            Some(page) => push_numbers(told, &[("file", page.file), ("page", page.number)])?,
             None => told.push_str("no file")?,
         },
         "stopped" => {

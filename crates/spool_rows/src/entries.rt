@@ -34,14 +34,27 @@ fn act(alloc: Global, verb: &str, values: [&str; 5]) -> Result<Option<Act>, Allo
     let [first, second, third, _, _] = values;
     Ok(match verb {
         "began" => match FileName::read(first.as_bytes()) {
-            Ok(name) => Some(Act::Began(name, number(second))),
+            Ok(name) => Some(Act::Began {
+                name,
+                count: number(second),
+            }),
             Err(_) => None,
         },
         "granted" => Some(Act::Granted),
-        "put" => Some(Act::Put(number(first), number(second), page(third))),
-        "ended" => Some(Act::FileEnded(number(first), number(second) == 1)),
+        "put" => Some(Act::Put {
+            file: number(first),
+            number: number(second),
+            page: page(third),
+        }),
+        "ended" => Some(Act::FileEnded {
+            file: number(first),
+            is_whole: number(second) == 1,
+        }),
         "controlled" => match control(alloc, first, second)? {
-            Some(control) => Some(Act::Controlled(control, number(third) == 1)),
+            Some(control) => Some(Act::Controlled {
+                control,
+                is_whole: number(third) == 1,
+            }),
             None => None,
         },
         "aborted" => Some(Act::Aborted),
@@ -96,8 +109,11 @@ pub fn entry(alloc: Global, line: &str) -> Result<Option<Entry>, AllocError> {
     }
     Ok(match (who, verb) {
         ("job", "opened") => {
-            let (sender, queue) = (short_number(values[0]), short_number(values[1]));
-            Some(Entry::Opened(number(which), sender, queue))
+            Some(Entry::Opened {
+                job: number(which),
+                sender: short_number(values[0]),
+                queue: short_number(values[1]),
+            })
         }
         ("job", _) => match act(alloc, verb, values)? {
             Some(act) => Some(Entry::OfJob(number(which), act)),
@@ -126,24 +142,25 @@ fn push_control(line: &mut String, control: &Control, whole: bool) -> Result<(),
 fn push_act(line: &mut String, act: &Act) -> Result<(), AllocError> {
     match act {
         Act::Granted => line.push_str("granted"),
-        Act::Began(name, count) => {
+        Act::Began { name, count } => {
             write!(
                 line,
                 "began file {} of {count}",
                 name.octets().escape_ascii()
             )
         }
-        Act::Put(file, number, page) => {
+        Act::Put { file, number, page } => {
             let length = u64::from(page.length);
             push_numbers(
                 line,
                 &[("put file", *file), ("page", *number), ("of", length)],
             )
         }
-        Act::FileEnded(file, whole) => {
-            push_numbers(line, &[("ended file", *file), ("whole", u64::from(*whole))])
+        Act::FileEnded { file, is_whole } => {
+            let whole = u64::from(*is_whole);
+            push_numbers(line, &[("ended file", *file), ("whole", whole)])
         }
-        Act::Controlled(control, whole) => push_control(line, control, *whole),
+        Act::Controlled { control, is_whole } => push_control(line, control, *is_whole),
         Act::Aborted => line.push_str("aborted"),
     }
 }
@@ -183,7 +200,7 @@ fn push_jobs(line: &mut String, jobs: &[u64]) -> Result<(), AllocError> {
 /// Appends the line that tells an entry.
 pub fn push_entry(line: &mut String, entry: &Entry) -> Result<(), AllocError> {
     match entry {
-        Entry::Opened(job, sender, queue) => {
+        Entry::Opened { job, sender, queue } => {
             write!(line, "job {job} opened by {sender} in {queue}")
         }
         Entry::OfJob(job, act) => {

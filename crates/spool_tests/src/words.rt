@@ -245,9 +245,11 @@ fn line_of(alloc: Global, config: &str, settings: &Settings) -> Result<String, A
         per_host,
         slowest,
         no_job_seconds,
+        leave_seconds,
+        room_ms,
     } = *limits;
     format!(in alloc;
-        "{config} {port} {bind} {out} {sessions} {connections:?} {rotate:?} {silence:?} {per_host:?} {slowest:?} {no_job_seconds} {keep_room} {allowed:?}\n"
+        "{config} {port} {bind} {out} {sessions} {connections:?} {rotate:?} {silence:?} {per_host:?} {slowest:?} {no_job_seconds} {leave_seconds} {room_ms} {keep_room} {allowed:?}\n"
     )
 }
 
@@ -269,13 +271,13 @@ fn served(rt: &HostRuntime, line: &str) -> Result<String, AllocError> {
 #[test]
 fn servers(rt: HostRuntime) -> Result<(), Fail> {
     let answer = served(&rt, "serve spool.toml --port 515")?;
-    let line = b"spool.toml 515 127.0.0.1 . 8 None None None None None 5 false []\n";
+    let line = b"spool.toml 515 127.0.0.1 . 8 None None None None None 5 5 1000 false []\n";
     expect(&rt, b"serve", answer.as_bytes(), line);
     let words = "serve --port=65535 --bind 10.0.200.255 --out pages --sessions 64 --connections 3 \
         --rotate 4294967295 --silence 60 --per-host 4 --slowest 100 --keep-room --allow 10.0.0.0/8 --allow 192.168.1.7 spool.toml";
     let answer = served(&rt, words)?;
     let line =
-        b"spool.toml 65535 10.0.200.255 pages 64 Some(3) Some(4294967295) Some(60) Some(4) Some(100) 5 true [Network { address: 10.0.0.0, bits: 8 }, Network { address: 192.168.1.7, bits: 32 }]\n";
+        b"spool.toml 65535 10.0.200.255 pages 64 Some(3) Some(4294967295) Some(60) Some(4) Some(100) 5 5 1000 true [Network { address: 10.0.0.0, bits: 8 }, Network { address: 192.168.1.7, bits: 32 }]\n";
     expect(&rt, b"serve with options", answer.as_bytes(), line);
     let answer = told(&rt, &["serve", "a", "--port", "1"], b"free\n")?;
     expect(&rt, b"what serve tells", answer.as_slice(), b"serves\n");

@@ -14,8 +14,11 @@ use std::sync::Wait;
 use std::sync::ledger::Ledger;
 use std::time::Clock;
 
-/// The queue of each job.
+/// The queue of each job but those of the plotter.
 pub const QUEUE: &[u8] = b"lp";
+
+/// The second queue of the scenes of waiters.
+pub const PLOTTER: &[u8] = b"plotter";
 
 /// The control file of each job.
 const CONTROL: &[u8] = b"Hh1\nPann\nfdfA001h1\n";

@@ -3,7 +3,7 @@
 ghost use Rattle.std.specs.Prelude.{◌<◌, IfSome, vec_len};
 
 use crate::board::{Answer, Mark};
-use crate::called::{QUEUE, put};
+use crate::called::{PLOTTER, QUEUE, put};
 use crate::scene::{Outcome, Seats, Stage};
 use crate::stage::PAGE_SIZE;
 use crate::waiters::{Seated, Waiter};
@@ -27,7 +27,7 @@ const REST: u64 = 30;
 const MOST_LOOKS: u32 = 200;
 
 /// A page of octets.
-const PAGE: [u8; PAGE_SIZE] = [b'a'; PAGE_SIZE];
+pub const PAGE: [u8; PAGE_SIZE] = [b'a'; PAGE_SIZE];
 
 /// What the director does next. Jobs are numbered from 1 in order of acceptance, printers from 1.
 #[derive(Clone, Copy)]
@@ -36,6 +36,8 @@ pub enum Step {
     Begun(u32, u64, u64),
     /// A job of a sender, of so many pages, is accepted and is whole.
     Whole(u32, u64),
+    /// The same for the plotter, whose printers are 3 and 4.
+    Plotted(u32, u64),
     /// A page is lent to a job. It comes back with the job's abort, or after the close.
     Lent(u64),
     /// The data file of a job ends.
@@ -44,6 +46,10 @@ pub enum Step {
     Controlled(u64),
     /// A job is aborted.
     Aborted(u64),
+    /// A job is aborted by a seat that opened none.
+    AbortedByAnother(u64),
+    /// The session of a job waits, with so many octets that its file lacks and so many that were put.
+    Lacks(u64, u64, u64),
     /// A job whose session waits is ended by what the session waits for.
     WaitEnded(u64),
     /// The same by what the session doesn't wait for: nothing happens.
@@ -129,6 +135,8 @@ impl<'a, R: AllocGlobal + Clock + Wait, E: SpoolLedger, K: Ledger, H: Ledger> Di
                 let place = self.place(printer)?;
                 Seated::Printer(self.printers.swap_remove(place))
             }
+            Waiter::Sends => Seated::Sends(self.sessions.pop()?),
+            Waiter::Rotates => Seated::Rotates(self.sessions.pop()?),
             Waiter::Nobody => Seated::Nobody,
             Waiter::Turns(place) => Seated::Turns(place, self.sessions.pop()?),
         };
@@ -138,7 +146,10 @@ impl<'a, R: AllocGlobal + Clock + Wait, E: SpoolLedger, K: Ledger, H: Ledger> Di
     /// Takes the seat of a waiter back.
     pub fn take_back(&mut self, seated: Seated<E, K, H>) -> Result<(), AllocError> {
         match seated {
-            Seated::Session(_, seat) | Seated::Turns(_, seat) => self.sessions.push(seat)?,
+            Seated::Session(_, seat)
+            | Seated::Sends(seat)
+            | Seated::Rotates(seat)
+            | Seated::Turns(_, seat) => self.sessions.push(seat)?,
             Seated::Printer(seat) => self.printers.push(seat)?,
             Seated::Nobody => {}
         }
@@ -151,10 +162,11 @@ impl<'a, R: AllocGlobal + Clock + Wait, E: SpoolLedger, K: Ledger, H: Ledger> Di
         FileName::read(name.as_bytes()).ok()
     }
 
-    /// A sender's job is accepted, with a data file of so many pages, of which so many come.
-    fn begin(&mut self, sender: u32, pages: u64, come: u64) -> Option<u64> {
+    /// A sender's job is accepted for a queue, with a data file of so many pages, of which so many
+    /// come.
+    fn begin(&mut self, queue: &[u8], sender: u32, pages: u64, come: u64) -> Option<u64> {
         let Stage { rt, spool, .. } = self.stage;
-        let job = spool.open(rt, &mut self.seat, sender, QUEUE).ok()?;
+        let job = spool.open(rt, &mut self.seat, sender, queue).ok()?;
         let count = pages.checked_mul(PAGE_SIZE as u64)?;
         if count == 0 {
             return None;
@@ -214,6 +226,32 @@ impl<'a, R: AllocGlobal + Clock + Wait, E: SpoolLedger, K: Ledger, H: Ledger> Di
                 None
             }
         }
+    }
+
+    /// A sender's job of so many pages is accepted for a queue, and is whole.
+    fn whole(&mut self, queue: &[u8], sender: u32, pages: u64) -> Done {
+        let job = self.begin(queue, sender, pages, pages)?;
+        self.end_file(job)?;
+        self.control(job)
+    }
+
+    /// A job is aborted by another seat.
+    fn abort_by_another(&mut self, job: u64) -> Done {
+        let Stage { rt, spool, .. } = self.stage;
+        let other = self.sessions.last_mut()?;
+        match spool.abort(rt, other, job, None) {
+            Ok(()) => Some(()),
+            Err(back) => {
+                back.surrender();
+                None
+            }
+        }
+    }
+
+    /// The session of a job waits with these figures.
+    fn lacks(&self, job: u64, lacks: u64, put: u64) -> Done {
+        let waiting = self.wait_of(job)?;
+        (waiting.lacks == lacks && waiting.put == put).then_some(())
     }
 
     /// For what the session of a job waits.
@@ -320,17 +358,16 @@ impl<'a, R: AllocGlobal + Clock + Wait, E: SpoolLedger, K: Ledger, H: Ledger> Di
         } = self.stage;
         match step {
             Step::Begun(sender, pages, come) => {
-                self.begin(sender, pages, come)?;
+                self.begin(QUEUE, sender, pages, come)?;
             }
-            Step::Whole(sender, pages) => {
-                let job = self.begin(sender, pages, pages)?;
-                self.end_file(job)?;
-                self.control(job)?;
-            }
+            Step::Whole(sender, pages) => self.whole(QUEUE, sender, pages)?,
+            Step::Plotted(sender, pages) => self.whole(PLOTTER, sender, pages)?,
             Step::Lent(job) => self.lend(job)?,
             Step::FileEnds(job) => self.end_file(job)?,
             Step::Controlled(job) => self.control(job)?,
             Step::Aborted(job) => self.abort(job)?,
+            Step::AbortedByAnother(job) => self.abort_by_another(job)?,
+            Step::Lacks(job, lacks, put) => self.lacks(job, lacks, put)?,
             Step::WaitEnded(job) => self.end_wait(job)?,
             Step::WaitKept(job) => self.keep_wait(job)?,
             Step::Removed(job) => self.remove(job)?,

@@ -42,7 +42,7 @@ fn a_seat_is_missing_at_first(rt: HostRuntime) -> Result<(), Fail> {
 /// The sender of the job of a number.
 fn sender_of(report: &Report, number: u64) -> Option<u32> {
     report.account.entries.iter().find_map(|entry| match entry {
-        Entry::Opened(job, sender, _) if *job == number => Some(*sender),
+        Entry::Opened { job, sender, .. } if *job == number => Some(*sender),
         _ => None,
     })
 }

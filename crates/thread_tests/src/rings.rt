@@ -2,19 +2,20 @@
 
 use crate::board::Answer::{Idle, NoPage, Page};
 use crate::director::Step::{
-    self, Aborted, Begins, Begun, Closed, Controlled, Failed, FileEnds, Goes, Handed, Lent,
-    Printed, Removed, Started, Stays, WaitEnded, WaitKept, Waits, Whole,
+    self, Aborted, AbortedByAnother, Begins, Begun, Closed, Controlled, Failed, FileEnds, Goes,
+    Handed, Lacks, Lent, Plotted, Printed, Removed, Started, Stays, WaitEnded, WaitKept, Waits,
+    Whole,
 };
 use crate::stage::{Script, happen};
-use crate::waiters::Waiter::{Nobody, Printer, Session, Turns};
+use crate::waiters::Waiter::{Nobody, Printer, Rotates, Sends, Session, Turns};
 use std::process::Abort;
 use std::sync::Wait;
 use std::test::Fail;
 use std::thread::Threads;
 use std::time::Clock;
 
-/// What waits do in a scene, and its steps, at a spool of four pages and two printers, where a job
-/// may have three pages.
+/// What waits do in a scene, and its steps, at a spool of four pages and two queues of two printers,
+/// where a job may have three pages.
 type Row<'a> = (&'a str, &'a [Step]);
 
 /// In each of these scenes waiters wait and go on as its steps tell: each in time, and none before.
@@ -32,7 +33,7 @@ fn are_so<R: Abort + AllocGlobal + Clock + Threads + Wait + Sync>(
 }
 
 /// A job becomes whole.
-const BY_RECEIPT: [Row<'static>; 7] = [
+const BY_RECEIPT: [Row<'static>; 8] = [
     (
         "a page is kept until a control file comes",
         &[
@@ -69,6 +70,16 @@ const BY_RECEIPT: [Row<'static>; 7] = [
     (
         "no job is there to print",
         &[Waits(0, Printer(1)), Whole(1, 1), Goes(0, Page)],
+    ),
+    (
+        "none is there at the second queue",
+        &[
+            Waits(0, Printer(1)),
+            Waits(1, Printer(3)),
+            Plotted(1, 1),
+            Goes(1, Page),
+            Stays(0),
+        ],
     ),
     (
         "none is, and a younger one is begun",
@@ -121,7 +132,7 @@ fn a_received_job_ends_waits(rt: HostRuntime) -> Result<(), Fail> {
 }
 
 /// A job is aborted.
-const BY_ABORT: [Row<'static>; 4] = [
+const BY_ABORT: [Row<'static>; 6] = [
     (
         "a page is kept for another job",
         &[
@@ -156,6 +167,20 @@ const BY_ABORT: [Row<'static>; 4] = [
     (
         "the last job ends",
         &[Begun(1, 1, 0), Waits(0, Nobody), Aborted(1), Goes(0, Idle)],
+    ),
+    (
+        "a job is behind one that another seat ends",
+        &[
+            Begun(1, 2, 1),
+            Whole(1, 1),
+            Waits(0, Printer(1)),
+            AbortedByAnother(1),
+            Goes(0, Page),
+        ],
+    ),
+    (
+        "the last job ends, and the account is to be rotated",
+        &[Begun(1, 1, 0), Waits(0, Rotates), Aborted(1), Goes(0, Idle)],
     ),
 ];
 
@@ -205,7 +230,7 @@ fn a_wait_is_ended_by_another_seat(rt: HostRuntime) -> Result<(), Fail> {
 }
 
 /// A page is printed.
-const BY_PRINTING: [Row<'static>; 6] = [
+const BY_PRINTING: [Row<'static>; 11] = [
     (
         "no page is free, and one of three is printed",
         &[
@@ -277,6 +302,69 @@ const BY_PRINTING: [Row<'static>; 6] = [
             Goes(0, Idle),
         ],
     ),
+    (
+        "the last job is printed, and the account is to be rotated",
+        &[
+            Whole(1, 1),
+            Handed(1),
+            Waits(0, Rotates),
+            Printed(1),
+            Goes(0, Idle),
+        ],
+    ),
+    (
+        "a job is behind one at the last printer of its queue",
+        &[
+            Whole(1, 1),
+            Handed(2),
+            Whole(1, 1),
+            Waits(0, Printer(1)),
+            Printed(2),
+            Goes(0, Page),
+        ],
+    ),
+    (
+        "a job is behind one at the first printer of the second queue",
+        &[
+            Plotted(1, 1),
+            Handed(3),
+            Plotted(1, 1),
+            Waits(0, Printer(4)),
+            Printed(3),
+            Goes(0, Page),
+        ],
+    ),
+    (
+        "one waits after another one that got the last free page",
+        &[
+            Begun(1, 3, 1),
+            Whole(2, 3),
+            Begun(3, 3, 0),
+            Handed(1),
+            Waits(0, Session(1)),
+            Printed(1),
+            Goes(0, Page),
+            Handed(1),
+            Waits(1, Session(3)),
+            Printed(1),
+            Goes(1, Page),
+        ],
+    ),
+    (
+        "one waits after another one whose job has ended",
+        &[
+            Begun(1, 3, 1),
+            Whole(2, 3),
+            Handed(1),
+            Waits(0, Session(1)),
+            Aborted(1),
+            Goes(0, NoPage),
+            Begun(3, 3, 1),
+            Waits(1, Session(3)),
+            Printed(1),
+            Goes(1, Page),
+        ],
+    ),
 ];
 
 /// A page that is printed comes back, and with the last one its job ends.
@@ -329,7 +417,7 @@ fn a_failed_page_ends_waits(rt: HostRuntime) -> Result<(), Fail> {
 }
 
 /// A job is removed.
-const BY_REMOVAL: [Row<'static>; 3] = [
+const BY_REMOVAL: [Row<'static>; 4] = [
     (
         "no page is free",
         &[
@@ -355,6 +443,10 @@ const BY_REMOVAL: [Row<'static>; 3] = [
     (
         "the last job is removed",
         &[Whole(1, 1), Waits(0, Nobody), Removed(1), Goes(0, Idle)],
+    ),
+    (
+        "the last job is removed, and the account is to be rotated",
+        &[Whole(1, 1), Waits(0, Rotates), Removed(1), Goes(0, Idle)],
     ),
 ];
 
@@ -462,6 +554,23 @@ const BY_TURNS: [Row<'static>; 2] = [
 #[test]
 fn the_call_is_passed_on(rt: HostRuntime) -> Result<(), Fail> {
     are_so(&rt, &BY_TURNS)
+}
+
+/// What is told of a session that waits: of its second job, what lacks behind the pages that came.
+#[test]
+fn it_is_told_what_a_wait_is_for(rt: HostRuntime) -> Result<(), Fail> {
+    let told: Row<'static> = (
+        "a second job waits for its third page",
+        &[
+            Whole(1, 1),
+            Waits(0, Sends),
+            Lacks(3, 8, 16),
+            Handed(1),
+            Printed(1),
+            Goes(0, Page),
+        ],
+    );
+    are_so(&rt, &[told])
 }
 
 /// An event that ends a wait may come at any moment, also between the asking and the waiting.

@@ -28,14 +28,23 @@ pub const PAGE_SIZE: usize = 8;
 /// How many pages a spool has.
 pub const PAGES: usize = 4;
 
-/// A spool of one queue with so many printers. None where memory is refused.
-pub fn config_of(alloc: Global, printers: usize) -> Option<Config> {
+/// The second queue of the scenes of waiters, whose printers are numbered behind the first one's.
+const PLOTTER: &str = "[[queue]]\nname = \"plotter\"\nlimit = 3\nprinters = 2\n";
+
+/// A spool of a queue with so many printers, and of what else is written of queues. None where
+/// memory is refused.
+fn config_with(alloc: Global, printers: usize, others: &str) -> Option<Config> {
     let text = format!(in alloc;
         "pages = {PAGES}\npage_size = {PAGE_SIZE}\nmax_jobs = 8\naccount = 100000\n\
-         [[queue]]\nname = \"lp\"\nlimit = 3\nprinters = {printers}\n"
+         [[queue]]\nname = \"lp\"\nlimit = 3\nprinters = {printers}\n{others}"
     )
     .ok()?;
     spool_config::read(alloc, text.as_bytes()).ok()
+}
+
+/// A spool of one queue with so many printers. None where memory is refused.
+pub fn config_of(alloc: Global, printers: usize) -> Option<Config> {
+    config_with(alloc, printers, "")
 }
 
 /// What happens at a spool.
@@ -48,11 +57,19 @@ pub enum Script<'a> {
 }
 
 impl Script<'_> {
-    /// How many seats for sessions it wants beside the director's, and how many printers.
-    fn seats(&self) -> (usize, usize) {
+    /// How many seats for sessions it wants beside the director's.
+    fn sessions(&self) -> usize {
         match self {
-            Script::Scene(scene) => (scene.clients.len(), scene.devices.len()),
-            Script::Steps(steps) => (sessions_in(*steps), 2),
+            Script::Scene(scene) => scene.clients.len(),
+            Script::Steps(steps) => sessions_in(*steps),
+        }
+    }
+
+    /// The configuration of its spool: a printer for each device, or two queues of two printers.
+    fn config(&self, alloc: Global) -> Option<Config> {
+        match self {
+            Script::Scene(scene) => config_of(alloc, scene.devices.len()),
+            Script::Steps(_) => config_with(alloc, 2, PLOTTER),
         }
     }
 
@@ -207,10 +224,9 @@ pub fn happen<R: AllocGlobal + Clock + Threads + Wait + Sync>(
     rt: &R,
     what: Script<'_>,
 ) -> Option<Report> {
-    let (sessions, printers) = what.seats();
-    let config = config_of(rt.alloc(), printers)?;
+    let config = what.config(rt.alloc())?;
     // One more for the director.
-    let count = u32::try_from(sessions).ok()?.checked_add(1)?;
+    let count = u32::try_from(what.sessions()).ok()?.checked_add(1)?;
     let blanks = Blanks::new(&config, count);
     perform_at::<R, Brand, Brand, Brand>(rt, what, config, count, blanks)
 }

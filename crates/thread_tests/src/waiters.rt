@@ -3,20 +3,46 @@
 ghost use Rattle.std.specs.Thread.{IsSend};
 
 use crate::board::{Answer, Mark};
-use crate::director::{Director, Step};
+use crate::called::{QUEUE, put, send};
+use crate::director::{Director, PAGE, Step};
 use crate::scene::{Outcome, Seats, Stage};
-use shared_spool::{Asked, Foreign, Next, PrinterSeat, SessionSeat, SpoolLedger};
+use crate::stage::PAGE_SIZE;
+use lpd_values::FileName;
+use shared_spool::{Asked, Foreign, Next, PrinterSeat, SessionSeat, SharedSpool, SpoolLedger};
 use std::sync::Wait;
 use std::sync::ledger::Ledger;
 use std::thread;
 use std::thread::Threads;
 use std::time::Clock;
 
+/// The sender of a waiter's own jobs.
+const OWN_SENDER: u32 = 9;
+
+/// Begins a job of three pages, of which two come. None where a call is refused.
+fn begin<R: Wait, E: SpoolLedger, K: Ledger, H: Ledger>(
+    rt: &R,
+    spool: &SharedSpool<E, K, H>,
+    seat: &mut SessionSeat<E, K, H>,
+    sender: u32,
+) -> Option<u64> {
+    let job = spool.open(rt, seat, sender, QUEUE).ok()?;
+    let name = FileName::read(b"dfA002h1").ok()?;
+    let count = (3 * PAGE_SIZE) as u64;
+    spool.begin_file(rt, seat, job, name, count).ok()?;
+    put(rt, spool, seat, job, &PAGE)?;
+    put(rt, spool, seat, job, &PAGE)?;
+    Some(job)
+}
+
 /// Who waits, and for what.
 #[derive(Clone, Copy)]
 pub enum Waiter {
     /// A session, for a page of the job of this number.
     Session(u64),
+    /// A session that sends a job of one page, and then one of three, for the third page of that.
+    Sends,
+    /// Who rotates the account, until no job is held.
+    Rotates,
     /// The printer of this number, for its next page.
     Printer(u32),
     /// Someone without a seat, until no job is held or a printer is stopped.
@@ -25,14 +51,20 @@ pub enum Waiter {
     Turns(usize),
 }
 
-/// How many of those that wait in these steps have a session's seat.
+/// How many sessions' seats these steps want beside the director's: those of waiters, and one for
+/// each job that another seat aborts.
 pub fn sessions_in(steps: &[Step]) -> usize {
     let mut sessions = 0usize;
     for step in steps {
-        if let Step::Begins(_, waiter) | Step::Waits(_, waiter) = step {
-            if matches!(waiter, Waiter::Session(_) | Waiter::Turns(_)) {
-                sessions = sessions.saturating_add(1);
+        let has_one = match step {
+            Step::Begins(_, waiter) | Step::Waits(_, waiter) => {
+                !matches!(waiter, Waiter::Printer(_) | Waiter::Nobody)
             }
+            Step::AbortedByAnother(_) => true,
+            _ => false,
+        };
+        if has_one {
+            sessions = sessions.saturating_add(1);
         }
     }
     sessions
@@ -42,6 +74,8 @@ pub fn sessions_in(steps: &[Step]) -> usize {
 #[derive(Drop)]
 pub enum Seated<E: SpoolLedger, K: Ledger, H: Ledger> {
     Session(u64, SessionSeat<E, K, H>),
+    Sends(SessionSeat<E, K, H>),
+    Rotates(SessionSeat<E, K, H>),
     Printer(PrinterSeat<E, K, H>),
     Nobody,
     Turns(usize, SessionSeat<E, K, H>),
@@ -72,6 +106,25 @@ impl<R: AllocGlobal + Clock + Wait, E: SpoolLedger, K: Ledger, H: Ledger> Stage<
         }
     }
 
+    /// Sends a job of a page, begins one of three, of which two come, and waits for the third.
+    fn sends(&self, waiter: usize, seat: &mut SessionSeat<E, K, H>) {
+        let (rt, spool) = (self.rt, self.spool);
+        let sent = send(rt, rt.alloc(), spool, seat, OWN_SENDER, &PAGE);
+        match sent.and_then(|_| begin(rt, spool, seat, OWN_SENDER)) {
+            Some(job) => self.asks(waiter, job, seat),
+            None => self.goes(waiter, Answer::NoPage),
+        }
+    }
+
+    /// Waits until the account can be rotated, and rotates it.
+    fn rotates(&self, waiter: usize, seat: &mut SessionSeat<E, K, H>) {
+        let answer = match self.spool.rotate_wait(self.rt, seat, 1) {
+            Some(Ok(_)) => Answer::Idle,
+            Some(Err(_)) | None => Answer::NoPage,
+        };
+        self.goes(waiter, answer);
+    }
+
     /// Waits for a printer's next page, and gives it back when the spool was closed.
     fn takes(&self, waiter: usize, seat: &mut PrinterSeat<E, K, H>) {
         match self.spool.next_wait(self.rt, seat) {
@@ -92,6 +145,8 @@ impl<R: AllocGlobal + Clock + Wait, E: SpoolLedger, K: Ledger, H: Ledger> Stage<
         self.board.tell(self.rt, Mark::Waits { waiter });
         match &mut seated {
             Seated::Session(job, seat) => self.asks(waiter, *job, seat),
+            Seated::Sends(seat) => self.sends(waiter, seat),
+            Seated::Rotates(seat) => self.rotates(waiter, seat),
             Seated::Printer(seat) => self.takes(waiter, seat),
             Seated::Nobody => {
                 self.spool.idle_wait(self.rt);
