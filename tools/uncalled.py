@@ -21,15 +21,13 @@ SURFACE = "surface"
 
 # Crates that call the product and are no part of it.
 CALLERS = {
-    "bench",
-    "test_calls",
-    "test_kit",
-    "test_kit_seats",
-    "test_network",
-    "test_program",
-    "test_soak",
-    "test_texts",
-    "test_threads",
+    "bench_parts",
+    "bench_threads",
+    "network_tests",
+    "soak_spool",
+    "spool_rows",
+    "spool_tests",
+    "thread_tests",
     SURFACE,
 }
 
