@@ -2,13 +2,7 @@
 # Measures speed: run it on an idle machine. The numbers are printed, and nothing is tested. Each measurement is a run of its
 # own, since what one asks of memory would change what the next one finds.
 set -eu
-cd "$(dirname "${BASH_SOURCE[0]}")/../crates/bench_parts"
-for word in banker chains core; do
+cd "$(dirname "${BASH_SOURCE[0]}")/../crates/bench"
+for word in banker chains core shared session world; do
     rt run -- "$word"
 done
-cd ../bench_threads
-for word in shared session; do
-    rt run -- "$word"
-done
-cd ../bench_parts
-rt run -- world

@@ -59,7 +59,7 @@ folder, titles = sys.argv[1], sys.argv[2:] or [
 ]
 PAGES = 4
 config = open("crates/lpd_server/stdin", "rb").read().split(b"%%\n")[0] + b"%%\n"
-rows = open("crates/spool_rows/data/scripts.rows", "rb").read().split(b"====\n")
+rows = open("crates/test_calls/data/scripts.rows", "rb").read().split(b"====\n")
 
 def script_of(title):
     for row in rows:

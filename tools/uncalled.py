@@ -21,13 +21,15 @@ SURFACE = "surface"
 
 # Crates that call the product and are no part of it.
 CALLERS = {
-    "bench_parts",
-    "bench_threads",
-    "network_tests",
-    "soak_spool",
-    "spool_rows",
-    "spool_tests",
-    "thread_tests",
+    "bench",
+    "test_calls",
+    "test_kit",
+    "test_kit_seats",
+    "test_network",
+    "test_program",
+    "test_soak",
+    "test_texts",
+    "test_threads",
     SURFACE,
 }
 

@@ -1,0 +1,442 @@
+//! The program's words, with files and a socket on loopback.
+
+use crate::expected::expect;
+use log::Log;
+use lpd_words::{Outcome, Settings, run};
+use lpr_client::{Control, DataFile, FileName, Octets, is_sendable, job_bytes};
+use program_edge::{Limits, StreamReader, StreamWriter};
+use std::alloc::{AllocError, Global};
+use std::fs::Files;
+use std::io::{Read, Write};
+use std::net::{Ipv4Addr, Net, OpenListener, SocketAddr, TcpListener, TcpStream};
+use std::process::Abort;
+use std::rt::Env;
+use std::test::Fail;
+use std::thread::Threads;
+use std::time::{Duration, Instant};
+use std::{env, fs, io, thread};
+
+const CONFIG: &[u8] =
+    b"pages = 4\npage_size = 8\nmax_jobs = 8\naccount = 100000\n[[queue]]\nname = \"lp\"\nlimit = 3\nprinters = 1\n";
+
+/// The same and a script behind it.
+const SCRIPT: &[u8] =
+    b"pages = 4\npage_size = 8\nmax_jobs = 8\naccount = 100000\n[[queue]]\nname = \"lp\"\nlimit = 3\nprinters = 1\n%%\nfree\n";
+
+/// What `docs/example.toml` says, without its remarks.
+const EXAMPLE: &[u8] = b"\
+pages = 1024
+page_size = 65536
+max_jobs = 64
+account = 16000000
+[[queue]]
+name = \"lp\"
+limit = 128
+printers = 1
+[[queue]]
+name = \"plotter\"
+limit = 512
+printers = 2
+";
+
+/// An account with room for fifty jobs of the first queue; for fifty of the second but for the entry of the close, so for 49; and for
+/// none of the third.
+const FEW: &[u8] = b"pages = 2600\npage_size = 8\nmax_jobs = 8\naccount = 515600\n\
+      [[queue]]\nname = \"fifty\"\nlimit = 50\nprinters = 1\n\
+      [[queue]]\nname = \"few\"\nlimit = 51\nprinters = 1\n\
+      [[queue]]\nname = \"none\"\nlimit = 2600\nprinters = 1\n";
+
+/// The words behind the program's name, a comma between two; the octets that are the input and those of `FILE`, but for what stands
+/// behind a line `%%`, which `SCRIPT` has; and what is told, with the exit status in a line, or how a server is to run.
+///
+/// A configuration is a script of bad lines, and a script is no configuration. A file that can't be read comes before a fault of the
+/// configuration.
+const TOLD: [(&str, &[u8], &[u8]); 17] = [
+    ("", SCRIPT, b"free 4\nstatus 0\n"),
+    ("", CONFIG, b"status 0\n"),
+    (
+        "check,FILE",
+        CONFIG,
+        b"ok pages 4 page_size 8 queues 1 printers 1\nstatus 0\n",
+    ),
+    (
+        "check,FILE",
+        EXAMPLE,
+        b"ok pages 1024 page_size 65536 queues 2 printers 3\nstatus 0\n",
+    ),
+    (
+        "check,FILE,--sizes",
+        EXAMPLE,
+        b"ok pages 1024 page_size 65536 queues 2 printers 3\nqueue lp jobs 622\nqueue plotter jobs 156\nstatus 0\n",
+    ),
+    (
+        "check,--sizes,FILE",
+        FEW,
+        b"ok pages 2600 page_size 8 queues 3 printers 3\n\
+          queue fifty jobs 50\n\
+          queue few jobs 49, too few: a larger account or larger pages make room\n\
+          queue none jobs 0, too few: a larger account or larger pages make room\nstatus 0\n",
+    ),
+    (
+        "check,FILE",
+        b"pages = 0\n",
+        b"fault 53 OutOfRange pages\nstatus 2\n",
+    ),
+    (
+        "check,/there/is/no/such/file",
+        b"",
+        b"fault 71 ReadFile\nstatus 4\n",
+    ),
+    (
+        "replay,FILE,FILE",
+        CONFIG,
+        b"fault 70 BadScript 1\nstatus 3\n",
+    ),
+    (
+        "replay,FILE,FILE",
+        b"free\n",
+        b"fault 50 NotToml\nstatus 2\n",
+    ),
+    (
+        "replay,FILE,/there/is/no/such/file",
+        b"free\n",
+        b"fault 71 ReadFile\nstatus 4\n",
+    ),
+    (
+        "replay,FILE,FILE",
+        b"# nothing is done for the lines of this file\n",
+        b"fault 51 Missing pages\nstatus 2\n",
+    ),
+    ("replay,FILE,SCRIPT", SCRIPT, b"free 4\nstatus 0\n"),
+    (
+        "serve,spool.toml,--port,515",
+        b"",
+        b"serves spool.toml 515 127.0.0.1 . 8 None None None None None 5 5 1000 false []\n",
+    ),
+    (
+        "serve,--port=65535,--bind,10.0.200.255,--out,pages,--sessions,64,--connections,3,--rotate,4294967295,--silence,60,\
+         --per-host,4,--slowest,100,--keep-room,--allow,10.0.0.0/8,--allow,192.168.1.7,spool.toml",
+        b"",
+        b"serves spool.toml 65535 10.0.200.255 pages 64 Some(3) Some(4294967295) Some(60) Some(4) Some(100) 5 5 1000 true \
+          [Network { address: 10.0.0.0, bits: 8 }, Network { address: 192.168.1.7, bits: 32 }]\n",
+    ),
+    (
+        "serve,a,--port,1",
+        b"free\n",
+        b"serves a 1 127.0.0.1 . 8 None None None None None 5 5 1000 false []\n",
+    ),
+    (
+        "send,515,lp,1,h1,ann,FILE",
+        b"",
+        b"fault 71 ReadFile\nstatus 4\n",
+    ),
+];
+
+/// Words that are refused, with an error and the exit status 1.
+const BAD: &str = "
+spool,spool.toml
+check
+check,a,b
+replay,a
+send,0,lp,1,h1,ann,a
+send,65536,lp,1,h1,ann,a
+send,515,lp,1000,h1,ann,a
+send,515,l p,1,h1,ann,a
+send,515,lp,1,h 1,ann,a
+send,515,lp,1,h1,,a
+send,515,lp,1,h1,ann
+send,515,lp,1,h1,ann,a,a,a,a,a,a,a,a,a,a,a,a,a,a,a,a,a,a,a,a,a,a,a,a,a,a,a,a,a,a,a,a,a,a,a,a,a,a,a,a,a,a,a,a,a,a,a,a,a,a,a,a,a
+serve,spool.toml
+serve,--port,515
+serve,a,b,--port,515
+serve,a,--port,0
+serve,a,--port,65536
+serve,a,--port,515,--port,516
+serve,a,--port,515,--bind,localhost
+serve,a,--port,515,--bind,127.0.0.256
+serve,a,--port,515,--bind,127.0.0
+serve,a,--port,515,--sessions,0
+serve,a,--port,515,--sessions,65
+serve,a,--port,515,--connections,0
+serve,a,--port,515,--rotate,4294967296
+serve,a,--port,515,--silence,long
+serve,a,--port,515,--per-host,0
+serve,a,--port,515,--keep-room,yes
+serve,a,--port,515,--allow,10.0.0.0/33
+serve,a,--port,515,--allow,10.0.0.0/08
+serve,a,--port,515,--allow,10.0.0.0/+8
+serve,a,--port,515,--allow,10.0.0.1/8
+serve,a,--port,515,--allow,256.0.0.0/8
+serve,a,--port,515,--allow,010.0.0.0/8
+serve,a,--port,515,--allow,10.0.0.0/8/8
+serve,a,--port,515,--allow,10.0.0.0/8,--allow,localhost
+serve,a,--port,515,--allow,10.0.0/8
+serve,a,--port,515,--allow,10.0.0.0/
+serve,a,--port,515,--allow
+serve,a,--port,515,--quiet
+";
+
+/// The words that the program is started with, its name before these, with these paths for `FILE` and `SCRIPT`.
+fn words_of(
+    alloc: Global,
+    line: &str,
+    file: &str,
+    script: &str,
+) -> Result<Vec<String>, AllocError> {
+    let mut words = Vec::new(alloc);
+    words.push(String::from_str(alloc, "lpd_server")?)?;
+    for word in line
+        .split(',')
+        .take(if line.is_empty() { 0 } else { usize::MAX })
+    {
+        let word = match word {
+            "FILE" => file,
+            "SCRIPT" => script,
+            _ => word,
+        };
+        words.push(String::from_str(alloc, word)?)?;
+    }
+    Ok(words)
+}
+
+/// What the program and its tests need of what runs them.
+trait Machine: Abort
+    + AllocGlobal
+    + Env
+    + Files
+    + Log
+    + Net<Listener = TcpListener, Stream = TcpStream> {}
+
+impl<
+    T: Abort + AllocGlobal + Env + Files + Log + Net<Listener = TcpListener, Stream = TcpStream>,
+> Machine for T {}
+
+/// How a server is to run, in a line.
+fn line_of(alloc: Global, config: &str, settings: &Settings) -> Result<String, AllocError> {
+    let Settings {
+        port,
+        bind,
+        out,
+        sessions,
+        connections,
+        rotate,
+        keep_room,
+        limits,
+        allowed,
+    } = settings;
+    let Limits {
+        silence,
+        per_host,
+        slowest,
+        no_job_seconds,
+        leave_seconds,
+        room_ms,
+    } = *limits;
+    format!(in alloc;
+        "serves {config} {port} {bind} {out} {sessions} {connections:?} {rotate:?} {silence:?} {per_host:?} {slowest:?} {no_job_seconds} {leave_seconds} {room_ms} {keep_room} {allowed:?}\n"
+    )
+}
+
+/// What the program prints for these words and this input, its faults, and in a line of its own its exit status or how a server is to
+/// run.
+fn told<R: Machine>(rt: &R, words: &[String], input: &[u8]) -> Result<Vec<u8>, AllocError> {
+    let alloc = rt.alloc();
+    let mut output = StreamWriter::new(Vec::new(alloc));
+    let mut faults = StreamWriter::new(Vec::new(alloc));
+    let mut input = StreamReader::new(input);
+    let outcome = run(rt, words, &mut input, &mut output, &mut faults);
+    let mut told = output.into_stream();
+    told.extend_from_slice(faults.into_stream().as_slice())?;
+    let end = match outcome {
+        Outcome::Ended(status) => format!(in alloc; "status {status}\n")?,
+        Outcome::Serve { config, settings } => line_of(alloc, config, &settings)?,
+    };
+    told.extend_from_slice(end.as_bytes())?;
+    Ok(told)
+}
+
+/// A listener at a port of loopback that nobody else has, and the port.
+fn listen<R: Abort + Net<Listener = TcpListener, Stream = TcpStream>>(
+    rt: &R,
+) -> (TcpListener, u16) {
+    let address = SocketAddr::from((Ipv4Addr::LOCALHOST, 0));
+    let listener = TcpListener::bind(rt, address).expect(rt, "a port");
+    let port = listener.local_addr().expect(rt, "its number").port();
+    (listener, port)
+}
+
+/// The path of a file for a test that holds this port.
+fn path_of<R: Abort + AllocGlobal + Env>(rt: &R, port: u16) -> String {
+    let dir = env::temp_dir(rt).expect(rt, "a directory");
+    let dir = dir.as_str();
+    format!(in rt.alloc(); "{dir}/hurgwaye-{port}").expect(rt, "memory")
+}
+
+/// What the words of a row are told.
+fn told_of_row<R: Machine>(rt: &R, line: &str, octets: &[u8]) -> Vec<u8> {
+    let (_holder, port) = listen(rt);
+    let file = path_of(rt, port);
+    let script = format!(in rt.alloc(); "{}-script", file.as_str()).expect(rt, "memory");
+    let (file, script) = (file.as_str(), script.as_str());
+    let text = str::from_utf8(octets).unwrap_or("");
+    let (first, second) = text.split_once("%%\n").unwrap_or((text, ""));
+    fs::write(rt, file, first.as_bytes()).expect(rt, "a file");
+    fs::write(rt, script, second.as_bytes()).expect(rt, "a file");
+    let words = words_of(rt.alloc(), line, file, script).expect(rt, "memory");
+    let told = told(rt, words.as_slice(), octets).expect(rt, "memory");
+    fs::remove_file(rt, file).expect(rt, "a file");
+    fs::remove_file(rt, script).expect(rt, "a file");
+    told
+}
+
+#[test]
+fn words_are_answered(rt: HostRuntime) {
+    for (line, octets, wanted) in TOLD {
+        let answer = told_of_row(&rt, line, octets);
+        expect(&rt, line.as_bytes(), answer.as_slice(), wanted);
+    }
+    for line in ["--help", "--version", "-h"] {
+        let answer = told_of_row(&rt, line, b"");
+        assert!(rt; answer.as_slice().ends_with(b"\nstatus 0\n"), "{line}");
+    }
+    for line in BAD.trim().lines() {
+        let answer = told_of_row(&rt, line, b"");
+        assert!(rt; answer.as_slice().starts_with(b"error: "), "{line}");
+        assert!(rt; answer.as_slice().ends_with(b"\nstatus 1\n"), "{line}");
+    }
+}
+
+/// Up to each acknowledgement, the octets of job 7 of host h1 and user ann with a file of `hello world`.
+const PARTS: [&[u8]; 5] = [
+    b"\x02lp\n",
+    b"\x0311 dfA007h1\n",
+    b"hello world\x00",
+    b"\x0219 cfA007h1\n",
+    b"Hh1\nPann\nfdfA007h1\n\x00",
+];
+
+/// The same with a file of `other words` behind it.
+const PARTS_OF_TWO: [&[u8]; 7] = [
+    b"\x02lp\n",
+    b"\x0311 dfA007h1\n",
+    b"hello world\x00",
+    b"\x0311 dfB007h1\n",
+    b"other words\x00",
+    b"\x0229 cfA007h1\n",
+    b"Hh1\nPann\nfdfA007h1\nfdfB007h1\n\x00",
+];
+
+/// Takes one connection, reads each part of a job and answers it by 00, but the part of this number by 1. What was read.
+fn serve(
+    alloc: Global,
+    listener: &TcpListener,
+    parts: &[&[u8]],
+    refused: usize,
+) -> io::Result<Vec<u8>> {
+    let (mut stream, _) = listener.accept()?;
+    let mut read = Vec::new(alloc);
+    let mut buffer = [0u8; 64];
+    for (number, part) in parts.iter().enumerate() {
+        let part_read = &mut buffer[..part.len().min(64)];
+        stream.read_exact(part_read)?;
+        read.extend_from_slice(part_read)?;
+        let answer = if number == refused { 1 } else { 0 };
+        stream.write_all(&[answer])?;
+        if number == refused {
+            break;
+        }
+    }
+    Ok(read)
+}
+
+/// What a server reads of the job of these parts and files where it refuses the part of this number, and what the
+/// client tells.
+fn sent<R: Machine + Threads + Sync>(
+    rt: &R,
+    parts: &[&[u8]],
+    files: &[&[u8]],
+    refused: usize,
+) -> (Vec<u8>, Vec<u8>) {
+    let alloc = rt.alloc();
+    let (listener, port) = listen(rt);
+    let path = path_of(rt, port);
+    let mut line = format!(in alloc; "send,{port},lp,7,h1,ann").expect(rt, "memory");
+    for (number, octets) in files.iter().enumerate() {
+        let file = format!(in alloc; "{path}-{number}").expect(rt, "memory");
+        fs::write(rt, file.as_str(), *octets).expect(rt, "a file");
+        line = format!(in alloc; "{line},{file}").expect(rt, "memory");
+    }
+    let words = words_of(alloc, line.as_str(), "", "").expect(rt, "memory");
+    let (listener, words) = (&listener, words.as_slice());
+    let (served, told) = thread::join(
+        rt,
+        move || serve(alloc, listener, parts, refused),
+        move || told(rt, words, b""),
+    );
+    for number in 0..files.len() {
+        let file = format!(in alloc; "{path}-{number}").expect(rt, "memory");
+        fs::remove_file(rt, file.as_str()).expect(rt, "a file");
+    }
+    (served.expect(rt, "a connection"), told.expect(rt, "memory"))
+}
+
+/// The octets of that job, as a client has them.
+fn octets_of_job(rt: &impl Abort, alloc: Global) -> Result<Octets, Fail> {
+    let name = FileName::read(b"cfA007h1")?;
+    let control = Control::parse(alloc, &name, b"Hh1\nPann\nfdfA007h1\n")?;
+    let files = [DataFile {
+        name: FileName::read(b"dfA007h1")?,
+        octets: Octets::copy_of(alloc, b"hello world")?,
+    }];
+    let queue = Octets::copy_of(alloc, b"lp")?;
+    assert!(rt; is_sendable(alloc, &queue, &name, &control, files.as_slice())?);
+    Ok(job_bytes(alloc, &queue, &name, &control, files.as_slice())?)
+}
+
+#[test]
+fn jobs_are_sent(rt: HostRuntime) -> Result<(), Fail> {
+    let file: [&[u8]; 1] = [b"hello world"];
+    let (read, told) = sent(&rt, &PARTS, &file, 5);
+    expect(&rt, b"send", told.as_slice(), b"sent 007\nstatus 0\n");
+    let octets = octets_of_job(&rt, rt.alloc())?;
+    expect(&rt, b"octets of send", read.as_slice(), octets.as_slice());
+    let (_, told) = sent(&rt, &PARTS, &file, 1);
+    let line = b"fault 60 Refused 1\nstatus 5\n";
+    expect(&rt, b"send that is refused", told.as_slice(), line);
+    Ok(())
+}
+
+#[test]
+fn files_are_sent_in_order(rt: HostRuntime) -> Result<(), Fail> {
+    let files: [&[u8]; 2] = [b"hello world", b"other words"];
+    let (read, told) = sent(&rt, &PARTS_OF_TWO, &files, 7);
+    expect(&rt, b"two files", told.as_slice(), b"sent 007\nstatus 0\n");
+    let mut octets = Vec::new(rt.alloc());
+    for part in PARTS_OF_TWO {
+        octets.extend_from_slice(part)?;
+    }
+    expect(
+        &rt,
+        b"octets of two files",
+        read.as_slice(),
+        octets.as_slice(),
+    );
+    Ok(())
+}
+
+#[test]
+fn nobody_listens(rt: HostRuntime) -> Result<(), Fail> {
+    let begun = Instant::now(&rt)?;
+    let (listener, port) = listen(&rt);
+    drop(listener);
+    let line = format!(in rt.alloc(); "send,{port},lp,7,h1,ann,FILE")?;
+    let answer = told_of_row(&rt, line.as_str(), b"hello");
+    let wanted = b"fault 72 Network\nstatus 4\n";
+    expect(&rt, b"send to nobody", answer.as_slice(), wanted);
+    assert!(rt; begun.elapsed(&rt)? < Duration::from_secs(1));
+    // A file without octets is found first.
+    let answer = told_of_row(&rt, line.as_str(), b"");
+    let wanted = b"fault 71 ReadFile\nstatus 4\n";
+    expect(&rt, b"send of an empty file", answer.as_slice(), wanted);
+    Ok(())
+}

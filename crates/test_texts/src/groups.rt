@@ -1,0 +1,90 @@
+//! The groups of rows.
+
+use crate::{lines, sessions, tables, trials};
+use std::alloc::AllocError;
+use std::sync::Wait;
+use test_kit::{Form, Group};
+
+/// A group of rows.
+#[derive(Clone, Copy)]
+pub enum Texts {
+    /// Command lines, and the commands as they are written or the refusals.
+    Commands,
+    /// Subcommand lines, and the subcommands as they are written or the refusals.
+    Subcommands,
+    /// File names, with whether they are of control files, and their numbers.
+    Names,
+    /// Texts of control files, and the control files as they are written or the refusals.
+    Controls,
+    /// Tables of claims, whether they are safe, and a finishing order.
+    Orders,
+    /// Orders of the rows of a table, and whether they are finishing orders.
+    Checks,
+    /// Tables, and whether a page more for their second row is safe.
+    Pages,
+    /// Sums and differences of amounts.
+    Sums,
+    /// Tables of claims as they change, and what each change answers.
+    Changes,
+    /// How many tables of how many rows are held against a trial of all orders, and whether they agree.
+    Trials,
+    /// Octets that a receiver reads, what it asks, and what is written.
+    Sessions,
+}
+
+impl Texts {
+    /// All groups.
+    pub const ALL: [Texts; 11] = [
+        Texts::Commands,
+        Texts::Subcommands,
+        Texts::Names,
+        Texts::Controls,
+        Texts::Orders,
+        Texts::Checks,
+        Texts::Pages,
+        Texts::Sums,
+        Texts::Changes,
+        Texts::Trials,
+        Texts::Sessions,
+    ];
+}
+
+impl Group for Texts {
+    fn file(&self) -> (&'static str, Form) {
+        match self {
+            Texts::Commands => ("commands", Form::Octets),
+            Texts::Subcommands => ("subcommands", Form::Octets),
+            Texts::Names => ("names", Form::Octets),
+            Texts::Controls => ("controls", Form::Octets),
+            Texts::Orders => ("orders", Form::Line),
+            Texts::Checks => ("checks", Form::Line),
+            Texts::Pages => ("pages", Form::Line),
+            Texts::Sums => ("sums", Form::Line),
+            Texts::Changes => ("changes", Form::Line),
+            Texts::Trials => ("trials", Form::Line),
+            Texts::Sessions => ("sessions", Form::Octets),
+        }
+    }
+
+    fn answer<R: AllocGlobal + Wait>(
+        &self,
+        rt: &R,
+        told: &mut String,
+        asked: &str,
+    ) -> Result<(), AllocError> {
+        let alloc = rt.alloc();
+        match self {
+            Texts::Commands => lines::command(told, alloc, asked),
+            Texts::Subcommands => lines::subcommand(told, alloc, asked),
+            Texts::Names => lines::name(told, alloc, asked),
+            Texts::Controls => lines::control(told, alloc, asked),
+            Texts::Orders => tables::order(told, alloc, asked),
+            Texts::Checks => tables::check(told, alloc, asked),
+            Texts::Pages => tables::page(told, alloc, asked),
+            Texts::Sums => tables::sum(told, alloc, asked),
+            Texts::Changes => tables::changes(told, alloc, asked),
+            Texts::Trials => trials::trial(told, alloc, asked),
+            Texts::Sessions => sessions::sessions(told, alloc, asked),
+        }
+    }
+}
