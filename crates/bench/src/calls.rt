@@ -57,7 +57,7 @@ struct Sent {
     control: &'static [u8],
 }
 
-/// The calls that a job needs on its way, a removal and a start, and what is done beside them.
+/// The calls that a job needs on its way, a removal, a start and a snapshot, and what is done beside them.
 #[derive(Clone, Copy)]
 enum Call {
     Open,
@@ -70,11 +70,12 @@ enum Call {
     Printed,
     Remove,
     Start,
+    Snapshot,
     Beside,
 }
 
 /// What the calls are called, in the order of `Call`.
-const NAMES: [&str; 10] = [
+const NAMES: [&str; 11] = [
     "open",
     "begin_file",
     "ask",
@@ -85,7 +86,11 @@ const NAMES: [&str; 10] = [
     "printed",
     "remove",
     "start",
+    "snapshot",
 ];
+
+/// After how many jobs a snapshot is taken.
+const BETWEEN: u32 = 100;
 
 /// The calls of one kind: how many there were, and how long they took in all.
 #[derive(Clone, Copy)]
@@ -99,7 +104,7 @@ struct Total {
 struct Times {
     /// What the clock showed when the last call had ended.
     last: u128,
-    totals: [Total; 11],
+    totals: [Total; 12],
 }
 
 impl Times {
@@ -255,7 +260,7 @@ fn send_and_remove<R: AllocGlobal + Clock>(
     Some(())
 }
 
-/// Sends the jobs, prints the oldest once so many are held, and removes another one then. None where a call was refused.
+/// Sends the jobs, prints the oldest once so many are held, and removes another one then; takes a snapshot now and then. None where a call was refused.
 fn drive<R: AllocGlobal + Clock>(
     rt: &R,
     core: &mut Core,
@@ -276,6 +281,11 @@ fn drive<R: AllocGlobal + Clock>(
             ..printed
         };
         send_and_remove(rt, core, times, load, removed)?;
+        if number % BETWEEN == 0 {
+            times.end(rt, Call::Beside);
+            let _snapshot = core.snapshot().ok()?;
+            times.end(rt, Call::Snapshot);
+        }
     }
     Some(())
 }
@@ -290,7 +300,7 @@ fn through_core<R: AllocGlobal + Clock>(rt: &R, load: Load) -> Option<Times> {
     };
     let mut times = Times {
         last: 0,
-        totals: [none; 11],
+        totals: [none; 12],
     };
     drive(rt, &mut core, &mut times, load).map(|()| times)
 }

@@ -1,6 +1,9 @@
 //! What one job holds and may still need.
 
+ghost use Rattle.std.specs.Prelude.{◌≡◌, IfOk};
+
 use counts::Counts;
+use std::alloc::{AllocError, Global};
 
 /// What one job holds and may still need, of each kind of resource.
 #[derive(Debug, Drop)]
@@ -15,4 +18,19 @@ pub struct Row {
     pub held: Counts,
     /// What the job may ask for beyond what it holds.
     pub need: Counts,
+}
+
+impl Row {
+    /// A row that says the same.
+    pub fn copy(&self, alloc: Global) -> Result<Row, AllocError>
+        ensures { IfOk result (λ row. row ≡ self.now) }
+    {
+        Ok(Row {
+            number: self.number,
+            sender: self.sender,
+            queue: self.queue,
+            held: self.held.copy(alloc)?,
+            need: self.need.copy(alloc)?,
+        })
+    }
 }

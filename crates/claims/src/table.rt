@@ -95,6 +95,25 @@ impl Table {
         })
     }
 
+    /// A table that says the same.
+    ///
+    /// AllocError where memory for it is refused.
+    pub fn copy(&self, alloc: Global) -> Result<Table, AllocError>
+        ensures { IfOk result (λ t. t ≡ self.now) }
+    {
+        let mut rows = Vec::with_capacity(alloc, self.room)?;
+        for row in &self.rows {
+            rows.push(row.copy(alloc)?)?;
+        }
+        Ok(Table {
+            alloc,
+            capacity: self.capacity.copy(alloc)?,
+            free: self.free.copy(alloc)?,
+            rows,
+            room: self.room,
+        })
+    }
+
     /// The rows by rising number.
     pub fn rows(&self) -> &[Row]
         ensures rows { result.now ≡ self.now.rows }

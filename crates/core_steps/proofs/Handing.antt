@@ -23,7 +23,7 @@ use Rattle.spool_history.specs.Events.{Event, Sheet}
 use Rattle.spool_history.specs.Events.Turn.{Handed}
 use Rattle.spool_history.specs.Events.Event.{AtPrinter}
 use Rattle.spool_history.specs.Now.{Job, State, is_received, places, row_of}
-use Rattle.spool_history.specs.Next.{hand_first, hand_of, next_page, printer_at}
+use Rattle.spool_history.specs.Next.{Next, hand_first, hand_of, next_page, printer_at}
 use Rattle.spool_history.specs.Next.Next.{Hands as HandsOut}
 use Rattle.spool_history.specs.Steps.{printer_turned, turned}
 use Rattle.spool_laws.proofs.Known.{Has}
@@ -77,6 +77,11 @@ handed_core k p i at page = record k {
   printers = set k.printers (p - 1) (record { queue = at.queue; out = Some (sheet_out page); began = Some page.job; stopped = false });
 }
 
+-- the place of a page that is next, and 0 where none is
+abbrev place_next : {C : Type 0} → Next C → ℕ
+place_next (HandsOut sheet) = sheet.place
+place_next _ = 0
+
 -- the printer may get a page
 pub record Waits (k : Kept) (at : Printer) : Type 0 where
   pub open' : k.closed ≡ false
@@ -114,7 +119,7 @@ module _ (d : Detail) (b : Base) (h : List (Event (What d))) (k : Kept) (l : Lea
     ts : Turns d b h k l i
     ts = turns d b h k l p i at.queue at.began ip (sym (ap (λ (a : Printer). a.began) seen)) t
 
-    held : i < length k.book.jobs
+    pub held : i < length k.book.jobs
     held = (let n = jobs_len d b h k l in let lt = ts.there in omega (arith, n, lt))
 
     ties : see_job (look d) j ≡ shown_job k.config x
@@ -166,6 +171,13 @@ module _ (d : Detail) (b : Base) (h : List (Event (What d))) (k : Kept) (l : Lea
 
       handed_same : j.facts.handed ≡ x.handed
       handed_same = ap (λ (g : Facts). g.handed) facts'
+
+      abbrev Begins : Type 0
+      Begins = (sheet : Sheet (What d)) × (next_page v p ≡ HandsOut sheet) × (sheet.place ≡ 0)
+
+      -- it is the first of the job exactly where none was handed out before
+      pub hands_first : (j.facts.handed ≡ 0 → Begins) × (Begins → j.facts.handed ≡ 0)
+      hands_first = (λ z. (next', next_is, sym handed_same ∙ z), λ b. handed_same ∙ (ap place_next (sym next_is ∙ b.1) ∙ b.2))
 
       pub hand_few : IsConfig k.config → j.facts.handed + 1 < 2 ^ 64
       hand_few ranges = (let n = handed_few d b h k x ranges l (has_get v.jobs i no_job ts.there) in let e = handed_same in omega (arith, n, e))

@@ -10,7 +10,7 @@ use Rattle.spool_calls.specs.Looks.Detail.{Outlines}
 use Rattle.spool_calls.specs.Kept.{Kept}
 use Rattle.spool_calls.specs.Calls.{before}
 use Rattle.spool_calls.specs.Readers.{stopped_for}
-use Rattle.spool_core.specs.Printers.{MustWait}
+use Rattle.spool_core.specs.Printers.{BeginsNext, MustWait}
 use Rattle.locked_spool.specs.Held.{Held}
 
 module _ (d : Detail) (b : Base) (h : List (Event (What d))) (k : Kept) where
@@ -29,6 +29,10 @@ module _ (d : Detail) (b : Base) (h : List (Event (What d))) (k : Kept) where
 -- a printer of this configuration has to wait
 abbrev pub Waits : Config → Held → (printer : ℕ) → Type 0
 Waits c h p = IsPrinter c p × MustWait Outlines h.base h.events h.core p
+
+-- a job would begin at a printer of this configuration
+abbrev pub Begins : Config → Held → (printer : ℕ) → Type 0
+Begins c h p = IsPrinter c p × BeginsNext Outlines h.base h.events h.core p
 
 -- this holds where a printer got nothing because it has to wait
 abbrev pub WhereNothing : Next → Type 0 → Type 0

@@ -1,15 +1,17 @@
-//! What a locked spool tells of itself. No reader takes memory, and none changes anything.
+//! What a locked spool tells of itself. No reader changes anything, and none but `snapshot` takes memory.
 
-ghost use Rattle.std.specs.Prelude.{◌≡◌, ◌+◌, ◌↔◌, ◌<◌, IsTrue, length};
-ghost use Rattle.config_values.specs.Config.{IsPrinter};
+ghost use Rattle.std.specs.Prelude.{◌≡◌, ◌+◌, ◌↔◌, ◌<◌, IfOk, IsTrue, MatchOption, length};
+ghost use Rattle.config_values.specs.Config.{IsPrinter, IsQueue, queue_named, queue_of};
 ghost use Rattle.spool_calls.specs.Calls.{IsRight, before};
 ghost use Rattle.spool_calls.specs.Readers.{ArePlaced, placed};
 ghost use Rattle.spool_core.specs.Printers.{MustWait};
-ghost use Rattle.locked_spool.specs.Waiting.{HasStopped, IsIdle, Waits};
+ghost use Rattle.locked_spool.specs.Waiting.{Begins, HasStopped, IsIdle, Waits};
+ghost use Rattle.spool_snapshot.specs.Shows.{Shows};
 
 use crate::locked::Locked;
-use spool_core::Pages;
+use spool_core::{Pages, Snapshot};
 use spool_ledgers::SpoolLedger;
+use std::alloc::AllocError;
 use std::sync::ledger::Ledger;
 
 impl<E: SpoolLedger, K: Ledger, H: Ledger> Locked<E, K, H> {
@@ -37,6 +39,22 @@ impl<E: SpoolLedger, K: Ledger, H: Ledger> Locked<E, K, H> {
         ensures all { result.chained + result.lent + result.out + result.free ≡ E.config.pages }
     {
         self.core.pages_by_place()
+    }
+
+    /// The spool as it is now.
+    ///
+    /// AllocError where memory for it is refused.
+    pub fn snapshot(&self) -> Result<Snapshot, AllocError>
+        ensures { IfOk result (λ s. IsRight self.now.core (λ d b h. Shows d b h self.now.core s)) }
+    {
+        self.core.snapshot()
+    }
+
+    /// The number of this segment of the account: one more than how often it was rotated.
+    pub fn segment(&self) -> u64
+        ensures { result ≡ self.now.number }
+    {
+        self.number
     }
 
     /// Whether a printer of some queue is stopped. It looks at each queue.
@@ -72,6 +90,28 @@ impl<E: SpoolLedger, K: Ledger, H: Ledger> Locked<E, K, H> {
         ensures { IsRight self.now.core (λ d b h. IsTrue result ↔ IsIdle d b h self.now.core) }
     {
         self.core.held() == 0 || self.has_stopped()
+    }
+
+    /// The number of the queue of a name.
+    pub fn queue_number(&self, name: &[u8]) -> Option<u32>
+        ensures { MatchOption result (queue_named E.config name.now ≡ 0)
+            (λ q. (queue_named E.config name.now ≡ q) × IsQueue E.config q) }
+    {
+        self.core.queue_number(name)
+    }
+
+    /// The number of the queue that a printer serves, or 0 where no printer has this number.
+    pub fn queue_of(&self, printer: u32) -> u32
+        ensures { result ≡ queue_of E.config printer }
+    {
+        self.core.config().queue_of(printer)
+    }
+
+    /// Whether `next` would hand a printer the first page of a job, which would begin there.
+    pub fn begins_next(&self, printer: u32) -> bool
+        ensures { IsTrue result ↔ Begins E.config self.now printer }
+    {
+        self.core.config().is_printer(printer) && self.core.begins_next(printer)
     }
 
     /// Whether a printer has to wait for its next page: `next` would answer Nothing or Stopped.

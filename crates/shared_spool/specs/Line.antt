@@ -1,12 +1,29 @@
 -- Who stands in the line, and whose job is ended there.
-use Rattle.std.specs.Prelude.{◌≡◌, ◌≢◌, ℕ, List, Option, Some, None, Result, Ok, Err, slice_get}
+use Rattle.std.specs.Prelude.{◌≡◌, ◌≢◌, ℕ, Bool, true, false, List, Option, Some, None, Result, Ok, Err, set, slice_get, slice_index_or}
+use Rattle.config_values.specs.Config.{Config, IsQueue, queue_named, queue_of}
+use Rattle.lpd_values.specs.declared.refusal.Refusal.{Refusal}
+use Rattle.lpd_values.specs.declared.refusal.Refusal.TheVariants.{UnknownQueue}
 use Rattle.spool_calls.specs.Calls.{IsRight, MayAbort, before}
 use Rattle.locked_spool.specs.Held.{Held}
 use Rattle.locked_spool.specs.Entries.{WritesAborted}
+use Rattle.locked_spool.specs.Waiting.{Begins}
 use Rattle.shared_spool.specs.declared.line.AbortError.{AbortError}
 use Rattle.shared_spool.specs.declared.line.AbortError.TheVariants.{Moved, NotOpen}
 use Rattle.shared_spool.specs.declared.line.Waiter.{Waiter}
 use Rattle.shared_spool.specs.declared.line.Waiting.{Waiting}
+
+-- whether the queue of a number is held
+abbrev pub held_at : List Bool → (queue : ℕ) → Bool
+held_at held queue = slice_index_or held queue false
+
+-- a job would begin at a printer whose queue is held: it waits
+abbrev pub IsPutOff : Config → Held → List Bool → (printer : ℕ) → Type 0
+IsPutOff c h held p = (held_at held (queue_of c p) ≡ true) × Begins c h p
+
+-- a queue is held, or held no longer, exactly where one has this name; the others stay as they are
+abbrev pub Holds : Config → (old new : List Bool) → (name : List ℕ) → (held : Bool) → Result ℕ Refusal → Type 0
+Holds c old new name held (Ok q) = (queue_named c name ≡ q) × IsQueue c q × (new ≡ set old q held)
+Holds c old new name held (Err e) = (e ≡ UnknownQueue) × (queue_named c name ≡ 0) × (new ≡ old)
 
 -- for what waits who stands at a place
 abbrev pub wait_of : Option (Option Waiter) → Option Waiting

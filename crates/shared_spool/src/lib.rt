@@ -10,6 +10,7 @@ mod printers;
 mod queue_calls;
 mod seats;
 mod sessions;
+mod sight;
 mod spool;
 mod waiting;
 
@@ -18,11 +19,12 @@ pub use control_file::Control;
 pub use line::{AbortError, Waiting};
 pub use locked_spool::{
     Account, Asked, Base, Config, Entry, Foreign, HandedPage, Kind, Next, Pages, Progress, Receipt,
-    Removal, ReturnedControl, ReturnedPage, ReturnedTicket, RotateError, Segment, Started,
-    Unopened,
+    Removal, ReturnedControl, ReturnedPage, ReturnedTicket, RotateError, SeenJob, Segment,
+    Snapshot, Started, Unopened,
 };
 pub use lpd_values::{FileName, Octets, Refusal};
 pub use page_pool::{FilledPage, PageTicket};
 pub use seats::{PrinterSeat, SessionSeat};
+pub use sight::Sight;
 pub use spool::{Opened, SharedSpool, Unfinished};
 pub use spool_ledgers::{Blanks, SpoolLedger};

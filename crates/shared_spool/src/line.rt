@@ -4,15 +4,16 @@
 //! wait any more. A session stands in it until it goes on. One session at a time is called after the events that may have ended
 //! a wait: it asks again, and then calls the next one that hasn't asked since the event, by the numbers of their jobs.
 
-ghost use Rattle.std.specs.Prelude.{◌≡◌, ◌<◌, ◌^◌};
+ghost use Rattle.std.specs.Prelude.{◌≡◌, ◌↔◌, ◌<◌, ◌^◌, IsTrue, set};
 ghost use Rattle.account.specs.declared.kind.Kind.TheVariants as kind;
 ghost use Rattle.locked_spool.specs.Entries.{WritesHanded};
 ghost use Rattle.locked_spool.specs.Shares.{when_done, when_handed};
 ghost use Rattle.locked_spool.specs.Waiting.{Waits, WhereNothing};
-ghost use Rattle.shared_spool.specs.Line.{EndsWait, waits_at};
+ghost use Rattle.shared_spool.specs.Line.{EndsWait, Holds, IsPutOff, held_at, waits_at};
 
 use crate::seats::PrinterSeat;
-use locked_spool::{Locked, Next};
+use locked_spool::{Config, Locked, Next};
+use lpd_values::Refusal;
 use spool_ledgers::{Shares, SpoolLedger};
 use std::alloc::{AllocError, Global};
 use std::sync::ledger::Ledger;
@@ -63,6 +64,8 @@ pub(crate) struct Line {
     called: Option<u32>,
     // For how many counted entries the one waits who rotates the account, where one waits.
     rotates_from: Option<u64>,
+    // Whether a queue is held, by its number. None has the number 0.
+    pub(crate) held: Vec<bool>,
     // The spool was closed.
     closed: bool,
 }
@@ -83,8 +86,9 @@ pub(crate) struct Row {
 }
 
 impl Line {
-    /// Nobody waits of so many printers and sessions.
-    pub(crate) fn new(alloc: Global, printers: u32, sessions: u32) -> Result<Line, AllocError> {
+    /// Nobody waits of the printers of a configuration and of so many sessions, and no queue is held.
+    pub(crate) fn new(alloc: Global, config: &Config, sessions: u32) -> Result<Line, AllocError> {
+        let (printers, queues) = (config.printer_count(), config.queues().len() as u32);
         Ok(Line {
             printers: (0..=printers).map(|_| false).collect(alloc)?,
             sessions: (0..sessions).map(|_| None).collect(alloc)?,
@@ -93,6 +97,7 @@ impl Line {
             round: 0,
             called: None,
             rotates_from: None,
+            held: (0..=queues).map(|_| false).collect(alloc)?,
             closed: false,
         })
     }
@@ -107,6 +112,22 @@ impl Line {
     fn set_printer(&mut self, printer: u32, waits: bool) {
         if let Some(place) = self.printers.get_mut(printer as usize) {
             *place = waits;
+        }
+    }
+
+    /// Whether a queue is held.
+    fn is_held(&self, queue: u32) -> bool
+        ensures { result ≡ held_at self.now.held.items queue }
+    {
+        self.held.get(queue as usize).copied().unwrap_or(false)
+    }
+
+    /// A queue is held, or it is held no longer.
+    fn set_held(&mut self, queue: u32, held: bool)
+        ensures { self.new.held.items ≡ set self.old.held.items queue held }
+    {
+        if let Some(place) = self.held.get_mut(queue as usize) {
+            *place = held;
         }
     }
 
@@ -191,10 +212,46 @@ impl<E: SpoolLedger, K: Ledger, H: Ledger> Room<E, K, H> {
         answer
     }
 
+    /// Whether a job would begin at a printer, and its queue is held.
+    fn is_put_off(&self, printer: u32) -> bool
+        ensures { IsTrue result
+            ↔ IsPutOff E.config self.now.locked self.now.line.held.items printer }
+    {
+        self.line.is_held(self.locked.queue_of(printer)) && self.locked.begins_next(printer)
+    }
+
+    /// Whether a printer has to wait since its queue is held. Then it stands in the line.
+    pub(crate) fn puts_off(&mut self, printer: u32) -> bool
+        ensures held { IsTrue result
+            ↔ IsPutOff E.config self.old.locked self.old.line.held.items printer }
+        ensures same { self.new.locked ≡ self.old.locked }
+    {
+        let waits = self.is_put_off(printer);
+        if waits {
+            self.line.set_printer(printer, true);
+        }
+        waits
+    }
+
+    /// Holds the queue of a name, or releases it, and answers its number.
+    ///
+    /// UnknownQueue where no queue has this name.
+    pub(crate) fn hold(&mut self, queue: &[u8], held: bool) -> Result<u32, Refusal>
+        ensures held { Holds E.config self.old.line.held.items self.new.line.held.items
+            queue.now held result }
+        ensures same { self.new.locked ≡ self.old.locked }
+    {
+        let number = self.locked.queue_number(queue);
+        let number = number.ok_or(Refusal::UnknownQueue)?;
+        self.line.set_held(number, held);
+        Ok(number)
+    }
+
     /// Calls a printer of a queue that waits and need not any more, if one does.
     pub(crate) fn call_printer(&mut self, row: Row) -> Option<u32> {
         for printer in row.first..row.past {
-            if self.line.has_printer(printer) && !self.locked.must_wait(printer) {
+            let waits = self.locked.must_wait(printer) || self.is_put_off(printer);
+            if self.line.has_printer(printer) && !waits {
                 self.line.set_printer(printer, false);
                 return Some(printer);
             }

@@ -1,7 +1,9 @@
 //! The calls on a queue or on the whole spool, through a session's seat.
 
-ghost use Rattle.std.specs.Prelude.{◌≡◌, ◌+◌, IfOk};
+ghost use Rattle.std.specs.Prelude.{◌≡◌, ◌+◌, ◌↔◌, IfErr, IfOk, IsErr};
 ghost use Rattle.account.specs.declared.kind.Kind.TheVariants as kind;
+ghost use Rattle.config_values.specs.Config.{queue_named};
+ghost use Rattle.lpd_values.specs.declared.refusal.Refusal.TheVariants.{UnknownQueue};
 ghost use Rattle.locked_spool.specs.Segments.{HasHeadline, IsLegalSegment};
 ghost use Rattle.locked_spool.specs.Shares.{OneOrNone, WhenStarted, when_removed, when_started, when_taken};
 ghost use Rattle.locked_spool.specs.Telling.{text_of};
@@ -48,6 +50,43 @@ impl<E: SpoolLedger, K: Ledger, H: Ledger> SharedSpool<E, K, H> {
         ensures { WhenStarted result seat.old seat.new }
     {
         self.start_telling(rt, seat, queue)?;
+        Ok(())
+    }
+
+    /// Holds a queue: no job of it begins at a printer that waits for its next page (`next_wait`), until it is released. A job
+    /// that has begun goes on, and new ones are accepted. The account has no entry of it, and no other call answers otherwise.
+    ///
+    /// UnknownQueue where no queue has this name.
+    pub fn hold<R: Wait>(
+        &self,
+        rt: &R,
+        _seat: &mut SessionSeat<E, K, H>,
+        queue: &[u8],
+    ) -> Result<(), Refusal>
+        ensures seat { _seat.new ≡ _seat.old }
+        ensures unknown { IfErr result (λ e. e ≡ UnknownQueue) }
+        ensures named { IsErr result ↔ (queue_named E.config queue.now ≡ 0) }
+    {
+        self.state.lock(rt).hold(queue, true)?;
+        Ok(())
+    }
+
+    /// Releases a queue that was held: its printers go on.
+    ///
+    /// UnknownQueue where no queue has this name.
+    pub fn release<R: Wait>(
+        &self,
+        rt: &R,
+        _seat: &mut SessionSeat<E, K, H>,
+        queue: &[u8],
+    ) -> Result<(), Refusal>
+        ensures seat { _seat.new ≡ _seat.old }
+        ensures unknown { IfErr result (λ e. e ≡ UnknownQueue) }
+        ensures named { IsErr result ↔ (queue_named E.config queue.now ≡ 0) }
+    {
+        let mut room = self.state.lock(rt);
+        let number = room.hold(queue, false)?;
+        self.ring_printers(&mut *room, self.bells.row_of(number));
         Ok(())
     }
 

@@ -125,7 +125,7 @@ fn places_for<E: SpoolLedger, K: Ledger, H: Ledger>(
         sessions: Vec::with_capacity(alloc, sessions as usize)?,
         printers: Vec::with_capacity(alloc, printers as usize)?,
         bells: Bells::new(alloc, config, sessions)?,
-        line: Line::new(alloc, printers, sessions)?,
+        line: Line::new(alloc, config, sessions)?,
     })
 }
 

@@ -63,7 +63,7 @@ impl<E: SpoolLedger, K: Ledger, H: Ledger> SharedSpool<E, K, H> {
     }
 
     /// Gives the seat's printer its next page, once there is one or the spool is closed. It waits while `next` would answer
-    /// Nothing or Stopped.
+    /// Nothing or Stopped, and while a job would begin there whose queue is held.
     pub fn next_wait<R: Wait>(&self, rt: &R, seat: &mut PrinterSeat<E, K, H>) -> Next
         ensures seat { seat.new ≡ next_desk result seat.old }
         ensures bound { seat.new.sums.handed < 2 ^ 64 }
@@ -71,12 +71,14 @@ impl<E: SpoolLedger, K: Ledger, H: Ledger> SharedSpool<E, K, H> {
     {
         let mut room = self.state.lock(rt);
         for _ in rt.forever() {
-            match room.next(&mut *seat) {
-                Next::Nothing | Next::Stopped => {}
-                answer => {
-                    drop(room);
-                    self.hands(seat, &answer);
-                    return answer;
+            if !room.puts_off(seat.printer) {
+                match room.next(&mut *seat) {
+                    Next::Nothing | Next::Stopped => {}
+                    answer => {
+                        drop(room);
+                        self.hands(seat, &answer);
+                        return answer;
+                    }
                 }
             }
             room = self.printer_bell(seat.printer).wait(rt, room);

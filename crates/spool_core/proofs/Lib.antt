@@ -5,3 +5,5 @@ pub mod Beginning
 pub mod Outs
 pub mod Standing
 pub mod Halves
+pub mod Seen
+pub mod Begins

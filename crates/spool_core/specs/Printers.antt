@@ -29,6 +29,10 @@ IsOutAt (Some s) page page_size =
 abbrev pub HasNext : (d : Detail) → Base → List (Event (What d)) → Kept → (printer : ℕ) → Type 0
 HasNext d b h k p = (sheet : E.Sheet (What d)) × (next_page (before d b h k) p ≡ Hands sheet)
 
+-- the page that is next for a printer is the first of a job, which would begin there
+abbrev pub BeginsNext : (d : Detail) → Base → List (Event (What d)) → Kept → (printer : ℕ) → Type 0
+BeginsNext d b h k p = (sheet : E.Sheet (What d)) × (next_page (before d b h k) p ≡ Hands sheet) × (sheet.place ≡ 0)
+
 -- nothing is next for a printer, or it is stopped
 abbrev pub MustWait : (d : Detail) → Base → List (Event (What d)) → Kept → (printer : ℕ) → Type 0
 MustWait d b h k p = (next_page (before d b h k) p ≡ Nothing) ⊎ (next_page (before d b h k) p ≡ Stops)

@@ -9,7 +9,7 @@ ghost use Rattle.spool_calls.specs.Looks.Detail.{Outlines};
 ghost use Rattle.spool_calls.specs.Kept.{Leaves};
 ghost use Rattle.spool_calls.specs.Calls.{IsRight};
 ghost use Rattle.spool_core.specs.Due.{IsDue, IsTurnOf};
-ghost use Rattle.spool_core.specs.Printers.{HasNext, MustWait};
+ghost use Rattle.spool_core.specs.Printers.{BeginsNext, HasNext, MustWait};
 
 use crate::core_state::Core;
 use page_chain::Place;
@@ -63,6 +63,17 @@ impl Core {
         ensures reached { (b : Base) × (h : List (Event Outline)) × Leaves Outlines b h self.now }
     {
         matches!(self.due(printer), Due::Page(..))
+    }
+
+    /// Whether `next` would hand a printer the first page of a job, which would begin there.
+    pub fn begins_next(&self, printer: u32) -> bool
+        requires { IsPrinter self.now.config printer }
+        ensures { IsRight self.now (λ d b h. IsTrue result ↔ BeginsNext d b h self.now printer) }
+    {
+        match self.due(printer) {
+            Due::Page(i, _) => self.book.job(i).handed() == 0,
+            Due::Closed | Due::Stopped | Due::Busy | Due::Nothing => false,
+        }
     }
 
     /// Whether a printer has to wait for its next page: `next` would answer Nothing or Stopped.

@@ -11,6 +11,7 @@ mod printers;
 mod printing;
 mod reading;
 mod receiving;
+mod snapshot;
 mod telling;
 mod unmade;
 
@@ -21,11 +22,11 @@ pub use core_state::Core;
 pub use laws::headline_stands;
 pub use lpd_values::{FileName, Octets, Refusal};
 pub use page_pool::{FilledPage, PageTicket};
-pub use reading::Pages;
 pub use receiving::{EndedFile, FilePage};
 pub use spool_calls::{
     Asked, Foreign, HandedPage, Next, Progress, Receipt, ReturnedControl, ReturnedPage,
     ReturnedTicket, Sheet,
 };
+pub use spool_snapshot::{Pages, SeenJob, Snapshot};
 pub use telling::Removal;
 pub use unmade::Unmade;

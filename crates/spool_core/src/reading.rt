@@ -24,19 +24,7 @@ use config_values::Config;
 use lpd_values::Refusal;
 use queues::Book;
 use spool_calls::Printer;
-
-/// The pages of a spool by where they are.
-#[derive(Clone, Copy, Debug)]
-pub struct Pages {
-    /// The pages that are free.
-    pub free: usize,
-    /// The pages in the chains of the held jobs.
-    pub chained: usize,
-    /// The pages that are lent to sessions.
-    pub lent: usize,
-    /// The pages that are out at printers.
-    pub out: usize,
-}
+use spool_snapshot::Pages;
 
 /// How many of these printers have a page out.
 fn count_out(printers: &[Printer]) -> usize

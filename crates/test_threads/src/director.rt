@@ -64,6 +64,10 @@ pub enum Step {
     Removed(u64),
     /// The queue is started.
     Started,
+    /// The queue is held.
+    Held,
+    /// The queue is released.
+    Released,
     /// The spool is closed.
     Closed,
     /// A printer is handed its next page.
@@ -345,6 +349,8 @@ impl<'a, R: AllocGlobal + Clock + Wait, E: SpoolLedger, K: Ledger, H: Ledger> Di
             Step::WaitKept(job) => self.keep_wait(job)?,
             Step::Removed(job) => self.remove(job)?,
             Step::Started => spool.start(rt, &mut self.seat, QUEUE).ok()?,
+            Step::Held => spool.hold(rt, &mut self.seat, QUEUE).ok()?,
+            Step::Released => spool.release(rt, &mut self.seat, QUEUE).ok()?,
             Step::Closed => spool.close(rt, &mut self.seat),
             Step::Handed(printer) => self.hand(printer)?,
             Step::Printed(printer) => self.give_back(printer, true)?,

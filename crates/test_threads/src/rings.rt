@@ -57,6 +57,13 @@ removed, the last job is removed: whole 1 1, waits 0 nobody, removed 1, goes 0 i
 removed, the account is to be rotated: whole 1 1, waits 0 rotates, removed 1, goes 0 idle
 started, two printers are stopped: whole 1 1, handed 1, failed 1, whole 1 1, handed 2, failed 2, whole 1 1, whole 2 1, \
  waits 0 printer 1, waits 1 printer 2, started, goes 0 page, goes 1 page
+held, no job begins until the release: held, waits 0 printer 1, whole 1 1, stays 0, released, goes 0 page
+held, both printers go on after the release: held, whole 1 1, whole 2 1, waits 0 printer 1, waits 1 printer 2, released, goes 0 page, \
+ goes 1 page
+held, a job that has begun goes on: whole 1 2, handed 1, printed 1, held, begins 0 printer 1, goes 0 page
+held, a printer of the second queue goes on: held, waits 0 printer 1, waits 1 printer 3, whole 1 1, plotted 1 1, goes 1 page, stays 0
+held, a start of the queue begins no job: held, whole 1 1, waits 0 printer 1, started, stays 0, released, goes 0 page
+held, the spool is closed: held, whole 1 1, waits 0 printer 1, closed, goes 0 none
 closed, no page is free: begun 1 3 1, whole 2 2, begun 3 3 0, lent 3, waits 0 session 1, closed, goes 0 none
 closed, no job is there to print: begun 1 1 0, lent 1, waits 0 printer 1, waits 1 printer 2, closed, goes 0 none, goes 1 none
 passed on, both get a page: begun 1 3 1, whole 2 3, begun 3 3 0, handed 1, waits 0 session 1, waits 1 session 3, failed 1, \

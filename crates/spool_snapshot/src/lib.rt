@@ -1,0 +1,9 @@
+//! A spool as it was at one moment: plain data, with which the spool's lock isn't held any more.
+#![tactic(auto)]
+
+mod job;
+mod order;
+mod snapshot;
+
+pub use job::{SeenJob, seen_job};
+pub use snapshot::{Pages, Snapshot};
