@@ -10,6 +10,7 @@
 //! | `chosen QUEUE AGENT WORD..` | `jobs J..` |
 //! | `removal QUEUE AGENT WORD..`: what a removal would take, and its text | `queue Q jobs J.., TEXT` |
 //! | `starts QUEUE`: what a start would start | `queue Q stopped N` |
+//! | `snapshot`, of what the core keeps | `accepted N reserved N printers N, job J of SENDER in Q octets N handed N by USER at HOST, ..` |
 //! | `rotate`, where no job is held | `yes` |
 //!
 //! `other CALL` is a call of a second core, for which a line `other spool ..` has a configuration, and `trade` exchanges all
@@ -65,6 +66,31 @@ fn push_removal(
     Ok(())
 }
 
+/// Appends what a snapshot has: how many jobs were accepted, entries counted and printers are there, and the held jobs.
+fn push_snapshot(told: &mut String, core: &Core) -> Result<(), Refusal> {
+    let seen = core.snapshot()?;
+    let printers = seen.printers.len() as u64;
+    let counted = [
+        ("accepted", seen.accepted),
+        ("reserved", seen.reserved),
+        ("printers", printers),
+    ];
+    push_numbers(told, &counted)?;
+    for job in seen.jobs.iter() {
+        let (user, host) = (job.user.as_slice(), job.host.as_slice());
+        let (number, sender, queue) = (job.number, job.sender, job.queue);
+        write!(told, ", job {number} of {sender} in {queue}")?;
+        write!(told, " octets {} handed {}", job.octets, job.handed)?;
+        write!(
+            told,
+            " by {} at {}",
+            user.escape_ascii(),
+            host.escape_ascii()
+        )?;
+    }
+    Ok(())
+}
+
 /// Appends yes where nothing is refused.
 fn push_yes(told: &mut String, refusal: Option<Refusal>) -> Result<(), Refusal> {
     match refusal {
@@ -89,6 +115,7 @@ fn is_told(told: &mut String, alloc: Global, core: &mut Core, call: &str) -> Res
         }
         "free" => push_numbers(told, &[("free", core.free() as u64)])?,
         "reserve" => push_numbers(told, &[("reserve", core.counted_reserve())])?,
+        "snapshot" => push_snapshot(told, core)?,
         "chosen" | "removal" => push_removal(told, alloc, core, call == "removal", rest)?,
         "starts" => {
             let start = core.start_of(rest.as_bytes())?;

@@ -189,13 +189,6 @@ impl<'a, R: AllocGlobal + Clock + Wait, E: SpoolLedger, K: Ledger, H: Ledger> Di
         Some(job)
     }
 
-    /// The data file of a job ends.
-    fn end_file(&mut self, job: u64) -> Done {
-        let Stage { rt, spool, .. } = self.stage;
-        spool.end_file(rt, &mut self.seat, job).ok()?;
-        Some(())
-    }
-
     /// The control file of a job comes.
     fn control(&mut self, job: u64) -> Done {
         let Stage { rt, spool, .. } = self.stage;
@@ -249,7 +242,8 @@ impl<'a, R: AllocGlobal + Clock + Wait, E: SpoolLedger, K: Ledger, H: Ledger> Di
     /// A sender's job of so many pages is accepted for a queue, and is whole.
     fn whole(&mut self, queue: &[u8], sender: u32, pages: u64) -> Done {
         let job = self.begin(queue, sender, pages, pages)?;
-        self.end_file(job)?;
+        let Stage { rt, spool, .. } = self.stage;
+        spool.end_file(rt, &mut self.seat, job).ok()?;
         self.control(job)
     }
 
@@ -290,6 +284,18 @@ impl<'a, R: AllocGlobal + Clock + Wait, E: SpoolLedger, K: Ledger, H: Ledger> Di
             .remove(rt, &mut self.seat, QUEUE, b"root", &list)
             .ok()?;
         Some(())
+    }
+
+    /// The queue is held, or released, and whoever looks sees that.
+    fn hold(&mut self, held: bool) -> Done {
+        let Stage { rt, spool, .. } = self.stage;
+        if held {
+            spool.hold(rt, &mut self.seat, QUEUE).ok()?;
+        } else {
+            spool.release(rt, &mut self.seat, QUEUE).ok()?;
+        }
+        let sight = spool.sight(*rt, rt.alloc()).ok()?;
+        (sight.held.get(1) == Some(&held)).then_some(())
     }
 
     /// A printer is handed its next page.
@@ -334,7 +340,9 @@ impl<'a, R: AllocGlobal + Clock + Wait, E: SpoolLedger, K: Ledger, H: Ledger> Di
             Step::Whole(sender, pages) => self.whole(QUEUE, sender, pages)?,
             Step::Plotted(sender, pages) => self.whole(PLOTTER, sender, pages)?,
             Step::Lent(job) => self.lend(job)?,
-            Step::FileEnds(job) => self.end_file(job)?,
+            Step::FileEnds(job) => {
+                spool.end_file(rt, &mut self.seat, job).ok()?;
+            }
             Step::Controlled(job) => self.control(job)?,
             Step::Aborted(job) => self.abort(job, false)?,
             Step::AbortedByAnother(job) => self.abort(job, true)?,
@@ -349,8 +357,8 @@ impl<'a, R: AllocGlobal + Clock + Wait, E: SpoolLedger, K: Ledger, H: Ledger> Di
             Step::WaitKept(job) => self.keep_wait(job)?,
             Step::Removed(job) => self.remove(job)?,
             Step::Started => spool.start(rt, &mut self.seat, QUEUE).ok()?,
-            Step::Held => spool.hold(rt, &mut self.seat, QUEUE).ok()?,
-            Step::Released => spool.release(rt, &mut self.seat, QUEUE).ok()?,
+            Step::Held => self.hold(true)?,
+            Step::Released => self.hold(false)?,
             Step::Closed => spool.close(rt, &mut self.seat),
             Step::Handed(printer) => self.hand(printer)?,
             Step::Printed(printer) => self.give_back(printer, true)?,
