@@ -53,6 +53,11 @@ impl<S: Spool> Desk<S> {
         }
     }
 
+    /// The spool alone. The pages that are kept are spent.
+    pub fn into_spool(self) -> S {
+        self.spool
+    }
+
     /// Exchanges all pages that are kept with those of another desk.
     pub fn trade(&mut self, other: &mut Desk<S>) {
         mem::swap(&mut self.tickets, &mut other.tickets);

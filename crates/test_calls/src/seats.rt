@@ -171,15 +171,13 @@ fn push_block<R: Wait, E: SpoolLedger, K: Ledger, H: Ledger>(
     };
     let mut seats = Desk::new(alloc, seats, core.page_size, core.printers);
     let pushed = push_lines(told, alloc, &mut seats, core, block);
-    // The pages that are kept are spent.
-    let Desk { spool: seats, .. } = seats;
     let Seats {
         rt: _,
         spool: _,
         calls,
         operator,
         printers,
-    } = seats;
+    } = seats.into_spool();
     sessions.push(operator)?;
     sessions.push(calls.into_seat())?;
     push_finish(told, alloc, spool, sessions, printers, core.spool.config())?;
