@@ -5,7 +5,7 @@ use crate::clients::{connect, send, send_more};
 use crate::jobs::HELLO;
 use crate::logging::faults_in;
 use crate::place::{is_printed, make, path, remove};
-use crate::server::{ENDLESS, Machine, Paper, Terminal, beside, ends_well, run, settings};
+use crate::server::{ENDLESS, Paper, Terminal, beside, ends_well, run, settings};
 use log::{Level, Log, Logged};
 use lpd_daemon::{Fault, Settings};
 use program_edge::{LineLog, LineQueue};
@@ -22,7 +22,17 @@ use test_kit::Spool;
 
 /// Runs a server that no client comes to, whose lines are written on this paper. It prints nothing.
 /// How it ended.
-fn unseen<R: Machine>(rt: &R, settings: Settings<'_>, paper: Paper) -> Result<(), Fault> {
+fn unseen<
+    R: Abort
+        + AllocGlobal
+        + Clock
+        + Files<File = File>
+        + Log
+        + Net<Listener = TcpListener, Stream = TcpStream>
+        + Threads
+        + Wait
+        + Sync,
+>(rt: &R, settings: Settings<'_>, paper: Paper) -> Result<(), Fault> {
     let alloc = rt.alloc();
     let terminal = Terminal::new(alloc);
     let ended = run(

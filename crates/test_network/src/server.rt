@@ -17,29 +17,6 @@ use std::thread::Threads;
 use std::time::{Clock, Duration};
 use test_kit::Spool;
 
-/// What a server and its clients need of what runs them.
-pub trait Machine: Abort
-    + AllocGlobal
-    + Clock
-    + Files<File = File>
-    + Log
-    + Net<Listener = TcpListener, Stream = TcpStream>
-    + Threads
-    + Wait
-    + Sync {}
-
-impl<
-    T: Abort
-        + AllocGlobal
-        + Clock
-        + Files<File = File>
-        + Log
-        + Net<Listener = TcpListener, Stream = TcpStream>
-        + Threads
-        + Wait
-        + Sync,
-> Machine for T {}
-
 /// How many seconds are waited for the server to listen, or to end.
 const LIMIT_SECONDS: u64 = 30;
 
@@ -153,7 +130,17 @@ pub fn port_of(line: &str) -> Option<u16> {
 }
 
 /// Runs a server whose output is the terminal, with this paper.
-pub fn run<R: Machine>(
+pub fn run<
+    R: Abort
+        + AllocGlobal
+        + Clock
+        + Files<File = File>
+        + Log
+        + Net<Listener = TcpListener, Stream = TcpStream>
+        + Threads
+        + Wait
+        + Sync,
+>(
     rt: &R,
     terminal: &Terminal,
     config: Config,
@@ -175,7 +162,18 @@ pub fn run<R: Machine>(
 
 /// Runs a server beside its clients, who are told its port; its lines are written on this paper.
 /// How it ended, and what it printed after its first line, `listening PORT`.
-pub fn beside<R: Machine, F: FnOnce(u16) + Send>(
+pub fn beside<
+    R: Abort
+        + AllocGlobal
+        + Clock
+        + Files<File = File>
+        + Log
+        + Net<Listener = TcpListener, Stream = TcpStream>
+        + Threads
+        + Wait
+        + Sync,
+    F: FnOnce(u16) + Send,
+>(
     rt: &R,
     config: Config,
     settings: Settings<'_>,
@@ -204,12 +202,18 @@ pub fn beside<R: Machine, F: FnOnce(u16) + Send>(
 
 /// Runs a server of this spool beside its clients, as `beside` does. It ends well. What it printed
 /// after its first line.
-pub fn ends_well<R: Machine, F: FnOnce(u16) + Send>(
-    rt: &R,
-    spool: Spool,
-    settings: Settings<'_>,
-    clients: F,
-) -> String
+pub fn ends_well<
+    R: Abort
+        + AllocGlobal
+        + Clock
+        + Files<File = File>
+        + Log
+        + Net<Listener = TcpListener, Stream = TcpStream>
+        + Threads
+        + Wait
+        + Sync,
+    F: FnOnce(u16) + Send,
+>(rt: &R, spool: Spool, settings: Settings<'_>, clients: F) -> String
     requires { F.IsAlwaysCallable clients }
 {
     let config = spool.config(rt.alloc()).expect(rt, "a configuration");

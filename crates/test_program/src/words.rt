@@ -199,18 +199,6 @@ fn words_of(
     Ok(words)
 }
 
-/// What the program and its tests need of what runs them.
-trait Machine: Abort
-    + AllocGlobal
-    + Env
-    + Files
-    + Log
-    + Net<Listener = TcpListener, Stream = TcpStream> {}
-
-impl<
-    T: Abort + AllocGlobal + Env + Files + Log + Net<Listener = TcpListener, Stream = TcpStream>,
-> Machine for T {}
-
 /// How a server is to run, in a line.
 fn line_of(alloc: Global, config: &str, settings: &Settings) -> Result<String, AllocError> {
     let Settings {
@@ -239,7 +227,9 @@ fn line_of(alloc: Global, config: &str, settings: &Settings) -> Result<String, A
 
 /// What the program prints for these words and this input, its faults, and in a line of its own its exit status or how a server is to
 /// run.
-fn told<R: Machine>(rt: &R, words: &[String], input: &[u8]) -> Result<Vec<u8>, AllocError> {
+fn told<
+    R: Abort + AllocGlobal + Env + Files + Log + Net<Listener = TcpListener, Stream = TcpStream>,
+>(rt: &R, words: &[String], input: &[u8]) -> Result<Vec<u8>, AllocError> {
     let alloc = rt.alloc();
     let mut output = StreamWriter::new(Vec::new(alloc));
     let mut faults = StreamWriter::new(Vec::new(alloc));
@@ -273,7 +263,9 @@ fn path_of<R: Abort + AllocGlobal + Env>(rt: &R, port: u16) -> String {
 }
 
 /// What the words of a row are told.
-fn told_of_row<R: Machine>(rt: &R, line: &str, octets: &[u8]) -> Vec<u8> {
+fn told_of_row<
+    R: Abort + AllocGlobal + Env + Files + Log + Net<Listener = TcpListener, Stream = TcpStream>,
+>(rt: &R, line: &str, octets: &[u8]) -> Vec<u8> {
     let (_holder, port) = listen(rt);
     let file = path_of(rt, port);
     let script = format!(in rt.alloc(); "{}-script", file.as_str()).expect(rt, "memory");
@@ -351,12 +343,16 @@ fn serve(
 
 /// What a server reads of the job of these parts and files where it refuses the part of this number, and what the
 /// client tells.
-fn sent<R: Machine + Threads + Sync>(
-    rt: &R,
-    parts: &[&[u8]],
-    files: &[&[u8]],
-    refused: usize,
-) -> (Vec<u8>, Vec<u8>) {
+fn sent<
+    R: Abort
+        + AllocGlobal
+        + Env
+        + Files
+        + Log
+        + Net<Listener = TcpListener, Stream = TcpStream>
+        + Threads
+        + Sync,
+>(rt: &R, parts: &[&[u8]], files: &[&[u8]], refused: usize) -> (Vec<u8>, Vec<u8>) {
     let alloc = rt.alloc();
     let (listener, port) = listen(rt);
     let path = path_of(rt, port);
