@@ -25,7 +25,7 @@ CALLERS = {
     "test_calls",
     "test_kit",
     "test_kit_seats",
-    "test_network",
+    "network_tests",
     "test_program",
     "test_soak",
     "test_texts",

@@ -69,7 +69,7 @@ fn a_long_listing_is_read_slowly(rt: HostRuntime) {
         ..settings(&rt, out, 4)
     };
     let terminal = Terminal::new(rt.alloc());
-    let config = MANY_JOBS.config(rt.alloc()).expect(&rt, "a configuration");
+    let config = MANY_JOBS.config(&rt, rt.alloc());
     let (waited, ended) = thread::join(
         &rt,
         || {

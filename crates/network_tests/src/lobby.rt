@@ -2,13 +2,11 @@
 
 ghost use Rattle.std.specs.Thread.{IsSync};
 
-use crate::clients::{begin, connect, write};
-use libc::net::{IPPROTO_TCP, SO_KEEPALIVE, SOL_SOCKET, TCP_KEEPIDLE, getsockopt};
+use crate::clients::{connect, write};
 use log::Log;
 use mio::Waker;
-use server_edge::{Desk, Doors, Doorway, Listening, Lobby, Serves, Visit, keep_asking};
+use server_edge::{Desk, Doors, Doorway, Listening, Lobby, Serves, Visit};
 use std::net::{Ipv4Addr, Net, Shutdown, SocketAddr, TcpListener, TcpStream};
-use std::os::fd::AsRawFd;
 use std::process::Abort;
 use std::sync::Wait;
 use std::thread;
@@ -116,8 +114,12 @@ fn port_of<R: Abort>(rt: &R, stream: &TcpStream) -> u16 {
     stream.local_addr().expect(rt, "an address").port()
 }
 
-/// The line of who brings a job.
-const JOB: &[u8] = b"\x02lp\n";
+/// A connection that brings a job.
+fn bring<R: Abort + Net<Stream = TcpStream>>(rt: &R, port: u16) -> TcpStream {
+    let stream = connect(rt, port);
+    write(rt, &stream, b"\x02lp\n");
+    stream
+}
 
 /// Where both places have silent peers, those make place for a job.
 #[test]
@@ -128,7 +130,7 @@ fn the_silent_make_place(rt: HostRuntime) {
         connect(&rt, hall.port),
         connect(&rt, hall.port),
     ];
-    let job = begin(&rt, hall.port, JOB, 0);
+    let job = bring(&rt, hall.port);
     let ports = handed_on(&rt, hall, 1);
     assert_eq!(rt; ports.as_slice(), [port_of(&rt, &job)].as_slice());
 }
@@ -138,9 +140,9 @@ fn the_silent_make_place(rt: HostRuntime) {
 fn a_job_waits_for_a_place(rt: HostRuntime) {
     let hall = hall_of(&rt, 2);
     let jobs = [
-        begin(&rt, hall.port, JOB, 0),
-        begin(&rt, hall.port, JOB, 0),
-        begin(&rt, hall.port, JOB, 0),
+        bring(&rt, hall.port),
+        bring(&rt, hall.port),
+        bring(&rt, hall.port),
     ];
     let ports = handed_on(&rt, hall, 3);
     let [first, second, third] = &jobs;
@@ -164,7 +166,7 @@ fn more_come_than_a_round_accepts(rt: HostRuntime) {
     for _ in 0..260 {
         silent.push(connect(&rt, hall.port)).expect(&rt, "memory");
     }
-    let job = begin(&rt, hall.port, JOB, 0);
+    let job = bring(&rt, hall.port);
     let ports = handed_on(&rt, hall, 1);
     assert_eq!(rt; ports.as_slice(), [port_of(&rt, &job)].as_slice());
 }
@@ -181,24 +183,4 @@ fn half_a_line_is_handed_on_at_its_end(rt: HostRuntime) {
     half.shutdown(Shutdown::Write).expect(&rt, "the end");
     let ports = handed_on(&rt, hall, 1);
     assert_eq!(rt; ports.as_slice(), [port_of(&rt, &half)].as_slice());
-}
-
-/// The system asks a peer that is silent for so many seconds whether it is there.
-#[test]
-fn the_system_asks_silent_peers(rt: HostRuntime) {
-    let listener = TcpListener::bind(&rt, (Ipv4Addr::LOCALHOST, 0)).expect(&rt, "a listener");
-    let port = listener.local_addr().expect(&rt, "an address").port();
-    let stream = connect(&rt, port);
-    keep_asking(&stream, 30);
-    let descriptor = stream.as_raw_fd();
-    let (mut asks, mut idle) = ([0u8; 16], [0u8; 16]);
-    let (mut length, mut count) = (4u32, 4u32);
-    let of_asks = unsafe {
-        getsockopt(descriptor, SOL_SOCKET, SO_KEEPALIVE, &mut asks, &mut length)
-    };
-    let of_idle = unsafe {
-        getsockopt(descriptor, IPPROTO_TCP, TCP_KEEPIDLE, &mut idle, &mut count)
-    };
-    assert_eq!(rt; (of_asks, asks[0]), (0, 1));
-    assert_eq!(rt; (of_idle, idle[0]), (0, 30));
 }

@@ -6,16 +6,16 @@ ghost use Rattle.std.specs.Thread.{IsSend, IsSync};
 use config_values::Config;
 use log::Log;
 use lpd_commands::{OctetFault, OctetWrite};
-use lpd_daemon::{Fault, Settings, serve};
+use lpd_daemon::{Fault, Limits, Settings, serve};
 use std::alloc::Global;
 use std::fs::{File, Files};
 use std::net::{Ipv4Addr, Net, TcpListener, TcpStream};
+use std::num::NonZeroU64;
 use std::process::Abort;
 use std::sync::{Condvar, Mutex, Wait};
 use std::thread;
 use std::thread::Threads;
 use std::time::{Clock, Duration};
-use test_kit::Spool;
 
 /// How many seconds are waited for the server to listen, or to end.
 const LIMIT_SECONDS: u64 = 30;
@@ -29,8 +29,65 @@ pub fn settings<'a, R: AllocGlobal>(rt: &R, out: &'a str, connections: u64) -> S
     }
 }
 
-/// What a configuration says of a queue `plotter`, beside a queue `lp`.
-pub const PLOTTER: &str = "[[queue]]\nname = \"plotter\"\nlimit = 3\nprinters = 1\n";
+/// Limits by which a peer may be silent for so many seconds.
+pub fn silent_for(seconds: u64) -> Limits {
+    Limits {
+        silence: NonZeroU64::new(seconds),
+        ..Limits::NONE
+    }
+}
+
+/// A spool of pages of 8 octets, with a queue `lp`.
+#[derive(Clone, Copy)]
+pub struct Spool {
+    pub pages: u32,
+    pub jobs: u32,
+    pub account: u32,
+    /// The limit and the printers of `lp`.
+    pub limit: u32,
+    pub printers: u32,
+    /// Whether there is a queue `plotter` too, with a limit of 3 and a printer.
+    pub plots: bool,
+}
+
+/// A small one with one printer.
+pub const SMALL: Spool = Spool {
+    pages: 4,
+    jobs: 8,
+    account: 100_000,
+    limit: 3,
+    printers: 1,
+    plots: false,
+};
+
+/// What a configuration says of the queue `plotter`.
+const PLOTTER: &str = "[[queue]]\nname = \"plotter\"\nlimit = 3\nprinters = 1\n";
+
+impl Spool {
+    /// What its configuration says.
+    pub fn text<R: Abort>(&self, rt: &R, alloc: Global) -> String {
+        let Spool {
+            pages,
+            jobs,
+            account,
+            limit,
+            printers,
+            plots,
+        } = *self;
+        let more = if plots { PLOTTER } else { "" };
+        format!(in alloc;
+            "pages = {pages}\npage_size = 8\nmax_jobs = {jobs}\naccount = {account}\n\
+             [[queue]]\nname = \"lp\"\nlimit = {limit}\nprinters = {printers}\n{more}"
+        )
+        .expect(rt, "memory")
+    }
+
+    /// Its configuration.
+    pub fn config<R: Abort>(&self, rt: &R, alloc: Global) -> Config {
+        let text = self.text(rt, alloc);
+        spool_config::read(alloc, text.as_bytes()).expect(rt, "a configuration")
+    }
+}
 
 /// What a server has printed, and whether it has ended.
 #[derive(Drop)]
@@ -109,6 +166,12 @@ impl Terminal {
         added
     }
 
+    /// The server has ended.
+    fn end<R: Wait>(&self, rt: &R) {
+        self.said.lock(rt).has_ended = true;
+        self.changed.notify_all();
+    }
+
     /// What is printed, once the first line is or the server has ended; or, where its end is
     /// wanted, once it has ended. It isn't waited forever.
     pub fn text<R: Abort + AllocGlobal + Clock + Wait>(&self, rt: &R, until_end: bool) -> String {
@@ -155,8 +218,7 @@ pub fn run<
         faults: 0,
     };
     let ended = serve(rt, rt.alloc(), config, settings, &mut output);
-    terminal.said.lock(rt).has_ended = true;
-    terminal.changed.notify_all();
+    terminal.end(rt);
     ended
 }
 
@@ -216,7 +278,7 @@ pub fn ends_well<
 >(rt: &R, spool: Spool, settings: Settings<'_>, clients: F) -> String
     requires { F.IsAlwaysCallable clients }
 {
-    let config = spool.config(rt.alloc()).expect(rt, "a configuration");
+    let config = spool.config(rt, rt.alloc());
     let (ended, text) = beside(rt, config, settings, ENDLESS, clients);
     assert_eq!(rt; ended, Ok(()));
     text

@@ -4,7 +4,7 @@ use crate::clients::{connect, is_answered, is_ended, octets_of, send, waits, wri
 use crate::jobs::HELLO;
 use crate::pipe::Pipe;
 use crate::place::{is_printed, make, path, remove};
-use crate::server::{ENDLESS, Paper, Terminal, ends_well, port_of, run, settings};
+use crate::server::{ENDLESS, Paper, SMALL, Spool, Terminal, ends_well, port_of, run, settings};
 use lpd_daemon::{Limits, Settings};
 use lpr_client::SendFault;
 use std::net::{Net, TcpStream};
@@ -12,7 +12,6 @@ use std::num::NonZeroU64;
 use std::process::Abort;
 use std::time::Duration;
 use std::{fs, thread};
-use test_kit::Spool;
 
 /// New jobs wait for room as long as a busy machine needs.
 const PATIENT: Limits = Limits {
@@ -33,7 +32,7 @@ fn one_job(rt: HostRuntime) {
     make(&rt, out);
     let file = path(&rt, rt.alloc(), out, 1);
     fs::write(&rt, file.as_str(), "title ").expect(&rt, "a file");
-    let text = ends_well(&rt, Spool::SMALL, settings(&rt, out, 1), |port| {
+    let text = ends_well(&rt, SMALL, settings(&rt, out, 1), |port| {
         assert_eq!(rt; send(&rt, &connect(&rt, port), 1, HELLO), Ok(()));
     });
     assert_eq!(rt; text.as_str(), "closed entries 13\n");
@@ -44,7 +43,7 @@ fn one_job(rt: HostRuntime) {
 /// the close.
 const ONE_JOB: Spool = Spool {
     account: 713,
-    ..Spool::SMALL
+    ..SMALL
 };
 
 /// Sends two jobs, each over a connection of its own. How the second one was sent.
@@ -65,7 +64,7 @@ fn the_account_has_its_turn(rt: HostRuntime) {
     let full = Err(SendFault::Refused(2));
     for (spool, rotate, sent, lines, printed) in [
         (
-            Spool::SMALL,
+            SMALL,
             Some(1),
             Ok(()),
             "rotated 1 entries 12\nclosed entries 25\n",
@@ -78,7 +77,7 @@ fn the_account_has_its_turn(rt: HostRuntime) {
             "rotated 1 entries 12\nclosed entries 25\n",
             both,
         ),
-        (Spool::SMALL, Some(2), Ok(()), "closed entries 25\n", both),
+        (SMALL, Some(2), Ok(()), "closed entries 25\n", both),
         (ONE_JOB, None, full, "closed entries 13\n", HELLO),
     ] {
         make(&rt, out);
@@ -109,9 +108,7 @@ fn a_rotation_is_told_first(rt: HostRuntime) {
         ..ENDLESS
     };
     let terminal = Terminal::new(rt.alloc());
-    let config = Spool::SMALL
-        .config(rt.alloc())
-        .expect(&rt, "a configuration");
+    let config = SMALL.config(&rt, rt.alloc());
     let (told, ended) = thread::join(
         &rt,
         || {
@@ -145,7 +142,7 @@ fn a_rotation_is_told_at_once(rt: HostRuntime) {
         ..settings(&rt, out, 2)
     };
     let terminal = Terminal::new(rt.alloc());
-    let config = ONE_JOB.config(rt.alloc()).expect(&rt, "a configuration");
+    let config = ONE_JOB.config(&rt, rt.alloc());
     let (is_told, ended) = thread::join(
         &rt,
         || {
@@ -184,7 +181,7 @@ fn a_page_is_held(rt: HostRuntime) {
             rotate: rotate.and_then(|every| NonZeroU64::new(every)),
             ..settings(&rt, out, 2)
         };
-        let text = ends_well(&rt, Spool::SMALL, settings, |port| {
+        let text = ends_well(&rt, SMALL, settings, |port| {
             assert_eq!(rt; send(&rt, &connect(&rt, port), 1, HELLO), Ok(()));
             let second = connect(&rt, port);
             write(&rt, &second, octets_of(&rt, 2, HELLO).as_slice());
