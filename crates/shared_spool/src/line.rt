@@ -250,8 +250,8 @@ impl<E: SpoolLedger, K: Ledger, H: Ledger> Room<E, K, H> {
     /// Calls a printer of a queue that waits and need not any more, if one does.
     pub(crate) fn call_printer(&mut self, row: Row) -> Option<u32> {
         for printer in row.first..row.past {
-            let waits = self.locked.must_wait(printer) || self.is_put_off(printer);
-            if self.line.has_printer(printer) && !waits {
+            let waits = self.line.has_printer(printer);
+            if waits && !self.locked.must_wait(printer) && !self.is_put_off(printer) {
                 self.line.set_printer(printer, false);
                 return Some(printer);
             }
