@@ -6,6 +6,7 @@ use session::{Input, SessionEnd, serve, serve_with};
 use shared_spool::Opened;
 use spool_core::Core;
 use std::sync::Wait;
+use std::test::Fail;
 use test_kit::{Reader, Spool, Writer};
 use test_kit_seats::{AtSpool, Entries, Sums, open};
 
@@ -14,11 +15,11 @@ use test_kit_seats::{AtSpool, Entries, Sums, open};
 /// It brings one job: five octets 00, and the core holds the job with its two pages. Then a session
 /// over an input of its own brings another.
 #[test]
-fn sessions_follow_one_another_at_a_core_alone(rt: HostRuntime) {
+fn sessions_follow_one_another_at_a_core_alone(rt: HostRuntime) -> Result<(), Fail> {
     let alloc = rt.alloc();
-    let config = Spool::SMALL.config(alloc).expect(&rt, "a configuration");
-    let mut core = Core::new(alloc, config).expect(&rt, "memory");
-    let mut input = Input::new(alloc).expect(&rt, "memory");
+    let config = Spool::SMALL.config(alloc).ok_or("no configuration")?;
+    let mut core = Core::new(alloc, config)?;
+    let mut input = Input::new(alloc)?;
     for (octets, piece, ended, zeros, held) in [
         (&STREAM[..25], 7, SessionEnd::Broken, 2, 0),
         (STREAM, 1, SessionEnd::Closed, 5, 1),
@@ -44,6 +45,7 @@ fn sessions_follow_one_another_at_a_core_alone(rt: HostRuntime) {
     assert!(rt; end == SessionEnd::Closed && core.held() == 2);
     assert!(rt; writer.octets.as_slice() == [0u8; 5].as_slice());
     assert!(rt; core.pages_by_place().chained == 4);
+    Ok(())
 }
 
 /// A session over the octets of one job, of which the reader tells those that are left.
@@ -72,10 +74,9 @@ impl<R: AllocGlobal + Wait> AtSpool for Known<'_, R> {
 }
 
 #[test]
-fn a_known_text_is_read_out(rt: HostRuntime) {
-    let config = Spool::SMALL
-        .config(rt.alloc())
-        .expect(&rt, "a configuration");
-    let done = open(rt.alloc(), config, 1, Known { rt: &rt }).expect(&rt, "memory");
+fn a_known_text_is_read_out(rt: HostRuntime) -> Result<(), Fail> {
+    let config = Spool::SMALL.config(rt.alloc()).ok_or("no configuration")?;
+    let done = open(rt.alloc(), config, 1, Known { rt: &rt })?;
     assert!(rt; done == Some((SessionEnd::Closed, 0, 5)));
+    Ok(())
 }

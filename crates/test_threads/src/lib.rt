@@ -5,6 +5,8 @@
 #[cfg(test)]
 mod alone;
 #[cfg(test)]
+mod answering;
+#[cfg(test)]
 mod board;
 #[cfg(test)]
 mod closing;
@@ -13,13 +15,13 @@ mod director;
 #[cfg(test)]
 mod ends;
 #[cfg(test)]
+mod jobs;
+#[cfg(test)]
 mod report;
 #[cfg(test)]
 mod rings;
 #[cfg(test)]
 mod scene;
-#[cfg(test)]
-mod scenes;
 #[cfg(test)]
 mod sessions;
 #[cfg(test)]
@@ -30,5 +32,7 @@ mod steps;
 mod turns;
 #[cfg(test)]
 mod waiters;
+#[cfg(test)]
+mod waiting;
 #[cfg(test)]
 mod worked;

@@ -1,12 +1,12 @@
 //! What came of a scene.
 
-use crate::director::Seen;
 use crate::stage::{PAGE_SIZE, PAGES};
-use crate::worked::WHOLE;
 use printer_worker::{Ending, WorkReport};
 use session::SessionEnd;
-use shared_spool::{Entry, Kind, Pages, Segment};
+use shared_spool::{Kind, Pages, Segment};
+use std::alloc::Global;
 use std::process::Abort;
+use std::test::Fail;
 use test_kit_seats::Paper;
 
 /// What came of a session.
@@ -32,7 +32,10 @@ pub struct PrinterReport {
 /// What came of a scene, when all its threads were joined.
 #[derive(Drop)]
 pub struct Report {
-    pub seen: Seen,
+    pub sessions: Vec<SessionReport>,
+    pub printers: Vec<PrinterReport>,
+    /// Where the pages were at each look.
+    pub looks: Vec<Pages>,
     /// Whether a thread waited in vain.
     pub is_late: bool,
     /// Whether something was told before it was due.
@@ -41,58 +44,10 @@ pub struct Report {
     pub pages: Pages,
     /// How many jobs are held at the end.
     pub held: usize,
-    /// What was told where everything came back, since a seat was missing; nothing where none was.
-    pub missed: String,
+    /// What was told where everything came back, since a seat was missing.
+    pub missed: Option<String>,
     /// The account.
     pub account: Segment,
-}
-
-/// What is wanted of a scene.
-#[derive(Clone, Copy, Debug)]
-pub enum Want<'a> {
-    /// A session was served, and ended so.
-    Ended(usize, SessionEnd),
-    /// A session wrote this.
-    Wrote(usize, &'a [u8]),
-    /// A printer's worker wrote so many pages, couldn't write so many, and ended so.
-    Worked(usize, u64, u64, Ending),
-    /// The pages of a job that a printer printed are those of these octets, in order.
-    Printed(u64, &'a [u8]),
-    /// The job that a session's calls sent is of this sender, and was printed with these octets.
-    Sent(usize, u32, &'a [u8]),
-    /// The account's first entries are so many of those of the worked job, and then those of these kinds.
-    Entries(usize, &'a [Kind]),
-    /// At the first look so many pages were free, belonged to jobs and were lent.
-    Looked(usize, usize, usize),
-    /// So it was told that a seat was missing.
-    Missed(&'a str),
-}
-
-impl PrinterReport {
-    /// Whether the pages of a job that it printed are those of these octets, in order.
-    fn has_printed(&self, job: u64, octets: &[u8]) -> bool {
-        let mut pages = octets.chunks(PAGE_SIZE);
-        let mut places = 0u64;
-        for paper in self.papers.iter() {
-            if paper.job == job && paper.is_printed {
-                let is_page = pages
-                    .next()
-                    .is_some_and(|page| page == paper.octets.as_slice());
-                if paper.place != places || !is_page {
-                    return false;
-                }
-                places = places.saturating_add(1);
-            }
-        }
-        pages.next().is_none()
-    }
-
-    /// Whether its worker told this, and as many pages were printed.
-    fn has_worked(&self, wanted: WorkReport) -> bool {
-        let papers = self.papers.iter();
-        let printed = papers.filter(|paper| paper.is_printed).count();
-        self.work == Some(wanted) && printed as u64 == wanted.written
-    }
 }
 
 impl Report {
@@ -104,64 +59,66 @@ impl Report {
         assert_eq!(rt; self.pages.free, PAGES, "{scene}: in {:?}", self.pages);
     }
 
-    /// Whether a printer printed a job with these octets.
-    fn has_printed(&self, job: u64, octets: &[u8]) -> bool {
-        let mut printers = self.seen.printers.iter();
-        printers.any(|printer| printer.has_printed(job, octets))
-    }
-
-    /// Whether the account tells that this sender's job was opened.
-    fn has_opened(&self, opened: u64, by: u32) -> bool {
-        self.account.entries.iter().any(|entry| match entry {
-            Entry::Opened { job, sender, .. } => *job == opened && *sender == by,
-            _ => false,
-        })
-    }
-
-    /// Whether the account's entries are of these kinds: so many of the worked job's, and then these.
-    fn has_entries(&self, whole: usize, then: &[Kind]) -> bool {
-        let mut kinds = WHOLE[..whole.min(WHOLE.len())].iter().chain(then);
+    /// The account's entries are of these kinds.
+    pub fn has_kinds(
+        &self,
+        rt: &impl Abort,
+        alloc: Global,
+        first: &[Kind],
+        then: &[Kind],
+    ) -> Result<(), Fail> {
+        let mut kinds = Vec::new(alloc);
         for entry in self.account.entries.iter() {
-            if !kinds.next().is_some_and(|kind| *kind == entry.kind()) {
-                return false;
-            }
+            kinds.push(entry.kind())?;
         }
-        kinds.next().is_none()
+        let (head, tail) = kinds.as_slice().split_at(first.len().min(kinds.len()));
+        assert!(rt; head == first && tail == then, "{kinds:?}");
+        Ok(())
     }
 
-    /// Whether this came of the scene.
-    pub fn has(&self, want: Want<'_>) -> bool {
-        let (sessions, printers) = (&self.seen.sessions, &self.seen.printers);
-        match want {
-            Want::Ended(session, end) => {
-                let session = sessions.get(session);
-                session.is_some_and(|session| session.end == Some(end))
-            }
-            Want::Wrote(session, octets) => {
-                let session = sessions.get(session);
-                session.is_some_and(|session| session.written.as_slice() == octets)
-            }
-            Want::Worked(printer, written, faults, ending) => {
-                let wanted = WorkReport {
-                    written,
-                    faults,
-                    ending,
-                };
-                let printer = printers.get(printer);
-                printer.is_some_and(|printer| printer.has_worked(wanted))
-            }
-            Want::Printed(job, octets) => self.has_printed(job, octets),
-            Want::Sent(session, sender, octets) => {
-                let job = sessions.get(session).and_then(|session| session.job);
-                job.is_some_and(|job| {
-                    self.has_opened(job, sender) && self.has_printed(job, octets)
-                })
-            }
-            Want::Entries(whole, then) => self.has_entries(whole, then),
-            Want::Looked(free, chained, lent) => self.seen.looks.first().is_some_and(|look| {
-                (look.free, look.chained, look.lent) == (free, chained, lent)
-            }),
-            Want::Missed(told) => self.missed.as_str() == told,
+    /// A session ended so, and wrote this.
+    pub fn has_session(&self, rt: &impl Abort, session: usize, end: SessionEnd, written: &[u8]) {
+        let report = self.sessions.get(session).expect(rt, "a session");
+        assert_eq!(rt; report.end, Some(end), "session {session}");
+        let octets = report.written.as_slice();
+        assert!(rt;
+            octets == written,
+            "session {session} wrote {}",
+            octets.escape_ascii()
+        );
+    }
+
+    /// A printer's worker wrote so many pages, couldn't write so many, and ended with the close.
+    pub fn has_work(&self, rt: &impl Abort, printer: usize, written: u64, faults: u64) {
+        let report = self.printers.get(printer).expect(rt, "a printer");
+        let ending = Ending::Closed;
+        let wanted = WorkReport {
+            written,
+            faults,
+            ending,
+        };
+        assert_eq!(rt; report.work, Some(wanted), "printer {printer}");
+        let printed = report
+            .papers
+            .iter()
+            .filter(|paper| paper.is_printed)
+            .count();
+        assert_eq!(rt; printed as u64, written, "printer {printer}");
+    }
+
+    /// The pages of a job that a printer printed are those of these octets, in order.
+    pub fn has_pages(&self, rt: &impl Abort, printer: usize, job: u64, octets: &[u8]) {
+        let report = self.printers.get(printer).expect(rt, "a printer");
+        let mut pages = report
+            .papers
+            .iter()
+            .filter(|paper| paper.job == job && paper.is_printed);
+        for (place, wanted) in octets.chunks(PAGE_SIZE).enumerate() {
+            let is_page = pages.next().is_some_and(|paper| {
+                paper.place == place as u64 && paper.octets.as_slice() == wanted
+            });
+            assert!(rt; is_page, "job {job} place {place}");
         }
+        assert!(rt; pages.next().is_none(), "job {job} has more pages");
     }
 }

@@ -1,10 +1,11 @@
 //! Each kind of event ends the waits that it may end.
 
 use crate::board::Answer::NoPage;
-use crate::stage::wait_through;
-use crate::steps::Step::{Begins, Goes, Whole};
+use crate::director::Step::{Begins, Goes, Whole};
+use crate::stage::{Script, happen};
 use crate::steps::step_of;
 use crate::waiters::Waiter::Turns;
+use std::test::Fail;
 
 /// What waits do in a scene, and its steps as `steps` reads them, at a spool of four pages and two
 /// queues of two printers, where a job may have three pages.
@@ -73,22 +74,23 @@ passed on, the second one gets the page: whole 1 1, begun 2 3 1, begun 3 3 2, ha
 
 /// In each scene waiters wait and go on as its steps tell: each in time, and none before.
 #[test]
-fn each_event_ends_waits(rt: HostRuntime) {
+fn each_event_ends_waits(rt: HostRuntime) -> Result<(), Fail> {
     for row in ROWS.trim().lines() {
         let (name, steps) = row.split_once(": ").unwrap_or((row, ""));
         let mut read = Vec::new(rt.alloc());
         for step in steps.split(',') {
-            let step = step_of(step.trim()).expect(&rt, name);
-            read.push(step).expect(&rt, "memory");
+            read.push(step_of(step.trim()).ok_or("a step is none")?)?;
         }
-        wait_through(&rt, name, read.as_slice());
+        let report = happen(&rt, Script::Steps(read.as_slice())).ok_or("no report")?;
+        report.is_quiet(&rt, name);
     }
+    Ok(())
 }
 
 /// An event that ends a wait may come at any moment, also between the asking and the waiting: two
 /// sessions take turns.
 #[test]
-fn nothing_comes_between_asking_and_waiting(rt: HostRuntime) {
+fn nothing_comes_between_asking_and_waiting(rt: HostRuntime) -> Result<(), Fail> {
     let steps = [
         Whole(2, 1),
         Whole(3, 1),
@@ -101,6 +103,8 @@ fn nothing_comes_between_asking_and_waiting(rt: HostRuntime) {
         Goes(1, NoPage),
     ];
     for _ in 0..6 {
-        wait_through(&rt, "two sessions take turns", &steps);
+        let report = happen(&rt, Script::Steps(&steps)).ok_or("no report")?;
+        report.is_quiet(&rt, "two sessions take turns");
     }
+    Ok(())
 }

@@ -1,18 +1,39 @@
-//! Sessions of the worked job that end early: at each read and each write.
+//! Sessions that are served, and printers that workers feed, each in a thread of its own.
 
-use crate::ends::Client;
-use crate::report::Want::{Ended, Entries, Printed, Worked, Wrote};
-use crate::scenes::ZEROS;
-use crate::stage::{Scene, play};
-use crate::worked::{ANSWERED_AT, DATA, JOB, STREAM, WORKS, WRITTEN_AT, reached};
-use printer_worker::Ending;
+use crate::board::Mark;
+use crate::ends::{Client, Device, Hold};
+use crate::scene::Cue;
+use crate::stage::play;
+use crate::worked::{ANSWERED_AT, DATA, STREAM, WHOLE, WORKS, WRITTEN_AT, reached, served};
 use session::SessionEnd;
 use shared_spool::Kind;
 use std::process::Abort;
+use std::test::Fail;
 use test_kit_seats::Host;
 
 /// How many octets the stream of one job has.
 const LENGTH: usize = STREAM.len();
+
+/// One job from a reader to a sink: five octets 00, two pages, 13 entries. While its first page is
+/// at the printer, who waits until no job is held waits on.
+#[test]
+fn one_job_is_served_and_printed(rt: HostRuntime) -> Result<(), Fail> {
+    let held = [Hold(0, Mark::Done(3))];
+    let device = Device {
+        holds: &held,
+        ..WORKS
+    };
+    let cues = [
+        Cue::Await(Mark::Ended(0)),
+        Cue::Rest,
+        Cue::Deny(Mark::Idle(0)),
+    ];
+    let report = play(&rt, &[served(1, STREAM)], &[device], &cues)?;
+    report.has_session(&rt, 0, SessionEnd::Closed, &[0; 5]);
+    report.has_work(&rt, 0, 2, 0);
+    report.has_pages(&rt, 0, 1, DATA);
+    report.has_kinds(&rt, rt.alloc(), &WHOLE, &[])
+}
 
 /// A session ends so when so many octets of the stream of one job have come: a job that isn't whole
 /// by then is aborted, and one that is whole is printed.
@@ -22,62 +43,63 @@ fn ends_after<R: Abort + Host>(
     octets: usize,
     answers: usize,
     end: SessionEnd,
-) {
+) -> Result<(), Fail> {
+    let report = play(rt, &[client], &[WORKS], &[])?;
+    report.has_session(rt, 0, end, &[0; 5][..answers.min(5)]);
     let entries = reached(&WRITTEN_AT, octets);
-    let last: &[Kind] = match entries {
-        0 => &[Kind::Closed],
-        1..8 => &[Kind::Aborted, Kind::Closed],
-        _ => &[],
+    if entries == WRITTEN_AT.len() {
+        report.has_pages(rt, 0, 1, DATA);
+        return report.has_kinds(rt, rt.alloc(), &WHOLE, &[]);
+    }
+    report.has_work(rt, 0, 0, 0);
+    let last: &[Kind] = if entries == 0 {
+        &[Kind::Closed]
+    } else {
+        &[Kind::Aborted, Kind::Closed]
     };
-    let (printed, pages, whole) = match entries {
-        0..8 => (b"".as_slice(), 0, entries),
-        _ => (DATA, 2, 13),
-    };
-    let report = play(
-        rt,
-        &Scene {
-            name: "a session that ends early",
-            clients: &[client],
-            devices: &[WORKS],
-            ..Scene::EMPTY
-        },
-    );
-    let is_told = report.has(Ended(0, end)) && report.has(Wrote(0, &ZEROS[..answers.min(5)]));
-    assert!(rt; is_told, "after {octets} octets");
-    let is_printed = report.has(Worked(0, pages, 0, Ending::Closed))
-        && report.has(Printed(1, printed))
-        && report.has(Entries(whole, last));
-    assert!(rt; is_printed, "after {octets} octets");
+    report.has_kinds(rt, rt.alloc(), &WHOLE[..entries.min(WHOLE.len())], last)
 }
 
 /// Where a read or a write fails, or the peer ends: a session that is idle is closed by that, and any other one is broken. The last read that
 /// fails finds the end, since all octets of the job have come.
 #[test]
-fn each_read_and_write_fails_in_turn(rt: HostRuntime) {
+fn each_read_and_write_fails_in_turn(rt: HostRuntime) -> Result<(), Fail> {
     for octets in 0..=LENGTH {
         let answers = reached(&ANSWERED_AT, octets);
         let client = Client {
             read_fails: octets as u64 + 1,
-            ..JOB
+            ..served(1, STREAM)
         };
-        ends_after(&rt, client, octets, answers, SessionEnd::ReadFault);
+        ends_after(&rt, client, octets, answers, SessionEnd::ReadFault)?;
         let end = if [0, 4, LENGTH].as_slice().contains(&octets) {
             SessionEnd::Closed
         } else {
             SessionEnd::Broken
         };
-        let client = Client {
-            octets: &STREAM[..octets],
-            ..JOB
-        };
-        ends_after(&rt, client, octets, answers, end);
+        let client = served(1, &STREAM[..octets]);
+        ends_after(&rt, client, octets, answers, end)?;
     }
     // Where the last octet 00 isn't written the job is whole, and is printed.
     for (answers, octets) in ANSWERED_AT.into_iter().enumerate() {
         let client = Client {
             write_fails: answers as u64 + 1,
-            ..JOB
+            ..served(1, STREAM)
         };
-        ends_after(&rt, client, octets, answers, SessionEnd::WriteFault);
+        ends_after(&rt, client, octets, answers, SessionEnd::WriteFault)?;
     }
+    Ok(())
+}
+
+/// The job of a page that isn't printed ends, and its other page goes back.
+#[test]
+fn each_page_fails_in_turn(rt: HostRuntime) -> Result<(), Fail> {
+    for (fails, before) in [(1, 8), (2, 10)] {
+        let device = Device { fails, ..WORKS };
+        let report = play(&rt, &[served(1, STREAM)], &[device], &[])?;
+        report.has_session(&rt, 0, SessionEnd::Closed, &[0; 5]);
+        report.has_work(&rt, 0, fails as u64 - 1, 1);
+        let last = [Kind::Handed, Kind::Failed, Kind::Closed];
+        report.has_kinds(&rt, rt.alloc(), &WHOLE[..before], &last)?;
+    }
+    Ok(())
 }

@@ -1,26 +1,26 @@
 //! Two sessions that wait for one another again and again: each gives the only page back just when
 //! the other one asks for it.
 
+use crate::board::Mark;
 use crate::director::QUEUE;
 use crate::scene::Stage;
-use lpd_values::Octets;
+use crate::stage::PAGE_SIZE;
+use lpd_values::{FileName, Octets};
+use page_pool::PageTicket;
 use shared_spool::{Asked, SessionSeat, SpoolLedger};
-use std::process::Abort;
 use std::sync::Wait;
 use std::sync::atomic::{AtomicU64, Ordering};
 use std::sync::ledger::Ledger;
 use std::time::{Clock, Duration, Instant};
 
-/// How often a session looks for the other one, at most, and how many milliseconds it waits at each look.
-const LOOKS: u32 = 32;
-
-const LOOK: u64 = 250;
+/// How many milliseconds a session waits for the other one.
+const LIMIT: u64 = 8_000;
 
 /// How often each of the two gets the page, at most: the account has no room for many more jobs.
 const MOST_TURNS: u64 = 60;
 
 /// How many milliseconds turns are begun. After that each has the page once more.
-const SPAN: u128 = 1_500;
+const SPAN: u64 = 1_500;
 
 /// How many words those ask by that keep the lock busy.
 const WORDS: usize = 50;
@@ -61,6 +61,11 @@ impl Pair {
             ended: AtomicU64::new(0),
         }
     }
+
+    /// Whether there is no turn of this number.
+    fn is_past(&self, turn: u64) -> bool {
+        turn > self.turns.load(Ordering::SeqCst)
+    }
 }
 
 /// Says that there are so many.
@@ -69,98 +74,129 @@ fn tell(count: &AtomicU64, many: u64) {
     count.wake_all();
 }
 
+/// Whether so many milliseconds have passed.
+fn have_passed<R: Clock>(rt: &R, start: Instant, millis: u64) -> bool {
+    match start.elapsed(rt) {
+        Ok(took) => took.as_millis() >= u128::from(millis),
+        Err(_) => true,
+    }
+}
+
 /// Waits until there are so many, and says whether there were within the limit.
 fn comes_to<R: Clock + Wait>(rt: &R, count: &AtomicU64, least: u64) -> bool {
-    for _ in 0..LOOKS {
+    let Ok(start) = Instant::now(rt) else {
+        return false;
+    };
+    for _ in rt.forever() {
         let many = count.load(Ordering::SeqCst);
         if many >= least {
             return true;
         }
-        let look = Duration::from_millis(LOOK);
-        count.park_timeout(rt, (many & 0xffff_ffff) as u32, look);
+        if have_passed(rt, start, LIMIT) {
+            return false;
+        }
+        count.park_timeout(rt, (many & 0xffff_ffff) as u32, Duration::from_secs(1));
     }
-    false
+    unreachable!()
 }
 
-impl<R: Abort + AllocGlobal + Clock + Wait, E: SpoolLedger, K: Ledger, H: Ledger> Stage<
-    '_,
-    R,
-    E,
-    K,
-    H,
-> {
-    /// Has the page once, and gives it back when the other one asks for it, who then gets it.
-    fn turn(&self, own: &Side, other: &Side, turn: u64, seat: &mut SessionSeat<E, K, H>) {
+impl<R: AllocGlobal + Clock + Wait, E: SpoolLedger, K: Ledger, H: Ledger> Stage<'_, R, E, K, H> {
+    /// Asks for the page for a job of its own, and waits for it. None where a call is refused.
+    fn asks_for_turn(
+        &self,
+        own: &Side,
+        turn: u64,
+        seat: &mut SessionSeat<E, K, H>,
+    ) -> Option<(u64, PageTicket)> {
         let Stage { rt, spool, .. } = self;
-        let job = self.begin(seat, QUEUE, 1, 1, 0);
+        let job = spool.open(rt, seat, 1, QUEUE).ok()?;
+        let name = FileName::read(b"dfA001h1").ok()?;
+        spool
+            .begin_file(rt, seat, job, name, PAGE_SIZE as u64)
+            .ok()?;
         tell(&own.asked, turn);
-        let page = match spool.ask_wait(*rt, seat, job) {
-            Ok(Asked::Page(page)) => page,
-            Ok(Asked::Later) | Err(_) => panic!(rt; "a turn without the page"),
+        let page = match spool.ask_wait(rt, seat, job).ok()? {
+            Asked::Page(page) => page,
+            Asked::Later => return None,
         };
         tell(&own.got, turn);
-        let next = other.got.load(Ordering::SeqCst).saturating_add(1);
-        let is_last = next > self.pair.turns.load(Ordering::SeqCst);
-        let is_asked = is_last || comes_to(*rt, &other.asked, next);
-        if let Err(back) = spool.abort(*rt, seat, job, Some(page)) {
-            back.surrender();
-        }
-        assert!(rt; is_asked, "the other session doesn't ask");
-        let is_got = is_last || comes_to(*rt, &other.got, next);
-        assert!(rt; is_got, "the other session doesn't get the page");
+        Some((job, page))
     }
 
-    /// Takes its turns.
-    fn turns(&self, own: &Side, other: &Side, seat: &mut SessionSeat<E, K, H>) {
-        let rt = self.rt;
-        let start = Instant::now(rt).expect(rt, "a clock");
-        let turns = &self.pair.turns;
+    /// Has the page once, and gives it back when the other one asks for it. None where a call is
+    /// refused, or where the other one doesn't ask or doesn't get it.
+    fn turn(
+        &self,
+        own: &Side,
+        other: &Side,
+        turn: u64,
+        seat: &mut SessionSeat<E, K, H>,
+    ) -> Option<()> {
+        let (job, page) = self.asks_for_turn(own, turn, seat)?;
+        let next = other.got.load(Ordering::SeqCst).saturating_add(1);
+        let is_last = self.pair.is_past(next);
+        let is_asked = is_last || comes_to(self.rt, &other.asked, next);
+        if let Err(back) = self.spool.abort(self.rt, seat, job, Some(page)) {
+            back.surrender();
+            return None;
+        }
+        if is_asked && (is_last || comes_to(self.rt, &other.got, next)) {
+            Some(())
+        } else {
+            None
+        }
+    }
+
+    /// Takes its turns. None where one of them fails.
+    fn turns(&self, own: &Side, other: &Side, seat: &mut SessionSeat<E, K, H>) -> Option<()> {
+        let start = Instant::now(self.rt).ok()?;
         for before in 0..MOST_TURNS {
             let turn = before.saturating_add(1);
-            if turn > turns.load(Ordering::SeqCst) {
+            if self.pair.is_past(turn) {
                 break;
             }
-            if start.elapsed(rt).expect(rt, "a clock").as_millis() >= SPAN {
+            if have_passed(self.rt, start, SPAN) {
                 // No turn is begun after the next one, unless the last one is known.
                 let (order, last) = (Ordering::SeqCst, turn.saturating_add(1).min(MOST_TURNS));
+                let turns = &self.pair.turns;
                 let _ = turns.compare_exchange(MOST_TURNS, last, order, order);
             }
-            self.turn(own, other, turn, seat);
+            self.turn(own, other, turn, seat)?;
         }
+        Some(())
     }
 
-    /// Takes the turns of the first or the second session; or keeps the lock busy until both have come to their ends: it asks for
-    /// the state of the queue by many words, of which none chooses a job.
-    pub fn takes_turns(&self, place: usize, seat: &mut SessionSeat<E, K, H>) {
-        let Stage {
-            rt,
-            pair,
-            spool,
-            ..
-        } = self;
-        let Pair {
-            first,
-            second,
-            ended,
-            ..
-        } = pair;
-        match place {
+    /// Keeps the lock busy until both sessions have come to their ends: it asks for the state of the
+    /// queue by many words, of which none chooses a job.
+    fn keeps_busy(&self, seat: &mut SessionSeat<E, K, H>) -> Option<()> {
+        let Stage { rt, spool, .. } = self;
+        let mut words = Vec::new(rt.alloc());
+        for _ in 0..WORDS {
+            words.push(Octets::copy_of(rt.alloc(), b"999").ok()?).ok()?;
+        }
+        for _ in rt.forever() {
+            if self.pair.ended.load(Ordering::SeqCst) >= 2 {
+                return Some(());
+            }
+            let _ = spool.state(*rt, seat, QUEUE, words.as_slice(), false);
+        }
+        unreachable!()
+    }
+
+    /// Takes the turns of the first or the second session, or keeps the lock busy. Where a turn fails
+    /// the spool is closed.
+    pub fn sits(&self, place: usize, seat: &mut SessionSeat<E, K, H>) {
+        let Pair { first, second, .. } = self.pair;
+        let done = match place {
             0 => self.turns(first, second, seat),
             1 => self.turns(second, first, seat),
-            _ => {
-                let mut words = Vec::new(rt.alloc());
-                for _ in 0..WORDS {
-                    let word = Octets::copy_of(rt.alloc(), b"999").expect(*rt, "memory");
-                    words.push(word).expect(*rt, "memory");
-                }
-                for _ in rt.forever() {
-                    if ended.load(Ordering::SeqCst) >= 2 {
-                        return;
-                    }
-                    let _ = spool.state(*rt, seat, QUEUE, words.as_slice(), false);
-                }
-            }
+            _ => return self.keeps_busy(seat).unwrap_or(()),
+        };
+        if done.is_none() {
+            self.board.tell(self.rt, Mark::Late);
+            self.spool.close(self.rt, seat);
+            self.board.tell(self.rt, Mark::Over);
         }
-        ended.fetch_add(1, Ordering::SeqCst);
+        self.pair.ended.fetch_add(1, Ordering::SeqCst);
     }
 }

@@ -1,17 +1,13 @@
-//! Threads that act or wait through a seat, each once, while a director makes what ends their waits.
+//! Threads that wait through a seat, each once, while a director makes what ends their waits.
 
 ghost use Rattle.std.specs.Thread.{IsSend};
 
 use crate::board::{Answer, Mark};
-use crate::director::{Director, PAGE, QUEUE};
-use crate::ends::{Client, Device};
-use crate::report::{PrinterReport, SessionReport};
-use crate::scene::Stage;
+use crate::director::{Director, PAGE, QUEUE, Step};
+use crate::scene::{Outcome, Seats, Stage};
 use crate::stage::PAGE_SIZE;
-use crate::steps::Step;
 use lpd_values::FileName;
-use shared_spool::{Asked, Foreign, Next, PrinterSeat, SessionSeat, SpoolLedger};
-use std::process::Abort;
+use shared_spool::{Asked, Foreign, Next, PrinterSeat, SessionSeat, SharedSpool, SpoolLedger};
 use std::sync::Wait;
 use std::sync::ledger::Ledger;
 use std::thread;
@@ -21,90 +17,70 @@ use test_kit_seats::{Entries, Host, Sums, put, send};
 /// The sender of a waiter's own jobs.
 const OWN_SENDER: u32 = 9;
 
-/// Who has a seat, and what for.
+/// Begins a job of three pages, of which two come. None where a call is refused.
+fn begin<R: Wait, E: SpoolLedger, K: Ledger, H: Ledger>(
+    rt: &R,
+    spool: &SharedSpool<E, K, H>,
+    seat: &mut SessionSeat<E, K, H>,
+    sender: u32,
+) -> Option<u64> {
+    let job = spool.open(rt, seat, sender, QUEUE).ok()?;
+    let name = FileName::read(b"dfA002h1").ok()?;
+    let count = (3 * PAGE_SIZE) as u64;
+    spool.begin_file(rt, seat, job, name, count).ok()?;
+    put(rt, spool, seat, job, &PAGE)?;
+    put(rt, spool, seat, job, &PAGE)?;
+    Some(job)
+}
+
+/// Who waits, and for what.
 #[derive(Clone, Copy)]
-pub enum Waiter<'a> {
-    /// A session, which waits for a page of the job of this number.
+pub enum Waiter {
+    /// A session, for a page of the job of this number.
     Session(u64),
-    /// A session that sends a job of one page, and then one of three, and waits for the third page of that.
+    /// A session that sends a job of one page, and then one of three, for the third page of that.
     Sends,
-    /// Who rotates the account, and waits until no job is held.
+    /// Who rotates the account, until no job is held.
     Rotates,
-    /// The printer of this number, which waits for its next page.
+    /// The printer of this number, for its next page.
     Printer(u32),
-    /// Someone without a seat, who waits until no job is held or a printer is stopped.
+    /// Someone without a seat, until no job is held or a printer is stopped.
     Nobody,
     /// One of two sessions that take turns, at the places 0 and 1, or one that keeps the lock busy.
     Turns(usize),
-    /// A client.
-    Acts(Client<'a>),
-    /// The device at the printer of this number.
-    Prints(u32, Device<'a>),
 }
 
-/// How many sessions' seats these steps want: one for the director, those of waiters, and one for each
-/// job that another seat aborts.
-pub fn sessions_in(steps: &[Step<'_>]) -> u32 {
-    let mut sessions = 1u32;
+/// How many sessions' seats these steps want beside the director's: those of waiters, and one for
+/// each job that another seat aborts.
+pub fn sessions_in(steps: &[Step]) -> usize {
+    let mut sessions = 0usize;
     for step in steps {
         let has_one = match step {
             Step::Begins(_, waiter) | Step::Waits(_, waiter) => {
-                !matches!(
-                    waiter,
-                    Waiter::Printer(_) | Waiter::Prints(_, _) | Waiter::Nobody
-                )
+                !matches!(waiter, Waiter::Printer(_) | Waiter::Nobody)
             }
             Step::AbortedByAnother(_) => true,
             _ => false,
         };
-        sessions = sessions.saturating_add(u32::from(has_one));
+        if has_one {
+            sessions = sessions.saturating_add(1);
+        }
     }
     sessions
 }
 
-/// A seat, and what came of the client or the device that had it.
+/// A waiter with its seat.
 #[derive(Drop)]
 pub enum Seated<E: SpoolLedger, K: Ledger, H: Ledger> {
-    Session(SessionSeat<E, K, H>, Option<SessionReport>),
-    Printer(PrinterSeat<E, K, H>, Option<PrinterReport>),
+    Session(u64, SessionSeat<E, K, H>),
+    Sends(SessionSeat<E, K, H>),
+    Rotates(SessionSeat<E, K, H>),
+    Printer(PrinterSeat<E, K, H>),
     Nobody,
+    Turns(usize, SessionSeat<E, K, H>),
 }
 
-impl<R: Abort + AllocGlobal + Clock + Wait, E: SpoolLedger, K: Ledger, H: Ledger> Stage<
-    '_,
-    R,
-    E,
-    K,
-    H,
-> {
-    /// The file of this letter of a job.
-    pub fn name(&self, letter: char, job: u64) -> FileName {
-        let name = format!(in self.rt.alloc(); "{letter}fA{job:03}h1").expect(self.rt, "memory");
-        FileName::read(name.as_bytes()).expect(self.rt, "a name")
-    }
-
-    /// A sender's job is accepted for a queue, with a data file of so many pages, of which so many
-    /// come.
-    pub fn begin(
-        &self,
-        seat: &mut SessionSeat<E, K, H>,
-        queue: &[u8],
-        sender: u32,
-        pages: u32,
-        come: u32,
-    ) -> u64 {
-        let Stage { rt, spool, .. } = self;
-        let job = spool.open(rt, seat, sender, queue).expect(rt, "a job");
-        let name = self.name('d', job);
-        let count = u64::from(pages.max(1)) * PAGE_SIZE as u64;
-        let begun = spool.begin_file(rt, seat, job, name, count);
-        assert!(rt; begun.is_ok(), "a file is refused");
-        for _ in 0..come {
-            put(rt, spool, seat, job, &PAGE).expect(rt, "a page");
-        }
-        job
-    }
-
+impl<R: AllocGlobal + Clock + Wait, E: SpoolLedger, K: Ledger, H: Ledger> Stage<'_, R, E, K, H> {
     /// A waiter went on. It does nothing until the spool is closed.
     fn goes(&self, waiter: usize, answer: Answer) {
         self.board.tell(self.rt, Mark::Gone(waiter));
@@ -129,6 +105,16 @@ impl<R: Abort + AllocGlobal + Clock + Wait, E: SpoolLedger, K: Ledger, H: Ledger
         }
     }
 
+    /// Sends a job of a page, begins one of three, of which two come, and waits for the third.
+    fn sends(&self, waiter: usize, seat: &mut SessionSeat<E, K, H>) {
+        let (rt, spool) = (self.rt, self.spool);
+        let sent = send(rt, spool, seat, OWN_SENDER, &PAGE, PAGE_SIZE);
+        match sent.and_then(|_| begin(rt, spool, seat, OWN_SENDER)) {
+            Some(job) => self.asks(waiter, job, seat),
+            None => self.goes(waiter, Answer::NoPage),
+        }
+    }
+
     /// Waits for a printer's next page, and gives it back when the spool was closed.
     fn takes(&self, waiter: usize, seat: &mut PrinterSeat<E, K, H>) {
         match self.spool.next_wait(self.rt, seat) {
@@ -144,82 +130,53 @@ impl<R: Abort + AllocGlobal + Clock + Wait, E: SpoolLedger, K: Ledger, H: Ledger
         }
     }
 
-    /// Has a waiter wait through a session's seat.
-    fn sits(&self, waiter: usize, what: Waiter<'_>, seat: &mut SessionSeat<E, K, H>) {
-        match what {
-            Waiter::Session(job) => self.asks(waiter, job, seat),
-            Waiter::Sends => {
-                let sent = send(self.rt, self.spool, seat, OWN_SENDER, &PAGE, PAGE_SIZE);
-                assert!(self.rt; sent.is_some(), "a call is refused");
-                let job = self.begin(seat, QUEUE, OWN_SENDER, 3, 2);
-                self.asks(waiter, job, seat);
-            }
-            Waiter::Rotates => {
+    /// Has a waiter wait.
+    fn waits(&self, waiter: usize, mut seated: Seated<E, K, H>) -> Seated<E, K, H> {
+        self.board.tell(self.rt, Mark::Waits(waiter));
+        match &mut seated {
+            Seated::Session(job, seat) => self.asks(waiter, *job, seat),
+            Seated::Sends(seat) => self.sends(waiter, seat),
+            Seated::Rotates(seat) => {
                 let answer = match self.spool.rotate_wait(self.rt, seat, 1) {
                     Some(Ok(_)) => Answer::Idle,
                     Some(Err(_)) | None => Answer::NoPage,
                 };
                 self.goes(waiter, answer);
             }
-            Waiter::Turns(place) => {
-                self.takes_turns(place, seat);
-                self.goes(waiter, Answer::NoPage);
-            }
-            Waiter::Printer(_) | Waiter::Nobody | Waiter::Acts(_) | Waiter::Prints(_, _) => {}
-        }
-    }
-
-    /// Has a waiter wait, a client act or a device print, and gives the seat back.
-    fn acts(&self, waiter: usize, what: Waiter<'_>, seated: Seated<E, K, H>) -> Seated<E, K, H> {
-        self.board.tell(self.rt, Mark::Waits(waiter));
-        match (what, seated) {
-            (Waiter::Acts(client), Seated::Session(seat, _)) => {
-                let (seat, report) = self.session(waiter, client, seat);
-                Seated::Session(seat, Some(report))
-            }
-            (Waiter::Prints(_, device), Seated::Printer(seat, _)) => {
-                let (seat, report) = self.printer(waiter, device, seat);
-                Seated::Printer(seat, Some(report))
-            }
-            (_, Seated::Session(mut seat, _)) => {
-                self.sits(waiter, what, &mut seat);
-                Seated::Session(seat, None)
-            }
-            (_, Seated::Printer(mut seat, _)) => {
-                self.takes(waiter, &mut seat);
-                Seated::Printer(seat, None)
-            }
-            (_, Seated::Nobody) => {
+            Seated::Printer(seat) => self.takes(waiter, seat),
+            Seated::Nobody => {
                 self.spool.idle_wait(self.rt);
                 self.goes(waiter, Answer::Idle);
-                Seated::Nobody
+            }
+            Seated::Turns(place, seat) => {
+                self.sits(*place, seat);
+                self.goes(waiter, Answer::NoPage);
             }
         }
+        seated
     }
 }
 
-/// Has a director do its steps, up to the first at which a thread waits in vain, and the others act meanwhile, each in
-/// a thread of its own. All come back.
-pub fn go_through<'a, R: Abort + Host, E: Entries, K: Sums, H: Sums>(
-    stage: &'a Stage<'a, R, E, K, H>,
-    steps: &[Step<'_>],
-    mut director: Director<'a, R, E, K, H>,
-) -> Director<'a, R, E, K, H> {
+/// Has a director do its steps, up to the first that fails, and waiters wait meanwhile, each in a
+/// thread of its own. None where memory is refused or a thread can't be made.
+pub fn wait_through<R: Host, E: Entries, K: Sums, H: Sums>(
+    stage: &Stage<'_, R, E, K, H>,
+    steps: &[Step],
+    seats: Seats<E, K, H>,
+) -> Option<Outcome<E, K, H>> {
     let (rt, alloc) = (stage.rt, stage.rt.alloc());
-    thread::scope(
+    let mut director = Director::new(stage, seats);
+    let back = thread::scope(
         thread::scope_env(),
         rt,
-        |scope|
+        |scope| -> Option<()>
             requires { IsSend E.row × IsSend K.row × IsSend H.row }
         {
-            let mut threads = Vec::new(alloc);
+            let mut threads = Vec::with_capacity(alloc, steps.len()).ok()?;
             for step in steps {
-                if let Step::Begins(number, waiter) | Step::Waits(number, waiter) = *step {
-                    let seated = director.deal(waiter);
-                    match scope.spawn(move || stage.acts(number, waiter, seated)) {
-                        Ok(thread) => threads.push(thread).expect(rt, "memory"),
-                        Err(_) => panic!(rt; "no thread"),
-                    }
+                if let Some((number, seated)) = director.begins(*step) {
+                    let thread = move || stage.waits(number, seated);
+                    threads.push(scope.spawn(thread).ok()?).ok()?;
                 }
                 if !director.does(*step) {
                     break;
@@ -227,9 +184,12 @@ pub fn go_through<'a, R: Abort + Host, E: Entries, K: Sums, H: Sums>(
             }
             director.ends();
             for thread in threads {
-                director.take_back(thread.join(rt));
+                director.take_back(thread.join(rt)).ok()?;
             }
+            Some(())
         },
     );
-    director
+    let outcome = director.outcome();
+    back?;
+    outcome
 }

@@ -65,8 +65,17 @@ pub const SERVED: Client<'static> = Client {
     answers: &[],
 };
 
-/// A session that sends the job.
-pub const JOB: Client<'static> = Client {
-    octets: STREAM,
-    ..SERVED
-};
+/// A session that is made in this way, over these octets.
+pub fn called(way: Way, sender: u32, octets: &[u8]) -> Client<'_> {
+    Client {
+        way,
+        sender,
+        octets,
+        ..SERVED
+    }
+}
+
+/// A session that is served, over these octets.
+pub fn served(sender: u32, octets: &[u8]) -> Client<'_> {
+    called(Way::Served, sender, octets)
+}
