@@ -2,7 +2,7 @@
 # Measures speed: run it on an idle machine. The numbers are printed, and nothing is tested. Each measurement is a run of its
 # own, since what one asks of memory would change what the next one finds.
 set -eu
-cd "$(dirname "${BASH_SOURCE[0]}")/../crates/bench"
+tools=$(cd "$(dirname "${BASH_SOURCE[0]}")/../tools" && pwd)
 for word in banker chains core shared session world; do
-    rt run -- "$word"
+    bash "$tools/beside.sh" bench run -- "$word"
 done

@@ -10,9 +10,9 @@
 set -eu
 top=$(cd "$(dirname "${BASH_SOURCE[0]}")/.." && pwd)
 (cd "$top/crates/lpd_server" && rt run -- --version)
-(cd "$top/crates/bench" && rt run -- count)
+bash "$top/tools/beside.sh" bench run -- count
 server=$top/crates/lpd_server/out/lpd_server
-client=$top/crates/bench/out/bench
+client=$(bash "$top/tools/beside.sh" bench path)/out/bench
 
 # A server with 1,024 printers has as many files open.
 ulimit -n 4096

@@ -2,5 +2,4 @@
 # Has sessions and printers send, cut off, print, fail and remove at random for so many seconds (60, or the first word;
 # the second is the seed), checks all that they leave, and prints what happened. The status is 1 where something is wrong.
 set -eu
-cd "$(dirname "${BASH_SOURCE[0]}")/../crates/test_soak"
-rt run -- "${1:-60}" "${2:-1}"
+bash "$(dirname "${BASH_SOURCE[0]}")/../tools/beside.sh" test_soak run -- "${1:-60}" "${2:-1}"

@@ -24,6 +24,9 @@ else
     failed=1
 fi
 
+# Crates beside the gate are tried in a copy of the repository, in which they are crates as others.
+copy=$(dirname "$(BESIDE_COPY=$folder/copy bash tools/beside.sh test_surface path)") || exit 2
+
 # start LABEL CRATE WORDS..: tries a crate beside others, on the standard input of its stored run, if it has one.
 start() {
     local label=$1 crate=$2 input=/dev/null
@@ -32,9 +35,9 @@ start() {
         wait -n
         running=$((running - 1))
     fi
-    [ -f "crates/$crate/stdin" ] && input=stdin
+    [ -f "$copy/$crate/stdin" ] && input=stdin
     (
-        cd "crates/$crate" && rt try "$@" < "$input" > "$folder/$label.out" 2> "$folder/$label.err"
+        cd "$copy/$crate" && rt try "$@" < "$input" > "$folder/$label.out" 2> "$folder/$label.err"
         echo $? > "$folder/$label.status"
     ) &
     running=$((running + 1))
@@ -52,32 +55,22 @@ add() {
     failed=$((failed + bad))
 }
 
-with_tests=$(grep -rl '^ *#\[test\]' crates/*/src | cut -d/ -f2 | sort -u)
-programs=$(for file in crates/*/stdout; do basename "$(dirname "$file")"; done)
+with_tests=$(grep -rl '^ *#\[test\]' crates/*/src beside/*/src | cut -d/ -f2 | sort -u)
+programs=$(for file in crates/*/stdout beside/*/stdout; do basename "$(dirname "$file")"; done)
 for crate in $with_tests; do
     start "$crate tests" "$crate" --test
 done
-# The calls of the whole surface are tried in a copy of their own.
-if [ "$running" -ge "$lanes" ]; then
-    wait -n
-    running=$((running - 1))
-fi
-(
-    bash tools/surface.sh > "$folder/surface tests.out" 2> "$folder/surface tests.err" < /dev/null
-    echo $? > "$folder/surface tests.status"
-) &
-running=$((running + 1))
 for crate in $programs; do
     words=()
-    for file in "crates/$crate"/data/*; do
+    for file in "$copy/$crate"/data/*; do
         [ -e "$file" ] && words+=(--data "$(basename "$file")=data/$(basename "$file")")
     done
-    [ -f "crates/$crate/args" ] && words+=(--) && mapfile -t -O ${#words[@]} words < "crates/$crate/args"
+    [ -f "$copy/$crate/args" ] && words+=(--) && mapfile -t -O ${#words[@]} words < "$copy/$crate/args"
     start "$crate" "$crate" ${words[@]+"${words[@]}"}
 done
 wait
 
-for crate in $with_tests surface; do
+for crate in $with_tests; do
     label="$crate tests"
     cat "$folder/$label.out" "$folder/$label.err" > "$folder/said"
     grep '^test .* \.\.\. ' "$folder/said" | grep -v ' ok$'
@@ -87,16 +80,16 @@ for crate in $with_tests surface; do
 done
 for crate in $programs; do
     out=$folder/$crate.out
-    if [ -d "crates/$crate/data" ]; then
+    if [ -d "$copy/$crate/data" ]; then
         # A line for each group says how many rows it has, and one before it names each row that is answered otherwise.
         bad=$(grep -c '^[a-z]*, row [0-9]*: ' "$out")
         good=$(awk '/^[a-z]*: [0-9]* rows$/ { rows += $2 } END { print rows + 0 }' "$out")
-        grep -vxFf "crates/$crate/stdout" "$out"
+        grep -vxFf "$copy/$crate/stdout" "$out"
         add "$crate" $((good - bad)) "$bad"
-    elif cmp -s "crates/$crate/stdout" "$out"; then
+    elif cmp -s "$copy/$crate/stdout" "$out"; then
         add "$crate" 1 0
     else
-        diff "crates/$crate/stdout" "$out" | head -n 5
+        diff "$copy/$crate/stdout" "$out" | head -n 5
         add "$crate" 0 1
     fi
 done

@@ -3,7 +3,7 @@
 
     python3 tools/uncalled.py    # CRATE FUNCTION, a line each; status 1 where there is one
 
-Of the crates that have a file in `tools/surface`, and of the types that they hand on, each public function has to be called by a crate
+Of the crates that have a file in `beside/test_surface`, and of the types that they hand on, each public function has to be called by a crate
 of tests, rows or measurements. Of all other crates it is enough that anybody calls it, else it needn't be there. A function is public
 where the `lib.rt` of its crate hands on its name, or the type of which it is a method. It is called where its name stands before a
 bracket, whatever it is called on. Functions with empty bodies are laws: nobody calls them.
@@ -13,11 +13,12 @@ import os
 import re
 import sys
 
-TOOLS = os.path.dirname(os.path.abspath(__file__))
-CRATES = os.path.join(os.path.dirname(TOOLS), "crates")
+TOP = os.path.dirname(os.path.dirname(os.path.abspath(__file__)))
+CRATES = os.path.join(TOP, "crates")
 
-# The calls of the whole surface, which stand beside the gate.
-SURFACE = "surface"
+# The crates that stand beside the gate; the last one has the calls of the whole surface.
+SURFACE = "test_surface"
+BESIDE = {"bench", "test_soak", SURFACE}
 
 # Crates that call the product and are no part of it.
 CALLERS = {
@@ -25,7 +26,7 @@ CALLERS = {
     "test_calls",
     "test_kit",
     "test_kit_seats",
-    "network_tests",
+    "test_network",
     "test_program",
     "test_soak",
     "test_texts",
@@ -43,7 +44,7 @@ BODY = re.compile(r"(?:^ *| )(\{\}?)$", re.MULTILINE)
 
 def sources(crate):
     """The code of a crate's files by their names, without comments and texts."""
-    folder = os.path.join(TOOLS if crate == SURFACE else CRATES, crate, "src")
+    folder = os.path.join(TOP, "beside" if crate in BESIDE else "crates", crate, "src")
     found = {}
     for name in os.listdir(folder):
         with open(os.path.join(folder, name), encoding="utf-8") as file:
@@ -74,7 +75,7 @@ def functions(code, crate):
 
 
 def main():
-    code = {crate: sources(crate) for crate in [*os.listdir(CRATES), SURFACE]}
+    code = {crate: sources(crate) for crate in [*os.listdir(CRATES), *BESIDE]}
     surface = {file.removesuffix("_calls.rattle") for file in code[SURFACE]} & set(code)
     needs_test = {one for crate in surface for one in handed_on(code, crate)}
     by_tests, by_anybody = calls_in(code, CALLERS), calls_in(code, code)
