@@ -5,7 +5,7 @@ use std::alloc::{AllocError, Global};
 
 /// A spool with a queue `lp`.
 #[derive(Clone, Copy)]
-pub struct Spool {
+pub struct Spool<'a> {
     pub pages: u32,
     /// How many octets a page has.
     pub page_size: u32,
@@ -16,12 +16,12 @@ pub struct Spool {
     /// How many printers `lp` has.
     pub printers: u32,
     /// What its configuration says of other queues.
-    pub others: &'static str,
+    pub others: &'a str,
 }
 
-impl Spool {
+impl Spool<'_> {
     /// Four pages of eight octets, and one printer.
-    pub const SMALL: Spool = Spool {
+    pub const SMALL: Spool<'static> = Spool {
         pages: 4,
         page_size: 8,
         jobs: 8,

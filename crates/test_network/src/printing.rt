@@ -1,10 +1,10 @@
 //! Jobs of one client, one after another.
 
-use crate::clients::{connect, is_answered, is_ended, octets_of, send, waits, write};
+use crate::clients::{begin, connect, is_answered, is_ended, octets_of, send, waits, write};
 use crate::jobs::HELLO;
 use crate::pipe::Pipe;
 use crate::place::{is_printed, make, path, remove};
-use crate::server::{ENDLESS, Paper, SMALL, Spool, Terminal, ends_well, port_of, run, settings};
+use crate::server::{ENDLESS, Paper, Terminal, beside, ends_well, plan_of, settings};
 use lpd_daemon::{Limits, Settings};
 use lpr_client::SendFault;
 use std::net::{Net, TcpStream};
@@ -12,6 +12,7 @@ use std::num::NonZeroU64;
 use std::process::Abort;
 use std::time::Duration;
 use std::{fs, thread};
+use test_kit::Spool;
 
 /// New jobs wait for room as long as a busy machine needs.
 const PATIENT: Limits = Limits {
@@ -24,6 +25,9 @@ const LOOKS: u32 = 20;
 
 const LOOK_MS: u64 = 100;
 
+/// The line of the first rotation, where one job was printed, behind the line before.
+const ROTATED: &str = "\nrotated 1 entries 12\n";
+
 /// One job: its octets come out at the printer, behind what its file has, and the account has its
 /// 13 entries.
 #[test]
@@ -32,7 +36,7 @@ fn one_job(rt: HostRuntime) {
     make(&rt, out);
     let file = path(&rt, rt.alloc(), out, 1);
     fs::write(&rt, file.as_str(), "title ").expect(&rt, "a file");
-    let text = ends_well(&rt, SMALL, settings(&rt, out, 1), |port| {
+    let text = ends_well(&rt, Spool::SMALL, settings(&rt, out, 1), |port| {
         assert_eq!(rt; send(&rt, &connect(&rt, port), 1, HELLO), Ok(()));
     });
     assert_eq!(rt; text.as_str(), "closed entries 13\n");
@@ -43,7 +47,7 @@ fn one_job(rt: HostRuntime) {
 /// the close.
 const ONE_JOB: Spool = Spool {
     account: 713,
-    ..SMALL
+    ..Spool::SMALL
 };
 
 /// Sends two jobs, each over a connection of its own. How the second one was sent.
@@ -64,7 +68,7 @@ fn the_account_has_its_turn(rt: HostRuntime) {
     let full = Err(SendFault::Refused(2));
     for (spool, rotate, sent, lines, printed) in [
         (
-            SMALL,
+            Spool::SMALL,
             Some(1),
             Ok(()),
             "rotated 1 entries 12\nclosed entries 25\n",
@@ -77,7 +81,7 @@ fn the_account_has_its_turn(rt: HostRuntime) {
             "rotated 1 entries 12\nclosed entries 25\n",
             both,
         ),
-        (SMALL, Some(2), Ok(()), "closed entries 25\n", both),
+        (Spool::SMALL, Some(2), Ok(()), "closed entries 25\n", both),
         (ONE_JOB, None, full, "closed entries 13\n", HELLO),
     ] {
         make(&rt, out);
@@ -107,26 +111,15 @@ fn a_rotation_is_told_first(rt: HostRuntime) {
         pause_ms: 300,
         ..ENDLESS
     };
-    let terminal = Terminal::new(rt.alloc());
-    let config = SMALL.config(&rt, rt.alloc());
-    let (told, ended) = thread::join(
-        &rt,
-        || {
-            let first = terminal.text(&rt, false);
-            let port = port_of(first.as_str()).expect(&rt, "the server listens");
-            assert_eq!(rt; send(&rt, &connect(&rt, port), 1, HELLO), Ok(()));
-            let second = connect(&rt, port);
-            write(&rt, &second, b"\x02lp\n");
-            is_answered(&rt, &second, &[0]);
-            terminal.text(&rt, false)
-        },
-        || run(&rt, &terminal, config, settings, slow),
-    );
+    let terminal = Terminal::new(rt.alloc(), slow);
+    let plan = plan_of(&rt, Spool::SMALL, settings);
+    let (ended, _) = beside(&rt, &terminal, plan, |port| {
+        assert_eq!(rt; send(&rt, &connect(&rt, port), 1, HELLO), Ok(()));
+        let _second = begin(&rt, port, b"\x02lp\n", 1);
+        let told = terminal.text(&rt, false);
+        assert!(rt; told.as_str().ends_with(ROTATED), "{told}");
+    });
     assert_eq!(rt; ended, Ok(()));
-    assert!(rt;
-        told.as_str().ends_with("\nrotated 1 entries 12\n"),
-        "{told}"
-    );
     is_printed(&rt, out, HELLO);
 }
 
@@ -141,27 +134,20 @@ fn a_rotation_is_told_at_once(rt: HostRuntime) {
         limits: PATIENT,
         ..settings(&rt, out, 2)
     };
-    let terminal = Terminal::new(rt.alloc());
-    let config = ONE_JOB.config(&rt, rt.alloc());
-    let (is_told, ended) = thread::join(
-        &rt,
-        || {
-            let first = terminal.text(&rt, false);
-            let port = port_of(first.as_str()).expect(&rt, "the server listens");
-            assert_eq!(rt; send(&rt, &connect(&rt, port), 1, HELLO), Ok(()));
-            let mut is_told = false;
-            for _ in 0..LOOKS {
-                thread::sleep(&rt, Duration::from_millis(LOOK_MS));
-                let text = terminal.text(&rt, false);
-                is_told = is_told || text.as_str().ends_with("\nrotated 1 entries 12\n");
-            }
-            assert_eq!(rt; send(&rt, &connect(&rt, port), 2, b"!"), Ok(()));
-            is_told
-        },
-        || run(&rt, &terminal, config, settings, ENDLESS),
-    );
+    let terminal = Terminal::new(rt.alloc(), ENDLESS);
+    let plan = plan_of(&rt, ONE_JOB, settings);
+    let (ended, _) = beside(&rt, &terminal, plan, |port| {
+        assert_eq!(rt; send(&rt, &connect(&rt, port), 1, HELLO), Ok(()));
+        let mut is_told = false;
+        for _ in 0..LOOKS {
+            thread::sleep(&rt, Duration::from_millis(LOOK_MS));
+            let text = terminal.text(&rt, false);
+            is_told = is_told || text.as_str().ends_with(ROTATED);
+        }
+        assert!(rt; is_told);
+        assert_eq!(rt; send(&rt, &connect(&rt, port), 2, b"!"), Ok(()));
+    });
     assert_eq!(rt; ended, Ok(()));
-    assert!(rt; is_told);
     is_printed(&rt, out, b"hello world!");
 }
 
@@ -181,7 +167,7 @@ fn a_page_is_held(rt: HostRuntime) {
             rotate: rotate.and_then(|every| NonZeroU64::new(every)),
             ..settings(&rt, out, 2)
         };
-        let text = ends_well(&rt, SMALL, settings, |port| {
+        let text = ends_well(&rt, Spool::SMALL, settings, |port| {
             assert_eq!(rt; send(&rt, &connect(&rt, port), 1, HELLO), Ok(()));
             let second = connect(&rt, port);
             write(&rt, &second, octets_of(&rt, 2, HELLO).as_slice());

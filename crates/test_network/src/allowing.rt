@@ -3,9 +3,10 @@
 use crate::clients::{ask_from, connect, is_answered, is_ended};
 use crate::logging::all_lines;
 use crate::place::{make, remove};
-use crate::server::{SMALL, ends_well, settings};
+use crate::server::{ends_well, settings};
 use log::{Level, Logged};
 use program_edge::{LineLog, LineQueue, Network};
+use test_kit::Spool;
 
 /// A host of a network that is named is let in. Each connection of another one is closed at once,
 /// counts as one, and is told of once.
@@ -19,7 +20,7 @@ fn others_are_turned_away(rt: HostRuntime) {
     let mut settings = settings(&rt, out, 3);
     let network = Network::read("127.0.0.2/31").expect(&rt, "a network");
     settings.allowed.push(network).expect(&rt, "memory");
-    let text = ends_well(&logged, SMALL, settings, |port| {
+    let text = ends_well(&logged, Spool::SMALL, settings, |port| {
         for _ in 0..2 {
             is_ended(&rt, &connect(&rt, port));
         }

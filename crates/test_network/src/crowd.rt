@@ -1,14 +1,18 @@
 //! Many clients at once, of which some break the rules.
 
-use crate::clients::{connect, is_answered, is_ended, octets_of, send, send_more, stop, write};
+use crate::clients::{
+    HALF, begin, connect, is_answered, is_ended, octets_of, send, send_more, write,
+};
 use crate::jobs::{are_in_order, job_text, jobs_in, pages_of};
 use crate::place::{make, printed, remove};
-use crate::server::{SMALL, Spool, ends_well, settings, silent_for};
-use lpd_daemon::Settings;
+use crate::server::{PLOTTER, ends_well, settings};
+use lpd_daemon::{Limits, Settings};
 use std::alloc::Global;
 use std::net::{Net, Shutdown, TcpStream};
+use std::num::NonZeroU64;
 use std::process::Abort;
 use std::thread;
+use test_kit::Spool;
 
 /// How many clients send jobs by the rules.
 const CLIENTS: u32 = 32;
@@ -34,13 +38,13 @@ const SPOOL: Spool = Spool {
     jobs: 64,
     account: 1_000_000,
     printers: 2,
-    plots: true,
-    ..SMALL
+    others: PLOTTER,
+    ..Spool::SMALL
 };
 
 /// For how many seconds a peer may be silent. Where all others wait for pages that the job of the
 /// one that stopped may still need, they wait for no longer.
-const SILENCE: u64 = 10;
+const SILENCE: u64 = 5;
 
 /// Sends a client's jobs, one after another: an even one over one connection, an odd one each over
 /// its own.
@@ -60,50 +64,25 @@ fn send_all<R: Abort + AllocGlobal + Net<Stream = TcpStream>>(rt: &R, port: u16,
     }
 }
 
-/// Sends the job of a client who leaves before the last acknowledgement. All octets have come then,
-/// so it is printed.
-fn send_and_leave<R: Abort + AllocGlobal + Net<Stream = TcpStream>>(
-    rt: &R,
-    port: u16,
-    client: u32,
-) {
-    let stream = connect(rt, port);
-    let text = job_text(rt, rt.alloc(), client, 0);
-    let octets = octets_of(rt, 0, text.as_bytes());
-    let (last, head) = octets.as_slice().split_last().expect(rt, "octets");
-    write(rt, &stream, head);
-    is_answered(rt, &stream, &[0; 4]);
-    write(rt, &stream, &[*last]);
-}
-
-/// Sends what is no command.
-fn send_garbage<R: Abort + Net<Stream = TcpStream>>(rt: &R, port: u16) {
+/// Sends what is no command; then a job whose client leaves before the last acknowledgement, when all octets have come, so that it is
+/// printed; then opens connections and closes them, without a word. One of each row of these waits until the server has closed it
+/// too, so that no more than a row of them stand before the other clients.
+fn break_rules<R: Abort + AllocGlobal + Net<Stream = TcpStream>>(rt: &R, port: u16) {
     let stream = connect(rt, port);
     write(rt, &stream, b"\x7Fgarbage\n");
     is_answered(rt, &stream, &[1]);
     is_ended(rt, &stream);
-}
-
-/// Opens connections and closes them, without a word. One of each row waits until the server has
-/// closed it too, so that no more than a row of them stand before the other clients.
-fn pass_by<R: Abort + Net<Stream = TcpStream>>(rt: &R, port: u16) {
+    let text = job_text(rt, rt.alloc(), CLIENTS, 0);
+    let octets = octets_of(rt, 0, text.as_bytes());
+    let (last, head) = octets.as_slice().split_last().expect(rt, "octets");
+    let stream = begin(rt, port, head, 4);
+    write(rt, &stream, &[*last]);
+    drop(stream);
     for passer in 0..PASSERS {
         let stream = connect(rt, port);
         if passer % ROW == 0 {
             stream.shutdown(Shutdown::Write).expect(rt, "the end");
             is_ended(rt, &stream);
-        }
-    }
-}
-
-/// What one of the threads does: a client's sends jobs, and the last one breaks the rules.
-fn come_and_go<R: Abort + AllocGlobal + Net<Stream = TcpStream>>(rt: &R, port: u16, thread: usize) {
-    match u32::try_from(thread) {
-        Ok(client) if client < CLIENTS => send_all(rt, port, client),
-        _ => {
-            send_garbage(rt, port);
-            send_and_leave(rt, port, CLIENTS);
-            pass_by(rt, port);
         }
     }
 }
@@ -129,12 +108,18 @@ fn good_jobs_are_printed_beside_bad_clients(rt: HostRuntime) {
     let out = "good_jobs_are_printed_beside_bad_clients";
     make(&rt, out);
     let settings = Settings {
-        limits: silent_for(SILENCE),
+        limits: Limits {
+            silence: NonZeroU64::new(SILENCE),
+            ..Limits::NONE
+        },
         ..settings(&rt, out, CONNECTIONS)
     };
     let text = ends_well(&rt, SPOOL, settings, |port| {
-        let stopped = stop(&rt, port);
-        let come_and_go = |thread: usize| come_and_go(&rt, port, thread);
+        let stopped = begin(&rt, port, HALF, 2);
+        let come_and_go = |thread: usize| match u32::try_from(thread) {
+            Ok(client) if client < CLIENTS => send_all(&rt, port, client),
+            _ => break_rules(&rt, port),
+        };
         let gone = thread::map_indices(&rt, rt.alloc(), CLIENTS as usize + 1, &come_and_go);
         assert!(rt; gone.is_ok());
         drop(stopped);

@@ -3,10 +3,10 @@
 use crate::jobs::HELLO;
 use crate::logging::all_lines;
 use crate::place::{is_printed, make, remove};
-use crate::server::{ENDLESS, SMALL, beside};
+use crate::server::{ENDLESS, Terminal, beside};
 use config_values::Config;
 use log::{Level, Log, Logged};
-use lpd_daemon::Settings;
+use lpd_daemon::{Counter, Plan, Settings};
 use lpd_words::{Outcome, read_config, run};
 use program_edge::{LineLog, LineQueue, StreamReader, StreamWriter};
 use std::alloc::Global;
@@ -14,6 +14,7 @@ use std::fs;
 use std::fs::Files;
 use std::net::{Ipv4Addr, Net, OpenListener, SocketAddr, TcpListener, TcpStream};
 use std::process::Abort;
+use test_kit::Spool;
 
 /// The words of a line, one space between them.
 fn words_of<R: Abort>(rt: &R, alloc: Global, line: &str) -> Vec<String> {
@@ -66,7 +67,12 @@ fn a_job_is_sent_and_printed(rt: HostRuntime) {
     make(&rt, out);
     let alloc = rt.alloc();
     let config = format!(in alloc; "{out}/spool.toml").expect(&rt, "memory");
-    fs::write(&rt, config.as_str(), SMALL.text(&rt, alloc).as_str()).expect(&rt, "a file");
+    fs::write(
+        &rt,
+        config.as_str(),
+        Spool::SMALL.text(alloc).expect(&rt, "memory").as_str(),
+    )
+    .expect(&rt, "a file");
     let file = format!(in alloc; "{out}/file").expect(&rt, "memory");
     fs::write(&rt, file.as_str(), HELLO).expect(&rt, "a file");
     let port = free_port(&rt);
@@ -77,7 +83,13 @@ fn a_job_is_sent_and_printed(rt: HostRuntime) {
     let line = format!(in alloc; "lpd_server send {port} lp 1 h1 ann {file}");
     let sends = words_of(&rt, alloc, line.expect(&rt, "memory").as_str());
     let (config, settings) = served_by(&rt, serves.as_slice());
-    let (ended, text) = beside(&rt, config, settings, ENDLESS, |listening| {
+    let terminal = Terminal::new(alloc, ENDLESS);
+    let plan = Plan {
+        config,
+        settings,
+        counter: Counter::CLOSED,
+    };
+    let (ended, text) = beside(&rt, &terminal, plan, |listening| {
         assert_eq!(rt; listening, port);
         let (sent, text, fault) = outcome_of(&rt, sends.as_slice());
         assert!(rt; matches!(sent, Outcome::Ended(0)));
@@ -89,58 +101,44 @@ fn a_job_is_sent_and_printed(rt: HostRuntime) {
     is_printed(&rt, out, HELLO);
 }
 
-/// These words end with a fault, which is told in this line alone.
-fn fails_by<R: Abort + AllocGlobal + Files + Log + Net<Stream = TcpStream>>(
-    rt: &R,
-    line: &str,
-    fault: &str,
-) {
-    let words = words_of(rt, rt.alloc(), line);
-    let (outcome, text, told) = outcome_of(rt, words.as_slice());
-    assert!(rt; matches!(outcome, Outcome::Ended(4)));
-    assert_eq!(rt; text.as_slice(), b"".as_slice());
-    assert_eq!(rt; told.as_slice(), fault.as_bytes());
-}
+/// The words behind the program's name, and the fault that they end with, which is told in a line alone. `OUT` stands for the
+/// directory, and `PORT` for a port.
+const FAULTS: [(&str, &str); 6] = [
+    ("check OUT/none.toml", "fault 71 ReadFile\n"),
+    (
+        "replay OUT/none.toml OUT/none.script",
+        "fault 71 ReadFile\n",
+    ),
+    ("replay OUT/file OUT/none.script", "fault 71 ReadFile\n"),
+    ("send PORT lp 1 h1 ann OUT/none", "fault 71 ReadFile\n"),
+    ("send PORT lp 1 h1 ann OUT/empty", "fault 71 ReadFile\n"),
+    ("send PORT lp 1 h1 ann OUT/file", "fault 72 Network\n"),
+];
 
 /// A job that can't be sent, and files that can't be read, end by these words.
-fn all_fail<R: Abort + AllocGlobal + Files + Log + Net<Listener = TcpListener, Stream = TcpStream>>(
+fn all_fail<R: Abort + AllocGlobal + Files + Log + Net<Stream = TcpStream>>(
     rt: &R,
     out: &str,
     port: u16,
 ) {
     let alloc = rt.alloc();
-    let check = format!(in alloc; "lpd_server check {out}/none.toml");
-    fails_by(
-        rt,
-        check.expect(rt, "memory").as_str(),
-        "fault 71 ReadFile\n",
-    );
-    let replay = format!(in alloc; "lpd_server replay {out}/none.toml {out}/none.script");
-    fails_by(
-        rt,
-        replay.expect(rt, "memory").as_str(),
-        "fault 71 ReadFile\n",
-    );
-    let replay = format!(in alloc; "lpd_server replay {out}/file {out}/none.script");
-    fails_by(
-        rt,
-        replay.expect(rt, "memory").as_str(),
-        "fault 71 ReadFile\n",
-    );
-    let send = format!(in alloc; "lpd_server send {port} lp 1 h1 ann {out}/none");
-    fails_by(
-        rt,
-        send.expect(rt, "memory").as_str(),
-        "fault 71 ReadFile\n",
-    );
-    let send = format!(in alloc; "lpd_server send {port} lp 1 h1 ann {out}/empty");
-    fails_by(
-        rt,
-        send.expect(rt, "memory").as_str(),
-        "fault 71 ReadFile\n",
-    );
-    let send = format!(in alloc; "lpd_server send {port} lp 1 h1 ann {out}/file");
-    fails_by(rt, send.expect(rt, "memory").as_str(), "fault 72 Network\n");
+    let port = format!(in alloc; "{port}").expect(rt, "memory");
+    for (line, fault) in FAULTS {
+        let line = format!(in alloc; "lpd_server {line}").expect(rt, "memory");
+        let line = line
+            .as_str()
+            .replace(alloc, "OUT", out)
+            .expect(rt, "memory");
+        let line = line
+            .as_str()
+            .replace(alloc, "PORT", port.as_str())
+            .expect(rt, "memory");
+        let words = words_of(rt, alloc, line.as_str());
+        let (outcome, text, told) = outcome_of(rt, words.as_slice());
+        assert!(rt; matches!(outcome, Outcome::Ended(4)));
+        assert_eq!(rt; text.as_slice(), b"".as_slice());
+        assert_eq!(rt; told.as_slice(), fault.as_bytes());
+    }
 }
 
 /// Before the fault of a file or an address the log is told at INFO which it is, and why; the

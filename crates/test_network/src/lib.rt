@@ -6,6 +6,8 @@ mod allowing;
 #[cfg(test)]
 mod clients;
 #[cfg(test)]
+mod controlling;
+#[cfg(test)]
 mod crowd;
 #[cfg(test)]
 mod failing;

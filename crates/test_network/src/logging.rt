@@ -2,19 +2,21 @@
 
 use crate::clients::{ask, ask_from, connect, is_answered, is_ended, refused, send, write};
 use crate::place::{make, path, remove};
-use crate::server::{SMALL, Spool, ends_well, settings, silent_for};
+use crate::server::{ends_well, settings};
 use log::{Level, Logged, error, warn};
-use lpd_daemon::Settings;
+use lpd_daemon::{Limits, Settings};
 use program_edge::{LineLog, LineQueue};
 use std::alloc::Global;
 use std::io::{Read, Write};
 use std::net::{Net, Shutdown, TcpStream};
+use std::num::NonZeroU64;
 use std::os::unix::fs::symlink;
 use std::process::Abort;
 use std::sync::Wait;
 use std::sync::atomic::{AtomicBool, Ordering};
 use std::time::{Clock, Duration};
 use std::{io, thread};
+use test_kit::Spool;
 
 /// Where two lines may wait to be written, the first two are, in order: a fault as a line of its
 /// own, and a warning behind the part that gives it. How many were dropped is told.
@@ -40,7 +42,7 @@ fn two_lines_wait(rt: HostRuntime) {
     assert_eq!(rt;
         str::from_utf8(written.as_slice()),
         Ok(
-            "fault 72 Network\n[WARN  network_tests::logging] line 1\n[WARN ] 2 lines were dropped\n",
+            "fault 72 Network\n[WARN  test_network::logging] line 1\n[WARN ] 2 lines were dropped\n",
         )
     );
 }
@@ -132,7 +134,7 @@ pub const MANY_JOBS: Spool = Spool {
     pages: 512,
     jobs: 512,
     account: 1_000_000,
-    ..SMALL
+    ..Spool::SMALL
 };
 
 /// How many jobs there are. Their listing has two and a half megabytes, and the system keeps less
@@ -223,12 +225,6 @@ fn is_told(line: &str, why: &str) -> bool {
     line.starts_with("[WARN  lpd_daemon::answering] 127.0.0.1:") && line.ends_with(why)
 }
 
-/// Whether this line tells that a printer's first page wasn't written, and why.
-fn is_of_printer(line: &str) -> bool {
-    line.starts_with("[WARN  lpd_daemon::printing] printer 1: job ")
-        && line.ends_with(", place 0: No space left on device (os error 28)")
-}
-
 /// The log tells of three sessions why they ended, and then of as many whose answers couldn't be
 /// written as were cut, by a line among those; of a printer whose file is full; and of nothing else.
 fn all_is_told<R: Abort>(rt: &R, alloc: Global, text: &str) {
@@ -248,13 +244,15 @@ fn all_is_told<R: Abort>(rt: &R, alloc: Global, text: &str) {
             failed = failed.saturating_add(1);
         }
     }
-    let cut = format!(in alloc; "[WARN  network_tests::logging] {failed} answers were cut").expect(
+    let cut = format!(in alloc; "[WARN  test_network::logging] {failed} answers were cut").expect(
         rt, "memory",
     );
     let mut printers = 0usize;
     let mut others = 0usize;
     for line in lines {
-        if is_of_printer(line) {
+        let is_of_printer = line.starts_with("[WARN  lpd_daemon::printing] printer 1: job ")
+            && line.ends_with(", place 0: No space left on device (os error 28)");
+        if is_of_printer {
             printers = printers.saturating_add(1);
         } else if !is_told(line, unwritten) {
             assert_eq!(rt; line, cut.as_str());
@@ -277,7 +275,11 @@ fn each_end_is_logged(rt: HostRuntime) {
     let logged = Logged::new(rt, Level::Info, LineLog::new(&rt, alloc, &queue));
     let settings = Settings {
         sessions: 1,
-        limits: silent_for(4),
+        limits: Limits {
+            silence: NonZeroU64::new(2),
+            no_job_seconds: 1,
+            ..Limits::NONE
+        },
         ..settings(&rt, out, 9)
     };
     ends_well(&logged, MANY_JOBS, settings, |port| {
@@ -312,7 +314,7 @@ fn a_page_that_isnt_written_is_told(rt: HostRuntime) {
     let alloc = rt.alloc();
     let queue = LineQueue::new(alloc, 64);
     let logged = Logged::new(rt, Level::Info, LineLog::new(&rt, alloc, &queue));
-    ends_well(&logged, SMALL, settings(&rt, out, 1), |port| {
+    ends_well(&logged, Spool::SMALL, settings(&rt, out, 1), |port| {
         assert_eq!(rt; send(&rt, &connect(&rt, port), 1, b"hello world"), Ok(()));
     });
     remove(&rt, out);

@@ -215,11 +215,20 @@ pub fn refused<R: Abort + Net<Stream = TcpStream>>(rt: &R, port: u16) -> TcpStre
     stream
 }
 
-/// A client that stops in the middle of a job of the queue `plotter`, whose page is lent, and
-/// stays.
-pub fn stop<R: Abort + Net<Stream = TcpStream>>(rt: &R, port: u16) -> TcpStream {
+/// The octets of who stops in the middle of a job of the queue `plotter`, whose page is lent.
+pub const HALF: &[u8] = b"\x02plotter\n\x0311 dfA001h1\nhello";
+
+/// A connection over which these octets are sent, and answered by so many octets 00.
+pub fn begin<R: Abort + Net<Stream = TcpStream>>(
+    rt: &R,
+    port: u16,
+    octets: &[u8],
+    answers: u32,
+) -> TcpStream {
     let stream = connect(rt, port);
-    write(rt, &stream, b"\x02plotter\n\x0311 dfA001h1\nhello");
-    is_answered(rt, &stream, &[0, 0]);
+    write(rt, &stream, octets);
+    for _ in 0..answers {
+        is_answered(rt, &stream, &[0]);
+    }
     stream
 }

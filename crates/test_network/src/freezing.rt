@@ -1,13 +1,13 @@
 //! Peers and printers by which a server would stop to answer others.
 
 use crate::clients::{
-    LIMIT_SECONDS, ask, ask_from, connect, is_answered, is_ended, is_soon, octets_of, refused,
-    send, stop, waits, write,
+    HALF, LIMIT_SECONDS, ask, ask_from, begin, connect, is_answered, is_ended, is_soon, octets_of,
+    refused, send, waits, write,
 };
 use crate::jobs::HELLO;
 use crate::pipe::Pipe;
 use crate::place::{is_printed, make, remove};
-use crate::server::{SMALL, Spool, ends_well, settings};
+use crate::server::{PLOTTER, ends_well, settings};
 use lpd_daemon::{Limits, Settings};
 use lpr_client::SendFault;
 use std::io::{Read, Write};
@@ -16,13 +16,14 @@ use std::num::NonZeroU64;
 use std::process::Abort;
 use std::thread;
 use std::time::{Clock, Duration, Instant};
+use test_kit::Spool;
 
 /// A spool with pages for all jobs for which the account has room, which are 14.
 const FOURTEEN: Spool = Spool {
     pages: 64,
     jobs: 64,
     account: 10_000,
-    ..SMALL
+    ..Spool::SMALL
 };
 
 /// How many clients send jobs at once to a printer that takes none.
@@ -81,21 +82,15 @@ fn a_printer_that_takes_no_page(rt: HostRuntime) {
     remove(&rt, out);
 }
 
-/// Three connections at once, so that each of three sessions serves one.
-fn serve_each<R: Abort + Net<Stream = TcpStream>>(rt: &R, port: u16) {
-    let before = [connect(rt, port), connect(rt, port), connect(rt, port)];
-    for stream in &before {
-        write(rt, stream, b"\x02lp\n");
-        is_answered(rt, stream, &[0]);
-    }
-}
+/// The line that asks for the queue.
+const LINE: &[u8] = b"\x02lp\n";
 
 /// A spool of six pages, all of which a job of `lp` may hold.
 const SIX_PAGES: Spool = Spool {
     pages: 6,
     limit: 6,
-    plots: true,
-    ..SMALL
+    others: PLOTTER,
+    ..Spool::SMALL
 };
 
 /// One session reads a job that halts, and the two others wait for pages that this job may still
@@ -112,12 +107,14 @@ fn sessions_that_all_wait(rt: HostRuntime) {
         ..settings(&rt, out, 9)
     };
     ends_well(&rt, SIX_PAGES, settings, |port| {
-        serve_each(&rt, port);
-        let halting = stop(&rt, port);
-        let leaving = connect(&rt, port);
+        drop([
+            begin(&rt, port, LINE, 1),
+            begin(&rt, port, LINE, 1),
+            begin(&rt, port, LINE, 1),
+        ]);
+        let halting = begin(&rt, port, HALF, 2);
         let begun = b"\x02lp\n\x0348 dfA002h1\n0123456701234567012345670123";
-        write(&rt, &leaving, begun);
-        is_answered(&rt, &leaving, &[0, 0]);
+        let leaving = begin(&rt, port, begun, 2);
         let ended = connect(&rt, port);
         write(&rt, &ended, octets_of(&rt, 3, HELLO).as_slice());
         ended.shutdown(Shutdown::Write).expect(&rt, "the end");
@@ -152,43 +149,16 @@ const PAIRS: u32 = 8;
 const TWO_EACH: Spool = Spool {
     pages: 2 + 2 * PAIRS,
     jobs: 64,
-    ..SMALL
+    ..Spool::SMALL
 };
 
-/// A job that has sent 16 octets of 24, which fill two pages; the octet that answers its second line
+/// A job that has sent 16 octets of 24, which fill two pages. The octet that answers its second line
 /// is left unread, so that the connection breaks when it is dropped.
-fn cut_short<R: Abort + AllocGlobal + Net<Stream = TcpStream>>(
-    rt: &R,
-    port: u16,
-    number: u32,
-) -> TcpStream {
-    let begun = format!(in rt.alloc(); "\x02lp\n\x0324 dfA{number:03}h1\ncccccccccccccccc").expect(
-        rt, "memory",
-    );
-    let stream = connect(rt, port);
-    write(rt, &stream, begun.as_bytes());
-    is_answered(rt, &stream, &[0]);
-    stream
-}
+const CUT_SHORT: &[u8] = b"\x02lp\n\x0324 dfA002h1\ncccccccccccccccc";
 
-/// A job that has sent its control file, and no octet of 24 yet.
-fn begun_whole<R: Abort + AllocGlobal + Net<Stream = TcpStream>>(
-    rt: &R,
-    port: u16,
-    number: u32,
-) -> TcpStream {
-    let begun = format!(in rt.alloc();
-        "\x02lp\n\x0219 cfA{number:03}h1\nHh1\nPann\nfdfA{number:03}h1\n\0\x0324 dfA{number:03}h1\n"
-    ).expect(rt, "memory");
-    let stream = connect(rt, port);
-    write(rt, &stream, begun.as_bytes());
-    is_answered(rt, &stream, &[0; 4]);
-    stream
-}
-
-/// Jobs that came whole, whose peers have ended their sending, wait for the pages of jobs whose
-/// peers break. None of them is ended, whenever in a look for peers that are gone it goes on and
-/// waits again; once the printer takes pages each is printed.
+/// Jobs whose peers have ended their sending, and which came whole, the control file first, wait for
+/// the pages of jobs whose peers break. None of them is ended, whenever in a look for peers that are
+/// gone it goes on and waits again; once the printer takes pages each is printed.
 #[test]
 fn whole_jobs_beside_peers_that_leave(rt: HostRuntime) {
     let out = "whole_jobs_beside_peers_that_leave";
@@ -204,10 +174,13 @@ fn whole_jobs_beside_peers_that_leave(rt: HostRuntime) {
         assert_eq!(rt; send(&rt, &connect(&rt, port), 1, HELLO), Ok(()));
         let mut leaving = Vec::new(rt.alloc());
         let mut whole = Vec::new(rt.alloc());
-        for number in 0..PAIRS {
-            let stream = cut_short(&rt, port, number + 2);
+        for number in 100..100 + PAIRS {
+            let stream = begin(&rt, port, CUT_SHORT, 1);
             leaving.push(stream).expect(&rt, "memory");
-            let stream = begun_whole(&rt, port, number + 100);
+            let begun = format!(in rt.alloc();
+                "\x02lp\n\x0219 cfA{number}h1\nHh1\nPann\nfdfA{number}h1\n\0\x0324 dfA{number}h1\n"
+            ).expect(&rt, "memory");
+            let stream = begin(&rt, port, begun.as_bytes(), 4);
             whole.push(stream).expect(&rt, "memory");
         }
         thread::sleep(&rt, moment);
@@ -252,7 +225,7 @@ fn silent_connections(rt: HostRuntime) {
         sessions: 1,
         ..settings(&rt, out, SILENT + 5)
     };
-    ends_well(&rt, SMALL, settings, |port| {
+    ends_well(&rt, Spool::SMALL, settings, |port| {
         let first = connect(&rt, port);
         let mut silent = Vec::new(rt.alloc());
         for number in 0..SILENT {
@@ -291,13 +264,12 @@ fn a_host_has_its_share(rt: HostRuntime) {
         },
         ..settings(&rt, out, 4)
     };
-    ends_well(&rt, SMALL, settings, |port| {
-        let line = b"\x02lp\n";
-        let first = ask_from(&rt, 2, port, line);
-        let second = ask_from(&rt, 2, port, line);
+    ends_well(&rt, Spool::SMALL, settings, |port| {
+        let first = ask_from(&rt, 2, port, LINE);
+        let second = ask_from(&rt, 2, port, LINE);
         is_answered(&rt, &first, &[0]);
         is_answered(&rt, &second, &[0]);
-        let third = ask_from(&rt, 2, port, line);
+        let third = ask_from(&rt, 2, port, LINE);
         assert_eq!(rt; send(&rt, &connect(&rt, port), 1, HELLO), Ok(()));
         waits(&rt, &third);
         drop(first);
@@ -321,7 +293,7 @@ fn refused_peers_that_send_on(rt: HostRuntime) {
         },
         ..settings(&rt, out, 3)
     };
-    ends_well(&rt, SMALL, settings, |port| {
+    ends_well(&rt, Spool::SMALL, settings, |port| {
         let flooding = refused(&rt, port);
         let mut writer = &flooding;
         let mut is_left = false;

@@ -1,10 +1,12 @@
 //! Peers that halt.
 
-use crate::clients::{connect, is_answered, is_ended, octets_of, send, stop, write};
+use crate::clients::{HALF, begin, connect, is_answered, is_ended, octets_of, send, write};
 use crate::jobs::HELLO;
 use crate::place::{is_printed, make};
-use crate::server::{SMALL, Spool, ends_well, settings, silent_for};
-use lpd_daemon::Settings;
+use crate::server::{PLOTTER, ends_well, settings};
+use lpd_daemon::{Limits, Settings};
+use std::num::NonZeroU64;
+use test_kit::Spool;
 
 /// A peer that says nothing, at first or in the middle of a job, loses the only thread after two
 /// seconds; the next one is served.
@@ -14,10 +16,13 @@ fn silent_peers_are_left(rt: HostRuntime) {
     make(&rt, out);
     let settings = Settings {
         sessions: 1,
-        limits: silent_for(2),
+        limits: Limits {
+            silence: NonZeroU64::new(2),
+            ..Limits::NONE
+        },
         ..settings(&rt, out, 3)
     };
-    ends_well(&rt, SMALL, settings, |port| {
+    ends_well(&rt, Spool::SMALL, settings, |port| {
         let silent = connect(&rt, port);
         let halting = connect(&rt, port);
         write(&rt, &halting, b"\x02lp\n\x0311 dfA002h1\nhello");
@@ -32,8 +37,8 @@ fn silent_peers_are_left(rt: HostRuntime) {
 
 /// A spool of four pages, of which a job may hold three.
 const NARROW: Spool = Spool {
-    plots: true,
-    ..SMALL
+    others: PLOTTER,
+    ..Spool::SMALL
 };
 
 /// The lines that open job 1, whose file has 11 octets.
@@ -46,16 +51,17 @@ fn a_halting_peer_gives_its_pages_back(rt: HostRuntime) {
     let out = "a_halting_peer_gives_its_pages_back";
     make(&rt, out);
     let settings = Settings {
-        limits: silent_for(3),
+        limits: Limits {
+            silence: NonZeroU64::new(3),
+            ..Limits::NONE
+        },
         ..settings(&rt, out, 3)
     };
     ends_well(&rt, NARROW, settings, |port| {
-        let halting = stop(&rt, port);
-        let stream = connect(&rt, port);
+        let halting = begin(&rt, port, HALF, 2);
         let octets = octets_of(&rt, 1, HELLO);
         let rest = octets.as_slice().get(LINES.len()..).expect(&rt, "a file");
-        write(&rt, &stream, LINES);
-        is_answered(&rt, &stream, &[0, 0]);
+        let stream = begin(&rt, port, LINES, 2);
         // This one comes out after job 1, as it is of one sender and queue with it, so its page
         // stays.
         assert_eq!(rt; send(&rt, &connect(&rt, port), 2, b" again"), Ok(()));

@@ -5,7 +5,7 @@ use crate::clients::{connect, send, send_more};
 use crate::jobs::HELLO;
 use crate::logging::faults_in;
 use crate::place::{is_printed, make, path, remove};
-use crate::server::{ENDLESS, Paper, SMALL, Terminal, beside, ends_well, run, settings};
+use crate::server::{ENDLESS, Paper, Terminal, beside, ends_well, plan_of, run, settings};
 use log::{Level, Log, Logged};
 use lpd_daemon::{Fault, Settings};
 use program_edge::{LineLog, LineQueue};
@@ -18,6 +18,7 @@ use std::process::Abort;
 use std::sync::Wait;
 use std::thread::Threads;
 use std::time::Clock;
+use test_kit::Spool;
 
 /// Runs a server that no client comes to, whose lines are written on this paper. It prints nothing.
 /// How it ended.
@@ -33,8 +34,8 @@ fn unseen<
         + Sync,
 >(rt: &R, settings: Settings<'_>, paper: Paper) -> Result<(), Fault> {
     let alloc = rt.alloc();
-    let terminal = Terminal::new(alloc);
-    let ended = run(rt, &terminal, SMALL.config(rt, alloc), settings, paper);
+    let terminal = Terminal::new(alloc, paper);
+    let ended = run(rt, &terminal, plan_of(rt, Spool::SMALL, settings));
     assert_eq!(rt; terminal.text(rt, true).as_str(), "");
     ended
 }
@@ -69,11 +70,6 @@ fn the_port_is_taken(rt: HostRuntime) {
     remove(&rt, out);
 }
 
-/// Paper that takes this number of lines.
-const fn paper_of(lines: u64) -> Paper {
-    Paper { lines, ..ENDLESS }
-}
-
 /// How many lines wait to be written in the log of these tests, at most.
 const LOG_LINES: usize = 64;
 
@@ -98,11 +94,13 @@ fn the_output_fails(rt: HostRuntime) {
         };
         let queue = LineQueue::new(alloc, LOG_LINES);
         let logged = Logged::new(rt, Level::Info, LineLog::new(&rt, alloc, &queue));
+        let paper = Paper { lines, ..ENDLESS };
         let ended = if lines == 0 {
-            unseen(&logged, settings, paper_of(lines))
+            unseen(&logged, settings, paper)
         } else {
-            let config = SMALL.config(&rt, alloc);
-            let (ended, _) = beside(&logged, config, settings, paper_of(lines), |port| {
+            let plan = plan_of(&rt, Spool::SMALL, settings);
+            let terminal = Terminal::new(alloc, paper);
+            let (ended, _) = beside(&logged, &terminal, plan, |port| {
                 for _ in 0..connections {
                     assert_eq!(rt; send(&rt, &connect(&rt, port), 1, b"a job"), Ok(()));
                 }
@@ -130,7 +128,7 @@ fn a_rotation_is_refused(rt: HostRuntime) {
     };
     let queue = LineQueue::new(alloc, LOG_LINES);
     let logged = Logged::new(rt, Level::Info, LineLog::new(&rt, alloc, &queue));
-    let text = ends_well(&logged, SMALL, settings, |port| {
+    let text = ends_well(&logged, Spool::SMALL, settings, |port| {
         let first = connect(&rt, port);
         assert_eq!(rt; send(&rt, &first, 1, HELLO), Ok(()));
         send_more(&rt, &first, 2, HELLO);
@@ -150,7 +148,7 @@ fn a_device_fails(rt: HostRuntime) {
     make(&rt, out);
     let file = path(&rt, rt.alloc(), out, 1);
     symlink(&rt, "/dev/full", file.as_str()).expect(&rt, "a link");
-    let text = ends_well(&rt, SMALL, settings(&rt, out, 1), |port| {
+    let text = ends_well(&rt, Spool::SMALL, settings(&rt, out, 1), |port| {
         assert_eq!(rt; send(&rt, &connect(&rt, port), 1, b"hello world"), Ok(()));
     });
     assert_eq!(rt; text.as_str(), "closed entries 11\n");

@@ -2,11 +2,13 @@
 
 ghost use Rattle.std.specs.Thread.{IsSync};
 
-use crate::clients::{connect, write};
+use crate::clients::{begin, connect, write};
+use libc::net::{IPPROTO_TCP, SO_KEEPALIVE, SOL_SOCKET, TCP_KEEPIDLE, getsockopt};
 use log::Log;
 use mio::Waker;
-use server_edge::{Desk, Doors, Doorway, Listening, Lobby, Serves, Visit};
+use server_edge::{Desk, Doors, Doorway, Listening, Lobby, Serves, Visit, keep_asking};
 use std::net::{Ipv4Addr, Net, Shutdown, SocketAddr, TcpListener, TcpStream};
+use std::os::fd::AsRawFd;
 use std::process::Abort;
 use std::sync::Wait;
 use std::thread;
@@ -64,13 +66,13 @@ fn next<R: Abort + Clock + Log + Wait>(rt: &R, lobby: &mut Lobby, desk: &Desk) -
     None
 }
 
-/// The ports of the peers of the first connections that a session is handed, in order, N at most.
-fn handed_on<R: Abort + AllocGlobal + Clock + Log + Threads + Wait + Sync>(
+/// The first connections that a session is handed are those of these peers, in order.
+fn are_handed_on<R: Abort + AllocGlobal + Clock + Log + Threads + Wait + Sync>(
     rt: &R,
     hall: Hall,
-    most: usize,
-) -> Vec<u16> {
-    let alloc = rt.alloc();
+    peers: &[&TcpStream],
+) {
+    let (alloc, most) = (rt.alloc(), peers.len());
     let Hall {
         mut lobby,
         waker,
@@ -106,20 +108,14 @@ fn handed_on<R: Abort + AllocGlobal + Clock + Log + Threads + Wait + Sync>(
             lobby
         },
     );
-    ports
+    assert_eq!(rt; ports.len(), most);
+    for (port, peer) in ports.iter().zip(peers) {
+        assert_eq!(rt; *port, peer.local_addr().expect(rt, "an address").port());
+    }
 }
 
-/// The port from which a connection comes.
-fn port_of<R: Abort>(rt: &R, stream: &TcpStream) -> u16 {
-    stream.local_addr().expect(rt, "an address").port()
-}
-
-/// A connection that brings a job.
-fn bring<R: Abort + Net<Stream = TcpStream>>(rt: &R, port: u16) -> TcpStream {
-    let stream = connect(rt, port);
-    write(rt, &stream, b"\x02lp\n");
-    stream
-}
+/// The line of who brings a job.
+const JOB: &[u8] = b"\x02lp\n";
 
 /// Where both places have silent peers, those make place for a job.
 #[test]
@@ -130,9 +126,8 @@ fn the_silent_make_place(rt: HostRuntime) {
         connect(&rt, hall.port),
         connect(&rt, hall.port),
     ];
-    let job = bring(&rt, hall.port);
-    let ports = handed_on(&rt, hall, 1);
-    assert_eq!(rt; ports.as_slice(), [port_of(&rt, &job)].as_slice());
+    let job = begin(&rt, hall.port, JOB, 0);
+    are_handed_on(&rt, hall, &[&job]);
 }
 
 /// Where both places have jobs that are ready, a third one comes in once one was handed on.
@@ -140,21 +135,12 @@ fn the_silent_make_place(rt: HostRuntime) {
 fn a_job_waits_for_a_place(rt: HostRuntime) {
     let hall = hall_of(&rt, 2);
     let jobs = [
-        bring(&rt, hall.port),
-        bring(&rt, hall.port),
-        bring(&rt, hall.port),
+        begin(&rt, hall.port, JOB, 0),
+        begin(&rt, hall.port, JOB, 0),
+        begin(&rt, hall.port, JOB, 0),
     ];
-    let ports = handed_on(&rt, hall, 3);
     let [first, second, third] = &jobs;
-    assert_eq!(rt;
-        ports.as_slice(),
-        [
-            port_of(&rt, first),
-            port_of(&rt, second),
-            port_of(&rt, third)
-        ]
-        .as_slice()
-    );
+    are_handed_on(&rt, hall, &[first, second, third]);
 }
 
 /// Of more connections than are accepted in a round, all that came before are accepted, the last
@@ -166,9 +152,8 @@ fn more_come_than_a_round_accepts(rt: HostRuntime) {
     for _ in 0..260 {
         silent.push(connect(&rt, hall.port)).expect(&rt, "memory");
     }
-    let job = bring(&rt, hall.port);
-    let ports = handed_on(&rt, hall, 1);
-    assert_eq!(rt; ports.as_slice(), [port_of(&rt, &job)].as_slice());
+    let job = begin(&rt, hall.port, JOB, 0);
+    are_handed_on(&rt, hall, &[&job]);
 }
 
 /// A peer that ends after half a line is handed on: no more is waited for.
@@ -181,6 +166,25 @@ fn half_a_line_is_handed_on_at_its_end(rt: HostRuntime) {
         hall.lobby.round(&rt, Some(ROUND_MS)).expect(&rt, "a round");
     }
     half.shutdown(Shutdown::Write).expect(&rt, "the end");
-    let ports = handed_on(&rt, hall, 1);
-    assert_eq!(rt; ports.as_slice(), [port_of(&rt, &half)].as_slice());
+    are_handed_on(&rt, hall, &[&half]);
+}
+
+/// The system asks a peer that is silent for so many seconds whether it is there.
+#[test]
+fn the_system_asks_silent_peers(rt: HostRuntime) {
+    let listener = TcpListener::bind(&rt, (Ipv4Addr::LOCALHOST, 0)).expect(&rt, "a listener");
+    let port = listener.local_addr().expect(&rt, "an address").port();
+    let stream = connect(&rt, port);
+    keep_asking(&stream, 30);
+    let descriptor = stream.as_raw_fd();
+    let (mut asks, mut idle) = ([0u8; 16], [0u8; 16]);
+    let (mut length, mut count) = (4u32, 4u32);
+    let of_asks = unsafe {
+        getsockopt(descriptor, SOL_SOCKET, SO_KEEPALIVE, &mut asks, &mut length)
+    };
+    let of_idle = unsafe {
+        getsockopt(descriptor, IPPROTO_TCP, TCP_KEEPIDLE, &mut idle, &mut count)
+    };
+    assert_eq!(rt; (of_asks, asks[0]), (0, 1));
+    assert_eq!(rt; (of_idle, idle[0]), (0, 30));
 }

@@ -1,9 +1,9 @@
 //! Long listings, and peers that read them slowly or not at all.
 
-use crate::clients::{ask_from, connect, write};
+use crate::clients::{ask_from, begin, connect};
 use crate::logging::{JOBS, MANY_JOBS, send_jobs};
 use crate::place::{make, path, remove};
-use crate::server::{ENDLESS, Terminal, port_of, run, settings};
+use crate::server::{ENDLESS, Terminal, beside, plan_of, settings};
 use lpd_daemon::{Limits, Settings};
 use std::io::Read;
 use std::net::TcpStream;
@@ -12,9 +12,9 @@ use std::process::Abort;
 use std::thread;
 use std::time::{Clock, Duration, Instant};
 
-/// The octets that a slow peer reads in a tenth of a second: 200 KB in a second. What a system keeps
+/// The octets that a slow peer reads in a tenth of a second: 400 KB in a second. What a system keeps
 /// of its own for a connection wouldn't have room for more within a limit of a second.
-const PIECE: usize = 20_000;
+const PIECE: usize = 40_000;
 
 /// A tenth of a second, in milliseconds.
 const PIECE_MS: u64 = 100;
@@ -52,7 +52,7 @@ fn read_slowly<R: Abort + Clock>(rt: &R, stream: &TcpStream) -> usize {
 }
 
 /// A limit of one second for each write leaves a peer alone that reads a listing of two and a half
-/// megabytes at 200 KB a second, and it has the whole of it; one that reads nothing is left after a second at
+/// megabytes at 400 KB a second, and it has the whole of it; one that reads nothing is left after a second at
 /// the earliest, and a few at the latest.
 #[test]
 fn a_long_listing_is_read_slowly(rt: HostRuntime) {
@@ -68,33 +68,23 @@ fn a_long_listing_is_read_slowly(rt: HostRuntime) {
         },
         ..settings(&rt, out, 4)
     };
-    let terminal = Terminal::new(rt.alloc());
-    let config = MANY_JOBS.config(&rt, rt.alloc());
-    let (waited, ended) = thread::join(
-        &rt,
-        || {
-            let first = terminal.text(&rt, false);
-            let port = port_of(first.as_str()).expect(&rt, "the server listens");
-            send_jobs(&rt, port, 0, JOBS);
-            let reading = connect(&rt, port);
-            write(&rt, &reading, b"\x04lp\n");
-            let count = read_slowly(&rt, &reading);
-            assert!(rt; count > TWO_MEGABYTES, "{count} octets came");
-            let start = Instant::now(&rt).expect(&rt, "a clock");
-            let stalled = ask_from(&rt, 1, port, b"\x04lp\n");
-            // The last connection is served as one that may bring a job, if its line isn't there.
-            thread::sleep(&rt, Duration::from_millis(STALLED_MS));
-            drop(connect(&rt, port));
-            terminal.text(&rt, true);
-            drop(stalled);
-            start.elapsed(&rt).expect(&rt, "a clock")
-        },
-        || run(&rt, &terminal, config, settings, ENDLESS),
-    );
+    let terminal = Terminal::new(rt.alloc(), ENDLESS);
+    let plan = plan_of(&rt, MANY_JOBS, settings);
+    let (ended, _) = beside(&rt, &terminal, plan, |port| {
+        send_jobs(&rt, port, 0, JOBS);
+        let reading = begin(&rt, port, b"\x04lp\n", 0);
+        let count = read_slowly(&rt, &reading);
+        assert!(rt; count > TWO_MEGABYTES, "{count} octets came");
+        let start = Instant::now(&rt).expect(&rt, "a clock");
+        let stalled = ask_from(&rt, 1, port, b"\x04lp\n");
+        // The last connection is served as one that may bring a job, if its line isn't there.
+        thread::sleep(&rt, Duration::from_millis(STALLED_MS));
+        drop(connect(&rt, port));
+        terminal.text(&rt, true);
+        drop(stalled);
+        let waited = start.elapsed(&rt).expect(&rt, "a clock").as_secs();
+        assert!(rt; (1..LEFT_SECONDS).contains(&waited), "{waited} s");
+    });
     assert_eq!(rt; ended, Ok(()));
-    assert!(rt;
-        waited.as_secs() >= 1 && waited.as_secs() < LEFT_SECONDS,
-        "{waited:?}"
-    );
     remove(&rt, out);
 }
