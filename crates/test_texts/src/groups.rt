@@ -16,6 +16,12 @@ pub enum Texts {
     Names,
     /// Texts of control files, and the control files as they are written or the refusals.
     Controls,
+    /// Lines over a control socket, and the commands as they are written.
+    ControlLines,
+    /// Answers over a control socket, how they end, and what comes before that.
+    Answers,
+    /// Octets, and how they are shown.
+    Escapes,
     /// Tables of claims, whether they are safe, and a finishing order.
     Orders,
     /// Orders of the rows of a table, and whether they are finishing orders.
@@ -34,11 +40,14 @@ pub enum Texts {
 
 impl Texts {
     /// All groups.
-    pub const ALL: [Texts; 11] = [
+    pub const ALL: [Texts; 14] = [
         Texts::Commands,
         Texts::Subcommands,
         Texts::Names,
         Texts::Controls,
+        Texts::ControlLines,
+        Texts::Answers,
+        Texts::Escapes,
         Texts::Orders,
         Texts::Checks,
         Texts::Pages,
@@ -56,6 +65,9 @@ impl Group for Texts {
             Texts::Subcommands => ("subcommands", Form::Octets),
             Texts::Names => ("names", Form::Octets),
             Texts::Controls => ("controls", Form::Octets),
+            Texts::ControlLines => ("control_lines", Form::Octets),
+            Texts::Answers => ("answers", Form::Octets),
+            Texts::Escapes => ("escapes", Form::Line),
             Texts::Orders => ("orders", Form::Line),
             Texts::Checks => ("checks", Form::Line),
             Texts::Pages => ("pages", Form::Line),
@@ -78,6 +90,9 @@ impl Group for Texts {
             Texts::Subcommands => lines::subcommand(told, alloc, asked),
             Texts::Names => lines::name(told, alloc, asked),
             Texts::Controls => lines::control(told, alloc, asked),
+            Texts::ControlLines => lines::control_line(told, alloc, asked),
+            Texts::Answers => lines::answer(told, alloc, asked),
+            Texts::Escapes => lines::escape(told, alloc, asked),
             Texts::Orders => tables::order(told, alloc, asked),
             Texts::Checks => tables::check(told, alloc, asked),
             Texts::Pages => tables::page(told, alloc, asked),

@@ -1,6 +1,7 @@
-//! Command lines, subcommand lines, file names and texts of control files.
+//! Command lines, subcommand lines, file names, texts of control files, and what is said over a control socket.
 
 use control_file::Control;
+use control_lines::{Escaped, LineFault, read_answer};
 use lpd_commands::{FileName, Octets, Refusal, parse_command, parse_sub, write_command, write_sub};
 use std::alloc::{AllocError, Global};
 use test_kit::rows::{octets, push_read};
@@ -51,4 +52,34 @@ fn read_control(alloc: Global, text: &[u8]) -> Result<Octets, Refusal> {
 pub fn control(told: &mut String, alloc: Global, asked: &str) -> Result<(), AllocError> {
     let text = octets(alloc, asked)?;
     push_read(told, read_control(alloc, text.as_slice()))
+}
+
+/// The command of a line over a control socket, as it is written.
+fn read_control_line(alloc: Global, line: &[u8]) -> Result<Octets, LineFault> {
+    Ok(control_lines::Command::parse(alloc, line)?.line(alloc)?)
+}
+
+/// Appends the command of a line over a control socket, as it is written, or why there is none.
+pub fn control_line(told: &mut String, alloc: Global, asked: &str) -> Result<(), AllocError> {
+    let line = octets(alloc, asked)?;
+    match read_control_line(alloc, line.as_slice()) {
+        Ok(octets) => write!(told, "{}", octets.as_slice().escape_ascii()),
+        Err(LineFault::Unknown) => told.push_str("unknown"),
+        Err(LineFault::Memory) => told.push_str("memory"),
+    }
+}
+
+/// Appends how an answer over a control socket ends, and after a bar the octets that come before its last line; or that it has no end.
+pub fn answer(told: &mut String, alloc: Global, asked: &str) -> Result<(), AllocError> {
+    let answer = octets(alloc, asked)?;
+    match read_answer(answer.as_slice()) {
+        Some((before, end)) => write!(told, "{end} | {}", before.escape_ascii()),
+        None => told.push_str("no end"),
+    }
+}
+
+/// Appends octets of strangers as they are shown.
+pub fn escape(told: &mut String, alloc: Global, asked: &str) -> Result<(), AllocError> {
+    let octets = octets(alloc, asked)?;
+    write!(told, "{}", Escaped(octets.as_slice()))
 }

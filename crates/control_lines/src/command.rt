@@ -1,0 +1,203 @@
+//! Commands.
+
+ghost use Rattle.std.specs.Prelude.{◌≡◌, ◌∷◌, ◌++◌, [], IfOk, OnOk, codes};
+ghost use Rattle.control_lines.specs.Commands.{written, verb_of, Means, Reads, IsQueueOf};
+ghost use Rattle.control_lines.specs.Verbs.{verb_word};
+
+use crate::operands::{cut, is_queue_name, is_whom, read_seconds};
+use crate::verb::Verb;
+use lpd_values::Octets;
+use std::alloc::{AllocError, Global};
+
+/// What a server is asked for over its control socket.
+#[derive(Debug, Drop)]
+pub enum Command {
+    /// Tells how the spool, its sessions, its printers and its jobs stand.
+    Status,
+    /// Starts the stopped printers of the queue.
+    Start { queue: Octets },
+    /// Holds the queue: its printers begin no further job.
+    Hold { queue: Octets },
+    /// Ends a hold of the queue.
+    Release { queue: Octets },
+    /// Removes jobs of the queue: the one of this number, or those of this user.
+    Remove { queue: Octets, whom: Octets },
+    /// Rotates the account.
+    Rotate,
+    /// Stops the server once the held jobs are printed, at the latest after so many seconds where they are told.
+    Stop { seconds: Option<u32> },
+    /// Stops the server at once.
+    StopNow,
+}
+
+/// Why a line wasn't read as a command.
+#[derive(Clone, Copy, Debug, PartialEq, Eq)]
+pub enum LineFault {
+    /// It is the line of no command.
+    Unknown,
+    /// Memory was refused.
+    Memory,
+}
+
+impl From<AllocError> for LineFault {
+    ghost use Rattle.std.specs.Prelude.{◌≡◌};
+    ghost use Rattle.control_lines.specs.declared.command.LineFault.TheVariants.{Memory};
+
+    ghost from_gives = { λ _ e. e ≡ Memory };
+
+    fn from(_error: AllocError) -> LineFault {
+        LineFault::Memory
+    }
+}
+
+/// The queue of this name.
+///
+/// `Unknown` where these octets can't name one; `Memory` where memory for them is refused.
+fn queue_of(alloc: Global, name: &[u8]) -> Result<Octets, LineFault>
+    ensures { IsQueueOf name.now result }
+{
+    if !is_queue_name(name) {
+        return Err(LineFault::Unknown);
+    }
+    Ok(Octets::copy_of(alloc, name)?)
+}
+
+/// The removal of these operands.
+fn removal_of(alloc: Global, operands: &[u8]) -> Result<Command, LineFault>
+    ensures { Reads (codes "remove " ++ operands.now) result }
+{
+    let Some((queue, whom)) = cut(operands) else {
+        return Err(LineFault::Unknown);
+    };
+    if !is_whom(whom) {
+        return Err(LineFault::Unknown);
+    }
+    let queue = queue_of(alloc, queue)?;
+    let whom = Octets::copy_of(alloc, whom)?;
+    Ok(Command::Remove { queue, whom })
+}
+
+/// The stop with this operand.
+fn stop_of(operand: &[u8]) -> Result<Command, LineFault>
+    ensures { Reads (codes "stop " ++ operand.now) result }
+{
+    match operand {
+        b"now" => Ok(Command::StopNow),
+        _ => {
+            let seconds = read_seconds(operand).ok_or(LineFault::Unknown)?;
+            Ok(Command::Stop {
+                seconds: Some(seconds),
+            })
+        }
+    }
+}
+
+impl Verb {
+    /// The command that this word alone is.
+    fn alone(self) -> Result<Command, LineFault>
+        ensures { Reads (verb_word self) result }
+    {
+        match self {
+            Verb::Status => Ok(Command::Status),
+            Verb::Rotate => Ok(Command::Rotate),
+            Verb::Stop => Ok(Command::Stop { seconds: None }),
+            Verb::Start | Verb::Hold | Verb::Release | Verb::Remove => Err(LineFault::Unknown),
+        }
+    }
+
+    /// The command that this word is with what follows it and a space.
+    fn with(self, alloc: Global, operand: &[u8]) -> Result<Command, LineFault>
+        ensures { Reads (verb_word self ++ 32 ∷ operand.now) result }
+    {
+        match self {
+            Verb::Start => {
+                let queue = queue_of(alloc, operand)?;
+                Ok(Command::Start { queue })
+            }
+            Verb::Hold => {
+                let queue = queue_of(alloc, operand)?;
+                Ok(Command::Hold { queue })
+            }
+            Verb::Release => {
+                let queue = queue_of(alloc, operand)?;
+                Ok(Command::Release { queue })
+            }
+            Verb::Remove => removal_of(alloc, operand),
+            Verb::Stop => stop_of(operand),
+            Verb::Status | Verb::Rotate => Err(LineFault::Unknown),
+        }
+    }
+}
+
+impl Command {
+    /// The command of a line without its LF. Each command has one line, and each line one command at most.
+    ///
+    /// # Errors
+    ///
+    /// `Unknown` exactly where the line is that of no command; `Memory` only where the command names a queue, and memory for it
+    /// is refused.
+    pub fn parse(alloc: Global, line: &[u8]) -> Result<Command, LineFault>
+        ensures { Reads line.now result }
+    {
+        let Some((word, operand)) = cut(line) else {
+            return match Verb::read(line) {
+                Some(verb) => verb.alone(),
+                None => Err(LineFault::Unknown),
+            };
+        };
+        let Some(verb) = Verb::read(word) else {
+            return Err(LineFault::Unknown);
+        };
+        verb.with(alloc, operand)
+    }
+
+    /// Its first word.
+    fn verb(&self) -> Verb
+        ensures { result ≡ verb_of self.now }
+    {
+        match self {
+            Command::Status => Verb::Status,
+            Command::Start { .. } => Verb::Start,
+            Command::Hold { .. } => Verb::Hold,
+            Command::Release { .. } => Verb::Release,
+            Command::Remove { .. } => Verb::Remove,
+            Command::Rotate => Verb::Rotate,
+            Command::Stop { .. } | Command::StopNow => Verb::Stop,
+        }
+    }
+
+    /// The octets of its line with its LF. What is written of a command that can be said is read back as that command.
+    ///
+    /// AllocError where memory for them is refused.
+    pub fn line(&self, alloc: Global) -> Result<Octets, AllocError>
+        ensures { IfOk result (λ octets. octets ≡ written self.now ++ 10 ∷ []) }
+    {
+        let mut line = Vec::from_slice(alloc, self.verb().word())?;
+        match self {
+            Command::Status | Command::Rotate | Command::Stop { seconds: None } => {}
+            Command::Start { queue } | Command::Hold { queue } | Command::Release { queue } => {
+                put_operand(&mut line, queue.as_slice())?;
+            }
+            Command::Remove { queue, whom } => {
+                put_operand(&mut line, queue.as_slice())?;
+                put_operand(&mut line, whom.as_slice())?;
+            }
+            Command::Stop {
+                seconds: Some(seconds),
+            } => {
+                put_operand(&mut line, seconds.to_string(alloc)?.as_bytes())?;
+            }
+            Command::StopNow => put_operand(&mut line, b"now")?,
+        }
+        line.push(b'\n')?;
+        Ok(Octets::from_vec(line))
+    }
+}
+
+/// Puts a space and the operand at the end of the line.
+fn put_operand(line: &mut Vec<u8>, operand: &[u8]) -> Result<(), AllocError>
+    ensures { OnOk result (line.new.items ≡ line.old.items ++ 32 ∷ operand.now) }
+{
+    line.push(b' ')?;
+    line.extend_from_slice(operand)
+}

@@ -1,0 +1,116 @@
+-- What each line says, without its LF.
+use Rattle.std.specs.Prelude.{ℕ, List, ◌++◌, codes}
+use Rattle.std.specs.Fmt.{decimal}
+use Rattle.std.specs.Int.{w32, to_be_bytes}
+use Rattle.std.specs.Net.Text.{ipv4_text, socket_text}
+use Rattle.std.specs.declared.net.SocketAddr.{SocketAddr}
+use Rattle.control_lines.specs.Escapes.{escaped}
+use Rattle.held_jobs.specs.declared.phase.Phase.{Phase}
+use Rattle.held_jobs.specs.declared.phase.Phase.TheVariants.{Receiving, Received, Ended}
+use Rattle.spool_snapshot.specs.declared.job.SeenJob.{SeenJob}
+use Rattle.spool_snapshot.specs.declared.snapshot.Pages.{Pages}
+use Rattle.status_lines.specs.declared.line.SpoolState.{SpoolState}
+use Rattle.status_lines.specs.declared.line.SpoolState.TheVariants as spool
+use Rattle.status_lines.specs.declared.line.QueueState.{QueueState}
+use Rattle.status_lines.specs.declared.line.QueueState.TheVariants as queue
+use Rattle.status_lines.specs.declared.line.PrinterState.{PrinterState}
+use Rattle.status_lines.specs.declared.line.PrinterState.TheVariants as printer
+use Rattle.status_lines.specs.declared.line.JobPages.{JobPages}
+use Rattle.status_lines.specs.declared.line.StatusLine.{StatusLine}
+use Rattle.status_lines.specs.declared.line.StatusLine.TheVariants as line
+
+abbrev pub spool_word : SpoolState → List ℕ
+spool_word spool.Runs = codes "runs"
+spool_word spool.Stops = codes "stops"
+spool_word spool.Closed = codes "closed"
+
+abbrev pub queue_word : QueueState → List ℕ
+queue_word queue.Runs = codes "runs"
+queue_word queue.Held = codes "held"
+
+abbrev pub phase_word : Phase → List ℕ
+phase_word Receiving = codes "receiving"
+phase_word Received = codes "received"
+phase_word Ended = codes "ended"
+
+-- uptime SECONDS
+abbrev pub uptime_words : ℕ → List ℕ
+uptime_words seconds = codes "uptime " ++ decimal seconds
+
+-- spool STATE
+abbrev pub spool_words : SpoolState → List ℕ
+spool_words state = codes "spool " ++ spool_word state
+
+-- pages free F chained C lent L out O
+abbrev pub pages_words : Pages → List ℕ
+pages_words pages =
+    codes "pages free " ++ (decimal pages.free ++ (codes " chained " ++ (decimal pages.chained ++ (codes " lent " ++ (
+    decimal pages.lent ++ (codes " out " ++ decimal pages.out))))))
+
+-- entries COUNTED of MOST segment K
+abbrev pub entries_words : (counted most segment : ℕ) → List ℕ
+entries_words counted most segment =
+    codes "entries " ++ (decimal counted ++ (codes " of " ++ (decimal most ++ (codes " segment " ++ decimal segment))))
+
+-- lobby N
+abbrev pub lobby_words : ℕ → List ℕ
+lobby_words waiting = codes "lobby " ++ decimal waiting
+
+-- session PEER silent SECONDS
+abbrev pub session_words : SocketAddr → ℕ → List ℕ
+session_words peer silent = codes "session " ++ (socket_text peer ++ (codes " silent " ++ decimal silent))
+
+-- queue NAME STATE
+abbrev pub queue_words : List ℕ → QueueState → List ℕ
+queue_words name state = codes "queue " ++ (name ++ (codes " " ++ queue_word state))
+
+-- prints JOB place P
+abbrev pub prints_words : (job place : ℕ) → List ℕ
+prints_words job place = codes "prints " ++ (decimal job ++ (codes " place " ++ decimal place))
+
+abbrev pub printer_words : PrinterState → List ℕ
+printer_words printer.Idle = codes "idle"
+printer_words (printer.Prints job place) = prints_words job place
+printer_words printer.Stopped = codes "stopped"
+
+-- printer K QUEUE STATE
+abbrev pub printer_line : ℕ → List ℕ → PrinterState → List ℕ
+printer_line number name state =
+    codes "printer " ++ (decimal number ++ (codes " " ++ (name ++ (codes " " ++ printer_words state))))
+
+-- printer K QUEUE stopped SECONDS CAUSE
+abbrev pub standstill_line : ℕ → List ℕ → ℕ → List ℕ → List ℕ
+standstill_line number name seconds cause =
+    codes "printer " ++ (decimal number ++ (codes " " ++ (name ++ (codes " stopped " ++ (decimal seconds ++ (codes " " ++ cause))))))
+
+-- SENDER USER HOST
+abbrev pub owner_words : SeenJob → List ℕ
+owner_words job =
+    ipv4_text (to_be_bytes w32 job.sender) ++ (codes " " ++ (escaped job.user ++ (codes " " ++ escaped job.host)))
+
+-- PHASE pages N octets M
+abbrev pub progress_words : SeenJob → List ℕ
+progress_words job =
+    phase_word job.phase ++ (codes " pages " ++ (decimal job.granted ++ (codes " octets " ++ decimal job.octets)))
+
+-- holds H needs D
+abbrev pub claim_words : JobPages → List ℕ
+claim_words pages = codes "holds " ++ (decimal pages.holds ++ (codes " needs " ++ decimal pages.needs))
+
+-- job NUMBER QUEUE SENDER USER HOST PHASE pages N octets M holds H needs D
+abbrev pub job_words : SeenJob → List ℕ → JobPages → List ℕ
+job_words job name pages =
+    codes "job " ++ (decimal job.number ++ (codes " " ++ (name ++ (codes " " ++ (owner_words job ++ (codes " " ++ (
+    progress_words job ++ (codes " " ++ claim_words pages))))))))
+
+abbrev pub line_words : StatusLine → List ℕ
+line_words (line.Uptime seconds) = uptime_words seconds
+line_words (line.Spool state) = spool_words state
+line_words (line.Pages pages) = pages_words pages
+line_words (line.Entries counted most segment) = entries_words counted most segment
+line_words (line.Lobby waiting) = lobby_words waiting
+line_words (line.Session peer silent) = session_words peer silent
+line_words (line.Queue name state) = queue_words name.now state
+line_words (line.Printer number name state) = printer_line number name.now state
+line_words (line.Standstill number name seconds cause) = standstill_line number name.now seconds cause.now
+line_words (line.Job job name pages) = job_words job.now name.now pages

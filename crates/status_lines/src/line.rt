@@ -1,0 +1,239 @@
+//! The lines of the answer.
+
+ghost use Rattle.std.specs.Prelude.{◌≡◌, Some};
+ghost use Rattle.std.specs.Int.{to_be_bytes, w32};
+ghost use Rattle.std.specs.Net.Addr.{ipv4_octets};
+ghost use Rattle.status_lines.specs.Words.{claim_words, line_words, owner_words, phase_word, printer_words, progress_words, queue_word, spool_word};
+
+use control_lines::Escaped;
+use held_jobs::Phase;
+use spool_snapshot::{Pages, SeenJob};
+use std::fmt;
+use std::net::{Ipv4Addr, SocketAddr};
+
+/// Whether a spool takes jobs.
+#[derive(Clone, Copy, Debug, PartialEq, Eq)]
+pub enum SpoolState {
+    /// It takes jobs.
+    Runs,
+    /// The server was asked to stop.
+    Stops,
+    /// It is closed.
+    Closed,
+}
+
+impl SpoolState {
+    fn word(self) -> &'static str
+        ensures { result.now ≡ spool_word self }
+    {
+        match self {
+            SpoolState::Runs => "runs",
+            SpoolState::Stops => "stops",
+            SpoolState::Closed => "closed",
+        }
+    }
+}
+
+/// Whether a queue is held.
+#[derive(Clone, Copy, Debug, PartialEq, Eq)]
+pub enum QueueState {
+    /// Its jobs are printed.
+    Runs,
+    /// It is held.
+    Held,
+}
+
+impl QueueState {
+    fn word(self) -> &'static str
+        ensures { result.now ≡ queue_word self }
+    {
+        match self {
+            QueueState::Runs => "runs",
+            QueueState::Held => "held",
+        }
+    }
+}
+
+/// What a printer does.
+#[derive(Clone, Copy, Debug, PartialEq, Eq)]
+pub enum PrinterState {
+    /// It waits for a job.
+    Idle,
+    /// It prints a place of a job: the job's number of acceptance, and the place in print order, from 0.
+    Prints { job: u64, place: u64 },
+    /// It is stopped.
+    Stopped,
+}
+
+impl fmt::Display for PrinterState {
+    ghost output = { λ state. Some (printer_words state) };
+
+    fn fmt<W: fmt::Write>(&self, f: &mut fmt::Formatter<W>) -> fmt::Result {
+        match self {
+            PrinterState::Idle => f.write_str("idle"),
+            PrinterState::Prints { job, place } => write!(f, "prints {job} place {place}"),
+            PrinterState::Stopped => f.write_str("stopped"),
+        }
+    }
+}
+
+/// The word for a phase.
+fn phase_word(phase: Phase) -> &'static str
+    ensures { result.now ≡ phase_word phase }
+{
+    match phase {
+        Phase::Receiving => "receiving",
+        Phase::Received => "received",
+        Phase::Ended => "ended",
+    }
+}
+
+/// What a job holds and may still need, in pages.
+#[derive(Clone, Copy, Debug, PartialEq, Eq)]
+pub struct JobPages {
+    /// The pages that it holds.
+    pub holds: u32,
+    /// The pages that it may still ask for.
+    pub needs: u32,
+}
+
+impl fmt::Display for JobPages {
+    ghost output = { λ pages. Some (claim_words pages) };
+
+    fn fmt<W: fmt::Write>(&self, f: &mut fmt::Formatter<W>) -> fmt::Result {
+        write!(f, "holds {} needs {}", self.holds, self.needs)
+    }
+}
+
+/// A line of the answer to `status`.
+#[derive(Clone, Copy)]
+pub enum StatusLine<'a> {
+    /// For how many seconds the server runs.
+    Uptime {
+        seconds: u64,
+    },
+    /// Whether the spool takes jobs.
+    Spool {
+        state: SpoolState,
+    },
+    /// Where the pages of the pool are.
+    Pages {
+        pages: Pages,
+    },
+    /// How many entries of the account are counted, how many there may be, and the number of the account's segment.
+    Entries {
+        counted: u64,
+        most: u32,
+        segment: u64,
+    },
+    /// How many connections wait in the lobby.
+    Lobby {
+        waiting: usize,
+    },
+    /// A session: the address of its peer, and for how many seconds nothing came from that.
+    Session {
+        peer: SocketAddr,
+        silent: u64,
+    },
+    /// A queue.
+    Queue {
+        name: &'a str,
+        state: QueueState,
+    },
+    /// A printer of a queue of this name, by its number from 1.
+    Printer {
+        number: usize,
+        queue: &'a str,
+        state: PrinterState,
+    },
+    /// A printer of a queue of this name that is stopped, by its number from 1: for how many seconds, and why, which is one line.
+    Standstill {
+        number: usize,
+        queue: &'a str,
+        seconds: u64,
+        cause: &'a str,
+    },
+    /// A held job of a queue of this name.
+    Job {
+        job: &'a SeenJob,
+        queue: &'a str,
+        pages: JobPages,
+    },
+}
+
+/// The address of a sender, by its number.
+#[tactic(auto, unfolding(std::specs::Net::Addr::IsIpv4OfBits))]
+fn address_of(sender: u32) -> Ipv4Addr
+    ensures { ipv4_octets result ≡ to_be_bytes w32 sender }
+{
+    Ipv4Addr::from_bits(sender)
+}
+
+/// Who sent a job: its sender's address, and the user and the host that its control file names.
+#[derive(Clone, Copy)]
+struct Owner<'a>(&'a SeenJob);
+
+impl fmt::Display for Owner<'_> {
+    ghost output = { λ owner. Some (owner_words owner.0.now) };
+
+    fn fmt<W: fmt::Write>(&self, f: &mut fmt::Formatter<W>) -> fmt::Result {
+        let job = self.0;
+        let sender = address_of(job.sender);
+        let (user, host) = (Escaped(job.user.as_slice()), Escaped(job.host.as_slice()));
+        write!(f, "{sender} {user} {host}")
+    }
+}
+
+/// How far a job is.
+#[derive(Clone, Copy)]
+struct Progress<'a>(&'a SeenJob);
+
+impl fmt::Display for Progress<'_> {
+    ghost output = { λ progress. Some (progress_words progress.0.now) };
+
+    fn fmt<W: fmt::Write>(&self, f: &mut fmt::Formatter<W>) -> fmt::Result {
+        let job = self.0;
+        let (phase, pages, octets) = (phase_word(job.phase), job.granted, job.octets);
+        write!(f, "{phase} pages {pages} octets {octets}")
+    }
+}
+
+/// Writes the line without its LF.
+impl fmt::Display for StatusLine<'_> {
+    ghost output = { λ line. Some (line_words line) };
+
+    fn fmt<W: fmt::Write>(&self, f: &mut fmt::Formatter<W>) -> fmt::Result {
+        match self {
+            StatusLine::Uptime { seconds } => write!(f, "uptime {seconds}"),
+            StatusLine::Spool { state } => write!(f, "spool {}", state.word()),
+            StatusLine::Pages { pages } => write!(
+                f,
+                "pages free {} chained {} lent {} out {}",
+                pages.free, pages.chained, pages.lent, pages.out
+            ),
+            StatusLine::Entries {
+                counted,
+                most,
+                segment,
+            } => { write!(f, "entries {counted} of {most} segment {segment}") }
+            StatusLine::Lobby { waiting } => write!(f, "lobby {waiting}"),
+            StatusLine::Session { peer, silent } => { write!(f, "session {peer} silent {silent}") }
+            StatusLine::Queue { name, state } => write!(f, "queue {name} {}", state.word()),
+            StatusLine::Printer {
+                number,
+                queue,
+                state,
+            } => { write!(f, "printer {number} {queue} {state}") }
+            StatusLine::Standstill {
+                number,
+                queue,
+                seconds,
+                cause,
+            } => { write!(f, "printer {number} {queue} stopped {seconds} {cause}") }
+            StatusLine::Job { job, queue, pages } => {
+                let (number, owner, progress) = (job.number, Owner(job), Progress(job));
+                write!(f, "job {number} {queue} {owner} {progress} {pages}")
+            }
+        }
+    }
+}

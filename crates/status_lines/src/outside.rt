@@ -1,0 +1,40 @@
+//! What the edge of a server alone knows.
+
+use std::net::SocketAddr;
+
+/// A session that serves a connection.
+#[derive(Clone, Copy, Debug)]
+pub struct SeenSession {
+    /// The address of its peer.
+    pub peer: SocketAddr,
+    /// For how many seconds nothing came from the peer.
+    pub silent: u64,
+}
+
+/// Since when and why a printer stands still.
+#[derive(Debug, Drop)]
+pub struct Standstill {
+    /// For how many seconds it does.
+    pub seconds: u64,
+    /// Why: the fault of its last page.
+    pub cause: String,
+}
+
+/// What the edge of a server alone knows at one moment.
+#[derive(Clone, Copy)]
+pub struct Outside<'a> {
+    /// For how many seconds the server runs.
+    pub uptime: u64,
+    /// Whether the server was asked to stop.
+    pub stops: bool,
+    /// The number of the account's segment.
+    pub segment: u64,
+    /// How many connections wait in the lobby.
+    pub lobby: usize,
+    /// The sessions that serve a connection.
+    pub sessions: &'a [SeenSession],
+    /// Which queues are held, in the order of the configuration; the others run.
+    pub held: &'a [bool],
+    /// Of the printers by their numbers, since when and why each stands still, where that is known.
+    pub standstills: &'a [Option<Standstill>],
+}
