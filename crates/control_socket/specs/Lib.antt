@@ -1,0 +1,6 @@
+pub mod Accepting
+pub mod Line
+pub mod Partings
+pub mod Signals
+pub mod Stages
+pub mod Talks
