@@ -3,3 +3,5 @@ pub mod Ends
 pub mod Faults
 pub mod Lines
 pub mod Rotating
+pub mod Standing
+pub mod Stopping

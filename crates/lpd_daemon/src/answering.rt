@@ -5,6 +5,7 @@ ghost use Rattle.std.specs.Prelude.{◌≡◌, Some, max, option_map};
 ghost use Rattle.lpd_daemon.specs.Ends.{failure_text};
 ghost use Rattle.server_edge.specs.declared.desk.Serves.TheVariants.{All, NoJobs};
 
+use crate::ending::Ending;
 use crate::house::House;
 use log::{Log, warn};
 use lpd_commands::{OctetRead, OctetWrite};
@@ -39,9 +40,15 @@ const UNREAD_OCTETS: u32 = 65_536;
 /// The silence after which the system asks a peer whether it is there, in seconds.
 const KEEPALIVE_SECONDS: u8 = 30;
 
-/// Ends what is sent, and passes over what the peer still sends, for `seconds` seconds at most: a
-/// connection that is closed with octets unread may take the last answer away from its peer.
-fn take_leave<R: Clock>(rt: &R, stream: &TcpStream, seconds: u64) -> io::Result<()> {
+/// Ends what is sent, and passes over what the peer still sends, for `seconds` seconds at most, or
+/// until the server waits for nothing any more: a connection that is closed with octets unread may
+/// take the last answer away from its peer.
+fn take_leave<R: Clock>(
+    rt: &R,
+    stream: &TcpStream,
+    seconds: u64,
+    ending: &Ending,
+) -> io::Result<()> {
     stream.shutdown(Shutdown::Write)?;
     stream.set_read_timeout(Some(Duration::from_secs(PATIENCE_SECONDS)))?;
     let start = Instant::now(rt)?;
@@ -51,7 +58,8 @@ fn take_leave<R: Clock>(rt: &R, stream: &TcpStream, seconds: u64) -> io::Result<
     for _ in 0..MOST_PASSED {
         let count = stream.read(&mut passed_over)?;
         passed = passed.saturating_add(count);
-        if count == 0 || passed >= MOST_PASSED || start.elapsed(rt)?.as_secs() >= seconds {
+        let is_over = ending.cuts_off() || start.elapsed(rt)?.as_secs() >= seconds;
+        if count == 0 || passed >= MOST_PASSED || is_over {
             break;
         }
     }
@@ -136,7 +144,11 @@ impl<R: Clock + Wait + Log, E: SpoolLedger, K: Ledger, H: Ledger> House<'_, R, E
             complain(rt, visit.peer, &error);
             return;
         }
-        let meter = self.posts.begin(rt, number, stream, self.limits.slowest);
+        let meter = self.posts.begin(rt, number, visit, self.limits.slowest, self.oversight.start);
+        if self.ending.cuts_off() {
+            self.posts.end(rt, number);
+            return;
+        }
         let mut reader = StreamReader::new(meter);
         let mut writer = StreamWriter::new(stream);
         let sender = visit.host();
@@ -150,7 +162,7 @@ impl<R: Clock + Wait + Log, E: SpoolLedger, K: Ledger, H: Ledger> House<'_, R, E
         }
         if matches!(end, SessionEnd::Finished | SessionEnd::Refused(_)) {
             // A peer that is gone already has lost nothing.
-            let _ = take_leave(rt, stream, self.limits.leave_seconds);
+            let _ = take_leave(rt, stream, self.limits.leave_seconds, &self.ending);
         }
     }
 

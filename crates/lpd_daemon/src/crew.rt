@@ -4,17 +4,17 @@ ghost use Rattle.std.specs.Prelude.{◌≡◌};
 ghost use Rattle.std.specs.Thread.{IsSend};
 ghost use Rattle.lpd_daemon.specs.Lines.{TellsRotations};
 
+use crate::counter::Counter;
 use crate::faults::Fault;
 use crate::house::House;
 use crate::listening::{Gate, Porter, announce_all};
 use crate::roles::{Roles, Seats, serves_at};
-use crate::sink::Sink;
 use log::Log;
 use lpd_commands::OctetWrite;
 use shared_spool::{PrinterSeat, SessionSeat, SpoolLedger};
+use std::fs::File;
 use std::rt::Clock;
 use std::sync::Wait;
-use std::sync::atomic::Ordering;
 use std::sync::ledger::Ledger;
 use std::thread;
 use std::thread::{JoinHandle, Scope, SpawnError, Threads};
@@ -25,8 +25,27 @@ struct Crew<E: SpoolLedger, K: Ledger, H: Ledger> {
     answering: Vec<JoinHandle<SessionSeat<E, K, H>>>,
     looking: Vec<JoinHandle<SessionSeat<E, K, H>>>,
     printing: Vec<JoinHandle<PrinterSeat<E, K, H>>>,
+    steward: Option<JoinHandle<(SessionSeat<E, K, H>, Counter)>>,
     // All were started.
     is_whole: bool,
+}
+
+/// What comes in and goes out: what single threads of a server own.
+#[derive(Drop)]
+pub(crate) struct Entrance {
+    /// The port that is listened at.
+    pub(crate) port: u16,
+    pub(crate) gate: Gate,
+    /// The printers' files, by the printers' numbers, from 1.
+    pub(crate) files: Vec<File>,
+    pub(crate) counter: Counter,
+}
+
+/// What comes back once all threads have ended: the seats, and what waits for the server's end.
+#[derive(Drop)]
+pub(crate) struct Returned<E: SpoolLedger, K: Ledger, H: Ledger> {
+    pub(crate) seats: Seats<E, K, H>,
+    pub(crate) counter: Option<Counter>,
 }
 
 /// Joins all threads, and keeps what they returned. What there is no memory for is let go.
@@ -50,12 +69,14 @@ impl<E: SpoolLedger + Send + Sync, K: Ledger + Send + Sync, H: Ledger + Send + S
         scope: &Scope<'s, N>,
         house: &'s House<'_, R, E, K, H>,
         roles: Roles<E, K, H>,
-        sinks: Vec<Sink>,
+        files: Vec<File>,
+        counter: Counter,
     ) -> (Crew<E, K, H>, SessionSeat<E, K, H>) {
         let Roles {
             porter,
             watcher,
             keeper,
+            steward,
             sessions,
             printers,
         } = roles;
@@ -64,10 +85,11 @@ impl<E: SpoolLedger + Send + Sync, K: Ledger + Send + Sync, H: Ledger + Send + S
             answering: Vec::new(alloc),
             looking: Vec::new(alloc),
             printing: Vec::new(alloc),
+            steward: None,
             is_whole: true,
         };
-        for (seat, sink) in printers.into_iter().zip(sinks) {
-            let thread = scope.spawn(move || house.print_all(seat, sink));
+        for (seat, file) in printers.into_iter().zip(files) {
+            let thread = scope.spawn(move || house.print_all(seat, file));
             crew.is_whole &= keep(&mut crew.printing, thread);
         }
         for seat in sessions {
@@ -79,33 +101,47 @@ impl<E: SpoolLedger + Send + Sync, K: Ledger + Send + Sync, H: Ledger + Send + S
         crew.is_whole &= keep(&mut crew.looking, thread);
         let thread = scope.spawn(move || house.keep_rotating(keeper));
         crew.is_whole &= keep(&mut crew.looking, thread);
+        let thread = scope.spawn(move || house.look_after(steward, counter));
+        crew.steward = thread.ok();
+        crew.is_whole &= crew.steward.is_some();
         (crew, porter)
     }
 
-    /// Joins the threads of sessions that have ended, closes the spool once nothing is left to do,
-    /// and joins the others: their seats. One is missing where memory for it is refused.
-    fn close<R: Threads + Wait>(
+    /// Joins the threads of sessions that have ended, closes the spool once nothing is left to do, or
+    /// nothing is waited for any more, and joins the others: their seats. One is missing where memory
+    /// for it is refused.
+    fn close<R: Clock + Log + Threads + Wait>(
         self,
         house: &House<'_, R, E, K, H>,
         seat: SessionSeat<E, K, H>,
-    ) -> Seats<E, K, H> {
+    ) -> Returned<E, K, H> {
         let Crew {
             answering,
             looking,
             printing,
+            steward,
             ..
         } = self;
         let (rt, alloc) = (house.rt, house.alloc);
         let mut seat = seat;
         let (mut sessions, mut printers) = (Vec::new(alloc), Vec::new(alloc));
         join_all(rt, answering, &mut sessions);
-        house.spool.idle_wait(rt);
+        house.wait_until_done();
+        house.tell_all_lost();
         house.spool.close(rt, &mut seat);
-        house.ended.store(true, Ordering::SeqCst);
+        house.ending.close();
+        house.oversight.wake_steward();
         join_all(rt, looking, &mut sessions);
         join_all(rt, printing, &mut printers);
         let _ = sessions.push(seat);
-        Seats { sessions, printers }
+        let mut counter = None;
+        if let Some(steward) = steward {
+            let (seat, given_back) = steward.join(rt);
+            let _ = sessions.push(seat);
+            counter = Some(given_back);
+        }
+        let seats = Seats { sessions, printers };
+        Returned { seats, counter }
     }
 }
 
@@ -123,34 +159,39 @@ impl<
     pub(crate) fn work<W: OctetWrite>(
         &self,
         roles: Roles<E, K, H>,
-        sinks: Vec<Sink>,
-        gate: Gate,
+        entrance: Entrance,
         output: &mut W,
-    ) -> (Result<(), Fault>, Seats<E, K, H>)
+    ) -> (Result<(), Fault>, Returned<E, K, H>)
         ensures { TellsRotations (W.written output.old) (W.faults output.old)
             (W.written output.new) (W.faults output.new) result.0 }
     {
+        let Entrance {
+            gate,
+            files,
+            counter,
+            ..
+        } = entrance;
         // The output comes back with the seats, so that it is known what was written.
-        let (told, seats, _output) = thread::scope(
+        let (told, returned, _output) = thread::scope(
             thread::scope_env(),
             self.rt,
-            |scope| -> (Result<(), Fault>, Seats<E, K, H>, &mut W)
+            |scope| -> (Result<(), Fault>, Returned<E, K, H>, &mut W)
                 requires { IsSend E.row × IsSend K.row × IsSend H.row }
                 ensures same { result.2.ghost_name ≡ output.entry.ghost_name }
                 ensures tells { TellsRotations (W.written output.entry.now)
                     (W.faults output.entry.now) (W.written result.2.now)
                     (W.faults result.2.now) result.0 }
             {
-                let (crew, seat) = Crew::start(scope, self, roles, sinks);
+                let (crew, seat) = Crew::start(scope, self, roles, files, counter);
                 let mut porter = Porter::new(self, seat, gate);
                 let admitted = porter.admit(crew.is_whole, output);
                 // However it went, all threads are joined before the seats are looked at.
-                let seats = crew.close(self, porter.leave());
+                let returned = crew.close(self, porter.leave());
                 // What was rotated while sessions ended.
                 let told = announce_all(self.rt, self.alloc, output, admitted, &self.rotations);
-                (told, seats, output)
+                (told, returned, output)
             },
         );
-        (told, seats)
+        (told, returned)
     }
 }

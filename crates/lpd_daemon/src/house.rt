@@ -1,5 +1,7 @@
 //! What all threads of a server share.
 
+use crate::ending::Ending;
+use crate::oversight::Oversight;
 use crate::posts::Posts;
 use crate::rotating::Rotations;
 use mio::Waker;
@@ -7,7 +9,7 @@ use program_edge::Limits;
 use server_edge::Desk;
 use shared_spool::{SharedSpool, SpoolLedger};
 use std::alloc::Global;
-use std::sync::atomic::AtomicBool;
+use std::str;
 use std::sync::ledger::Ledger;
 
 /// What all threads of a server share. Whoever runs the server owns it, and lends it to each.
@@ -24,6 +26,18 @@ pub(crate) struct House<'a, R, E: SpoolLedger, K: Ledger, H: Ledger> {
     pub(crate) rotations: Rotations,
     /// What wakes the porter.
     pub(crate) waker: Waker,
-    /// The spool is closed.
-    pub(crate) ended: AtomicBool,
+    pub(crate) oversight: Oversight,
+    pub(crate) ending: Ending,
+}
+
+impl<R, E: SpoolLedger, K: Ledger, H: Ledger> House<'_, R, E, K, H> {
+    /// Whether a steward looks after the server.
+    pub(crate) fn is_watched(&self) -> bool {
+        self.oversight.start.is_some()
+    }
+
+    /// The name of a queue, of which each octet is a character of ASCII.
+    pub(crate) fn queue_name(&self, queue: u32) -> &str {
+        str::from_utf8(self.oversight.config.name_of(queue)).unwrap_or("")
+    }
 }

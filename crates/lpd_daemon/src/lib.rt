@@ -5,11 +5,18 @@
 #![tactic(auto)]
 
 mod answering;
+mod commanding;
+mod configuration;
+mod counter;
 mod crew;
+mod ending;
 mod faults;
 mod house;
 mod lines;
 mod listening;
+mod moments;
+mod outlet;
+mod oversight;
 mod posts;
 mod printing;
 mod roles;
@@ -17,10 +24,16 @@ mod room;
 mod rotating;
 mod serving;
 mod sink;
+mod standing;
+mod status;
+mod stewarding;
+mod stopping;
 mod watching;
 
+pub use control_socket::{OpenFault, SocketFile};
+pub use counter::Counter;
 pub use faults::Fault;
 pub use printer_worker::{PrintSink, SinkFault};
 pub use program_edge::{Limits, MOST_SESSIONS, Settings};
-pub use serving::serve;
+pub use serving::{Plan, serve};
 pub use sink::{Explains, FileSink};

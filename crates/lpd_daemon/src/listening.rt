@@ -126,6 +126,15 @@ impl<'a, R: Clock + Log + Wait, E: SpoolLedger, K: Ledger, H: Ledger> Porter<'a,
         seat
     }
 
+    /// Nobody is let in any more where the server stops, and those that wait are closed.
+    fn look_whether_it_stops(&mut self) {
+        if self.house.ending.stops() {
+            self.gate.lobby.close(self.house.alloc);
+        }
+        let waiting = self.gate.lobby.waiting();
+        self.house.oversight.note_lobby(waiting);
+    }
+
     /// Whether new jobs are let in.
     fn lets_jobs_in(&mut self) -> bool {
         match &mut self.gate.room {
@@ -187,6 +196,7 @@ impl<'a, R: Clock + Log + Wait, E: SpoolLedger, K: Ledger, H: Ledger> Porter<'a,
             return told;
         }
         'rounds: for _ in rt.forever() {
+            self.look_whether_it_stops();
             let lets_jobs_in = self.lets_jobs_in();
             let visit = self.gate.lobby.next(rt, &self.house.desk, lets_jobs_in);
             if visit.is_some() {

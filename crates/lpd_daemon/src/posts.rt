@@ -3,12 +3,13 @@
 ghost use Rattle.std.specs.Int.NonZero.{non_zero_u64_get};
 ghost use Rattle.std.specs.Prelude.{◌≡◌, ◌↔◌, ◌<◌, ◌*◌, ◌-◌, ◌^◌, IsTrue, min, unwrap_or};
 
-use server_edge::{Peer, Standing, ask_peer, may_end, unread_octets};
+use crate::moments::{milliseconds, milliseconds_between};
+use server_edge::{Peer, Standing, Visit, ask_peer, may_end, unread_octets};
 use shared_spool::Waiting;
 use std::alloc::{AllocError, Global};
 use std::io;
 use std::io::{Error, ErrorKind, Read};
-use std::net::TcpStream;
+use std::net::{Shutdown, SocketAddr, TcpStream};
 use std::num::NonZeroU64;
 use std::rt::Clock;
 use std::sync::atomic::{AtomicU64, Ordering};
@@ -18,14 +19,34 @@ use std::time::Instant;
 /// The time waited for a peer after which its pace is judged, in seconds.
 const JUDGED_AFTER_SECONDS: u64 = 60;
 
+/// A connection that is served.
+#[derive(Drop)]
+struct Served {
+    stream: TcpStream,
+    peer: SocketAddr,
+    since: Instant,
+}
+
 /// What the session of a seat is at.
 #[derive(Drop)]
 struct Post {
     // The connection that it serves.
-    stream: Mutex<Option<TcpStream>>,
+    served: Mutex<Option<Served>>,
     // How many octets it has read of that, and how many by the last read.
     received: AtomicU64,
     last: AtomicU64,
+    // When the last of these reads ended, in milliseconds after the server's start, where that is noted.
+    heard_ms: AtomicU64,
+}
+
+/// A peer that is served.
+#[derive(Clone, Copy)]
+pub(crate) struct ServedPeer {
+    pub(crate) peer: SocketAddr,
+    /// Since when.
+    pub(crate) since: Instant,
+    /// For how many seconds nothing has come of it.
+    pub(crate) silent_seconds: u64,
 }
 
 /// What sessions are at, by the numbers of their seats.
@@ -40,9 +61,10 @@ impl Posts {
         let mut posts = Vec::new(alloc);
         for _seat in 0..seats {
             posts.push(Post {
-                stream: Mutex::new(None),
+                served: Mutex::new(None),
                 received: AtomicU64::new(0),
                 last: AtomicU64::new(0),
+                heard_ms: AtomicU64::new(0),
             })?;
         }
         Ok(Posts { posts })
@@ -50,25 +72,40 @@ impl Posts {
 
     /// A session serves this connection, and reads it by the meter that is answered: without a
     /// number of octets a second no peer is too slow. Where the system gives no second number for the connection, its
-    /// peer isn't looked at.
-    pub(crate) fn begin<'a, R: Wait>(
+    /// peer isn't looked at. When it is heard is noted from the server's start on, where that is given.
+    pub(crate) fn begin<'a, R: Clock + Wait>(
         &'a self,
         rt: &'a R,
         seat: u32,
-        stream: &'a TcpStream,
+        visit: &'a Visit,
         slowest: Option<NonZeroU64>,
+        start: Option<Instant>,
     ) -> Meter<'a, R> {
+        let (stream, peer) = (&visit.stream, visit.peer);
         let post = self.posts.get(seat as usize);
         if let Some(post) = post {
             post.received.store(0, Ordering::SeqCst);
             post.last.store(0, Ordering::SeqCst);
-            *post.stream.lock(rt) = stream.try_clone().ok();
+            let since = Instant::now(rt);
+            if let (Some(start), Ok(since)) = (start, since) {
+                post.heard_ms
+                    .store(milliseconds_between(start, since), Ordering::SeqCst);
+            }
+            let served = stream.try_clone().and_then(|stream| {
+                Ok(Served {
+                    stream,
+                    peer,
+                    since: since?,
+                })
+            });
+            *post.served.lock(rt) = served.ok();
         }
         Meter {
             rt,
             stream,
             post,
             slowest,
+            start,
             waited_ms: 0,
             octets: 0,
         }
@@ -77,8 +114,42 @@ impl Posts {
     /// A session has served its connection.
     pub(crate) fn end<R: Wait>(&self, rt: &R, seat: u32) {
         if let Some(post) = self.posts.get(seat as usize) {
-            *post.stream.lock(rt) = None;
+            *post.served.lock(rt) = None;
         }
+    }
+
+    /// Ends all connections that are served: nothing more comes of them, and nothing more reaches their peers.
+    pub(crate) fn hang_up<R: Wait>(&self, rt: &R) {
+        for post in self.posts.iter() {
+            if let Some(served) = &*post.served.lock(rt) {
+                // A peer that is gone already needs no end.
+                let _ = served.stream.shutdown(Shutdown::Both);
+            }
+        }
+    }
+
+    /// The peers that are served, those first that have been for the longest time. An error where memory for them is refused.
+    pub(crate) fn served<R: Wait>(
+        &self,
+        rt: &R,
+        alloc: Global,
+        start: Instant,
+        now: Instant,
+    ) -> Result<Vec<ServedPeer>, AllocError> {
+        let now_ms = milliseconds_between(start, now);
+        let mut peers = Vec::new(alloc);
+        for post in self.posts.iter() {
+            if let Some(served) = &*post.served.lock(rt) {
+                let heard_ms = post.heard_ms.load(Ordering::SeqCst);
+                peers.push(ServedPeer {
+                    peer: served.peer,
+                    since: served.since,
+                    silent_seconds: now_ms.saturating_sub(heard_ms) / 1_000,
+                })?;
+            }
+        }
+        peers.sort_unstable_by_key(|peer| peer.since);
+        Ok(peers)
     }
 
     /// Whether the peer of a session that waits for a page is gone: the connection is broken, or it
@@ -89,8 +160,8 @@ impl Posts {
         let Some(post) = self.posts.get(waiting.seat as usize) else {
             return false;
         };
-        let stream = post.stream.lock(rt);
-        let Some(stream) = &*stream else {
+        let served = post.served.lock(rt);
+        let Some(Served { stream, .. }) = &*served else {
             return false;
         };
         match ask_peer(stream) {
@@ -140,19 +211,32 @@ pub(crate) struct Meter<'a, R> {
     stream: &'a TcpStream,
     post: Option<&'a Post>,
     slowest: Option<NonZeroU64>,
+    // The server's start, where it is noted when a peer is heard.
+    start: Option<Instant>,
     // For how many milliseconds its reads waited, and the octets that came by that.
     waited_ms: u64,
     octets: u64,
 }
 
 impl<R: Clock> Meter<'_, R> {
+    /// The peer was heard.
+    fn note(&self) {
+        let (Some(start), Some(post)) = (self.start, self.post) else {
+            return;
+        };
+        if let Ok(now) = Instant::now(self.rt) {
+            let heard_ms = milliseconds_between(start, now);
+            post.heard_ms.store(heard_ms, Ordering::SeqCst);
+        }
+    }
+
     /// The peer was waited for since this moment, and sent `octets` octets. Whether it is too slow,
     /// where it has to send `slowest` a second.
     fn is_slow(&mut self, start: Instant, octets: u64, slowest: NonZeroU64) -> bool {
         let Ok(waited) = start.elapsed(self.rt) else {
             return false;
         };
-        let waited_ms = u64::try_from(waited.as_millis()).unwrap_or(u64::MAX);
+        let waited_ms = milliseconds(waited);
         self.waited_ms = self.waited_ms.saturating_add(waited_ms);
         self.octets = self.octets.saturating_add(octets);
         let seconds = self.waited_ms / 1_000;
@@ -181,6 +265,7 @@ impl<R: Clock> Read for Meter<'_, R> {
             post.received.store(received, Ordering::SeqCst);
             post.last.store(octets, Ordering::SeqCst);
         }
+        self.note();
         if let Some((start, slowest)) = start {
             if count > 0 && self.is_slow(start, octets, slowest) {
                 return Err(Error::from(ErrorKind::TimedOut));

@@ -12,8 +12,9 @@ use std::sync::ledger::Ledger;
 /// How many sessions serve connections that bring no job, and those alone.
 pub(crate) const NO_JOB_SESSIONS: u32 = 2;
 
-/// How many sessions' seats are for others than sessions: the porter, the watcher and the keeper.
-pub(crate) const OTHERS: u32 = 3;
+/// How many sessions' seats are for others than sessions: the porter, the watcher, the keeper and
+/// the steward.
+pub(crate) const OTHERS: u32 = 4;
 
 /// Seats at a spool.
 #[derive(Drop)]
@@ -31,6 +32,8 @@ pub(crate) struct Roles<E: SpoolLedger, K: Ledger, H: Ledger> {
     pub(crate) watcher: SessionSeat<E, K, H>,
     /// Who rotates the account.
     pub(crate) keeper: SessionSeat<E, K, H>,
+    /// Who does what is asked at the control socket and by signals.
+    pub(crate) steward: SessionSeat<E, K, H>,
     pub(crate) sessions: Vec<SessionSeat<E, K, H>>,
     pub(crate) printers: Vec<PrinterSeat<E, K, H>>,
 }
@@ -53,10 +56,14 @@ impl<E: SpoolLedger, K: Ledger, H: Ledger> Roles<E, K, H> {
         let Some(watcher) = sessions.pop() else {
             return Err(Fault::Memory);
         };
+        let Some(steward) = sessions.pop() else {
+            return Err(Fault::Memory);
+        };
         Ok(Roles {
             porter,
             watcher,
             keeper,
+            steward,
             sessions,
             printers,
         })

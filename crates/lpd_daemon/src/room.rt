@@ -4,6 +4,7 @@ ghost use Rattle.std.specs.Prelude.{◌≡◌, ◌≤◌, ◌+◌, ◌-◌, ◌*
 ghost use Rattle.config_values.specs.Config.{IsQueue, reserve_of};
 ghost use Rattle.lpd_daemon.specs.Rotating.{next_hold};
 
+use crate::moments::milliseconds_since;
 use config_values::Config;
 use log::{Log, warn};
 use shared_spool::{SessionSeat, SharedSpool, SpoolLedger};
@@ -72,14 +73,6 @@ pub(crate) struct AccountRoom {
     hold: Hold,
     // Since when there is no room, and when that was told last.
     full_since: Option<(Instant, Instant)>,
-}
-
-/// How many milliseconds have passed since.
-fn milliseconds_since<R: Clock>(rt: &R, start: Instant) -> u64 {
-    match start.elapsed(rt) {
-        Ok(elapsed) => u64::try_from(elapsed.as_millis()).unwrap_or(u64::MAX),
-        Err(_) => 0,
-    }
 }
 
 impl AccountRoom {

@@ -36,7 +36,7 @@ pub(crate) struct Rotation {
 }
 
 /// What is printed of this segment.
-fn rotation_of(segment: &Segment) -> Rotation
+pub(crate) fn rotation_of(segment: &Segment) -> Rotation
     ensures number { result.number ≡ segment.now.number }
     ensures entries { result.entries ≡ length segment.now.entries.items }
 {

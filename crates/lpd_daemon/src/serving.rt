@@ -1,80 +1,76 @@
 //! A server, from its start to its end.
 
 ghost use Rattle.std.specs.Int.NonZero.{non_zero_u64_get};
-ghost use Rattle.std.specs.Prelude.{◌≡◌, ◌≤◌, ◌+◌, ◌-◌, ◌^◌, ◌*◌, ℕ, min, None, Some, Ok, OnOk, IfErr, option_map};
+ghost use Rattle.std.specs.Prelude.{◌≡◌, ◌≤◌, ◌+◌, ◌-◌, ◌^◌, ◌*◌, ℕ, min, None, Some, Ok, OnOk};
+ghost use Rattle.std.specs.Prelude.{IfErr, false, option_map, true};
 ghost use Rattle.lpd_daemon.specs.Faults.{IsOpeningFault, IsRunningFault, write_faults};
 ghost use Rattle.lpd_daemon.specs.Lines.{IsQuiet, WritesAll, line_octets};
 ghost use Rattle.lpd_daemon.specs.declared.lines.PrintedLine.TheVariants.{Closed};
 ghost use Rattle.lpd_commands.specs.Ends.{Writes};
 ghost use Rattle.spool_ledgers.specs.Blanks.{AreFor, mark};
 
+use crate::configuration::copy_of;
+use crate::counter::Counter;
+use crate::crew::{Entrance, Returned};
+use crate::ending::Ending;
 use crate::faults::Fault;
 use crate::house::House;
 use crate::lines::{PrintedLine, print_or_tell};
 use crate::listening::{Gate, listen};
+use crate::outlet::Outlet;
+use crate::oversight::Oversight;
 use crate::posts::Posts;
 use crate::roles::{NO_JOB_SESSIONS, OTHERS, Roles, Seats};
 use crate::room::AccountRoom;
 use crate::rotating::Rotations;
-use crate::sink::{FileSink, Sink};
 use config_values::Config;
 use log::Log;
 use lpd_commands::OctetWrite;
 use mio::Waker;
 use program_edge::{MOST_SESSIONS, Settings, tell_cause};
 use server_edge::{Desk, Lobby};
-use shared_spool::{Blanks, Opened, SharedSpool, SpoolLedger};
+use shared_spool::{Blanks, SharedSpool, SpoolLedger};
 use std::alloc::{AllocError, Global};
-use std::fs::{File, Files, OpenOptions};
+use std::fs::{File, Files};
 use std::marker::Brand;
 use std::net::{Net, TcpListener, TcpStream};
 use std::num::NonZeroU64;
-use std::os::unix::fs::FileTypeExt;
 use std::rt::Clock;
 use std::sync::Wait;
-use std::sync::atomic::AtomicBool;
 use std::sync::ledger::Ledger;
 use std::thread::Threads;
-use std::{fs, io};
 
 /// How many descriptors are kept for more than connections that wait.
 const KEPT_DESCRIPTORS: u64 = 64;
 
-/// Opens a printer's file at its end. A pipe is opened for reading too: so it doesn't wait for a
-/// reader, and one that ends and is started again stops no printer.
-fn open_sink<R: Files<File = File>>(rt: &R, path: &str) -> io::Result<File> {
-    let metadata = fs::metadata(rt, path);
-    let is_pipe = metadata.is_ok_and(|metadata| metadata.file_type().is_fifo());
-    let mut options = OpenOptions::new();
-    options.read(is_pipe).append(true).create(true);
-    options.open(rt, path)
-}
+/// How many more are kept for the control socket and what comes to it.
+const STEWARDS_DESCRIPTORS: u64 = 80;
 
 /// Opens the files of N printers in a directory, `printer-1` to `printer-N`, at their ends.
 ///
 /// PrinterFile with the path of the first that can't be opened, of which the log is told why;
 /// Memory.
-fn open_sinks<R: Files<File = File> + Log>(
+fn open_outlets<R: Files<File = File> + Log>(
     rt: &R,
     alloc: Global,
     directory: &str,
     printers: u32,
-) -> Result<Vec<Sink>, Fault>
+) -> Result<Vec<Outlet>, Fault>
     ensures { IfErr result IsOpeningFault }
 {
-    let mut sinks = Vec::new(alloc);
+    let mut outlets = Vec::new(alloc);
     for printer in 0..printers {
         let number = printer + 1;
         let path = format!(in alloc; "{directory}/printer-{number}")?;
-        match open_sink(rt, path.as_str()) {
-            Ok(file) => sinks.push(FileSink::new(file))?,
+        match Outlet::open(rt, path.as_str()) {
+            Ok(outlet) => outlets.push(outlet)?,
             Err(error) => {
                 tell_cause(rt, &path, Some(error));
                 return Err(Fault::PrinterFile(path));
             }
         }
     }
-    Ok(sinks)
+    Ok(outlets)
 }
 
 /// Takes all seats back, and prints how many entries all segments of the account have, where all
@@ -106,11 +102,34 @@ fn finish<R: Log, E: SpoolLedger, K: Ledger, H: Ledger, W: OctetWrite>(
 }
 
 /// How many descriptors are kept for others than connections that wait: for each printer's file, for
-/// each session two of its connection, and some for what the program has beside.
-fn kept_descriptors(printers: u32, sessions: u32) -> u64
-    ensures { result ≡ 64 + printers + 2 * sessions }
+/// each session two of its connection, and some for what the program has beside; where a steward looks after
+/// the server, for each printer's pipe and for what comes to the steward too.
+fn kept_descriptors(printers: u32, sessions: u32, is_watched: bool) -> u64
+    ensures alone { is_watched ≡ false → result ≡ 64 + printers + 2 * sessions }
+    ensures watched { is_watched ≡ true → result ≡ 64 + printers + 2 * sessions + (printers + 80) }
 {
-    KEPT_DESCRIPTORS + u64::from(printers) + 2 * u64::from(sessions)
+    let kept = KEPT_DESCRIPTORS + u64::from(printers) + 2 * u64::from(sessions);
+    if is_watched {
+        kept + (u64::from(printers) + STEWARDS_DESCRIPTORS)
+    } else {
+        kept
+    }
+}
+
+/// The printers' files, and beside them their pipes where these are looked at.
+fn parted(
+    alloc: Global,
+    outlets: Vec<Outlet>,
+    is_watched: bool,
+) -> Result<(Vec<File>, Vec<Option<File>>), AllocError> {
+    let (mut files, mut pipes) = (Vec::new(alloc), Vec::new(alloc));
+    for outlet in outlets {
+        if is_watched {
+            pipes.push(outlet.pipe())?;
+        }
+        files.push(outlet.file)?;
+    }
+    Ok((files, pipes))
 }
 
 /// How many sessions one host may have: without a number as many as there are.
@@ -125,6 +144,15 @@ fn most_of(per_host: Option<NonZeroU64>) -> u32
     }
 }
 
+/// What a server is to be.
+#[derive(Drop)]
+pub struct Plan<'a> {
+    pub config: Config,
+    pub settings: Settings<'a>,
+    /// What reaches it beside its clients.
+    pub counter: Counter,
+}
+
 /// A server that listens, before its spool is opened.
 #[derive(Drop)]
 struct Server<'a, R> {
@@ -136,7 +164,8 @@ struct Server<'a, R> {
     lobby: Lobby,
     waker: Waker,
     port: u16,
-    sinks: Vec<Sink>,
+    outlets: Vec<Outlet>,
+    counter: Counter,
 }
 
 /// Runs a server: opens the printers' files in the directory of the settings, `printer-1` and so
@@ -153,7 +182,7 @@ struct Server<'a, R> {
 ///
 /// After `connections` connections it waits until their sessions have ended and no job is held or a
 /// printer is stopped, closes the spool, and prints `closed entries E` with the entries of all
-/// segments.
+/// segments. It does what `counter` is asked, and ends as that says where it is asked to stop.
 ///
 /// PrinterFile where a printer's file can't be opened, before it listens; Network where it can't
 /// listen; Output where a line couldn't be written, which is logged at once: after the first one it
@@ -168,21 +197,19 @@ pub fn serve<
         + Wait
         + Sync,
     W: OctetWrite,
->(
-    rt: &R,
-    alloc: Global,
-    config: Config,
-    settings: Settings<'_>,
-    output: &mut W,
-) -> Result<(), Fault>
+>(rt: &R, alloc: Global, plan: Plan<'_>, output: &mut W) -> Result<(), Fault>
     ensures printed { OnOk result (WritesAll (W.written output.old) (W.written output.new)) }
     ensures quiet { IfErr result (IsQuiet (W.written output.old) (W.written output.new)) }
     ensures write_fault { W.faults output.new ≡ write_faults (W.faults output.old) result }
 {
-    let mut settings = settings;
+    let Plan {
+        config,
+        mut settings,
+        counter,
+    } = plan;
     let sessions = settings.sessions.clamp(1, MOST_SESSIONS) + NO_JOB_SESSIONS;
-    let sinks = open_sinks(rt, alloc, settings.out, config.printer_count())?;
-    let kept = kept_descriptors(config.printer_count(), sessions);
+    let outlets = open_outlets(rt, alloc, settings.out, config.printer_count())?;
+    let kept = kept_descriptors(config.printer_count(), sessions, counter.is_open());
     let (lobby, waker, port) = listen(rt, alloc, &mut settings, kept)?;
     let blanks = Blanks::new(&config, sessions + OTHERS);
     let server = Server {
@@ -193,7 +220,8 @@ pub fn serve<
         lobby,
         waker,
         port,
-        sinks,
+        outlets,
+        counter,
     };
     server.run::<Brand, Brand, Brand, W>(config, blanks, output)
 }
@@ -217,34 +245,30 @@ impl<'a, R: Clock + Log + Threads + Wait + Sync> Server<'a, R> {
         ensures fault { IfErr result IsRunningFault }
     {
         let (rt, alloc, sessions) = (self.rt, self.alloc, self.sessions);
-        let seats = sessions + OTHERS;
-        let room = self.settings.keep_room.then_some(AccountRoom::new(
-            &config,
-            seats,
-            self.settings.limits.room_ms,
-        ));
-        let opened = SharedSpool::<E, K, H>::new(alloc, blanks, config, seats);
+        let limits = self.settings.limits;
+        let keeps_room = self.settings.keep_room;
+        let room = keeps_room.then_some(AccountRoom::new(&config, sessions, limits.room_ms));
+        let mut counter = self.counter;
+        let (files, pipes) = parted(alloc, self.outlets, counter.is_open())?;
+        let copy = copy_of(alloc, &config)?;
+        let oversight = Oversight::new(rt, alloc, copy, pipes, &mut counter)?;
+        let opened = SharedSpool::<E, K, H>::new(alloc, blanks, config, sessions + OTHERS);
         let opened = opened.map_err(AllocError::from)?;
         let roles = Roles::deal(opened.sessions, opened.printers)?;
-        let (desk, doors) = Desk::new(alloc, most_of(self.settings.limits.per_host))?;
+        let (desk, doors) = Desk::new(alloc, most_of(limits.per_host))?;
         let posts = Posts::new(alloc, sessions as usize)?;
-        print_or_tell(
-            rt,
-            alloc,
-            output,
-            PrintedLine::Listening { port: self.port },
-        )?;
         let house = House {
             rt,
             alloc,
             spool: opened.spool,
-            limits: self.settings.limits,
+            limits,
             least: room.map(|room| room.least),
             desk,
             posts,
             rotations: Rotations::new(alloc),
             waker: self.waker,
-            ended: AtomicBool::new(false),
+            oversight,
+            ending: Ending::new(),
         };
         let gate = Gate {
             lobby: self.lobby,
@@ -252,7 +276,49 @@ impl<'a, R: Clock + Log + Threads + Wait + Sync> Server<'a, R> {
             every: self.settings.rotate,
             room,
         };
-        let (told, seats) = house.work(roles, self.sinks, gate, output);
-        finish(rt, alloc, house.spool, seats, told, output)
+        let entrance = Entrance {
+            port: self.port,
+            gate,
+            files,
+            counter,
+        };
+        house.run(roles, entrance, output)
+    }
+}
+
+impl<
+    'a,
+    R: Clock + Log + Threads + Wait + Sync,
+    E: SpoolLedger + Send + Sync,
+    K: Ledger + Send + Sync,
+    H: Ledger + Send + Sync,
+> House<'a, R, E, K, H> {
+    /// Says where it listens, has all threads work to their end, and says how many entries the account has. Who waits for that at
+    /// the control socket is answered then.
+    ///
+    /// Output where a line can't be written; Memory where memory or a thread is refused.
+    fn run<W: OctetWrite>(
+        self,
+        roles: Roles<E, K, H>,
+        entrance: Entrance,
+        output: &mut W,
+    ) -> Result<(), Fault>
+        ensures printed { OnOk result
+            (WritesAll (W.written output.old) (W.written output.new)) }
+        ensures write_fault { W.faults output.new ≡ write_faults (W.faults output.old) result }
+        ensures fault { IfErr result IsRunningFault }
+    {
+        let (rt, alloc) = (self.rt, self.alloc);
+        let line = PrintedLine::Listening {
+            port: entrance.port,
+        };
+        print_or_tell(rt, alloc, output, line)?;
+        let (told, returned) = self.work(roles, entrance, output);
+        let Returned { seats, counter } = returned;
+        let ended = finish(rt, alloc, self.spool, seats, told, output);
+        if let Some(counter) = counter {
+            counter.end(rt, alloc, &ended);
+        }
+        ended
     }
 }

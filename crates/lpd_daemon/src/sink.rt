@@ -6,7 +6,6 @@ ghost use Rattle.std.specs.declared.io.Error.{Error};
 use lpd_commands::write_all;
 use printer_worker::{HandedPage, PrintSink, SinkFault};
 use program_edge::StreamWriter;
-use std::fs::File;
 use std::io::{Error, Write};
 
 /// What keeps why a page wasn't written.
@@ -17,9 +16,6 @@ pub trait Explains {
     fn cause(&self) -> Option<Error>
         ensures { result ≡ why self.now };
 }
-
-/// What the pages of each printer of a server are written to.
-pub(crate) type Sink = FileSink<File>;
 
 /// A file that the pages of a printer are written to, one after another.
 #[derive(Drop)]

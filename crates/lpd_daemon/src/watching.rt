@@ -8,7 +8,6 @@ use shared_spool::{AbortError, SessionSeat, SpoolLedger, Waiting};
 use std::alloc::AllocError;
 use std::rt::Clock;
 use std::sync::Wait;
-use std::sync::atomic::Ordering;
 use std::sync::ledger::Ledger;
 use std::thread;
 use std::time::Duration;
@@ -158,7 +157,7 @@ impl<R: Clock + Log + Wait, E: SpoolLedger, K: Ledger, H: Ledger> House<'_, R, E
         };
         let mut step = 0u64;
         for _ in self.rt.forever() {
-            if self.ended.load(Ordering::SeqCst) {
+            if self.ending.is_closed() {
                 break;
             }
             thread::sleep(self.rt, Duration::from_millis(STEP_MS));

@@ -6,8 +6,9 @@ ghost use Rattle.std.specs.Process.{exit_status};
 ghost use Rattle.lpd_words.specs.Outcome.{IfEnded};
 
 use log::sink::Console;
-use log::{Level, Log, Logged, error};
-use lpd_words::Outcome;
+use log::{Level, Log, Logged, error, info};
+use lpd_daemon::{Counter, OpenFault, Plan};
+use lpd_words::{ControlRequest, Outcome};
 use program_edge::{
     FaultName, LineLog, LineQueue, Settings, StreamReader, StreamWriter, fill_standard_descriptors,
     tell, tell_cause,
@@ -39,7 +40,7 @@ fn most_told(is_terminal: bool) -> Level {
     }
 }
 
-/// Does what the words ask for, but for serving.
+/// Does what the words ask for, but for serving and for commands to a server.
 fn run<'a>(rt: &HostRuntime, words: &'a [String]) -> Outcome<'a>
     ensures { IfEnded result (λ status. status ≤ 5) }
 {
@@ -48,6 +49,16 @@ fn run<'a>(rt: &HostRuntime, words: &'a [String]) -> Outcome<'a>
     let mut faults = StreamWriter::new(rt.stderr());
     let logged = Logged::new(*rt, most_told(rt.stderr().is_terminal()), Console(*rt));
     lpd_words::run(&logged, words, &mut input, &mut output, &mut faults)
+}
+
+/// Sends a command to a server's control socket, and prints the answer. Answers the exit status.
+fn control(rt: &HostRuntime, request: &ControlRequest) -> u8
+    ensures { result ≤ 5 }
+{
+    let mut output = StreamWriter::new(rt.stdout().lock());
+    let mut faults = StreamWriter::new(rt.stderr());
+    let logged = Logged::new(*rt, most_told(rt.stderr().is_terminal()), Console(*rt));
+    lpd_words::control(rt, &logged, request, &mut output, &mut faults)
 }
 
 /// Starts the thread that writes what is logged, so that no other waits for whoever reads that. It
@@ -68,8 +79,18 @@ fn start_log<R: Threads + Wait + Copy + Send + 'static, W: Write + Drop + Send +
     Ok(queue)
 }
 
-/// Serves the queues of the configuration at this path. Faults are told in the log. Answers the
-/// exit status.
+/// Tells that the control socket at a path can't be made. Answers the exit status.
+fn refuse_control<R: Log>(rt: &R, path: Option<&str>, why: &OpenFault) -> u8
+    ensures { result ≡ 4 }
+{
+    let path = path.unwrap_or("");
+    info!(rt; "{path}: {why}");
+    error!(rt; "{} {path}", FaultName::Network);
+    4
+}
+
+/// Serves the queues of the configuration at this path. Faults are told in the log. The control socket, where the settings
+/// name one, is made by `host`, since a logger hands no Unix sockets on. Answers the exit status.
 fn serve<
     R: Files<File = File>
         + Net<Listener = TcpListener, Stream = TcpStream>
@@ -78,10 +99,12 @@ fn serve<
         + Threads
         + Wait
         + Sync,
+    N: AllocGlobal + Clock + Files<File = File> + Net,
     O: Write + Drop,
->(rt: &R, alloc: Global, config: &str, settings: Settings, output: O) -> u8
+>(rt: &R, host: &N, config: &str, settings: Settings, output: O) -> u8
     ensures { result ≤ 5 }
 {
+    let alloc = host.alloc();
     let mut output = StreamWriter::new(output);
     let mut file = StreamReader::open(rt, config);
     let config = match lpd_words::read_config(alloc, &mut file) {
@@ -92,7 +115,20 @@ fn serve<
             return fault.status();
         }
     };
-    match lpd_daemon::serve(rt, alloc, config, settings, &mut output) {
+    let (counter, socket) = match Counter::open(host, alloc, settings.control) {
+        Ok(opened) => opened,
+        Err(why) => return refuse_control(rt, settings.control, &why),
+    };
+    let plan = Plan {
+        config,
+        settings,
+        counter,
+    };
+    let ended = lpd_daemon::serve(rt, alloc, plan, &mut output);
+    if let Some(socket) = socket {
+        socket.remove(host);
+    }
+    match ended {
         Ok(()) => 0,
         Err(fault) => {
             if !fault.is_told() {
@@ -126,6 +162,7 @@ fn main(rt: HostRuntime) -> ExitCode {
     };
     match run(&rt, words.as_slice()) {
         Outcome::Ended(status) => code(status),
+        Outcome::Control(request) => code(control(&rt, &request)),
         Outcome::Serve { config, settings } => {
             let Ok(queue) = start_log(&rt, alloc, rt.stderr()) else {
                 let mut faults = StreamWriter::new(rt.stderr());
@@ -136,7 +173,7 @@ fn main(rt: HostRuntime) -> ExitCode {
             let level = most_told(rt.stderr().is_terminal());
             let logged = Logged::new(rt, level, LineLog::new(&rt, alloc, &queue));
             let status = if filled {
-                serve(&logged, alloc, config, settings, rt.stdout())
+                serve(&logged, &rt, config, settings, rt.stdout())
             } else {
                 error!(logged; "{} /dev/null", FaultName::ReadFile);
                 4

@@ -1,5 +1,5 @@
 -- Networks, named by texts that are read one after another.
-use Rattle.std.proofs.Common.{◌≡◌, ◌<◌, ◌++◌, ◌∷◌, ℕ, Bor, List, [], arith, get_or, length, map, suc, take, zero}
+use Rattle.std.proofs.Common.{◌<◌, ◌++◌, ◌∷◌, ℕ, Bor, List, [], arith, get_or, length, map, suc, take, zero}
 use Rattle.program_edge.specs.Networks.{IsNetworkText, NameNetworks}
 use Rattle.program_edge.specs.declared.networks.Network.{Network}
 

@@ -68,6 +68,8 @@ names_no_job name rows s Files is sending wrong = (is, (s, sending, wrong))
 names_no_job name rows s Number is sending wrong = (is, (s, sending, wrong))
 names_no_job name rows s envelope.Address is sending wrong = absurd wrong
 names_no_job name rows s (envelope.Network text) is sending wrong = absurd wrong
+names_no_job name rows s (envelope.Control text) is sending wrong = absurd wrong
+names_no_job name rows s envelope.Command is sending wrong = absurd wrong
 names_no_job name rows s Missing is sending wrong = absurd wrong
 names_no_job name rows s envelope.Memory is sending wrong = tt
 

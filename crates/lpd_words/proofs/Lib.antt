@@ -1,6 +1,7 @@
 mod AllowLemmas
 mod AskedLemmas
 mod CommandLemmas
+mod ControlLemmas
 mod DataFileLemmas
 mod EnvelopeLemmas
 mod OrderLemmas

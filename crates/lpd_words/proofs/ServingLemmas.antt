@@ -1,5 +1,5 @@
 -- The values of the words of a server, by the rows of a parse.
-use Rattle.std.proofs.Common.{◌≡◌, ◌∙◌, ◌<◌, ◌^◌, sym, refl, ap, arith, slice_index, ℕ, List, Option, Some, None, Result, Ok, Err, IfOk, IfErr, option_map, unwrap_or, codes}
+use Rattle.std.proofs.Common.{◌≡◌, ◌∙◌, ◌<◌, ◌^◌, inl, sym, refl, ap, arith, slice_index, ℕ, List, Option, Some, None, Result, Ok, Err, IfOk, IfErr, option_map, unwrap_or, codes}
 use Rattle.std.specs.Borrow.{Bor}
 use Rattle.std.specs.Str.Parse.{ParsesUnsigned, digits_value, without_leading_plus}
 use Rattle.clap.specs.Words.{Row, Text, TriesOne, one_of}
@@ -9,7 +9,7 @@ use Rattle.lpd_words.specs.Refused.{AsksNothing, HasNoCount, HasNoLimit, LacksSe
 use Rattle.lpd_words.specs.declared.envelope.WordFault.{WordFault}
 use Rattle.lpd_words.specs.declared.envelope.WordFault.TheVariants as envelope
 use Rattle.lpd_words.specs.declared.words.Ask.{Ask}
-use Rattle.lpd_words.specs.declared.words.Ask.TheVariants.{Input, Check, Replay, Send, Serve}
+use Rattle.lpd_words.specs.declared.words.Ask.TheVariants.{Input, Check, Replay, Send, Serve, Control}
 
 -- the text of an option, or another where it isn't there
 pub text_or : (o : Option (Bor Text)) (first : Option Text) (other : Bor Text) → option_map (λ s. s.now) o ≡ first → (unwrap_or o other).now ≡ unwrap_or first other.now
@@ -65,10 +65,14 @@ no_server name rows is lacks (Replay config script) h =
 no_server name rows is lacks (Send sending envelope) h =
     below 110 (omega arith) (third name (codes "send") is h.0)
 no_server name rows is lacks (Serve config settings) h = lacks settings h.2
+no_server name rows is lacks (Control request) h =
+    below 110 (omega arith) (third name (codes "control") is h.0)
 
 pub asks_no_server : (name : Text) (rows : List Row) (fault : WordFault) → name ≡ codes "serve" → LacksServing rows fault → AsksNothing (Some (name, rows)) fault
 asks_no_server name rows envelope.Address is lacks = (is, lacks)
 asks_no_server name rows (envelope.Network text) is lacks = (is, lacks)
+asks_no_server name rows (envelope.Control text) is lacks = inl (is, lacks)
+asks_no_server name rows envelope.Command is lacks = absurd lacks
 asks_no_server name rows envelope.Missing is lacks = no_server name rows is lacks
 asks_no_server name rows envelope.Queue is lacks = absurd lacks
 asks_no_server name rows envelope.Host is lacks = absurd lacks

@@ -29,6 +29,13 @@ send_words =
 abbrev pub send_app : App
 send_app = with_rules (new_app (codes "send")) send_words
 
+-- the words of `control`
+abbrev pub control_words : List Rule
+control_words = word (codes "path") ∷ words (codes "word") ∷ []
+
+abbrev pub control_app : App
+control_app = with_rules (new_app (codes "control")) control_words
+
 abbrev pub program_app : App
 program_app = record {
   top = record (new_app (codes "lpd_server")).top {
@@ -39,8 +46,8 @@ program_app = record {
 }
 
 abbrev pub commands : List App
-commands = check_app ∷ replay_app ∷ send_app ∷ serve_app ∷ []
+commands = check_app ∷ replay_app ∷ send_app ∷ serve_app ∷ control_app ∷ []
 
--- the command line: nothing, or check, replay, send or serve with its words; help and the version
+-- the command line: nothing, or check, replay, send, serve or control with its words; help and the version
 abbrev pub command_line : App
 command_line = with_commands program_app commands

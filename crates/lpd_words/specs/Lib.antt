@@ -2,6 +2,7 @@
 pub mod Asked
 pub mod Causes
 pub mod CommandLine
+pub mod Controlling
 pub mod DataFiles
 pub mod Naming
 pub mod Order

@@ -1,12 +1,14 @@
 -- Why words ask for nothing.
 use Rattle.std.specs.Prelude.{◌≡◌, ◌≢◌, ◌⊎◌, ◌<◌, ◌&&◌, ℕ, Bool, false, nat_le, List, []}
 use Rattle.std.specs.Prelude.{Option, Some, None, length, codes, string_bytes}
-use Rattle.std.specs.List.{list_all}
+use Rattle.std.specs.List.{join_with_byte, list_all}
 use Rattle.std.specs.declared.net.ipv4_addr.Ipv4Addr.{Ipv4Addr}
-use Rattle.clap.specs.Words.{IsAmong, Kinds, Row, Text, fault_of, subcommand_of}
+use Rattle.clap.specs.Words.{IsAmong, Kinds, Row, Text, all_of, fault_of, first_of, subcommand_of}
 use Rattle.clap.specs.declared.error.kind.ErrorKind.{ErrorKind}
 use Rattle.clap.specs.declared.error.kind.ErrorKind.TheVariants.{DisplayHelp, DisplayVersion}
 use Rattle.clap.specs.declared.error.kind.ErrorKind.TheVariants.{OutOfMemory}
+use Rattle.control_lines.specs.Commands.{Refuses}
+use Rattle.control_lines.specs.declared.command.LineFault.TheVariants as line
 use Rattle.lpd_commands.specs.Written.{command_has_line}
 use Rattle.lpd_commands.specs.declared.command.Command.TheVariants.{Receive}
 use Rattle.lpd_values.specs.Kept.{is_operand}
@@ -14,12 +16,14 @@ use Rattle.lpd_values.specs.Kinds.{is_word_octet}
 use Rattle.lpd_values.specs.declared.limits.TheConstants.{MAX_FILES}
 use Rattle.lpd_words.specs.Asked.{IsAsked}
 use Rattle.lpd_words.specs.Serving.{AreAllowed, AreLimits, IsAddress}
+use Rattle.program_edge.specs.declared.settings.TheConstants.{MOST_CONTROL_PATH}
 use Rattle.lpd_words.specs.Values.{IsGiven, IsGivenOr, IsLimit}
-use Rattle.lpd_words.specs.Asked.{IsSending}
+use Rattle.lpd_words.specs.Asked.{IsControlRequest, IsSending}
 use Rattle.lpd_words.specs.Serving.{IsServing}
 use Rattle.lpd_words.specs.CommandLine.{command_line}
 use Rattle.lpd_words.specs.declared.envelope.WordFault.{WordFault}
 use Rattle.lpd_words.specs.declared.envelope.WordFault.TheVariants as envelope
+use Rattle.lpd_words.specs.declared.controlling.ControlRequest.{ControlRequest}
 use Rattle.lpd_words.specs.declared.words.Ask.{Ask}
 use Rattle.lpd_words.specs.declared.words.Sending.{Sending}
 use Rattle.lpd_words.specs.declared.words.Unread.{Unread}
@@ -49,6 +53,8 @@ IsWrong s envelope.Files =
 IsWrong s envelope.Number = 999 < s.number
 IsWrong s envelope.Address = ⊥
 IsWrong s (envelope.Network text) = ⊥
+IsWrong s (envelope.Control text) = ⊥
+IsWrong s envelope.Command = ⊥
 IsWrong s envelope.Missing = ⊥
 IsWrong s envelope.Memory = Unit {0}
 
@@ -82,6 +88,16 @@ HasNoNetworks rows (envelope.Network text) =
 HasNoNetworks rows envelope.Memory = Unit {0}
 HasNoNetworks rows fault = ⊥
 
+-- the path of a control socket that this word gives is this text, which is longer than one may be
+abbrev pub IsTooLong : Text → List Row → Text → Type 0
+IsTooLong id rows path = (first_of id rows ≡ Some path) × (MOST_CONTROL_PATH < length path)
+
+-- the path of a server's control socket is too long, or memory was refused
+abbrev pub HasNoControl : List Row → WordFault → Type 0
+HasNoControl rows (envelope.Control text) = IsTooLong (codes "control") rows (string_bytes text)
+HasNoControl rows envelope.Memory = Unit {0}
+HasNoControl rows fault = ⊥
+
 -- the sessions of a server are there, and no number of 32 bits
 abbrev pub HasNoSessions : List Row → Type 0
 HasNoSessions rows = (sessions : ℕ) → IsGivenOr 8 rows (codes "sessions") sessions → ⊥
@@ -91,6 +107,7 @@ abbrev pub LacksServing : List Row → WordFault → Type 0
 LacksServing rows envelope.Address = HasNoAddress rows
 LacksServing rows envelope.Missing = (s : Settings) → IsServing rows s → ⊥
 LacksServing rows (envelope.Network text) = HasNoNetworks rows (envelope.Network text)
+LacksServing rows (envelope.Control text) = HasNoControl rows (envelope.Control text)
 LacksServing rows envelope.Memory = Unit {0}
 LacksServing rows fault = ⊥
 
@@ -104,16 +121,52 @@ abbrev pub NamesNoNetworks : Option (Text × List Row) → WordFault → Type 0
 NamesNoNetworks None fault = ⊥
 NamesNoNetworks (Some met) fault = (met.0 ≡ codes "serve") × HasNoNetworks met.1 fault
 
+-- the path of the control socket that a command is sent to isn't there or too long, or memory was refused
+abbrev pub HasNoPath : List Row → WordFault → Type 0
+HasNoPath rows (envelope.Control text) = IsTooLong (codes "path") rows (string_bytes text)
+HasNoPath rows envelope.Missing = first_of (codes "path") rows ≡ None
+HasNoPath rows envelope.Memory = Unit {0}
+HasNoPath rows fault = ⊥
+
+-- the words that are sent aren't there or are no command, or memory was refused
+abbrev pub HasNoCommand : List Row → WordFault → Type 0
+HasNoCommand rows envelope.Command =
+    (words : List Text) × (all_of (codes "word") rows ≡ Some words) × Refuses (join_with_byte 32 words) line.Unknown
+HasNoCommand rows envelope.Missing = all_of (codes "word") rows ≡ None
+HasNoCommand rows envelope.Memory = Unit {0}
+HasNoCommand rows fault = ⊥
+
+-- the words of a command for a server aren't all there, or are wrong
+abbrev pub LacksRequest : List Row → WordFault → Type 0
+LacksRequest rows envelope.Missing = (request : ControlRequest) → IsControlRequest rows request → ⊥
+LacksRequest rows (envelope.Control text) = HasNoPath rows (envelope.Control text)
+LacksRequest rows envelope.Command = HasNoCommand rows envelope.Command
+LacksRequest rows envelope.Memory = Unit {0}
+LacksRequest rows fault = ⊥
+
+-- words ask to serve, and name a control socket that can't be, or to send a command to one that can't be
+abbrev pub NamesNoControl : Option (Text × List Row) → WordFault → Type 0
+NamesNoControl None fault = ⊥
+NamesNoControl (Some met) fault =
+    ((met.0 ≡ codes "serve") × HasNoControl met.1 fault) ⊎ ((met.0 ≡ codes "control") × HasNoPath met.1 fault)
+
+-- words ask to send a command that is none
+abbrev pub NamesNoCommand : Option (Text × List Row) → WordFault → Type 0
+NamesNoCommand None fault = ⊥
+NamesNoCommand (Some met) fault = (met.0 ≡ codes "control") × HasNoCommand met.1 fault
+
 -- words ask to send a job, and this is wrong with its words
 abbrev pub NamesNoJob : Option (Text × List Row) → WordFault → Type 0
 NamesNoJob None fault = ⊥
 NamesNoJob (Some met) fault =
     (met.0 ≡ codes "send") × ((s : Sending) × IsSending met.1 s × IsWrong s fault)
 
--- why what clap reads of words asks for nothing: a word isn't there, or those of a job or a server are wrong
+-- why what clap reads of words asks for nothing: a word isn't there, or those of a job, a server or a command for one are wrong
 abbrev pub AsksNothing : Option (Text × List Row) → WordFault → Type 0
 AsksNothing met envelope.Address = NamesNoAddress met
 AsksNothing met (envelope.Network text) = NamesNoNetworks met (envelope.Network text)
+AsksNothing met (envelope.Control text) = NamesNoControl met (envelope.Control text)
+AsksNothing met envelope.Command = NamesNoCommand met envelope.Command
 AsksNothing met envelope.Memory = Unit {0}
 AsksNothing met envelope.Missing = (asked : Ask) → IsAsked met asked → ⊥
 AsksNothing met fault = NamesNoJob met fault

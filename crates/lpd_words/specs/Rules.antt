@@ -1,6 +1,6 @@
 -- A word of a command line, as clap sees it.
 use Rattle.std.specs.Prelude.{◌≡◌, ◌∷◌, List, Some, false, pos, true, []}
-use Rattle.clap.specs.Words.{App, Rule, Text, app_of, new_app, new_rule, rule_of, with_rule, with_subcommand}
+use Rattle.clap.specs.Words.{App, Rule, Text, app_of, new_rule, rule_of, with_rule, with_subcommand}
 use Rattle.clap.specs.declared.builder.arg.Arg.{Arg}
 use Rattle.clap.specs.declared.builder.command.Command.{Command}
 use Rattle.clap.specs.declared.builder.command.Command.TheViews.{out-Command as fields_of}

@@ -1,9 +1,9 @@
 -- The words of `serve`: as clap sees them, and what they say.
-use Rattle.std.specs.Prelude.{◌≡◌, ◌∷◌, List, codes, option_map, pos, true, [], unwrap_or}
+use Rattle.std.specs.Prelude.{◌≡◌, ◌≤◌, ◌∷◌, List, None, Option, Some, codes, length, option_map, pos, true, [], unwrap_or}
 use Rattle.std.specs.Int.NonZero.{non_zero_u64_get}
 use Rattle.std.specs.Net.Grammar.{IsIpv4Text}
 use Rattle.std.specs.declared.net.ipv4_addr.Ipv4Addr.{Ipv4Addr}
-use Rattle.clap.specs.Words.{App, Row, Rule, all_of, first_of, new_app}
+use Rattle.clap.specs.Words.{App, Row, Rule, Text, all_of, first_of, new_app}
 use Rattle.clap.specs.declared.builder.value_parser.ValueParser.TheVariants as parser
 use Rattle.lpd_words.specs.Rules.{count, flag, number_option, option, repeated, with_rules, word}
 use Rattle.lpd_words.specs.Values.{IsFlag, IsGiven, IsGivenOr, IsLimit, IsNumber}
@@ -11,6 +11,7 @@ use Rattle.program_edge.specs.Networks.{NameNetworks}
 use Rattle.program_edge.specs.declared.networks.Network.{Network}
 use Rattle.program_edge.specs.declared.settings.Limits.{Limits}
 use Rattle.program_edge.specs.declared.settings.Settings.{Settings}
+use Rattle.program_edge.specs.declared.settings.TheConstants.{MOST_CONTROL_PATH}
 
 -- the port to listen on, which has to be there
 abbrev pub listening_port : Rule
@@ -26,7 +27,7 @@ serve_words =
     word (codes "config") ∷ listening_port ∷ option (codes "bind") ∷ option (codes "out")
     ∷ sessions ∷ count (codes "connections") ∷ count (codes "rotate") ∷ count (codes "silence")
     ∷ count (codes "per-host") ∷ count (codes "slowest") ∷ flag (codes "keep-room")
-    ∷ repeated (codes "allow") ∷ []
+    ∷ repeated (codes "allow") ∷ option (codes "control") ∷ []
 
 abbrev pub serve_app : App
 serve_app = with_rules (new_app (codes "serve")) serve_words
@@ -49,6 +50,12 @@ pub record AreLimits (rows : List Row) (limits : Limits) : Type 0 where
 abbrev pub AreAllowed : List Row → List Network → Type 0
 AreAllowed rows networks = NameNetworks (unwrap_or (all_of (codes "allow") rows) []) networks
 
+-- the path of the control socket: what the option says, if it is there, no longer than the path of a socket may be
+abbrev pub IsControl : List Row → Option Text → Type 0
+IsControl rows None = first_of (codes "control") rows ≡ None
+IsControl rows (Some path) =
+    (first_of (codes "control") rows ≡ Some path) × (length path ≤ MOST_CONTROL_PATH)
+
 -- a server runs as these rows say: with 8 sessions at once, in the directory . where they don't say it
 pub record IsServing (rows : List Row) (settings : Settings) : Type 0 where
   pub port : IsNumber rows (codes "port") settings.port
@@ -60,3 +67,4 @@ pub record IsServing (rows : List Row) (settings : Settings) : Type 0 where
   pub keep_room : IsFlag rows (codes "keep-room") settings.keep_room
   pub limits : AreLimits rows settings.limits
   pub allowed : AreAllowed rows settings.allowed.items
+  pub control : IsControl rows (option_map (λ path. path.now) settings.control)

@@ -2,7 +2,7 @@
 
 ghost use Rattle.std.specs.Prelude.{◌≡◌, IfOk};
 ghost use Rattle.clap.specs.Words.{app_of};
-ghost use Rattle.lpd_words.specs.CommandLine.{check_app, command_line, program_app, replay_app, send_app};
+ghost use Rattle.lpd_words.specs.CommandLine.{check_app, command_line, control_app, program_app, replay_app, send_app};
 ghost use Rattle.lpd_words.specs.Rules.{IsCommand};
 
 use crate::rules::{flag, number, plain, with_words, word, words};
@@ -23,6 +23,7 @@ Examples:
   lpd_server replay spool.toml day.script
   lpd_server send 515 lp 1 myhost ann letter.txt
   lpd_server serve spool.toml --port 515
+  lpd_server control spool.control status
   lpd_server < both
 
 Exit status:
@@ -31,7 +32,7 @@ Exit status:
   2  the configuration can't be used (faults 50 to 55)
   3  the script can't be run (fault 70)
   4  memory, a file or the network failed (faults 12, 71, 72 and 73)
-  5  a job wasn't taken (faults 60 to 63)
+  5  a job wasn't taken (faults 60 to 63), or a command for a server was refused (fault 60)
 
 A fault is one line on standard error: `fault`, its number, its name and what it is about.
 The keys of a configuration and all faults: docs/OPERATING.md; a configuration with remarks: docs/example.toml.";
@@ -59,6 +60,29 @@ number in three digits. A word that begins with - stands behind a word --.
 
 Example:
   lpd_server send 515 lp 1 myhost ann letter.txt";
+
+const MORE_OF_CONTROL: &str = "\
+The socket is the one that the server has made: `serve --control PATH`. Prints what the server answers. The words
+behind PATH are one command:
+
+  status                how the spool, its sessions, printers and jobs stand
+  start QUEUE           starts the queue's printers that stand still
+  hold QUEUE            has no job of the queue begin from now on
+  release QUEUE         ends that
+  remove QUEUE NUMBER   removes the job of this number
+  remove QUEUE USER     removes the user's jobs
+  rotate                rotates the account
+  stop                  stops the server once its jobs are printed, and waits for that
+  stop SECONDS          the same, at the latest after so many seconds
+  stop now              stops the server at once
+
+A server that says nothing for 10 seconds doesn't answer, but a stop is waited for. A word that begins with - stands
+behind a word --.
+
+Examples:
+  lpd_server control spool.control status
+  lpd_server control spool.control remove lp ann
+  lpd_server control spool.control stop 60";
 
 /// The command that reads a configuration.
 fn check<'a>(alloc: Global) -> Result<Command<'a>, AllocError>
@@ -107,6 +131,20 @@ fn send<'a>(alloc: Global) -> Result<Command<'a>, AllocError>
     with_words(plain(alloc, "send", about, MORE_OF_SEND), words)
 }
 
+/// The command that sends a command to a server.
+fn control<'a>(alloc: Global) -> Result<Command<'a>, AllocError>
+    ensures { IfOk result (λ command. IsCommand command control_app) }
+{
+    let about = "Looks after a server, by a command to its control socket";
+    let path = "The path of the server's control socket: 1 to 107 octets";
+    let command = "The command, as status or remove lp ann: 1 to 52 words";
+    let words = vec![in alloc;
+        word(alloc, "path", "PATH", path),
+        words(alloc, "word", "WORD", command),
+    ]?;
+    with_words(plain(alloc, "control", about, MORE_OF_CONTROL), words)
+}
+
 /// The program without its commands.
 fn program<'a>(alloc: Global) -> Command<'a>
     ensures { app_of result ≡ program_app }
@@ -121,6 +159,12 @@ fn program<'a>(alloc: Global) -> Command<'a>
 pub(crate) fn command<'a>(alloc: Global) -> Result<Command<'a>, AllocError>
     ensures { IfOk result (λ command. app_of command ≡ command_line) }
 {
-    let commands = vec![in alloc; check(alloc)?, replay(alloc)?, send(alloc)?, serve(alloc)?]?;
+    let commands = vec![in alloc;
+        check(alloc)?,
+        replay(alloc)?,
+        send(alloc)?,
+        serve(alloc)?,
+        control(alloc)?,
+    ]?;
     program(alloc).subcommands(commands)
 }

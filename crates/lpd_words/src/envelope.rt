@@ -24,7 +24,7 @@ pub struct Envelope {
     ghost files_fit: { length control.prints ≤ MAX_FILES },
 }
 
-/// Why words name no job, or no server.
+/// Why words name no job, no server, or no command for one.
 #[derive(Debug, PartialEq, Eq, Drop, Error)]
 pub enum WordFault {
     /// The queue is no word of 1 to 1,022 octets.
@@ -48,6 +48,12 @@ pub enum WordFault {
     /// This text names no network.
     #[error("'{0}' is no NETWORK: an IPv4 address, or one with / and 0 to 32 behind it, no bit of which is set behind those")]
     Network(String),
+    /// The path of a control socket has more octets than one may have.
+    #[error("'{0}' is no PATH of a socket: it has more than 107 octets")]
+    Control(String),
+    /// The words behind the path of a control socket are no command.
+    #[error("the words behind PATH are no command: they are status, start QUEUE, hold QUEUE, release QUEUE, remove QUEUE NUMBER, remove QUEUE USER, rotate, stop, stop SECONDS or stop now")]
+    Command,
     /// A word isn't there.
     #[error("a word is missing")]
     Missing,

@@ -2,6 +2,7 @@
 #![tactic(auto)]
 
 mod command;
+mod controlling;
 mod envelope;
 mod fault;
 mod files;
@@ -13,6 +14,7 @@ mod serving;
 mod values;
 mod words;
 
+pub use controlling::{ControlFault, ControlRequest, ask_server, control};
 pub use envelope::{Envelope, WordFault};
 pub use fault::Fault;
 pub use files::{check, read_config, replay};

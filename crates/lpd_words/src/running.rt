@@ -14,16 +14,17 @@ ghost use Rattle.lpd_words.specs.CommandLine.{command_line};
 ghost use Rattle.lpd_words.specs.DataFiles.{AreRead};
 ghost use Rattle.lpd_words.specs.Naming.{sent_line};
 ghost use Rattle.lpd_words.specs.Order.{write_faults};
-ghost use Rattle.lpd_words.specs.Outcome.{IfEnded, IfServes};
+ghost use Rattle.lpd_words.specs.Outcome.{IfControls, IfEnded, IfServes};
 ghost use Rattle.lpd_words.specs.Status.{end_status};
 ghost use Rattle.lpd_words.specs.Refused.{IsRefused, IsTaken};
 ghost use Rattle.lpd_words.specs.Unread.{IsUnreadStatus};
 ghost use Rattle.lpd_words.specs.declared.fault.Fault.TheVariants.{Network, Run};
 ghost use Rattle.lpd_words.specs.declared.running.Outcome.TheVariants.{Ended};
-ghost use Rattle.lpd_words.specs.declared.words.Ask.TheVariants.{Serve};
+ghost use Rattle.lpd_words.specs.declared.words.Ask.TheVariants.{Control, Serve};
 ghost use Rattle.lpr_client.specs.Sendable.{is_sendable, is_sendable_file};
 ghost use Rattle.lpr_client.specs.declared.file.DataFile.{DataFile};
 
+use crate::controlling::ControlRequest;
 use crate::envelope::Envelope;
 use crate::fault::Fault;
 use crate::files::{check, print, replay};
@@ -53,6 +54,8 @@ pub enum Outcome<'a> {
         config: &'a str,
         settings: Settings<'a>,
     },
+    /// They ask to send a command to a server's control socket.
+    Control(ControlRequest<'a>),
 }
 
 /// The line that says that the job of this number was sent.
@@ -251,7 +254,7 @@ fn replay_files<R: Files + Log, W: OctetWrite>(
     end
 }
 
-/// Does what is asked for, but for what the standard input asks and for serving.
+/// Does what is asked for, but for what the standard input asks, for serving, and for commands to a server.
 fn run_asked<R: Files + Net + Log, W: OctetWrite>(
     alloc: Global,
     rt: &R,
@@ -261,7 +264,7 @@ fn run_asked<R: Files + Net + Log, W: OctetWrite>(
     ensures write_fault { W.faults output.new ≡ write_faults (W.faults output.old) result }
 {
     match ask {
-        Ask::Input | Ask::Serve { .. } => Ok(()),
+        Ask::Input | Ask::Serve { .. } | Ask::Control(_) => Ok(()),
         Ask::Check { config, sizes } => check_file(alloc, rt, config, sizes, output),
         Ask::Replay { config, script } => replay_files(alloc, rt, config, script, output),
         Ask::Send { sending, envelope } => send_files(alloc, rt, &sending, &envelope, output),
@@ -283,8 +286,8 @@ fn ended<E: OctetWrite>(alloc: Global, end: Result<(), Fault>, faults: &mut E) -
 }
 
 /// Does what the words ask for, of which the first is the program's name: without others, what the
-/// input asks (see `lpd_script::run_input`). Where they ask to serve, `Serve` says how, and nothing
-/// is done yet. Otherwise `Ended` has the exit status: 0 where it was done, or help or the version
+/// input asks (see `lpd_script::run_input`). Where they ask to serve, `Serve` says how, and where they
+/// ask to send a command to a server, `Control` says which; nothing is done for either yet. Otherwise `Ended` has the exit status: 0 where it was done, or help or the version
 /// was asked for and printed; 1 where the words can't be read, which `faults` is told; otherwise
 /// that of the fault, which is told there in one line. Faults are looked for in this order: the
 /// words, files read, the configuration, the network. Before a fault for a file or the network the
@@ -317,11 +320,19 @@ pub fn run<
         (I.left input.old) (I.faults input.old) (I.left input.new) (I.faults input.new)) }
     ensures serve_faults { IfServes result (λ _ _. IsUntouched
         (E.written faults.old) (E.faults faults.old) (E.written faults.new) (E.faults faults.new)) }
+    // Words that ask to send a command are taken, and nothing is read, printed or told.
+    ensures control { IfControls result (λ request.
+        IsAsked (subcommand_of command_line (map string_bytes words.entry.now)) (Control request)
+        × (fault_of command_line (map string_bytes words.entry.now) ≡ [])
+        × IsUntouched (W.written output.old) (W.faults output.old) (W.written output.new) (W.faults output.new)
+        × IsUntouched (I.left input.old) (I.faults input.old) (I.left input.new) (I.faults input.new)
+        × IsUntouched (E.written faults.old) (E.faults faults.old) (E.written faults.new) (E.faults faults.new)) }
 {
     let alloc = rt.alloc();
     match read_words(alloc, words) {
         Ok(Ask::Input) => Outcome::Ended(run_input(alloc, input, output, faults)),
         Ok(Ask::Serve { config, settings }) => Outcome::Serve { config, settings },
+        Ok(Ask::Control(request)) => Outcome::Control(request),
         Ok(ask) => {
             let end = run_asked(alloc, rt, ask, output);
             Outcome::Ended(ended(alloc, end, faults))

@@ -1,22 +1,24 @@
 //! The words of `serve`: as `clap` is told them, and what they say.
 
-ghost use Rattle.std.specs.Prelude.{◌≡◌, IfOk, IfErr, codes};
+ghost use Rattle.std.specs.Prelude.{◌≡◌, IfOk, IfErr, codes, option_map};
 ghost use Rattle.clap.specs.Words.{found_of, rows_of};
-ghost use Rattle.lpd_words.specs.Refused.{HasNoAddress, HasNoLimits, HasNoNetworks, HasNoSessions};
+ghost use Rattle.lpd_words.specs.Refused.{HasNoAddress, HasNoControl, HasNoLimits, HasNoNetworks, HasNoSessions};
 ghost use Rattle.lpd_words.specs.Refused.{LacksServing};
 ghost use Rattle.lpd_words.specs.Rules.{IsCommand, IsWord};
-ghost use Rattle.lpd_words.specs.Serving.{AreAllowed, AreLimits, IsAddress, IsServing, listening_port};
-ghost use Rattle.lpd_words.specs.Serving.{serve_app};
+ghost use Rattle.lpd_words.specs.Serving.{AreAllowed, AreLimits, IsAddress, IsControl, IsServing};
+ghost use Rattle.lpd_words.specs.Serving.{listening_port, serve_app};
 ghost use Rattle.lpd_words.specs.Values.{IsGivenOr};
 ghost use Rattle.lpd_words.specs.declared.envelope.WordFault.TheVariants.{Address, Missing};
 
 use crate::command::CONFIG;
 use crate::envelope::WordFault;
 use crate::rules::{count, flag, number_option, option, plain, repeated, with_words, word};
-use crate::values::{count_of, flag_of, limit_of, number_of, text_or, texts_of};
+use crate::values::{count_of, flag_of, limit_of, number_of, text_if, text_or, texts_of};
 use clap::builder::ValueParser;
 use clap::{Arg, ArgMatches, Command};
-use program_edge::{LEAVE_SECONDS, Limits, NO_JOB_SECONDS, Network, ROOM_MS, Settings};
+use program_edge::{
+    LEAVE_SECONDS, Limits, MOST_CONTROL_PATH, NO_JOB_SECONDS, Network, ROOM_MS, Settings,
+};
 use std::alloc::{AllocError, Global};
 use std::net::Ipv4Addr;
 
@@ -62,6 +64,7 @@ pub(crate) fn serve<'a>(alloc: Global) -> Result<Command<'a>, AllocError>
     let slowest = "Ends a session whose peer sends less than so many octets a second for a minute";
     let keep_room = "Rotates the account as soon as no job is held, and has new jobs wait for that";
     let allow = "Lets in this network alone, and each other that is named so, as 10.0.0.0/8";
+    let control = "Makes a Unix socket at PATH where the server is looked after";
     let words = vec![in alloc;
         word(alloc, "config", "CONFIG", CONFIG),
         listening_port(alloc),
@@ -81,6 +84,7 @@ pub(crate) fn serve<'a>(alloc: Global) -> Result<Command<'a>, AllocError>
         count(alloc, "slowest", "OCTETS", slowest),
         flag(alloc, "keep-room", keep_room),
         repeated(alloc, "allow", "NETWORK", allow),
+        option(alloc, "control", "PATH", control),
     ]?;
     with_words(plain(alloc, "serve", about, MORE_OF_SERVE), words)
 }
@@ -145,6 +149,21 @@ fn networks_of(alloc: Global, matches: &ArgMatches) -> Result<Vec<Network>, Word
     Ok(networks)
 }
 
+/// The path of the control socket, if there is one. `Control` where it is too long, and `Memory`.
+fn control_of<'a>(alloc: Global, matches: &ArgMatches<'a>) -> Result<Option<&'a str>, WordFault>
+    ensures path { IfOk result (λ path.
+        IsControl (rows_of (found_of matches.now)) (option_map (λ text. text.now) path)) }
+    ensures fault { IfErr result (HasNoControl (rows_of (found_of matches.now))) }
+{
+    let Some(path) = text_if(matches, "control") else {
+        return Ok(None);
+    };
+    if path.len() > MOST_CONTROL_PATH {
+        return Err(WordFault::Control(String::from_str(alloc, path)?));
+    }
+    Ok(Some(path))
+}
+
 /// What words say of a server that is to run.
 pub(crate) fn serving_of<'a>(
     alloc: Global,
@@ -163,5 +182,6 @@ pub(crate) fn serving_of<'a>(
         keep_room: flag_of(matches, "keep-room"),
         limits: limits_of(matches)?,
         allowed: networks_of(alloc, matches)?,
+        control: control_of(alloc, matches)?,
     })
 }

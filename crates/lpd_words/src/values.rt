@@ -21,6 +21,13 @@ pub(crate) fn text_of<'a>(matches: &ArgMatches<'a>, id: &str) -> Result<&'a str,
     matches.get_str(id).ok_or(WordFault::Missing)
 }
 
+/// The text of an option, if it is there.
+pub(crate) fn text_if<'a>(matches: &ArgMatches<'a>, id: &str) -> Option<&'a str>
+    ensures { option_map (λ text. text.now) result ≡ first_of id.now (rows_of (found_of matches.now)) }
+{
+    matches.get_str(id)
+}
+
 /// The texts of a word that may stand several times, and has to be there.
 pub(crate) fn texts_of<'a, 'm>(
     matches: &'m ArgMatches<'a>,

@@ -9,6 +9,7 @@ ghost use Rattle.lpd_words.specs.Refused.{LacksWords};
 ghost use Rattle.lpd_words.specs.declared.words.Unread.TheVariants.{Memory};
 
 use crate::command::command;
+use crate::controlling::{ControlRequest, request_of};
 use crate::envelope::{Envelope, WordFault};
 use crate::serving::serving_of;
 use crate::values::{flag_of, number_of, text_of, texts_of};
@@ -62,6 +63,8 @@ pub enum Ask<'a> {
         config: &'a str,
         settings: Settings<'a>,
     },
+    /// To send a command to a server's control socket.
+    Control(ControlRequest<'a>),
 }
 
 /// Why words ask for nothing.
@@ -144,6 +147,7 @@ fn asked_by<'a>(alloc: Global, name: &str, matches: &ArgMatches<'a>) -> Result<A
             let settings = serving_of(alloc, matches)?;
             Ok(Ask::Serve { config, settings })
         }
+        "control" => Ok(Ask::Control(request_of(alloc, matches)?)),
         _ => Err(WordFault::Missing),
     }
 }

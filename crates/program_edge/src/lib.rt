@@ -12,6 +12,8 @@ mod telling;
 pub use descriptors::{descriptor_limit, fill_standard_descriptors};
 pub use log_queue::{LineLog, LineQueue};
 pub use networks::Network;
-pub use settings::{LEAVE_SECONDS, Limits, MOST_SESSIONS, NO_JOB_SECONDS, ROOM_MS, Settings};
+pub use settings::{
+    LEAVE_SECONDS, Limits, MOST_CONTROL_PATH, MOST_SESSIONS, NO_JOB_SECONDS, ROOM_MS, Settings,
+};
 pub use streams::{StreamReader, StreamWriter};
 pub use telling::{FaultName, tell, tell_cause};

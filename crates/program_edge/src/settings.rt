@@ -22,6 +22,9 @@ pub const LEAVE_SECONDS: u64 = 5;
 /// For how many milliseconds new jobs wait for room in the account: what the program's words give.
 pub const ROOM_MS: u64 = 1_000;
 
+/// The most octets that the path of a Unix socket may have: what the system has room for, less the octet 00 behind it.
+pub const MOST_CONTROL_PATH: usize = 107;
+
 /// How a server is to run.
 #[derive(Debug, Drop)]
 pub struct Settings<'a> {
@@ -45,6 +48,8 @@ pub struct Settings<'a> {
     pub limits: Limits,
     /// The networks whose addresses are let in. Where there is none, each address is.
     pub allowed: Vec<Network>,
+    /// The path of the control socket, where there is one: at most `MOST_CONTROL_PATH` octets.
+    pub control: Option<&'a str>,
 }
 
 impl<'a> Settings<'a> {
@@ -62,6 +67,7 @@ impl<'a> Settings<'a> {
             × (result.limits.slowest ≡ None) × (result.limits.no_job_seconds ≡ 5)
             × (result.limits.leave_seconds ≡ 5) × (result.limits.room_ms ≡ 1000) }
         ensures allowed { result.allowed.items ≡ [] }
+        ensures control { result.control ≡ None }
     {
         Settings {
             bind: Ipv4Addr::LOCALHOST,
@@ -73,6 +79,7 @@ impl<'a> Settings<'a> {
             keep_room: false,
             limits: Limits::NONE,
             allowed: Vec::new(alloc),
+            control: None,
         }
     }
 }

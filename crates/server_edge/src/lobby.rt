@@ -9,7 +9,7 @@
 //!
 //! One thread holds them, with no octet read: what came is looked at, and left for the session.
 
-ghost use Rattle.std.specs.Prelude.{◌≡◌, ◌<◌, ◌↔◌, ◌++◌, IsTrue, Some, codes, length};
+ghost use Rattle.std.specs.Prelude.{◌≡◌, ◌<◌, ◌-◌, ◌↔◌, ◌++◌, [], IsTrue, Some, codes, length};
 ghost use Rattle.std.specs.Fmt.{decimal};
 
 use crate::desk::Desk;
@@ -142,6 +142,22 @@ impl Lobby {
             × (length self.now.room.free.items ≡ length self.now.room.visits.items) }
     {
         self.left == 0 && self.room.free.len() == self.room.visits.len()
+    }
+
+    /// How many connections wait.
+    pub fn waiting(&self) -> u64
+        ensures { result ≡ length self.now.room.visits.items - length self.now.room.free.items }
+    {
+        self.room.visits.len().saturating_sub(self.room.free.len()) as u64
+    }
+
+    /// Accepts no connection any more, and closes those that wait.
+    pub fn close(&mut self, alloc: Global)
+        ensures left { self.new.left ≡ 0 }
+        ensures none { (self.new.room.visits.items ≡ []) × (self.new.room.free.items ≡ []) }
+    {
+        self.left = 0;
+        self.room = WaitingRoom::new(alloc);
     }
 
     /// Takes a guest out of its place.

@@ -70,7 +70,9 @@ fn stage_of(stream: &TcpStream, is_ended: bool) -> (Stage, Errand) {
 
 impl WaitingRoom {
     /// No place.
-    pub(crate) fn new(alloc: Global) -> WaitingRoom {
+    pub(crate) fn new(alloc: Global) -> WaitingRoom
+        ensures { (result.visits.items ≡ []) × (result.free.items ≡ []) }
+    {
         WaitingRoom {
             guests: Vec::new(alloc),
             visits: Vec::new(alloc),

@@ -6,6 +6,8 @@ mod chain;
 #[cfg(test)]
 mod client;
 #[cfg(test)]
+mod commands;
+#[cfg(test)]
 mod expected;
 #[cfg(test)]
 mod faults;

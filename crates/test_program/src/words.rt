@@ -47,11 +47,11 @@ const FEW: &[u8] = b"pages = 2600\npage_size = 8\nmax_jobs = 8\naccount = 515600
       [[queue]]\nname = \"none\"\nlimit = 2600\nprinters = 1\n";
 
 /// The words behind the program's name, a comma between two; the octets that are the input and those of `FILE`, but for what stands
-/// behind a line `%%`, which `SCRIPT` has; and what is told, with the exit status in a line, or how a server is to run.
+/// behind a line `%%`, which `SCRIPT` has; and what is told, with the exit status in a line, or how a server is to run, or which command it is sent.
 ///
 /// A configuration is a script of bad lines, and a script is no configuration. A file that can't be read comes before a fault of the
 /// configuration.
-const TOLD: [(&str, &[u8], &[u8]); 17] = [
+const TOLD: [(&str, &[u8], &[u8]); 23] = [
     ("", SCRIPT, b"free 4\nstatus 0\n"),
     ("", CONFIG, b"status 0\n"),
     (
@@ -111,24 +111,54 @@ const TOLD: [(&str, &[u8], &[u8]); 17] = [
     (
         "serve,spool.toml,--port,515",
         b"",
-        b"serves spool.toml 515 127.0.0.1 . 8 None None None None None 5 5 1000 false []\n",
+        b"serves spool.toml 515 127.0.0.1 . 8 None None None None None 5 5 1000 false [] None\n",
     ),
     (
         "serve,--port=65535,--bind,10.0.200.255,--out,pages,--sessions,64,--connections,3,--rotate,4294967295,--silence,60,\
          --per-host,4,--slowest,100,--keep-room,--allow,10.0.0.0/8,--allow,192.168.1.7,spool.toml",
         b"",
         b"serves spool.toml 65535 10.0.200.255 pages 64 Some(3) Some(4294967295) Some(60) Some(4) Some(100) 5 5 1000 true \
-          [Network { address: 10.0.0.0, bits: 8 }, Network { address: 192.168.1.7, bits: 32 }]\n",
+          [Network { address: 10.0.0.0, bits: 8 }, Network { address: 192.168.1.7, bits: 32 }] None\n",
     ),
     (
         "serve,a,--port,1",
         b"free\n",
-        b"serves a 1 127.0.0.1 . 8 None None None None None 5 5 1000 false []\n",
+        b"serves a 1 127.0.0.1 . 8 None None None None None 5 5 1000 false [] None\n",
+    ),
+    (
+        "serve,a,--port,1,--control,run/spool.control",
+        b"",
+        b"serves a 1 127.0.0.1 . 8 None None None None None 5 5 1000 false [] Some(\"run/spool.control\")\n",
     ),
     (
         "send,515,lp,1,h1,ann,FILE",
         b"",
         b"fault 71 ReadFile\nstatus 4\n",
+    ),
+    (
+        "control,spool.control,status",
+        b"free\n",
+        b"controls spool.control status\n",
+    ),
+    (
+        "control,spool.control,remove,lp,ann",
+        b"",
+        b"controls spool.control remove lp ann\n",
+    ),
+    (
+        "control,spool.control,--,remove,lp,-a b",
+        b"",
+        b"controls spool.control remove lp -a b\n",
+    ),
+    (
+        "control,spool.control,stop,60",
+        b"",
+        b"controls spool.control stop 60\n",
+    ),
+    (
+        "control,bbbbbbbbbbbbbbbbbbbbbbbbbbbbbbbbbbbbbbbbbbbbbbbbbbbbbbbbbbbbbbbbbbbbbbbbbbbbbbbbbbbbbbbbbbbbbbbbbbbbbbbbbbb,stop now",
+        b"",
+        b"controls bbbbbbbbbbbbbbbbbbbbbbbbbbbbbbbbbbbbbbbbbbbbbbbbbbbbbbbbbbbbbbbbbbbbbbbbbbbbbbbbbbbbbbbbbbbbbbbbbbbbbbbbbbb stop now\n",
     ),
 ];
 
@@ -174,10 +204,24 @@ serve,a,--port,515,--allow,10.0.0/8
 serve,a,--port,515,--allow,10.0.0.0/
 serve,a,--port,515,--allow
 serve,a,--port,515,--quiet
+serve,a,--port,515,--control
+serve,a,--port,515,--control,a,--control,b
+serve,a,--port,515,--control,aaaaaaaaaaaaaaaaaaaaaaaaaaaaaaaaaaaaaaaaaaaaaaaaaaaaaaaaaaaaaaaaaaaaaaaaaaaaaaaaaaaaaaaaaaaaaaaaaaaaaaaaaaaa
+control
+control,a
+control,a,lpq
+control,a,status,lp
+control,a,start
+control,a,start,l p
+control,a,remove,lp
+control,a,stop,060
+control,a,stop,soon
+control,a,stop,4294967296
+control,aaaaaaaaaaaaaaaaaaaaaaaaaaaaaaaaaaaaaaaaaaaaaaaaaaaaaaaaaaaaaaaaaaaaaaaaaaaaaaaaaaaaaaaaaaaaaaaaaaaaaaaaaaaa,status
 ";
 
 /// The words that the program is started with, its name before these, with these paths for `FILE` and `SCRIPT`.
-fn words_of(
+pub fn words_of(
     alloc: Global,
     line: &str,
     file: &str,
@@ -211,6 +255,7 @@ fn line_of(alloc: Global, config: &str, settings: &Settings) -> Result<String, A
         keep_room,
         limits,
         allowed,
+        control,
     } = settings;
     let Limits {
         silence,
@@ -221,12 +266,12 @@ fn line_of(alloc: Global, config: &str, settings: &Settings) -> Result<String, A
         room_ms,
     } = *limits;
     format!(in alloc;
-        "serves {config} {port} {bind} {out} {sessions} {connections:?} {rotate:?} {silence:?} {per_host:?} {slowest:?} {no_job_seconds} {leave_seconds} {room_ms} {keep_room} {allowed:?}\n"
+        "serves {config} {port} {bind} {out} {sessions} {connections:?} {rotate:?} {silence:?} {per_host:?} {slowest:?} {no_job_seconds} {leave_seconds} {room_ms} {keep_room} {allowed:?} {control:?}\n"
     )
 }
 
-/// What the program prints for these words and this input, its faults, and in a line of its own its exit status or how a server is to
-/// run.
+/// What the program prints for these words and this input, its faults, and in a line of its own its exit status, how a server is to
+/// run, or the path and the line of a command for one.
 fn told<
     R: Abort + AllocGlobal + Env + Files + Log + Net<Listener = TcpListener, Stream = TcpStream>,
 >(rt: &R, words: &[String], input: &[u8]) -> Result<Vec<u8>, AllocError> {
@@ -237,16 +282,20 @@ fn told<
     let outcome = run(rt, words, &mut input, &mut output, &mut faults);
     let mut told = output.into_stream();
     told.extend_from_slice(faults.into_stream().as_slice())?;
-    let end = match outcome {
+    let end = match &outcome {
         Outcome::Ended(status) => format!(in alloc; "status {status}\n")?,
-        Outcome::Serve { config, settings } => line_of(alloc, config, &settings)?,
+        Outcome::Serve { config, settings } => line_of(alloc, config, settings)?,
+        Outcome::Control(request) => format!(in alloc; "controls {} ", request.path)?,
     };
     told.extend_from_slice(end.as_bytes())?;
+    if let Outcome::Control(request) = &outcome {
+        told.extend_from_slice(request.command.line(alloc)?.as_slice())?;
+    }
     Ok(told)
 }
 
 /// A listener at a port of loopback that nobody else has, and the port.
-fn listen<R: Abort + Net<Listener = TcpListener, Stream = TcpStream>>(
+pub fn listen<R: Abort + Net<Listener = TcpListener, Stream = TcpStream>>(
     rt: &R,
 ) -> (TcpListener, u16) {
     let address = SocketAddr::from((Ipv4Addr::LOCALHOST, 0));
@@ -256,7 +305,7 @@ fn listen<R: Abort + Net<Listener = TcpListener, Stream = TcpStream>>(
 }
 
 /// The path of a file for a test that holds this port.
-fn path_of<R: Abort + AllocGlobal + Env>(rt: &R, port: u16) -> String {
+pub fn path_of<R: Abort + AllocGlobal + Env>(rt: &R, port: u16) -> String {
     let dir = env::temp_dir(rt).expect(rt, "a directory");
     let dir = dir.as_str();
     format!(in rt.alloc(); "{dir}/hurgwaye-{port}").expect(rt, "memory")
@@ -287,7 +336,7 @@ fn words_are_answered(rt: HostRuntime) {
         let answer = told_of_row(&rt, line, octets);
         expect(&rt, line.as_bytes(), answer.as_slice(), wanted);
     }
-    for line in ["--help", "--version", "-h"] {
+    for line in ["--help", "--version", "-h", "control,--help"] {
         let answer = told_of_row(&rt, line, b"");
         assert!(rt; answer.as_slice().ends_with(b"\nstatus 0\n"), "{line}");
     }

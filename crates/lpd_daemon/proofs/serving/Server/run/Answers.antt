@@ -1,26 +1,23 @@
-use Rattle.std.proofs.Common.{◌∙◌, ap, refl}
+use Rattle.std.proofs.Common.{inl, refl}
 use Rattle.std.proofs.lemmas.Result.{err_from_is_err_and}
-use Rattle.lpd_daemon.specs.Faults.{write_faults}
-use Rattle.lpd_daemon.proofs.Rotations.{TellsRotations-written, TellsRotations-counts, TellsRotations-fault, WritesAll-ok}
 use Rattle.lpd_daemon.proofs.serving.Server.run.Goals as goal
 
-pub returns-clause-printed : goal.returns-clause-printed
-returns-clause-printed g c =
-    WritesAll-ok c.work-told.result.0 c.finish.result _ _ _ _ _ c.in_ok-print_or_tell.ensures.written (TellsRotations-written _ _ _ _ _ c.work-told.ensures) c.finish.ensures.before c.finish.ensures.written
+pub returns-in_err-desk-clause-write_fault : goal.returns-in_err-desk-clause-write_fault
+returns-in_err-desk-clause-write_fault g c =
+    let p = err_from_is_err_and c.from_residual-in_err-desk.result c.from_residual-in_err-desk.ensures.1 in
+    rw (p.1, p.2) refl
 
-pub returns-clause-write_fault : goal.returns-clause-write_fault
-returns-clause-write_fault g c =
-    c.finish.ensures.write_fault _ (TellsRotations-counts _ _ _ _ _ c.work-told.ensures ∙ ap (λ n. write_faults n c.work-told.result.0) c.in_ok-print_or_tell.ensures.write_fault)
-
-pub returns-clause-fault : goal.returns-clause-fault
-returns-clause-fault g c = c.finish.ensures.fault (TellsRotations-fault _ _ _ _ _ c.work-told.ensures)
-
-pub returns-in_err-print_or_tell-clause-write_fault : goal.returns-in_err-print_or_tell-clause-write_fault
-returns-in_err-print_or_tell-clause-write_fault g c =
-    let p = err_from_is_err_and c.from_residual-in_err-print_or_tell.result c.from_residual-in_err-print_or_tell.ensures.1 in
-    rw (p.1, p.2) c.in_err-print_or_tell.ensures.write_fault
+pub returns-in_err-desk-clause-fault : goal.returns-in_err-desk-clause-fault
+returns-in_err-desk-clause-fault g c =
+    let p = err_from_is_err_and c.from_residual-in_err-desk.result c.from_residual-in_err-desk.ensures.1 in
+    rw (p.1, p.2) (inl refl)
 
 pub returns-in_err-posts-clause-write_fault : goal.returns-in_err-posts-clause-write_fault
 returns-in_err-posts-clause-write_fault g c =
     let p = err_from_is_err_and c.from_residual-in_err-posts.result c.from_residual-in_err-posts.ensures.1 in
     rw (p.1, p.2) refl
+
+pub returns-in_err-posts-clause-fault : goal.returns-in_err-posts-clause-fault
+returns-in_err-posts-clause-fault g c =
+    let p = err_from_is_err_and c.from_residual-in_err-posts.result c.from_residual-in_err-posts.ensures.1 in
+    rw (p.1, p.2) (inl refl)

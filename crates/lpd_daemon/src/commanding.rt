@@ -1,0 +1,162 @@
+//! What is asked at the control socket, each command as calls of the spool and the lines of its answer.
+
+use crate::house::House;
+use crate::lines::PrintedLine;
+use crate::rotating::rotation_of;
+use control_lines::{AnswerEnd, Command};
+use log::Log;
+use shared_spool::{Octets, SessionSeat, SpoolLedger};
+use std::alloc::{AllocError, Global};
+use std::fmt::Display;
+use std::rt::Clock;
+use std::sync::Wait;
+use std::sync::ledger::Ledger;
+
+/// Who removes what is removed at the control socket.
+const AGENT: &[u8] = b"root";
+
+/// The lines of an answer.
+#[derive(Drop)]
+pub(crate) struct Answer {
+    alloc: Global,
+    text: String,
+}
+
+impl Answer {
+    /// No line.
+    pub(crate) fn new(alloc: Global) -> Answer {
+        Answer {
+            alloc,
+            text: String::new(alloc),
+        }
+    }
+
+    /// These lines.
+    pub(crate) fn of_lines(alloc: Global, text: String) -> Answer {
+        Answer { alloc, text }
+    }
+
+    /// One line more. An error where memory is refused.
+    pub(crate) fn line<D: Display>(&mut self, line: &D) -> Result<(), AllocError> {
+        let line = format!(in self.alloc; "{line}\n")?;
+        self.text.push_str(line.as_str())?;
+        Ok(())
+    }
+
+    /// The octets of the answer, which ends so. An error where memory is refused.
+    pub(crate) fn end(self, end: AnswerEnd<'_>) -> Result<Vec<u8>, AllocError> {
+        let mut answer = self;
+        answer.line(&end)?;
+        let Answer { text, .. } = answer;
+        Ok(text.into_bytes())
+    }
+
+    /// The octets of the answer: nothing more where this was done, else why it wasn't. An error where memory is refused.
+    pub(crate) fn end_by<W: Display + Drop>(
+        self,
+        refused: Option<W>,
+    ) -> Result<Vec<u8>, AllocError> {
+        match refused {
+            None => self.end(AnswerEnd::Done),
+            Some(refusal) => {
+                let why = format!(in self.alloc; "{refusal}")?;
+                self.end(AnswerEnd::Refused { text: why.as_str() })
+            }
+        }
+    }
+}
+
+impl<R: Clock + Log + Wait, E: SpoolLedger, K: Ledger, H: Ledger> House<'_, R, E, K, H> {
+    /// Starts the stopped printers of a queue, and tells which.
+    fn start_queue(
+        &self,
+        seat: &mut SessionSeat<E, K, H>,
+        queue: &[u8],
+    ) -> Result<Vec<u8>, AllocError> {
+        let mut answer = Answer::new(self.alloc);
+        let sight = self.spool.sight(self.rt, self.alloc)?;
+        let started = match self.spool.start_telling(self.rt, seat, queue) {
+            Ok(started) => started,
+            Err(refusal) => return answer.end_by(Some(refusal)),
+        };
+        for (at, printer) in sight.spool.printers.iter().enumerate() {
+            if printer.queue == started.queue && printer.stopped {
+                let number = at + 1;
+                answer.line(&format!(in self.alloc; "started {number}")?)?;
+            }
+        }
+        if started.stopped == 0 {
+            answer.line(&"started none")?;
+        }
+        answer.end(AnswerEnd::Done)
+    }
+
+    /// Holds a queue, or releases it.
+    fn hold_queue(
+        &self,
+        seat: &mut SessionSeat<E, K, H>,
+        queue: &[u8],
+        held: bool,
+    ) -> Result<Vec<u8>, AllocError> {
+        let done = if held {
+            self.spool.hold(self.rt, seat, queue)
+        } else {
+            self.spool.release(self.rt, seat, queue)
+        };
+        Answer::new(self.alloc).end_by(done.err())
+    }
+
+    /// Removes a job or a user's jobs of a queue, and tells which.
+    fn remove_jobs(
+        &self,
+        seat: &mut SessionSeat<E, K, H>,
+        queue: &[u8],
+        whom: &[u8],
+    ) -> Result<Vec<u8>, AllocError> {
+        let list = [Octets::copy_of(self.alloc, whom)?];
+        match self.spool.remove(self.rt, seat, queue, AGENT, &list) {
+            Ok(text) => {
+                let mut octets = text.into_vec();
+                let end = Answer::new(self.alloc).end(AnswerEnd::Done)?;
+                octets.extend_from_slice(end.as_slice())?;
+                Ok(octets)
+            }
+            Err(refusal) => Answer::new(self.alloc).end_by(Some(refusal)),
+        }
+    }
+
+    /// Rotates the account. The porter prints that.
+    fn rotate_account(&self, seat: &mut SessionSeat<E, K, H>) -> Result<Vec<u8>, AllocError> {
+        let mut answer = Answer::new(self.alloc);
+        match self.spool.rotate(self.rt, seat) {
+            Ok(segment) => {
+                let rotation = rotation_of(&segment);
+                self.rotations.add(self.rt, Ok(segment));
+                let _ = self.waker.wake();
+                let (number, entries) = (rotation.number, rotation.entries);
+                answer.line(&PrintedLine::Rotated { number, entries })?;
+                answer.end(AnswerEnd::Done)
+            }
+            Err(refusal) => answer.end_by(Some(refusal)),
+        }
+    }
+
+    /// Does what a command asks for, but for a stop. The octets of its answer; an error where memory is refused.
+    pub(crate) fn carry_out(
+        &self,
+        seat: &mut SessionSeat<E, K, H>,
+        command: &Command,
+    ) -> Result<Vec<u8>, AllocError> {
+        match command {
+            Command::Status => self.tell_status(),
+            Command::Start { queue } => self.start_queue(seat, queue.as_slice()),
+            Command::Hold { queue } => self.hold_queue(seat, queue.as_slice(), true),
+            Command::Release { queue } => self.hold_queue(seat, queue.as_slice(), false),
+            Command::Remove { queue, whom } => {
+                self.remove_jobs(seat, queue.as_slice(), whom.as_slice())
+            }
+            Command::Rotate => self.rotate_account(seat),
+            Command::Stop { .. } | Command::StopNow => Answer::new(self.alloc).end(AnswerEnd::Done),
+        }
+    }
+}

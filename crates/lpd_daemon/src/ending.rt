@@ -1,0 +1,60 @@
+//! How far the end of a server has come, as its threads see it.
+//!
+//! ```text
+//!          stop           stop now            nothing is left to do, or stop now
+//!   runs ---------> stops ---------> cuts off -----------------------------------> closed
+//!     |                                                                              ^
+//!     +----------------- the last connection was served, nothing is left to do ------+
+//! ```
+
+use std::sync::atomic::{AtomicBool, Ordering};
+
+/// How far the end of a server has come. It never goes back.
+#[derive(Drop)]
+pub(crate) struct Ending {
+    stops: AtomicBool,
+    cuts_off: AtomicBool,
+    closed: AtomicBool,
+}
+
+impl Ending {
+    /// The server runs.
+    pub(crate) fn new() -> Ending {
+        Ending {
+            stops: AtomicBool::new(false),
+            cuts_off: AtomicBool::new(false),
+            closed: AtomicBool::new(false),
+        }
+    }
+
+    /// Nobody is let in any more, and what was taken is printed to its end.
+    pub(crate) fn stop(&self) {
+        self.stops.store(true, Ordering::SeqCst);
+    }
+
+    /// Whether nobody is let in any more.
+    pub(crate) fn stops(&self) -> bool {
+        self.stops.load(Ordering::SeqCst)
+    }
+
+    /// Nothing is waited for any more: no peer, no printer.
+    pub(crate) fn cut_off(&self) {
+        self.stop();
+        self.cuts_off.store(true, Ordering::SeqCst);
+    }
+
+    /// Whether nothing is waited for any more.
+    pub(crate) fn cuts_off(&self) -> bool {
+        self.cuts_off.load(Ordering::SeqCst)
+    }
+
+    /// The spool is closed.
+    pub(crate) fn close(&self) {
+        self.closed.store(true, Ordering::SeqCst);
+    }
+
+    /// Whether the spool is closed.
+    pub(crate) fn is_closed(&self) -> bool {
+        self.closed.load(Ordering::SeqCst)
+    }
+}

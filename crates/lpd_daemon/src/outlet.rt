@@ -1,0 +1,103 @@
+//! A printer's file as the system has it: a file, a device or a pipe.
+
+use crate::ending::Ending;
+use libc::net::{POLLIN, POLLOUT, poll};
+use libc::types::pollfd;
+use os::set_nonblocking;
+use std::fs::{File, FileType, Files, OpenOptions};
+use std::io::{Error, ErrorKind, Write};
+use std::os::fd::{AsRawFd, RawFd};
+use std::os::unix::fs::FileTypeExt;
+use std::{fs, io};
+
+/// The longest time for which one wait for a pipe or a device lasts, in milliseconds. Between two of them the server's end is looked
+/// at.
+const TURN_MS: i32 = 1_000;
+
+/// A printer's file.
+#[derive(Drop)]
+pub(crate) struct Outlet {
+    pub(crate) file: File,
+    is_pipe: bool,
+}
+
+/// Whether writes to such a file may wait for somebody.
+fn may_wait(kind: FileType) -> bool {
+    kind.is_fifo() || kind.is_char_device()
+}
+
+impl Outlet {
+    /// Opens a printer's file at its end. A pipe is opened for reading too: so it doesn't wait for a reader, and one that ends and is
+    /// started again stops no printer.
+    pub(crate) fn open<R: Files<File = File>>(rt: &R, path: &str) -> io::Result<Outlet> {
+        let kind = fs::metadata(rt, path).map(|metadata| metadata.file_type());
+        let is_pipe = kind.is_ok_and(|kind| kind.is_fifo());
+        let mut options = OpenOptions::new();
+        options.read(is_pipe).append(true).create(true);
+        let file = options.open(rt, path)?;
+        if kind.is_ok_and(may_wait) {
+            set_nonblocking(file.as_raw_fd(), true);
+        }
+        Ok(Outlet { file, is_pipe })
+    }
+
+    /// The same file, where it is a pipe: whether its reader has taken what was written can be asked. None where the system gives no
+    /// second number for it.
+    pub(crate) fn pipe(&self) -> Option<File> {
+        if self.is_pipe {
+            self.file.try_clone().ok()
+        } else {
+            None
+        }
+    }
+}
+
+/// Whether the system tells one of these of a descriptor, asked for `limit_ms` milliseconds at most. False where it doesn't answer.
+fn is_told(descriptor: RawFd, events: i16, limit_ms: i32) -> bool {
+    let mut asked = [pollfd {
+        fd: descriptor,
+        events,
+        revents: 0,
+    }];
+    poll(&mut asked, limit_ms) > 0 && asked[0].revents & events != 0
+}
+
+/// Whether a pipe has octets that its reader hasn't taken.
+pub(crate) fn has_unread(pipe: &File) -> bool {
+    is_told(pipe.as_raw_fd(), POLLIN, 0)
+}
+
+/// A printer's file, of which a write waits while the printer takes nothing, until the server waits for nothing any more.
+#[derive(Drop)]
+pub(crate) struct PatientFile<'a> {
+    file: File,
+    ending: &'a Ending,
+}
+
+impl<'a> PatientFile<'a> {
+    /// The file, whose waits this ends.
+    pub(crate) fn new(file: File, ending: &'a Ending) -> PatientFile<'a> {
+        PatientFile { file, ending }
+    }
+}
+
+impl Write for PatientFile<'_> {
+    fn write(&mut self, octets: &[u8]) -> io::Result<usize> {
+        for _ in 0..u64::MAX {
+            match self.file.write(octets) {
+                Err(error) if error.kind() == ErrorKind::WouldBlock => {
+                    if self.ending.cuts_off() {
+                        break;
+                    }
+                    is_told(self.file.as_raw_fd(), POLLOUT, TURN_MS);
+                }
+                written => return written,
+            }
+        }
+        Err(Error::from(ErrorKind::TimedOut))
+    }
+
+    fn flush(&mut self) -> io::Result<()> {
+        self.file.flush()
+    }
+}

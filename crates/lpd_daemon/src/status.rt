@@ -1,0 +1,74 @@
+//! How all of a server stands, as lines.
+
+use crate::commanding::Answer;
+use crate::house::House;
+use control_lines::AnswerEnd;
+use shared_spool::{Sight, SpoolLedger};
+use status_lines::{Outside, SeenSession, Standstill, status_text};
+use std::alloc::AllocError;
+use std::rt::Clock;
+use std::sync::Wait;
+use std::sync::ledger::Ledger;
+use std::time::Instant;
+
+impl<R: Clock + Wait, E: SpoolLedger, K: Ledger, H: Ledger> House<'_, R, E, K, H> {
+    /// The sessions that serve somebody, the oldest first, at this moment.
+    fn seen_sessions(&self, start: Instant, now: Instant) -> Result<Vec<SeenSession>, AllocError> {
+        let mut sessions = Vec::new(self.alloc);
+        for served in self.posts.served(self.rt, self.alloc, start, now)? {
+            sessions.push(SeenSession {
+                peer: served.peer,
+                silent: served.silent_seconds,
+            })?;
+        }
+        Ok(sessions)
+    }
+
+    /// Since when and why each printer stands still that does, by their numbers, at this moment.
+    fn seen_standstills(
+        &self,
+        sight: &Sight,
+        now: Instant,
+    ) -> Result<Vec<Option<Standstill>>, AllocError> {
+        let mut standstills = Vec::new(self.alloc);
+        for at in 0..self.oversight.config.printer_count() {
+            let mut seen = None;
+            let printer = sight.spool.printers.get(at as usize);
+            let is_stopped = printer.is_some_and(|printer| printer.stopped);
+            let standstill = self.oversight.standstills.of(self.rt, at + 1);
+            if let (true, Some(standstill)) = (is_stopped, standstill) {
+                let cause = match standstill.cause {
+                    Some(cause) => format!(in self.alloc; "{cause}")?,
+                    None => String::from_str(self.alloc, "not written")?,
+                };
+                let seconds = now.saturating_duration_since(standstill.since).as_secs();
+                seen = Some(Standstill { seconds, cause });
+            }
+            standstills.push(seen)?;
+        }
+        Ok(standstills)
+    }
+
+    /// Tells how the spool, its sessions, its printers and its jobs stand.
+    pub(crate) fn tell_status(&self) -> Result<Vec<u8>, AllocError> {
+        let sight = self.spool.sight(self.rt, self.alloc)?;
+        let (Some(start), Ok(now)) = (self.oversight.start, Instant::now(self.rt)) else {
+            return Answer::new(self.alloc).end(AnswerEnd::Done);
+        };
+        let sessions = self.seen_sessions(start, now)?;
+        let standstills = self.seen_standstills(&sight, now)?;
+        let held = sight.held.get(1..).unwrap_or(&[]);
+        let outside = Outside {
+            uptime: now.saturating_duration_since(start).as_secs(),
+            stops: self.ending.stops(),
+            segment: sight.segment,
+            lobby: self.oversight.in_lobby() as usize,
+            sessions: sessions.as_slice(),
+            held,
+            standstills: standstills.as_slice(),
+        };
+        let config = &self.oversight.config;
+        let text = status_text(self.alloc, config, &sight.spool, &outside)?;
+        Answer::of_lines(self.alloc, text).end(AnswerEnd::Done)
+    }
+}

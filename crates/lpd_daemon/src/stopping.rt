@@ -1,0 +1,162 @@
+//! The end of a server that is stopped: what it still waits for, and what it tells of what is lost.
+
+ghost use Rattle.std.specs.Prelude.{◌≡◌};
+ghost use Rattle.std.specs.List.{list_any};
+ghost use Rattle.lpd_daemon.specs.Stopping.{goes_on, is_awaited, runs_for};
+
+use crate::house::House;
+use crate::outlet::has_unread;
+use control_lines::Escaped;
+use held_jobs::Phase;
+use log::{Log, warn};
+use shared_spool::{SeenJob, SessionSeat, Sight, SpoolLedger};
+use spool_calls::Printer;
+use std::rt::Clock;
+use std::sync::Wait;
+use std::sync::ledger::Ledger;
+use std::thread;
+use std::time::Duration;
+
+/// The time between two looks at what is left to do, in milliseconds.
+const LOOK_MS: u64 = 100;
+
+/// How many lines in a row tell of jobs that are lost. The log has room for some more.
+const LINES: usize = 64;
+
+/// The pause after these, in which the log writes them, in milliseconds.
+const PAUSE_MS: u64 = 20;
+
+/// Whether a printer serves this queue and isn't stopped.
+fn runs_for(queue: u32, printer: &Printer) -> bool
+    ensures { result ≡ runs_for queue printer.now }
+{
+    printer.queue == queue && !printer.stopped
+}
+
+/// Whether a printer of this queue isn't stopped.
+fn is_served(printers: &[Printer], queue: u32) -> bool
+    ensures { result ≡ list_any (runs_for queue) printers.now }
+{
+    printers.iter().any(|printer| runs_for(queue, printer))
+}
+
+/// Whether a job goes on by itself, where its queue is held or isn't, and a printer of it runs.
+fn goes_on(is_held: bool, job: &SeenJob) -> bool
+    ensures { result ≡ goes_on is_held job.now job.now.phase }
+{
+    match job.phase {
+        Phase::Receiving => false,
+        Phase::Received => job.handed > 0 || !is_held,
+        Phase::Ended => true,
+    }
+}
+
+/// Whether a server that stops waits for a job: where nobody need do anything for it to come to its end. A queue that is held, or of
+/// which all printers are stopped, waits for somebody.
+fn is_awaited(printers: &[Printer], held: &[bool], job: &SeenJob) -> bool
+    ensures { result ≡ is_awaited printers.now held.now job.now }
+{
+    let is_held = held.get(job.queue as usize).copied().unwrap_or(false);
+    goes_on(is_held, job) && is_served(printers, job.queue)
+}
+
+/// Whether a server that stops waits for a job.
+fn awaits_one(sight: &Sight) -> bool
+    ensures { result ≡ list_any (is_awaited sight.now.spool.printers.items sight.now.held.items)
+        sight.now.spool.jobs.items }
+{
+    let (printers, held) = (sight.spool.printers.as_slice(), sight.held.as_slice());
+    sight
+        .spool
+        .jobs
+        .iter()
+        .any(|job| is_awaited(printers, held, job))
+}
+
+/// Whether a server that isn't stopped waits for nothing more once its last connection was served: no job is held, or a printer is
+/// stopped.
+fn is_idle(sight: &Sight) -> bool {
+    sight.spool.jobs.is_empty() || sight.spool.printers.iter().any(|printer| printer.stopped)
+}
+
+impl<R: Clock + Log + Wait, E: SpoolLedger, K: Ledger, H: Ledger> House<'_, R, E, K, H> {
+    /// Whether the pipe of a printer that runs has octets that its reader hasn't taken.
+    fn has_full_pipe(&self, sight: &Sight) -> bool {
+        let printers = sight.spool.printers.iter();
+        let mut pipes = self.oversight.pipes.iter().zip(printers);
+        pipes.any(|(pipe, printer)| {
+            !printer.stopped && pipe.as_ref().is_some_and(|pipe| has_unread(pipe))
+        })
+    }
+
+    /// Whether nothing is left to do.
+    fn is_done(&self) -> bool {
+        let Ok(sight) = self.spool.sight(self.rt, self.alloc) else {
+            return false;
+        };
+        if self.ending.stops() {
+            !awaits_one(&sight) && !self.has_full_pipe(&sight)
+        } else {
+            is_idle(&sight)
+        }
+    }
+
+    /// Waits until nothing is left to do, once no session brings more; or until nothing is waited for any more.
+    pub(crate) fn wait_until_done(&self) {
+        if !self.is_watched() {
+            self.spool.idle_wait(self.rt);
+            return;
+        }
+        for _ in self.rt.forever() {
+            if self.ending.cuts_off() || self.is_done() {
+                return;
+            }
+            thread::sleep(self.rt, Duration::from_millis(LOOK_MS));
+        }
+    }
+
+    /// Tells that a job is lost.
+    fn tell_lost(&self, job: &SeenJob) {
+        let (user, host) = (Escaped(job.user.as_slice()), Escaped(job.host.as_slice()));
+        let (number, queue, octets) = (job.number, self.queue_name(job.queue), job.octets);
+        let why = match job.phase {
+            Phase::Receiving => "it isn't whole",
+            Phase::Received | Phase::Ended => "it isn't printed",
+        };
+        warn!(self.rt; "job {number} {queue} {user}@{host} {octets} octets is lost: {why}");
+    }
+
+    /// Tells of each job that is held that it is lost, where the server is stopped.
+    pub(crate) fn tell_all_lost(&self) {
+        if !self.ending.stops() {
+            return;
+        }
+        let Ok(sight) = self.spool.sight(self.rt, self.alloc) else {
+            warn!(self.rt; "memory was refused: jobs that are lost aren't told");
+            return;
+        };
+        if sight.spool.closed {
+            return;
+        }
+        for (at, job) in sight.spool.jobs.iter().enumerate() {
+            self.tell_lost(job);
+            if at % LINES == LINES - 1 {
+                thread::sleep(self.rt, Duration::from_millis(PAUSE_MS));
+            }
+        }
+    }
+
+    /// Waits for nothing any more: ends the sessions, tells what is lost, and closes the spool. A write that waits for its printer
+    /// ends within a second.
+    pub(crate) fn cut_off(&self, seat: &mut SessionSeat<E, K, H>) {
+        if self.ending.cuts_off() {
+            return;
+        }
+        self.ending.cut_off();
+        let _ = self.waker.wake();
+        // From here on no job is acknowledged: its session's octet 00 reaches nobody.
+        self.posts.hang_up(self.rt);
+        self.tell_all_lost();
+        self.spool.close(self.rt, seat);
+    }
+}
