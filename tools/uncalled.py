@@ -18,12 +18,13 @@ CRATES = os.path.join(TOP, "crates")
 
 # The crates that stand beside the gate; the last one has the calls of the whole surface.
 SURFACE = "test_surface"
-BESIDE = {"bench", "test_soak", SURFACE}
+BESIDE = {"bench", "test_control", "test_soak", SURFACE}
 
 # Crates that call the product and are no part of it.
 CALLERS = {
     "bench",
     "test_calls",
+    "test_control",
     "test_kit",
     "test_kit_seats",
     "test_network",
