@@ -1,7 +1,7 @@
 //! The program: what its words ask for is done with the standard streams, files and the network.
 #![tactic(auto)]
 
-ghost use Rattle.std.specs.Prelude.{◌≤◌};
+ghost use Rattle.std.specs.Prelude.{◌≡◌, ◌≤◌};
 ghost use Rattle.std.specs.Process.{exit_status};
 ghost use Rattle.lpd_words.specs.Outcome.{IfEnded};
 
