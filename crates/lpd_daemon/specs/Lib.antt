@@ -2,6 +2,7 @@
 pub mod Ends
 pub mod Faults
 pub mod Lines
+pub mod Restarting
 pub mod Rotating
 pub mod Standing
 pub mod Stopping

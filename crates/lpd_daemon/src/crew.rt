@@ -8,11 +8,13 @@ use crate::counter::Counter;
 use crate::faults::Fault;
 use crate::house::House;
 use crate::listening::{Gate, Porter, announce_all};
+use crate::places::Opened;
 use crate::roles::{Roles, Seats, serves_at};
 use log::Log;
 use lpd_commands::OctetWrite;
 use shared_spool::{PrinterSeat, SessionSeat, SpoolLedger};
-use std::fs::File;
+use std::fs::{File, Files};
+use std::net::{Net, TcpListener, TcpStream};
 use std::rt::Clock;
 use std::sync::Wait;
 use std::sync::ledger::Ledger;
@@ -36,8 +38,8 @@ pub(crate) struct Entrance {
     /// The port that is listened at.
     pub(crate) port: u16,
     pub(crate) gate: Gate,
-    /// The printers' files, by the printers' numbers, from 1.
-    pub(crate) files: Vec<File>,
+    /// What the printers print to, by their numbers, from 1.
+    pub(crate) places: Vec<Opened>,
     pub(crate) counter: Counter,
 }
 
@@ -65,13 +67,25 @@ fn keep<T: Drop, F: Drop>(
 
 impl<E: SpoolLedger + Send + Sync, K: Ledger + Send + Sync, H: Ledger + Send + Sync> Crew<E, K, H> {
     /// Starts a thread for each role but the porter's, whose seat is answered too.
-    fn start<'s, R: Clock + Log + Wait + Sync, N>(
+    fn start<
+        's,
+        R: Files<File = File>
+            + Net<Listener = TcpListener, Stream = TcpStream>
+            + Clock
+            + Log
+            + Wait
+            + Sync,
+        N,
+    >(
         scope: &Scope<'s, N>,
         house: &'s House<'_, R, E, K, H>,
         roles: Roles<E, K, H>,
-        files: Vec<File>,
+        places: Vec<Opened>,
         counter: Counter,
-    ) -> (Crew<E, K, H>, SessionSeat<E, K, H>) {
+    ) -> (Crew<E, K, H>, SessionSeat<E, K, H>)
+    where
+        R::Dir: Send + Sync,
+    {
         let Roles {
             porter,
             watcher,
@@ -88,8 +102,8 @@ impl<E: SpoolLedger + Send + Sync, K: Ledger + Send + Sync, H: Ledger + Send + S
             steward: None,
             is_whole: true,
         };
-        for (seat, file) in printers.into_iter().zip(files) {
-            let thread = scope.spawn(move || house.print_all(seat, file));
+        for (seat, opened) in printers.into_iter().zip(places) {
+            let thread = scope.spawn(move || house.print_all(seat, opened));
             crew.is_whole &= keep(&mut crew.printing, thread);
         }
         for seat in sessions {
@@ -146,11 +160,20 @@ impl<E: SpoolLedger + Send + Sync, K: Ledger + Send + Sync, H: Ledger + Send + S
 }
 
 impl<
-    R: Clock + Log + Threads + Wait + Sync,
+    R: Files<File = File>
+        + Net<Listener = TcpListener, Stream = TcpStream>
+        + Clock
+        + Log
+        + Threads
+        + Wait
+        + Sync,
     E: SpoolLedger + Send + Sync,
     K: Ledger + Send + Sync,
     H: Ledger + Send + Sync,
-> House<'_, R, E, K, H> {
+> House<'_, R, E, K, H>
+where
+    R::Dir: Send + Sync,
+{
     /// Starts a thread for each role but the porter's, has connections accepted and served, and
     /// joins all threads. Answers how that went, and the seats. One is missing where a thread
     /// wasn't started, or memory for it was refused.
@@ -167,7 +190,7 @@ impl<
     {
         let Entrance {
             gate,
-            files,
+            places,
             counter,
             ..
         } = entrance;
@@ -182,7 +205,7 @@ impl<
                     (W.faults output.entry.now) (W.written result.2.now)
                     (W.faults result.2.now) result.0 }
             {
-                let (crew, seat) = Crew::start(scope, self, roles, files, counter);
+                let (crew, seat) = Crew::start(scope, self, roles, places, counter);
                 let mut porter = Porter::new(self, seat, gate);
                 let admitted = porter.admit(crew.is_whole, output);
                 // However it went, all threads are joined before the seats are looked at.

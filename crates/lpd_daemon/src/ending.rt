@@ -57,4 +57,9 @@ impl Ending {
     pub(crate) fn is_closed(&self) -> bool {
         self.closed.load(Ordering::SeqCst)
     }
+
+    /// Whether no job is to be printed any more.
+    pub(crate) fn is_over(&self) -> bool {
+        self.cuts_off() || self.is_closed()
+    }
 }

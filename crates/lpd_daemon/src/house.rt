@@ -3,9 +3,10 @@
 use crate::ending::Ending;
 use crate::oversight::Oversight;
 use crate::posts::Posts;
+use crate::restarting::Restarts;
 use crate::rotating::Rotations;
 use mio::Waker;
-use program_edge::Limits;
+use program_edge::{Limits, PrinterLimits};
 use server_edge::Desk;
 use shared_spool::{SharedSpool, SpoolLedger};
 use std::alloc::Global;
@@ -19,6 +20,10 @@ pub(crate) struct House<'a, R, E: SpoolLedger, K: Ledger, H: Ledger> {
     pub(crate) alloc: Global,
     pub(crate) spool: SharedSpool<E, K, H>,
     pub(crate) limits: Limits,
+    /// What printers on the network may do.
+    pub(crate) printer_limits: PrinterLimits,
+    /// When queues are started again.
+    pub(crate) restarts: Restarts,
     /// From how many counted entries on the account is rotated, where room is kept in it.
     pub(crate) least: Option<u64>,
     pub(crate) desk: Desk,

@@ -1,7 +1,8 @@
 //! The server: a spool behind a listener on IPv4 (RFC 1179, section 3.1). One thread holds
 //! connections until their first line is there and hands them on to threads that serve them, one
-//! thread a printer writes the printer's pages to a file, one looks for peers that are gone, and
-//! one rotates the account where room is kept in it.
+//! thread a printer writes the printer's pages to a file, to the network or into a folder, one looks
+//! for peers that are gone and starts queues again, and one rotates the account where room is kept in
+//! it.
 #![tactic(auto)]
 
 mod answering;
@@ -9,6 +10,7 @@ mod commanding;
 mod configuration;
 mod counter;
 mod crew;
+mod device;
 mod ending;
 mod faults;
 mod house;
@@ -17,8 +19,10 @@ mod listening;
 mod moments;
 mod outlet;
 mod oversight;
+mod places;
 mod posts;
 mod printing;
+mod restarting;
 mod roles;
 mod room;
 mod rotating;
@@ -34,6 +38,6 @@ pub use control_socket::{OpenFault, SocketFile};
 pub use counter::Counter;
 pub use faults::Fault;
 pub use printer_worker::{PrintSink, SinkFault};
-pub use program_edge::{Limits, MOST_SESSIONS, Settings};
+pub use program_edge::{Limits, MOST_SESSIONS, Place, PrinterLimits, PrinterPlace, Settings};
 pub use serving::{Plan, serve};
 pub use sink::{Explains, FileSink};

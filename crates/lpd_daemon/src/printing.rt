@@ -1,55 +1,164 @@
-//! The pages of a printer, each written to its file.
+//! The pages of a printer, each written to what the printer prints to.
 
+use crate::device::{Device, DeviceSink};
 use crate::house::House;
 use crate::outlet::PatientFile;
+use crate::places::Opened;
 use crate::sink::{Explains, FileSink};
-use crate::standing::Standstills;
+use held_jobs::Phase;
 use log::{Log, warn};
-use printer_worker::{HandedPage, PrintSink, SinkFault, work};
+use printer_sinks::{FolderSink, SocketSink};
+use printer_worker::{HandedPage, Leaving, PrintSink, SinkFault, work};
 use shared_spool::{PrinterSeat, SpoolLedger};
-use std::fs::File;
+use sink_devices::{Errand, FileFolder, Pauses, TcpDial};
+use std::fs::{File, Files};
+use std::net::{Net, TcpListener, TcpStream};
 use std::rt::Clock;
 use std::sync::Wait;
 use std::sync::ledger::Ledger;
 
-/// The sink of a printer, of which each page that isn't written is logged, with why, and it is kept since when it stands still.
-#[derive(Drop)]
-struct Watched<'a, R, S> {
-    rt: &'a R,
-    standstills: &'a Standstills,
-    printer: u32,
-    sink: S,
+impl<R: Clock + Log + Wait, E: SpoolLedger, K: Ledger, H: Ledger> Errand for House<'_, R, E, K, H> {
+    fn is_wanted(&self, job: u64) -> bool {
+        if self.ending.is_over() {
+            return false;
+        }
+        // Without memory to look, the printer is waited for.
+        let Ok(sight) = self.spool.sight(self.rt, self.alloc) else {
+            return true;
+        };
+        let mut jobs = sight.spool.jobs.iter();
+        jobs.any(|held| held.number == job && held.phase != Phase::Ended)
+    }
+
+    fn is_cut_off(&self) -> bool {
+        self.ending.cuts_off()
+    }
+
+    fn tell_unreached(&self, printer: u32, job: u64, seconds: u64) {
+        let Ok(sight) = self.spool.sight(self.rt, self.alloc) else {
+            warn!(self.rt; "printer {printer} hasn't been reached for {seconds} s: job {job} waits for it");
+            return;
+        };
+        let config = &self.oversight.config;
+        let queue = config.queue_of(printer);
+        let free = u64::from(config.account()).saturating_sub(sight.spool.reserved);
+        let (more, name) = (free / config.reserve_of(queue), self.queue_name(queue));
+        warn!(self.rt; "printer {printer} hasn't been reached for {seconds} s: job {job} waits for it, and the account has room for {more} more jobs of {name}");
+    }
 }
 
-impl<R: Clock + Log + Wait, S: PrintSink + Explains> PrintSink for Watched<'_, R, S> {
+/// The sink of a printer, of which each page that isn't written is logged, with why, and it is kept since when the printer stands
+/// still.
+#[derive(Drop)]
+struct Watched<'a, R, E: SpoolLedger, K: Ledger, H: Ledger, S> {
+    house: &'a House<'a, R, E, K, H>,
+    printer: u32,
+    /// The number of the printer's queue.
+    queue: u32,
+    sink: S,
+    /// A page wasn't written, of a job that was to be printed no more.
+    was_given_up: bool,
+}
+
+impl<
+    'a,
+    R: Clock + Log + Wait,
+    E: SpoolLedger,
+    K: Ledger,
+    H: Ledger,
+    S: PrintSink + Explains,
+> Watched<'a, R, E, K, H, S> {
+    /// Tells of a page that wasn't written: the printer will stand still.
+    fn tell_fault(&self, page: &HandedPage) {
+        let (house, printer) = (self.house, self.printer);
+        let (job, place) = (page.job, page.place);
+        let cause = self.sink.cause();
+        house.oversight.standstills.begin(house.rt, printer, cause);
+        match cause {
+            Some(cause) => warn!(house.rt; "printer {printer}: job {job}, place {place}: {cause}"),
+            None => warn!(house.rt; "printer {printer}: job {job}, place {place}: not written"),
+        }
+    }
+
+    /// How a job is left of which that is told. Where a page of it wasn't written and it was to be printed no more, it didn't fail:
+    /// it had ended before, or the server ends.
+    fn how_left(&self, told: Leaving, was_given_up: bool) -> Leaving {
+        match told {
+            Leaving::Failed if was_given_up && self.house.ending.is_over() => Leaving::Closed,
+            Leaving::Failed if was_given_up => Leaving::Ended,
+            _ => told,
+        }
+    }
+}
+
+impl<R: Clock + Log + Wait, E: SpoolLedger, K: Ledger, H: Ledger, S: PrintSink + Explains> PrintSink
+    for Watched<'_, R, E, K, H, S> {
     ghost oks = { λ watched. S.oks watched.sink };
 
     ghost errs = { λ watched. S.errs watched.sink };
 
     fn write_page(&mut self, page: &HandedPage) -> Result<(), SinkFault> {
+        let house = self.house;
         let written = self.sink.write_page(page);
-        if written.is_err() {
-            let (printer, job, place) = (self.printer, page.job, page.place);
-            let cause = self.sink.cause();
-            self.standstills.begin(self.rt, printer, cause);
-            match cause {
-                Some(cause) =>
-                    warn!(self.rt; "printer {printer}: job {job}, place {place}: {cause}"),
-                None => warn!(self.rt; "printer {printer}: job {job}, place {place}: not written"),
-            }
+        if written.is_ok() {
+            house.restarts.note_page(house.rt, self.queue);
+        } else {
+            self.tell_fault(page);
+            self.was_given_up = !house.is_wanted(page.job);
         }
         written
     }
+
+    fn leave_job(&mut self, leaving: Leaving) -> Result<(), SinkFault> {
+        let (house, printer) = (self.house, self.printer);
+        let how = self.how_left(leaving, self.was_given_up);
+        self.was_given_up = false;
+        if leaving == Leaving::Failed {
+            let is_lost = how == Leaving::Failed;
+            house.restarts.note_failure(house.rt, self.queue, is_lost);
+        }
+        let left = self.sink.leave_job(how);
+        if let (Err(SinkFault), Some(cause)) = (left, self.sink.cause()) {
+            warn!(house.rt; "printer {printer}: a job that was printed is not in its folder: {cause}");
+        }
+        left
+    }
 }
 
-impl<R: Clock + Wait + Log, E: SpoolLedger, K: Ledger, H: Ledger> House<'_, R, E, K, H> {
-    /// Has a printer's pages written to its file, until the spool is closed. Answers the seat.
-    pub(crate) fn print_all(&self, seat: PrinterSeat<E, K, H>, file: File) -> PrinterSeat<E, K, H> {
+impl<
+    R: Files<File = File> + Net<Listener = TcpListener, Stream = TcpStream> + Clock + Log + Wait,
+    E: SpoolLedger,
+    K: Ledger,
+    H: Ledger,
+> House<'_, R, E, K, H> {
+    /// Has a printer's pages written to what it prints to, until the spool is closed. Answers the seat.
+    pub(crate) fn print_all(
+        &self,
+        seat: PrinterSeat<E, K, H>,
+        opened: Opened,
+    ) -> PrinterSeat<E, K, H> {
+        let (printer, limits) = (seat.printer(), self.printer_limits);
+        let device = match opened {
+            Opened::File(outlet) => {
+                Device::File(FileSink::new(PatientFile::new(outlet.file, &self.ending)))
+            }
+            Opened::Socket(address) => {
+                let silence = limits.silence_seconds;
+                let dial = TcpDial::new(self.rt, printer, address.into(), silence, self);
+                let pauses = Pauses::new(self.rt, limits.patience_minutes, self);
+                Device::Socket(SocketSink::new(dial, pauses, u64::MAX))
+            }
+            Opened::Folder { path, next } => {
+                let folder = FileFolder::new(self.rt, self.alloc, printer, path, next);
+                Device::Folder(FolderSink::new(folder))
+            }
+        };
         let mut sink = Watched {
-            rt: self.rt,
-            standstills: &self.oversight.standstills,
-            printer: seat.printer(),
-            sink: FileSink::new(PatientFile::new(file, &self.ending)),
+            house: self,
+            printer,
+            queue: self.oversight.config.queue_of(printer),
+            sink: DeviceSink::new(device),
+            was_given_up: false,
         };
         let (seat, _report) = work(self.rt, &self.spool, seat, &mut sink);
         seat

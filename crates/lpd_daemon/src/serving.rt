@@ -17,9 +17,10 @@ use crate::faults::Fault;
 use crate::house::House;
 use crate::lines::{PrintedLine, print_or_tell};
 use crate::listening::{Gate, listen};
-use crate::outlet::Outlet;
 use crate::oversight::Oversight;
+use crate::places::{Opened, open_places, pipes_of};
 use crate::posts::Posts;
+use crate::restarting::Restarts;
 use crate::roles::{NO_JOB_SESSIONS, OTHERS, Roles, Seats};
 use crate::room::AccountRoom;
 use crate::rotating::Rotations;
@@ -27,7 +28,7 @@ use config_values::Config;
 use log::Log;
 use lpd_commands::OctetWrite;
 use mio::Waker;
-use program_edge::{MOST_SESSIONS, Settings, tell_cause};
+use program_edge::{MOST_SESSIONS, Settings};
 use server_edge::{Desk, Lobby};
 use shared_spool::{Blanks, SharedSpool, SpoolLedger};
 use std::alloc::{AllocError, Global};
@@ -45,33 +46,6 @@ const KEPT_DESCRIPTORS: u64 = 64;
 
 /// How many more are kept for the control socket and what comes to it.
 const STEWARDS_DESCRIPTORS: u64 = 80;
-
-/// Opens the files of N printers in a directory, `printer-1` to `printer-N`, at their ends.
-///
-/// PrinterFile with the path of the first that can't be opened, of which the log is told why;
-/// Memory.
-fn open_outlets<R: Files<File = File> + Log>(
-    rt: &R,
-    alloc: Global,
-    directory: &str,
-    printers: u32,
-) -> Result<Vec<Outlet>, Fault>
-    ensures { IfErr result IsOpeningFault }
-{
-    let mut outlets = Vec::new(alloc);
-    for printer in 0..printers {
-        let number = printer + 1;
-        let path = format!(in alloc; "{directory}/printer-{number}")?;
-        match Outlet::open(rt, path.as_str()) {
-            Ok(outlet) => outlets.push(outlet)?,
-            Err(error) => {
-                tell_cause(rt, &path, Some(error));
-                return Err(Fault::PrinterFile(path));
-            }
-        }
-    }
-    Ok(outlets)
-}
 
 /// Takes all seats back, and prints how many entries all segments of the account have, where all
 /// was well until now.
@@ -116,22 +90,6 @@ fn kept_descriptors(printers: u32, sessions: u32, is_watched: bool) -> u64
     }
 }
 
-/// The printers' files, and beside them their pipes where these are looked at.
-fn parted(
-    alloc: Global,
-    outlets: Vec<Outlet>,
-    is_watched: bool,
-) -> Result<(Vec<File>, Vec<Option<File>>), AllocError> {
-    let (mut files, mut pipes) = (Vec::new(alloc), Vec::new(alloc));
-    for outlet in outlets {
-        if is_watched {
-            pipes.push(outlet.pipe())?;
-        }
-        files.push(outlet.file)?;
-    }
-    Ok((files, pipes))
-}
-
 /// How many sessions one host may have: without a number as many as there are.
 fn most_of(per_host: Option<NonZeroU64>) -> u32
     ensures any { per_host ≡ None → result ≡ 2 ^ 32 - 1 }
@@ -164,12 +122,12 @@ struct Server<'a, R> {
     lobby: Lobby,
     waker: Waker,
     port: u16,
-    outlets: Vec<Outlet>,
+    places: Vec<Opened>,
     counter: Counter,
 }
 
-/// Runs a server: opens the printers' files in the directory of the settings, `printer-1` and so
-/// on, at their ends; listens, and prints `listening N` with the port; holds connections until
+/// Runs a server: opens what its printers print to, as the settings say, or else files in their
+/// directory, `printer-1` and so on, at their ends; listens, and prints `listening N` with the port; holds connections until
 /// their first line is there and a session is free; serves them by `request_session::serve_with` at a
 /// session's seat, and has pages printed by `printer_worker::work`. Sessions that end neither as finished nor as closed are
 /// logged, with the peer's address. Once a second jobs are ended that wait for a page and whose
@@ -184,7 +142,7 @@ struct Server<'a, R> {
 /// printer is stopped, closes the spool, and prints `closed entries E` with the entries of all
 /// segments. It does what `counter` is asked, and ends as that says where it is asked to stop.
 ///
-/// PrinterFile where a printer's file can't be opened, before it listens; Network where it can't
+/// PrinterFile where what a printer prints to can't be opened, before it listens; Network where it can't
 /// listen; Output where a line couldn't be written, which is logged at once: after the first one it
 /// goes on to its end;
 /// Memory where memory or a thread is refused. A printer's file that fails later stops its printer.
@@ -198,6 +156,8 @@ pub fn serve<
         + Sync,
     W: OctetWrite,
 >(rt: &R, alloc: Global, plan: Plan<'_>, output: &mut W) -> Result<(), Fault>
+where
+    R::Dir: Send + Sync,
     ensures printed { OnOk result (WritesAll (W.written output.old) (W.written output.new)) }
     ensures quiet { IfErr result (IsQuiet (W.written output.old) (W.written output.new)) }
     ensures write_fault { W.faults output.new ≡ write_faults (W.faults output.old) result }
@@ -208,7 +168,7 @@ pub fn serve<
         counter,
     } = plan;
     let sessions = settings.sessions.clamp(1, MOST_SESSIONS) + NO_JOB_SESSIONS;
-    let outlets = open_outlets(rt, alloc, settings.out, config.printer_count())?;
+    let places = open_places(rt, alloc, &settings, config.printer_count())?;
     let kept = kept_descriptors(config.printer_count(), sessions, counter.is_open());
     let (lobby, waker, port) = listen(rt, alloc, &mut settings, kept)?;
     let blanks = Blanks::new(&config, sessions + OTHERS);
@@ -220,13 +180,25 @@ pub fn serve<
         lobby,
         waker,
         port,
-        outlets,
+        places,
         counter,
     };
     server.run::<Brand, Brand, Brand, W>(config, blanks, output)
 }
 
-impl<'a, R: Clock + Log + Threads + Wait + Sync> Server<'a, R> {
+impl<
+    'a,
+    R: Files<File = File>
+        + Net<Listener = TcpListener, Stream = TcpStream>
+        + Clock
+        + Log
+        + Threads
+        + Wait
+        + Sync,
+> Server<'a, R>
+where
+    R::Dir: Send + Sync,
+{
     /// Runs with a spool that has a seat for each session, and for each of the other threads.
     ///
     /// Output where a line can't be written; Memory where memory or a thread is refused.
@@ -249,7 +221,15 @@ impl<'a, R: Clock + Log + Threads + Wait + Sync> Server<'a, R> {
         let keeps_room = self.settings.keep_room;
         let room = keeps_room.then_some(AccountRoom::new(&config, sessions, limits.room_ms));
         let mut counter = self.counter;
-        let (files, pipes) = parted(alloc, self.outlets, counter.is_open())?;
+        let places = self.places;
+        let looked_at = if counter.is_open() {
+            places.as_slice()
+        } else {
+            &[]
+        };
+        let pipes = pipes_of(alloc, looked_at)?;
+        let queues = config.queues().len();
+        let restarts = Restarts::new(alloc, queues, self.settings.restart_seconds)?;
         let copy = copy_of(alloc, &config)?;
         let oversight = Oversight::new(rt, alloc, copy, pipes, &mut counter)?;
         let opened = SharedSpool::<E, K, H>::new(alloc, blanks, config, sessions + OTHERS);
@@ -262,6 +242,8 @@ impl<'a, R: Clock + Log + Threads + Wait + Sync> Server<'a, R> {
             alloc,
             spool: opened.spool,
             limits,
+            printer_limits: self.settings.printer_limits,
+            restarts,
             least: room.map(|room| room.least),
             desk,
             posts,
@@ -279,7 +261,7 @@ impl<'a, R: Clock + Log + Threads + Wait + Sync> Server<'a, R> {
         let entrance = Entrance {
             port: self.port,
             gate,
-            files,
+            places,
             counter,
         };
         house.run(roles, entrance, output)
@@ -288,11 +270,20 @@ impl<'a, R: Clock + Log + Threads + Wait + Sync> Server<'a, R> {
 
 impl<
     'a,
-    R: Clock + Log + Threads + Wait + Sync,
+    R: Files<File = File>
+        + Net<Listener = TcpListener, Stream = TcpStream>
+        + Clock
+        + Log
+        + Threads
+        + Wait
+        + Sync,
     E: SpoolLedger + Send + Sync,
     K: Ledger + Send + Sync,
     H: Ledger + Send + Sync,
-> House<'a, R, E, K, H> {
+> House<'a, R, E, K, H>
+where
+    R::Dir: Send + Sync,
+{
     /// Says where it listens, has all threads work to their end, and says how many entries the account has. Who waits for that at
     /// the control socket is answered then.
     ///

@@ -126,11 +126,8 @@ impl<R: Clock + Log + Wait, E: SpoolLedger, K: Ledger, H: Ledger> House<'_, R, E
         warn!(self.rt; "job {number} {queue} {user}@{host} {octets} octets is lost: {why}");
     }
 
-    /// Tells of each job that is held that it is lost, where the server is stopped.
-    pub(crate) fn tell_all_lost(&self) {
-        if !self.ending.stops() {
-            return;
-        }
+    /// Tells of each held job that is whole, or of each that isn't, that it is lost.
+    fn tell_lost_of(&self, is_whole: bool) {
         let Ok(sight) = self.spool.sight(self.rt, self.alloc) else {
             warn!(self.rt; "memory was refused: jobs that are lost aren't told");
             return;
@@ -138,11 +135,21 @@ impl<R: Clock + Log + Wait, E: SpoolLedger, K: Ledger, H: Ledger> House<'_, R, E
         if sight.spool.closed {
             return;
         }
-        for (at, job) in sight.spool.jobs.iter().enumerate() {
+        let jobs = sight.spool.jobs.iter();
+        let lost = jobs.filter(|job| (job.phase != Phase::Receiving) == is_whole);
+        for (at, job) in lost.enumerate() {
             self.tell_lost(job);
             if at % LINES == LINES - 1 {
                 thread::sleep(self.rt, Duration::from_millis(PAUSE_MS));
             }
+        }
+    }
+
+    /// Tells of each job that is held that it is lost, where the server is stopped.
+    pub(crate) fn tell_all_lost(&self) {
+        if self.ending.stops() {
+            self.tell_lost_of(false);
+            self.tell_lost_of(true);
         }
     }
 
@@ -152,11 +159,15 @@ impl<R: Clock + Log + Wait, E: SpoolLedger, K: Ledger, H: Ledger> House<'_, R, E
         if self.ending.cuts_off() {
             return;
         }
-        self.ending.cut_off();
+        self.ending.stop();
         let _ = self.waker.wake();
+        // Before their sessions end them.
+        self.tell_lost_of(false);
         // From here on no job is acknowledged: its session's octet 00 reaches nobody.
         self.posts.hang_up(self.rt);
-        self.tell_all_lost();
+        // Before a printer gives its job up, since it is waited for no more: that job is lost too.
+        self.tell_lost_of(true);
         self.spool.close(self.rt, seat);
+        self.ending.cut_off();
     }
 }

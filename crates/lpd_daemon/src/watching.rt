@@ -1,4 +1,4 @@
-//! The thread that gives back the pages of jobs whose peers are gone.
+//! The thread that gives back the pages of jobs whose peers are gone, and starts queues again.
 
 ghost use Rattle.std.specs.Prelude.{◌≡◌, ◌⊎◌, ◌+◌, ◌-◌, ◌^◌, false, min, true};
 
@@ -139,7 +139,8 @@ impl<'a, R: Clock + Log + Wait, E: SpoolLedger, K: Ledger, H: Ledger> Watcher<'a
 
 impl<R: Clock + Log + Wait, E: SpoolLedger, K: Ledger, H: Ledger> House<'_, R, E, K, H> {
     /// Ends jobs that wait for a page and whose peers are gone, until the server ends; and where
-    /// nothing at all happens for as long as a peer may be silent, all that wait. Answers the seat.
+    /// nothing at all happens for as long as a peer may be silent, all that wait. Starts queues again
+    /// where that is due. Answers the seat.
     pub(crate) fn watch(&self, seat: SessionSeat<E, K, H>) -> SessionSeat<E, K, H> {
         let Ok(mut buffer) = vec![in self.alloc; 0u8; LOOKED_AT_OCTETS] else {
             warn!(self.rt; "memory was refused: peers that are gone aren't looked for");
@@ -162,9 +163,13 @@ impl<R: Clock + Log + Wait, E: SpoolLedger, K: Ledger, H: Ledger> House<'_, R, E
             }
             thread::sleep(self.rt, Duration::from_millis(STEP_MS));
             step = step.saturating_add(1) % STEPS;
-            if step == 0 && watcher.look(buffer.as_mut_slice()).is_err() {
+            if step != 0 {
+                continue;
+            }
+            if watcher.look(buffer.as_mut_slice()).is_err() {
                 warn!(self.rt; "memory was refused to look for peers that are gone");
             }
+            self.start_all_due(&mut watcher.seat);
         }
         watcher.seat
     }

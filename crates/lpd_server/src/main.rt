@@ -89,7 +89,8 @@ fn refuse_control<R: Log>(rt: &R, path: Option<&str>, why: &OpenFault) -> u8
     4
 }
 
-/// Serves the queues of the configuration at this path. Faults are told in the log. The control socket, where the settings
+/// Serves the queues of the configuration at this path, which has each printer that the settings say something of. Faults
+/// are told in the log. The control socket, where the settings
 /// name one, is made by `host`, since a logger hands no Unix sockets on. Answers the exit status.
 fn serve<
     R: Files<File = File>
@@ -102,12 +103,15 @@ fn serve<
     N: AllocGlobal + Clock + Files<File = File> + Net,
     O: Write + Drop,
 >(rt: &R, host: &N, config: &str, settings: Settings, output: O) -> u8
+where
+    R::Dir: Send + Sync,
     ensures { result ≤ 5 }
 {
     let alloc = host.alloc();
     let mut output = StreamWriter::new(output);
     let mut file = StreamReader::open(rt, config);
-    let config = match lpd_words::read_config(alloc, &mut file) {
+    let printers = settings.printers.as_slice();
+    let config = match lpd_words::read_spool(alloc, &mut file, printers) {
         Ok(config) => config,
         Err(fault) => {
             tell_cause(rt, &config, file.cause());

@@ -5,4 +5,5 @@ mod ControlLemmas
 mod DataFileLemmas
 mod EnvelopeLemmas
 mod OrderLemmas
+mod PrinterLemmas
 mod ServingLemmas

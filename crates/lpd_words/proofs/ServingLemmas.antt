@@ -1,11 +1,11 @@
 -- The values of the words of a server, by the rows of a parse.
-use Rattle.std.proofs.Common.{◌≡◌, ◌∙◌, ◌<◌, ◌^◌, inl, sym, refl, ap, arith, slice_index, ℕ, List, Option, Some, None, Result, Ok, Err, IfOk, IfErr, option_map, unwrap_or, codes}
+use Rattle.std.proofs.Common.{◌≡◌, ◌∙◌, ◌<◌, ◌^◌, inl, inr, sym, refl, ap, arith, slice_index, ℕ, List, Option, Some, None, Result, Ok, Err, IfOk, IfErr, option_map, unwrap_or, codes}
 use Rattle.std.specs.Borrow.{Bor}
 use Rattle.std.specs.Str.Parse.{ParsesUnsigned, digits_value, without_leading_plus}
 use Rattle.clap.specs.Words.{Row, Text, TriesOne, one_of}
 use Rattle.lpd_words.specs.Asked.{IsAsked}
 use Rattle.lpd_words.specs.Values.{IsGiven}
-use Rattle.lpd_words.specs.Refused.{AsksNothing, HasNoCount, HasNoLimit, LacksServing}
+use Rattle.lpd_words.specs.Refused.{AsksNothing, HasNoCount, HasNoLimit, HasNoPrinters, LacksServing}
 use Rattle.lpd_words.specs.declared.envelope.WordFault.{WordFault}
 use Rattle.lpd_words.specs.declared.envelope.WordFault.TheVariants as envelope
 use Rattle.lpd_words.specs.declared.words.Ask.{Ask}
@@ -58,7 +58,7 @@ below n small e = absurd (omega (arith, small, e))
 -- words that ask to serve, and don't say how, ask for nothing
 no_server : (name : Text) (rows : List Row) → name ≡ codes "serve" → LacksServing rows envelope.Missing → (asked : Ask) → IsAsked (Some (name, rows)) asked → ⊥
 no_server name rows is lacks Input h = absurd h
-no_server name rows is lacks (Check config sizes) h =
+no_server name rows is lacks (Check config sizes printers) h =
     below 101 (omega arith) (third name (codes "check") is h.0)
 no_server name rows is lacks (Replay config script) h =
     below 112 (omega arith) (third name (codes "replay") is h.0)
@@ -72,6 +72,8 @@ pub asks_no_server : (name : Text) (rows : List Row) (fault : WordFault) → nam
 asks_no_server name rows envelope.Address is lacks = (is, lacks)
 asks_no_server name rows (envelope.Network text) is lacks = (is, lacks)
 asks_no_server name rows (envelope.Control text) is lacks = inl (is, lacks)
+asks_no_server name rows (envelope.Printer text) is lacks = (inl is, lacks)
+asks_no_server name rows (envelope.PrinterTwice text) is lacks = (inl is, lacks)
 asks_no_server name rows envelope.Command is lacks = absurd lacks
 asks_no_server name rows envelope.Missing is lacks = no_server name rows is lacks
 asks_no_server name rows envelope.Queue is lacks = absurd lacks
@@ -85,3 +87,19 @@ asks_no_server name rows envelope.Memory is lacks = tt
 pub no_limit : (rows : List Row) (id : Text) → HasNoCount rows id → HasNoLimit rows id
 no_limit rows id none None is = none None is
 no_limit rows id none (Some n) is = none (Some n) is.0
+
+-- words that ask to check, and don't say what printers print to, ask for nothing
+pub asks_no_check : (name : Text) (rows : List Row) (fault : WordFault) → name ≡ codes "check" → HasNoPrinters rows fault → AsksNothing (Some (name, rows)) fault
+asks_no_check name rows (envelope.Printer text) is lacks = (inr is, lacks)
+asks_no_check name rows (envelope.PrinterTwice text) is lacks = (inr is, lacks)
+asks_no_check name rows envelope.Memory is lacks = tt
+asks_no_check name rows envelope.Address is lacks = absurd lacks
+asks_no_check name rows (envelope.Network text) is lacks = absurd lacks
+asks_no_check name rows (envelope.Control text) is lacks = absurd lacks
+asks_no_check name rows envelope.Command is lacks = absurd lacks
+asks_no_check name rows envelope.Missing is lacks = absurd lacks
+asks_no_check name rows envelope.Queue is lacks = absurd lacks
+asks_no_check name rows envelope.Host is lacks = absurd lacks
+asks_no_check name rows envelope.User is lacks = absurd lacks
+asks_no_check name rows envelope.Files is lacks = absurd lacks
+asks_no_check name rows envelope.Number is lacks = absurd lacks

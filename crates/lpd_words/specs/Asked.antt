@@ -1,11 +1,11 @@
 -- What the words ask for, by what clap reads of them.
-use Rattle.std.specs.Prelude.{◌≡◌, ◌≤◌, List, Option, Some, None, codes, length, map}
+use Rattle.std.specs.Prelude.{◌≡◌, ◌≤◌, ◌<◌, List, Option, Some, None, codes, length, map}
 use Rattle.std.specs.List.{join_with_byte}
 use Rattle.clap.specs.Words.{Row, Text, all_of, first_of}
 use Rattle.control_lines.specs.Commands.{Means}
 use Rattle.control_lines.specs.declared.command.Command.{Command}
 use Rattle.lpd_words.specs.Naming.{IsEnvelope}
-use Rattle.lpd_words.specs.Serving.{IsServing}
+use Rattle.lpd_words.specs.Serving.{ArePrinters, IsServing}
 use Rattle.lpd_words.specs.Values.{IsFlag, IsNumber}
 use Rattle.lpd_words.specs.declared.words.Ask.{Ask}
 use Rattle.lpd_words.specs.declared.words.Ask.TheVariants.{Input, Check, Replay, Send, Serve, Control}
@@ -39,9 +39,9 @@ pub record IsControlRequest (rows : List Row) (request : ControlRequest) : Type 
 -- what the command of this name with the words of these rows asks for
 abbrev pub IsAskedBy : Text → List Row → Ask → Type 0
 IsAskedBy name rows Input = ⊥
-IsAskedBy name rows (Check config sizes) =
+IsAskedBy name rows (Check config sizes printers) =
     (name ≡ codes "check") × (first_of (codes "config") rows ≡ Some config.now)
-    × IsFlag rows (codes "sizes") sizes
+    × IsFlag rows (codes "sizes") sizes × ArePrinters rows printers.items
 IsAskedBy name rows (Replay config script) =
     (name ≡ codes "replay") × (first_of (codes "config") rows ≡ Some config.now)
     × (first_of (codes "script") rows ≡ Some script.now)
@@ -51,6 +51,11 @@ IsAskedBy name rows (Serve config settings) =
     (name ≡ codes "serve") × (first_of (codes "config") rows ≡ Some config.now)
     × IsServing rows settings
 IsAskedBy name rows (Control request) = (name ≡ codes "control") × IsControlRequest rows request
+
+-- a check is asked for, and something is said of printers
+abbrev pub ChecksPrinters : Ask → Type 0
+ChecksPrinters (Check config sizes printers) = 0 < length printers.items
+ChecksPrinters asked = ⊥
 
 -- what words ask for: what their command asks for, and without one what the input asks
 abbrev pub IsAsked : Option (Text × List Row) → Ask → Type 0

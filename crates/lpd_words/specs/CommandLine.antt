@@ -3,11 +3,11 @@ use Rattle.std.specs.Prelude.{◌∷◌, List, codes, pos, true, []}
 use Rattle.clap.specs.Words.{App, Rule, new_app}
 use Rattle.clap.specs.declared.builder.value_parser.ValueParser.TheVariants as parser
 use Rattle.lpd_words.specs.Rules.{flag, number, with_commands, with_rules, word, words}
-use Rattle.lpd_words.specs.Serving.{serve_app}
+use Rattle.lpd_words.specs.Serving.{printer, serve_app}
 
 -- the words and options of `check`
 abbrev pub check_words : List Rule
-check_words = word (codes "config") ∷ flag (codes "sizes") ∷ []
+check_words = word (codes "config") ∷ flag (codes "sizes") ∷ printer ∷ []
 
 abbrev pub check_app : App
 check_app = with_rules (new_app (codes "check")) check_words

@@ -7,6 +7,7 @@ pub mod DataFiles
 pub mod Naming
 pub mod Order
 pub mod Outcome
+pub mod Places
 pub mod Refused
 pub mod Rules
 pub mod Serving

@@ -5,8 +5,10 @@ use Rattle.lpd_commands.specs.Ends.{Writes, one_more}
 use Rattle.lpd_script.specs.Streams.{HasGivenAll}
 use Rattle.lpd_script.specs.declared.fault.Fault.TheVariants as script
 use Rattle.lpd_words.specs.declared.fault.Fault.{Fault}
-use Rattle.lpd_words.specs.declared.fault.Fault.TheVariants.{Run}
+use Rattle.lpd_words.specs.declared.fault.Fault.TheVariants.{Memory, Run, Printer}
+use Rattle.lpd_words.specs.Places.{AreThere, IsMissing}
 use Rattle.lpd_words.specs.Summary.{check_text}
+use Rattle.program_edge.specs.declared.places.PrinterPlace.{PrinterPlace}
 use Rattle.spool_config.specs.Answers.{GivesConfig, fault_of}
 use Rattle.spool_config.specs.declared.settings.ConfigFault.{ConfigFault}
 use Rattle.spool_config.specs.declared.settings.ConfigFault.TheVariants as config
@@ -24,11 +26,24 @@ IsConfigFault left rest (Run (script.Config fault)) =
 IsConfigFault left rest fault =
     (fault ≡ Run script.ReadFile) ⊎ (fault ≡ Run script.Memory)
 
--- all of a text was read, it gives a configuration, and what is said of that was written
-abbrev pub Checked : Bool → (left rest was now : Option (List ℕ)) → Type 0
-Checked sizes left rest was now =
-    (text : List ℕ) × HasGivenAll left rest text
-    × ((due : C.Config) × GivesConfig text due × Writes was now (check_text due sizes))
+-- all of a text was read and it gives a configuration that lacks one of these printers, or a fault as above
+abbrev pub IsSpoolFault : List PrinterPlace → (left rest : Option (List ℕ)) → Fault → Type 0
+IsSpoolFault printers left rest (Printer number text) =
+    (due : C.Config) × ReadsConfig left rest due × IsMissing due printers (Printer number text)
+IsSpoolFault printers left rest Memory = Unit {0}
+IsSpoolFault printers left rest fault = IsConfigFault left rest fault
+
+-- all of a text was read, it gives a configuration that has these printers, and what is said of it was written
+abbrev pub Checked : Bool → List PrinterPlace → (left rest was now : Option (List ℕ)) → Type 0
+Checked sizes printers left rest was now =
+    (due : C.Config) × ReadsConfig left rest due × AreThere due printers
+    × Writes was now (check_text due sizes printers)
+
+-- where a printer isn't there: all of a text was read, it gives a configuration that lacks the printer, and nothing was written
+abbrev pub IsMissed : List PrinterPlace → (left rest was now : Option (List ℕ)) → Fault → Type 0
+IsMissed printers left rest was now (Printer number text) =
+    IsSpoolFault printers left rest (Printer number text) × (now ≡ was)
+IsMissed printers left rest was now fault = Unit {0}
 
 -- what may be told of a configuration with this first fault: that a file can't be read, the fault, or want of memory
 abbrev pub StopsAt : {A : Type 0} → ConfigFault → Result A Fault → Type 0

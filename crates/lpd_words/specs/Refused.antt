@@ -1,7 +1,7 @@
 -- Why words ask for nothing.
-use Rattle.std.specs.Prelude.{◌≡◌, ◌≢◌, ◌⊎◌, ◌<◌, ◌&&◌, ℕ, Bool, false, nat_le, List, []}
+use Rattle.std.specs.Prelude.{◌≡◌, ◌≢◌, ◌⊎◌, ◌<◌, ◌&&◌, ◌++◌, ◌∷◌, ℕ, Bool, false, nat_le, List, []}
 use Rattle.std.specs.Prelude.{Option, Some, None, length, codes, string_bytes}
-use Rattle.std.specs.List.{join_with_byte, list_all}
+use Rattle.std.specs.List.{AllZip, Any, join_with_byte, list_all}
 use Rattle.std.specs.declared.net.ipv4_addr.Ipv4Addr.{Ipv4Addr}
 use Rattle.clap.specs.Words.{IsAmong, Kinds, Row, Text, all_of, fault_of, first_of, subcommand_of}
 use Rattle.clap.specs.declared.error.kind.ErrorKind.{ErrorKind}
@@ -14,8 +14,8 @@ use Rattle.lpd_commands.specs.declared.command.Command.TheVariants.{Receive}
 use Rattle.lpd_values.specs.Kept.{is_operand}
 use Rattle.lpd_values.specs.Kinds.{is_word_octet}
 use Rattle.lpd_values.specs.declared.limits.TheConstants.{MAX_FILES}
-use Rattle.lpd_words.specs.Asked.{IsAsked}
-use Rattle.lpd_words.specs.Serving.{AreAllowed, AreLimits, IsAddress}
+use Rattle.lpd_words.specs.Asked.{ChecksPrinters, IsAsked}
+use Rattle.lpd_words.specs.Serving.{AreAllowed, AreLimits, AreOfDifferentPrinters, ArePrinterLimits, IsAddress}
 use Rattle.program_edge.specs.declared.settings.TheConstants.{MOST_CONTROL_PATH}
 use Rattle.lpd_words.specs.Values.{IsGiven, IsGivenOr, IsLimit}
 use Rattle.lpd_words.specs.Asked.{IsControlRequest, IsSending}
@@ -30,7 +30,10 @@ use Rattle.lpd_words.specs.declared.words.Unread.{Unread}
 use Rattle.lpd_words.specs.declared.words.Unread.TheVariants.{Shown, Refused, Memory}
 use Rattle.program_edge.specs.Networks.{IsNetworkText}
 use Rattle.program_edge.specs.declared.networks.Network.{Network}
+use Rattle.program_edge.specs.Places.{IsPrinterText}
+use Rattle.program_edge.specs.declared.places.PrinterPlace.{PrinterPlace}
 use Rattle.program_edge.specs.declared.settings.Limits.{Limits}
+use Rattle.program_edge.specs.declared.settings.PrinterLimits.{PrinterLimits}
 use Rattle.program_edge.specs.declared.settings.Settings.{Settings}
 
 -- a host that can stand in the names of files: 1 to 120 octets of words
@@ -54,6 +57,8 @@ IsWrong s envelope.Number = 999 < s.number
 IsWrong s envelope.Address = ⊥
 IsWrong s (envelope.Network text) = ⊥
 IsWrong s (envelope.Control text) = ⊥
+IsWrong s (envelope.Printer text) = ⊥
+IsWrong s (envelope.PrinterTwice text) = ⊥
 IsWrong s envelope.Command = ⊥
 IsWrong s envelope.Missing = ⊥
 IsWrong s envelope.Memory = Unit {0}
@@ -98,6 +103,29 @@ HasNoControl rows (envelope.Control text) = IsTooLong (codes "control") rows (st
 HasNoControl rows envelope.Memory = Unit {0}
 HasNoControl rows fault = ⊥
 
+-- the option for printers gives this text behind others, which say this of printers, of each once
+abbrev pub IsBehind : List Row → List PrinterPlace → Text → Type 0
+IsBehind rows printers text =
+    (before : List Text) × (behind : List Text)
+    × (all_of (codes "printer") rows ≡ Some (before ++ text ∷ behind))
+    × AllZip IsPrinterText before printers × AreOfDifferentPrinters printers
+
+-- the first text that says nothing of a printer, or that is for the printer of one before it; or memory was refused
+abbrev pub HasNoPrinters : List Row → WordFault → Type 0
+HasNoPrinters rows (envelope.Printer text) =
+    (before : List PrinterPlace) × IsBehind rows before (string_bytes text)
+    × ((said : PrinterPlace) → IsPrinterText (string_bytes text) said → ⊥)
+HasNoPrinters rows (envelope.PrinterTwice text) =
+    (before : List PrinterPlace) × IsBehind rows before (string_bytes text)
+    × ((said : PrinterPlace) × IsPrinterText (string_bytes text) said
+    × Any (λ (one : PrinterPlace). one.printer ≡ said.printer) before)
+HasNoPrinters rows envelope.Memory = Unit {0}
+HasNoPrinters rows fault = ⊥
+
+-- what a printer on the network may do isn't given by numbers above 0
+abbrev pub HasNoPrinterLimits : List Row → Type 0
+HasNoPrinterLimits rows = (limits : PrinterLimits) → ArePrinterLimits rows limits → ⊥
+
 -- the sessions of a server are there, and no number of 32 bits
 abbrev pub HasNoSessions : List Row → Type 0
 HasNoSessions rows = (sessions : ℕ) → IsGivenOr 8 rows (codes "sessions") sessions → ⊥
@@ -108,6 +136,8 @@ LacksServing rows envelope.Address = HasNoAddress rows
 LacksServing rows envelope.Missing = (s : Settings) → IsServing rows s → ⊥
 LacksServing rows (envelope.Network text) = HasNoNetworks rows (envelope.Network text)
 LacksServing rows (envelope.Control text) = HasNoControl rows (envelope.Control text)
+LacksServing rows (envelope.Printer text) = HasNoPrinters rows (envelope.Printer text)
+LacksServing rows (envelope.PrinterTwice text) = HasNoPrinters rows (envelope.PrinterTwice text)
 LacksServing rows envelope.Memory = Unit {0}
 LacksServing rows fault = ⊥
 
@@ -120,6 +150,12 @@ NamesNoAddress (Some met) = (met.0 ≡ codes "serve") × HasNoAddress met.1
 abbrev pub NamesNoNetworks : Option (Text × List Row) → WordFault → Type 0
 NamesNoNetworks None fault = ⊥
 NamesNoNetworks (Some met) fault = (met.0 ≡ codes "serve") × HasNoNetworks met.1 fault
+
+-- words ask to serve or to check, and say nothing of a printer, or twice of one
+abbrev pub NamesNoPrinters : Option (Text × List Row) → WordFault → Type 0
+NamesNoPrinters None fault = ⊥
+NamesNoPrinters (Some met) fault =
+    ((met.0 ≡ codes "serve") ⊎ (met.0 ≡ codes "check")) × HasNoPrinters met.1 fault
 
 -- the path of the control socket that a command is sent to isn't there or too long, or memory was refused
 abbrev pub HasNoPath : List Row → WordFault → Type 0
@@ -166,6 +202,8 @@ abbrev pub AsksNothing : Option (Text × List Row) → WordFault → Type 0
 AsksNothing met envelope.Address = NamesNoAddress met
 AsksNothing met (envelope.Network text) = NamesNoNetworks met (envelope.Network text)
 AsksNothing met (envelope.Control text) = NamesNoControl met (envelope.Control text)
+AsksNothing met (envelope.Printer text) = NamesNoPrinters met (envelope.Printer text)
+AsksNothing met (envelope.PrinterTwice text) = NamesNoPrinters met (envelope.PrinterTwice text)
 AsksNothing met envelope.Command = NamesNoCommand met envelope.Command
 AsksNothing met envelope.Memory = Unit {0}
 AsksNothing met envelope.Missing = (asked : Ask) → IsAsked met asked → ⊥
@@ -191,6 +229,11 @@ IsRefused words =
     IsMistake (fault_of command_line words)
     ⊎ ((fault_of command_line words ≡ []) × ((fault : WordFault) × (fault ≢ envelope.Memory)
     × AsksNothing (subcommand_of command_line words) fault))
+
+-- words ask to check a configuration, and say something of printers
+abbrev pub AsksOfPrinters : List Text → Type 0
+AsksOfPrinters words =
+    (asked : Ask) × IsAsked (subcommand_of command_line words) asked × ChecksPrinters asked
 
 -- what an error of clap comes to, by its kind
 abbrev pub IsUnreadBy : ErrorKind → Unread → Type 0

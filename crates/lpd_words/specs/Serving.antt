@@ -1,6 +1,7 @@
 -- The words of `serve`: as clap sees them, and what they say.
-use Rattle.std.specs.Prelude.{◌≡◌, ◌≤◌, ◌∷◌, List, None, Option, Some, codes, length, option_map, pos, true, [], unwrap_or}
+use Rattle.std.specs.Prelude.{◌≡◌, ◌≢◌, ◌≤◌, ◌∷◌, List, None, Option, Some, codes, length, option_map, pos, true, [], unwrap_or}
 use Rattle.std.specs.Int.NonZero.{non_zero_u64_get}
+use Rattle.std.specs.List.{AllPairs, AllZip}
 use Rattle.std.specs.Net.Grammar.{IsIpv4Text}
 use Rattle.std.specs.declared.net.ipv4_addr.Ipv4Addr.{Ipv4Addr}
 use Rattle.clap.specs.Words.{App, Row, Rule, Text, all_of, first_of, new_app}
@@ -9,7 +10,10 @@ use Rattle.lpd_words.specs.Rules.{count, flag, number_option, option, repeated, 
 use Rattle.lpd_words.specs.Values.{IsFlag, IsGiven, IsGivenOr, IsLimit, IsNumber}
 use Rattle.program_edge.specs.Networks.{NameNetworks}
 use Rattle.program_edge.specs.declared.networks.Network.{Network}
+use Rattle.program_edge.specs.Places.{IsPrinterText}
+use Rattle.program_edge.specs.declared.places.PrinterPlace.{PrinterPlace}
 use Rattle.program_edge.specs.declared.settings.Limits.{Limits}
+use Rattle.program_edge.specs.declared.settings.PrinterLimits.{PrinterLimits}
 use Rattle.program_edge.specs.declared.settings.Settings.{Settings}
 use Rattle.program_edge.specs.declared.settings.TheConstants.{MOST_CONTROL_PATH}
 
@@ -21,13 +25,18 @@ listening_port =
 abbrev pub sessions : Rule
 sessions = number_option (codes "sessions") (parser.Signed (pos 1) (pos 64))
 
+-- what a printer prints to, of `serve` and `check`
+abbrev pub printer : Rule
+printer = repeated (codes "printer")
+
 -- the words and options of `serve`
 abbrev pub serve_words : List Rule
 serve_words =
     word (codes "config") ∷ listening_port ∷ option (codes "bind") ∷ option (codes "out")
     ∷ sessions ∷ count (codes "connections") ∷ count (codes "rotate") ∷ count (codes "silence")
     ∷ count (codes "per-host") ∷ count (codes "slowest") ∷ flag (codes "keep-room")
-    ∷ repeated (codes "allow") ∷ option (codes "control") ∷ []
+    ∷ repeated (codes "allow") ∷ option (codes "control") ∷ printer ∷ count (codes "patience")
+    ∷ count (codes "printer-silence") ∷ count (codes "restart") ∷ []
 
 abbrev pub serve_app : App
 serve_app = with_rules (new_app (codes "serve")) serve_words
@@ -56,6 +65,21 @@ IsControl rows None = first_of (codes "control") rows ≡ None
 IsControl rows (Some path) =
     (first_of (codes "control") rows ≡ Some path) × (length path ≤ MOST_CONTROL_PATH)
 
+-- no two of these are for one printer
+abbrev pub AreOfDifferentPrinters : List PrinterPlace → Type 0
+AreOfDifferentPrinters printers =
+    AllPairs (λ (one other : PrinterPlace). one.printer ≢ other.printer) printers
+
+-- these say what single printers print to: what the option says, each time that it is there, in order; no printer twice
+pub record ArePrinters (rows : List Row) (printers : List PrinterPlace) : Type 0 where
+  pub said : AllZip IsPrinterText (unwrap_or (all_of (codes "printer") rows) []) printers
+  pub once : AreOfDifferentPrinters printers
+
+-- a printer on the network may do what these rows say
+pub record ArePrinterLimits (rows : List Row) (limits : PrinterLimits) : Type 0 where
+  pub patience : IsLimit rows (codes "patience") (option_map non_zero_u64_get limits.patience_minutes)
+  pub silence : IsLimit rows (codes "printer-silence") (option_map non_zero_u64_get limits.silence_seconds)
+
 -- a server runs as these rows say: with 8 sessions at once, in the directory . where they don't say it
 pub record IsServing (rows : List Row) (settings : Settings) : Type 0 where
   pub port : IsNumber rows (codes "port") settings.port
@@ -68,3 +92,6 @@ pub record IsServing (rows : List Row) (settings : Settings) : Type 0 where
   pub limits : AreLimits rows settings.limits
   pub allowed : AreAllowed rows settings.allowed.items
   pub control : IsControl rows (option_map (λ path. path.now) settings.control)
+  pub printers : ArePrinters rows settings.printers.items
+  pub printer_limits : ArePrinterLimits rows settings.printer_limits
+  pub restart : IsLimit rows (codes "restart") (option_map non_zero_u64_get settings.restart_seconds)

@@ -5,7 +5,8 @@ ghost use Rattle.clap.specs.Words.{app_of};
 ghost use Rattle.lpd_words.specs.CommandLine.{check_app, command_line, control_app, program_app, replay_app, send_app};
 ghost use Rattle.lpd_words.specs.Rules.{IsCommand};
 
-use crate::rules::{flag, number, plain, with_words, word, words};
+use crate::printers::PRINTER;
+use crate::rules::{flag, number, plain, repeated, with_words, word, words};
 use crate::serving::serve;
 use clap::Command;
 use clap::builder::ValueParser;
@@ -28,7 +29,7 @@ Examples:
 
 Exit status:
   0  done
-  1  the words can't be read
+  1  the words can't be read, or name a printer that isn't there
   2  the configuration can't be used (faults 50 to 55)
   3  the script can't be run (fault 70)
   4  memory, a file or the network failed (faults 12, 71, 72 and 73)
@@ -41,10 +42,13 @@ const MORE_OF_CHECK: &str = "\
 Prints one line, as: ok pages 1024 page_size 4096 queues 2 printers 3
 With --sizes a line more for each queue, as: queue lp jobs 622
 So many jobs fit into the account, each as large as the queue allows, between two moments without held jobs.
+With --printer, whose PLACE `serve --help` tells, a line more for each printer, as: printer 1 socket://10.0.0.9:9100
+A printer without a PLACE prints to a file of the directory that `serve --out DIR` names: printer 2 DIR/printer-2
 
 Examples:
   lpd_server check spool.toml
   lpd_server check spool.toml --sizes
+  lpd_server check spool.toml --printer 1=socket://10.0.0.9
 
 The keys of a configuration: docs/OPERATING.md, and with remarks docs/example.toml.";
 
@@ -93,6 +97,7 @@ fn check<'a>(alloc: Global) -> Result<Command<'a>, AllocError>
     let words = vec![in alloc;
         word(alloc, "config", "CONFIG", CONFIG),
         flag(alloc, "sizes", sizes),
+        repeated(alloc, "printer", "K=PLACE", PRINTER),
     ]?;
     with_words(plain(alloc, "check", about, MORE_OF_CHECK), words)
 }

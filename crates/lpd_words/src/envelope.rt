@@ -51,6 +51,12 @@ pub enum WordFault {
     /// The path of a control socket has more octets than one may have.
     #[error("'{0}' is no PATH of a socket: it has more than 107 octets")]
     Control(String),
+    /// This text says nothing of a printer.
+    #[error("'{0}' is no K=PLACE: a printer's number from 1, and file:PATH, folder:PATH or socket://A.B.C.D with or without a port :1 to :65535 behind it")]
+    Printer(String),
+    /// This text says what a printer prints to that another has a place for.
+    #[error("'{0}' is a second PLACE for its printer")]
+    PrinterTwice(String),
     /// The words behind the path of a control socket are no command.
     #[error("the words behind PATH are no command: they are status, start QUEUE, hold QUEUE, release QUEUE, remove QUEUE NUMBER, remove QUEUE USER, rotate, stop, stop SECONDS or stop now")]
     Command,

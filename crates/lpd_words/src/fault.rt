@@ -10,7 +10,7 @@ use std::alloc::AllocError;
 use thiserror::Error;
 
 /// Why the program stopped.
-#[derive(Clone, Copy, Debug, PartialEq, Eq, Error)]
+#[derive(Debug, PartialEq, Eq, Drop, Error)]
 pub enum Fault {
     /// Memory was refused.
     #[error("{}", FaultName::Memory)]
@@ -24,6 +24,9 @@ pub enum Fault {
     /// The server didn't take the job.
     #[error("{0}")]
     Send(SendFault),
+    /// The configuration has no printer of this number, and this text says what it prints to.
+    #[error("printer {number} isn't there: {text}")]
+    Printer { number: u32, text: String },
 }
 
 impl From<AllocError> for Fault {
@@ -43,12 +46,13 @@ impl From<lpd_script::Fault> for Fault {
 }
 
 impl Fault {
-    /// The exit status: 2 for the configuration, 3 for the script, 5 for a job that wasn't taken, 4
-    /// for the rest.
-    pub fn status(self) -> u8
-        ensures { result ≡ status_of self }
+    /// The exit status: 1 for a printer that isn't there, 2 for the configuration, 3 for the script,
+    /// 5 for a job that wasn't taken, 4 for the rest.
+    pub fn status(&self) -> u8
+        ensures { result ≡ status_of self.now }
     {
         match self {
+            Fault::Printer { .. } => 1,
             Fault::Run(fault) => fault.status(),
             Fault::Memory | Fault::Network | Fault::Send(SendFault::Memory) => 4,
             Fault::Send(_) => 5,

@@ -5,16 +5,21 @@ ghost use Rattle.std.specs.Prelude.{string_bytes};
 ghost use Rattle.lpd_commands.specs.Ends.{Writes};
 ghost use Rattle.lpd_script.specs.declared.fault.Fault.TheVariants.{ReadFile, WriteFile};
 ghost use Rattle.lpd_words.specs.declared.fault.Fault.TheVariants.{Run};
-ghost use Rattle.lpd_words.specs.Order.{Checked, IsConfigFault, ReadsConfig, StopsAt, write_faults};
+ghost use Rattle.lpd_words.specs.Causes.{IsRunFault};
+ghost use Rattle.lpd_words.specs.Order.{Checked, IsConfigFault, IsMissed, IsSpoolFault, ReadsConfig};
+ghost use Rattle.lpd_words.specs.Order.{StopsAt, write_faults};
+ghost use Rattle.lpd_words.specs.Places.{AreThere};
 ghost use Rattle.lpd_words.specs.Sizes.{few_text, size_line, size_lines};
-ghost use Rattle.lpd_words.specs.Summary.{check_text, summary_line};
+ghost use Rattle.lpd_words.specs.Summary.{check_text, spool_text, summary_line};
 ghost use Rattle.spool_config.specs.Answers.{fault_of};
 ghost use Rattle.spool_config.specs.declared.settings.ConfigFault.{ConfigFault};
 
 use crate::fault::Fault;
+use crate::places::{check_printers, place_lines};
 use config_values::Config;
 use lpd_commands::{OctetRead, OctetWrite, write_all};
 use lpd_script::{read_all, run_parts};
+use program_edge::PrinterPlace;
 use std::alloc::{AllocError, Global};
 
 /// Where fewer jobs than these fit into the account, the line says that they are few.
@@ -43,6 +48,26 @@ pub fn read_config<I: OctetRead>(alloc: Global, input: &mut I) -> Result<Config,
         Ok(config) => Ok(config),
         Err(fault) => Err(Fault::Run(lpd_script::Fault::Config(fault))),
     }
+}
+
+/// Reads a configuration to its end, as `read_config` does, which has these printers. Answers
+/// `Printer` with the first that isn't there, too.
+pub fn read_spool<I: OctetRead>(
+    alloc: Global,
+    input: &mut I,
+    printers: &[PrinterPlace],
+) -> Result<Config, Fault>
+    ensures config { IfOk result (λ config. ReadsConfig (I.left input.old) (I.left input.new) config
+        × AreThere config printers.now) }
+    ensures read_fault { I.faults input.new ≢ I.faults input.old → result ≡ Err (Run ReadFile) }
+    ensures fault { IfErr result (IsSpoolFault printers.now (I.left input.old) (I.left input.new)) }
+    // The configuration's fault comes first.
+    ensures faulty { (text : List ℕ) → I.left input.old ≡ Some text → (due : ConfigFault) →
+        fault_of text ≡ Some due → StopsAt due result }
+{
+    let config = read_config(alloc, input)?;
+    check_printers(alloc, &config, printers)?;
+    Ok(config)
 }
 
 /// What is said of this number of jobs where it is few.
@@ -99,8 +124,8 @@ fn summary_line(
 
 /// The line that says what spool a configuration is for, and where sizes are asked for, one for each
 /// queue.
-fn check_text(alloc: Global, config: &Config, sizes: bool) -> Result<Vec<u8>, AllocError>
-    ensures { IfOk result (λ text. text.items ≡ check_text config.now sizes) }
+fn spool_text(alloc: Global, config: &Config, sizes: bool) -> Result<Vec<u8>, AllocError>
+    ensures { IfOk result (λ text. text.items ≡ spool_text config.now sizes) }
 {
     let (pages, page_size) = (config.pages(), config.page_size());
     let (queues, printers) = (config.queues().len(), config.printer_count());
@@ -113,16 +138,36 @@ fn check_text(alloc: Global, config: &Config, sizes: bool) -> Result<Vec<u8>, Al
     Ok(text)
 }
 
+/// All that `check` prints of a configuration.
+fn check_text(
+    alloc: Global,
+    config: &Config,
+    sizes: bool,
+    printers: &[PrinterPlace],
+) -> Result<Vec<u8>, AllocError>
+    ensures { IfOk result (λ text. text.items ≡ check_text config.now sizes printers.now) }
+{
+    let mut text = spool_text(alloc, config, sizes)?;
+    let lines = place_lines(alloc, printers, config.printer_count())?;
+    text.extend_from_slice(lines.as_slice())?;
+    Ok(text)
+}
+
 /// Reads a configuration to its end, and prints what spool it is for; where sizes are asked for, also
-/// how many jobs of each queue fit into the account. Answers the first fault: `ReadFile`, a fault of
-/// the configuration, `WriteFile`, and `Memory`.
+/// how many jobs of each queue fit into the account; and where anything is said of printers, what
+/// each of them prints to. Answers the first fault: `ReadFile`, a fault of the configuration,
+/// `Printer` where one isn't there, `WriteFile`, and `Memory`.
 pub fn check<I: OctetRead, W: OctetWrite>(
     alloc: Global,
     config: &mut I,
     sizes: bool,
+    printers: &[PrinterPlace],
     output: &mut W,
 ) -> Result<(), Fault>
-    ensures checked { OnOk result (Checked sizes (I.left config.old) (I.left config.new)
+    ensures checked { OnOk result (Checked sizes printers.now (I.left config.old) (I.left config.new)
+        (W.written output.old) (W.written output.new)) }
+    // A printer that isn't there is told before anything is printed.
+    ensures missing { IfErr result (IsMissed printers.now (I.left config.old) (I.left config.new)
         (W.written output.old) (W.written output.new)) }
     ensures read_fault { I.faults config.new ≢ I.faults config.old → result ≡ Err (Run ReadFile) }
     ensures write_fault { W.faults output.new ≡ write_faults (W.faults output.old) result }
@@ -131,8 +176,9 @@ pub fn check<I: OctetRead, W: OctetWrite>(
         fault_of text ≡ Some due →
         StopsAt due result × (W.written output.new ≡ W.written output.old) }
 {
-    let config = read_config(alloc, config)?;
-    print(output, check_text(alloc, &config, sizes)?.as_slice())
+    let config = read_spool(alloc, config, printers)?;
+    let text = check_text(alloc, &config, sizes, printers)?;
+    print(output, text.as_slice())
 }
 
 /// Reads a configuration and a script to their ends, and runs the script on the spool that the
@@ -150,6 +196,7 @@ pub fn replay<I: OctetRead, J: OctetRead, W: OctetWrite>(
         → result ≡ Err (Run ReadFile) }
     ensures unread { result ≡ Err (Run ReadFile) → W.written output.new ≡ W.written output.old }
     ensures write_fault { W.faults output.new ≡ write_faults (W.faults output.old) result }
+    ensures fault { IfErr result IsRunFault }
     // Files that can't be read come first, then the configuration's fault, and nothing is printed.
     ensures faulty { (text : List ℕ) → I.left config.old ≡ Some text → (due : ConfigFault) →
         fault_of text ≡ Some due →

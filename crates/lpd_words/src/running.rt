@@ -8,15 +8,15 @@ ghost use Rattle.lpd_commands.specs.Ends.{Writes};
 ghost use Rattle.lpd_script.specs.Streams.{HasGivenAll, IsUnread, IsUntouched};
 ghost use Rattle.lpd_script.specs.declared.fault.Fault.TheVariants.{ReadFile};
 ghost use Rattle.lpd_values.specs.Name.{is_data_name};
-ghost use Rattle.lpd_words.specs.Asked.{IsAsked};
-ghost use Rattle.lpd_words.specs.Causes.{IsFileFault, IsNetworkFault};
+ghost use Rattle.lpd_words.specs.Asked.{ChecksPrinters, IsAsked};
+ghost use Rattle.lpd_words.specs.Causes.{IsFileFault, IsNetworkFault, IsRunFault};
 ghost use Rattle.lpd_words.specs.CommandLine.{command_line};
 ghost use Rattle.lpd_words.specs.DataFiles.{AreRead};
 ghost use Rattle.lpd_words.specs.Naming.{sent_line};
 ghost use Rattle.lpd_words.specs.Order.{write_faults};
 ghost use Rattle.lpd_words.specs.Outcome.{IfControls, IfEnded, IfServes};
-ghost use Rattle.lpd_words.specs.Status.{end_status};
-ghost use Rattle.lpd_words.specs.Refused.{IsRefused, IsTaken};
+ghost use Rattle.lpd_words.specs.Status.{end_status, status_of};
+ghost use Rattle.lpd_words.specs.Refused.{AsksOfPrinters, IsRefused, IsTaken};
 ghost use Rattle.lpd_words.specs.Unread.{IsUnreadStatus};
 ghost use Rattle.lpd_words.specs.declared.fault.Fault.TheVariants.{Network, Run};
 ghost use Rattle.lpd_words.specs.declared.running.Outcome.TheVariants.{Ended};
@@ -35,7 +35,7 @@ use log::Log;
 use lpd_commands::{OctetRead, OctetWrite, write_all};
 use lpd_script::{read_all, run_input};
 use lpr_client::{DataFile, FileName, Octets, send_job};
-use program_edge::{Settings, StreamReader, StreamWriter, tell, tell_cause};
+use program_edge::{PrinterPlace, Settings, StreamReader, StreamWriter, tell, tell_cause};
 use std::alloc::{AllocError, Global};
 use std::fs::Files;
 use std::io;
@@ -206,6 +206,7 @@ fn send_files<R: Files + Net + Log, W: OctetWrite>(
     ensures write_fault { W.faults output.new ≡ write_faults (W.faults output.old) result }
     ensures sent { OnOk result (Writes (W.written output.old) (W.written output.new)
         (sent_line envelope.now.control.number)) }
+    ensures fault { IfErr result (λ fault. status_of fault ≢ 1) }
 {
     let names = envelope.control.prints.as_slice();
     let files = data_files(alloc, rt, names, sending.files.as_slice())?;
@@ -215,17 +216,19 @@ fn send_files<R: Files + Net + Log, W: OctetWrite>(
 }
 
 /// Checks the configuration at this path. The log is told why it can't be read.
-fn check_file<R: Files + Log, W: OctetWrite>(
-    alloc: Global,
+fn check_file<R: Files + Log + Alloc<A = Global>, W: OctetWrite>(
     rt: &R,
     config: &str,
     sizes: bool,
+    printers: &[PrinterPlace],
     output: &mut W,
 ) -> Result<(), Fault>
     ensures write_fault { W.faults output.new ≡ write_faults (W.faults output.old) result }
+    ensures missing { IfErr result (λ fault. status_of fault ≡ 1 →
+        (0 < length printers.now) × (W.written output.new ≡ W.written output.old)) }
 {
     let mut file = StreamReader::open(rt, config);
-    let end = check(alloc, &mut file, sizes, output);
+    let end = check(rt.alloc(), &mut file, sizes, printers, output);
     tell_cause(rt, &config, file.cause());
     end
 }
@@ -240,6 +243,7 @@ fn replay_files<R: Files + Log, W: OctetWrite>(
     output: &mut W,
 ) -> Result<(), Fault>
     ensures write_fault { W.faults output.new ≡ write_faults (W.faults output.old) result }
+    ensures fault { IfErr result IsRunFault }
 {
     let mut config_file = StreamReader::open(rt, config);
     let mut script_file = StreamReader::open(rt, script);
@@ -255,17 +259,23 @@ fn replay_files<R: Files + Log, W: OctetWrite>(
 }
 
 /// Does what is asked for, but for what the standard input asks, for serving, and for commands to a server.
-fn run_asked<R: Files + Net + Log, W: OctetWrite>(
+fn run_asked<R: Files + Net + Log + Alloc<A = Global>, W: OctetWrite>(
     alloc: Global,
     rt: &R,
     ask: Ask,
     output: &mut W,
 ) -> Result<(), Fault>
     ensures write_fault { W.faults output.new ≡ write_faults (W.faults output.old) result }
+    ensures missing { IfErr result (λ fault. status_of fault ≡ 1 →
+        ChecksPrinters ask.entry × (W.written output.new ≡ W.written output.old)) }
 {
     match ask {
         Ask::Input | Ask::Serve { .. } | Ask::Control(_) => Ok(()),
-        Ask::Check { config, sizes } => check_file(alloc, rt, config, sizes, output),
+        Ask::Check {
+            config,
+            sizes,
+            printers,
+        } => check_file(rt, config, sizes, printers.as_slice(), output),
         Ask::Replay { config, script } => replay_files(alloc, rt, config, script, output),
         Ask::Send { sending, envelope } => send_files(alloc, rt, &sending, &envelope, output),
     }
@@ -289,7 +299,7 @@ fn ended<E: OctetWrite>(alloc: Global, end: Result<(), Fault>, faults: &mut E) -
 /// input asks (see `lpd_script::run_input`). Where they ask to serve, `Serve` says how, and where they
 /// ask to send a command to a server, `Control` says which; nothing is done for either yet. Otherwise `Ended` has the exit status: 0 where it was done, or help or the version
 /// was asked for and printed; 1 where the words can't be read, which `faults` is told; otherwise
-/// that of the fault, which is told there in one line. Faults are looked for in this order: the
+/// that of the fault, which is told there in one line, 1 too where it is a printer that isn't there. Faults are looked for in this order: the
 /// words, files read, the configuration, the network. Before a fault for a file or the network the
 /// log is told at INFO which file or address it is about, and why.
 pub fn run<
@@ -301,12 +311,14 @@ pub fn run<
 >(rt: &R, words: &'a [String], input: &mut I, output: &mut W, faults: &mut E) -> Outcome<'a>
     ensures status { IfEnded result (λ status. status ≤ 5) }
     ensures taken { result ≡ Ended 0 → IsTaken (map string_bytes words.entry.now) }
-    ensures refused { result ≡ Ended 1 → IsRefused (map string_bytes words.entry.now) }
+    // Where words can be read, one alone ends so: `check`, for a printer that isn't there.
+    ensures refused { result ≡ Ended 1 → IsRefused (map string_bytes words.entry.now)
+        ⊎ AsksOfPrinters (map string_bytes words.entry.now) }
     ensures write_fault { W.faults output.new ≢ W.faults output.old → result ≡ Ended 4 }
     ensures read_fault { I.faults input.new ≢ I.faults input.old → result ≡ Ended 4 }
     ensures quiet { result ≡ Ended 0 → IsUntouched (E.written faults.old) (E.faults faults.old)
         (E.written faults.new) (E.faults faults.new) }
-    // Where the words can't be read nothing is read and nothing printed.
+    // Where the words can't be read, or a printer isn't there, the input isn't read and nothing is printed.
     ensures unread { result ≡ Ended 1 → (W.written output.new ≡ W.written output.old)
         × (I.left input.new ≡ I.left input.old) }
     // Words that ask to serve are taken, and nothing is read, printed or told.

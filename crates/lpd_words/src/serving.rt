@@ -12,6 +12,7 @@ ghost use Rattle.lpd_words.specs.declared.envelope.WordFault.TheVariants.{Addres
 
 use crate::command::CONFIG;
 use crate::envelope::WordFault;
+use crate::printers::{PRINTER, printer_limits_of, printers_of};
 use crate::rules::{count, flag, number_option, option, plain, repeated, with_words, word};
 use crate::values::{count_of, flag_of, limit_of, number_of, text_if, text_or, texts_of};
 use clap::builder::ValueParser;
@@ -35,10 +36,13 @@ const MORE_OF_SERVE: &str = "\
 Prints `listening N` with its port, `rotated K entries E` when the account is rotated, and after the last
 connection, where there is one, `closed entries E`. The pages of printer K are written to DIR/printer-K, at its end.
 Sessions that fail are told on standard error.
+A PLACE is file:PATH, a file, a device or a pipe; folder:PATH, where each job becomes a file of its own; or
+socket://A.B.C.D[:PORT], a printer on the network that takes octets as they are, at port 9100 without :PORT.
 
 Examples:
   lpd_server serve spool.toml --port 515 --keep-room
   lpd_server serve spool.toml --port 5150 --bind 0.0.0.0 --out pages --sessions 16 --silence 60
+  lpd_server serve spool.toml --port 515 --printer 1=socket://10.0.0.9
   lpd_server serve spool.toml --port 5150 --connections 1";
 
 /// The option that has to be there, the port to listen on.
@@ -65,6 +69,9 @@ pub(crate) fn serve<'a>(alloc: Global) -> Result<Command<'a>, AllocError>
     let keep_room = "Rotates the account as soon as no job is held, and has new jobs wait for that";
     let allow = "Lets in this network alone, and each other that is named so, as 10.0.0.0/8";
     let control = "Makes a Unix socket at PATH where the server is looked after";
+    let patience = "Fails a job whose network printer isn't reached for MINUTES, 1 or more";
+    let silent = "Fails a job whose network printer takes nothing for SECONDS, 1 or more";
+    let restart = "Starts a queue again SECONDS, 1 or more, after a printer of it failed";
     let words = vec![in alloc;
         word(alloc, "config", "CONFIG", CONFIG),
         listening_port(alloc),
@@ -85,6 +92,10 @@ pub(crate) fn serve<'a>(alloc: Global) -> Result<Command<'a>, AllocError>
         flag(alloc, "keep-room", keep_room),
         repeated(alloc, "allow", "NETWORK", allow),
         option(alloc, "control", "PATH", control),
+        repeated(alloc, "printer", "K=PLACE", PRINTER),
+        count(alloc, "patience", "MINUTES", patience),
+        count(alloc, "printer-silence", "SECONDS", silent),
+        count(alloc, "restart", "SECONDS", restart),
     ]?;
     with_words(plain(alloc, "serve", about, MORE_OF_SERVE), words)
 }
@@ -183,5 +194,8 @@ pub(crate) fn serving_of<'a>(
         limits: limits_of(matches)?,
         allowed: networks_of(alloc, matches)?,
         control: control_of(alloc, matches)?,
+        printers: printers_of(alloc, matches)?,
+        printer_limits: printer_limits_of(matches)?,
+        restart_seconds: limit_of(matches, "restart")?,
     })
 }

@@ -11,11 +11,12 @@ ghost use Rattle.lpd_words.specs.declared.words.Unread.TheVariants.{Memory};
 use crate::command::command;
 use crate::controlling::{ControlRequest, request_of};
 use crate::envelope::{Envelope, WordFault};
+use crate::printers::printers_of;
 use crate::serving::serving_of;
 use crate::values::{flag_of, number_of, text_of, texts_of};
 use clap::error::ErrorKind;
 use clap::{ArgMatches, Command, Error};
-use program_edge::Settings;
+use program_edge::{PrinterPlace, Settings};
 use std::alloc::{AllocError, Global};
 use std::env::Env;
 use std::io;
@@ -47,6 +48,9 @@ pub enum Ask<'a> {
         config: &'a str,
         /// Whether to say how many jobs fit into the account.
         sizes: bool,
+        /// What single printers print to: each number at most once. Where there are any, what each
+        /// printer prints to is said.
+        printers: Vec<PrinterPlace<'a>>,
     },
     /// To run the script at a path on the spool that the configuration at a path gives.
     Replay {
@@ -130,7 +134,12 @@ fn asked_by<'a>(alloc: Global, name: &str, matches: &ArgMatches<'a>) -> Result<A
         "check" => {
             let config = text_of(matches, "config")?;
             let sizes = flag_of(matches, "sizes");
-            Ok(Ask::Check { config, sizes })
+            let printers = printers_of(alloc, matches)?;
+            Ok(Ask::Check {
+                config,
+                sizes,
+                printers,
+            })
         }
         "replay" => {
             let config = text_of(matches, "config")?;

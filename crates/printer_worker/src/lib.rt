@@ -4,9 +4,11 @@
 //! No lock is held while a page is written.
 #![tactic(auto)]
 
+mod leaving;
 mod sink;
 mod worker;
 
+pub use leaving::Leaving;
 pub use shared_spool::{HandedPage, PrinterSeat, SharedSpool};
 pub use sink::{PrintSink, SinkFault};
 pub use spool_ledgers::SpoolLedger;

@@ -13,4 +13,4 @@ bits_behind text (Some rest) stands bits (inr h) = subst (λ t. IsBitsText t bit
 -- a part names one number
 pub one_number : (o : Option (Bor (List ℕ))) (a b : ℕ) → IsBits o a → IsBits o b → a ≡ b
 one_number None a b h k = h ∙ sym k
-one_number (Some text) a b h k = h.2 ∙ sym k.2
+one_number (Some text) a b h k = h.0.2 ∙ sym k.0.2

@@ -1,4 +1,6 @@
 -- The words of this crate's contracts.
 pub mod NetworkParts
 pub mod Networks
+pub mod Numerals
+pub mod Places
 pub mod Told

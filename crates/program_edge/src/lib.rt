@@ -5,6 +5,8 @@
 mod descriptors;
 mod log_queue;
 mod networks;
+mod numerals;
+mod places;
 mod settings;
 mod streams;
 mod telling;
@@ -12,8 +14,10 @@ mod telling;
 pub use descriptors::{descriptor_limit, fill_standard_descriptors};
 pub use log_queue::{LineLog, LineQueue};
 pub use networks::Network;
+pub use places::{Place, PrinterPlace};
 pub use settings::{
-    LEAVE_SECONDS, Limits, MOST_CONTROL_PATH, MOST_SESSIONS, NO_JOB_SECONDS, ROOM_MS, Settings,
+    LEAVE_SECONDS, Limits, MOST_CONTROL_PATH, MOST_SESSIONS, NO_JOB_SECONDS, PrinterLimits,
+    ROOM_MS, Settings,
 };
 pub use streams::{StreamReader, StreamWriter};
 pub use telling::{FaultName, tell, tell_cause};

@@ -3,8 +3,9 @@
 ghost use Rattle.std.specs.List.{before_first};
 ghost use Rattle.std.specs.Net.Addr.{ipv4_bits};
 ghost use Rattle.std.specs.Prelude.{◌≡◌, ◌↔◌, ◌≤◌, ◌-◌, ◌^◌, ◌%◌, ℕ, IfNone, IfSome, IsTrue};
-ghost use Rattle.program_edge.specs.NetworkParts.{IsBits, IsPlain, StandsBehind, is_slash};
+ghost use Rattle.program_edge.specs.NetworkParts.{IsBits, StandsBehind, is_slash};
 
+use crate::numerals::plain_number;
 use std::net::Ipv4Addr;
 
 /// The addresses that begin with the same `bits` bits as this one.
@@ -29,17 +30,6 @@ fn parts_of(text: &str) -> (&str, Option<&str>)
     }
 }
 
-/// Whether a number's text has no sign, and no zero in front of other digits.
-fn is_plain(text: &[u8]) -> bool
-    ensures { IsTrue result ↔ IsPlain text.now }
-{
-    match text.first() {
-        Some(b'+' | b'-') => false,
-        Some(b'0') => text.len() == 1,
-        _ => true,
-    }
-}
-
 /// How many bits of a network are the same, as this text says, or without one all. None where it is
 /// no number of 0 to 32.
 fn bits_of(text: Option<&str>) -> Option<u32>
@@ -49,12 +39,7 @@ fn bits_of(text: Option<&str>) -> Option<u32>
     let Some(text) = text else {
         return Some(32);
     };
-    if !is_plain(text.as_bytes()) {
-        return None;
-    }
-    let Ok(bits) = text.parse::<u32>() else {
-        return None;
-    };
+    let bits = plain_number(text)?;
     if bits > 32 {
         return None;
     }

@@ -4,6 +4,7 @@ ghost use Rattle.std.specs.Prelude.{◌≡◌, [], None, codes, false};
 ghost use Rattle.std.specs.declared.net.ipv4_addr.TheConstants.Ipv4Addr.{LOCALHOST};
 
 use crate::networks::Network;
+use crate::places::PrinterPlace;
 use std::alloc::Global;
 use std::net::Ipv4Addr;
 use std::num::NonZeroU64;
@@ -50,6 +51,14 @@ pub struct Settings<'a> {
     pub allowed: Vec<Network>,
     /// The path of the control socket, where there is one: at most `MOST_CONTROL_PATH` octets.
     pub control: Option<&'a str>,
+    /// What single printers print to: each number at most once. Every other printer prints to its
+    /// file in `out`.
+    pub printers: Vec<PrinterPlace<'a>>,
+    /// What a printer on the network may do.
+    pub printer_limits: PrinterLimits,
+    /// How many seconds after the last failure of a printer its queue is started again; never
+    /// without it.
+    pub restart_seconds: Option<NonZeroU64>,
 }
 
 impl<'a> Settings<'a> {
@@ -68,6 +77,10 @@ impl<'a> Settings<'a> {
             × (result.limits.leave_seconds ≡ 5) × (result.limits.room_ms ≡ 1000) }
         ensures allowed { result.allowed.items ≡ [] }
         ensures control { result.control ≡ None }
+        ensures printers { result.printers.items ≡ [] }
+        ensures printer_limits { (result.printer_limits.patience_minutes ≡ None)
+            × (result.printer_limits.silence_seconds ≡ None) }
+        ensures restart_seconds { result.restart_seconds ≡ None }
     {
         Settings {
             bind: Ipv4Addr::LOCALHOST,
@@ -80,6 +93,9 @@ impl<'a> Settings<'a> {
             limits: Limits::NONE,
             allowed: Vec::new(alloc),
             control: None,
+            printers: Vec::new(alloc),
+            printer_limits: PrinterLimits::NONE,
+            restart_seconds: None,
         }
     }
 }
@@ -113,5 +129,22 @@ impl Limits {
         no_job_seconds: NO_JOB_SECONDS,
         leave_seconds: LEAVE_SECONDS,
         room_ms: ROOM_MS,
+    };
+}
+
+/// What a printer on the network may do. Where a number isn't given there is no limit.
+#[derive(Clone, Copy, Debug)]
+pub struct PrinterLimits {
+    /// For how many minutes a printer that isn't reached is tried again before its job fails.
+    pub patience_minutes: Option<NonZeroU64>,
+    /// For how many seconds a printer may take nothing amid a job before this fails.
+    pub silence_seconds: Option<NonZeroU64>,
+}
+
+impl PrinterLimits {
+    /// Nothing is limited.
+    pub const NONE: PrinterLimits = PrinterLimits {
+        patience_minutes: None,
+        silence_seconds: None,
     };
 }

@@ -213,7 +213,7 @@ impl<E: SpoolLedger, K: Ledger, H: Ledger> Room<E, K, H> {
     }
 
     /// Whether a job would begin at a printer, and its queue is held.
-    fn is_put_off(&self, printer: u32) -> bool
+    pub(crate) fn is_put_off(&self, printer: u32) -> bool
         ensures { IsTrue result
             ↔ IsPutOff E.config self.now.locked self.now.line.held.items printer }
     {

@@ -1,7 +1,8 @@
 //! The calls of a printer, through its seat.
 
-ghost use Rattle.std.specs.Prelude.{◌≡◌, ◌<◌, ◌^◌, IfErr};
+ghost use Rattle.std.specs.Prelude.{◌≡◌, ◌≢◌, ◌<◌, ◌^◌, IfErr};
 ghost use Rattle.account.specs.declared.kind.Kind.TheVariants as kind;
+ghost use Rattle.spool_calls.specs.declared.answers.Next.TheVariants as next;
 ghost use Rattle.shared_spool.specs.Seats.{back_desk, is_out_after, next_desk};
 
 use crate::line::Calls;
@@ -35,6 +36,26 @@ impl<E: SpoolLedger, K: Ledger, H: Ledger> SharedSpool<E, K, H> {
     {
         let printer = seat.printer;
         let answer = self.state.lock(rt).locked.next(&mut seat.shares, printer);
+        self.hands(seat, &answer);
+        answer
+    }
+
+    /// Gives the seat's printer its next page as `next` does, where its queue isn't held or no job would begin there: what
+    /// `next_wait` would give it without waiting.
+    ///
+    /// Nothing and Stopped where `next_wait` would wait; Closed and Busy as `next`.
+    pub fn next_at_once<R: Wait>(&self, rt: &R, seat: &mut PrinterSeat<E, K, H>) -> Next
+        ensures seat { seat.new ≡ next_desk result seat.old }
+        ensures bound { result ≢ next.Nothing → seat.new.sums.handed < 2 ^ 64 }
+    {
+        let printer = seat.printer;
+        let mut room = self.state.lock(rt);
+        if room.is_put_off(printer) {
+            return Next::Nothing;
+        }
+        // It doesn't stand in the line: who looks so may be long until it waits.
+        let answer = room.locked.next(&mut seat.shares, printer);
+        drop(room);
         self.hands(seat, &answer);
         answer
     }

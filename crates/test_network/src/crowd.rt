@@ -1,11 +1,5 @@
 //! Many clients at once, of which some break the rules.
 
-use crate::clients::{
-    HALF, begin, connect, is_answered, is_ended, octets_of, send, send_more, write,
-};
-use crate::jobs::{are_in_order, job_text, jobs_in, pages_of};
-use crate::place::{make, printed, remove};
-use crate::server::{PLOTTER, ends_well, settings};
 use lpd_daemon::{Limits, Settings};
 use std::alloc::Global;
 use std::net::{Net, Shutdown, TcpStream};
@@ -13,6 +7,10 @@ use std::num::NonZeroU64;
 use std::process::Abort;
 use std::thread;
 use test_kit::Spool;
+use test_kit_network::{
+    HALF, PLOTTER, are_in_order, begin, connect, ends_well, is_answered, is_ended, job_text,
+    jobs_in, make, octets_of, pages_of, printed, remove, send, send_more, settings, write,
+};
 
 /// How many clients send jobs by the rules.
 const CLIENTS: u32 = 32;

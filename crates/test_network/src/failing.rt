@@ -1,11 +1,7 @@
 //! Servers that can't start, or can't go on. Those that no client comes to await no connection, so
 //! that a wrong one ends too.
 
-use crate::clients::{connect, send, send_more};
-use crate::jobs::HELLO;
 use crate::logging::faults_in;
-use crate::place::{is_printed, make, path, remove};
-use crate::server::{ENDLESS, Paper, Terminal, beside, ends_well, plan_of, run, settings};
 use log::{Level, Log, Logged};
 use lpd_daemon::{Fault, Settings};
 use program_edge::{LineLog, LineQueue};
@@ -19,6 +15,10 @@ use std::sync::Wait;
 use std::thread::Threads;
 use std::time::Clock;
 use test_kit::Spool;
+use test_kit_network::{
+    ENDLESS, HELLO, Paper, Terminal, beside, connect, ends_well, is_printed, make, path, plan_of,
+    remove, run, send, send_more, settings,
+};
 
 /// Runs a server that no client comes to, whose lines are written on this paper. It prints nothing.
 /// How it ended.
@@ -32,7 +32,10 @@ fn unseen<
         + Threads
         + Wait
         + Sync,
->(rt: &R, settings: Settings<'_>, paper: Paper) -> Result<(), Fault> {
+>(rt: &R, settings: Settings<'_>, paper: Paper) -> Result<(), Fault>
+where
+    R::Dir: Send + Sync,
+{
     let alloc = rt.alloc();
     let terminal = Terminal::new(alloc, paper);
     let ended = run(rt, &terminal, plan_of(rt, Spool::SMALL, settings));

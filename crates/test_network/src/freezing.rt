@@ -1,13 +1,5 @@
 //! Peers and printers by which a server would stop to answer others.
 
-use crate::clients::{
-    HALF, LIMIT_SECONDS, ask, ask_from, begin, connect, is_answered, is_ended, is_soon, octets_of,
-    refused, send, waits, write,
-};
-use crate::jobs::HELLO;
-use crate::pipe::Pipe;
-use crate::place::{is_printed, make, remove};
-use crate::server::{PLOTTER, ends_well, settings};
 use lpd_daemon::{Limits, Settings};
 use lpr_client::SendFault;
 use std::io::{Read, Write};
@@ -17,6 +9,11 @@ use std::process::Abort;
 use std::thread;
 use std::time::{Clock, Duration, Instant};
 use test_kit::Spool;
+use test_kit_network::{
+    HALF, HELLO, LIMIT_SECONDS, PLOTTER, Pipe, ask, ask_from, begin, connect, ends_well,
+    is_answered, is_ended, is_printed, is_soon, make, octets_of, refused, remove, send, settings,
+    waits, write,
+};
 
 /// A spool with pages for all jobs for which the account has room, which are 14.
 const FOURTEEN: Spool = Spool {

@@ -2,12 +2,6 @@
 #![tactic(auto)]
 
 #[cfg(test)]
-mod allowing;
-#[cfg(test)]
-mod clients;
-#[cfg(test)]
-mod controlling;
-#[cfg(test)]
 mod crowd;
 #[cfg(test)]
 mod failing;
@@ -16,20 +10,12 @@ mod freezing;
 #[cfg(test)]
 mod halting;
 #[cfg(test)]
-mod jobs;
-#[cfg(test)]
 mod listings;
 #[cfg(test)]
 mod lobby;
 #[cfg(test)]
 mod logging;
 #[cfg(test)]
-mod pipe;
-#[cfg(test)]
-mod place;
-#[cfg(test)]
 mod printing;
-#[cfg(test)]
-mod server;
 #[cfg(test)]
 mod words;

@@ -1,8 +1,5 @@
 //! What is logged, by a log that holds up no one.
 
-use crate::clients::{ask, ask_from, connect, is_answered, is_ended, refused, send, write};
-use crate::place::{make, path, remove};
-use crate::server::{ends_well, settings};
 use log::{Level, Logged, error, warn};
 use lpd_daemon::{Limits, Settings};
 use program_edge::{LineLog, LineQueue};
@@ -17,6 +14,10 @@ use std::sync::atomic::{AtomicBool, Ordering};
 use std::time::{Clock, Duration};
 use std::{io, thread};
 use test_kit::Spool;
+use test_kit_network::{
+    all_lines, ask, ask_from, connect, ends_well, is_answered, is_ended, make, path, refused,
+    remove, send, settings, write,
+};
 
 /// Where two lines may wait to be written, the first two are, in order: a fault as a line of its
 /// own, and a warning behind the part that gives it. How many were dropped is told.
@@ -209,15 +210,6 @@ fn count_cut<R: Abort + AllocGlobal + Clock + Net<Stream = TcpStream>>(
         }
     }
     cut
-}
-
-/// All lines that wait in a queue, to which no more come.
-pub fn all_lines<R: Abort + Clock + Wait>(rt: &R, alloc: Global, queue: &LineQueue) -> String {
-    queue.end(rt, Duration::from_millis(1));
-    let mut written = Vec::new(alloc);
-    queue.write_all(rt, alloc, &mut written);
-    let text = str::from_utf8(written.as_slice()).expect(rt, "text");
-    String::from_str(alloc, text).expect(rt, "memory")
 }
 
 /// Whether this line tells why a session ended.

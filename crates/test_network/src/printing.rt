@@ -1,10 +1,5 @@
 //! Jobs of one client, one after another.
 
-use crate::clients::{begin, connect, is_answered, is_ended, octets_of, send, waits, write};
-use crate::jobs::HELLO;
-use crate::pipe::Pipe;
-use crate::place::{is_printed, make, path, remove};
-use crate::server::{ENDLESS, Paper, Terminal, beside, ends_well, plan_of, settings};
 use lpd_daemon::{Limits, Settings};
 use lpr_client::SendFault;
 use std::net::{Net, TcpStream};
@@ -13,6 +8,10 @@ use std::process::Abort;
 use std::time::Duration;
 use std::{fs, thread};
 use test_kit::Spool;
+use test_kit_network::{
+    ENDLESS, HELLO, Paper, Pipe, Terminal, begin, beside, connect, ends_well, is_answered,
+    is_ended, is_printed, make, octets_of, path, plan_of, remove, send, settings, waits, write,
+};
 
 /// New jobs wait for room as long as a busy machine needs.
 const PATIENT: Limits = Limits {

@@ -1,9 +1,5 @@
 //! A server and a client, each by the program's words.
 
-use crate::jobs::HELLO;
-use crate::logging::all_lines;
-use crate::place::{is_printed, make, remove};
-use crate::server::{ENDLESS, Terminal, beside};
 use config_values::Config;
 use log::{Level, Log, Logged};
 use lpd_daemon::{Counter, Plan, Settings};
@@ -15,6 +11,7 @@ use std::fs::Files;
 use std::net::{Ipv4Addr, Net, OpenListener, SocketAddr, TcpListener, TcpStream};
 use std::process::Abort;
 use test_kit::Spool;
+use test_kit_network::{ENDLESS, HELLO, Terminal, all_lines, beside, is_printed, make, remove};
 
 /// The words of a line, one space between them.
 fn words_of<R: Abort>(rt: &R, alloc: Global, line: &str) -> Vec<String> {

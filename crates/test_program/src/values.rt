@@ -50,7 +50,8 @@ fn texts_of_faults(rt: HostRuntime) {
     let (taken, full) = (ChainError::NameTaken, ChainError::FilesFull);
     let text = format!(in alloc; "{taken} {full}").expect(&rt, "memory");
     expect(&rt, b"chains", text.as_bytes(), b"7 NameTaken 8 FilesFull");
-    let faults: [(Fault, &[u8]); 8] = [
+    let text = String::from_str(alloc, "9=file:x").expect(&rt, "memory");
+    let faults: [(Fault, &[u8]); 9] = [
         (Fault::Send(SendFault::Refused(1)), b"fault 60 Refused 1"),
         (Fault::Send(SendFault::Cut), b"fault 61 Cut"),
         (Fault::Send(SendFault::ReadFault), b"fault 62 ReadFault"),
@@ -61,6 +62,10 @@ fn texts_of_faults(rt: HostRuntime) {
         (
             Fault::Run(lpd_script::Fault::WriteFile),
             b"fault 73 WriteFile",
+        ),
+        (
+            Fault::Printer { number: 9, text },
+            b"printer 9 isn't there: 9=file:x",
         ),
     ];
     for (fault, wanted) in faults {

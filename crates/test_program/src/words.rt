@@ -4,7 +4,7 @@ use crate::expected::expect;
 use log::Log;
 use lpd_words::{Outcome, Settings, run};
 use lpr_client::{Control, DataFile, FileName, Octets, is_sendable, job_bytes};
-use program_edge::{Limits, StreamReader, StreamWriter};
+use program_edge::{Limits, PrinterLimits, StreamReader, StreamWriter};
 use std::alloc::{AllocError, Global};
 use std::fs::Files;
 use std::io::{Read, Write};
@@ -51,7 +51,7 @@ const FEW: &[u8] = b"pages = 2600\npage_size = 8\nmax_jobs = 8\naccount = 515600
 ///
 /// A configuration is a script of bad lines, and a script is no configuration. A file that can't be read comes before a fault of the
 /// configuration.
-const TOLD: [(&str, &[u8], &[u8]); 23] = [
+const TOLD: [(&str, &[u8], &[u8]); 28] = [
     ("", SCRIPT, b"free 4\nstatus 0\n"),
     ("", CONFIG, b"status 0\n"),
     (
@@ -76,6 +76,28 @@ const TOLD: [(&str, &[u8], &[u8]); 23] = [
           queue fifty jobs 50\n\
           queue few jobs 49, too few: a larger account or larger pages make room\n\
           queue none jobs 0, too few: a larger account or larger pages make room\nstatus 0\n",
+    ),
+    (
+        "check,FILE,--printer,2=socket://10.0.0.9:65535,--printer,1=folder:jobs",
+        EXAMPLE,
+        b"ok pages 1024 page_size 65536 queues 2 printers 3\n\
+          printer 1 folder:jobs\nprinter 2 socket://10.0.0.9:65535\nprinter 3 DIR/printer-3\nstatus 0\n",
+    ),
+    (
+        "check,FILE,--sizes,--printer,3=file:/dev/usb/lp0",
+        EXAMPLE,
+        b"ok pages 1024 page_size 65536 queues 2 printers 3\nqueue lp jobs 622\nqueue plotter jobs 156\n\
+          printer 1 DIR/printer-1\nprinter 2 DIR/printer-2\nprinter 3 file:/dev/usb/lp0\nstatus 0\n",
+    ),
+    (
+        "check,FILE,--printer,1=file:x,--printer,9=socket://10.0.0.9:0515,--printer,8=file:x",
+        EXAMPLE,
+        b"printer 9 isn't there: 9=socket://10.0.0.9:515\nstatus 1\n",
+    ),
+    (
+        "check,FILE,--printer,9=file:x",
+        b"pages = 0\n",
+        b"fault 53 OutOfRange pages\nstatus 2\n",
     ),
     (
         "check,FILE",
@@ -111,24 +133,33 @@ const TOLD: [(&str, &[u8], &[u8]); 23] = [
     (
         "serve,spool.toml,--port,515",
         b"",
-        b"serves spool.toml 515 127.0.0.1 . 8 None None None None None 5 5 1000 false [] None\n",
+        b"serves spool.toml 515 127.0.0.1 . 8 None None None None None 5 5 1000 false [] None [] None None None\n",
     ),
     (
         "serve,--port=65535,--bind,10.0.200.255,--out,pages,--sessions,64,--connections,3,--rotate,4294967295,--silence,60,\
          --per-host,4,--slowest,100,--keep-room,--allow,10.0.0.0/8,--allow,192.168.1.7,spool.toml",
         b"",
         b"serves spool.toml 65535 10.0.200.255 pages 64 Some(3) Some(4294967295) Some(60) Some(4) Some(100) 5 5 1000 true \
-          [Network { address: 10.0.0.0, bits: 8 }, Network { address: 192.168.1.7, bits: 32 }] None\n",
+          [Network { address: 10.0.0.0, bits: 8 }, Network { address: 192.168.1.7, bits: 32 }] None [] None None None\n",
     ),
     (
         "serve,a,--port,1",
         b"free\n",
-        b"serves a 1 127.0.0.1 . 8 None None None None None 5 5 1000 false [] None\n",
+        b"serves a 1 127.0.0.1 . 8 None None None None None 5 5 1000 false [] None [] None None None\n",
     ),
     (
         "serve,a,--port,1,--control,run/spool.control",
         b"",
-        b"serves a 1 127.0.0.1 . 8 None None None None None 5 5 1000 false [] Some(\"run/spool.control\")\n",
+        b"serves a 1 127.0.0.1 . 8 None None None None None 5 5 1000 false [] Some(\"run/spool.control\") [] None None None\n",
+    ),
+    (
+        "serve,a,--port,1,--printer,2=folder:jobs/a=b,--patience,10,--printer-silence,4294967295,--restart,1,--printer=1=socket://10.0.0.9,\
+         --printer,4294967295=socket://255.255.255.255:1,--printer,10=file:/dev/lp0",
+        b"",
+        b"serves a 1 127.0.0.1 . 8 None None None None None 5 5 1000 false [] None \
+          [PrinterPlace { printer: 2, place: Folder(\"jobs/a=b\") }, PrinterPlace { printer: 1, place: Socket(10.0.0.9:9100) }, \
+          PrinterPlace { printer: 4294967295, place: Socket(255.255.255.255:1) }, PrinterPlace { printer: 10, place: File(\"/dev/lp0\") }] \
+          Some(10) Some(4294967295) Some(1)\n",
     ),
     (
         "send,515,lp,1,h1,ann,FILE",
@@ -203,6 +234,36 @@ serve,a,--port,515,--allow,10.0.0.0/8,--allow,localhost
 serve,a,--port,515,--allow,10.0.0/8
 serve,a,--port,515,--allow,10.0.0.0/
 serve,a,--port,515,--allow
+serve,a,--port,515,--printer
+serve,a,--port,515,--printer,1
+serve,a,--port,515,--printer,1=
+serve,a,--port,515,--printer,file:x
+serve,a,--port,515,--printer,=file:x
+serve,a,--port,515,--printer,1=x
+serve,a,--port,515,--printer,1=FILE:x
+serve,a,--port,515,--printer,1=file:
+serve,a,--port,515,--printer,1=folder:
+serve,a,--port,515,--printer,0=file:x
+serve,a,--port,515,--printer,007=file:x
+serve,a,--port,515,--printer,+1=file:x
+serve,a,--port,515,--printer,1 =file:x
+serve,a,--port,515,--printer,4294967296=file:x
+serve,a,--port,515,--printer,1=socket://
+serve,a,--port,515,--printer,1=socket:10.0.0.9
+serve,a,--port,515,--printer,1=socket://printer
+serve,a,--port,515,--printer,1=socket://10.0.0.256
+serve,a,--port,515,--printer,1=socket://10.0.0.9:
+serve,a,--port,515,--printer,1=socket://10.0.0.9:0
+serve,a,--port,515,--printer,1=socket://10.0.0.9:65536
+serve,a,--port,515,--printer,1=socket://10.0.0.9:9100/
+serve,a,--port,515,--printer,1=socket://[::1]:9100
+serve,a,--port,515,--printer,1=file:x,--printer,2=file:x,--printer,1=file:x
+serve,a,--port,515,--patience,0
+serve,a,--port,515,--printer-silence,soon
+serve,a,--port,515,--restart,4294967296
+check,FILE,--printer,1=file:
+check,FILE,--printer,1=file:x,--printer,1=folder:x
+check,FILE,--restart,1
 serve,a,--port,515,--quiet
 serve,a,--port,515,--control
 serve,a,--port,515,--control,a,--control,b
@@ -256,7 +317,14 @@ fn line_of(alloc: Global, config: &str, settings: &Settings) -> Result<String, A
         limits,
         allowed,
         control,
+        printers,
+        printer_limits,
+        restart_seconds,
     } = settings;
+    let PrinterLimits {
+        patience_minutes,
+        silence_seconds,
+    } = *printer_limits;
     let Limits {
         silence,
         per_host,
@@ -266,7 +334,7 @@ fn line_of(alloc: Global, config: &str, settings: &Settings) -> Result<String, A
         room_ms,
     } = *limits;
     format!(in alloc;
-        "serves {config} {port} {bind} {out} {sessions} {connections:?} {rotate:?} {silence:?} {per_host:?} {slowest:?} {no_job_seconds} {leave_seconds} {room_ms} {keep_room} {allowed:?} {control:?}\n"
+        "serves {config} {port} {bind} {out} {sessions} {connections:?} {rotate:?} {silence:?} {per_host:?} {slowest:?} {no_job_seconds} {leave_seconds} {room_ms} {keep_room} {allowed:?} {control:?} {printers:?} {patience_minutes:?} {silence_seconds:?} {restart_seconds:?}\n"
     )
 }
 

@@ -17,6 +17,8 @@ mod ends;
 #[cfg(test)]
 mod jobs;
 #[cfg(test)]
+mod leaving;
+#[cfg(test)]
 mod report;
 #[cfg(test)]
 mod rings;

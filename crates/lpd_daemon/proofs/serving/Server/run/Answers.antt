@@ -21,3 +21,8 @@ pub returns-in_err-posts-clause-fault : goal.returns-in_err-posts-clause-fault
 returns-in_err-posts-clause-fault g c =
     let p = err_from_is_err_and c.from_residual-in_err-posts.result c.from_residual-in_err-posts.ensures.1 in
     rw (p.1, p.2) (inl refl)
+
+pub returns-in_err-roles-clause-write_fault : goal.returns-in_err-roles-clause-write_fault
+returns-in_err-roles-clause-write_fault g c =
+    let p = err_from_is_err_and c.from_residual-in_err-roles.result c.from_residual-in_err-roles.ensures.1 in
+    rw (p.1, p.2, c.in_err-roles.ensures) refl

@@ -1,0 +1,112 @@
+//! What printers print to, as it is found at a server's start.
+
+ghost use Rattle.std.specs.Prelude.{IfErr};
+ghost use Rattle.lpd_daemon.specs.Faults.{IsOpeningFault};
+
+use crate::faults::Fault;
+use crate::outlet::Outlet;
+use log::{Log, warn};
+use program_edge::{Place, Settings, tell_cause};
+use sink_devices::names_of;
+use std::alloc::{AllocError, Global};
+use std::fs::{File, Files};
+use std::io;
+use std::net::SocketAddrV4;
+
+/// What a printer prints to, as it was found.
+#[derive(Drop)]
+pub(crate) enum Opened {
+    /// A file, a device or a pipe, open at its end.
+    File(Outlet),
+    /// A printer on the network, to which no connection was opened yet.
+    Socket(SocketAddrV4),
+    /// A folder, and a number behind the greatest of the files there.
+    Folder { path: String, next: u64 },
+}
+
+impl Opened {
+    /// The pipe, where it is one: whether its reader has taken what was written can be asked.
+    pub(crate) fn pipe(&self) -> Option<File> {
+        match self {
+            Opened::File(outlet) => outlet.pipe(),
+            Opened::Socket(_) | Opened::Folder { .. } => None,
+        }
+    }
+}
+
+/// Looks into a folder. What a server that was killed has left there is told.
+fn open_folder<R: Files<File = File> + Log>(rt: &R, path: String) -> io::Result<Opened> {
+    let names = names_of(rt, path.as_str())?;
+    if names.left > 0 {
+        let left = names.left;
+        warn!(rt; "{path}: {left} hidden files of jobs were left there, which were not printed to their ends");
+    }
+    let next = names.next;
+    Ok(Opened::Folder { path, next })
+}
+
+/// Opens what a printer prints to. A socket isn't dialled yet.
+///
+/// PrinterFile with the path where it can't be opened, of which the log is told why; Memory.
+fn open_at<R: Files<File = File> + Log>(
+    rt: &R,
+    alloc: Global,
+    place: Place<'_>,
+) -> Result<Opened, Fault>
+    ensures { IfErr result IsOpeningFault }
+{
+    let (path, opened) = match place {
+        Place::Socket(address) => return Ok(Opened::Socket(address)),
+        Place::File(path) => (path, Outlet::open(rt, path).map(Opened::File)),
+        Place::Folder(path) => (path, open_folder(rt, String::from_str(alloc, path)?)),
+    };
+    match opened {
+        Ok(opened) => Ok(opened),
+        Err(error) => {
+            tell_cause(rt, &path, Some(error));
+            Err(Fault::PrinterFile(String::from_str(alloc, path)?))
+        }
+    }
+}
+
+/// What settings say that a printer prints to, if they say it.
+fn place_of<'a>(settings: &Settings<'a>, printer: u32) -> Option<Place<'a>> {
+    let named = settings.printers.iter();
+    let found = named.copied().find(|named| named.printer == printer)?;
+    Some(found.place)
+}
+
+/// Opens what N printers print to: what the settings say of each, or else the file `printer-K` in their directory, at its end.
+///
+/// PrinterFile with the path of the first that can't be opened, of which the log is told why; Memory.
+pub(crate) fn open_places<R: Files<File = File> + Log>(
+    rt: &R,
+    alloc: Global,
+    settings: &Settings<'_>,
+    printers: u32,
+) -> Result<Vec<Opened>, Fault>
+    ensures { IfErr result IsOpeningFault }
+{
+    let mut places = Vec::new(alloc);
+    for at in 0..printers {
+        let printer = at + 1;
+        let opened = match place_of(settings, printer) {
+            Some(place) => open_at(rt, alloc, place)?,
+            None => {
+                let path = format!(in alloc; "{}/printer-{printer}", settings.out)?;
+                open_at(rt, alloc, Place::File(path.as_str()))?
+            }
+        };
+        places.push(opened)?;
+    }
+    Ok(places)
+}
+
+/// The pipes among these, by the printers' numbers, from 1.
+pub(crate) fn pipes_of(alloc: Global, places: &[Opened]) -> Result<Vec<Option<File>>, AllocError> {
+    let mut pipes = Vec::new(alloc);
+    for opened in places {
+        pipes.push(opened.pipe())?;
+    }
+    Ok(pipes)
+}

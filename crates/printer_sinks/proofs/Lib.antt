@@ -1,0 +1,4 @@
+mod ConnectionLemmas
+mod PublishLemmas
+mod RunLemmas
+mod VisitLemmas

@@ -1,0 +1,145 @@
+//! What printers print to.
+
+ghost use Rattle.std.specs.List.{after_first, before_first, position_or_len};
+ghost use Rattle.std.specs.Prelude.{◌≡◌, ◌<◌, ◌++◌, ℕ, IfNone, IfSome, List, MatchOption, length};
+ghost use Rattle.std.specs.declared.net.socket_addr.SocketAddrV4.{SocketAddrV4};
+ghost use Rattle.program_edge.specs.Places.{IsPlaceText, IsPrinterText, IsSocketText, is_equals_sign};
+ghost use Rattle.program_edge.specs.declared.places.Place.{Place};
+
+use crate::numerals::plain_number;
+use std::fmt;
+use std::net::{Ipv4Addr, SocketAddrV4};
+
+/// The port of a printer on the network where none is given.
+const RAW_PORT: u16 = 9_100;
+
+/// What a printer prints to.
+#[derive(Clone, Copy, Debug, PartialEq, Eq)]
+pub enum Place<'a> {
+    /// A file, a device or a pipe at this path.
+    File(&'a str),
+    /// A printer at this address of the network, which takes octets as they are.
+    Socket(SocketAddrV4),
+    /// A folder at this path, where each job becomes a file.
+    Folder(&'a str),
+}
+
+impl fmt::Display for Place<'_> {
+    ghost use Rattle.std.specs.Prelude.{Some};
+    ghost use Rattle.program_edge.specs.Places.{place_text};
+
+    ghost output = { λ place. Some (place_text place) };
+
+    fn fmt<W: fmt::Write>(&self, f: &mut fmt::Formatter<W>) -> fmt::Result {
+        match self {
+            Place::File(path) => write!(f, "file:{path}"),
+            Place::Socket(address) => write!(f, "socket://{address}"),
+            Place::Folder(path) => write!(f, "folder:{path}"),
+        }
+    }
+}
+
+/// What the printer of a number prints to.
+#[derive(Clone, Copy, Debug, PartialEq, Eq)]
+pub struct PrinterPlace<'a> {
+    /// The printer's number, from 1.
+    pub printer: u32,
+    /// What it prints to.
+    pub place: Place<'a>,
+}
+
+impl fmt::Display for PrinterPlace<'_> {
+    ghost use Rattle.std.specs.Prelude.{Some};
+    ghost use Rattle.program_edge.specs.Places.{printer_text};
+
+    ghost output = { λ said. Some (printer_text said) };
+
+    fn fmt<W: fmt::Write>(&self, f: &mut fmt::Formatter<W>) -> fmt::Result {
+        let PrinterPlace { printer, place } = self;
+        write!(f, "{printer}={place}")
+    }
+}
+
+/// What follows a word at the head of a text.
+fn after<'a>(text: &'a str, word: &str) -> Option<&'a str>
+    ensures { MatchOption result ((rest : List ℕ) → text.now ≡ word.now ++ rest → ⊥)
+        (λ rest. text.now ≡ word.now ++ rest.now) }
+{
+    text.strip_prefix(word)
+}
+
+/// The path that follows a word at the head of a text. None where there is no such word, or nothing
+/// behind it.
+fn path_after<'a>(text: &'a str, word: &str) -> Option<&'a str>
+    ensures path { IfSome result (λ path. (text.now ≡ word.now ++ path.now) × (0 < length path.now)) }
+    ensures none { IfNone result ((path : List ℕ) → text.now ≡ word.now ++ path → 0 < length path → ⊥) }
+{
+    let path = after(text, word)?;
+    if path.is_empty() {
+        return None;
+    }
+    Some(path)
+}
+
+/// The address that a text writes: an IPv4 address, for the port 9100, or one with another port.
+/// None where it writes none, and at the port 0.
+fn address_of(text: &str) -> Option<SocketAddrV4>
+    ensures address { IfSome result (IsSocketText text.now) }
+    ensures none { IfNone result ((address : SocketAddrV4) → IsSocketText text.now address → ⊥) }
+{
+    if let Ok(address) = text.parse::<Ipv4Addr>() {
+        return Some(SocketAddrV4::new(address, RAW_PORT));
+    }
+    let Ok(address) = text.parse::<SocketAddrV4>() else {
+        return None;
+    };
+    if address.port() == 0 {
+        return None;
+    }
+    Some(address)
+}
+
+/// The place that a text writes. None where it writes none.
+fn place_of(text: &str) -> Option<Place<'_>>
+    ensures place { IfSome result (IsPlaceText text.now) }
+    ensures none { IfNone result ((place : Place) → IsPlaceText text.now place → ⊥) }
+{
+    if let Some(path) = path_after(text, "file:") {
+        return Some(Place::File(path));
+    }
+    if let Some(path) = path_after(text, "folder:") {
+        return Some(Place::Folder(path));
+    }
+    let host = after(text, "socket://")?;
+    let address = address_of(host)?;
+    Some(Place::Socket(address))
+}
+
+/// What stands before the first equals sign, and what stands behind it, if there is one.
+fn parts_of(text: &str) -> Option<(&str, &str)>
+    ensures { MatchOption result (position_or_len is_equals_sign text.now ≡ length text.now)
+        (λ parts. (parts.0.now ≡ before_first is_equals_sign text.now)
+        × (parts.1.now ≡ after_first is_equals_sign text.now)
+        × (position_or_len is_equals_sign text.now < length text.now)) }
+{
+    text.split_once('=')
+}
+
+impl<'a> PrinterPlace<'a> {
+    ghost use Rattle.program_edge.specs.declared.places.PrinterPlace.{PrinterPlace};
+
+    /// What a text says of a printer: its number, from 1, an equals sign, and `file:PATH`,
+    /// `socket://A.B.C.D[:PORT]` or `folder:PATH`. None where it says nothing of one.
+    pub fn read(text: &'a str) -> Option<PrinterPlace<'a>>
+        ensures place { IfSome result (IsPrinterText text.now) }
+        ensures none { IfNone result ((said : PrinterPlace) → IsPrinterText text.now said → ⊥) }
+    {
+        let (number, place) = parts_of(text)?;
+        let printer = plain_number(number)?;
+        if printer == 0 {
+            return None;
+        }
+        let place = place_of(place)?;
+        Some(PrinterPlace { printer, place })
+    }
+}

@@ -1,0 +1,76 @@
+//! Pauses between two tries to reach a printer.
+
+ghost use Rattle.std.specs.Prelude.{◌≡◌, ◌^◌, min};
+
+use crate::errand::Errand;
+use crate::moments::{milliseconds_since, now};
+use crate::waiting::Waiting;
+use printer_sinks::Pause;
+use std::num::NonZeroU64;
+use std::rt::Clock;
+use std::thread;
+use std::time::{Duration, Instant};
+
+/// The longest pause, in seconds.
+const LONGEST_SECONDS: u64 = 30;
+
+/// How many milliseconds pass between two looks at whether the server still waits.
+const STEP_MS: u64 = 250;
+
+/// How long a pause is, in seconds, after which this many have been: 1, 2, 4, 8, 16, 30, 30 and so on.
+pub(crate) fn pause_seconds(tries: u64) -> u64
+    ensures { result ≡ min 30 (2 ^ tries) }
+{
+    if tries < 5 {
+        1 << tries
+    } else {
+        LONGEST_SECONDS
+    }
+}
+
+/// Pauses of 1, 2, 4, 8, 16, 30, 30 .. seconds, while the job is wanted.
+#[derive(Drop)]
+pub struct Pauses<'a, R: Clock, Q: Errand> {
+    rt: &'a R,
+    errand: &'a Q,
+    patience_ms: Option<u64>,
+    // When the job's first try had failed.
+    start: Option<Instant>,
+}
+
+impl<'a, R: Clock, Q: Errand> Pauses<'a, R, Q> {
+    /// Pauses that end for good once a job has waited for `patience` minutes since its first try; never without it. They end
+    /// early where the job isn't wanted any more.
+    pub fn new(rt: &'a R, patience: Option<NonZeroU64>, errand: &'a Q) -> Pauses<'a, R, Q> {
+        Pauses {
+            rt,
+            errand,
+            patience_ms: patience.map(|minutes| minutes.get().saturating_mul(60_000)),
+            start: None,
+        }
+    }
+
+    /// Whether there is time left for another try.
+    fn has_time(&self) -> bool {
+        match self.patience_ms {
+            Some(patience_ms) => milliseconds_since(self.rt, self.start) < patience_ms,
+            None => true,
+        }
+    }
+}
+
+impl<'a, R: Clock, Q: Errand> Pause for Pauses<'a, R, Q> {
+    fn pause(&mut self, job: u64, tries: u64) -> bool {
+        if tries == 0 {
+            self.start = now(self.rt);
+        }
+        let mut waiting = Waiting::begin(self.rt, self.errand, job);
+        for _step in 0..pause_seconds(tries) * 1_000 / STEP_MS {
+            thread::sleep(self.rt, Duration::from_millis(STEP_MS));
+            if !self.has_time() || !waiting.goes_on() {
+                return false;
+            }
+        }
+        true
+    }
+}

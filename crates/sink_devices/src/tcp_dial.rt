@@ -1,0 +1,296 @@
+//! A printer at an address of the network.
+
+ghost use Rattle.std.specs.Prelude.{◌≡◌, ◌≤◌, None, Some, length, IfOk};
+
+use crate::causes::Causes;
+use crate::connection::Connection;
+use crate::errand::Errand;
+use crate::moments::{milliseconds_since, now};
+use crate::unended::Unended;
+use crate::waiting::{Waiting, is_not_wanted, not_wanted};
+use log::{Log, info, warn};
+use printer_sinks::{ConnectionFault, Dial};
+use std::fmt::Display;
+use std::io;
+use std::io::{Error, ErrorKind};
+use std::net::{Net, SocketAddr};
+use std::num::NonZeroU64;
+use std::rt::Clock;
+use std::time::Instant;
+
+/// The longest time for which one wait for a printer lasts, in milliseconds. Between two of them the server is asked whether to
+/// wait on.
+const TURN_MS: u16 = 1_000;
+
+/// How many such waits a connection has to be accepted.
+const CONNECT_TURNS: u32 = 2;
+
+/// For how many milliseconds the printer's end of a connection is waited for, once nothing more is sent.
+const END_MS: u64 = 10_000;
+
+/// The longest time for which one wait for that end lasts, in milliseconds.
+const END_TURN_MS: u16 = 500;
+
+/// How many milliseconds lie between two tellings that a printer isn't reached.
+const TELL_MS: u64 = 60_000;
+
+/// How a connection ended, once the printer was told that nothing more is sent.
+#[derive(Clone, Copy)]
+enum End {
+    /// The printer ended it too.
+    Ended,
+    /// It failed.
+    Failed(Error),
+    /// The printer didn't end it in time.
+    Late,
+    /// Its end wasn't waited for, or not any longer.
+    Left,
+}
+
+/// A printer that connections are opened to. What it sends is read and dropped, so that it never waits for its sender.
+#[derive(Drop)]
+pub struct TcpDial<'a, R: Net + Clock + Log, Q: Errand> {
+    rt: &'a R,
+    errand: &'a Q,
+    printer: u32,
+    address: SocketAddr,
+    silence_ms: Option<u64>,
+    job: u64,
+    connection: Option<Connection>,
+    // Whether the connection took an octet.
+    is_begun: bool,
+    // Since when it isn't reached, and when that was told last.
+    unreached: Option<(Instant, Instant)>,
+    unended: Unended,
+    cause: Option<Error>,
+}
+
+impl<'a, R: Net + Clock + Log, Q: Errand> TcpDial<'a, R, Q> {
+    /// The printer of this number at this address. Where `silence` is given it may take no octet of a job for that many
+    /// seconds. While it waits it asks the server whether its job is still wanted.
+    pub fn new(
+        rt: &'a R,
+        printer: u32,
+        address: SocketAddr,
+        silence: Option<NonZeroU64>,
+        errand: &'a Q,
+    ) -> TcpDial<'a, R, Q>
+        ensures { result.cause ≡ None }
+    {
+        TcpDial {
+            rt,
+            errand,
+            printer,
+            address,
+            silence_ms: silence.map(|seconds| seconds.get().saturating_mul(1_000)),
+            job: 0,
+            connection: None,
+            is_begun: false,
+            unreached: None,
+            unended: Unended::new(),
+            cause: None,
+        }
+    }
+
+    /// Opens a connection. TimedOut where the printer doesn't accept it; as `not_wanted` where nobody waits for the job any
+    /// more.
+    fn connect(&self) -> io::Result<Connection> {
+        let connection = Connection::begin(self.rt, self.address)?;
+        let mut waiting = Waiting::begin(self.rt, self.errand, self.job);
+        for _turn in 0..CONNECT_TURNS {
+            if connection.is_accepted(TURN_MS)? {
+                return Ok(connection);
+            }
+            if !waiting.goes_on() {
+                return Err(not_wanted());
+            }
+        }
+        Err(Error::from(ErrorKind::TimedOut))
+    }
+
+    /// Tells that the printer isn't reached: at once why, and then once a minute for how long.
+    fn tell_unreached(&mut self, error: &Error)
+        ensures { self.new.cause ≡ self.old.cause }
+    {
+        let Some(now) = now(self.rt) else {
+            return;
+        };
+        let Some((since, told)) = self.unreached else {
+            self.unreached = Some((now, now));
+            let TcpDial {
+                printer,
+                job,
+                address,
+                ..
+            } = self;
+            warn!(self.rt; "printer {printer}: job {job}: {address}: {error}");
+            return;
+        };
+        if milliseconds_since(self.rt, Some(told)) < TELL_MS {
+            return;
+        }
+        self.unreached = Some((since, now));
+        let seconds = milliseconds_since(self.rt, Some(since)) / 1_000;
+        self.errand.tell_unreached(self.printer, self.job, seconds);
+    }
+
+    /// Closes the connection, and keeps why. A printer that took no octet over it isn't reached.
+    fn fail(&mut self, error: Error) -> ConnectionFault
+        ensures { self.new.cause ≡ Some error }
+    {
+        self.connection = None;
+        self.cause = Some(error);
+        if !self.is_begun && !is_not_wanted(&error) {
+            self.tell_unreached(&error);
+        }
+        ConnectionFault
+    }
+
+    /// Tells that a printer is reached that wasn't.
+    fn tell_reached(&mut self) {
+        let Some((since, _)) = self.unreached.take() else {
+            return;
+        };
+        let seconds = milliseconds_since(self.rt, Some(since)) / 1_000;
+        info!(self.rt; "printer {} is reached again, after {seconds} s", self.printer);
+    }
+
+    /// Writes octets once the printer takes some, and answers how many.
+    ///
+    /// TimedOut where it took none for as long as it may; as `not_wanted` where nobody waits for the job any more; else as the
+    /// system says.
+    fn write_patiently(&mut self, octets: &[u8]) -> io::Result<usize>
+        ensures { IfOk result (λ count. count ≤ length octets.now) }
+    {
+        let Some(connection) = &mut self.connection else {
+            return Err(Error::from(ErrorKind::NotConnected));
+        };
+        let mut waiting = Waiting::begin(self.rt, self.errand, self.job);
+        for _turn in 0..u64::MAX {
+            match connection.write(octets, TURN_MS) {
+                Err(error) if error.kind() == ErrorKind::WouldBlock => {}
+                Err(error) if error.kind() == ErrorKind::Interrupted => {}
+                written => return written,
+            }
+            if !waiting.goes_on() {
+                return Err(not_wanted());
+            }
+            if self
+                .silence_ms
+                .is_some_and(|silence_ms| silence_ms <= waiting.milliseconds())
+            {
+                break;
+            }
+        }
+        Err(Error::new(
+            ErrorKind::TimedOut,
+            "the printer took nothing for as long as it may",
+        ))
+    }
+
+    /// Ends a connection, and waits for the printer to end it too, unless it hasn't for three jobs in a row: what is there is
+    /// dropped once then.
+    fn end(&self, connection: &mut Connection) -> End {
+        if let Err(error) = connection.end_sending() {
+            return End::Failed(error);
+        }
+        let is_patient = self.unended.is_patient();
+        let limit_ms = if is_patient { END_TURN_MS } else { 0 };
+        let start = now(self.rt);
+        for _turn in 0..u64::MAX {
+            match connection.is_ended(limit_ms) {
+                Ok(true) => return End::Ended,
+                Ok(false) => {}
+                Err(error) => return End::Failed(error),
+            }
+            if !is_patient || self.errand.is_cut_off() {
+                return End::Left;
+            }
+            if milliseconds_since(self.rt, start) >= END_MS {
+                break;
+            }
+        }
+        End::Late
+    }
+
+    /// Tells that it isn't known whether the printer has all octets of the job.
+    fn tell_doubt<W: Display>(&self, why: &W) {
+        let TcpDial {
+            printer,
+            job,
+            address,
+            ..
+        } = self;
+        warn!(self.rt; "printer {printer}: job {job}: {address}: {why}: its last octets may not have come");
+    }
+
+    /// Counts and tells a printer that didn't end its connection in time.
+    fn tell_late(&mut self) {
+        self.tell_doubt(&"the printer didn't end the connection");
+        self.unended = self.unended.after(false);
+        if !self.unended.is_patient() {
+            let TcpDial {
+                printer,
+                address,
+                ..
+            } = self;
+            warn!(self.rt; "printer {printer}: {address}: it ended none of three connections: from now on that isn't waited for");
+        }
+    }
+}
+
+impl<'a, R: Net + Clock + Log, Q: Errand> Causes for TcpDial<'a, R, Q> {
+    ghost why = { λ dial. dial.cause };
+
+    fn cause(&self) -> Option<Error> {
+        self.cause
+    }
+}
+
+impl<'a, R: Net + Clock + Log, Q: Errand> Dial for TcpDial<'a, R, Q> {
+    ghost connections = { λ _. None };
+
+    fn dial(&mut self, job: u64) -> Result<(), ConnectionFault> {
+        self.job = job;
+        self.connection = None;
+        self.is_begun = false;
+        match self.connect() {
+            Ok(connection) => {
+                self.connection = Some(connection);
+                Ok(())
+            }
+            Err(error) => Err(self.fail(error)),
+        }
+    }
+
+    fn write(&mut self, octets: &[u8]) -> Result<usize, ConnectionFault> {
+        match self.write_patiently(octets) {
+            Ok(count) => {
+                self.tell_reached();
+                self.is_begun = true;
+                Ok(count)
+            }
+            Err(error) => Err(self.fail(error)),
+        }
+    }
+
+    fn hang_up(&mut self) -> Result<(), ConnectionFault> {
+        // One that failed is closed, and why is kept.
+        let Some(mut connection) = self.connection.take() else {
+            return Err(ConnectionFault);
+        };
+        match self.end(&mut connection) {
+            End::Ended => {
+                self.unended = self.unended.after(true);
+                return Ok(());
+            }
+            End::Failed(error) => {
+                self.unended = self.unended.after(true);
+                self.tell_doubt(&error);
+            }
+            End::Late => self.tell_late(),
+            End::Left => {}
+        }
+        Err(ConnectionFault)
+    }
+}
