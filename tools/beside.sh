@@ -6,7 +6,9 @@
 #
 # The files of these crates lie in beside/NAME with other endings, since a repository's .rt and .antt files are read by its gate, all
 # of them. rt works in a copy of the repository, in which the crate has its right place and names; the copy lies in the folder that
-# BESIDE_COPY names, or in ~/.cache/hurgwaye/beside, and keeps what was proved for the next time. Two words in place of rt's:
+# BESIDE_COPY names, or in ~/.cache/hurgwaye/beside, and keeps what was proved for the next time. A module that a crate of the gate has
+# too is not kept twice: the file beside/NAME/shares names its folder, from crates/ on, and it is copied from there. Two words in
+# place of rt's:
 #
 #   tools/beside.sh bench path               # copies the crate, and prints the path of its folder there
 #   tools/beside.sh bench back               # brings back what was edited there, as by `rt fmt`, and copies nothing
@@ -16,6 +18,11 @@ copy=${BESIDE_COPY:-$HOME/.cache/hurgwaye/beside}
 name=${1:?a crate of beside/}
 [ -d "$top/beside/$name" ] || { echo "beside/ has no crate $name" >&2; exit 2; }
 shift
+
+# The modules that a crate shares with one of the gate.
+shared_by() {
+    [ ! -f "$top/beside/$1/shares" ] || cat "$top/beside/$1/shares"
+}
 
 mkdir -p "$copy/crates"
 exec 9> "$copy/lock"
@@ -28,6 +35,8 @@ if [ "${1:-}" = back ]; then
         find "$top/beside/$name/$part" -name '*.rt' | while read -r file; do mv "$file" "${file%.rt}.rattle"; done
         find "$top/beside/$name/$part" -name '*.antt' | while read -r file; do mv "$file" "${file%.antt}.proof"; done
     done
+    # What is shared is edited where it stands.
+    shared_by "$name" | while read -r folder; do rm -rf "$top/beside/$name/src/$(basename "$folder")"; done
     exit
 fi
 # All goes but what rt keeps: so no file stays that the repository has no more.
@@ -47,6 +56,7 @@ for folder in "$top"/beside/*/; do
     cp -a "$folder." "$crate/"
     find "$crate" -path "$crate/out" -prune -o -name '*.rattle' -print | while read -r file; do mv "$file" "${file%.rattle}.rt"; done
     find "$crate" -path "$crate/out" -prune -o -name '*.proof' -print | while read -r file; do mv "$file" "${file%.proof}.antt"; done
+    shared_by "$(basename "$folder")" | while read -r module; do cp -a "$top/crates/$module" "$crate/src/"; done
 done
 cat "$top/beside/stands-on.txt" >> "$copy/crates.txt"
 rm -rf "$copy/beside"

@@ -1,5 +1,9 @@
 //! Many clients at once, of which some break the rules.
 
+use crate::kit::{
+    HALF, PLOTTER, are_in_order, begin, connect, ends_well, is_answered, is_ended, job_text,
+    jobs_in, make, octets_of, pages_of, printed, remove, send, send_more, settings, write,
+};
 use lpd_daemon::{Limits, Settings};
 use std::alloc::Global;
 use std::net::{Net, Shutdown, TcpStream};
@@ -7,10 +11,6 @@ use std::num::NonZeroU64;
 use std::process::Abort;
 use std::thread;
 use test_kit::Spool;
-use test_kit_network::{
-    HALF, PLOTTER, are_in_order, begin, connect, ends_well, is_answered, is_ended, job_text,
-    jobs_in, make, octets_of, pages_of, printed, remove, send, send_more, settings, write,
-};
 
 /// How many clients send jobs by the rules.
 const CLIENTS: u32 = 32;

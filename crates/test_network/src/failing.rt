@@ -1,6 +1,10 @@
 //! Servers that can't start, or can't go on. Those that no client comes to await no connection, so
 //! that a wrong one ends too.
 
+use crate::kit::{
+    ENDLESS, HELLO, Paper, Terminal, beside, connect, ends_well, is_printed, make, path, plan_of,
+    remove, run, send, send_more, settings,
+};
 use crate::logging::faults_in;
 use log::{Level, Log, Logged};
 use lpd_daemon::{Fault, Settings};
@@ -15,10 +19,6 @@ use std::sync::Wait;
 use std::thread::Threads;
 use std::time::Clock;
 use test_kit::Spool;
-use test_kit_network::{
-    ENDLESS, HELLO, Paper, Terminal, beside, connect, ends_well, is_printed, make, path, plan_of,
-    remove, run, send, send_more, settings,
-};
 
 /// Runs a server that no client comes to, whose lines are written on this paper. It prints nothing.
 /// How it ended.

@@ -1,5 +1,10 @@
 //! Peers and printers by which a server would stop to answer others.
 
+use crate::kit::{
+    HALF, HELLO, LIMIT_SECONDS, PLOTTER, Pipe, ask, ask_from, begin, connect, ends_well,
+    is_answered, is_ended, is_printed, is_soon, make, octets_of, refused, remove, send, settings,
+    waits, write,
+};
 use lpd_daemon::{Limits, Settings};
 use lpr_client::SendFault;
 use std::io::{Read, Write};
@@ -9,11 +14,6 @@ use std::process::Abort;
 use std::thread;
 use std::time::{Clock, Duration, Instant};
 use test_kit::Spool;
-use test_kit_network::{
-    HALF, HELLO, LIMIT_SECONDS, PLOTTER, Pipe, ask, ask_from, begin, connect, ends_well,
-    is_answered, is_ended, is_printed, is_soon, make, octets_of, refused, remove, send, settings,
-    waits, write,
-};
 
 /// A spool with pages for all jobs for which the account has room, which are 14.
 const FOURTEEN: Spool = Spool {

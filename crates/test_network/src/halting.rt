@@ -1,12 +1,12 @@
 //! Peers that halt.
 
-use lpd_daemon::{Limits, Settings};
-use std::num::NonZeroU64;
-use test_kit::Spool;
-use test_kit_network::{
+use crate::kit::{
     HALF, HELLO, PLOTTER, begin, connect, ends_well, is_answered, is_ended, is_printed, make,
     octets_of, send, settings, write,
 };
+use lpd_daemon::{Limits, Settings};
+use std::num::NonZeroU64;
+use test_kit::Spool;
 
 /// A peer that says nothing, at first or in the middle of a job, loses the only thread after two
 /// seconds; the next one is served.

@@ -10,6 +10,8 @@ mod freezing;
 #[cfg(test)]
 mod halting;
 #[cfg(test)]
+mod kit;
+#[cfg(test)]
 mod listings;
 #[cfg(test)]
 mod lobby;

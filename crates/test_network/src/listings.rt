@@ -1,5 +1,8 @@
 //! Long listings, and peers that read them slowly or not at all.
 
+use crate::kit::{
+    ENDLESS, Terminal, ask_from, begin, beside, connect, make, path, plan_of, remove, settings,
+};
 use crate::logging::{JOBS, MANY_JOBS, send_jobs};
 use lpd_daemon::{Limits, Settings};
 use std::io::Read;
@@ -8,9 +11,6 @@ use std::os::unix::fs::symlink;
 use std::process::Abort;
 use std::thread;
 use std::time::{Clock, Duration, Instant};
-use test_kit_network::{
-    ENDLESS, Terminal, ask_from, begin, beside, connect, make, path, plan_of, remove, settings,
-};
 
 /// The octets that a slow peer reads in a tenth of a second: 400 KB in a second. What a system keeps
 /// of its own for a connection wouldn't have room for more within a limit of a second.

@@ -2,6 +2,7 @@
 
 ghost use Rattle.std.specs.Thread.{IsSync};
 
+use crate::kit::{begin, connect, write};
 use libc::net::{IPPROTO_TCP, SO_KEEPALIVE, SOL_SOCKET, TCP_KEEPIDLE, getsockopt};
 use log::Log;
 use mio::Waker;
@@ -13,7 +14,6 @@ use std::sync::Wait;
 use std::thread;
 use std::thread::Threads;
 use std::time::Clock;
-use test_kit_network::{begin, connect, write};
 
 /// The longest wait of a round, in milliseconds.
 const ROUND_MS: u64 = 100;

@@ -1,5 +1,9 @@
 //! What is logged, by a log that holds up no one.
 
+use crate::kit::{
+    all_lines, ask, ask_from, connect, ends_well, is_answered, is_ended, make, path, refused,
+    remove, send, settings, write,
+};
 use log::{Level, Logged, error, warn};
 use lpd_daemon::{Limits, Settings};
 use program_edge::{LineLog, LineQueue};
@@ -14,10 +18,6 @@ use std::sync::atomic::{AtomicBool, Ordering};
 use std::time::{Clock, Duration};
 use std::{io, thread};
 use test_kit::Spool;
-use test_kit_network::{
-    all_lines, ask, ask_from, connect, ends_well, is_answered, is_ended, make, path, refused,
-    remove, send, settings, write,
-};
 
 /// Where two lines may wait to be written, the first two are, in order: a fault as a line of its
 /// own, and a warning behind the part that gives it. How many were dropped is told.

@@ -1,5 +1,9 @@
 //! Jobs of one client, one after another.
 
+use crate::kit::{
+    ENDLESS, HELLO, Paper, Pipe, Terminal, begin, beside, connect, ends_well, is_answered,
+    is_ended, is_printed, make, octets_of, path, plan_of, remove, send, settings, waits, write,
+};
 use lpd_daemon::{Limits, Settings};
 use lpr_client::SendFault;
 use std::net::{Net, TcpStream};
@@ -8,10 +12,6 @@ use std::process::Abort;
 use std::time::Duration;
 use std::{fs, thread};
 use test_kit::Spool;
-use test_kit_network::{
-    ENDLESS, HELLO, Paper, Pipe, Terminal, begin, beside, connect, ends_well, is_answered,
-    is_ended, is_printed, make, octets_of, path, plan_of, remove, send, settings, waits, write,
-};
 
 /// New jobs wait for room as long as a busy machine needs.
 const PATIENT: Limits = Limits {

@@ -1,5 +1,6 @@
 //! A server and a client, each by the program's words.
 
+use crate::kit::{ENDLESS, HELLO, Terminal, all_lines, beside, is_printed, make, remove};
 use config_values::Config;
 use log::{Level, Log, Logged};
 use lpd_daemon::{Counter, Plan, Settings};
@@ -11,7 +12,6 @@ use std::fs::Files;
 use std::net::{Ipv4Addr, Net, OpenListener, SocketAddr, TcpListener, TcpStream};
 use std::process::Abort;
 use test_kit::Spool;
-use test_kit_network::{ENDLESS, HELLO, Terminal, all_lines, beside, is_printed, make, remove};
 
 /// The words of a line, one space between them.
 fn words_of<R: Abort>(rt: &R, alloc: Global, line: &str) -> Vec<String> {

@@ -1,6 +1,5 @@
 //! What tests of a server over sockets share: a server in a thread of its own beside its clients, what clients do, jobs that tell
 //! whose they are, directories, a full pipe in the place of a printer's file, and what is logged.
-#![tactic(auto)]
 
 mod clients;
 mod jobs;

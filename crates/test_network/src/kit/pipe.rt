@@ -1,6 +1,6 @@
 //! A pipe in the place of a printer's file.
 
-use crate::place::path;
+use crate::kit::place::path;
 use libc::{O_CLOEXEC, pipe2};
 use os::FromRawFd;
 use std::alloc::Global;
