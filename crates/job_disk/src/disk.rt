@@ -1,0 +1,242 @@
+//! A folder of jobs, which the threads of a server share.
+
+use crate::fault::DiskFault;
+use crate::listing::names_in;
+use crate::numbers::Numbers;
+use crate::opening::{FILE_MODE, OpenError, make_folder, take_lock};
+use crate::syncs::{Syncs, Told};
+use job_files::{FileName, JobEnd, JobFiles, Stage, WaitingJobs};
+use std::alloc::{AllocError, Global};
+use std::fs::{File, Files, OpenOptions};
+use std::os::unix::fs::OpenOptionsExt;
+use std::sync::{Condvar, Mutex, Wait};
+use std::{fs, io};
+
+/// What is known of the folder's jobs.
+#[derive(Drop)]
+struct Standing {
+    numbers: Numbers,
+    files: JobFiles,
+    waiting: WaitingJobs,
+    failed: usize,
+}
+
+/// A folder of jobs, which sessions, printers and whoever feeds its jobs share. One server has it at a time.
+#[derive(Drop)]
+pub struct Disk<'a, R> {
+    rt: &'a R,
+    alloc: Global,
+    path: &'a str,
+    folder: File,
+    // Held while the server has the folder.
+    _lock: File,
+    standing: Mutex<Standing>,
+    syncs: Mutex<Syncs>,
+    ended: Condvar,
+}
+
+impl<'a, R: Files<File = File> + Wait> Disk<'a, R> {
+    /// The folder at this path, which is made where nothing is there, with room in memory for this many jobs that are passed on and
+    /// haven't ended.
+    ///
+    /// # Errors
+    ///
+    /// `InUse` where another server has it; `Failed` where it can't be made, opened or read, or memory is refused.
+    pub fn open(
+        rt: &'a R,
+        alloc: Global,
+        path: &'a str,
+        jobs: usize,
+    ) -> Result<Disk<'a, R>, OpenError> {
+        make_folder(rt, alloc, path)?;
+        let lock = take_lock(rt, alloc, path)?;
+        let names = names_in(rt, alloc, path)?;
+        let standing = Standing {
+            numbers: Numbers::behind(names.as_slice()),
+            files: JobFiles::with_room(alloc, jobs).map_err(io::Error::from)?,
+            waiting: WaitingJobs::new(alloc),
+            failed: names
+                .iter()
+                .filter(|name| name.stage == Stage::Failed)
+                .count(),
+        };
+        Ok(Disk {
+            rt,
+            alloc,
+            path,
+            folder: File::open(rt, path)?,
+            _lock: lock,
+            standing: Mutex::new(standing),
+            syncs: Mutex::new(Syncs::new()),
+            ended: Condvar::new(),
+        })
+    }
+
+    /// What a call at this file failed by.
+    pub(crate) fn fault_at(&self, name: FileName, cause: io::Error) -> DiskFault<'a> {
+        DiskFault::new(self.path, Some(name), cause)
+    }
+
+    /// What a call at the folder failed by.
+    pub(crate) fn fault(&self, cause: io::Error) -> DiskFault<'a> {
+        DiskFault::new(self.path, None, cause)
+    }
+
+    /// A number that no other file gets. An error where none is left.
+    pub(crate) fn number(&self) -> io::Result<u64> {
+        let number = self.standing.lock(self.rt).numbers.take();
+        number.ok_or(io::Error::new(io::ErrorKind::Other, "no number is left"))
+    }
+
+    fn path_of(&self, name: FileName) -> Result<String, AllocError> {
+        let path = self.path;
+        format!(in self.alloc; "{path}/{name}")
+    }
+
+    /// Makes a file, to which octets are appended.
+    pub(crate) fn create(&self, name: FileName) -> io::Result<File> {
+        let path = self.path_of(name)?;
+        let mut options = OpenOptions::new();
+        options.append(true).create_new(true).mode(FILE_MODE);
+        options.open(self.rt, path.as_str())
+    }
+
+    /// Opens a file to be read from its head on.
+    pub(crate) fn open_file(&self, name: FileName) -> io::Result<File> {
+        let path = self.path_of(name)?;
+        File::open(self.rt, path.as_str())
+    }
+
+    /// Removes a file.
+    pub(crate) fn remove(&self, name: FileName) -> io::Result<()> {
+        let path = self.path_of(name)?;
+        fs::remove_file(self.rt, path.as_str())
+    }
+
+    /// Gives a file the name of another stage.
+    pub(crate) fn rename(&self, name: FileName, stage: Stage) -> io::Result<()> {
+        let number = name.number;
+        let (from, to) = (
+            self.path_of(name)?,
+            self.path_of(FileName { number, stage })?,
+        );
+        fs::rename(self.rt, from.as_str(), to.as_str())
+    }
+
+    /// The names of the jobs' files, in any order.
+    pub(crate) fn names(&self) -> io::Result<Vec<FileName>> {
+        names_in(self.rt, self.alloc, self.path)
+    }
+
+    /// Has the names of the folder on the disk: one sync serves all that asked before it began, and where it fails all of them are
+    /// told. Waits for a sync of another session that is on its way.
+    pub(crate) fn sync_names(&self) -> io::Result<()> {
+        let mut syncs = self.syncs.lock(self.rt);
+        let wanted = syncs.wanted();
+        for _ in 0..u64::MAX {
+            match syncs.told(wanted) {
+                Told::Ended => return Ok(()),
+                Told::Failed(cause) => return Err(cause),
+                Told::Wait => syncs = self.ended.wait(self.rt, syncs),
+                Told::Lead => {
+                    let number = syncs.begin();
+                    drop(syncs);
+                    let answer = self.folder.sync_all();
+                    syncs = self.syncs.lock(self.rt);
+                    syncs.end(number, answer);
+                    self.ended.notify_all();
+                }
+            }
+        }
+        Err(io::Error::from(io::ErrorKind::Other))
+    }
+
+    /// Does with the file of a job what its end asks for.
+    fn act(&self, number: u64, end: JobEnd) -> Result<(), DiskFault<'a>> {
+        let stage = Stage::Whole;
+        let name = FileName { number, stage };
+        let done = match end {
+            JobEnd::Done | JobEnd::Removed => self.remove(name),
+            JobEnd::Failed => self.rename(name, Stage::Failed),
+        };
+        if let Err(cause) = done {
+            return Err(self.fault_at(name, cause));
+        }
+        if end == JobEnd::Failed {
+            let mut standing = self.standing.lock(self.rt);
+            standing.failed = standing.failed.saturating_add(1);
+        }
+        Ok(())
+    }
+
+    /// The job that was accepted by this number has its file under that one. Where it has ended already its file is taken away, or
+    /// becomes one that failed.
+    ///
+    /// An error where the file can't be taken away or renamed, or memory is refused: the file stays then, and is printed again after
+    /// the next start.
+    pub fn pass(&self, job: u64, file: u64) -> Result<(), DiskFault<'a>> {
+        let answer = self.standing.lock(self.rt).files.pass(job, file);
+        match answer {
+            Ok(Some(end)) => self.act(file, end),
+            Ok(None) => Ok(()),
+            Err(error) => Err(self.fault(io::Error::from(error))),
+        }
+    }
+
+    /// The job that was accepted by this number has ended. Its file is taken away, or becomes one that failed: at once, or where it
+    /// isn't known yet as soon as the job is passed on.
+    ///
+    /// An error where the file can't be taken away or renamed, or memory is refused: the file stays then, and is printed again after
+    /// the next start.
+    pub fn end(&self, job: u64, end: JobEnd) -> Result<(), DiskFault<'a>> {
+        let answer = self.standing.lock(self.rt).files.end(job, end);
+        match answer {
+            Ok(Some(file)) => self.act(file, end),
+            Ok(None) => Ok(()),
+            Err(error) => Err(self.fault(io::Error::from(error))),
+        }
+    }
+
+    /// Makes a file that failed a whole one again, which is to be fed then.
+    ///
+    /// An error where there is no such file, or it can't be renamed, or the folder can't be synced.
+    pub fn resend(&self, number: u64) -> Result<(), DiskFault<'a>> {
+        let stage = Stage::Failed;
+        let name = FileName { number, stage };
+        if let Err(cause) = self.rename(name, Stage::Whole) {
+            return Err(self.fault_at(name, cause));
+        }
+        {
+            let mut standing = self.standing.lock(self.rt);
+            standing.failed = standing.failed.saturating_sub(1);
+        }
+        self.sync_names().map_err(|cause| self.fault(cause))
+    }
+
+    /// A whole job of this sender for this queue waits in the folder to be fed.
+    ///
+    /// AllocError where memory is refused. Nothing changes then.
+    pub fn wait_for(&self, sender: u32, queue: &[u8]) -> Result<(), AllocError> {
+        self.standing.lock(self.rt).waiting.wait_for(sender, queue)
+    }
+
+    /// A job of this sender for this queue that waited was fed, or isn't going to be.
+    pub fn fed(&self, sender: u32, queue: &[u8]) {
+        self.standing.lock(self.rt).waiting.fed(sender, queue);
+    }
+
+    /// Whether a job of this sender for this queue waits.
+    pub(crate) fn has_waiting(&self, sender: u32, queue: &[u8]) -> bool {
+        self.standing.lock(self.rt).waiting.has(sender, queue)
+    }
+
+    /// How many jobs wait to be fed.
+    pub fn waiting(&self) -> usize {
+        self.standing.lock(self.rt).waiting.len()
+    }
+
+    /// How many jobs have failed.
+    pub fn failed(&self) -> usize {
+        self.standing.lock(self.rt).failed
+    }
+}

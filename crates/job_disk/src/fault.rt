@@ -1,0 +1,44 @@
+//! Why a call of the folder failed.
+
+use job_files::FileName;
+use std::error::Error;
+use std::fmt::{Debug, Display, Formatter, Write};
+use std::{fmt, io};
+
+/// A call of the folder that failed: at which file, and why.
+#[derive(Clone, Copy)]
+pub struct DiskFault<'a> {
+    folder: &'a str,
+    name: Option<FileName>,
+    /// What the system says of it.
+    pub cause: io::Error,
+}
+
+impl<'a> DiskFault<'a> {
+    /// It failed at a file of this folder, or where none is named at the folder.
+    pub(crate) fn new(folder: &'a str, name: Option<FileName>, cause: io::Error) -> DiskFault<'a> {
+        DiskFault {
+            folder,
+            name,
+            cause,
+        }
+    }
+}
+
+impl Display for DiskFault<'_> {
+    fn fmt<W: Write>(&self, f: &mut Formatter<W>) -> fmt::Result {
+        let (folder, cause) = (self.folder, &self.cause);
+        match &self.name {
+            Some(name) => write!(f, "{folder}/{name}: {cause}"),
+            None => write!(f, "{folder}: {cause}"),
+        }
+    }
+}
+
+impl Debug for DiskFault<'_> {
+    fn fmt<W: Write>(&self, f: &mut Formatter<W>) -> fmt::Result {
+        Display::fmt(self, f)
+    }
+}
+
+impl Error for DiskFault<'_> {}

@@ -1,0 +1,189 @@
+//! A session's hand at the folder.
+
+ghost use Rattle.std.specs.Prelude.{◌≡◌, None, IsSome, OnErr, OnOk};
+ghost use Rattle.kept_jobs.specs.Folder.{HasCause};
+
+use crate::disk::Disk;
+use crate::fault::DiskFault;
+use job_files::{FileName, Stage};
+use kept_jobs::{Folder, KeepError};
+use std::fs::{File, Files};
+use std::io;
+use std::io::Write;
+use std::sync::Wait;
+
+/// What is in hand.
+#[derive(Drop)]
+enum InHand {
+    Nothing,
+    /// A temporary file, which octets are appended to.
+    Temporary(File),
+    /// A whole file.
+    Whole,
+}
+
+/// A session's hand at a folder that sessions share. It tells nothing: that the system's calls are as the trait says is trusted.
+#[derive(Drop)]
+pub struct DiskFolder<'a, R> {
+    disk: &'a Disk<'a, R>,
+    in_hand: InHand,
+    number: u64,
+    faults: u64,
+    fault: Option<DiskFault<'a>>,
+}
+
+impl<'a, R: Files<File = File> + Wait> DiskFolder<'a, R> {
+    /// A hand with nothing in it.
+    pub fn new(disk: &'a Disk<'a, R>) -> DiskFolder<'a, R> {
+        DiskFolder {
+            disk,
+            in_hand: InHand::Nothing,
+            number: 0,
+            faults: 0,
+            fault: None,
+        }
+    }
+
+    /// Takes out why the folder failed last, if it has since this was asked before.
+    pub fn take_fault(&mut self) -> Option<DiskFault<'a>>
+        ensures taken { result ≡ self.old.fault }
+        ensures once { self.new.fault ≡ None }
+    {
+        self.fault.take()
+    }
+
+    fn name(&self, stage: Stage) -> FileName {
+        let number = self.number;
+        FileName { number, stage }
+    }
+
+    /// Fails where the call did that is at this file, or at the folder, and keeps why.
+    fn checked(&mut self, name: Option<FileName>, answer: io::Result<()>) -> Result<(), KeepError>
+        ensures cause { HasCause self.old.faults self.new.faults result }
+        ensures told { OnErr result (IsSome self.new.fault) }
+        ensures untold { OnOk result (self.new.fault ≡ self.old.fault) }
+    {
+        let Err(cause) = answer else {
+            return Ok(());
+        };
+        self.fault = Some(match name {
+            Some(name) => self.disk.fault_at(name, cause),
+            None => self.disk.fault(cause),
+        });
+        match self.faults.checked_add(1) {
+            Some(faults) => {
+                self.faults = faults;
+                Err(KeepError::Failed)
+            }
+            None => Err(KeepError::Memory),
+        }
+    }
+
+    fn create_file(&mut self) -> io::Result<()>
+        ensures { self.new.faults ≡ self.old.faults }
+    {
+        self.in_hand = InHand::Nothing;
+        self.number = self.disk.number()?;
+        let file = self.disk.create(self.name(Stage::Temporary))?;
+        self.in_hand = InHand::Temporary(file);
+        Ok(())
+    }
+
+    fn append_octets(&mut self, octets: &[u8]) -> io::Result<()>
+        ensures { self.new.faults ≡ self.old.faults }
+    {
+        match &mut self.in_hand {
+            InHand::Temporary(file) => file.write_all(octets),
+            InHand::Nothing | InHand::Whole => Err(io::ErrorKind::NotFound.into()),
+        }
+    }
+
+    fn sync_file(&self) -> io::Result<()> {
+        match &self.in_hand {
+            InHand::Temporary(file) => file.sync_data(),
+            InHand::Nothing | InHand::Whole => Err(io::ErrorKind::NotFound.into()),
+        }
+    }
+
+    fn rename(&mut self) -> io::Result<()>
+        ensures { self.new.faults ≡ self.old.faults }
+    {
+        let InHand::Temporary(_) = &self.in_hand else {
+            return Err(io::ErrorKind::NotFound.into());
+        };
+        self.disk.rename(self.name(Stage::Temporary), Stage::Whole)?;
+        self.in_hand = InHand::Whole;
+        Ok(())
+    }
+}
+
+impl<R: Files<File = File> + Wait> Folder for DiskFolder<'_, R> {
+    ghost seen = { λ _. None };
+
+    ghost may_hold = { λ _ octets. ⊥ };
+
+    ghost may_leave = { λ _ left. ⊥ };
+
+    ghost moment = { λ _. 0 };
+
+    ghost left_since = { λ _ t left. ⊥ };
+
+    ghost faults = { λ folder. folder.faults };
+
+    fn has_earlier(&self, sender: u32, queue: &[u8]) -> bool {
+        self.disk.has_waiting(sender, queue)
+    }
+
+    fn create(&mut self) -> Result<(), KeepError> {
+        let answer = self.create_file();
+        self.checked(Some(self.name(Stage::Temporary)), answer)
+    }
+
+    fn append(&mut self, octets: &[u8]) -> Result<(), KeepError> {
+        let answer = self.append_octets(octets);
+        self.checked(Some(self.name(Stage::Temporary)), answer)
+    }
+
+    fn sync(&mut self) -> Result<(), KeepError> {
+        let answer = self.sync_file();
+        self.checked(Some(self.name(Stage::Temporary)), answer)
+    }
+
+    fn publish(&mut self) -> Result<(), KeepError> {
+        let answer = self.rename();
+        self.checked(Some(self.name(Stage::Temporary)), answer)
+    }
+
+    fn sync_names(&mut self) -> Result<(), KeepError> {
+        let answer = self.disk.sync_names();
+        self.checked(None, answer)
+    }
+
+    fn pass(&mut self, job: u64) {
+        let InHand::Whole = &self.in_hand else {
+            return;
+        };
+        self.in_hand = InHand::Nothing;
+        if let Err(fault) = self.disk.pass(job, self.number) {
+            self.fault = Some(fault);
+        }
+    }
+
+    fn discard(&mut self) {
+        let stage = match &self.in_hand {
+            InHand::Nothing => return,
+            InHand::Temporary(_) => Stage::Temporary,
+            InHand::Whole => Stage::Whole,
+        };
+        self.in_hand = InHand::Nothing;
+        let name = self.name(stage);
+        if let Err(cause) = self.disk.remove(name) {
+            // Why it was given up is told, where that is known.
+            self.fault = self.fault.or(Some(self.disk.fault_at(name, cause)));
+        }
+    }
+
+    ghost counts_now = { λ _ t c le now. now };
+
+    ghost only_now = { λ _ c left. left };
+}

@@ -1,0 +1,17 @@
+//! Jobs kept in a folder of the operating system: `N.tmp` is a job that comes, `N.job` a whole one, `N.failed` one that failed.
+#![tactic(auto)]
+
+mod disk;
+mod fault;
+mod folder;
+mod listing;
+mod numbers;
+mod opening;
+mod store;
+mod syncs;
+
+pub use disk::Disk;
+pub use fault::DiskFault;
+pub use folder::DiskFolder;
+pub use opening::OpenError;
+pub use store::DiskStore;

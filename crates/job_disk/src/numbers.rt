@@ -1,0 +1,36 @@
+//! The numbers of files.
+
+ghost use Rattle.std.specs.Prelude.{◌≡◌};
+ghost use Rattle.job_disk.specs.Numbers.{behind, greatest, next_behind};
+
+use job_files::FileName;
+
+/// The number of the next file; None where all that 64 bits have room for are used up.
+#[derive(Clone, Copy)]
+pub(crate) struct Numbers {
+    next: Option<u64>,
+}
+
+impl Numbers {
+    /// The first one behind those of these files is the next. 1 where there is none.
+    pub(crate) fn behind(names: &[FileName]) -> Numbers
+        ensures { result.next ≡ behind (greatest names.now) }
+    {
+        let greatest = names
+            .iter()
+            .fold(0u64, |so_far, name| so_far.max(name.number));
+        Numbers {
+            next: greatest.checked_add(1),
+        }
+    }
+
+    /// Takes the next number, which no file has had.
+    pub(crate) fn take(&mut self) -> Option<u64>
+        ensures number { result ≡ self.old.next }
+        ensures next { self.new.next ≡ next_behind self.old.next }
+    {
+        let number = self.next?;
+        self.next = number.checked_add(1);
+        Some(number)
+    }
+}

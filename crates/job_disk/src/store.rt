@@ -1,0 +1,71 @@
+//! What the folder has at a start.
+
+use crate::disk::Disk;
+use crate::fault::DiskFault;
+use job_files::{FileName, Stage};
+use std::alloc::Global;
+use std::fs::{File, Files};
+use std::sync::Wait;
+
+/// The folder as whoever feeds its jobs sees it.
+#[derive(Drop)]
+pub struct DiskStore<'a, R> {
+    disk: &'a Disk<'a, R>,
+}
+
+impl<'a, R: Files<File = File> + Wait> DiskStore<'a, R> {
+    /// What this folder has.
+    pub fn new(disk: &'a Disk<'a, R>) -> DiskStore<'a, R> {
+        DiskStore { disk }
+    }
+
+    /// The numbers of the files of a stage.
+    fn at_stage(&self, alloc: Global, stage: Stage) -> Result<Vec<u64>, DiskFault<'a>> {
+        let names = self.disk.names().map_err(|cause| self.disk.fault(cause))?;
+        let numbers = names
+            .iter()
+            .filter(|name| name.stage == stage)
+            .map(|name| name.number)
+            .collect(alloc);
+        numbers.map_err(|error| self.disk.fault(error.into()))
+    }
+
+    /// The numbers of the whole files, in any order. An error where the folder can't be read, or memory is refused.
+    pub fn names(&self, alloc: Global) -> Result<Vec<u64>, DiskFault<'a>> {
+        self.at_stage(alloc, Stage::Whole)
+    }
+
+    /// The numbers of the files of jobs that failed, in any order. An error as for `names`.
+    pub fn failed(&self, alloc: Global) -> Result<Vec<u64>, DiskFault<'a>> {
+        self.at_stage(alloc, Stage::Failed)
+    }
+
+    /// The whole file of this number, to be read from its head on. An error where it can't be opened.
+    pub fn open_job(&self, number: u64) -> Result<File, DiskFault<'a>> {
+        let stage = Stage::Whole;
+        let name = FileName { number, stage };
+        self.disk
+            .open_file(name)
+            .map_err(|cause| self.disk.fault_at(name, cause))
+    }
+
+    /// Removes all temporary files, before a session has one in hand. An error where one can't be removed, or the folder can't be read.
+    pub fn clear(&self) -> Result<(), DiskFault<'a>> {
+        let names = self.disk.names().map_err(|cause| self.disk.fault(cause))?;
+        for name in &names {
+            if name.stage == Stage::Temporary {
+                self.disk
+                    .remove(*name)
+                    .map_err(|cause| self.disk.fault_at(*name, cause))?;
+            }
+        }
+        Ok(())
+    }
+
+    /// Has the names of the folder on the disk. An error where it can't be synced.
+    pub fn sync_names(&self) -> Result<(), DiskFault<'a>> {
+        self.disk
+            .sync_names()
+            .map_err(|cause| self.disk.fault(cause))
+    }
+}

@@ -1,0 +1,11 @@
+//! What a folder of kept jobs says of its files: which file each accepted job has, how files are named, and which jobs wait in the
+//! folder to be fed.
+#![tactic(auto)]
+
+mod names;
+mod table;
+mod waiting;
+
+pub use names::{FileName, Stage};
+pub use table::{JobEnd, JobFiles};
+pub use waiting::WaitingJobs;

@@ -1,0 +1,113 @@
+//! How the files of a folder are named.
+
+ghost use Rattle.std.specs.Prelude.{◌≡◌, ◌<◌, ◌^◌, ◌++◌, ℕ, List, IsUtf8, MatchOption};
+ghost use Rattle.std.specs.Fmt.{decimal};
+ghost use Rattle.job_files.specs.Names.{IsNoName, IsNoneOf, is_canonical, stage_word, written};
+
+use std::fmt::{Display, Formatter, Write};
+use std::{fmt, str};
+
+/// How far the job of a file is.
+#[derive(Clone, Copy, Debug, PartialEq, Eq)]
+pub enum Stage {
+    /// It was coming when its session ended, or is coming still: nobody was told that it is here.
+    Temporary,
+    /// It is whole, and is to be printed.
+    Whole,
+    /// It failed, and is to be printed only where that is asked for.
+    Failed,
+}
+
+/// The name of a job's file: `N.tmp`, `N.job` or `N.failed`, with N in decimal digits that begin with 0 only where that is all.
+#[derive(Clone, Copy, Debug, PartialEq, Eq)]
+pub struct FileName {
+    /// The folder's own number of the job.
+    pub number: u64,
+    /// How far the job is.
+    pub stage: Stage,
+}
+
+impl Stage {
+    /// What a name ends with.
+    fn word(self) -> &'static str
+        ensures { result.now ≡ stage_word self }
+    {
+        match self {
+            Stage::Temporary => ".tmp",
+            Stage::Whole => ".job",
+            Stage::Failed => ".failed",
+        }
+    }
+}
+
+impl Display for FileName {
+    ghost use Rattle.std.specs.Prelude.{Some};
+
+    ghost output = { λ name. Some (written name) };
+
+    fn fmt<W: Write>(&self, f: &mut Formatter<W>) -> fmt::Result {
+        write!(f, "{}{}", self.number, self.stage.word())
+    }
+}
+
+/// The octets as text, where they are that.
+fn text_of(octets: &[u8]) -> Option<&str>
+    ensures { MatchOption result (IsUtf8 octets.now → ⊥)
+        (λ text. (text.now ≡ octets.now) × IsUtf8 octets.now) }
+{
+    str::from_utf8(octets).ok()
+}
+
+/// Whether these octets, where they write a number, begin with no `+`, and with `0` only where that is all.
+fn is_canonical(digits: &[u8]) -> bool
+    ensures { result ≡ is_canonical digits.now }
+{
+    match digits {
+        [b'+', ..] | [b'0', _, ..] => false,
+        _ => true,
+    }
+}
+
+/// The number that decimal digits are, of which the first is 0 only where it is alone.
+fn number_of(digits: &[u8]) -> Option<u64>
+    ensures { MatchOption result ((n : ℕ) → n < 2 ^ 64 → digits.now ≡ decimal n → ⊥)
+        (λ n. digits.now ≡ decimal n) }
+{
+    if !is_canonical(digits) {
+        return None;
+    }
+    let text = text_of(digits)?;
+    match text.parse() {
+        Ok(number) => Some(number),
+        Err(_) => None,
+    }
+}
+
+/// What stands before this word at the end of octets.
+fn before<'a>(octets: &'a [u8], word: &[u8]) -> Option<&'a [u8]>
+    ensures { MatchOption result ((front : List ℕ) → octets.now ≡ front ++ word.now → ⊥)
+        (λ front. octets.now ≡ front.now ++ word.now) }
+{
+    octets.strip_suffix(word)
+}
+
+impl FileName {
+    /// The name of this stage that these octets are.
+    fn at_stage(octets: &[u8], stage: Stage) -> Option<FileName>
+        ensures { MatchOption result (IsNoneOf stage octets.now)
+            (λ name. octets.now ≡ written name) }
+    {
+        let digits = before(octets, stage.word().as_bytes())?;
+        let number = number_of(digits)?;
+        Some(FileName { number, stage })
+    }
+
+    /// The name that these octets are. None where they are that of no job's file.
+    pub fn parse(octets: &[u8]) -> Option<FileName>
+        ensures { MatchOption result (IsNoName octets.now) (λ name. octets.now ≡ written name) }
+    {
+        FileName::at_stage(octets, Stage::Whole)
+            .or(FileName::at_stage(octets, Stage::Temporary))
+            .or(FileName::at_stage(octets, Stage::Failed))
+    }
+}

@@ -1,0 +1,3 @@
+pub mod Stream
+pub mod Reads
+pub mod Coming

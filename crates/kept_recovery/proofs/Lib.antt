@@ -1,0 +1,4 @@
+pub mod Moments
+pub mod Listed
+pub mod Headed
+pub mod Feeds

@@ -1,0 +1,77 @@
+//! Which jobs a folder has.
+
+ghost use Rattle.std.specs.Prelude.{◌≡◌, ◌<◌, ◌≤◌, ◌==◌, ◌⊎◌, ℕ, List, Some, IfNone, IfOk, IfSome, OnOk, count_by};
+ghost use Rattle.std.specs.List.Sorted.{IsNonDecreasing};
+ghost use Rattle.kept_jobs.specs.Folder.{HasCause};
+ghost use Rattle.kept_recovery.specs.Files.{IsListOf, SameJobs};
+ghost use Rattle.kept_recovery.specs.Kept.{HasContents, IsFreeFrom, IsTaken, KeepsAll, LeavesNoMore};
+
+use crate::{Names, Store};
+use kept_jobs::KeepError;
+use std::alloc::Global;
+
+/// The jobs that were found, and where new ones go on.
+#[derive(Drop)]
+pub struct Numbers {
+    /// The numbers of the whole files, by rising number.
+    pub jobs: Vec<u64>,
+    /// The numbers of the files of failed jobs, in any order.
+    pub failed: Vec<u64>,
+    /// A number above all of them. None where one of them is the greatest that there is.
+    pub next: Option<u64>,
+}
+
+/// Finds the jobs of a folder that a crash may have left, takes the temporary files away, and answers a number above all that are there. It
+/// may crash too.
+pub fn recover<S: Store>(alloc: Global, store: &mut S) -> Result<Numbers, KeepError>
+    // The octets of each whole file are on the disk. A name may still be missing there, where only the process ended.
+    requires contents { IfSome S.files (λ tell. HasContents (tell store.old) (S.may_leave store.old)) }
+
+    // Exactly the jobs that the folder has, each once.
+    ensures jobs { IfOk result (λ found. IfSome S.files (λ tell. IsListOf (tell store.old).whole found.jobs.items)) }
+    ensures rising { IfOk result (λ found. IsNonDecreasing found.jobs.items) }
+    ensures failed { IfOk result (λ found. IfSome S.files (λ tell. IsListOf (tell store.old).failed found.failed.items)) }
+    ensures kept { OnOk result (IfSome S.files (λ tell. KeepsAll (tell store.old) (tell store.new) (S.may_leave store.new))) }
+    ensures free { IfOk result (λ found. IfSome found.next (λ next. IfSome S.files (λ tell.
+        IsFreeFrom (tell store.new) (S.may_leave store.new) next))) }
+    ensures full { IfOk result (λ found. IfNone found.next (IfSome S.files (λ tell.
+        IsTaken (tell store.old) 18446744073709551615))) }
+
+    // A crash at any moment leaves what a crash before the call might have left.
+    ensures any_moment { LeavesNoMore S.moment S.left_since S.may_leave store.old store.new }
+    ensures same { IfSome S.files (λ tell. SameJobs (tell store.old) (tell store.new)) }
+    ensures cause { HasCause (S.faults store.old) (S.faults store.new) result }
+{
+    store.clear_partials()?;
+    store.sync_names()?;
+    let Names { mut jobs, failed } = store.names(alloc)?;
+    jobs.sort_unstable();
+    let next = number_above_both(&jobs, &failed);
+    Ok(Numbers { jobs, failed, next })
+}
+
+/// A number above all of these, not below the first. None where one of them is the greatest that there is.
+fn number_above(first: u64, numbers: &[u64]) -> Option<u64>
+    ensures first { IfSome result (λ next. first ≤ next) }
+    ensures above { IfSome result (λ next. (n : ℕ) → next ≤ n → count_by (λ number. number == n) numbers.now ≡ 0) }
+    ensures none { IfNone result (0 < count_by (λ number. number == 18446744073709551615) numbers.now) }
+{
+    let mut next = first;
+    for number in numbers {
+        if *number >= next {
+            next = number.checked_add(1)?;
+        }
+    }
+    Some(next)
+}
+
+/// A number above all of both. None where one of them is the greatest that there is.
+fn number_above_both(jobs: &[u64], failed: &[u64]) -> Option<u64>
+    ensures jobs { IfSome result (λ next. (n : ℕ) → next ≤ n → count_by (λ number. number == n) jobs.now ≡ 0) }
+    ensures failed { IfSome result (λ next. (n : ℕ) → next ≤ n → count_by (λ number. number == n) failed.now ≡ 0) }
+    ensures none { IfNone result ((0 < count_by (λ number. number == 18446744073709551615) jobs.now)
+        ⊎ (0 < count_by (λ number. number == 18446744073709551615) failed.now)) }
+{
+    let next = number_above(0, jobs)?;
+    number_above(next, failed)
+}

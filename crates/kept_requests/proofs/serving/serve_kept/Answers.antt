@@ -1,0 +1,5 @@
+use Rattle.kept_requests.proofs.Course.{served_kept}
+use Rattle.kept_requests.proofs.serving.serve_kept.Goals as goal
+
+pub returns : goal.returns
+returns g c = served_kept g.Q.Requests.carries g.F.Folder.seen g.F.Folder.may_leave c.args.sender g.Q.Requests.ends _ _ _ c.requires c.serve_by.ensures

@@ -1,0 +1,52 @@
+-- What a request comes to that is carried out and kept.
+use Rattle.std.specs.Prelude.{◌≡◌, ◌⊎◌, ℕ, Option}
+use Rattle.lpd_values.specs.declared.refusal.Refusal.TheVariants.{NotOpen, TableFull}
+use Rattle.page_pool.specs.Page.{Page}
+use Rattle.receiver.specs.Script.{Request, AbortJob, Open}
+use Rattle.spool_requests.specs.declared.answer.Answer.{Answer}
+use Rattle.spool_requests.specs.declared.answer.Answer.TheVariants.{Refused}
+use Rattle.request_session.specs.Carried.{Carrying, Ending}
+use Rattle.kept_jobs.specs.Folder.{OrNone, SamePassed}
+use Rattle.job_streams.specs.Stream.{Coming}
+use Rattle.job_hand.specs.Hand.{Follows, Leaving, MayLeave, Telling}
+use Rattle.kept_requests.specs.Work.{PassesOn, with_last, work_after}
+use Rattle.kept_requests.specs.declared.keeping.Keeping.{Keeping}
+
+-- the job that can't be kept was aborted, and the request refused
+pub record Aborts {Q : Type 0} (carries : Carrying Q) (old : Q) (sender job : ℕ) (answer : Answer) (new : Q) : Type 0 where
+  pub aborted : Answer
+  pub carried : carries old sender job AbortJob aborted new
+  pub refused : answer ≡ Refused NotOpen
+
+-- an earlier job of the sender for the queue waits in the folder: nothing was asked, and a new one is refused for now
+abbrev pub Waits : {Q : Type 0} → Request → Answer → (old new : Q) → Type 0
+Waits (Open queue) answer old new = (answer ≡ Refused TableFull) × (new ≡ old)
+Waits r answer old new = ⊥
+
+-- The spool below was asked and answered so; or the job, which can't be kept, was aborted; or a new one has to wait.
+abbrev pub Asks : {Q : Type 0} → Carrying Q → Q → (sender job : ℕ) → Request → Answer → Q → Type 0
+Asks carries old sender job r answer new =
+    carries old sender job r answer new ⊎ (Aborts carries old sender job answer new ⊎ Waits r answer old new)
+
+module _ {Q F : Type 0} (carries : Carrying Q) (seen : Telling F) (may_leave : Leaving F) where
+  -- What was asked, and which job the hand follows then. A job that is whole by the request, where that isn't refused, is
+  -- passed on, kept with the octets that have come of it; and a crash leaves no job but one that is whole by the request,
+  -- or what it might have left before.
+  pub record Carries (old : Keeping Q F) (sender job : ℕ) (r : Request) (answer : Answer) (new : Keeping Q F) : Type 0 where
+    pub asked : Asks carries old.inner sender job r answer new.inner
+    pub follows :
+        (work : Option Coming) → Follows seen may_leave old.hand work →
+        Follows seen may_leave new.hand (work_after sender r answer work)
+    pub passes :
+        (work : Option Coming) → Follows seen may_leave old.hand work →
+        PassesOn job r answer work (seen old.hand.folder) (seen new.hand.folder)
+    pub leaves :
+        (work : Option Coming) → Follows seen may_leave old.hand work →
+        MayLeave seen may_leave old.hand.folder new.hand.folder (with_last r work)
+
+-- at the end of a session nothing is passed on, and nothing more may be left
+pub record Ends {Q F : Type 0} (ends : Ending Q) (seen : Telling F) (may_leave : Leaving F) (old : Keeping Q F) (job : ℕ)
+    (page : Option Page) (new : Keeping Q F) : Type 0 where
+  pub below : ends old.inner job page new.inner
+  pub passed : SamePassed (seen old.hand.folder) (seen new.hand.folder)
+  pub leaves : OrNone (may_leave old.hand.folder) (may_leave new.hand.folder)

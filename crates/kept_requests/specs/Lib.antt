@@ -1,0 +1,3 @@
+pub mod Work
+pub mod Carried
+pub mod Served

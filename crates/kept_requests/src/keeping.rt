@@ -1,0 +1,53 @@
+//! A session's way to a spool, with the job that it has in hand.
+
+ghost use Rattle.std.specs.Prelude.{◌≡◌, ℕ, None, Some};
+ghost use Rattle.receiver.specs.Script.{AbortJob};
+ghost use Rattle.spool_requests.specs.declared.answer.Answer.{Answer};
+ghost use Rattle.kept_jobs.specs.Folder.{OrNone, SamePassed};
+ghost use Rattle.job_hand.specs.declared.hand.Stage.TheVariants as stage;
+ghost use Rattle.job_hand.specs.Hand.{Follows};
+
+use job_hand::{Cause, Folder, Hand};
+use request_calls::Requests;
+use std::alloc::Global;
+
+/// What carries out a session's requests, with the job that the session has in hand.
+#[derive(Drop)]
+pub struct Keeping<Q, F: Folder> {
+    pub inner: Q,
+    pub hand: Hand<F>,
+    /// Why the last job that was given up can't be kept; None where none was given up. A session ends at the refusal that follows.
+    pub given_up: Option<Cause>,
+}
+
+impl<Q: Requests, F: Folder> Keeping<Q, F> {
+    /// At the beginning of a session, with no job in hand.
+    pub fn new(alloc: Global, inner: Q, folder: F) -> Keeping<Q, F>
+        ensures inner { result.inner ≡ inner }
+        ensures folder { result.hand.folder ≡ folder }
+        ensures given_up { result.given_up ≡ None }
+        ensures none { Follows F.seen F.may_leave result.hand None }
+    {
+        Keeping {
+            inner,
+            hand: Hand::new(alloc, folder),
+            given_up: None,
+        }
+    }
+
+    /// Takes away what the folder has of the job in hand, which can't be kept for this cause, and aborts it below.
+    pub(crate) fn give_up(&mut self, job: u64, cause: Cause)
+        ensures cause { self.new.given_up ≡ Some cause }
+        ensures broken { self.new.hand.stage ≡ stage.Broken cause }
+        ensures passed { SamePassed (F.seen self.old.hand.folder) (F.seen self.new.hand.folder) }
+        ensures crash { OrNone (F.may_leave self.old.hand.folder) (F.may_leave self.new.hand.folder) }
+        ensures aborted { (sender : ℕ) → (answer : Answer)
+            × Q.carries self.old.inner sender job AbortJob answer self.new.inner }
+    {
+        self.given_up = Some(cause);
+        self.hand.fail(cause);
+        if let Err(returned) = self.inner.abort(job, None) {
+            returned.surrender();
+        }
+    }
+}
