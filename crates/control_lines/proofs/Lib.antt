@@ -1,4 +1,4 @@
 pub mod AnswerLemmas
 pub mod EscapeLemmas
 pub mod LineLemmas
-pub mod SecondsLemmas
+pub mod NumberLemmas

@@ -21,7 +21,7 @@ use Rattle.std.specs.Result.{IsErrAnd}
 use Rattle.control_lines.specs.declared.command.LineFault.{LineFault}
 use Rattle.control_lines.specs.declared.command.LineFault.TheVariants.{Unknown, Memory}
 use Rattle.control_lines.specs.declared.command.Command.{Command}
-use Rattle.control_lines.specs.declared.command.Command.TheVariants.{Status, Start, Hold, Release, Remove, Rotate, Stop, StopNow}
+use Rattle.control_lines.specs.declared.command.Command.TheVariants.{Status, Start, Hold, Release, Remove, Resend, Rotate, Stop, StopNow}
 
 -- what follows the first word of a command and a space
 abbrev pub operand_of : Command → Option (List ℕ)
@@ -30,6 +30,7 @@ operand_of (Start queue) = Some queue
 operand_of (Hold queue) = Some queue
 operand_of (Release queue) = Some queue
 operand_of (Remove queue whom) = Some (queue ++ 32 ∷ whom)
+operand_of (Resend number) = Some (decimal number)
 operand_of Rotate = None
 operand_of (Stop None) = None
 operand_of (Stop (Some seconds)) = Some (decimal seconds)
@@ -46,6 +47,7 @@ parts (Start queue) = refl
 parts (Hold queue) = refl
 parts (Release queue) = refl
 parts (Remove queue whom) = refl
+parts (Resend number) = refl
 parts Rotate = refl
 parts (Stop None) = refl
 parts (Stop (Some seconds)) = refl
@@ -57,6 +59,7 @@ verb_has_no_space verb.Start = refl
 verb_has_no_space verb.Hold = refl
 verb_has_no_space verb.Release = refl
 verb_has_no_space verb.Remove = refl
+verb_has_no_space verb.Resend = refl
 verb_has_no_space verb.Rotate = refl
 verb_has_no_space verb.Stop = refl
 
@@ -103,7 +106,7 @@ abbrev verb_by : (a b c d : ℕ) → Verb
 verb_by a b c d =
     cond (a == 104) verb.Hold (
     cond (a == 115) (cond (c == 111) verb.Stop (cond (d == 114) verb.Start verb.Status)) (
-    cond (b == 111) verb.Rotate (cond (c == 108) verb.Release verb.Remove)))
+    cond (b == 111) verb.Rotate (cond (c == 108) verb.Release (cond (c == 115) verb.Resend verb.Remove))))
 
 abbrev verb_at : List ℕ → Verb
 verb_at s = verb_by (first s) (first (others s)) (first (others (others s))) (first (others (others (others s))))
@@ -114,6 +117,7 @@ verb_at-word verb.Start = refl
 verb_at-word verb.Hold = refl
 verb_at-word verb.Release = refl
 verb_at-word verb.Remove = refl
+verb_at-word verb.Resend = refl
 verb_at-word verb.Rotate = refl
 verb_at-word verb.Stop = refl
 
@@ -134,6 +138,7 @@ MeansAt verb.Release operand c = NamesIt (λ q. Release q) operand c
 MeansAt verb.Remove operand c =
     (queue : List ℕ) × (whom : List ℕ) × (operand ≡ Some (queue ++ 32 ∷ whom)) × (c ≡ Remove queue whom)
     × IsTrue (is_queue_name queue) × IsTrue (is_whom whom)
+MeansAt verb.Resend operand c = (n : ℕ) × (operand ≡ Some (decimal n)) × (c ≡ Resend n) × (n < 2 ^ 64)
 MeansAt verb.Rotate operand c = (operand ≡ None) × (c ≡ Rotate)
 MeansAt verb.Stop operand c =
     ((operand ≡ None) × (c ≡ Stop None)) ⊎ ((operand ≡ Some (codes "now")) × (c ≡ StopNow))
@@ -145,6 +150,7 @@ by_verb (Start queue) h = (queue, refl, refl, h)
 by_verb (Hold queue) h = (queue, refl, refl, h)
 by_verb (Release queue) h = (queue, refl, refl, h)
 by_verb (Remove queue whom) h = (queue, whom, refl, refl, h.0, h.1)
+by_verb (Resend number) h = (number, refl, refl, h)
 by_verb Rotate h = (refl, refl)
 by_verb (Stop None) h = inl (refl, refl)
 by_verb (Stop (Some seconds)) h = inr (inr (seconds, refl, refl, h))
@@ -186,6 +192,10 @@ releases operand c m =
     let r = at verb.Release (Some operand) c m in
     subst (λ (q : List ℕ). IsTrue (is_queue_name q)) (sym (some_is _ _ r.1)) r.3
 
+-- a job is sent again by its number
+pub resends : (operand : List ℕ) (c : Command) → Means (codes "resend " ++ operand) c → (n : ℕ) × (n < 2 ^ 64) × (operand ≡ decimal n)
+resends operand c m = let r = at verb.Resend (Some operand) c m in (r.0, r.3, some_is _ _ r.1)
+
 -- a removal is cut at the first space behind its first word
 pub removes : (operands queue whom : List ℕ) → IsCut operands queue whom → (c : Command) → Means (codes "remove " ++ operands) c → IsTrue (is_queue_name queue) × IsTrue (is_whom whom)
 removes operands queue whom cut c m =
@@ -217,6 +227,9 @@ one_at verb.Release o a b p q = p.2 ∙ (ap (λ (t : List ℕ). Release t) (same
 one_at verb.Remove o a b p q =
     let same = same_cut p.0 q.0 p.1 q.1 (queue_has_no_space p.0 p.4) (queue_has_no_space q.0 q.4) (same_some o _ _ p.2 q.2) in
     let queue = same.0 in let whom = same.1 in let left = p.3 in let right = q.3 in cc
+one_at verb.Resend o a b p q =
+    let e : p.0 ≡ q.0 = decimal_injective p.0 q.0 p.3 q.3 (same_some o _ _ p.1 q.1) in
+    p.2 ∙ (ap (λ (n : ℕ). Resend n) e ∙ sym q.2)
 one_at verb.Rotate o a b p q = p.1 ∙ sym q.1
 one_at verb.Stop o a b (inl p) (inl q) = p.1 ∙ sym q.1
 one_at verb.Stop o a b (inl p) (inr (inl q)) = absurd (none_or_some o _ p.0 q.0)
@@ -252,6 +265,10 @@ is_short (Remove queue whom) h =
     let few = queue_short queue h.0 in
     let short = whom_short whom h.1 in
     let e : length (queue ++ 32 ∷ whom) ≡ length queue + length (32 ∷ whom) = length-append queue (32 ∷ whom) in
+    omega arith
+is_short (Resend n) h =
+    let p : 2 ^ 64 < 10 ^ 20 = lit< tt in
+    let few = length-decimal-le 20 n (lit< tt) (omega arith) h in
     omega arith
 is_short Rotate h = lit≤ tt
 is_short (Stop None) h = lit≤ tt

@@ -5,7 +5,7 @@ use Rattle.control_lines.specs.Operands.{is_queue_name, is_whom}
 use Rattle.control_lines.specs.declared.verb.Verb.{Verb}
 use Rattle.control_lines.specs.declared.verb.Verb.TheVariants as verb
 use Rattle.control_lines.specs.declared.command.Command.{Command}
-use Rattle.control_lines.specs.declared.command.Command.TheVariants.{Status, Start, Hold, Release, Remove, Rotate, Stop, StopNow}
+use Rattle.control_lines.specs.declared.command.Command.TheVariants.{Status, Start, Hold, Release, Remove, Resend, Rotate, Stop, StopNow}
 use Rattle.control_lines.specs.declared.command.LineFault.{LineFault}
 use Rattle.control_lines.specs.declared.command.LineFault.TheVariants.{Unknown, Memory}
 
@@ -16,18 +16,20 @@ written (Start queue) = codes "start " ++ queue
 written (Hold queue) = codes "hold " ++ queue
 written (Release queue) = codes "release " ++ queue
 written (Remove queue whom) = codes "remove " ++ (queue ++ 32 ∷ whom)
+written (Resend number) = codes "resend " ++ decimal number
 written Rotate = codes "rotate"
 written (Stop None) = codes "stop"
 written (Stop (Some seconds)) = codes "stop " ++ decimal seconds
 written StopNow = codes "stop now"
 
--- a command that can be said: a queue and whom are as they may be written, and seconds fit 32 bits
+-- a command that can be said: a queue and whom are as they may be written, a number fits 64 bits, and seconds fit 32
 abbrev pub IsSayable : Command → Type 0
 IsSayable Status = Unit {0}
 IsSayable (Start queue) = IsTrue (is_queue_name queue)
 IsSayable (Hold queue) = IsTrue (is_queue_name queue)
 IsSayable (Release queue) = IsTrue (is_queue_name queue)
 IsSayable (Remove queue whom) = IsTrue (is_queue_name queue) × IsTrue (is_whom whom)
+IsSayable (Resend number) = number < 2 ^ 64
 IsSayable Rotate = Unit {0}
 IsSayable (Stop None) = Unit {0}
 IsSayable (Stop (Some seconds)) = seconds < 2 ^ 32
@@ -67,6 +69,7 @@ verb_of (Start queue) = verb.Start
 verb_of (Hold queue) = verb.Hold
 verb_of (Release queue) = verb.Release
 verb_of (Remove queue whom) = verb.Remove
+verb_of (Resend number) = verb.Resend
 verb_of Rotate = verb.Rotate
 verb_of (Stop seconds) = verb.Stop
 verb_of StopNow = verb.Stop

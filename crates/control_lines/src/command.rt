@@ -4,7 +4,7 @@ ghost use Rattle.std.specs.Prelude.{◌≡◌, ◌∷◌, ◌++◌, [], IfOk, On
 ghost use Rattle.control_lines.specs.Commands.{written, verb_of, Means, Reads, IsQueueOf};
 ghost use Rattle.control_lines.specs.Verbs.{verb_word};
 
-use crate::operands::{cut, is_queue_name, is_whom, read_seconds};
+use crate::operands::{cut, is_queue_name, is_whom, read_number, read_seconds};
 use crate::verb::Verb;
 use lpd_values::Octets;
 use std::alloc::{AllocError, Global};
@@ -22,6 +22,8 @@ pub enum Command {
     Release { queue: Octets },
     /// Removes jobs of the queue: the one of this number, or those of this user.
     Remove { queue: Octets, whom: Octets },
+    /// Has a job printed that failed, by the number of its file.
+    Resend { number: u64 },
     /// Rotates the account.
     Rotate,
     /// Stops the server once the held jobs are printed, at the latest after so many seconds where they are told.
@@ -101,7 +103,9 @@ impl Verb {
             Verb::Status => Ok(Command::Status),
             Verb::Rotate => Ok(Command::Rotate),
             Verb::Stop => Ok(Command::Stop { seconds: None }),
-            Verb::Start | Verb::Hold | Verb::Release | Verb::Remove => Err(LineFault::Unknown),
+            Verb::Start | Verb::Hold | Verb::Release | Verb::Remove | Verb::Resend => {
+                Err(LineFault::Unknown)
+            }
         }
     }
 
@@ -123,6 +127,10 @@ impl Verb {
                 Ok(Command::Release { queue })
             }
             Verb::Remove => removal_of(alloc, operand),
+            Verb::Resend => {
+                let number = read_number(operand).ok_or(LineFault::Unknown)?;
+                Ok(Command::Resend { number })
+            }
             Verb::Stop => stop_of(operand),
             Verb::Status | Verb::Rotate => Err(LineFault::Unknown),
         }
@@ -161,6 +169,7 @@ impl Command {
             Command::Hold { .. } => Verb::Hold,
             Command::Release { .. } => Verb::Release,
             Command::Remove { .. } => Verb::Remove,
+            Command::Resend { .. } => Verb::Resend,
             Command::Rotate => Verb::Rotate,
             Command::Stop { .. } | Command::StopNow => Verb::Stop,
         }
@@ -181,6 +190,9 @@ impl Command {
             Command::Remove { queue, whom } => {
                 put_operand(&mut line, queue.as_slice())?;
                 put_operand(&mut line, whom.as_slice())?;
+            }
+            Command::Resend { number } => {
+                put_operand(&mut line, number.to_string(alloc)?.as_bytes())?;
             }
             Command::Stop {
                 seconds: Some(seconds),

@@ -80,6 +80,21 @@ pub(crate) fn read_seconds(digits: &[u8]) -> Option<u32>
     }
 }
 
+/// The number that decimal digits are, of which the first is 0 only where it is alone.
+pub(crate) fn read_number(digits: &[u8]) -> Option<u64>
+    ensures { MatchOption result ((n : ℕ) → n < 2 ^ 64 → digits.now ≡ decimal n → ⊥)
+        (λ n. digits.now ≡ decimal n) }
+{
+    if !is_canonical(digits) {
+        return None;
+    }
+    let text = text_of(digits)?;
+    match text.parse() {
+        Ok(number) => Some(number),
+        Err(_) => None,
+    }
+}
+
 /// What follows these octets at the head of a text.
 pub(crate) fn after<'a>(text: &'a [u8], head: &[u8]) -> Option<&'a [u8]>
     ensures { MatchOption result (Lacks head.now text.now)

@@ -12,6 +12,7 @@ pub(crate) enum Verb {
     Hold,
     Release,
     Remove,
+    Resend,
     Rotate,
     Stop,
 }
@@ -27,6 +28,7 @@ impl Verb {
             Verb::Hold => b"hold",
             Verb::Release => b"release",
             Verb::Remove => b"remove",
+            Verb::Resend => b"resend",
             Verb::Rotate => b"rotate",
             Verb::Stop => b"stop",
         }
@@ -43,6 +45,7 @@ impl Verb {
             b"hold" => Some(Verb::Hold),
             b"release" => Some(Verb::Release),
             b"remove" => Some(Verb::Remove),
+            b"resend" => Some(Verb::Resend),
             b"rotate" => Some(Verb::Rotate),
             b"stop" => Some(Verb::Stop),
             _ => None,

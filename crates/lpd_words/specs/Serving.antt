@@ -36,7 +36,7 @@ serve_words =
     ∷ sessions ∷ count (codes "connections") ∷ count (codes "rotate") ∷ count (codes "silence")
     ∷ count (codes "per-host") ∷ count (codes "slowest") ∷ flag (codes "keep-room")
     ∷ repeated (codes "allow") ∷ option (codes "control") ∷ printer ∷ count (codes "patience")
-    ∷ count (codes "printer-silence") ∷ count (codes "restart") ∷ []
+    ∷ count (codes "printer-silence") ∷ count (codes "restart") ∷ option (codes "spool") ∷ []
 
 abbrev pub serve_app : App
 serve_app = with_rules (new_app (codes "serve")) serve_words
@@ -95,3 +95,4 @@ pub record IsServing (rows : List Row) (settings : Settings) : Type 0 where
   pub printers : ArePrinters rows settings.printers.items
   pub printer_limits : ArePrinterLimits rows settings.printer_limits
   pub restart : IsLimit rows (codes "restart") (option_map non_zero_u64_get settings.restart_seconds)
+  pub spool : option_map (λ path. path.now) settings.spool ≡ first_of (codes "spool") rows

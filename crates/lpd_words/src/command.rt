@@ -75,6 +75,7 @@ behind PATH are one command:
   release QUEUE         ends that
   remove QUEUE NUMBER   removes the job of this number
   remove QUEUE USER     removes the user's jobs
+  resend NUMBER         prints the job of the file NUMBER.failed, where jobs are kept
   rotate                rotates the account
   stop                  stops the server once its jobs are printed, and waits for that
   stop SECONDS          the same, at the latest after so many seconds

@@ -43,6 +43,7 @@ Examples:
   lpd_server serve spool.toml --port 515 --keep-room
   lpd_server serve spool.toml --port 5150 --bind 0.0.0.0 --out pages --sessions 16 --silence 60
   lpd_server serve spool.toml --port 515 --printer 1=socket://10.0.0.9
+  lpd_server serve spool.toml --port 515 --keep-room --spool /var/spool/hurgwaye
   lpd_server serve spool.toml --port 5150 --connections 1";
 
 /// The option that has to be there, the port to listen on.
@@ -71,6 +72,8 @@ pub(crate) fn serve<'a>(alloc: Global) -> Result<Command<'a>, AllocError>
     let control = "Makes a Unix socket at PATH where the server is looked after";
     let patience = "Fails a job whose network printer isn't reached for MINUTES, 1 or more";
     let silent = "Fails a job whose network printer takes nothing for SECONDS, 1 or more";
+    let spool =
+        "Keeps each job in a file of DIR until it is printed, so that it outlives the server";
     let restart = "Starts a queue again SECONDS, 1 or more, after a printer of it failed";
     let words = vec![in alloc;
         word(alloc, "config", "CONFIG", CONFIG),
@@ -96,6 +99,7 @@ pub(crate) fn serve<'a>(alloc: Global) -> Result<Command<'a>, AllocError>
         count(alloc, "patience", "MINUTES", patience),
         count(alloc, "printer-silence", "SECONDS", silent),
         count(alloc, "restart", "SECONDS", restart),
+        option(alloc, "spool", "DIR", spool),
     ]?;
     with_words(plain(alloc, "serve", about, MORE_OF_SERVE), words)
 }
@@ -197,5 +201,6 @@ pub(crate) fn serving_of<'a>(
         printers: printers_of(alloc, matches)?,
         printer_limits: printer_limits_of(matches)?,
         restart_seconds: limit_of(matches, "restart")?,
+        spool: text_if(matches, "spool"),
     })
 }

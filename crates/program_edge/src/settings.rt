@@ -59,6 +59,9 @@ pub struct Settings<'a> {
     /// How many seconds after the last failure of a printer its queue is started again; never
     /// without it.
     pub restart_seconds: Option<NonZeroU64>,
+    /// The path of the directory where jobs are kept until they are printed, where they are kept: they
+    /// outlive the server.
+    pub spool: Option<&'a str>,
 }
 
 impl<'a> Settings<'a> {
@@ -81,6 +84,7 @@ impl<'a> Settings<'a> {
         ensures printer_limits { (result.printer_limits.patience_minutes ≡ None)
             × (result.printer_limits.silence_seconds ≡ None) }
         ensures restart_seconds { result.restart_seconds ≡ None }
+        ensures spool { result.spool ≡ None }
     {
         Settings {
             bind: Ipv4Addr::LOCALHOST,
@@ -96,6 +100,7 @@ impl<'a> Settings<'a> {
             printers: Vec::new(alloc),
             printer_limits: PrinterLimits::NONE,
             restart_seconds: None,
+            spool: None,
         }
     }
 }

@@ -6,7 +6,7 @@ use control_file::Control;
 use lpd_values::{FileName, Octets, Refusal};
 use page_pool::{FilledPage, PageTicket};
 use request_calls::{Asked, Receipt, Requests, ReturnedControl, ReturnedPage, ReturnedTicket};
-use shared_spool::{SessionSeat, SharedSpool, SpoolLedger};
+use shared_spool::{Removal, SessionSeat, SharedSpool, SpoolLedger};
 use std::marker::Model;
 use std::sync::Wait;
 use std::sync::ledger::Ledger;
@@ -18,6 +18,8 @@ pub struct Seated<'a, R, E: SpoolLedger, K: Ledger, H: Ledger> {
     rt: &'a R,
     spool: &'a SharedSpool<E, K, H>,
     seat: SessionSeat<E, K, H>,
+    /// The numbers of the jobs that its last removal took, until they are asked for.
+    removed: Option<Vec<u64>>,
 }
 
 impl<'a, R, E: SpoolLedger, K: Ledger, H: Ledger> Model for Seated<'a, R, E, K, H> {
@@ -37,7 +39,20 @@ impl<'a, R, E: SpoolLedger, K: Ledger, H: Ledger> Seated<'a, R, E, K, H> {
     ) -> Seated<'a, R, E, K, H>
         ensures { result ≡ seat }
     {
-        Seated { rt, spool, seat }
+        Seated {
+            rt,
+            spool,
+            seat,
+            removed: None,
+        }
+    }
+
+    /// The numbers of the jobs that its last removal took, in order of acceptance: each removal's are
+    /// told once.
+    pub fn take_removed(&mut self) -> Option<Vec<u64>>
+        ensures { self.new ≡ self.old }
+    {
+        self.removed.take()
     }
 
     /// The seat.
@@ -98,7 +113,11 @@ impl<R: Wait, E: SpoolLedger, K: Ledger, H: Ledger> Requests for Seated<'_, R, E
     }
 
     fn remove(&mut self, queue: &[u8], agent: &[u8], list: &[Octets]) -> Result<Octets, Refusal> {
-        self.spool
-            .remove(self.rt, &mut self.seat, queue, agent, list)
+        let removal = self
+            .spool
+            .remove_telling(self.rt, &mut self.seat, queue, agent, list)?;
+        let Removal { numbers, text, .. } = removal;
+        self.removed = Some(numbers);
+        Ok(text)
     }
 }

@@ -16,11 +16,12 @@ use Rattle.status_lines.specs.declared.line.QueueState.TheVariants as queue
 use Rattle.status_lines.specs.declared.line.PrinterState.{PrinterState}
 use Rattle.status_lines.specs.declared.line.PrinterState.TheVariants as printer
 use Rattle.status_lines.specs.declared.line.JobPages.{JobPages}
+use Rattle.status_lines.specs.declared.outside.KeptJobs.{KeptJobs}
 use Rattle.status_lines.specs.declared.outside.Outside.{Outside}
 use Rattle.status_lines.specs.declared.outside.SeenSession.{SeenSession}
 use Rattle.status_lines.specs.declared.outside.Standstill.{Standstill}
 use Rattle.status_lines.specs.Pieces.{one_line}
-use Rattle.status_lines.specs.Words.{entries_words, job_words, lobby_words, pages_words, printer_line, queue_words, session_words, spool_words, standstill_line, uptime_words}
+use Rattle.status_lines.specs.Words.{entries_words, job_words, kept_words, lobby_words, pages_words, printer_line, queue_words, session_words, spool_words, standstill_line, uptime_words}
 
 -- the texts of elements by their places, the first of which has this one
 abbrev pub placed : {X : Type 0} → (ℕ → X → List ℕ) → ℕ → List X → List ℕ
@@ -40,6 +41,11 @@ abbrev pub head_text : Config → Snapshot → Outside → List ℕ
 head_text c s o =
     ended (uptime_words o.uptime) ++ (ended (spool_words (spool_state s.closed o.stops)) ++ (ended (pages_words s.pages) ++ (
     ended (entries_words s.reserved c.account o.segment) ++ ended (lobby_words o.lobby))))
+
+-- the line of the folder that keeps the jobs, where there is one
+abbrev pub kept_text : Option KeptJobs → List ℕ
+kept_text None = []
+kept_text (Some kept) = ended (kept_words kept.waiting kept.failed)
 
 abbrev pub session_text : SeenSession → List ℕ
 session_text s = ended (session_words s.peer s.silent)
@@ -90,4 +96,4 @@ jobs_text c s = placed (job_text c s.claims.rows) 0 s.jobs.items
 
 abbrev pub status_text : Config → Snapshot → Outside → List ℕ
 status_text c s o =
-    head_text c s o ++ (flat_map session_text o.sessions.now ++ (queues_text c s o ++ jobs_text c s))
+    head_text c s o ++ (kept_text o.kept ++ (flat_map session_text o.sessions.now ++ (queues_text c s o ++ jobs_text c s)))

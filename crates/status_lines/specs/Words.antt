@@ -56,6 +56,10 @@ entries_words counted most segment =
 abbrev pub lobby_words : ℕ → List ℕ
 lobby_words waiting = codes "lobby " ++ decimal waiting
 
+-- kept waiting W failed F
+abbrev pub kept_words : (waiting failed : ℕ) → List ℕ
+kept_words waiting failed = codes "kept waiting " ++ (decimal waiting ++ (codes " failed " ++ decimal failed))
+
 -- session PEER silent SECONDS
 abbrev pub session_words : SocketAddr → ℕ → List ℕ
 session_words peer silent = codes "session " ++ (socket_text peer ++ (codes " silent " ++ decimal silent))
@@ -109,6 +113,7 @@ line_words (line.Spool state) = spool_words state
 line_words (line.Pages pages) = pages_words pages
 line_words (line.Entries counted most segment) = entries_words counted most segment
 line_words (line.Lobby waiting) = lobby_words waiting
+line_words (line.Kept waiting failed) = kept_words waiting failed
 line_words (line.Session peer silent) = session_words peer silent
 line_words (line.Queue name state) = queue_words name.now state
 line_words (line.Printer number name state) = printer_line number name.now state

@@ -130,6 +130,11 @@ pub enum StatusLine<'a> {
     Lobby {
         waiting: usize,
     },
+    /// How many jobs wait in the folder that keeps them, and how many in it have failed.
+    Kept {
+        waiting: u64,
+        failed: u64,
+    },
     /// A session: the address of its peer, and for how many seconds nothing came from that.
     Session {
         peer: SocketAddr,
@@ -217,6 +222,9 @@ impl fmt::Display for StatusLine<'_> {
                 segment,
             } => { write!(f, "entries {counted} of {most} segment {segment}") }
             StatusLine::Lobby { waiting } => write!(f, "lobby {waiting}"),
+            StatusLine::Kept { waiting, failed } => {
+                write!(f, "kept waiting {waiting} failed {failed}")
+            }
             StatusLine::Session { peer, silent } => { write!(f, "session {peer} silent {silent}") }
             StatusLine::Queue { name, state } => write!(f, "queue {name} {}", state.word()),
             StatusLine::Printer {

@@ -20,6 +20,15 @@ pub struct Standstill {
     pub cause: String,
 }
 
+/// What is in the folder that keeps a server's jobs.
+#[derive(Clone, Copy, Debug, PartialEq, Eq)]
+pub struct KeptJobs {
+    /// How many jobs wait in it for the spool to take them.
+    pub waiting: u64,
+    /// How many jobs that have failed are in it.
+    pub failed: u64,
+}
+
 /// What the edge of a server alone knows at one moment.
 #[derive(Clone, Copy)]
 pub struct Outside<'a> {
@@ -31,6 +40,8 @@ pub struct Outside<'a> {
     pub segment: u64,
     /// How many connections wait in the lobby.
     pub lobby: usize,
+    /// What is in the folder that keeps the jobs, where there is one.
+    pub kept: Option<KeptJobs>,
     /// The sessions that serve a connection.
     pub sessions: &'a [SeenSession],
     /// Which queues are held, in the order of the configuration; the others run.

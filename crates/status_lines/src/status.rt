@@ -4,10 +4,10 @@ ghost use Rattle.std.specs.Prelude.{◌≡◌, ◌<◌, ◌^◌, ◌++◌, IfOk,
 ghost use Rattle.std.specs.List.{flat_map};
 ghost use Rattle.claims.specs.Claims.{row_at};
 ghost use Rattle.status_lines.specs.Words.{line_words};
-ghost use Rattle.status_lines.specs.Status.{ended, head_text, job_text, pages_in, placed, printer_text, printer_told, queue_state, queue_text, queues_text, session_text, spool_state, status_text, work_of};
+ghost use Rattle.status_lines.specs.Status.{ended, head_text, job_text, kept_text, pages_in, placed, printer_text, printer_told, queue_state, queue_text, queues_text, session_text, spool_state, status_text, work_of};
 
 use crate::line::{JobPages, PrinterState, QueueState, SpoolState, StatusLine};
-use crate::outside::{Outside, SeenSession, Standstill};
+use crate::outside::{KeptJobs, Outside, SeenSession, Standstill};
 use crate::pieces::{name_text, one_line, pages_of, queue_name};
 use account::Sheet;
 use claims::Row;
@@ -70,6 +70,16 @@ fn push_head(
     };
     push(text, entries)?;
     push(text, StatusLine::Lobby { waiting })
+}
+
+/// Puts the line of the folder that keeps the jobs, where there is one, at the end of the text.
+fn push_kept(text: &mut String, kept: Option<KeptJobs>) -> Result<(), AllocError>
+    ensures { OnOk result (string_bytes text.new ≡ string_bytes text.old ++ kept_text kept) }
+{
+    match kept {
+        None => Ok(()),
+        Some(KeptJobs { waiting, failed }) => push(text, StatusLine::Kept { waiting, failed }),
+    }
 }
 
 /// Puts the lines of these sessions at the end of the text.
@@ -264,7 +274,8 @@ fn push_jobs(
     Ok(())
 }
 
-/// The lines of the answer to `status`, each with its LF: the server, its spool, the pages, the account and the lobby; the sessions;
+/// The lines of the answer to `status`, each with its LF: the server, its spool, the pages, the account and the lobby; the folder that
+/// keeps the jobs; the sessions;
 /// the queues in the order of the configuration, each with its printers under it; and the held jobs in order of acceptance.
 ///
 /// AllocError where memory for it is refused.
@@ -279,6 +290,7 @@ pub fn status_text(
 {
     let mut text = String::new(alloc);
     push_head(&mut text, config, snapshot, outside)?;
+    push_kept(&mut text, outside.kept)?;
     push_sessions(&mut text, outside.sessions)?;
     push_queues(alloc, &mut text, config, snapshot, outside)?;
     push_jobs(

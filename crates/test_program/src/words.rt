@@ -51,7 +51,7 @@ const FEW: &[u8] = b"pages = 2600\npage_size = 8\nmax_jobs = 8\naccount = 515600
 ///
 /// A configuration is a script of bad lines, and a script is no configuration. A file that can't be read comes before a fault of the
 /// configuration.
-const TOLD: [(&str, &[u8], &[u8]); 28] = [
+const TOLD: [(&str, &[u8], &[u8]); 29] = [
     ("", SCRIPT, b"free 4\nstatus 0\n"),
     ("", CONFIG, b"status 0\n"),
     (
@@ -133,24 +133,24 @@ const TOLD: [(&str, &[u8], &[u8]); 28] = [
     (
         "serve,spool.toml,--port,515",
         b"",
-        b"serves spool.toml 515 127.0.0.1 . 8 None None None None None 5 5 1000 false [] None [] None None None\n",
+        b"serves spool.toml 515 127.0.0.1 . 8 None None None None None 5 5 1000 false [] None [] None None None None\n",
     ),
     (
         "serve,--port=65535,--bind,10.0.200.255,--out,pages,--sessions,64,--connections,3,--rotate,4294967295,--silence,60,\
          --per-host,4,--slowest,100,--keep-room,--allow,10.0.0.0/8,--allow,192.168.1.7,spool.toml",
         b"",
         b"serves spool.toml 65535 10.0.200.255 pages 64 Some(3) Some(4294967295) Some(60) Some(4) Some(100) 5 5 1000 true \
-          [Network { address: 10.0.0.0, bits: 8 }, Network { address: 192.168.1.7, bits: 32 }] None [] None None None\n",
+          [Network { address: 10.0.0.0, bits: 8 }, Network { address: 192.168.1.7, bits: 32 }] None [] None None None None\n",
     ),
     (
         "serve,a,--port,1",
         b"free\n",
-        b"serves a 1 127.0.0.1 . 8 None None None None None 5 5 1000 false [] None [] None None None\n",
+        b"serves a 1 127.0.0.1 . 8 None None None None None 5 5 1000 false [] None [] None None None None\n",
     ),
     (
         "serve,a,--port,1,--control,run/spool.control",
         b"",
-        b"serves a 1 127.0.0.1 . 8 None None None None None 5 5 1000 false [] Some(\"run/spool.control\") [] None None None\n",
+        b"serves a 1 127.0.0.1 . 8 None None None None None 5 5 1000 false [] Some(\"run/spool.control\") [] None None None None\n",
     ),
     (
         "serve,a,--port,1,--printer,2=folder:jobs/a=b,--patience,10,--printer-silence,4294967295,--restart,1,--printer=1=socket://10.0.0.9,\
@@ -159,7 +159,12 @@ const TOLD: [(&str, &[u8], &[u8]); 28] = [
         b"serves a 1 127.0.0.1 . 8 None None None None None 5 5 1000 false [] None \
           [PrinterPlace { printer: 2, place: Folder(\"jobs/a=b\") }, PrinterPlace { printer: 1, place: Socket(10.0.0.9:9100) }, \
           PrinterPlace { printer: 4294967295, place: Socket(255.255.255.255:1) }, PrinterPlace { printer: 10, place: File(\"/dev/lp0\") }] \
-          Some(10) Some(4294967295) Some(1)\n",
+          Some(10) Some(4294967295) Some(1) None\n",
+    ),
+    (
+        "serve,a,--port,1,--spool,/var/spool/jobs",
+        b"",
+        b"serves a 1 127.0.0.1 . 8 None None None None None 5 5 1000 false [] None [] None None None Some(\"/var/spool/jobs\")\n",
     ),
     (
         "send,515,lp,1,h1,ann,FILE",
@@ -265,6 +270,8 @@ check,FILE,--printer,1=file:
 check,FILE,--printer,1=file:x,--printer,1=folder:x
 check,FILE,--restart,1
 serve,a,--port,515,--quiet
+serve,a,--port,515,--spool
+serve,a,--port,515,--spool,a,--spool,b
 serve,a,--port,515,--control
 serve,a,--port,515,--control,a,--control,b
 serve,a,--port,515,--control,aaaaaaaaaaaaaaaaaaaaaaaaaaaaaaaaaaaaaaaaaaaaaaaaaaaaaaaaaaaaaaaaaaaaaaaaaaaaaaaaaaaaaaaaaaaaaaaaaaaaaaaaaaaa
@@ -320,6 +327,7 @@ fn line_of(alloc: Global, config: &str, settings: &Settings) -> Result<String, A
         printers,
         printer_limits,
         restart_seconds,
+        spool,
     } = settings;
     let PrinterLimits {
         patience_minutes,
@@ -334,7 +342,7 @@ fn line_of(alloc: Global, config: &str, settings: &Settings) -> Result<String, A
         room_ms,
     } = *limits;
     format!(in alloc;
-        "serves {config} {port} {bind} {out} {sessions} {connections:?} {rotate:?} {silence:?} {per_host:?} {slowest:?} {no_job_seconds} {leave_seconds} {room_ms} {keep_room} {allowed:?} {control:?} {printers:?} {patience_minutes:?} {silence_seconds:?} {restart_seconds:?}\n"
+        "serves {config} {port} {bind} {out} {sessions} {connections:?} {rotate:?} {silence:?} {per_host:?} {slowest:?} {no_job_seconds} {leave_seconds} {room_ms} {keep_room} {allowed:?} {control:?} {printers:?} {patience_minutes:?} {silence_seconds:?} {restart_seconds:?} {spool:?}\n"
     )
 }
 

@@ -1,4 +1,4 @@
--- A number as it is written, and what is read of it.
+-- A number as it is written, and what is read of it, for numbers of so many bits.
 use Rattle.std.proofs.Common.{◌≡◌, ◌<◌, ◌^◌, ℕ, List, [], ◌∷◌, true, false, inl, inr, refl, sym, ◌∙◌, ap, subst, arith, lit<, length, get_or}
 use Rattle.std.specs.Prelude.{Result, Ok, Err, IsUtf8}
 use Rattle.std.specs.Fmt.{decimal}
@@ -10,8 +10,15 @@ use Rattle.std.proofs.lemmas.Str.{IsUtf8-from_ascii}
 use Rattle.std.proofs.lemmas.Str.Parse.{IsNumeralModel, numerals_by_value, tells_digits, without_leading_plus_none}
 use Rattle.control_lines.specs.Operands.{is_canonical}
 
-fits : (n : ℕ) → n < 2 ^ 32 → n < 2 ^ 64
-fits n h = omega arith
+-- what fits so many bits fits 64
+abbrev pub Fits64 : ℕ → Type 0
+Fits64 w = (n : ℕ) → n < 2 ^ w → n < 2 ^ 64
+
+pub fits_32 : Fits64 32
+fits_32 n h = omega arith
+
+pub fits_64 : Fits64 64
+fits_64 n h = h
 
 canonical_above : (s : List ℕ) → 48 < get_or s 0 0 → is_canonical s ≡ true
 canonical_above [] h = refl
@@ -25,14 +32,14 @@ canonical_decimal n h =
       | inr e ↦ canonical_above (decimal n) (first_decimal n (omega arith) h)
     ]
 
-pub not_canonical : (s : List ℕ) → is_canonical s ≡ false → (n : ℕ) → n < 2 ^ 32 → s ≡ decimal n → ⊥
-not_canonical s wrong n h e = let yes = canonical_decimal n (fits n h) in cc
+pub not_canonical : (w : ℕ) → Fits64 w → (s : List ℕ) → is_canonical s ≡ false → (n : ℕ) → n < 2 ^ w → s ≡ decimal n → ⊥
+not_canonical w fits s wrong n h e = let yes = canonical_decimal n (fits n h) in cc
 
-pub not_text : (s : List ℕ) → (IsUtf8 s → ⊥) → (n : ℕ) → n < 2 ^ 32 → s ≡ decimal n → ⊥
-not_text s none n h e = none (rw e (IsUtf8-from_ascii (decimal n) (IsAscii-decimal n (fits n h))))
+pub not_text : (w : ℕ) → Fits64 w → (s : List ℕ) → (IsUtf8 s → ⊥) → (n : ℕ) → n < 2 ^ w → s ≡ decimal n → ⊥
+not_text w fits s none n h e = none (rw e (IsUtf8-from_ascii (decimal n) (IsAscii-decimal n (fits n h))))
 
-pub not_read : {E : Type 0} (s : List ℕ) (why : E) → (r : Result ℕ E) → r ≡ Err why → ParsesUnsigned 32 10 s r → (n : ℕ) → n < 2 ^ 32 → s ≡ decimal n → ⊥
-not_read s why r is h n small e = let ok : r ≡ Ok n = parse-decimal 32 n s r small (fits n small) e h in cc
+pub not_read : {E : Type 0} (w : ℕ) → Fits64 w → (s : List ℕ) (why : E) → (r : Result ℕ E) → r ≡ Err why → ParsesUnsigned w 10 s r → (n : ℕ) → n < 2 ^ w → s ≡ decimal n → ⊥
+not_read w fits s why r is h n small e = let ok : r ≡ Ok n = parse-decimal w n s r small (fits n small) e h in cc
 
 no_plus : (s : List ℕ) → is_canonical s ≡ true → get_or s 0 0 ≡ 43 → ⊥
 no_plus [] h e = absurd (omega arith)
@@ -46,11 +53,11 @@ alone (d ∷ e ∷ ds) h first = grind (arith, nat_tests)
 own : IsNumeralModel (AllDigits 10) (digits_value 10)
 own = numerals_by_value (AllDigits 10) tells_digits
 
-pub read : {E : Type 0} (s : List ℕ) (n : ℕ) (r : Result ℕ E) → r ≡ Ok n → is_canonical s ≡ true → ParsesUnsigned 32 10 s r → s ≡ decimal n
-read {E} s n r is canonical p =
-    let h = subst (λ (x : Result ℕ E). ParsesUnsigned 32 10 s x) is p in
+pub read : {E : Type 0} (w : ℕ) → Fits64 w → (s : List ℕ) (n : ℕ) (r : Result ℕ E) → r ≡ Ok n → is_canonical s ≡ true → ParsesUnsigned w 10 s r → s ≡ decimal n
+read {E} w fits s n r is canonical p =
+    let h = subst (λ (x : Result ℕ E). ParsesUnsigned w 10 s x) is p in
     let same : without_leading_plus s ≡ s = without_leading_plus_none s (no_plus s canonical) in
     let numeral : IsNumeral 10 s = subst (λ (t : List ℕ). IsNumeral 10 t) same h.0.0 in
-    let small : digits_value 10 s < 2 ^ 32 = subst (λ (t : List ℕ). digits_value 10 t < 2 ^ 32) same h.0.1 in
+    let small : digits_value 10 s < 2 ^ w = subst (λ (t : List ℕ). digits_value 10 t < 2 ^ w) same h.0.1 in
     let value : n ≡ digits_value 10 s = h.1 ∙ ap (digits_value 10) same in
-    sym (ap decimal value ∙ decimal-digits_value own s numeral.1 numeral.0 (alone s canonical) (omega arith))
+    sym (ap decimal value ∙ decimal-digits_value own s numeral.1 numeral.0 (alone s canonical) (fits (digits_value 10 s) small))
