@@ -7,6 +7,10 @@ ghost use Rattle.server_edge.specs.declared.desk.Serves.TheVariants.{All, NoJobs
 
 use crate::ending::Ending;
 use crate::house::House;
+use crate::served::Served;
+use job_disk::DiskFolder;
+use job_files::JobEnd;
+use kept_requests::Keeping;
 use log::{Log, warn};
 use lpd_commands::{OctetRead, OctetWrite};
 use program_edge::{Limits, StreamReader, StreamWriter};
@@ -15,6 +19,7 @@ use server_edge::{Serves, Visit, keep_asking, send_in_pieces};
 use session::{Seated, SessionEnd, SessionSeat};
 use shared_spool::SpoolLedger;
 use std::fmt::Display;
+use std::fs::{File, Files};
 use std::io;
 use std::io::Read;
 use std::net::{Shutdown, SocketAddr, TcpStream};
@@ -97,7 +102,13 @@ fn patience_of(serves: Serves, limits: &Limits) -> Option<u64>
     }
 }
 
-impl<R: Clock + Wait + Log, E: SpoolLedger, K: Ledger, H: Ledger> House<'_, R, E, K, H> {
+impl<R: Files<File = File> + Clock + Wait + Log, E: SpoolLedger, K: Ledger, H: Ledger> House<
+    '_,
+    R,
+    E,
+    K,
+    H,
+> {
     /// Has octets sent at once and peers asked whether they are there, and limits how long a peer
     /// may be silent or not read.
     fn set_up(&self, stream: &TcpStream, serves: Serves) -> io::Result<()> {
@@ -130,8 +141,25 @@ impl<R: Clock + Wait + Log, E: SpoolLedger, K: Ledger, H: Ledger> House<'_, R, E
         }
     }
 
+    /// Has the files of jobs that were removed taken away.
+    pub(crate) fn end_removed(&self, jobs: Vec<u64>) {
+        if let Some(kept) = &self.kept {
+            for job in jobs {
+                kept.end(self.rt, job, JobEnd::Removed);
+            }
+        }
+    }
+
+    /// Has the files of the jobs taken away that a session has removed, and tells why a job of it wasn't kept.
+    fn settle<T: Served>(&self, requests: &mut T, peer: SocketAddr) {
+        requests.let_go(self.rt, peer);
+        if let Some(removed) = requests.take_removed() {
+            self.end_removed(removed);
+        }
+    }
+
     /// Serves a connection at the post of this number; `requests` carries out what it asks for.
-    fn answer<T: Requests>(
+    fn answer<T: Requests + Served>(
         &self,
         requests: &mut T,
         input: &mut Option<Input>,
@@ -154,6 +182,7 @@ impl<R: Clock + Wait + Log, E: SpoolLedger, K: Ledger, H: Ledger> House<'_, R, E
         let sender = visit.host();
         let end = self.serve_session(requests, input, sender, &mut reader, &mut writer);
         self.posts.end(rt, number);
+        self.settle(requests, visit.peer);
         if let SessionEnd::Refused(refusal) = end {
             complain(rt, visit.peer, &refusal);
         }
@@ -168,7 +197,7 @@ impl<R: Clock + Wait + Log, E: SpoolLedger, K: Ledger, H: Ledger> House<'_, R, E
 
     /// Serves connections, one after another, until no more can come. `requests` carries out what
     /// they ask for.
-    fn serve_all<T: Requests>(&self, requests: &mut T, number: u32, serves: Serves) {
+    fn serve_all<T: Requests + Served>(&self, requests: &mut T, number: u32, serves: Serves) {
         // What the thread keeps from one connection to the next.
         let mut input = None;
         for _ in self.rt.forever() {
@@ -189,7 +218,13 @@ impl<R: Clock + Wait + Log, E: SpoolLedger, K: Ledger, H: Ledger> House<'_, R, E
     ) -> SessionSeat<E, K, H> {
         let number = seat.number();
         let mut seated = Seated::new(self.rt, &self.spool, seat);
-        self.serve_all(&mut seated, number, serves);
-        seated.into_seat()
+        let Some(kept) = &self.kept else {
+            self.serve_all(&mut seated, number, serves);
+            return seated.into_seat();
+        };
+        let mut keeping = Keeping::new(self.alloc, seated, DiskFolder::new(&kept.disk));
+        self.serve_all(&mut keeping, number, serves);
+        let Keeping { inner, .. } = keeping;
+        inner.into_seat()
     }
 }

@@ -8,6 +8,7 @@ use log::Log;
 use shared_spool::{Octets, SessionSeat, SpoolLedger};
 use std::alloc::{AllocError, Global};
 use std::fmt::Display;
+use std::fs::{File, Files};
 use std::rt::Clock;
 use std::sync::Wait;
 use std::sync::ledger::Ledger;
@@ -66,7 +67,13 @@ impl Answer {
     }
 }
 
-impl<R: Clock + Log + Wait, E: SpoolLedger, K: Ledger, H: Ledger> House<'_, R, E, K, H> {
+impl<R: Files<File = File> + Clock + Log + Wait, E: SpoolLedger, K: Ledger, H: Ledger> House<
+    '_,
+    R,
+    E,
+    K,
+    H,
+> {
     /// Starts the stopped printers of a queue, and tells which.
     fn start_queue(
         &self,
@@ -114,15 +121,34 @@ impl<R: Clock + Log + Wait, E: SpoolLedger, K: Ledger, H: Ledger> House<'_, R, E
         whom: &[u8],
     ) -> Result<Vec<u8>, AllocError> {
         let list = [Octets::copy_of(self.alloc, whom)?];
-        match self.spool.remove(self.rt, seat, queue, AGENT, &list) {
-            Ok(text) => {
-                let mut octets = text.into_vec();
+        match self
+            .spool
+            .remove_telling(self.rt, seat, queue, AGENT, &list)
+        {
+            Ok(removal) => {
+                self.end_removed(removal.numbers);
+                let mut octets = removal.text.into_vec();
                 let end = Answer::new(self.alloc).end(AnswerEnd::Done)?;
                 octets.extend_from_slice(end.as_slice())?;
                 Ok(octets)
             }
             Err(refusal) => Answer::new(self.alloc).end_by(Some(refusal)),
         }
+    }
+
+    /// Has a job fed again that has failed, by the number of its file.
+    fn resend_job(&self, number: u64) -> Result<Vec<u8>, AllocError> {
+        let answer = Answer::new(self.alloc);
+        let Some(kept) = &self.kept else {
+            return answer.end_by(Some("no jobs are kept: the server has no --spool"));
+        };
+        if let Err(fault) = kept.disk.resend(number) {
+            return answer.end_by(Some(fault));
+        }
+        if kept.enter(self.rt, self.alloc, number)? {
+            return answer.end(AnswerEnd::Done);
+        }
+        answer.end_by(Some("the file isn't that of a kept job"))
     }
 
     /// Rotates the account. The porter prints that.
@@ -155,6 +181,7 @@ impl<R: Clock + Log + Wait, E: SpoolLedger, K: Ledger, H: Ledger> House<'_, R, E
             Command::Remove { queue, whom } => {
                 self.remove_jobs(seat, queue.as_slice(), whom.as_slice())
             }
+            Command::Resend { number } => self.resend_job(*number),
             Command::Rotate => self.rotate_account(seat),
             Command::Stop { .. } | Command::StopNow => Answer::new(self.alloc).end(AnswerEnd::Done),
         }

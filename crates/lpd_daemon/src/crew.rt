@@ -91,6 +91,7 @@ impl<E: SpoolLedger + Send + Sync, K: Ledger + Send + Sync, H: Ledger + Send + S
             watcher,
             keeper,
             steward,
+            feeder,
             sessions,
             printers,
         } = roles;
@@ -111,6 +112,8 @@ impl<E: SpoolLedger + Send + Sync, K: Ledger + Send + Sync, H: Ledger + Send + S
             let thread = scope.spawn(move || house.answer_all(seat, serves));
             crew.is_whole &= keep(&mut crew.answering, thread);
         }
+        let thread = scope.spawn(move || house.feed_all(feeder));
+        crew.is_whole &= keep(&mut crew.looking, thread);
         let thread = scope.spawn(move || house.watch(watcher));
         crew.is_whole &= keep(&mut crew.looking, thread);
         let thread = scope.spawn(move || house.keep_rotating(keeper));

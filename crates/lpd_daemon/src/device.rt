@@ -7,12 +7,37 @@ use crate::sink::{Explains, FileSink};
 use printer_sinks::{Dial, Folder, FolderSink, Pause, SocketSink};
 use printer_worker::{HandedPage, Leaving, PrintSink, SinkFault};
 use sink_devices::Causes;
+use std::fs::File;
 use std::io::Error;
+
+/// A file that the pages of a printer are written to.
+#[derive(Drop)]
+pub(crate) struct PrinterFile<'a> {
+    pub(crate) sink: FileSink<PatientFile<'a>>,
+    /// The same file, where a job that is done has to be on the disk before it is let go.
+    pub(crate) synced: Option<File>,
+    /// Why the last job that was done may not be on the disk.
+    pub(crate) unsynced: Option<Error>,
+}
+
+impl PrinterFile<'_> {
+    /// Has what was printed on the disk, where that is asked.
+    fn sync(&mut self) -> Result<(), SinkFault> {
+        self.unsynced = match &self.synced {
+            Some(file) => file.sync_data().err(),
+            None => None,
+        };
+        match self.unsynced {
+            None => Ok(()),
+            Some(_) => Err(SinkFault),
+        }
+    }
+}
 
 /// What the pages of a printer are written to.
 #[derive(Drop)]
 pub(crate) enum Device<'a, D: Dial + Drop, P: Pause + Drop, F: Folder + Drop> {
-    File(FileSink<PatientFile<'a>>),
+    File(PrinterFile<'a>),
     Socket(SocketSink<D, P>),
     Folder(FolderSink<F>),
 }
@@ -21,7 +46,7 @@ impl<D: Dial + Causes + Drop, P: Pause + Drop, F: Folder + Causes + Drop> Device
     /// Writes a page.
     fn write(&mut self, page: &HandedPage) -> Result<(), SinkFault> {
         match self {
-            Device::File(file) => file.write_page(page),
+            Device::File(file) => file.sink.write_page(page),
             Device::Socket(socket) => socket.print(page.job, page.bytes()).or(Err(SinkFault)),
             Device::Folder(folder) => folder.print(page.job, page.bytes()).or(Err(SinkFault)),
         }
@@ -30,6 +55,7 @@ impl<D: Dial + Causes + Drop, P: Pause + Drop, F: Folder + Causes + Drop> Device
     /// Leaves the job that it is at.
     fn leave(&mut self, leaving: Leaving) -> Result<(), SinkFault> {
         match self {
+            Device::File(file) if leaving == Leaving::Done => file.sync(),
             Device::File(_) => Ok(()),
             Device::Socket(socket) => socket.leave().or(Err(SinkFault)),
             Device::Folder(folder) => folder.leave(leaving == Leaving::Done).or(Err(SinkFault)),
@@ -40,14 +66,15 @@ impl<D: Dial + Causes + Drop, P: Pause + Drop, F: Folder + Causes + Drop> Device
     fn untold(&self) -> Option<Error> {
         match self {
             Device::Folder(folder) => folder.folder().cause(),
-            Device::File(_) | Device::Socket(_) => None,
+            Device::File(file) => file.unsynced,
+            Device::Socket(_) => None,
         }
     }
 
     /// Why a page wasn't written last.
     fn cause(&self) -> Option<Error> {
         match self {
-            Device::File(file) => file.cause(),
+            Device::File(file) => file.sink.cause(),
             Device::Socket(socket) => socket.dial().cause(),
             Device::Folder(folder) => folder.folder().cause(),
         }

@@ -1,6 +1,7 @@
 //! What all threads of a server share.
 
 use crate::ending::Ending;
+use crate::keeping::Kept;
 use crate::oversight::Oversight;
 use crate::posts::Posts;
 use crate::restarting::Restarts;
@@ -33,6 +34,8 @@ pub(crate) struct House<'a, R, E: SpoolLedger, K: Ledger, H: Ledger> {
     pub(crate) waker: Waker,
     pub(crate) oversight: Oversight,
     pub(crate) ending: Ending,
+    /// Where jobs are kept until they are printed, if they are.
+    pub(crate) kept: Option<Kept<'a, R>>,
 }
 
 impl<R, E: SpoolLedger, K: Ledger, H: Ledger> House<'_, R, E, K, H> {

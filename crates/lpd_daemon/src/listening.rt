@@ -27,6 +27,10 @@ use std::{mem, thread};
 /// The pause after the system didn't tell what happened, in milliseconds.
 const PAUSE_MS: u64 = 100;
 
+/// The longest time for which one wait for the jobs that were kept lasts, in milliseconds. Between two of them the server's end is looked
+/// at.
+const FEED_MS: u64 = 100;
+
 /// The time between two looks at whether jobs that wait are let in, in milliseconds.
 const LOOK_MS: u64 = 10;
 
@@ -166,6 +170,19 @@ impl<'a, R: Clock + Log + Wait, E: SpoolLedger, K: Ledger, H: Ledger> Porter<'a,
         }
     }
 
+    /// Waits until each job that was kept, and has room now, is in the spool: they come before all that is to come.
+    fn wait_until_fed(&self) {
+        let house = self.house;
+        let Some(kept) = &house.kept else {
+            return;
+        };
+        for _ in house.rt.forever() {
+            if kept.is_settled(house.rt, FEED_MS) || house.ending.stops() {
+                break;
+            }
+        }
+    }
+
     /// Hands a connection on.
     fn hand_on(&mut self, visit: Visit) {
         let (house, rt) = (self.house, self.house.rt);
@@ -195,6 +212,7 @@ impl<'a, R: Clock + Log + Wait, E: SpoolLedger, K: Ledger, H: Ledger> Porter<'a,
         if !started {
             return told;
         }
+        self.wait_until_fed();
         'rounds: for _ in rt.forever() {
             self.look_whether_it_stops();
             let lets_jobs_in = self.lets_jobs_in();

@@ -19,6 +19,8 @@ const TURN_MS: i32 = 1_000;
 pub(crate) struct Outlet {
     pub(crate) file: File,
     is_pipe: bool,
+    /// It is a file of a disk, or will be.
+    is_regular: bool,
 }
 
 /// Whether writes to such a file may wait for somebody.
@@ -32,13 +34,27 @@ impl Outlet {
     pub(crate) fn open<R: Files<File = File>>(rt: &R, path: &str) -> io::Result<Outlet> {
         let kind = fs::metadata(rt, path).map(|metadata| metadata.file_type());
         let is_pipe = kind.is_ok_and(|kind| kind.is_fifo());
+        let is_regular = kind.map_or(true, |kind| kind.is_file());
         let mut options = OpenOptions::new();
         options.read(is_pipe).append(true).create(true);
         let file = options.open(rt, path)?;
         if kind.is_ok_and(may_wait) {
             set_nonblocking(file.as_raw_fd(), true);
         }
-        Ok(Outlet { file, is_pipe })
+        Ok(Outlet {
+            file,
+            is_pipe,
+            is_regular,
+        })
+    }
+
+    /// The same file, where it is one of a disk: it can be synced.
+    pub(crate) fn twin(&self) -> Option<File> {
+        if self.is_regular {
+            self.file.try_clone().ok()
+        } else {
+            None
+        }
     }
 
     /// The same file, where it is a pipe: whether its reader has taken what was written can be asked. None where the system gives no

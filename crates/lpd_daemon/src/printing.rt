@@ -1,11 +1,15 @@
 //! The pages of a printer, each written to what the printer prints to.
 
-use crate::device::{Device, DeviceSink};
+ghost use Rattle.std.specs.Prelude.{◌≡◌};
+ghost use Rattle.lpd_daemon.specs.Keeping.{end_of};
+
+use crate::device::{Device, DeviceSink, PrinterFile};
 use crate::house::House;
 use crate::outlet::PatientFile;
 use crate::places::Opened;
 use crate::sink::{Explains, FileSink};
 use held_jobs::Phase;
+use job_files::JobEnd;
 use log::{Log, warn};
 use printer_sinks::{FolderSink, SocketSink};
 use printer_worker::{HandedPage, Leaving, PrintSink, SinkFault, work};
@@ -47,6 +51,18 @@ impl<R: Clock + Log + Wait, E: SpoolLedger, K: Ledger, H: Ledger> Errand for Hou
     }
 }
 
+/// How a job ends for its folder that a printer has left so: None where others end it, or it stays for the next start. What was printed
+/// and isn't where it should be has failed.
+fn end_of(leaving: Leaving, is_there: bool) -> Option<JobEnd>
+    ensures { result ≡ end_of leaving is_there }
+{
+    match leaving {
+        Leaving::Done if is_there => Some(JobEnd::Done),
+        Leaving::Done | Leaving::Failed => Some(JobEnd::Failed),
+        Leaving::Ended | Leaving::Closed => None,
+    }
+}
+
 /// The sink of a printer, of which each page that isn't written is logged, with why, and it is kept since when the printer stands
 /// still.
 #[derive(Drop)]
@@ -58,6 +74,8 @@ struct Watched<'a, R, E: SpoolLedger, K: Ledger, H: Ledger, S> {
     sink: S,
     /// A page wasn't written, of a job that was to be printed no more.
     was_given_up: bool,
+    /// The job that it is at.
+    job: Option<u64>,
 }
 
 impl<
@@ -91,14 +109,20 @@ impl<
     }
 }
 
-impl<R: Clock + Log + Wait, E: SpoolLedger, K: Ledger, H: Ledger, S: PrintSink + Explains> PrintSink
-    for Watched<'_, R, E, K, H, S> {
+impl<
+    R: Files<File = File> + Clock + Log + Wait,
+    E: SpoolLedger,
+    K: Ledger,
+    H: Ledger,
+    S: PrintSink + Explains,
+> PrintSink for Watched<'_, R, E, K, H, S> {
     ghost oks = { λ watched. S.oks watched.sink };
 
     ghost errs = { λ watched. S.errs watched.sink };
 
     fn write_page(&mut self, page: &HandedPage) -> Result<(), SinkFault> {
         let house = self.house;
+        self.job = Some(page.job);
         let written = self.sink.write_page(page);
         if written.is_ok() {
             house.restarts.note_page(house.rt, self.queue);
@@ -121,6 +145,11 @@ impl<R: Clock + Log + Wait, E: SpoolLedger, K: Ledger, H: Ledger, S: PrintSink +
         if let (Err(SinkFault), Some(cause)) = (left, self.sink.cause()) {
             warn!(house.rt; "printer {printer}: a job that was printed is not in its folder: {cause}");
         }
+        if let (Some(kept), Some(job)) = (&house.kept, self.job.take()) {
+            if let Some(end) = end_of(how, left.is_ok()) {
+                kept.end(house.rt, job, end);
+            }
+        }
         left
     }
 }
@@ -140,7 +169,17 @@ impl<
         let (printer, limits) = (seat.printer(), self.printer_limits);
         let device = match opened {
             Opened::File(outlet) => {
-                Device::File(FileSink::new(PatientFile::new(outlet.file, &self.ending)))
+                let synced = if self.kept.is_some() {
+                    outlet.twin()
+                } else {
+                    None
+                };
+                let sink = FileSink::new(PatientFile::new(outlet.file, &self.ending));
+                Device::File(PrinterFile {
+                    sink,
+                    synced,
+                    unsynced: None,
+                })
             }
             Opened::Socket(address) => {
                 let silence = limits.silence_seconds;
@@ -159,6 +198,7 @@ impl<
             queue: self.oversight.config.queue_of(printer),
             sink: DeviceSink::new(device),
             was_given_up: false,
+            job: None,
         };
         let (seat, _report) = work(self.rt, &self.spool, seat, &mut sink);
         seat

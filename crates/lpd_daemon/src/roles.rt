@@ -12,9 +12,9 @@ use std::sync::ledger::Ledger;
 /// How many sessions serve connections that bring no job, and those alone.
 pub(crate) const NO_JOB_SESSIONS: u32 = 2;
 
-/// How many sessions' seats are for others than sessions: the porter, the watcher, the keeper and
-/// the steward.
-pub(crate) const OTHERS: u32 = 4;
+/// How many sessions' seats are for others than sessions: the porter, the watcher, the keeper, the
+/// steward and the feeder.
+pub(crate) const OTHERS: u32 = 5;
 
 /// Seats at a spool.
 #[derive(Drop)]
@@ -34,6 +34,8 @@ pub(crate) struct Roles<E: SpoolLedger, K: Ledger, H: Ledger> {
     pub(crate) keeper: SessionSeat<E, K, H>,
     /// Who does what is asked at the control socket and by signals.
     pub(crate) steward: SessionSeat<E, K, H>,
+    /// Who has the spool take what a folder has kept.
+    pub(crate) feeder: SessionSeat<E, K, H>,
     pub(crate) sessions: Vec<SessionSeat<E, K, H>>,
     pub(crate) printers: Vec<PrinterSeat<E, K, H>>,
 }
@@ -59,11 +61,15 @@ impl<E: SpoolLedger, K: Ledger, H: Ledger> Roles<E, K, H> {
         let Some(steward) = sessions.pop() else {
             return Err(Fault::Memory);
         };
+        let Some(feeder) = sessions.pop() else {
+            return Err(Fault::Memory);
+        };
         Ok(Roles {
             porter,
             watcher,
             keeper,
             steward,
+            feeder,
             sessions,
             printers,
         })

@@ -2,7 +2,7 @@
 
 ghost use Rattle.std.specs.Int.NonZero.{non_zero_u64_get};
 ghost use Rattle.std.specs.Prelude.{◌≡◌, ◌≤◌, ◌+◌, ◌-◌, ◌^◌, ◌*◌, ℕ, min, None, Some, Ok, OnOk};
-ghost use Rattle.std.specs.Prelude.{IfErr, false, option_map, true};
+ghost use Rattle.std.specs.Prelude.{IfErr, false, if◌then◌else◌, option_map, true};
 ghost use Rattle.lpd_daemon.specs.Faults.{IsOpeningFault, IsRunningFault, write_faults};
 ghost use Rattle.lpd_daemon.specs.Lines.{IsQuiet, WritesAll, line_octets};
 ghost use Rattle.lpd_daemon.specs.declared.lines.PrintedLine.TheVariants.{Closed};
@@ -15,6 +15,7 @@ use crate::crew::{Entrance, Returned};
 use crate::ending::Ending;
 use crate::faults::Fault;
 use crate::house::House;
+use crate::keeping::Kept;
 use crate::lines::{PrintedLine, print_or_tell};
 use crate::listening::{Gate, listen};
 use crate::oversight::Oversight;
@@ -25,7 +26,7 @@ use crate::roles::{NO_JOB_SESSIONS, OTHERS, Roles, Seats};
 use crate::room::AccountRoom;
 use crate::rotating::Rotations;
 use config_values::Config;
-use log::Log;
+use log::{Log, warn};
 use lpd_commands::OctetWrite;
 use mio::Waker;
 use program_edge::{MOST_SESSIONS, Settings};
@@ -46,6 +47,9 @@ const KEPT_DESCRIPTORS: u64 = 64;
 
 /// How many more are kept for the control socket and what comes to it.
 const STEWARDS_DESCRIPTORS: u64 = 80;
+
+/// How many more are kept for the folder in which jobs are, and for what is read of it.
+const FOLDERS_DESCRIPTORS: u64 = 8;
 
 /// Takes all seats back, and prints how many entries all segments of the account have, where all
 /// was well until now.
@@ -90,6 +94,17 @@ fn kept_descriptors(printers: u32, sessions: u32, is_watched: bool) -> u64
     }
 }
 
+/// How many more descriptors are kept where jobs are: for each session a file, and some for the folder.
+fn folder_descriptors(sessions: u32, are_kept: bool) -> u64
+    ensures { result ≡ (if are_kept then sessions + 8 else 0) }
+{
+    if are_kept {
+        u64::from(sessions) + FOLDERS_DESCRIPTORS
+    } else {
+        0
+    }
+}
+
 /// How many sessions one host may have: without a number as many as there are.
 fn most_of(per_host: Option<NonZeroU64>) -> u32
     ensures any { per_host ≡ None → result ≡ 2 ^ 32 - 1 }
@@ -100,6 +115,27 @@ fn most_of(per_host: Option<NonZeroU64>) -> u32
         None => u32::MAX,
         Some(most) => u32::try_from(most.get()).unwrap_or(u32::MAX),
     }
+}
+
+/// Opens the folder in which jobs are kept, if the settings name one. Where the account isn't rotated by itself that is logged: it
+/// ends all the sooner.
+///
+/// PrinterFile with the path where it can't be used, or another server has it, of which the log is told why; Memory.
+fn open_kept<'a, R: Files<File = File> + Log + Wait>(
+    rt: &'a R,
+    alloc: Global,
+    settings: &Settings<'a>,
+    config: &Config,
+) -> Result<Option<Kept<'a, R>>, Fault>
+    ensures { IfErr result IsOpeningFault }
+{
+    let Some(path) = settings.spool else {
+        return Ok(None);
+    };
+    if !settings.keep_room && settings.rotate.is_none() {
+        warn!(rt; "{path}: jobs are kept, but the account is never rotated: without --keep-room or --rotate no job is taken once it is full");
+    }
+    Ok(Some(Kept::open(rt, alloc, path, config)?))
 }
 
 /// What a server is to be.
@@ -123,6 +159,7 @@ struct Server<'a, R> {
     waker: Waker,
     port: u16,
     places: Vec<Opened>,
+    kept: Option<Kept<'a, R>>,
     counter: Counter,
 }
 
@@ -169,8 +206,10 @@ where
     } = plan;
     let sessions = settings.sessions.clamp(1, MOST_SESSIONS) + NO_JOB_SESSIONS;
     let places = open_places(rt, alloc, &settings, config.printer_count())?;
-    let kept = kept_descriptors(config.printer_count(), sessions, counter.is_open());
-    let (lobby, waker, port) = listen(rt, alloc, &mut settings, kept)?;
+    let kept = open_kept(rt, alloc, &settings, &config)?;
+    let descriptors = kept_descriptors(config.printer_count(), sessions, counter.is_open());
+    let descriptors = descriptors.saturating_add(folder_descriptors(sessions, kept.is_some()));
+    let (lobby, waker, port) = listen(rt, alloc, &mut settings, descriptors)?;
     let blanks = Blanks::new(&config, sessions + OTHERS);
     let server = Server {
         rt,
@@ -181,6 +220,7 @@ where
         waker,
         port,
         places,
+        kept,
         counter,
     };
     server.run::<Brand, Brand, Brand, W>(config, blanks, output)
@@ -251,6 +291,7 @@ where
             waker: self.waker,
             oversight,
             ending: Ending::new(),
+            kept: self.kept,
         };
         let gate = Gate {
             lobby: self.lobby,

@@ -3,15 +3,23 @@
 use crate::commanding::Answer;
 use crate::house::House;
 use control_lines::AnswerEnd;
+use log::Log;
 use shared_spool::{Sight, SpoolLedger};
-use status_lines::{Outside, SeenSession, Standstill, status_text};
+use status_lines::{KeptJobs, Outside, SeenSession, Standstill, status_text};
 use std::alloc::AllocError;
+use std::fs::{File, Files};
 use std::rt::Clock;
 use std::sync::Wait;
 use std::sync::ledger::Ledger;
 use std::time::Instant;
 
-impl<R: Clock + Wait, E: SpoolLedger, K: Ledger, H: Ledger> House<'_, R, E, K, H> {
+impl<R: Files<File = File> + Clock + Log + Wait, E: SpoolLedger, K: Ledger, H: Ledger> House<
+    '_,
+    R,
+    E,
+    K,
+    H,
+> {
     /// The sessions that serve somebody, the oldest first, at this moment.
     fn seen_sessions(&self, start: Instant, now: Instant) -> Result<Vec<SeenSession>, AllocError> {
         let mut sessions = Vec::new(self.alloc);
@@ -63,6 +71,7 @@ impl<R: Clock + Wait, E: SpoolLedger, K: Ledger, H: Ledger> House<'_, R, E, K, H
             stops: self.ending.stops(),
             segment: sight.segment,
             lobby: self.oversight.in_lobby() as usize,
+            kept: self.kept.as_ref().map(|kept| kept.counts()),
             sessions: sessions.as_slice(),
             held,
             standstills: standstills.as_slice(),

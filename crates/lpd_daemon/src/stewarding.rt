@@ -9,6 +9,7 @@ use control_socket::{Asked, Pending};
 use log::{Log, warn};
 use shared_spool::{SessionSeat, SpoolLedger};
 use std::alloc::AllocError;
+use std::fs::{File, Files};
 use std::rt::Clock;
 use std::sync::Wait;
 use std::sync::ledger::Ledger;
@@ -32,7 +33,13 @@ fn earlier(first: Option<Instant>, second: Option<Instant>) -> Option<Instant> {
     }
 }
 
-impl<'a, R: Clock + Log + Wait, E: SpoolLedger, K: Ledger, H: Ledger> Steward<'a, R, E, K, H> {
+impl<'a, R: Files<File = File> + Clock + Log + Wait, E: SpoolLedger, K: Ledger, H: Ledger> Steward<
+    'a,
+    R,
+    E,
+    K,
+    H,
+> {
     /// Nobody is let in any more; after N seconds nothing is waited for any more, where there is such a number.
     fn stop(&mut self, seconds: Option<u32>) {
         let house = self.house;
@@ -131,7 +138,13 @@ impl<'a, R: Clock + Log + Wait, E: SpoolLedger, K: Ledger, H: Ledger> Steward<'a
     }
 }
 
-impl<R: Clock + Log + Wait, E: SpoolLedger, K: Ledger, H: Ledger> House<'_, R, E, K, H> {
+impl<R: Files<File = File> + Clock + Log + Wait, E: SpoolLedger, K: Ledger, H: Ledger> House<
+    '_,
+    R,
+    E,
+    K,
+    H,
+> {
     /// Does what is asked, until the spool is closed. Answers the seat, and what still waits for the server's end. Where nothing may
     /// be asked it answers at once.
     pub(crate) fn look_after(

@@ -126,8 +126,12 @@ impl<R: Clock + Log + Wait, E: SpoolLedger, K: Ledger, H: Ledger> House<'_, R, E
         warn!(self.rt; "job {number} {queue} {user}@{host} {octets} octets is lost: {why}");
     }
 
-    /// Tells of each held job that is whole, or of each that isn't, that it is lost.
+    /// Tells of each held job that is whole, or of each that isn't, that it is lost. Whole ones aren't where jobs are kept.
     fn tell_lost_of(&self, is_whole: bool) {
+        // A whole job stays in its folder, and is printed after the next start.
+        if is_whole && self.kept.is_some() {
+            return;
+        }
         let Ok(sight) = self.spool.sight(self.rt, self.alloc) else {
             warn!(self.rt; "memory was refused: jobs that are lost aren't told");
             return;

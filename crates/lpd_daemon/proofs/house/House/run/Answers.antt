@@ -19,3 +19,8 @@ pub returns-in_err-print_or_tell-clause-write_fault : goal.returns-in_err-print_
 returns-in_err-print_or_tell-clause-write_fault g c =
     let p = err_from_is_err_and c.from_residual.result c.from_residual.ensures.1 in
     rw (p.1, p.2) c.in_err-print_or_tell.ensures.write_fault
+
+pub returns-in_err-print_or_tell-clause-fault : goal.returns-in_err-print_or_tell-clause-fault
+returns-in_err-print_or_tell-clause-fault g c =
+    let p = err_from_is_err_and c.from_residual.result c.from_residual.ensures.1 in
+    rw (p.1, p.2) c.in_err-print_or_tell.ensures.fault

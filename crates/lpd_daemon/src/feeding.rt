@@ -1,0 +1,140 @@
+//! The thread that has the spool take the jobs that its folder has kept.
+
+use crate::house::House;
+use crate::keeping::Kept;
+use crate::owner::Owner;
+use crate::stored::{FedFolder, StoredJobs};
+use kept_recovery::{Fed, feed_one};
+use kept_requests::Keeping;
+use log::{Log, warn};
+use lpd_values::Refusal;
+use session::{Seated, SessionEnd, SessionSeat};
+use shared_spool::SpoolLedger;
+use std::fs::{File, Files};
+use std::rt::Clock;
+use std::sync::Wait;
+use std::sync::ledger::Ledger;
+use std::time::Duration;
+use std::{fmt, thread};
+
+/// The time between two looks at whether there is room, in milliseconds.
+const LOOK_MS: u64 = 100;
+
+/// Why a job that was fed isn't in the spool.
+#[derive(Clone, Copy)]
+struct Unfed(Fed);
+
+impl fmt::Display for Unfed {
+    fn fmt<W: fmt::Write>(&self, f: &mut fmt::Formatter<W>) -> fmt::Result {
+        match self.0 {
+            Fed::Served(SessionEnd::Refused(refusal)) => write!(f, "it is refused: {refusal}"),
+            Fed::Served(SessionEnd::Finished | SessionEnd::Closed | SessionEnd::Broken) => {
+                f.write_str("its file has no whole job")
+            }
+            Fed::Served(SessionEnd::Memory) => f.write_str("memory was refused"),
+            Fed::Served(SessionEnd::ReadFault | SessionEnd::WriteFault) | Fed::Unreadable => {
+                f.write_str("its file can't be read")
+            }
+            Fed::Headless(_) => f.write_str("its file isn't that of a kept job"),
+            Fed::Absent | Fed::Unopened(_) => f.write_str("its file can't be opened"),
+        }
+    }
+}
+
+/// Whether a job that was fed is to be fed again, once there is room for it.
+fn waits_for_room(fed: Fed) -> bool {
+    matches!(
+        fed,
+        Fed::Served(SessionEnd::Refused(
+            Refusal::TableFull | Refusal::AccountFull | Refusal::Memory
+        )) | Fed::Served(SessionEnd::Memory)
+    )
+}
+
+/// The seat of whoever feeds, with the hand that has the file which is being fed.
+type Feeder<'a, R, E, K, H> = Keeping<Seated<'a, R, E, K, H>, FedFolder<'a, R>>;
+
+impl<R: Files<File = File> + Clock + Log + Wait, E: SpoolLedger, K: Ledger, H: Ledger> House<
+    '_,
+    R,
+    E,
+    K,
+    H,
+> {
+    /// Whether the spool has room for a job of this owner whose file has N octets: free pages for all of them, a place among the
+    /// jobs, and its reserve in the account; or has no job at all. False where memory to look is refused.
+    fn has_room(&self, owner: &Owner, octets: u64) -> bool {
+        let Ok(sight) = self.spool.sight(self.rt, self.alloc) else {
+            return false;
+        };
+        let config = &self.oversight.config;
+        let free = (sight.spool.pages.free as u64).saturating_mul(u64::from(config.page_size()));
+        let reserve = config
+            .queue_named(owner.queue.as_slice())
+            .map_or(0, |queue| config.reserve_of(queue));
+        let left = u64::from(config.account()).saturating_sub(sight.spool.reserved);
+        let has_place = sight.spool.jobs.len() < config.max_jobs() as usize;
+        sight.spool.jobs.is_empty() || (octets <= free && has_place && reserve <= left)
+    }
+
+    /// Feeds the job that waits first. False where it is to wait on.
+    fn feed_first(
+        &self,
+        kept: &Kept<'_, R>,
+        feeder: &mut Feeder<'_, R, E, K, H>,
+        number: u64,
+    ) -> bool {
+        let (rt, alloc) = (self.rt, self.alloc);
+        let Some(owner) = kept.owner(rt, alloc, number) else {
+            kept.pass_over(rt);
+            return true;
+        };
+        let mut store = StoredJobs::new(&kept.disk);
+        let octets = store.length_of(number);
+        if !self.has_room(&owner, octets) {
+            return false;
+        }
+        feeder.hand.folder.take(number);
+        let fed = feed_one(rt, alloc, &mut store, feeder, number);
+        let is_passed = feeder.hand.folder.is_passed();
+        feeder.hand.let_go();
+        if let Some(fault) = feeder.hand.folder.take_fault() {
+            warn!(rt; "{fault}: the job is printed again after the next start");
+        }
+        if !is_passed && (waits_for_room(fed) || self.ending.is_over()) {
+            return false;
+        }
+        kept.leave(rt, &owner);
+        if !is_passed {
+            let why = Unfed(fed);
+            warn!(rt; "the job in file {number}.job isn't printed, and stays where it is: {why}");
+        }
+        true
+    }
+
+    /// Has the spool take the jobs that its folder has kept, in the order of their files, as there is room, until the server stops.
+    /// Answers the seat; at once where no jobs are kept.
+    pub(crate) fn feed_all(&self, seat: SessionSeat<E, K, H>) -> SessionSeat<E, K, H> {
+        let Some(kept) = &self.kept else {
+            return seat;
+        };
+        let seated = Seated::new(self.rt, &self.spool, seat);
+        let mut feeder = Keeping::new(self.alloc, seated, FedFolder::new(&kept.disk));
+        for _ in self.rt.forever() {
+            if self.ending.stops() || self.ending.is_over() {
+                break;
+            }
+            let has_fed = match kept.first(self.rt) {
+                Some(number) => self.feed_first(kept, &mut feeder, number),
+                None => false,
+            };
+            if !has_fed {
+                kept.settle(self.rt);
+                thread::sleep(self.rt, Duration::from_millis(LOOK_MS));
+            }
+        }
+        kept.settle(self.rt);
+        let Keeping { inner, .. } = feeder;
+        inner.into_seat()
+    }
+}

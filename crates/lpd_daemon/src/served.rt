@@ -1,0 +1,49 @@
+//! What a session's requests leave behind for the server.
+
+use job_disk::DiskFolder;
+use kept_requests::{Cause, Keeping};
+use log::{Log, warn};
+use session::Seated;
+use shared_spool::SpoolLedger;
+use std::fs::{File, Files};
+use std::net::SocketAddr;
+use std::sync::Wait;
+use std::sync::ledger::Ledger;
+
+/// What carries out a session's requests, as the server sees it behind the session.
+pub(crate) trait Served {
+    /// The numbers of the jobs that its last removal took: each removal's are told once.
+    fn take_removed(&mut self) -> Option<Vec<u64>>;
+
+    /// No job is in hand any more. The log is told of this peer's job that wasn't kept, and why.
+    fn let_go<L: Log>(&mut self, rt: &L, peer: SocketAddr);
+}
+
+impl<R: Wait, E: SpoolLedger, K: Ledger, H: Ledger> Served for Seated<'_, R, E, K, H> {
+    fn take_removed(&mut self) -> Option<Vec<u64>> {
+        Seated::take_removed(self)
+    }
+
+    fn let_go<L: Log>(&mut self, _rt: &L, _peer: SocketAddr) {}
+}
+
+impl<Q: Served, R: Files<File = File> + Wait> Served for Keeping<Q, DiskFolder<'_, R>> {
+    fn take_removed(&mut self) -> Option<Vec<u64>> {
+        self.inner.take_removed()
+    }
+
+    fn let_go<L: Log>(&mut self, rt: &L, peer: SocketAddr) {
+        self.hand.let_go();
+        match (self.given_up.take(), self.hand.folder.take_fault()) {
+            (None | Some(Cause::Refused), None) => {}
+            (Some(Cause::Unfit), None) => {
+                warn!(rt; "{peer}: a job isn't kept: it couldn't be read back");
+            }
+            (Some(Cause::Folder(_)), None) => {
+                warn!(rt; "{peer}: a job isn't kept: memory was refused");
+            }
+            (None, Some(fault)) => warn!(rt; "{peer}: {fault}"),
+            (Some(_), Some(fault)) => warn!(rt; "{peer}: a job isn't kept: {fault}"),
+        }
+    }
+}
