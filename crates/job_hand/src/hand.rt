@@ -121,7 +121,8 @@ impl<F: Folder> Hand<F> {
     /// Takes a new job of a sender for this queue in hand. An error where it can't be kept.
     fn start(&mut self, sender: u32, queue: &[u8]) -> Result<(), Cause>
         requires { Knows self.old.known (new_job sender queue.now) }
-        ensures stands { OnOk result (Stands F.seen F.may_leave self.new (new_job sender queue.now)) }
+        ensures stands { OnOk result (Stands F.seen F.may_leave self.new
+            (new_job sender queue.now)) }
         ensures cause { HasFailed (F.faults self.old.folder) (F.faults self.new.folder) result }
         ensures crash { OrNone (F.may_leave self.old.folder) (F.may_leave self.new.folder) }
         ensures passed { SamePassed (F.seen self.old.folder) (F.seen self.new.folder) }
@@ -285,7 +286,8 @@ impl<F: Folder> Hand<F> {
     /// The control file has come.
     pub fn control(&mut self, control: &Control)
         ensures follows { (job : Option Coming) → Follows F.seen F.may_leave self.old job
-            → Follows F.seen F.may_leave self.new (at_job (with_control (contents control.now)) job) }
+            → Follows F.seen F.may_leave self.new (at_job (with_control
+            (contents control.now)) job) }
         ensures blame { Blames F.faults self.old self.new }
         ensures crash { OrNone (F.may_leave self.old.folder) (F.may_leave self.new.folder) }
         ensures passed { SamePassed (F.seen self.old.folder) (F.seen self.new.folder) }

@@ -95,7 +95,8 @@ impl Known {
 
     /// It has come whole. `Unfit` where it lacks octets, or memory is refused.
     pub fn end_file(&mut self) -> Result<(), Cause>
-        ensures knows { OnOk result ((job : Coming) → Knows self.old job → Knows self.new (with_end job)) }
+        ensures knows { OnOk result ((job : Coming) → Knows self.old job
+            → Knows self.new (with_end job)) }
         ensures whole { OnOk result ((job : Coming) → Knows self.old job
             → (file : Part) × (job.part ≡ Some file) × (file.count ≡ length file.octets)) }
         ensures cause { IfErr result (λ cause. (cause ≡ Unfit) ⊎ (cause ≡ Folder Memory)) }

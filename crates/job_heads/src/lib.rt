@@ -41,7 +41,8 @@ pub fn write_head(sender: u32) -> [u8; HEAD_LENGTH]
 pub fn read_head(octets: &[u8; HEAD_LENGTH]) -> Result<u32, HeadFault>
     ensures read { IfOk result (λ sender. octets.now ≡ head sender) }
     ensures refused { OnErr result ((sender : ℕ) → sender < 2 ^ 32 → octets.now ≡ head sender → ⊥) }
-    ensures other { result ≡ Err HeadFault.OtherVersion → (rest : List ℕ) × (octets.now ≡ name ++ rest) }
+    ensures other { result ≡ Err HeadFault.OtherVersion
+        → (rest : List ℕ) × (octets.now ≡ name ++ rest) }
 {
     if !octets.starts_with(MARK) {
         return Err(if octets.starts_with(NAME) {

@@ -63,7 +63,8 @@ pub trait Folder {
 
     /// Takes an empty temporary file of a number of its own in hand.
     fn create(&mut self) -> Result<(), KeepError>
-        ensures made { OnOk result (Leads (λ old new. new ≡ record old { partial = Some []; whole = None })
+        ensures made { OnOk result (Leads (λ old new. new
+            ≡ record old { partial = Some []; whole = None })
             (seen self.old) (seen self.new)) }
         ensures passed { SamePassed (seen self.old) (seen self.new) }
         ensures never { OnOk result (IsNever (may_leave self.new)) }
@@ -96,7 +97,8 @@ pub trait Folder {
     /// Gives the temporary file the name of a whole one, at once. Until the folder is synced, a crash
     /// may leave either name, and whatever the disk has of the file's octets.
     fn publish(&mut self) -> Result<(), KeepError>
-        ensures whole { OnOk result (Leads (λ old new. new ≡ record old { partial = None; whole = old.partial })
+        ensures whole { OnOk result (Leads (λ old new. new
+            ≡ record old { partial = None; whole = old.partial })
             (seen self.old) (seen self.new)) }
         ensures passed { SamePassed (seen self.old) (seen self.new) }
         ensures crash { (c : Option (List ℕ)) → may_leave self.new c

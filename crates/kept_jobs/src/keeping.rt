@@ -31,13 +31,17 @@ pub fn append<F: Folder>(folder: &mut F, octets: &[u8]) -> Result<(), KeepError>
 /// Keeps the job in hand, whose octets are all in its temporary file. At `Ok` each crash leaves it with
 /// exactly these octets. At an error a crash leaves it whole or not at all: it is to be discarded then.
 pub fn keep<F: Folder>(folder: &mut F) -> Result<(), KeepError>
-    ensures kept { OnOk result ((octets : List ℕ) → IsInHand (F.seen folder.old) (F.may_leave folder.old) octets
+    ensures kept { OnOk result ((octets : List ℕ)
+        → IsInHand (F.seen folder.old) (F.may_leave folder.old) octets
         → IsKept (F.seen folder.new) (F.may_leave folder.new) octets) }
     // A crash at any moment of the call leaves this job whole, or not at all.
-    ensures any_moment { (octets : List ℕ) → IsInHand (F.seen folder.old) (F.may_leave folder.old) octets
-        → LeavesOnly F.moment F.left_since folder.old folder.new (AllOrNone (F.seen folder.old) octets) }
+    ensures any_moment { (octets : List ℕ)
+        → IsInHand (F.seen folder.old) (F.may_leave folder.old) octets
+        → LeavesOnly F.moment F.left_since folder.old folder.new (AllOrNone
+        (F.seen folder.old) octets) }
     ensures crash { (octets : List ℕ) → IsInHand (F.seen folder.old) (F.may_leave folder.old) octets
-        → (c : Option (List ℕ)) → F.may_leave folder.new c → AllOrNone (F.seen folder.old) octets c }
+        → (c : Option (List ℕ)) → F.may_leave folder.new c
+        → AllOrNone (F.seen folder.old) octets c }
     ensures passed { SamePassed (F.seen folder.old) (F.seen folder.new) }
     // It doesn't give up by itself.
     ensures cause { HasCause (F.faults folder.old) (F.faults folder.new) result }

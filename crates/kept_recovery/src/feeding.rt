@@ -56,10 +56,12 @@ pub fn feed_one<S: Store, Q: Requests, R: Wait>(
     spool: &mut Q,
     job: u64,
 ) -> Fed
-    ensures fed { Feeds Q.carries Q.ends (whole_told S.files store.old job) result spool.old spool.new }
+    ensures fed { Feeds Q.carries Q.ends
+        (whole_told S.files store.old job) result spool.old spool.new }
     ensures files { IfSome S.files (λ tell. tell store.new ≡ tell store.old) }
     ensures any_moment { LeavesNoMore S.moment S.left_since S.may_leave store.old store.new }
-    ensures failed { result ≡ Fed.Unopened KeepError.Failed → S.faults store.old < S.faults store.new }
+    ensures failed { result ≡ Fed.Unopened KeepError.Failed
+        → S.faults store.old < S.faults store.new }
 {
     let mut reader = match store.open(job) {
         Ok(Some(reader)) => reader,
@@ -83,7 +85,8 @@ pub fn feed<S: Store, Q: Requests, R: Wait>(
     spool: &mut Q,
     jobs: &[u64],
 ) -> Result<Vec<Fed>, AllocError>
-    ensures fed { IfOk result (λ fed. FeedsAll Q.carries Q.ends (whole_told S.files store.old) jobs.now fed.items spool.old spool.new) }
+    ensures fed { IfOk result (λ fed. FeedsAll Q.carries Q.ends
+        (whole_told S.files store.old) jobs.now fed.items spool.old spool.new) }
     ensures files { IfSome S.files (λ tell. tell store.new ≡ tell store.old) }
     ensures any_moment { LeavesNoMore S.moment S.left_since S.may_leave store.old store.new }
 {
@@ -110,11 +113,14 @@ pub fn recover_all<S: Store, Q: Requests, R: Wait>(
     store: &mut S,
     spool: &mut Q,
 ) -> Result<Recovered, KeepError>
-    requires contents { IfSome S.files (λ tell. HasContents (tell store.old) (S.may_leave store.old)) }
+    requires contents { IfSome S.files
+        (λ tell. HasContents (tell store.old) (S.may_leave store.old)) }
 
-    ensures jobs { IfOk result (λ found. IfSome S.files (λ tell. IsListOf (tell store.old).whole found.numbers.jobs.items)) }
+    ensures jobs { IfOk result (λ found. IfSome S.files
+        (λ tell. IsListOf (tell store.old).whole found.numbers.jobs.items)) }
     ensures rising { IfOk result (λ found. IsNonDecreasing found.numbers.jobs.items) }
-    ensures fed { IfOk result (λ found. FeedsAll Q.carries Q.ends (whole_told S.files store.old) found.numbers.jobs.items
+    ensures fed { IfOk result
+        (λ found. FeedsAll Q.carries Q.ends (whole_told S.files store.old) found.numbers.jobs.items
         found.fed.items spool.old spool.new) }
 
     ensures any_moment { LeavesNoMore S.moment S.left_since S.may_leave store.old store.new }

@@ -11,7 +11,8 @@ use lpd_commands::{OctetFault, OctetRead};
 /// Reads until the buffer is full or nothing is left, and answers how many octets it read. Fails where a read does.
 fn read_full<I: OctetRead>(reader: &mut I, into: &mut [u8]) -> Result<usize, OctetFault>
     ensures within { IfOk result (λ n. n ≤ length into.new) }
-    ensures took { IfOk result (λ n. Took (I.left reader.old) (I.left reader.new) (take n into.new)) }
+    ensures took { IfOk result
+        (λ n. Took (I.left reader.old) (I.left reader.new) (take n into.new)) }
     ensures out { IfOk result (λ n. n < length into.new → IsReadOut (I.left reader.new)) }
 {
     let mut count = 0;

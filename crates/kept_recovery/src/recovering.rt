@@ -25,13 +25,17 @@ pub struct Numbers {
 /// may crash too.
 pub fn recover<S: Store>(alloc: Global, store: &mut S) -> Result<Numbers, KeepError>
     // The octets of each whole file are on the disk. A name may still be missing there, where only the process ended.
-    requires contents { IfSome S.files (λ tell. HasContents (tell store.old) (S.may_leave store.old)) }
+    requires contents { IfSome S.files
+        (λ tell. HasContents (tell store.old) (S.may_leave store.old)) }
 
     // Exactly the jobs that the folder has, each once.
-    ensures jobs { IfOk result (λ found. IfSome S.files (λ tell. IsListOf (tell store.old).whole found.jobs.items)) }
+    ensures jobs { IfOk result (λ found. IfSome S.files
+        (λ tell. IsListOf (tell store.old).whole found.jobs.items)) }
     ensures rising { IfOk result (λ found. IsNonDecreasing found.jobs.items) }
-    ensures failed { IfOk result (λ found. IfSome S.files (λ tell. IsListOf (tell store.old).failed found.failed.items)) }
-    ensures kept { OnOk result (IfSome S.files (λ tell. KeepsAll (tell store.old) (tell store.new) (S.may_leave store.new))) }
+    ensures failed { IfOk result (λ found. IfSome S.files
+        (λ tell. IsListOf (tell store.old).failed found.failed.items)) }
+    ensures kept { OnOk result (IfSome S.files
+        (λ tell. KeepsAll (tell store.old) (tell store.new) (S.may_leave store.new))) }
     ensures free { IfOk result (λ found. IfSome found.next (λ next. IfSome S.files (λ tell.
         IsFreeFrom (tell store.new) (S.may_leave store.new) next))) }
     ensures full { IfOk result (λ found. IfNone found.next (IfSome S.files (λ tell.
@@ -53,8 +57,10 @@ pub fn recover<S: Store>(alloc: Global, store: &mut S) -> Result<Numbers, KeepEr
 /// A number above all of these, not below the first. None where one of them is the greatest that there is.
 fn number_above(first: u64, numbers: &[u64]) -> Option<u64>
     ensures first { IfSome result (λ next. first ≤ next) }
-    ensures above { IfSome result (λ next. (n : ℕ) → next ≤ n → count_by (λ number. number == n) numbers.now ≡ 0) }
-    ensures none { IfNone result (0 < count_by (λ number. number == 18446744073709551615) numbers.now) }
+    ensures above { IfSome result (λ next. (n : ℕ) → next ≤ n
+        → count_by (λ number. number == n) numbers.now ≡ 0) }
+    ensures none { IfNone result (0 < count_by
+        (λ number. number == 18446744073709551615) numbers.now) }
 {
     let mut next = first;
     for number in numbers {
@@ -67,8 +73,10 @@ fn number_above(first: u64, numbers: &[u64]) -> Option<u64>
 
 /// A number above all of both. None where one of them is the greatest that there is.
 fn number_above_both(jobs: &[u64], failed: &[u64]) -> Option<u64>
-    ensures jobs { IfSome result (λ next. (n : ℕ) → next ≤ n → count_by (λ number. number == n) jobs.now ≡ 0) }
-    ensures failed { IfSome result (λ next. (n : ℕ) → next ≤ n → count_by (λ number. number == n) failed.now ≡ 0) }
+    ensures jobs { IfSome result (λ next. (n : ℕ) → next ≤ n
+        → count_by (λ number. number == n) jobs.now ≡ 0) }
+    ensures failed { IfSome result (λ next. (n : ℕ) → next ≤ n
+        → count_by (λ number. number == n) failed.now ≡ 0) }
     ensures none { IfNone result ((0 < count_by (λ number. number == 18446744073709551615) jobs.now)
         ⊎ (0 < count_by (λ number. number == 18446744073709551615) failed.now)) }
 {

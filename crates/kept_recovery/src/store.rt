@@ -42,7 +42,8 @@ pub trait Store {
 
     /// Has the names of the folder on the disk: after it, a crash leaves a job exactly where its whole file is seen.
     fn sync_names(&mut self) -> Result<(), KeepError>
-        ensures names { OnOk result (IfSome files (λ tell. (n : ℕ) (c : Option (List ℕ)) → may_leave self.new n c
+        ensures names { OnOk result (IfSome files (λ tell. (n : ℕ) (c : Option (List ℕ))
+            → may_leave self.new n c
             → is_some c ≡ is_some ((tell self.old).whole n))) }
         ensures files { IfSome files (λ tell. tell self.new ≡ tell self.old) }
         ensures crash { (n : ℕ) → NoMore (may_leave self.old n) (may_leave self.new n) }
@@ -52,7 +53,8 @@ pub trait Store {
 
     /// Takes all temporary files away.
     fn clear_partials(&mut self) -> Result<(), KeepError>
-        ensures gone { OnOk result (IfSome files (λ tell. (n : ℕ) → (tell self.new).partial n ≡ None)) }
+        ensures gone { OnOk result (IfSome files (λ tell. (n : ℕ)
+            → (tell self.new).partial n ≡ None)) }
         ensures jobs { IfSome files (λ tell. SameJobs (tell self.old) (tell self.new)) }
         ensures crash { (n : ℕ) → NoMore (may_leave self.old n) (may_leave self.new n) }
         ensures time { (n : ℕ) → Elapses (moment self.old) (moment self.new) (left_since self.old n)
@@ -61,8 +63,10 @@ pub trait Store {
 
     /// The numbers of the whole files and of those of failed jobs.
     fn names(&mut self, alloc: Global) -> Result<Names, KeepError>
-        ensures jobs { IfOk result (λ names. IfSome files (λ tell. IsListOf (tell self.old).whole names.jobs.items)) }
-        ensures failed { IfOk result (λ names. IfSome files (λ tell. IsListOf (tell self.old).failed names.failed.items)) }
+        ensures jobs { IfOk result (λ names. IfSome files
+            (λ tell. IsListOf (tell self.old).whole names.jobs.items)) }
+        ensures failed { IfOk result (λ names. IfSome files
+            (λ tell. IsListOf (tell self.old).failed names.failed.items)) }
         ensures files { IfSome files (λ tell. tell self.new ≡ tell self.old) }
         ensures crash { (n : ℕ) → NoMore (may_leave self.old n) (may_leave self.new n) }
         ensures time { (n : ℕ) → Elapses (moment self.old) (moment self.new) (left_since self.old n)
@@ -71,7 +75,8 @@ pub trait Store {
 
     /// Opens the whole file of a job, to be read from its first octet. None where there is no such file.
     fn open(&mut self, job: u64) -> Result<Option<Self::Job>, KeepError>
-        ensures opened { IfOk result (λ opened. Opens Self.Job.left (whole_told files self.old job) opened) }
+        ensures opened { IfOk result
+            (λ opened. Opens Self.Job.left (whole_told files self.old job) opened) }
         ensures files { IfSome files (λ tell. tell self.new ≡ tell self.old) }
         ensures crash { (n : ℕ) → NoMore (may_leave self.old n) (may_leave self.new n) }
         ensures time { (n : ℕ) → Elapses (moment self.old) (moment self.new) (left_since self.old n)

@@ -40,7 +40,8 @@ impl<Q: Requests, F: Folder> Keeping<Q, F> {
         ensures cause { self.new.given_up ≡ Some cause }
         ensures broken { self.new.hand.stage ≡ stage.Broken cause }
         ensures passed { SamePassed (F.seen self.old.hand.folder) (F.seen self.new.hand.folder) }
-        ensures crash { OrNone (F.may_leave self.old.hand.folder) (F.may_leave self.new.hand.folder) }
+        ensures crash { OrNone (F.may_leave self.old.hand.folder)
+            (F.may_leave self.new.hand.folder) }
         ensures aborted { (sender : ℕ) → (answer : Answer)
             × Q.carries self.old.inner sender job AbortJob answer self.new.inner }
     {

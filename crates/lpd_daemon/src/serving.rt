@@ -249,7 +249,8 @@ where
         W: OctetWrite,
     >(self, config: Config, blanks: Blanks, output: &mut W) -> Result<(), Fault>
         requires few { self.sessions ≤ 66 }
-        requires blanks { AreFor blanks config (self.sessions + OTHERS) E.config (mark E.name E.parts)
+        requires blanks { AreFor blanks config (self.sessions + OTHERS) E.config
+            (mark E.name E.parts)
             (mark K.name K.parts) (mark H.name H.parts) }
         ensures printed { OnOk result
             (WritesAll (W.written output.old) (W.written output.new)) }

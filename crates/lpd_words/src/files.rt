@@ -164,7 +164,8 @@ pub fn check<I: OctetRead, W: OctetWrite>(
     printers: &[PrinterPlace],
     output: &mut W,
 ) -> Result<(), Fault>
-    ensures checked { OnOk result (Checked sizes printers.now (I.left config.old) (I.left config.new)
+    ensures checked { OnOk result (Checked sizes printers.now (I.left config.old)
+        (I.left config.new)
         (W.written output.old) (W.written output.new)) }
     // A printer that isn't there is told before anything is printed.
     ensures missing { IfErr result (IsMissed printers.now (I.left config.old) (I.left config.new)

@@ -106,12 +106,15 @@ fn data_file_at<R: OpenReaders>(
     file: &mut R::Reader,
 ) -> Result<DataFile, Fault>
     ensures ok { IfOk result (λ read. (read.name ≡ name)
-        × HasGivenAll (R.Reader.left file.old) (R.Reader.left file.new) read.octets × (0 < length read.octets)) }
-    ensures read_fault { R.Reader.faults file.new ≢ R.Reader.faults file.old → result ≡ Err (Run ReadFile) }
+        × HasGivenAll (R.Reader.left file.old) (R.Reader.left file.new) read.octets
+        × (0 < length read.octets)) }
+    ensures read_fault { R.Reader.faults file.new ≢ R.Reader.faults file.old
+        → result ≡ Err (Run ReadFile) }
     ensures empty { R.Reader.left file.old ≡ Some [] → IsErr result }
     // A file is refused only where reading it failed, or it has no octets.
     ensures cause { result ≡ Err (Run ReadFile) →
-        IsUnread (R.Reader.faults file.old) (R.Reader.faults file.new) (R.Reader.left file.old) (R.Reader.left file.new)
+        IsUnread (R.Reader.faults file.old) (R.Reader.faults file.new) (R.Reader.left file.old)
+        (R.Reader.left file.new)
         ⊎ HasGivenAll (R.Reader.left file.old) (R.Reader.left file.new) [] }
     ensures fault { IfErr result IsFileFault }
 {
@@ -336,9 +339,12 @@ pub fn run<
     ensures control { IfControls result (λ request.
         IsAsked (subcommand_of command_line (map string_bytes words.entry.now)) (Control request)
         × (fault_of command_line (map string_bytes words.entry.now) ≡ [])
-        × IsUntouched (W.written output.old) (W.faults output.old) (W.written output.new) (W.faults output.new)
-        × IsUntouched (I.left input.old) (I.faults input.old) (I.left input.new) (I.faults input.new)
-        × IsUntouched (E.written faults.old) (E.faults faults.old) (E.written faults.new) (E.faults faults.new)) }
+        × IsUntouched (W.written output.old) (W.faults output.old) (W.written output.new)
+        (W.faults output.new)
+        × IsUntouched (I.left input.old) (I.faults input.old) (I.left input.new)
+        (I.faults input.new)
+        × IsUntouched (E.written faults.old) (E.faults faults.old) (E.written faults.new)
+        (E.faults faults.new)) }
 {
     let alloc = rt.alloc();
     match read_words(alloc, words) {

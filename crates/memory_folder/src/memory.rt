@@ -60,7 +60,8 @@ fn is_ready(partial: &Option<Vec<u8>>, whole: &Option<Vec<u8>>) -> bool
 impl MemoryFolder {
     /// An empty one, of which so many calls go well. It says of every sender and queue whether an earlier job waits.
     pub fn new(alloc: Global, calls: u64, earlier: bool) -> MemoryFolder
-        ensures empty { (result.partial ≡ None) × (result.whole ≡ None) × (result.passed.items ≡ []) }
+        ensures empty { (result.partial ≡ None) × (result.whole ≡ None)
+            × (result.passed.items ≡ []) }
         ensures calls { (result.calls ≡ calls) × (result.earlier ≡ earlier) }
     {
         MemoryFolder {
@@ -93,7 +94,8 @@ impl MemoryFolder {
     }
 
     fn write(&mut self, octets: &[u8]) -> Result<(), AllocError>
-        ensures ok { OnOk result (octets_in self.new.partial ≡ Some (octets_of (octets_in self.old.partial) ++ octets.now)) }
+        ensures ok { OnOk result (octets_in self.new.partial
+            ≡ Some (octets_of (octets_in self.old.partial) ++ octets.now)) }
         ensures same { self.new ≡ record self.old { partial = self.new.partial } }
     {
         match &mut self.partial {

@@ -14,7 +14,8 @@ pub trait Dial {
 
     /// Opens a connection for a job.
     fn dial(&mut self, job: u64) -> Result<(), ConnectionFault>
-        ensures ok { OnOk result (connections self.new ≡ told (new_connection job []) (connections self.old)) }
+        ensures ok { OnOk result (connections self.new
+            ≡ told (new_connection job []) (connections self.old)) }
         ensures err { OnErr result (connections self.new ≡ connections self.old) };
 
     /// Writes octets from the head of the slice to the newest connection, and answers how many.

@@ -62,8 +62,10 @@ fn keep<F: Folder>(folder: &mut F, stage: Draft, job: u64, octets: &[u8]) -> Dra
 
 /// Writes the hidden file to the disk, and then gives it a number.
 fn publish<F: Folder>(folder: &mut F) -> Result<(), FolderFault>
-    ensures ok { OnOk result (AddsOne (F.draft folder.old) (F.files folder.old) (F.files folder.new)) }
-    ensures err { OnErr result (MayAdd (F.draft folder.old) (F.files folder.old) (F.files folder.new)) }
+    ensures ok { OnOk result (AddsOne (F.draft folder.old) (F.files folder.old)
+        (F.files folder.new)) }
+    ensures err { OnErr result (MayAdd (F.draft folder.old) (F.files folder.old)
+        (F.files folder.new)) }
 {
     folder.sync()?;
     folder.publish()?;

@@ -11,7 +11,8 @@ ghost use Rattle.printer_sinks.specs.Visits.{AddsOne, Given, Visits, at_rest};
 /// told Ok, joined in order, and then at most a beginning of one that isn't.
 pub fn one_connection_a_job()
     ensures { (job : ℕ) (pages : List Given) (connections : List Connection) (new : Desk)
-        → Visits job pages (at_rest connections) new → AddsOne job pages connections new.connections }
+        → Visits job pages (at_rest connections) new
+        → AddsOne job pages connections new.connections }
 {}
 
 /// Where a sink visits each job once, no job has two connections that took an octet.
@@ -25,7 +26,8 @@ pub fn no_job_has_two()
 pub fn published_is_whole()
     ensures only { (job : ℕ) (pages : List Given) (done ok : Bool) (draft : Option (List ℕ))
         (files : List File) (new : Shelf)
-        → PrintsAll job pages done ok (idle draft files) new → OnlyWhole pages done files new.files }
+        → PrintsAll job pages done ok (idle draft files) new
+        → OnlyWhole pages done files new.files }
     // Where a job was done and leaving it is told Ok, it is published.
     ensures there { (job : ℕ) (pages : List Given) (draft : Option (List ℕ)) (files : List File)
         (new : Shelf) → PrintsAll job pages true true (idle draft files) new

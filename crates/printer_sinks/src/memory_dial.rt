@@ -67,8 +67,10 @@ impl MemoryDial {
 
 /// Adds octets to the newest connection.
 fn add(connections: &mut Vec<MemoryConnection>, octets: &[u8]) -> Result<(), ConnectionFault>
-    ensures ok { OnOk result (memory_connections connections.new.items ≡ longer octets.now (memory_connections connections.old.items)) }
-    ensures err { OnErr result (memory_connections connections.new.items ≡ memory_connections connections.old.items) }
+    ensures ok { OnOk result (memory_connections connections.new.items
+        ≡ longer octets.now (memory_connections connections.old.items)) }
+    ensures err { OnErr result (memory_connections connections.new.items
+        ≡ memory_connections connections.old.items) }
 {
     if connections.is_empty() {
         return Err(ConnectionFault);

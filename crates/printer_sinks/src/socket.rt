@@ -10,7 +10,8 @@ use crate::stage::Stage;
 /// Writes octets to the newest connection until it fails, and answers how many it took.
 fn write_on<D: Dial>(dial: &mut D, octets: &[u8]) -> usize
     ensures within { result ≤ length octets.now }
-    ensures connections { D.connections dial.new ≡ told (longer (take result octets.now)) (D.connections dial.old) }
+    ensures connections { D.connections dial.new
+        ≡ told (longer (take result octets.now)) (D.connections dial.old) }
 {
     let mut done = 0;
     while done < octets.len() {
@@ -27,7 +28,8 @@ fn write_on<D: Dial>(dial: &mut D, octets: &[u8]) -> usize
 fn try_once<D: Dial>(dial: &mut D, job: u64, octets: &[u8]) -> usize
     ensures within { result ≤ length octets.now }
     ensures connections { told spoken (D.connections dial.new)
-        ≡ told (sent Stage.Idle job (take result octets.now)) (told spoken (D.connections dial.old)) }
+        ≡ told (sent Stage.Idle job (take result octets.now)) (told spoken
+        (D.connections dial.old)) }
     ensures begun { 0 < result → is_begun (D.connections dial.new) ≡ true }
 {
     if dial.dial(job).is_err() {
@@ -54,7 +56,8 @@ struct Tries<'a, P: Pause> {
 fn begin<D: Dial, P: Pause>(dial: &mut D, tries: Tries<'_, P>, job: u64, octets: &[u8]) -> usize
     ensures within { result ≤ length octets.now }
     ensures connections { told spoken (D.connections dial.new)
-        ≡ told (sent Stage.Idle job (take result octets.now)) (told spoken (D.connections dial.old)) }
+        ≡ told (sent Stage.Idle job (take result octets.now)) (told spoken
+        (D.connections dial.old)) }
     ensures begun { 0 < result → is_begun (D.connections dial.new) ≡ true }
 {
     let Tries { pause, most } = tries;
@@ -116,7 +119,8 @@ fn send_first<D: Dial, P: Pause>(
 /// Sends a page of a job of which an octet was sent.
 fn send_more<D: Dial>(dial: &mut D, job: u64, octets: &[u8]) -> (usize, Stage)
     requires { is_begun (D.connections dial.old) ≡ true }
-    ensures adds { Adds result.0 job octets.now (Stage.Sending job) (told spoken (D.connections dial.old))
+    ensures adds { Adds result.0 job octets.now (Stage.Sending job) (told spoken
+        (D.connections dial.old))
         (desk result.1 (D.connections dial.new)) }
     ensures stands { stands result.1 (D.connections dial.new) ≡ true }
     ensures opened { opened (D.connections dial.new) ≡ opened (D.connections dial.old) }
@@ -179,7 +183,8 @@ pub struct SocketSink<D: Dial + Drop, P: Pause + Drop> {
 impl<D: Dial + Drop, P: Pause + Drop> SocketSink<D, P> {
     /// A sink that is at no job. It makes N tries at most to open a connection for a job, with a pause after each.
     pub fn new(dial: D, pause: P, most_tries: u64) -> SocketSink<D, P>
-        ensures { desk result.stage (D.connections result.dial) ≡ desk Stage.Idle (D.connections dial) }
+        ensures { desk result.stage (D.connections result.dial)
+            ≡ desk Stage.Idle (D.connections dial) }
     {
         SocketSink {
             dial,
@@ -203,7 +208,8 @@ impl<D: Dial + Drop, P: Pause + Drop> SocketSink<D, P> {
     /// opened for it any more.
     pub fn print(&mut self, job: u64, octets: &[u8]) -> Result<(), ConnectionFault>
         ensures sends { Sends job octets.now (is_ok result)
-            (desk self.old.stage (D.connections self.old.dial)) (desk self.new.stage (D.connections self.new.dial)) }
+            (desk self.old.stage (D.connections self.old.dial)) (desk self.new.stage
+            (D.connections self.new.dial)) }
         // Once an octet of the job was sent, no connection is opened.
         ensures opened { is_amid (stage_for job self.old.stage) ≡ true
             → opened (D.connections self.new.dial) ≡ opened (D.connections self.old.dial) }

@@ -71,8 +71,10 @@ fn after<'a>(text: &'a str, word: &str) -> Option<&'a str>
 /// The path that follows a word at the head of a text. None where there is no such word, or nothing
 /// behind it.
 fn path_after<'a>(text: &'a str, word: &str) -> Option<&'a str>
-    ensures path { IfSome result (λ path. (text.now ≡ word.now ++ path.now) × (0 < length path.now)) }
-    ensures none { IfNone result ((path : List ℕ) → text.now ≡ word.now ++ path → 0 < length path → ⊥) }
+    ensures path { IfSome result (λ path. (text.now ≡ word.now ++ path.now)
+        × (0 < length path.now)) }
+    ensures none { IfNone result ((path : List ℕ) → text.now ≡ word.now ++ path → 0 < length path
+        → ⊥) }
 {
     let path = after(text, word)?;
     if path.is_empty() {
