@@ -1,5 +1,5 @@
 -- The files of a folder at a start.
-use Rattle.std.specs.Prelude.{◌≡◌, ◌==◌, ℕ, List, [], Option, Some, None, IfSome, is_some, if◌then◌else◌, count_by}
+use Rattle.std.specs.Prelude.{◌≡◌, ◌<◌, ◌≤◌, ◌==◌, ℕ, List, [], Option, Some, None, IfSome, is_some, if◌then◌else◌, count_by}
 use Rattle.kept_jobs.specs.Folder.{Seen}
 
 -- the octets of the temporary files, of the whole ones and of those of failed jobs, where there is one of a number
@@ -40,3 +40,31 @@ IsNotThere told = IfSome told (λ whole. whole ≡ None)
 abbrev pub Opens : {J : Type 0} → (J → Option (List ℕ)) → Option (Option (List ℕ)) → Option J → Type 0
 Opens left told None = IsNotThere told
 Opens left told (Some job) = IsOfFile told (left job)
+
+-- these are the numbers of the whole files, where that is told
+abbrev pub ListsJobs : {D : Type 0} → Option (D → Files) → D → List ℕ → Type 0
+ListsJobs files folder jobs = IfSome files (λ tell. IsListOf (tell folder).whole jobs)
+
+-- these are the numbers of the files of failed jobs, where that is told
+abbrev pub ListsFailed : {D : Type 0} → Option (D → Files) → D → List ℕ → Type 0
+ListsFailed files folder failed = IfSome files (λ tell. IsListOf (tell folder).failed failed)
+
+-- there is no temporary file, where that is told
+abbrev pub HasNoPartials : {D : Type 0} → Option (D → Files) → D → Type 0
+HasNoPartials files folder = IfSome files (λ tell. (n : ℕ) → (tell folder).partial n ≡ None)
+
+-- what is told of the files is the same
+abbrev pub SameFiles : {D : Type 0} → Option (D → Files) → (old new : D) → Type 0
+SameFiles files old new = IfSome files (λ tell. tell new ≡ tell old)
+
+-- what is told of the jobs is the same
+abbrev pub KeepsJobs : {D : Type 0} → Option (D → Files) → (old new : D) → Type 0
+KeepsJobs files old new = IfSome files (λ tell. SameJobs (tell old) (tell new))
+
+-- none of these numbers is this one or a greater one
+abbrev pub IsAbove : ℕ → List ℕ → Type 0
+IsAbove next numbers = (n : ℕ) → next ≤ n → count_by (λ number. number == n) numbers ≡ 0
+
+-- one of these numbers is the greatest that 64 bits have
+abbrev pub HasGreatest : List ℕ → Type 0
+HasGreatest numbers = 0 < count_by (λ number. number == 18446744073709551615) numbers

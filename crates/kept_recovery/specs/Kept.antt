@@ -1,5 +1,5 @@
 -- What a start finds.
-use Rattle.std.specs.Prelude.{◌≡◌, ◌⊎◌, ◌≤◌, ℕ, true, List, Option, Some, None, is_some}
+use Rattle.std.specs.Prelude.{◌≡◌, ◌⊎◌, ◌≤◌, ℕ, true, List, Option, Some, None, IfSome, is_some}
 use Rattle.kept_jobs.specs.Folder.{IsNever, LeavesOnly, NoMore}
 use Rattle.kept_jobs.specs.Kept.{AllOrNone, IsKept}
 use Rattle.kept_recovery.specs.Files.{Files, hand}
@@ -24,6 +24,27 @@ pub record IsFreeFrom (f : Files) (may_leave : ℕ → Option (List ℕ) → Typ
 -- a job that is whole or has failed has this number
 abbrev pub IsTaken : Files → ℕ → Type 0
 IsTaken f n = (is_some (f.whole n) ≡ true) ⊎ (is_some (f.failed n) ≡ true)
+
+-- the same of what a folder tells, where it tells it: the octets of its whole files are on the disk
+abbrev pub ContentsAreThere : {D : Type 0} → Option (D → Files) → D → (ℕ → Option (List ℕ) → Type 0) → Type 0
+ContentsAreThere files folder may_leave = IfSome files (λ tell. HasContents (tell folder) may_leave)
+
+-- each job of a whole file is kept from then on
+abbrev pub KeepsFound : {D : Type 0} → Option (D → Files) → (old new : D) → (ℕ → Option (List ℕ) → Type 0) → Type 0
+KeepsFound files old new may_leave = IfSome files (λ tell. KeepsAll (tell old) (tell new) may_leave)
+
+-- no number from this one on is in use
+abbrev pub GoesOnFrom : {D : Type 0} → Option (D → Files) → D → (ℕ → Option (List ℕ) → Type 0) → ℕ → Type 0
+GoesOnFrom files folder may_leave next = IfSome files (λ tell. IsFreeFrom (tell folder) may_leave next)
+
+-- the greatest number that 64 bits have is in use
+abbrev pub HasNoneLeft : {D : Type 0} → Option (D → Files) → D → Type 0
+HasNoneLeft files folder = IfSome files (λ tell. IsTaken (tell folder) 18446744073709551615)
+
+-- a crash leaves a job exactly where its whole file is seen
+abbrev pub LeftAsSeen : {D : Type 0} → Option (D → Files) → D → (ℕ → Option (List ℕ) → Type 0) → Type 0
+LeftAsSeen files folder may_leave =
+    IfSome files (λ tell. (n : ℕ) (c : Option (List ℕ)) → may_leave n c → is_some c ≡ is_some ((tell folder).whole n))
 
 -- Calls after which, and at any moment of which, a crash leaves of each job what it might have left before them.
 pub record LeavesNoMore {D : Type 0} (moment : D → ℕ) (left_since : D → (job : ℕ) → ℕ → Option (List ℕ) → Type 0)

@@ -3,9 +3,9 @@
 ghost use Rattle.std.specs.Prelude.{◌≡◌, ◌<◌, ℕ, None, IfErr, IfOk, IfSome};
 ghost use Rattle.std.specs.List.Sorted.{IsNonDecreasing};
 ghost use Rattle.kept_jobs.specs.Folder.{HasCause};
-ghost use Rattle.kept_recovery.specs.Files.{IsListOf, SameJobs, whole_told};
+ghost use Rattle.kept_recovery.specs.Files.{KeepsJobs, ListsJobs, SameFiles, whole_told};
 ghost use Rattle.kept_recovery.specs.Feeding.{Feeds, FeedsAll};
-ghost use Rattle.kept_recovery.specs.Kept.{HasContents, LeavesNoMore};
+ghost use Rattle.kept_recovery.specs.Kept.{ContentsAreThere, LeavesNoMore};
 
 use crate::heading::read_sender;
 use crate::{Numbers, Store, recover};
@@ -58,7 +58,7 @@ pub fn feed_one<S: Store, Q: Requests, R: Wait>(
 ) -> Fed
     ensures fed { Feeds Q.carries Q.ends
         (whole_told S.files store.old job) result spool.old spool.new }
-    ensures files { IfSome S.files (λ tell. tell store.new ≡ tell store.old) }
+    ensures files { SameFiles S.files store.old store.new }
     ensures any_moment { LeavesNoMore S.moment S.left_since S.may_leave store.old store.new }
     ensures failed { result ≡ Fed.Unopened KeepError.Failed
         → S.faults store.old < S.faults store.new }
@@ -87,7 +87,7 @@ pub fn feed<S: Store, Q: Requests, R: Wait>(
 ) -> Result<Vec<Fed>, AllocError>
     ensures fed { IfOk result (λ fed. FeedsAll Q.carries Q.ends
         (whole_told S.files store.old) jobs.now fed.items spool.old spool.new) }
-    ensures files { IfSome S.files (λ tell. tell store.new ≡ tell store.old) }
+    ensures files { SameFiles S.files store.old store.new }
     ensures any_moment { LeavesNoMore S.moment S.left_since S.may_leave store.old store.new }
 {
     let mut fed = Vec::new(alloc);
@@ -113,18 +113,17 @@ pub fn recover_all<S: Store, Q: Requests, R: Wait>(
     store: &mut S,
     spool: &mut Q,
 ) -> Result<Recovered, KeepError>
-    requires contents { IfSome S.files
-        (λ tell. HasContents (tell store.old) (S.may_leave store.old)) }
+    requires contents { ContentsAreThere S.files store.old (S.may_leave store.old) }
 
-    ensures jobs { IfOk result (λ found. IfSome S.files
-        (λ tell. IsListOf (tell store.old).whole found.numbers.jobs.items)) }
+    ensures jobs { IfOk result
+        (λ found. ListsJobs S.files store.old found.numbers.jobs.items) }
     ensures rising { IfOk result (λ found. IsNonDecreasing found.numbers.jobs.items) }
     ensures fed { IfOk result
         (λ found. FeedsAll Q.carries Q.ends (whole_told S.files store.old) found.numbers.jobs.items
         found.fed.items spool.old spool.new) }
 
     ensures any_moment { LeavesNoMore S.moment S.left_since S.may_leave store.old store.new }
-    ensures same { IfSome S.files (λ tell. SameJobs (tell store.old) (tell store.new)) }
+    ensures same { KeepsJobs S.files store.old store.new }
 {
     let numbers = recover(alloc, store)?;
     let fed = feed(rt, alloc, store, spool, numbers.jobs.as_slice())?;

@@ -3,8 +3,8 @@
 ghost use Rattle.std.specs.Prelude.{◌≡◌, ◌<◌, ◌≤◌, ◌==◌, ◌⊎◌, ℕ, List, Some, IfNone, IfOk, IfSome, OnOk, count_by};
 ghost use Rattle.std.specs.List.Sorted.{IsNonDecreasing};
 ghost use Rattle.kept_jobs.specs.Folder.{HasCause};
-ghost use Rattle.kept_recovery.specs.Files.{IsListOf, SameJobs};
-ghost use Rattle.kept_recovery.specs.Kept.{HasContents, IsFreeFrom, IsTaken, KeepsAll, LeavesNoMore};
+ghost use Rattle.kept_recovery.specs.Files.{HasGreatest, IsAbove, KeepsJobs, ListsFailed, ListsJobs};
+ghost use Rattle.kept_recovery.specs.Kept.{ContentsAreThere, GoesOnFrom, HasNoneLeft, KeepsFound, LeavesNoMore};
 
 use crate::{Names, Store};
 use kept_jobs::KeepError;
@@ -25,25 +25,21 @@ pub struct Numbers {
 /// may crash too.
 pub fn recover<S: Store>(alloc: Global, store: &mut S) -> Result<Numbers, KeepError>
     // The octets of each whole file are on the disk. A name may still be missing there, where only the process ended.
-    requires contents { IfSome S.files
-        (λ tell. HasContents (tell store.old) (S.may_leave store.old)) }
+    requires contents { ContentsAreThere S.files store.old (S.may_leave store.old) }
 
     // Exactly the jobs that the folder has, each once.
-    ensures jobs { IfOk result (λ found. IfSome S.files
-        (λ tell. IsListOf (tell store.old).whole found.jobs.items)) }
+    ensures jobs { IfOk result (λ found. ListsJobs S.files store.old found.jobs.items) }
     ensures rising { IfOk result (λ found. IsNonDecreasing found.jobs.items) }
-    ensures failed { IfOk result (λ found. IfSome S.files
-        (λ tell. IsListOf (tell store.old).failed found.failed.items)) }
-    ensures kept { OnOk result (IfSome S.files
-        (λ tell. KeepsAll (tell store.old) (tell store.new) (S.may_leave store.new))) }
-    ensures free { IfOk result (λ found. IfSome found.next (λ next. IfSome S.files (λ tell.
-        IsFreeFrom (tell store.new) (S.may_leave store.new) next))) }
-    ensures full { IfOk result (λ found. IfNone found.next (IfSome S.files (λ tell.
-        IsTaken (tell store.old) 18446744073709551615))) }
+    ensures failed { IfOk result (λ found. ListsFailed S.files store.old found.failed.items) }
+    ensures kept { OnOk result
+        (KeepsFound S.files store.old store.new (S.may_leave store.new)) }
+    ensures free { IfOk result (λ found. IfSome found.next (λ next.
+        GoesOnFrom S.files store.new (S.may_leave store.new) next)) }
+    ensures full { IfOk result (λ found. IfNone found.next (HasNoneLeft S.files store.old)) }
 
     // A crash at any moment leaves what a crash before the call might have left.
     ensures any_moment { LeavesNoMore S.moment S.left_since S.may_leave store.old store.new }
-    ensures same { IfSome S.files (λ tell. SameJobs (tell store.old) (tell store.new)) }
+    ensures same { KeepsJobs S.files store.old store.new }
     ensures cause { HasCause (S.faults store.old) (S.faults store.new) result }
 {
     store.clear_partials()?;
@@ -57,10 +53,8 @@ pub fn recover<S: Store>(alloc: Global, store: &mut S) -> Result<Numbers, KeepEr
 /// A number above all of these, not below the first. None where one of them is the greatest that there is.
 fn number_above(first: u64, numbers: &[u64]) -> Option<u64>
     ensures first { IfSome result (λ next. first ≤ next) }
-    ensures above { IfSome result (λ next. (n : ℕ) → next ≤ n
-        → count_by (λ number. number == n) numbers.now ≡ 0) }
-    ensures none { IfNone result (0 < count_by
-        (λ number. number == 18446744073709551615) numbers.now) }
+    ensures above { IfSome result (λ next. IsAbove next numbers.now) }
+    ensures none { IfNone result (HasGreatest numbers.now) }
 {
     let mut next = first;
     for number in numbers {
@@ -73,12 +67,9 @@ fn number_above(first: u64, numbers: &[u64]) -> Option<u64>
 
 /// A number above all of both. None where one of them is the greatest that there is.
 fn number_above_both(jobs: &[u64], failed: &[u64]) -> Option<u64>
-    ensures jobs { IfSome result (λ next. (n : ℕ) → next ≤ n
-        → count_by (λ number. number == n) jobs.now ≡ 0) }
-    ensures failed { IfSome result (λ next. (n : ℕ) → next ≤ n
-        → count_by (λ number. number == n) failed.now ≡ 0) }
-    ensures none { IfNone result ((0 < count_by (λ number. number == 18446744073709551615) jobs.now)
-        ⊎ (0 < count_by (λ number. number == 18446744073709551615) failed.now)) }
+    ensures jobs { IfSome result (λ next. IsAbove next jobs.now) }
+    ensures failed { IfSome result (λ next. IsAbove next failed.now) }
+    ensures none { IfNone result (HasGreatest jobs.now ⊎ HasGreatest failed.now) }
 {
     let next = number_above(0, jobs)?;
     number_above(next, failed)

@@ -2,7 +2,8 @@
 
 ghost use Rattle.std.specs.Prelude.{◌≡◌, ◌≤◌, List, ℕ, Option, None, IfOk, IfSome, OnOk, is_some};
 ghost use Rattle.kept_jobs.specs.Folder.{Elapses, HasCause, NoMore};
-ghost use Rattle.kept_recovery.specs.Files.{IsListOf, Opens, SameJobs, whole_told};
+ghost use Rattle.kept_recovery.specs.Files.{HasNoPartials, KeepsJobs, ListsFailed, ListsJobs, Opens, SameFiles, whole_told};
+ghost use Rattle.kept_recovery.specs.Kept.{LeftAsSeen};
 
 use kept_jobs::KeepError;
 use lpd_commands::OctetRead;
@@ -42,10 +43,8 @@ pub trait Store {
 
     /// Has the names of the folder on the disk: after it, a crash leaves a job exactly where its whole file is seen.
     fn sync_names(&mut self) -> Result<(), KeepError>
-        ensures names { OnOk result (IfSome files (λ tell. (n : ℕ) (c : Option (List ℕ))
-            → may_leave self.new n c
-            → is_some c ≡ is_some ((tell self.old).whole n))) }
-        ensures files { IfSome files (λ tell. tell self.new ≡ tell self.old) }
+        ensures names { OnOk result (LeftAsSeen files self.old (may_leave self.new)) }
+        ensures files { SameFiles files self.old self.new }
         ensures crash { (n : ℕ) → NoMore (may_leave self.old n) (may_leave self.new n) }
         ensures time { (n : ℕ) → Elapses (moment self.old) (moment self.new) (left_since self.old n)
             (left_since self.new n) (may_leave self.new n) }
@@ -53,9 +52,8 @@ pub trait Store {
 
     /// Takes all temporary files away.
     fn clear_partials(&mut self) -> Result<(), KeepError>
-        ensures gone { OnOk result (IfSome files (λ tell. (n : ℕ)
-            → (tell self.new).partial n ≡ None)) }
-        ensures jobs { IfSome files (λ tell. SameJobs (tell self.old) (tell self.new)) }
+        ensures gone { OnOk result (HasNoPartials files self.new) }
+        ensures jobs { KeepsJobs files self.old self.new }
         ensures crash { (n : ℕ) → NoMore (may_leave self.old n) (may_leave self.new n) }
         ensures time { (n : ℕ) → Elapses (moment self.old) (moment self.new) (left_since self.old n)
             (left_since self.new n) (may_leave self.new n) }
@@ -63,11 +61,9 @@ pub trait Store {
 
     /// The numbers of the whole files and of those of failed jobs.
     fn names(&mut self, alloc: Global) -> Result<Names, KeepError>
-        ensures jobs { IfOk result (λ names. IfSome files
-            (λ tell. IsListOf (tell self.old).whole names.jobs.items)) }
-        ensures failed { IfOk result (λ names. IfSome files
-            (λ tell. IsListOf (tell self.old).failed names.failed.items)) }
-        ensures files { IfSome files (λ tell. tell self.new ≡ tell self.old) }
+        ensures jobs { IfOk result (λ names. ListsJobs files self.old names.jobs.items) }
+        ensures failed { IfOk result (λ names. ListsFailed files self.old names.failed.items) }
+        ensures files { SameFiles files self.old self.new }
         ensures crash { (n : ℕ) → NoMore (may_leave self.old n) (may_leave self.new n) }
         ensures time { (n : ℕ) → Elapses (moment self.old) (moment self.new) (left_since self.old n)
             (left_since self.new n) (may_leave self.new n) }
@@ -77,7 +73,7 @@ pub trait Store {
     fn open(&mut self, job: u64) -> Result<Option<Self::Job>, KeepError>
         ensures opened { IfOk result
             (λ opened. Opens Self.Job.left (whole_told files self.old job) opened) }
-        ensures files { IfSome files (λ tell. tell self.new ≡ tell self.old) }
+        ensures files { SameFiles files self.old self.new }
         ensures crash { (n : ℕ) → NoMore (may_leave self.old n) (may_leave self.new n) }
         ensures time { (n : ℕ) → Elapses (moment self.old) (moment self.new) (left_since self.old n)
             (left_since self.new n) (may_leave self.new n) }
