@@ -1,4 +1,3 @@
 pub mod AnswerLemmas
 pub mod EscapeLemmas
 pub mod LineLemmas
-pub mod NumberLemmas

@@ -1,5 +1,5 @@
 -- What follows the first word of a command.
-use Rattle.std.specs.Prelude.{◌≡◌, ℕ, Bool, true, false, List, [], ◌∷◌, ◌++◌, ◌==◌, ◌&&◌, not, nat_le, length}
+use Rattle.std.specs.Prelude.{◌≡◌, ℕ, Bool, true, List, ◌∷◌, ◌++◌, ◌==◌, ◌&&◌, nat_le, length}
 use Rattle.std.specs.List.{list_all}
 use Rattle.lpd_values.specs.Kept.{is_operand}
 use Rattle.lpd_values.specs.Pieces.{is_kept, begins_piece}
@@ -16,15 +16,6 @@ is_queue_name s = is_word s && nat_le (length s) MAX_QUEUE_NAME
 -- whose jobs are removed, or the number of one: 1 to MAX_OPERAND octets without LF, the first of which is no space
 abbrev pub is_whom : List ℕ → Bool
 is_whom s = is_operand s && begins_piece is_blank s
-
-abbrev pub is_empty : List ℕ → Bool
-is_empty [] = true
-is_empty (b ∷ bs) = false
-
--- digits that begin with no +, and with 0 only where that is all
-abbrev pub is_canonical : List ℕ → Bool
-is_canonical [] = true
-is_canonical (d ∷ ds) = not (d == 43) && not (d == 48 && not (is_empty ds))
 
 abbrev pub HasNoSpace : List ℕ → Type 0
 HasNoSpace text = list_all (is_kept is_blank) text ≡ true

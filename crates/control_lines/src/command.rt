@@ -4,8 +4,9 @@ ghost use Rattle.std.specs.Prelude.{◌≡◌, ◌∷◌, ◌++◌, [], IfOk, On
 ghost use Rattle.control_lines.specs.Commands.{written, verb_of, Means, Reads, IsQueueOf};
 ghost use Rattle.control_lines.specs.Verbs.{verb_word};
 
-use crate::operands::{cut, is_queue_name, is_whom, read_number, read_seconds};
+use crate::operands::{cut, is_queue_name, is_whom, read_seconds};
 use crate::verb::Verb;
+use decimals::read_decimal;
 use lpd_values::Octets;
 use std::alloc::{AllocError, Global};
 
@@ -128,7 +129,7 @@ impl Verb {
             }
             Verb::Remove => removal_of(alloc, operand),
             Verb::Resend => {
-                let number = read_number(operand).ok_or(LineFault::Unknown)?;
+                let number = read_decimal(operand).ok_or(LineFault::Unknown)?;
                 Ok(Command::Resend { number })
             }
             Verb::Stop => stop_of(operand),

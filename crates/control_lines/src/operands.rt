@@ -6,8 +6,9 @@ ghost use Rattle.std.specs.Fmt.{decimal};
 ghost use Rattle.lpd_values.specs.Kept.{is_line_feed};
 ghost use Rattle.lpd_values.specs.Kinds.{is_word_octet};
 ghost use Rattle.lpd_values.specs.Pieces.{is_kept};
-ghost use Rattle.control_lines.specs.Operands.{is_canonical, is_queue_name, is_whom, HasNoSpace, IsCut, Lacks};
+ghost use Rattle.control_lines.specs.Operands.{is_queue_name, is_whom, HasNoSpace, IsCut, Lacks};
 
+use decimals::read_decimal;
 use lpd_values::{MAX_LINE, MAX_OPERAND};
 use std::str;
 
@@ -55,42 +56,14 @@ pub(crate) fn text_of(octets: &[u8]) -> Option<&str>
     str::from_utf8(octets).ok()
 }
 
-/// Whether a number that is written by these octets would be written so: they begin with no `+`, and with `0` only where that is all.
-fn is_canonical(digits: &[u8]) -> bool
-    ensures { result ≡ is_canonical digits.now }
-{
-    match digits {
-        [b'+', ..] | [b'0', _, ..] => false,
-        _ => true,
-    }
-}
-
-/// The seconds that decimal digits are, of which the first is 0 only where it is alone.
+/// The seconds, below 2^32, of which these octets are what is written.
 pub(crate) fn read_seconds(digits: &[u8]) -> Option<u32>
     ensures { MatchOption result ((n : ℕ) → n < 2 ^ 32 → digits.now ≡ decimal n → ⊥)
         (λ n. digits.now ≡ decimal n) }
 {
-    if !is_canonical(digits) {
-        return None;
-    }
-    let text = text_of(digits)?;
-    match text.parse() {
+    let number = read_decimal(digits)?;
+    match u32::try_from(number) {
         Ok(seconds) => Some(seconds),
-        Err(_) => None,
-    }
-}
-
-/// The number that decimal digits are, of which the first is 0 only where it is alone.
-pub(crate) fn read_number(digits: &[u8]) -> Option<u64>
-    ensures { MatchOption result ((n : ℕ) → n < 2 ^ 64 → digits.now ≡ decimal n → ⊥)
-        (λ n. digits.now ≡ decimal n) }
-{
-    if !is_canonical(digits) {
-        return None;
-    }
-    let text = text_of(digits)?;
-    match text.parse() {
-        Ok(number) => Some(number),
         Err(_) => None,
     }
 }

@@ -1,5 +1,5 @@
 -- How the files of jobs are named.
-use Rattle.std.specs.Prelude.{◌≡◌, ◌<◌, ◌^◌, ◌++◌, ◌==◌, ◌&&◌, ℕ, Bool, true, false, List, [], ◌∷◌, codes, not}
+use Rattle.std.specs.Prelude.{◌≡◌, ◌<◌, ◌^◌, ◌++◌, ℕ, List, codes}
 use Rattle.std.specs.Fmt.{decimal}
 use Rattle.job_files.specs.declared.names.FileName.{FileName}
 use Rattle.job_files.specs.declared.names.Stage.{Stage}
@@ -22,12 +22,3 @@ IsNoneOf stage octets = (n : ℕ) → n < 2 ^ 64 → octets ≡ decimal n ++ sta
 -- octets are no name
 abbrev pub IsNoName : List ℕ → Type 0
 IsNoName octets = (stage : Stage) → IsNoneOf stage octets
-
-abbrev is_empty : List ℕ → Bool
-is_empty [] = true
-is_empty (b ∷ bs) = false
-
--- digits that begin with no +, and with 0 only where that is all
-abbrev pub is_canonical : List ℕ → Bool
-is_canonical [] = true
-is_canonical (d ∷ ds) = not (d == 43) && not (d == 48 && not (is_empty ds))

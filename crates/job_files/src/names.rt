@@ -1,11 +1,11 @@
 //! How the files of a folder are named.
 
-ghost use Rattle.std.specs.Prelude.{◌≡◌, ◌<◌, ◌^◌, ◌++◌, ℕ, List, IsUtf8, MatchOption};
-ghost use Rattle.std.specs.Fmt.{decimal};
-ghost use Rattle.job_files.specs.Names.{IsNoName, IsNoneOf, is_canonical, stage_word, written};
+ghost use Rattle.std.specs.Prelude.{◌≡◌, ◌++◌, ℕ, List, MatchOption};
+ghost use Rattle.job_files.specs.Names.{IsNoName, IsNoneOf, stage_word, written};
 
+use decimals::read_decimal;
+use std::fmt;
 use std::fmt::{Display, Formatter, Write};
-use std::{fmt, str};
 
 /// How far the job of a file is.
 #[derive(Clone, Copy, Debug, PartialEq, Eq)]
@@ -50,39 +50,6 @@ impl Display for FileName {
     }
 }
 
-/// The octets as text, where they are that.
-fn text_of(octets: &[u8]) -> Option<&str>
-    ensures { MatchOption result (IsUtf8 octets.now → ⊥)
-        (λ text. (text.now ≡ octets.now) × IsUtf8 octets.now) }
-{
-    str::from_utf8(octets).ok()
-}
-
-/// Whether these octets, where they write a number, begin with no `+`, and with `0` only where that is all.
-fn is_canonical(digits: &[u8]) -> bool
-    ensures { result ≡ is_canonical digits.now }
-{
-    match digits {
-        [b'+', ..] | [b'0', _, ..] => false,
-        _ => true,
-    }
-}
-
-/// The number that decimal digits are, of which the first is 0 only where it is alone.
-fn number_of(digits: &[u8]) -> Option<u64>
-    ensures { MatchOption result ((n : ℕ) → n < 2 ^ 64 → digits.now ≡ decimal n → ⊥)
-        (λ n. digits.now ≡ decimal n) }
-{
-    if !is_canonical(digits) {
-        return None;
-    }
-    let text = text_of(digits)?;
-    match text.parse() {
-        Ok(number) => Some(number),
-        Err(_) => None,
-    }
-}
-
 /// What stands before this word at the end of octets.
 fn before<'a>(octets: &'a [u8], word: &[u8]) -> Option<&'a [u8]>
     ensures { MatchOption result ((front : List ℕ) → octets.now ≡ front ++ word.now → ⊥)
@@ -98,7 +65,7 @@ impl FileName {
             (λ name. octets.now ≡ written name) }
     {
         let digits = before(octets, stage.word().as_bytes())?;
-        let number = number_of(digits)?;
+        let number = read_decimal(digits)?;
         Some(FileName { number, stage })
     }
 

@@ -1,7 +1,7 @@
 use Rattle.std.proofs.Common.{◌≡◌, List, ℕ, sym, ◌∙◌, subst, true}
-use Rattle.job_files.specs.Names.{is_canonical}
-use Rattle.job_files.proofs.NumberLemmas.{not_canonical, not_read, not_text, read}
-use Rattle.job_files.proofs.names.number_of.Goals as goal
+use Rattle.decimals.specs.Canonical.{is_canonical}
+use Rattle.decimals.proofs.NumberLemmas.{not_canonical, not_read, not_text, read}
+use Rattle.decimals.proofs.read_decimal.Goals as goal
 
 pub returns-then-not-is_canonical : goal.returns-then-not-is_canonical
 returns-then-not-is_canonical c =

@@ -8,7 +8,7 @@ use Rattle.std.proofs.lemmas.Bool.Decides.{nat_tests}
 use Rattle.std.proofs.lemmas.Fmt.{IsAscii-decimal, decimal-digits_value, decimal_digit, first_decimal, parse-decimal}
 use Rattle.std.proofs.lemmas.Str.{IsUtf8-from_ascii}
 use Rattle.std.proofs.lemmas.Str.Parse.{IsNumeralModel, numerals_by_value, tells_digits, without_leading_plus_none}
-use Rattle.job_files.specs.Names.{is_canonical}
+use Rattle.decimals.specs.Canonical.{is_canonical}
 
 canonical_above : (s : List ℕ) → 48 < get_or s 0 0 → is_canonical s ≡ true
 canonical_above [] h = refl
