@@ -1,9 +1,9 @@
 #!/usr/bin/env bash
 # Runs all rows and tests by `rt try`, and each program on its stored run: what is compiled is run, and nothing is proved. It says
 # where `rt version` is none of the kits that the README names; then comes what failed, and a line for each crate. The last line is
-# 'N passed, M failed', where a stored run counts as one, and so does docs/TRUSTED.md, which must not be stale; the exit status is
-# 0 only where none failed. As many crates are tried at a time as there are processors, or as RT_JOBS says; each takes up to 2 GB
-# of memory.
+# 'N passed, M failed', where a stored run counts as one, and so do docs/TRUSTED.md, which must not be stale, and the names and
+# options that documents and comments tell of, which must be there; the exit status is 0 only where none failed. As many crates are
+# tried at a time as there are processors, or as RT_JOBS says; each takes up to 2 GB of memory.
 set -u
 cd "$(dirname "${BASH_SOURCE[0]}")/.." || exit 2
 echo "tests by rt try: nothing is proved here (bash .ci/run proves)"
@@ -18,11 +18,14 @@ passed=0
 failed=0
 lanes=${RT_JOBS:-$(nproc)}
 running=0
-if python3 tools/trusted.py --check; then
-    passed=1
-else
-    failed=1
-fi
+for check in "tools/trusted.py --check" tools/documents.py; do
+    # shellcheck disable=SC2086
+    if python3 $check; then
+        passed=$((passed + 1))
+    else
+        failed=$((failed + 1))
+    fi
+done
 
 # Crates beside the gate are tried in a copy of the repository, in which they are crates as others.
 copy=$(dirname "$(BESIDE_COPY=$folder/copy bash tools/beside.sh test_surface path)") || exit 2

@@ -38,6 +38,7 @@ connection, where there is one, `closed entries E`. The pages of printer K are w
 Sessions that fail are told on standard error.
 A PLACE is file:PATH, a file, a device or a pipe; folder:PATH, where each job becomes a file of its own; or
 socket://A.B.C.D[:PORT], a printer on the network that takes octets as they are, at port 9100 without :PORT.
+N, SECONDS, MINUTES and OCTETS are 1 to 4294967295 where nothing else is said.
 
 Examples:
   lpd_server serve spool.toml --port 515 --keep-room
@@ -59,38 +60,38 @@ pub(crate) fn serve<'a>(alloc: Global) -> Result<Command<'a>, AllocError>
     ensures { IfOk result (λ command. IsCommand command serve_app) }
 {
     let about = "Serves the queues of a configuration to the network";
-    let bind = "The IPv4 address to listen on [default: 127.0.0.1]";
+    let bind = "The IPv4 address to listen on, 0.0.0.0 for all [default: 127.0.0.1]";
     let out = "The directory of the printers' files [default: .]";
-    let sessions = "How many connections are served at once: 1 to 64 [default: 8]";
-    let connections = "Ends after so many connections [default: none is the last]";
-    let rotate = "Rotates the account after each so many connections";
-    let silence = "Ends a session whose peer is silent for so many seconds";
-    let per_host = "Serves at most so many connections of one address at once";
-    let slowest = "Ends a session whose peer sends less than so many octets a second for a minute";
+    let sessions = "Serves at most N connections at once: 1 to 64 [default: 8]";
+    let connections = "Exits after N connections [default: never]";
+    let rotate = "Rotates the account after every N connections, for which all wait";
+    let silence = "Ends a session whose peer sends nothing, or reads nothing, for SECONDS";
+    let per_host = "Serves at most N connections of one address at once";
+    let slowest = "Ends a session whose peer sends fewer than OCTETS a second for a minute";
     let keep_room = "Rotates the account as soon as no job is held, and has new jobs wait for that";
     let allow = "Lets in this network alone, and each other that is named so, as 10.0.0.0/8";
     let control = "Makes a Unix socket at PATH where the server is looked after";
-    let patience = "Fails a job whose network printer isn't reached for MINUTES, 1 or more";
-    let silent = "Fails a job whose network printer takes nothing for SECONDS, 1 or more";
+    let patience = "Fails a job whose network printer isn't reached for MINUTES";
+    let silent = "Fails a job whose network printer takes nothing for SECONDS";
     let spool =
         "Keeps each job in a file of DIR until it is printed, so that it outlives the server";
-    let restart = "Starts a queue again SECONDS, 1 or more, after a printer of it failed";
+    let restart = "Starts a queue again SECONDS after a printer of it failed";
     let words = vec![in alloc;
         word(alloc, "config", "CONFIG", CONFIG),
         listening_port(alloc),
-        option(alloc, "bind", "BIND", bind),
+        option(alloc, "bind", "ADDRESS", bind),
         option(alloc, "out", "DIR", out),
         number_option(
             alloc,
             "sessions",
-            "SESSIONS",
+            "N",
             sessions,
             ValueParser::signed(1, 64)
         ),
-        count(alloc, "connections", "CONNECTIONS", connections),
-        count(alloc, "rotate", "ROTATE", rotate),
+        count(alloc, "connections", "N", connections),
+        count(alloc, "rotate", "N", rotate),
         count(alloc, "silence", "SECONDS", silence),
-        count(alloc, "per-host", "SESSIONS", per_host),
+        count(alloc, "per-host", "N", per_host),
         count(alloc, "slowest", "OCTETS", slowest),
         flag(alloc, "keep-room", keep_room),
         repeated(alloc, "allow", "NETWORK", allow),
