@@ -7,12 +7,14 @@ ghost use Rattle.server_edge.specs.declared.desk.Serves.TheVariants.{All, NoJobs
 
 use crate::ending::Ending;
 use crate::house::House;
+use crate::job_lines::{Outcome, SessionNotes};
 use crate::served::Served;
 use job_disk::DiskFolder;
 use job_files::JobEnd;
 use kept_requests::Keeping;
 use log::{Log, warn};
 use lpd_commands::{OctetRead, OctetWrite};
+use noted_requests::Noting;
 use program_edge::{Limits, StreamReader, StreamWriter};
 use request_session::{Input, Requests, serve_with};
 use server_edge::{Serves, Visit, keep_asking, send_in_pieces};
@@ -141,12 +143,13 @@ impl<R: Files<File = File> + Clock + Wait + Log, E: SpoolLedger, K: Ledger, H: L
         }
     }
 
-    /// Has the files of jobs that were removed taken away.
+    /// Has the files of jobs that were removed taken away, and tells of these jobs where each has a line.
     pub(crate) fn end_removed(&self, jobs: Vec<u64>) {
-        if let Some(kept) = &self.kept {
-            for job in jobs {
+        for job in jobs {
+            if let Some(kept) = &self.kept {
                 kept.end(self.rt, job, JobEnd::Removed);
             }
+            self.tell_job(job, Outcome::Removed);
         }
     }
 
@@ -217,14 +220,19 @@ impl<R: Files<File = File> + Clock + Wait + Log, E: SpoolLedger, K: Ledger, H: L
         serves: Serves,
     ) -> SessionSeat<E, K, H> {
         let number = seat.number();
-        let mut seated = Seated::new(self.rt, &self.spool, seat);
+        let seated = Seated::new(self.rt, &self.spool, seat);
+        let notes = SessionNotes::new(self.rt, &self.job_log);
         let Some(kept) = &self.kept else {
-            self.serve_all(&mut seated, number, serves);
-            return seated.into_seat();
+            let mut noting = Noting::new(seated, notes);
+            self.serve_all(&mut noting, number, serves);
+            let Noting { inner, .. } = noting;
+            return inner.into_seat();
         };
-        let mut keeping = Keeping::new(self.alloc, seated, DiskFolder::new(&kept.disk));
-        self.serve_all(&mut keeping, number, serves);
-        let Keeping { inner, .. } = keeping;
+        let keeping = Keeping::new(self.alloc, seated, DiskFolder::new(&kept.disk));
+        let mut noting = Noting::new(keeping, notes);
+        self.serve_all(&mut noting, number, serves);
+        let Noting { inner, .. } = noting;
+        let Keeping { inner, .. } = inner;
         inner.into_seat()
     }
 }

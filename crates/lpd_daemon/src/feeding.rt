@@ -1,6 +1,7 @@
 //! The thread that has the spool take the jobs that its folder has kept.
 
 use crate::house::House;
+use crate::job_lines::SessionNotes;
 use crate::keeping::Kept;
 use crate::owner::Owner;
 use crate::stored::{FedFolder, StoredJobs};
@@ -8,6 +9,7 @@ use kept_recovery::{Fed, feed_one};
 use kept_requests::Keeping;
 use log::{Log, warn};
 use lpd_values::Refusal;
+use noted_requests::Noting;
 use session::{Seated, SessionEnd, SessionSeat};
 use shared_spool::SpoolLedger;
 use std::fs::{File, Files};
@@ -51,8 +53,11 @@ fn waits_for_room(fed: Fed) -> bool {
     )
 }
 
-/// The seat of whoever feeds, with the hand that has the file which is being fed.
-type Feeder<'a, R, E, K, H> = Keeping<Seated<'a, R, E, K, H>, FedFolder<'a, R>>;
+/// The seat of whoever feeds, with the hand that has the file which is being fed, and what is told of its job.
+type Feeder<'a, R, E, K, H> = Noting<
+    Keeping<Seated<'a, R, E, K, H>, FedFolder<'a, R>>,
+    SessionNotes<'a, R>,
+>;
 
 impl<R: Files<File = File> + Clock + Log + Wait, E: SpoolLedger, K: Ledger, H: Ledger> House<
     '_,
@@ -94,11 +99,12 @@ impl<R: Files<File = File> + Clock + Log + Wait, E: SpoolLedger, K: Ledger, H: L
         if !self.has_room(&owner, octets) {
             return false;
         }
-        feeder.hand.folder.take(number);
+        feeder.inner.hand.folder.take(number);
         let fed = feed_one(rt, alloc, &mut store, feeder, number);
-        let is_passed = feeder.hand.folder.is_passed();
-        feeder.hand.let_go();
-        if let Some(fault) = feeder.hand.folder.take_fault() {
+        let hand = &mut feeder.inner.hand;
+        let is_passed = hand.folder.is_passed();
+        hand.let_go();
+        if let Some(fault) = hand.folder.take_fault() {
             warn!(rt; "{fault}: the job is printed again after the next start");
         }
         if !is_passed && (waits_for_room(fed) || self.ending.is_over()) {
@@ -119,7 +125,8 @@ impl<R: Files<File = File> + Clock + Log + Wait, E: SpoolLedger, K: Ledger, H: L
             return seat;
         };
         let seated = Seated::new(self.rt, &self.spool, seat);
-        let mut feeder = Keeping::new(self.alloc, seated, FedFolder::new(&kept.disk));
+        let keeping = Keeping::new(self.alloc, seated, FedFolder::new(&kept.disk));
+        let mut feeder = Noting::new(keeping, SessionNotes::new(self.rt, &self.job_log));
         for _ in self.rt.forever() {
             if self.ending.stops() || self.ending.is_over() {
                 break;
@@ -134,7 +141,8 @@ impl<R: Files<File = File> + Clock + Log + Wait, E: SpoolLedger, K: Ledger, H: L
             }
         }
         kept.settle(self.rt);
-        let Keeping { inner, .. } = feeder;
+        let Noting { inner, .. } = feeder;
+        let Keeping { inner, .. } = inner;
         inner.into_seat()
     }
 }

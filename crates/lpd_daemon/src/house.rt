@@ -1,17 +1,21 @@
 //! What all threads of a server share.
 
 use crate::ending::Ending;
+use crate::job_lines::{JobLog, Outcome};
 use crate::keeping::Kept;
 use crate::oversight::Oversight;
 use crate::posts::Posts;
 use crate::restarting::Restarts;
 use crate::rotating::Rotations;
+use log::Log;
 use mio::Waker;
 use program_edge::{Limits, PrinterLimits};
 use server_edge::Desk;
 use shared_spool::{SharedSpool, SpoolLedger};
 use std::alloc::Global;
+use std::rt::Clock;
 use std::str;
+use std::sync::Wait;
 use std::sync::ledger::Ledger;
 
 /// What all threads of a server share. Whoever runs the server owns it, and lends it to each.
@@ -36,6 +40,8 @@ pub(crate) struct House<'a, R, E: SpoolLedger, K: Ledger, H: Ledger> {
     pub(crate) ending: Ending,
     /// Where jobs are kept until they are printed, if they are.
     pub(crate) kept: Option<Kept<'a, R>>,
+    /// What has a line of the log for each job, if it is asked for.
+    pub(crate) job_log: Option<JobLog>,
 }
 
 impl<R, E: SpoolLedger, K: Ledger, H: Ledger> House<'_, R, E, K, H> {
@@ -47,5 +53,14 @@ impl<R, E: SpoolLedger, K: Ledger, H: Ledger> House<'_, R, E, K, H> {
     /// The name of a queue, of which each octet is a character of ASCII.
     pub(crate) fn queue_name(&self, queue: u32) -> &str {
         str::from_utf8(self.oversight.config.name_of(queue)).unwrap_or("")
+    }
+}
+
+impl<R: Clock + Log + Wait, E: SpoolLedger, K: Ledger, H: Ledger> House<'_, R, E, K, H> {
+    /// Tells what has become of a job that isn't held any more, where each has a line of the log.
+    pub(crate) fn tell_job(&self, job: u64, outcome: Outcome) {
+        if let Some(job_log) = &self.job_log {
+            job_log.end(self.rt, job, outcome);
+        }
     }
 }

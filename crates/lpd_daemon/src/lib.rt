@@ -15,6 +15,7 @@ mod ending;
 mod faults;
 mod feeding;
 mod house;
+mod job_lines;
 mod keeping;
 mod lines;
 mod listening;
@@ -42,7 +43,10 @@ mod watching;
 pub use control_socket::{OpenFault, SocketFile};
 pub use counter::Counter;
 pub use faults::Fault;
+pub use job_lines::JOB_LINES;
 pub use printer_worker::{PrintSink, SinkFault};
-pub use program_edge::{Limits, MOST_SESSIONS, Place, PrinterLimits, PrinterPlace, Settings};
+pub use program_edge::{
+    Limits, LogForm, MOST_SESSIONS, Place, PrinterLimits, PrinterPlace, Settings,
+};
 pub use serving::{Plan, serve};
 pub use sink::{Explains, FileSink};

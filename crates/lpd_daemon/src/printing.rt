@@ -5,6 +5,7 @@ ghost use Rattle.lpd_daemon.specs.Keeping.{end_of};
 
 use crate::device::{Device, DeviceSink, PrinterFile};
 use crate::house::House;
+use crate::job_lines::Outcome;
 use crate::outlet::PatientFile;
 use crate::places::Opened;
 use crate::sink::{Explains, FileSink};
@@ -145,10 +146,11 @@ impl<
         if let (Err(SinkFault), Some(cause)) = (left, self.sink.cause()) {
             warn!(house.rt; "printer {printer}: a job that was printed is not in its folder: {cause}");
         }
-        if let (Some(kept), Some(job)) = (&house.kept, self.job.take()) {
-            if let Some(end) = end_of(how, left.is_ok()) {
+        if let (Some(job), Some(end)) = (self.job.take(), end_of(how, left.is_ok())) {
+            if let Some(kept) = &house.kept {
                 kept.end(house.rt, job, end);
             }
+            house.tell_job(job, Outcome::from(end));
         }
         left
     }

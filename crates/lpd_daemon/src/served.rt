@@ -3,6 +3,7 @@
 use job_disk::DiskFolder;
 use kept_requests::{Cause, Keeping};
 use log::{Log, warn};
+use noted_requests::Noting;
 use session::Seated;
 use shared_spool::SpoolLedger;
 use std::fs::{File, Files};
@@ -25,6 +26,16 @@ impl<R: Wait, E: SpoolLedger, K: Ledger, H: Ledger> Served for Seated<'_, R, E, 
     }
 
     fn let_go<L: Log>(&mut self, _rt: &L, _peer: SocketAddr) {}
+}
+
+impl<Q: Served, N> Served for Noting<Q, N> {
+    fn take_removed(&mut self) -> Option<Vec<u64>> {
+        self.inner.take_removed()
+    }
+
+    fn let_go<L: Log>(&mut self, rt: &L, peer: SocketAddr) {
+        self.inner.let_go(rt, peer);
+    }
 }
 
 impl<Q: Served, R: Files<File = File> + Wait> Served for Keeping<Q, DiskFolder<'_, R>> {

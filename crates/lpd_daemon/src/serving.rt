@@ -15,6 +15,7 @@ use crate::crew::{Entrance, Returned};
 use crate::ending::Ending;
 use crate::faults::Fault;
 use crate::house::House;
+use crate::job_lines::JobLog;
 use crate::keeping::Kept;
 use crate::lines::{PrintedLine, print_or_tell};
 use crate::listening::{Gate, listen};
@@ -273,6 +274,7 @@ where
         let restarts = Restarts::new(alloc, queues, self.settings.restart_seconds)?;
         let copy = copy_of(alloc, &config)?;
         let oversight = Oversight::new(rt, alloc, copy, pipes, &mut counter)?;
+        let job_log = JobLog::open(alloc, self.settings.log_jobs, config.max_jobs())?;
         let opened = SharedSpool::<E, K, H>::new(alloc, blanks, config, sessions + OTHERS);
         let opened = opened.map_err(AllocError::from)?;
         let roles = Roles::deal(opened.sessions, opened.printers)?;
@@ -293,6 +295,7 @@ where
             oversight,
             ending: Ending::new(),
             kept: self.kept,
+            job_log,
         };
         let gate = Gate {
             lobby: self.lobby,

@@ -7,11 +7,11 @@ ghost use Rattle.lpd_words.specs.Outcome.{IfEnded};
 
 use log::sink::Console;
 use log::{Level, Log, Logged, error, info};
-use lpd_daemon::{Counter, OpenFault, Plan};
+use log_lines::{LineLog, LineQueue, LogForm};
+use lpd_daemon::{Counter, JOB_LINES, OpenFault, Plan};
 use lpd_words::{ControlRequest, Outcome};
 use program_edge::{
-    FaultName, LineLog, LineQueue, Settings, StreamReader, StreamWriter, fill_standard_descriptors,
-    tell, tell_cause,
+    FaultName, Settings, StreamReader, StreamWriter, fill_standard_descriptors, tell, tell_cause,
 };
 use std::alloc::Global;
 use std::fs::{File, Files};
@@ -30,14 +30,10 @@ const LINES: usize = 256;
 /// The longest time that the end waits until the log is written, in seconds.
 const PATIENCE_SECONDS: u64 = 2;
 
-/// What is logged at the most: at a terminal also why a file can't be opened or an address can't be
-/// listened on, in a line before the fault.
-fn most_told(is_terminal: bool) -> Level {
-    if is_terminal {
-        Level::Info
-    } else {
-        Level::Warn
-    }
+/// What is logged at the most. For information are why a file can't be opened or an address can't be listened on, in a line before the
+/// fault, and what becomes of jobs.
+fn most_told(informs: bool) -> Level {
+    if informs { Level::Info } else { Level::Warn }
 }
 
 /// Does what the words ask for, but for serving and for commands to a server.
@@ -63,12 +59,13 @@ fn control(rt: &HostRuntime, request: &ControlRequest) -> u8
 
 /// Starts the thread that writes what is logged, so that no other waits for whoever reads that. It
 /// isn't joined: its last write may wait for ever.
-fn start_log<R: Threads + Wait + Copy + Send + 'static, W: Write + Drop + Send + 'static>(
+fn start_log<R: Clock + Threads + Wait + Copy + Send + 'static, W: Write + Drop + Send + 'static>(
     rt: &R,
     alloc: Global,
+    form: LogForm,
     out: W,
 ) -> io::Result<Arc<LineQueue>> {
-    let queue = Arc::new(alloc, LineQueue::new(alloc, LINES))?;
+    let queue = Arc::new(alloc, LineQueue::new(alloc, LINES, form))?;
     let lines = Arc::try_clone(&queue)?;
     let host = *rt;
     let writer = thread::spawn(rt, move || {
@@ -168,14 +165,22 @@ fn main(rt: HostRuntime) -> ExitCode {
         Outcome::Ended(status) => code(status),
         Outcome::Control(request) => code(control(&rt, &request)),
         Outcome::Serve { config, settings } => {
-            let Ok(queue) = start_log(&rt, alloc, rt.stderr()) else {
+            let Ok(queue) = start_log(&rt, alloc, settings.log, rt.stderr()) else {
                 let mut faults = StreamWriter::new(rt.stderr());
                 // Where standard error can't be written, the status alone tells.
                 let _ = tell(alloc, &FaultName::Memory, &mut faults);
                 return code(4);
             };
-            let level = most_told(rt.stderr().is_terminal());
-            let logged = Logged::new(rt, level, LineLog::new(&rt, alloc, &queue));
+            let is_terminal = rt.stderr().is_terminal();
+            let level = most_told(is_terminal || settings.log_jobs);
+            let lines = LineLog::new(&rt, alloc, &queue);
+            // For information: the lines of jobs, and at a terminal all.
+            let lines = if is_terminal {
+                lines
+            } else {
+                lines.informed_by(JOB_LINES)
+            };
+            let logged = Logged::new(rt, level, lines);
             let status = if filled {
                 serve(&logged, &rt, config, settings, rt.stdout())
             } else {

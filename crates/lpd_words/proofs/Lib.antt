@@ -4,6 +4,8 @@ mod CommandLemmas
 mod ControlLemmas
 mod DataFileLemmas
 mod EnvelopeLemmas
+mod ListLemmas
 mod OrderLemmas
 mod PrinterLemmas
+mod QuestionLemmas
 mod ServingLemmas

@@ -2,14 +2,21 @@
 use Rattle.std.proofs.Common.{◌≡◌, ◌∙◌, ◌<◌, ◌^◌, inl, inr, sym, refl, ap, arith, slice_index, ℕ, List, Option, Some, None, Result, Ok, Err, IfOk, IfErr, option_map, unwrap_or, codes}
 use Rattle.std.specs.Borrow.{Bor}
 use Rattle.std.specs.Str.Parse.{ParsesUnsigned, digits_value, without_leading_plus}
-use Rattle.clap.specs.Words.{Row, Text, TriesOne, one_of}
+use Rattle.clap.specs.Words.{Row, Text, TriesOne, first_of, one_of}
+use Rattle.lpd_commands.specs.declared.command.Command.{Command}
+use Rattle.lpd_commands.specs.declared.command.Command.TheVariants.{PrintWaiting, Receive, State, Remove}
 use Rattle.lpd_words.specs.Asked.{IsAsked}
+use Rattle.lpd_words.specs.Questions.{IsQuery}
 use Rattle.lpd_words.specs.Values.{IsGiven}
 use Rattle.lpd_words.specs.Refused.{AsksNothing, HasNoCount, HasNoLimit, HasNoPrinters, LacksServing}
+use Rattle.lpd_words.specs.Serving.{IsLog}
 use Rattle.lpd_words.specs.declared.envelope.WordFault.{WordFault}
 use Rattle.lpd_words.specs.declared.envelope.WordFault.TheVariants as envelope
 use Rattle.lpd_words.specs.declared.words.Ask.{Ask}
-use Rattle.lpd_words.specs.declared.words.Ask.TheVariants.{Input, Check, Replay, Send, Serve, Control}
+use Rattle.program_edge.specs.Forms.{IsFormName}
+use Rattle.program_edge.specs.declared.settings.LogForm.{LogForm}
+use Rattle.program_edge.specs.declared.settings.LogForm.TheVariants.{Journal, Plain, Time}
+use Rattle.lpd_words.specs.declared.words.Ask.TheVariants.{Input, Check, Replay, Send, Question, Serve, Control}
 
 -- the text of an option, or another where it isn't there
 pub text_or : (o : Option (Bor Text)) (first : Option Text) (other : Bor Text) → option_map (λ s. s.now) o ≡ first → (unwrap_or o other).now ≡ unwrap_or first other.now
@@ -55,23 +62,38 @@ third name other is e = ap (λ (t : Text). slice_index t 2) (sym is ∙ e)
 below : (n : ℕ) → n < 114 → 114 ≡ n → ⊥
 below n small e = absurd (omega (arith, small, e))
 
+-- the command that serves asks no server
+no_query : (name : Text) (rows : List Row) (command : Command) → name ≡ codes "serve" → IsQuery name rows command → ⊥
+no_query name rows (PrintWaiting queue) is h =
+    below 97 (omega arith) (third name (codes "start") is h.0)
+no_query name rows (Receive queue) is h = absurd h
+no_query name rows (State queue list long) is h =
+    below 97 (omega arith) (third name (codes "state") is h.0)
+no_query name rows (Remove queue agent list) is h =
+    below 109 (omega arith) (third name (codes "remove") is h.0)
+
 -- words that ask to serve, and don't say how, ask for nothing
 no_server : (name : Text) (rows : List Row) → name ≡ codes "serve" → LacksServing rows envelope.Missing → (asked : Ask) → IsAsked (Some (name, rows)) asked → ⊥
 no_server name rows is lacks Input h = absurd h
-no_server name rows is lacks (Check config sizes printers) h =
+no_server name rows is lacks (Check config sizes printers spool) h =
     below 101 (omega arith) (third name (codes "check") is h.0)
 no_server name rows is lacks (Replay config script) h =
     below 112 (omega arith) (third name (codes "replay") is h.0)
 no_server name rows is lacks (Send sending envelope) h =
     below 110 (omega arith) (third name (codes "send") is h.0)
+no_server name rows is lacks (Question question) h =
+    no_query name rows question.command is h.query
 no_server name rows is lacks (Serve config settings) h = lacks settings h.2
 no_server name rows is lacks (Control request) h =
     below 110 (omega arith) (third name (codes "control") is h.0)
 
 pub asks_no_server : (name : Text) (rows : List Row) (fault : WordFault) → name ≡ codes "serve" → LacksServing rows fault → AsksNothing (Some (name, rows)) fault
 asks_no_server name rows envelope.Address is lacks = (is, lacks)
+asks_no_server name rows envelope.Server is lacks = absurd lacks
+asks_no_server name rows envelope.Line is lacks = absurd lacks
 asks_no_server name rows (envelope.Network text) is lacks = (is, lacks)
 asks_no_server name rows (envelope.Control text) is lacks = inl (is, lacks)
+asks_no_server name rows (envelope.Log text) is lacks = (is, lacks)
 asks_no_server name rows (envelope.Printer text) is lacks = (inl is, lacks)
 asks_no_server name rows (envelope.PrinterTwice text) is lacks = (inl is, lacks)
 asks_no_server name rows envelope.Command is lacks = absurd lacks
@@ -94,8 +116,11 @@ asks_no_check name rows (envelope.Printer text) is lacks = (inr is, lacks)
 asks_no_check name rows (envelope.PrinterTwice text) is lacks = (inr is, lacks)
 asks_no_check name rows envelope.Memory is lacks = tt
 asks_no_check name rows envelope.Address is lacks = absurd lacks
+asks_no_check name rows envelope.Server is lacks = absurd lacks
+asks_no_check name rows envelope.Line is lacks = absurd lacks
 asks_no_check name rows (envelope.Network text) is lacks = absurd lacks
 asks_no_check name rows (envelope.Control text) is lacks = absurd lacks
+asks_no_check name rows (envelope.Log text) is lacks = absurd lacks
 asks_no_check name rows envelope.Command is lacks = absurd lacks
 asks_no_check name rows envelope.Missing is lacks = absurd lacks
 asks_no_check name rows envelope.Queue is lacks = absurd lacks
@@ -103,3 +128,15 @@ asks_no_check name rows envelope.Host is lacks = absurd lacks
 asks_no_check name rows envelope.User is lacks = absurd lacks
 asks_no_check name rows envelope.Files is lacks = absurd lacks
 asks_no_check name rows envelope.Number is lacks = absurd lacks
+
+-- a text that names no form of the log's lines is none of an option that names one
+pub no_log : (rows : List Row) (text : Text) → first_of (codes "log") rows ≡ Some text → ((form : LogForm) → IsFormName text form → ⊥) → (form : LogForm) → IsLog rows form → ⊥
+no_log rows text is none Plain h =
+    let bad : Some text ≡ None = sym is ∙ h in
+    cc
+no_log rows text is none Time h =
+    let same : Some text ≡ Some (codes "time") = sym is ∙ h in
+    none Time cc
+no_log rows text is none Journal h =
+    let same : Some text ≡ Some (codes "journal") = sym is ∙ h in
+    none Journal cc

@@ -1,21 +1,22 @@
 -- What the words ask for, by what clap reads of them.
-use Rattle.std.specs.Prelude.{◌≡◌, ◌≤◌, ◌<◌, List, Option, Some, None, codes, length, map}
+use Rattle.std.specs.Prelude.{◌≡◌, ◌≤◌, ◌<◌, List, Option, Some, None, codes, length, map, option_map}
 use Rattle.std.specs.List.{join_with_byte}
 use Rattle.clap.specs.Words.{Row, Text, all_of, first_of}
 use Rattle.control_lines.specs.Commands.{Means}
 use Rattle.control_lines.specs.declared.command.Command.{Command}
 use Rattle.lpd_words.specs.Naming.{IsEnvelope}
+use Rattle.lpd_words.specs.Questions.{IsQuestion, IsServer}
 use Rattle.lpd_words.specs.Serving.{ArePrinters, IsServing}
 use Rattle.lpd_words.specs.Values.{IsFlag, IsNumber}
 use Rattle.lpd_words.specs.declared.words.Ask.{Ask}
-use Rattle.lpd_words.specs.declared.words.Ask.TheVariants.{Input, Check, Replay, Send, Serve, Control}
+use Rattle.lpd_words.specs.declared.words.Ask.TheVariants.{Input, Check, Replay, Send, Question, Serve, Control}
 use Rattle.lpd_words.specs.declared.words.Sending.{Sending}
 use Rattle.lpd_words.specs.declared.controlling.ControlRequest.{ControlRequest}
 use Rattle.program_edge.specs.declared.settings.TheConstants.{MOST_CONTROL_PATH}
 
 -- a job has the words of these rows
 pub record IsSending (rows : List Row) (sending : Sending) : Type 0 where
-  pub port : IsNumber rows (codes "port") sending.port
+  pub server : IsServer rows sending.server
   pub queue : first_of (codes "queue") rows ≡ Some sending.queue.now
   pub number : IsNumber rows (codes "number") sending.number
   pub host : first_of (codes "host") rows ≡ Some sending.host.now
@@ -39,14 +40,16 @@ pub record IsControlRequest (rows : List Row) (request : ControlRequest) : Type 
 -- what the command of this name with the words of these rows asks for
 abbrev pub IsAskedBy : Text → List Row → Ask → Type 0
 IsAskedBy name rows Input = ⊥
-IsAskedBy name rows (Check config sizes printers) =
+IsAskedBy name rows (Check config sizes printers spool) =
     (name ≡ codes "check") × (first_of (codes "config") rows ≡ Some config.now)
     × IsFlag rows (codes "sizes") sizes × ArePrinters rows printers.items
+    × (option_map (λ path. path.now) spool ≡ first_of (codes "spool") rows)
 IsAskedBy name rows (Replay config script) =
     (name ≡ codes "replay") × (first_of (codes "config") rows ≡ Some config.now)
     × (first_of (codes "script") rows ≡ Some script.now)
 IsAskedBy name rows (Send sending envelope) =
     (name ≡ codes "send") × IsSending rows sending × IsEnvelope sending envelope
+IsAskedBy name rows (Question question) = IsQuestion name rows question
 IsAskedBy name rows (Serve config settings) =
     (name ≡ codes "serve") × (first_of (codes "config") rows ≡ Some config.now)
     × IsServing rows settings
@@ -54,7 +57,7 @@ IsAskedBy name rows (Control request) = (name ≡ codes "control") × IsControlR
 
 -- a check is asked for, and something is said of printers
 abbrev pub ChecksPrinters : Ask → Type 0
-ChecksPrinters (Check config sizes printers) = 0 < length printers.items
+ChecksPrinters (Check config sizes printers spool) = 0 < length printers.items
 ChecksPrinters asked = ⊥
 
 -- what words ask for: what their command asks for, and without one what the input asks

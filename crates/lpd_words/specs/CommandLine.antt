@@ -2,12 +2,13 @@
 use Rattle.std.specs.Prelude.{◌∷◌, List, codes, pos, true, []}
 use Rattle.clap.specs.Words.{App, Rule, new_app}
 use Rattle.clap.specs.declared.builder.value_parser.ValueParser.TheVariants as parser
-use Rattle.lpd_words.specs.Rules.{flag, number, with_commands, with_rules, word, words}
+use Rattle.lpd_words.specs.Questions.{remove_app, server_option, server_port, start_app, state_app}
+use Rattle.lpd_words.specs.Rules.{flag, number, option, with_commands, with_rules, word, words}
 use Rattle.lpd_words.specs.Serving.{printer, serve_app}
 
 -- the words and options of `check`
 abbrev pub check_words : List Rule
-check_words = word (codes "config") ∷ flag (codes "sizes") ∷ printer ∷ []
+check_words = word (codes "config") ∷ flag (codes "sizes") ∷ printer ∷ option (codes "spool") ∷ []
 
 abbrev pub check_app : App
 check_app = with_rules (new_app (codes "check")) check_words
@@ -19,12 +20,11 @@ replay_words = word (codes "config") ∷ word (codes "script") ∷ []
 abbrev pub replay_app : App
 replay_app = with_rules (new_app (codes "replay")) replay_words
 
--- the words of `send`
+-- the words and options of `send`
 abbrev pub send_words : List Rule
 send_words =
-    number (codes "port") (parser.Signed (pos 1) (pos 65535)) ∷ word (codes "queue")
-    ∷ number (codes "number") (parser.Signed (pos 0) (pos 999)) ∷ word (codes "host")
-    ∷ word (codes "user") ∷ words (codes "file") ∷ []
+    server_port ∷ word (codes "queue") ∷ number (codes "number") (parser.Signed (pos 0) (pos 999))
+    ∷ word (codes "host") ∷ word (codes "user") ∷ words (codes "file") ∷ server_option ∷ []
 
 abbrev pub send_app : App
 send_app = with_rules (new_app (codes "send")) send_words
@@ -46,8 +46,9 @@ program_app = record {
 }
 
 abbrev pub commands : List App
-commands = check_app ∷ replay_app ∷ send_app ∷ serve_app ∷ control_app ∷ []
+commands =
+    check_app ∷ replay_app ∷ send_app ∷ state_app ∷ remove_app ∷ start_app ∷ serve_app ∷ control_app ∷ []
 
--- the command line: nothing, or check, replay, send, serve or control with its words; help and the version
+-- the command line: nothing, or one of these commands with its words; help and the version
 abbrev pub command_line : App
 command_line = with_commands program_app commands

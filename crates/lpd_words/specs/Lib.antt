@@ -4,10 +4,12 @@ pub mod Causes
 pub mod CommandLine
 pub mod Controlling
 pub mod DataFiles
+pub mod Folders
 pub mod Naming
 pub mod Order
 pub mod Outcome
 pub mod Places
+pub mod Questions
 pub mod Refused
 pub mod Rules
 pub mod Serving

@@ -10,20 +10,23 @@ use Rattle.clap.specs.declared.error.kind.ErrorKind.TheVariants.{OutOfMemory}
 use Rattle.control_lines.specs.Commands.{Refuses}
 use Rattle.control_lines.specs.declared.command.LineFault.TheVariants as line
 use Rattle.lpd_commands.specs.Written.{command_has_line}
+use Rattle.lpd_commands.specs.declared.command.Command.{Command}
 use Rattle.lpd_commands.specs.declared.command.Command.TheVariants.{Receive}
 use Rattle.lpd_values.specs.Kept.{is_operand}
 use Rattle.lpd_values.specs.Kinds.{is_word_octet}
 use Rattle.lpd_values.specs.declared.limits.TheConstants.{MAX_FILES}
 use Rattle.lpd_words.specs.Asked.{ChecksPrinters, IsAsked}
-use Rattle.lpd_words.specs.Serving.{AreAllowed, AreLimits, AreOfDifferentPrinters, ArePrinterLimits, IsAddress}
+use Rattle.lpd_words.specs.Serving.{AreAllowed, AreLimits, AreOfDifferentPrinters, ArePrinterLimits, IsLog}
 use Rattle.program_edge.specs.declared.settings.TheConstants.{MOST_CONTROL_PATH}
-use Rattle.lpd_words.specs.Values.{IsGiven, IsGivenOr, IsLimit}
+use Rattle.lpd_words.specs.Values.{HasNoNumber, IsAddress, IsGiven, IsGivenOr, IsLimit}
 use Rattle.lpd_words.specs.Asked.{IsControlRequest, IsSending}
+use Rattle.lpd_words.specs.Questions.{IsQuery, IsQuestion}
 use Rattle.lpd_words.specs.Serving.{IsServing}
 use Rattle.lpd_words.specs.CommandLine.{command_line}
 use Rattle.lpd_words.specs.declared.envelope.WordFault.{WordFault}
 use Rattle.lpd_words.specs.declared.envelope.WordFault.TheVariants as envelope
 use Rattle.lpd_words.specs.declared.controlling.ControlRequest.{ControlRequest}
+use Rattle.lpd_words.specs.declared.queue_question.QueueQuestion.{QueueQuestion}
 use Rattle.lpd_words.specs.declared.words.Ask.{Ask}
 use Rattle.lpd_words.specs.declared.words.Sending.{Sending}
 use Rattle.lpd_words.specs.declared.words.Unread.{Unread}
@@ -33,6 +36,7 @@ use Rattle.program_edge.specs.declared.networks.Network.{Network}
 use Rattle.program_edge.specs.Places.{IsPrinterText}
 use Rattle.program_edge.specs.declared.places.PrinterPlace.{PrinterPlace}
 use Rattle.program_edge.specs.declared.settings.Limits.{Limits}
+use Rattle.program_edge.specs.declared.settings.LogForm.{LogForm}
 use Rattle.program_edge.specs.declared.settings.PrinterLimits.{PrinterLimits}
 use Rattle.program_edge.specs.declared.settings.Settings.{Settings}
 
@@ -55,23 +59,57 @@ IsWrong s envelope.Files =
     (length s.files.items ≡ 0) ⊎ (MAX_FILES < length s.files.items)
 IsWrong s envelope.Number = 999 < s.number
 IsWrong s envelope.Address = ⊥
+IsWrong s envelope.Server = ⊥
+IsWrong s envelope.Line = ⊥
 IsWrong s (envelope.Network text) = ⊥
 IsWrong s (envelope.Control text) = ⊥
+IsWrong s (envelope.Log text) = ⊥
 IsWrong s (envelope.Printer text) = ⊥
 IsWrong s (envelope.PrinterTwice text) = ⊥
 IsWrong s envelope.Command = ⊥
 IsWrong s envelope.Missing = ⊥
 IsWrong s envelope.Memory = Unit {0}
 
--- the words of a job aren't all there, or memory was refused
+-- no address is given by a text that is one, nor left out
+abbrev pub HasNoAddress : Text → List Row → Type 0
+HasNoAddress id rows = (address : Ipv4Addr) → IsAddress id rows address → ⊥
+
+-- the port of a server isn't there, or its address is none
+abbrev pub LacksServer : List Row → WordFault → Type 0
+LacksServer rows envelope.Missing = HasNoNumber rows (codes "port")
+LacksServer rows envelope.Server = HasNoAddress (codes "server") rows
+LacksServer rows fault = ⊥
+
+-- the words of a job aren't all there, its server's address is none, or memory was refused
 abbrev pub LacksWords : List Row → WordFault → Type 0
 LacksWords rows envelope.Missing = (s : Sending) → IsSending rows s → ⊥
+LacksWords rows envelope.Server = LacksServer rows envelope.Server
 LacksWords rows envelope.Memory = Unit {0}
 LacksWords rows fault = ⊥
 
--- no address is given by a text that is one, nor left out
-abbrev pub HasNoAddress : List Row → Type 0
-HasNoAddress rows = (address : Ipv4Addr) → IsAddress rows address → ⊥
+-- a server is asked for something by the command of this name
+abbrev pub Asks : Text → List Row → Type 0
+Asks name rows = (command : Command) × IsQuery name rows command
+
+-- the words of what a server is asked for aren't all there, or memory was refused
+abbrev pub LacksQuery : Text → List Row → WordFault → Type 0
+LacksQuery name rows envelope.Missing = (command : Command) → IsQuery name rows command → ⊥
+LacksQuery name rows envelope.Memory = Unit {0}
+LacksQuery name rows fault = ⊥
+
+-- what a server is asked for has no line
+abbrev pub LacksLine : Text → List Row → Type 0
+LacksLine name rows =
+    (command : Command) × IsQuery name rows command × (command_has_line command ≡ false)
+
+-- the words of a question aren't all there, or are wrong
+abbrev pub LacksQuestion : Text → List Row → WordFault → Type 0
+LacksQuestion name rows envelope.Missing =
+    (question : QueueQuestion) → IsQuestion name rows question → ⊥
+LacksQuestion name rows envelope.Line = LacksLine name rows
+LacksQuestion name rows envelope.Server = Asks name rows × HasNoAddress (codes "server") rows
+LacksQuestion name rows envelope.Memory = Unit {0}
+LacksQuestion name rows fault = ⊥
 
 -- an option is there, and no number of 64 bits
 abbrev pub HasNoCount : List Row → Text → Type 0
@@ -103,6 +141,13 @@ HasNoControl rows (envelope.Control text) = IsTooLong (codes "control") rows (st
 HasNoControl rows envelope.Memory = Unit {0}
 HasNoControl rows fault = ⊥
 
+-- a text names no form of the log's lines, and so the option names none; or memory was refused
+abbrev pub HasNoLog : List Row → WordFault → Type 0
+HasNoLog rows (envelope.Log text) =
+    (first_of (codes "log") rows ≡ Some (string_bytes text)) × ((form : LogForm) → IsLog rows form → ⊥)
+HasNoLog rows envelope.Memory = Unit {0}
+HasNoLog rows fault = ⊥
+
 -- the option for printers gives this text behind others, which say this of printers, of each once
 abbrev pub IsBehind : List Row → List PrinterPlace → Text → Type 0
 IsBehind rows printers text =
@@ -132,10 +177,11 @@ HasNoSessions rows = (sessions : ℕ) → IsGivenOr 8 rows (codes "sessions") se
 
 -- the words of a server aren't all there, or its address isn't one
 abbrev pub LacksServing : List Row → WordFault → Type 0
-LacksServing rows envelope.Address = HasNoAddress rows
+LacksServing rows envelope.Address = HasNoAddress (codes "bind") rows
 LacksServing rows envelope.Missing = (s : Settings) → IsServing rows s → ⊥
 LacksServing rows (envelope.Network text) = HasNoNetworks rows (envelope.Network text)
 LacksServing rows (envelope.Control text) = HasNoControl rows (envelope.Control text)
+LacksServing rows (envelope.Log text) = HasNoLog rows (envelope.Log text)
 LacksServing rows (envelope.Printer text) = HasNoPrinters rows (envelope.Printer text)
 LacksServing rows (envelope.PrinterTwice text) = HasNoPrinters rows (envelope.PrinterTwice text)
 LacksServing rows envelope.Memory = Unit {0}
@@ -144,7 +190,18 @@ LacksServing rows fault = ⊥
 -- words ask to serve, and give no address
 abbrev pub NamesNoAddress : Option (Text × List Row) → Type 0
 NamesNoAddress None = ⊥
-NamesNoAddress (Some met) = (met.0 ≡ codes "serve") × HasNoAddress met.1
+NamesNoAddress (Some met) = (met.0 ≡ codes "serve") × HasNoAddress (codes "bind") met.1
+
+-- words ask to send a job or ask a server for something, and name no server
+abbrev pub NamesNoServer : Option (Text × List Row) → Type 0
+NamesNoServer None = ⊥
+NamesNoServer (Some met) =
+    ((met.0 ≡ codes "send") ⊎ Asks met.0 met.1) × HasNoAddress (codes "server") met.1
+
+-- words ask a server for something that has no line
+abbrev pub NamesNoLine : Option (Text × List Row) → Type 0
+NamesNoLine None = ⊥
+NamesNoLine (Some met) = LacksLine met.0 met.1
 
 -- words ask to serve, and name no networks
 abbrev pub NamesNoNetworks : Option (Text × List Row) → WordFault → Type 0
@@ -186,6 +243,11 @@ NamesNoControl None fault = ⊥
 NamesNoControl (Some met) fault =
     ((met.0 ≡ codes "serve") × HasNoControl met.1 fault) ⊎ ((met.0 ≡ codes "control") × HasNoPath met.1 fault)
 
+-- words ask to serve, and name no form of the log's lines
+abbrev pub NamesNoLog : Option (Text × List Row) → WordFault → Type 0
+NamesNoLog None fault = ⊥
+NamesNoLog (Some met) fault = (met.0 ≡ codes "serve") × HasNoLog met.1 fault
+
 -- words ask to send a command that is none
 abbrev pub NamesNoCommand : Option (Text × List Row) → WordFault → Type 0
 NamesNoCommand None fault = ⊥
@@ -197,11 +259,15 @@ NamesNoJob None fault = ⊥
 NamesNoJob (Some met) fault =
     (met.0 ≡ codes "send") × ((s : Sending) × IsSending met.1 s × IsWrong s fault)
 
--- why what clap reads of words asks for nothing: a word isn't there, or those of a job, a server or a command for one are wrong
+-- why what clap reads of words asks for nothing: a word isn't there, or those of a job, a question, a server or a command
+-- for one are wrong
 abbrev pub AsksNothing : Option (Text × List Row) → WordFault → Type 0
 AsksNothing met envelope.Address = NamesNoAddress met
+AsksNothing met envelope.Server = NamesNoServer met
+AsksNothing met envelope.Line = NamesNoLine met
 AsksNothing met (envelope.Network text) = NamesNoNetworks met (envelope.Network text)
 AsksNothing met (envelope.Control text) = NamesNoControl met (envelope.Control text)
+AsksNothing met (envelope.Log text) = NamesNoLog met (envelope.Log text)
 AsksNothing met (envelope.Printer text) = NamesNoPrinters met (envelope.Printer text)
 AsksNothing met (envelope.PrinterTwice text) = NamesNoPrinters met (envelope.PrinterTwice text)
 AsksNothing met envelope.Command = NamesNoCommand met envelope.Command

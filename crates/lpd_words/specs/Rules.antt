@@ -33,6 +33,13 @@ number id range = record (word id) { parser = Some range }
 abbrev pub words : Text → Rule
 words id = record (word id) { range = Some (record { start_inclusive = 1; end_inclusive = 52 }) }
 
+-- words that don't have to be there, up to 510: a line of 1,023 octets has room for no more
+abbrev pub optional_words : Text → Rule
+optional_words id = record (new_rule id) {
+  value_names = 1;
+  range = Some (record { start_inclusive = 1; end_inclusive = 510 });
+}
+
 -- an option with one value, --id
 abbrev pub option : Text → Rule
 option id = record (new_rule id) { long = Some id; value_names = 1 }

@@ -2,17 +2,17 @@
 use Rattle.std.specs.Prelude.{◌≡◌, ◌≢◌, ◌≤◌, ◌∷◌, List, None, Option, Some, codes, length, option_map, pos, true, [], unwrap_or}
 use Rattle.std.specs.Int.NonZero.{non_zero_u64_get}
 use Rattle.std.specs.List.{AllPairs, AllZip}
-use Rattle.std.specs.Net.Grammar.{IsIpv4Text}
-use Rattle.std.specs.declared.net.ipv4_addr.Ipv4Addr.{Ipv4Addr}
 use Rattle.clap.specs.Words.{App, Row, Rule, Text, all_of, first_of, new_app}
 use Rattle.clap.specs.declared.builder.value_parser.ValueParser.TheVariants as parser
 use Rattle.lpd_words.specs.Rules.{count, flag, number_option, option, repeated, with_rules, word}
-use Rattle.lpd_words.specs.Values.{IsFlag, IsGiven, IsGivenOr, IsLimit, IsNumber}
+use Rattle.lpd_words.specs.Values.{IsAddress, IsFlag, IsGiven, IsGivenOr, IsLimit, IsNumber}
 use Rattle.program_edge.specs.Networks.{NameNetworks}
 use Rattle.program_edge.specs.declared.networks.Network.{Network}
 use Rattle.program_edge.specs.Places.{IsPrinterText}
 use Rattle.program_edge.specs.declared.places.PrinterPlace.{PrinterPlace}
 use Rattle.program_edge.specs.declared.settings.Limits.{Limits}
+use Rattle.program_edge.specs.declared.settings.LogForm.{LogForm}
+use Rattle.program_edge.specs.declared.settings.LogForm.TheVariants.{Journal, Plain, Time}
 use Rattle.program_edge.specs.declared.settings.PrinterLimits.{PrinterLimits}
 use Rattle.program_edge.specs.declared.settings.Settings.{Settings}
 use Rattle.program_edge.specs.declared.settings.TheConstants.{MOST_CONTROL_PATH}
@@ -36,15 +36,11 @@ serve_words =
     ∷ sessions ∷ count (codes "connections") ∷ count (codes "rotate") ∷ count (codes "silence")
     ∷ count (codes "per-host") ∷ count (codes "slowest") ∷ flag (codes "keep-room")
     ∷ repeated (codes "allow") ∷ option (codes "control") ∷ printer ∷ count (codes "patience")
-    ∷ count (codes "printer-silence") ∷ count (codes "restart") ∷ option (codes "spool") ∷ []
+    ∷ count (codes "printer-silence") ∷ count (codes "restart") ∷ option (codes "spool") ∷ option (codes "log")
+    ∷ flag (codes "log-jobs") ∷ []
 
 abbrev pub serve_app : App
 serve_app = with_rules (new_app (codes "serve")) serve_words
-
--- the address that is listened on: 127.0.0.1 where no other is given
-abbrev pub IsAddress : List Row → Ipv4Addr → Type 0
-IsAddress rows address =
-    IsIpv4Text (unwrap_or (first_of (codes "bind") rows) (codes "127.0.0.1")) address
 
 -- a server's peers may do what these rows say
 pub record AreLimits (rows : List Row) (limits : Limits) : Type 0 where
@@ -65,6 +61,12 @@ IsControl rows None = first_of (codes "control") rows ≡ None
 IsControl rows (Some path) =
     (first_of (codes "control") rows ≡ Some path) × (length path ≤ MOST_CONTROL_PATH)
 
+-- the form of the log's lines: the one that the option names, if it is there
+abbrev pub IsLog : List Row → LogForm → Type 0
+IsLog rows Plain = first_of (codes "log") rows ≡ None
+IsLog rows Time = first_of (codes "log") rows ≡ Some (codes "time")
+IsLog rows Journal = first_of (codes "log") rows ≡ Some (codes "journal")
+
 -- no two of these are for one printer
 abbrev pub AreOfDifferentPrinters : List PrinterPlace → Type 0
 AreOfDifferentPrinters printers =
@@ -83,7 +85,7 @@ pub record ArePrinterLimits (rows : List Row) (limits : PrinterLimits) : Type 0 
 -- a server runs as these rows say: with 8 sessions at once, in the directory . where they don't say it
 pub record IsServing (rows : List Row) (settings : Settings) : Type 0 where
   pub port : IsNumber rows (codes "port") settings.port
-  pub bind : IsAddress rows settings.bind
+  pub bind : IsAddress (codes "bind") rows settings.bind
   pub out : settings.out.now ≡ unwrap_or (first_of (codes "out") rows) (codes ".")
   pub sessions : IsGivenOr 8 rows (codes "sessions") settings.sessions
   pub connections : IsGiven 64 rows (codes "connections") settings.connections
@@ -96,3 +98,5 @@ pub record IsServing (rows : List Row) (settings : Settings) : Type 0 where
   pub printer_limits : ArePrinterLimits rows settings.printer_limits
   pub restart : IsLimit rows (codes "restart") (option_map non_zero_u64_get settings.restart_seconds)
   pub spool : option_map (λ path. path.now) settings.spool ≡ first_of (codes "spool") rows
+  pub log : IsLog rows settings.log
+  pub log_jobs : IsFlag rows (codes "log-jobs") settings.log_jobs

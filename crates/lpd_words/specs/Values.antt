@@ -1,8 +1,10 @@
 -- What the text of a word is worth, by what clap reads of it.
 use Rattle.std.specs.Prelude.{◌≡◌, ◌<◌, ◌^◌, ℕ, Bool, List, Option, Some, None, codes, false, true}
 use Rattle.std.specs.Prelude.{unwrap_or}
+use Rattle.std.specs.Net.Grammar.{IsIpv4Text}
+use Rattle.std.specs.declared.net.ipv4_addr.Ipv4Addr.{Ipv4Addr}
 use Rattle.std.specs.Str.Parse.{IsNumeral, digits_value, without_leading_plus}
-use Rattle.clap.specs.Words.{Row, Text, one_of}
+use Rattle.clap.specs.Words.{Row, Text, first_of, one_of}
 
 -- a word that was read is this number of at most `bits` bits, in decimal digits
 abbrev pub IsNumberOf : ℕ → List Row → Text → ℕ → Type 0
@@ -38,3 +40,7 @@ abbrev pub IsFlag : List Row → Text → Bool → Type 0
 IsFlag rows id is =
     (one_of id rows ≡ None → is ≡ false) × (one_of id rows ≡ Some (codes "true") → is ≡ true)
     × (one_of id rows ≡ Some (codes "false") → is ≡ false)
+
+-- the address that an option names: 127.0.0.1 where it isn't there
+abbrev pub IsAddress : Text → List Row → Ipv4Addr → Type 0
+IsAddress id rows address = IsIpv4Text (unwrap_or (first_of id rows) (codes "127.0.0.1")) address

@@ -6,7 +6,8 @@ ghost use Rattle.lpd_words.specs.CommandLine.{check_app, command_line, control_a
 ghost use Rattle.lpd_words.specs.Rules.{IsCommand};
 
 use crate::printers::PRINTER;
-use crate::rules::{flag, number, plain, repeated, with_words, word, words};
+use crate::questions::{QUEUE, remove, server_option, server_port, start, state};
+use crate::rules::{flag, number, option, plain, repeated, with_words, word, words};
 use crate::serving::serve;
 use clap::Command;
 use clap::builder::ValueParser;
@@ -23,6 +24,8 @@ Examples:
   lpd_server check spool.toml
   lpd_server replay spool.toml day.script
   lpd_server send 515 lp 1 myhost ann letter.txt
+  lpd_server state 515 lp
+  lpd_server remove 515 lp ann 1
   lpd_server serve spool.toml --port 515
   lpd_server control spool.control status
   lpd_server < both
@@ -33,7 +36,7 @@ Exit status:
   2  the configuration can't be used (faults 50 to 55)
   3  the script can't be run (fault 70)
   4  memory, a file or the network failed (faults 12, 71, 72 and 73)
-  5  a job wasn't taken (faults 60 to 63), or a command for a server was refused (fault 60)
+  5  a job or a question wasn't taken (faults 60 to 63), or a command for a server was refused (fault 60)
 
 A fault is one line on standard error: `fault`, its number, its name and what it is about.
 The keys of a configuration and all faults: docs/OPERATING.md; a configuration with remarks: docs/example.toml.";
@@ -44,11 +47,14 @@ With --sizes a line more for each queue, as: queue lp jobs 622
 So many jobs fit into the account, each as large as the queue allows, between two moments without held jobs.
 With --printer, whose PLACE `serve --help` tells, a line more for each printer, as: printer 1 socket://10.0.0.9:9100
 A printer without a PLACE prints to a file of the directory that `serve --out DIR` names: printer 2 DIR/printer-2
+With --spool at last a line for DIR, as: spool DIR waiting 3 failed 0, or where it isn't there: spool DIR will be made
+Nothing is made or changed. Where `serve` couldn't take DIR the fault is told that it would have.
 
 Examples:
   lpd_server check spool.toml
   lpd_server check spool.toml --sizes
   lpd_server check spool.toml --printer 1=socket://10.0.0.9
+  lpd_server check spool.toml --spool /var/spool/hurgwaye
 
 The keys of a configuration: docs/OPERATING.md, and with remarks docs/example.toml.";
 
@@ -62,8 +68,9 @@ const MORE_OF_SEND: &str = "\
 Files are sent in the order given, each as it is. When the server has taken them all, prints `sent` and the
 number in three digits. A word that begins with - stands behind a word --.
 
-Example:
-  lpd_server send 515 lp 1 myhost ann letter.txt";
+Examples:
+  lpd_server send 515 lp 1 myhost ann letter.txt
+  lpd_server send 515 lp 2 myhost ann letter.txt --server 10.0.0.5";
 
 const MORE_OF_CONTROL: &str = "\
 The socket is the one that the server has made: `serve --control PATH`. Prints what the server answers. The words
@@ -95,10 +102,12 @@ fn check<'a>(alloc: Global) -> Result<Command<'a>, AllocError>
 {
     let about = "Reads a configuration, and says what spool it is for";
     let sizes = "Says how many jobs fit into the account";
+    let spool = "Says how many jobs wait in DIR, where a server keeps them, and how many failed";
     let words = vec![in alloc;
         word(alloc, "config", "CONFIG", CONFIG),
         flag(alloc, "sizes", sizes),
         repeated(alloc, "printer", "K=PLACE", PRINTER),
+        option(alloc, "spool", "DIR", spool),
     ]?;
     with_words(plain(alloc, "check", about, MORE_OF_CHECK), words)
 }
@@ -119,20 +128,19 @@ fn replay<'a>(alloc: Global) -> Result<Command<'a>, AllocError>
 fn send<'a>(alloc: Global) -> Result<Command<'a>, AllocError>
     ensures { IfOk result (λ command. IsCommand command send_app) }
 {
-    let about = "Sends a job to a server at 127.0.0.1";
-    let port = "The port of a server at 127.0.0.1: 1 to 65535";
-    let queue = "The name of a queue: 1 to 1022 octets, no white space";
+    let about = "Sends a job to a server";
     let job = "The number of the job: 0 to 999";
     let host = "The host that sends the job: 1 to 120 octets, no white space";
     let user = "The user that sends the job: 1 to 255 octets in one line";
     let files = "The files to print: 1 to 52, none of them empty";
     let words = vec![in alloc;
-        number(alloc, "port", "PORT", port, ValueParser::signed(1, 65_535)),
-        word(alloc, "queue", "QUEUE", queue),
+        server_port(alloc),
+        word(alloc, "queue", "QUEUE", QUEUE),
         number(alloc, "number", "NUMBER", job, ValueParser::signed(0, 999)),
         word(alloc, "host", "HOST", host),
         word(alloc, "user", "USER", user),
         words(alloc, "file", "FILE", files),
+        server_option(alloc),
     ]?;
     with_words(plain(alloc, "send", about, MORE_OF_SEND), words)
 }
@@ -169,6 +177,9 @@ pub(crate) fn command<'a>(alloc: Global) -> Result<Command<'a>, AllocError>
         check(alloc)?,
         replay(alloc)?,
         send(alloc)?,
+        state(alloc)?,
+        remove(alloc)?,
+        start(alloc)?,
         serve(alloc)?,
         control(alloc)?,
     ]?;

@@ -24,7 +24,7 @@ pub struct Envelope {
     ghost files_fit: { length control.prints ≤ MAX_FILES },
 }
 
-/// Why words name no job, no server, or no command for one.
+/// Why words name no job, no server, no question or no command for one.
 #[derive(Debug, PartialEq, Eq, Drop, Error)]
 pub enum WordFault {
     /// The queue is no word of 1 to 1,022 octets.
@@ -43,14 +43,23 @@ pub enum WordFault {
     #[error("NUMBER isn't 0 to 999")]
     Number,
     /// The address to listen on isn't one.
-    #[error("BIND isn't four numbers of 0 to 255 with points between")]
+    #[error("ADDRESS isn't four numbers of 0 to 255 with points between")]
     Address,
+    /// The address of a server isn't one.
+    #[error("SERVER isn't four numbers of 0 to 255 with points between")]
+    Server,
+    /// What a server is asked has no line.
+    #[error("QUEUE, AGENT and LIST aren't words without white space in a line of at most 1023 octets")]
+    Line,
     /// This text names no network.
     #[error("'{0}' is no NETWORK: an IPv4 address, or one with / and 0 to 32 behind it, no bit of which is set behind those")]
     Network(String),
     /// The path of a control socket has more octets than one may have.
     #[error("'{0}' is no PATH of a socket: it has more than 107 octets")]
     Control(String),
+    /// This text names no form of the log's lines.
+    #[error("'{0}' is no FORM of the log: time or journal")]
+    Log(String),
     /// This text says nothing of a printer.
     #[error("'{0}' is no K=PLACE: a printer's number from 1, and file:PATH, folder:PATH or socket://A.B.C.D with or without a port :1 to :65535 behind it")]
     Printer(String),

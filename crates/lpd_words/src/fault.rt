@@ -27,6 +27,9 @@ pub enum Fault {
     /// The configuration has no printer of this number, and this text says what it prints to.
     #[error("printer {number} isn't there: {text}")]
     Printer { number: u32, text: String },
+    /// The folder at this path can't be taken to keep jobs.
+    #[error("fault 73 WriteFile {0}")]
+    Folder(String),
 }
 
 impl From<AllocError> for Fault {
@@ -54,7 +57,7 @@ impl Fault {
         match self {
             Fault::Printer { .. } => 1,
             Fault::Run(fault) => fault.status(),
-            Fault::Memory | Fault::Network | Fault::Send(SendFault::Memory) => 4,
+            Fault::Memory | Fault::Network | Fault::Folder(_) | Fault::Send(SendFault::Memory) => 4,
             Fault::Send(_) => 5,
         }
     }

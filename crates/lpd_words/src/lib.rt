@@ -1,14 +1,18 @@
 //! The words of the program: what they ask for, and what is done for each of them.
 #![tactic(auto)]
 
+mod asking;
 mod command;
 mod controlling;
 mod envelope;
 mod fault;
 mod files;
+mod folders;
 mod naming;
 mod places;
 mod printers;
+mod questions;
+mod queue_question;
 mod readers;
 mod rules;
 mod running;
@@ -16,10 +20,12 @@ mod serving;
 mod values;
 mod words;
 
+pub use asking::ask_queue;
 pub use controlling::{ControlFault, ControlRequest, ask_server, control};
 pub use envelope::{Envelope, WordFault};
 pub use fault::Fault;
 pub use files::{check, read_config, read_spool, replay};
 pub use program_edge::{Limits, Settings};
+pub use queue_question::{QueueQuestion, Server};
 pub use running::{Outcome, data_file, run, send, tell_unread};
 pub use words::{Ask, Sending, Unread, read_words, words_of};

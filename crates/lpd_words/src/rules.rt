@@ -4,7 +4,8 @@ ghost use Rattle.std.specs.Prelude.{◌≡◌, IfOk, false, map};
 ghost use Rattle.clap.specs.Words.{app_of, new_app, rule_of};
 ghost use Rattle.clap.specs.declared.builder.command.Command.TheViews.{out-Command as fields_of};
 ghost use Rattle.lpd_words.specs.Rules.{AreLocal, IsCommand, IsWord, count, flag, number};
-ghost use Rattle.lpd_words.specs.Rules.{number_option, option, repeated, with_rules, word, words};
+ghost use Rattle.lpd_words.specs.Rules.{number_option, option, optional_words, repeated, with_rules};
+ghost use Rattle.lpd_words.specs.Rules.{word, words};
 
 use clap::builder::ValueParser;
 use clap::{Arg, ArgAction, Command};
@@ -25,6 +26,21 @@ pub(crate) fn words<'a>(alloc: Global, id: &'a str, name: &'a str, help: &'a str
     ensures { IsWord result (words id.now) }
 {
     word(alloc, id, name, help).num_args(1..=52)
+}
+
+/// Up to 510 words, which don't have to be there.
+pub(crate) fn optional_words<'a>(
+    alloc: Global,
+    id: &'a str,
+    name: &'a str,
+    help: &'a str,
+) -> Arg<'a>
+    ensures { IsWord result (optional_words id.now) }
+{
+    Arg::new(alloc, id)
+        .value_name(name)
+        .help(help)
+        .num_args(1..=510)
 }
 
 /// An option with one value, `--ID NAME`, that may stand several times.

@@ -1,4 +1,4 @@
-//! What the words ask for is done; a job is sent to a server at 127.0.0.1.
+//! What the words ask for is done; a job is sent to a server.
 
 ghost use Rattle.std.specs.Prelude.{◌≡◌, ◌≢◌, ◌≤◌, ◌<◌, ◌⊎◌, [], Err, IfErr, IfOk, IsErr, IsTrue};
 ghost use Rattle.std.specs.Prelude.{OnOk, Some, length, map, string_bytes, take};
@@ -18,17 +18,20 @@ ghost use Rattle.lpd_words.specs.Outcome.{IfControls, IfEnded, IfServes};
 ghost use Rattle.lpd_words.specs.Status.{end_status, status_of};
 ghost use Rattle.lpd_words.specs.Refused.{AsksOfPrinters, IsRefused, IsTaken};
 ghost use Rattle.lpd_words.specs.Unread.{IsUnreadStatus};
-ghost use Rattle.lpd_words.specs.declared.fault.Fault.TheVariants.{Network, Run};
+ghost use Rattle.lpd_words.specs.declared.fault.Fault.TheVariants.{Run};
 ghost use Rattle.lpd_words.specs.declared.running.Outcome.TheVariants.{Ended};
 ghost use Rattle.lpd_words.specs.declared.words.Ask.TheVariants.{Control, Serve};
 ghost use Rattle.lpr_client.specs.Sendable.{is_sendable, is_sendable_file};
 ghost use Rattle.lpr_client.specs.declared.file.DataFile.{DataFile};
 
+use crate::asking::{ask_question, connect, socket_of};
 use crate::controlling::ControlRequest;
 use crate::envelope::Envelope;
 use crate::fault::Fault;
 use crate::files::{check, print, replay};
+use crate::folders::check_folder;
 use crate::naming::three_digits;
+use crate::queue_question::Server;
 use crate::readers::OpenReaders;
 use crate::words::{Ask, Sending, Unread, read_words};
 use log::Log;
@@ -37,9 +40,8 @@ use lpd_script::{read_all, run_input};
 use lpr_client::{DataFile, FileName, Octets, send_job};
 use program_edge::{PrinterPlace, Settings, StreamReader, StreamWriter, tell, tell_cause};
 use std::alloc::{AllocError, Global};
-use std::fs::Files;
-use std::io;
-use std::net::{Ipv4Addr, Net, OpenStream, SocketAddr, TcpStream};
+use std::fs::{File, Files};
+use std::net::Net;
 
 /// The exit status where the words can't be read.
 const UNREAD: u8 = 1;
@@ -155,33 +157,12 @@ fn data_files<R: OpenReaders>(
     Ok(read)
 }
 
-/// Two ends of a connection to this address.
-fn both_ends<R: Net>(rt: &R, address: SocketAddr) -> io::Result<(R::Stream, R::Stream)> {
-    let stream = TcpStream::connect(rt, address)?;
-    let again = stream.try_clone()?;
-    Ok((stream, again))
-}
-
-/// Two ends of a connection to this address. Answers `Network` where it can't be reached; the log
-/// is told why.
-fn connect<R: Net + Log>(rt: &R, address: SocketAddr) -> Result<(R::Stream, R::Stream), Fault>
-    ensures { IfErr result (λ fault. fault ≡ Network) }
-{
-    match both_ends(rt, address) {
-        Ok(ends) => Ok(ends),
-        Err(error) => {
-            tell_cause(rt, &address, Some(error));
-            Err(Fault::Network)
-        }
-    }
-}
-
-/// Sends a job to the server at this port of 127.0.0.1. Answers `Network` where it can't be
+/// Sends a job to this server. Answers `Network` where it can't be
 /// reached, and the faults of `send_job`. The log is told why the connection failed.
 pub fn send<R: Net + Log>(
     alloc: Global,
     rt: &R,
-    port: u16,
+    server: Server,
     envelope: &Envelope,
     files: &[DataFile],
 ) -> Result<(), Fault>
@@ -189,7 +170,7 @@ pub fn send<R: Net + Log>(
         files.now) }
     ensures { IfErr result IsNetworkFault }
 {
-    let address = SocketAddr::from((Ipv4Addr::LOCALHOST, port));
+    let address = socket_of(server);
     let (reader, writer) = connect(rt, address)?;
     let (mut reader, mut writer) = (StreamReader::new(reader), StreamWriter::new(writer));
     let (queue, name, control) = (&envelope.queue, &envelope.name, &envelope.control);
@@ -214,7 +195,7 @@ fn send_files<R: Files + Net + Log, W: OctetWrite>(
     let names = envelope.control.prints.as_slice();
     let files = data_files(alloc, rt, names, sending.files.as_slice())?;
     let line = sent_line(alloc, envelope.control.number)?;
-    send(alloc, rt, sending.port, envelope, files.as_slice())?;
+    send(alloc, rt, sending.server, envelope, files.as_slice())?;
     print(output, line.as_slice())
 }
 
@@ -262,7 +243,7 @@ fn replay_files<R: Files + Log, W: OctetWrite>(
 }
 
 /// Does what is asked for, but for what the standard input asks, for serving, and for commands to a server.
-fn run_asked<R: Files + Net + Log + Alloc<A = Global>, W: OctetWrite>(
+fn run_asked<R: Files<File = File> + Net + Log + Alloc<A = Global>, W: OctetWrite>(
     alloc: Global,
     rt: &R,
     ask: Ask,
@@ -278,9 +259,17 @@ fn run_asked<R: Files + Net + Log + Alloc<A = Global>, W: OctetWrite>(
             config,
             sizes,
             printers,
-        } => check_file(rt, config, sizes, printers.as_slice(), output),
+            spool,
+        } => {
+            check_file(rt, config, sizes, printers.as_slice(), output)?;
+            match spool {
+                Some(path) => check_folder(alloc, rt, path, output),
+                None => Ok(()),
+            }
+        }
         Ask::Replay { config, script } => replay_files(alloc, rt, config, script, output),
         Ask::Send { sending, envelope } => send_files(alloc, rt, &sending, &envelope, output),
+        Ask::Question(question) => ask_question(alloc, rt, &question, output),
     }
 }
 
@@ -307,7 +296,7 @@ fn ended<E: OctetWrite>(alloc: Global, end: Result<(), Fault>, faults: &mut E) -
 /// log is told at INFO which file or address it is about, and why.
 pub fn run<
     'a,
-    R: Files + Net + Log + Alloc<A = Global>,
+    R: Files<File = File> + Net + Log + Alloc<A = Global>,
     I: OctetRead,
     W: OctetWrite,
     E: OctetWrite,

@@ -2,32 +2,31 @@
 
 ghost use Rattle.std.specs.Prelude.{◌≡◌, IfOk, IfErr, codes, option_map};
 ghost use Rattle.clap.specs.Words.{found_of, rows_of};
-ghost use Rattle.lpd_words.specs.Refused.{HasNoAddress, HasNoControl, HasNoLimits, HasNoNetworks, HasNoSessions};
+ghost use Rattle.lpd_words.specs.Refused.{HasNoAddress, HasNoControl, HasNoLimits, HasNoLog, HasNoNetworks, HasNoSessions};
 ghost use Rattle.lpd_words.specs.Refused.{LacksServing};
 ghost use Rattle.lpd_words.specs.Rules.{IsCommand, IsWord};
-ghost use Rattle.lpd_words.specs.Serving.{AreAllowed, AreLimits, IsAddress, IsControl, IsServing};
+ghost use Rattle.lpd_words.specs.Serving.{AreAllowed, AreLimits, IsControl, IsLog, IsServing};
 ghost use Rattle.lpd_words.specs.Serving.{listening_port, serve_app};
-ghost use Rattle.lpd_words.specs.Values.{IsGivenOr};
+ghost use Rattle.lpd_words.specs.Values.{IsAddress, IsGivenOr};
 ghost use Rattle.lpd_words.specs.declared.envelope.WordFault.TheVariants.{Address, Missing};
 
 use crate::command::CONFIG;
 use crate::envelope::WordFault;
 use crate::printers::{PRINTER, printer_limits_of, printers_of};
 use crate::rules::{count, flag, number_option, option, plain, repeated, with_words, word};
-use crate::values::{count_of, flag_of, limit_of, number_of, text_if, text_or, texts_of};
+use crate::values::{
+    address_of, count_of, flag_of, limit_of, number_of, text_if, text_or, texts_of,
+};
 use clap::builder::ValueParser;
 use clap::{Arg, ArgMatches, Command};
 use program_edge::{
-    LEAVE_SECONDS, Limits, MOST_CONTROL_PATH, NO_JOB_SECONDS, Network, ROOM_MS, Settings,
+    LEAVE_SECONDS, Limits, LogForm, MOST_CONTROL_PATH, NO_JOB_SECONDS, Network, ROOM_MS, Settings,
 };
 use std::alloc::{AllocError, Global};
 use std::net::Ipv4Addr;
 
 /// How many connections are served at once where the words don't say it.
 const SESSIONS: u32 = 8;
-
-/// The address that is listened on where the words don't say it.
-const BIND: &str = "127.0.0.1";
 
 /// The directory of the printers' files where the words don't say it.
 const OUT: &str = ".";
@@ -76,18 +75,15 @@ pub(crate) fn serve<'a>(alloc: Global) -> Result<Command<'a>, AllocError>
     let spool =
         "Keeps each job in a file of DIR until it is printed, so that it outlives the server";
     let restart = "Starts a queue again SECONDS after a printer of it failed";
+    let log =
+        "Sets before each line of the log its time, or what systemd's journal reads: FORM is time or journal";
+    let log_jobs = "Logs each job that was received, done, failed, removed or aborted";
     let words = vec![in alloc;
         word(alloc, "config", "CONFIG", CONFIG),
         listening_port(alloc),
         option(alloc, "bind", "ADDRESS", bind),
         option(alloc, "out", "DIR", out),
-        number_option(
-            alloc,
-            "sessions",
-            "N",
-            sessions,
-            ValueParser::signed(1, 64)
-        ),
+        number_option(alloc, "sessions", "N", sessions, ValueParser::signed(1, 64)),
         count(alloc, "connections", "N", connections),
         count(alloc, "rotate", "N", rotate),
         count(alloc, "silence", "SECONDS", silence),
@@ -101,19 +97,21 @@ pub(crate) fn serve<'a>(alloc: Global) -> Result<Command<'a>, AllocError>
         count(alloc, "printer-silence", "SECONDS", silent),
         count(alloc, "restart", "SECONDS", restart),
         option(alloc, "spool", "DIR", spool),
+        option(alloc, "log", "FORM", log),
+        flag(alloc, "log-jobs", log_jobs),
     ]?;
     with_words(plain(alloc, "serve", about, MORE_OF_SERVE), words)
 }
 
 /// The address to listen on. `Address` where the text isn't one.
-fn address_of(matches: &ArgMatches) -> Result<Ipv4Addr, WordFault>
-    ensures address { IfOk result (IsAddress (rows_of (found_of matches.now))) }
+fn bind_of(matches: &ArgMatches) -> Result<Ipv4Addr, WordFault>
+    ensures address { IfOk result (IsAddress (codes "bind") (rows_of (found_of matches.now))) }
     ensures fault { IfErr result (λ fault. (fault ≡ Address)
-        × HasNoAddress (rows_of (found_of matches.now))) }
+        × HasNoAddress (codes "bind") (rows_of (found_of matches.now))) }
 {
-    match text_or(matches, "bind", BIND).parse() {
-        Ok(address) => Ok(address),
-        Err(_) => Err(WordFault::Address),
+    match address_of(matches, "bind") {
+        Some(address) => Ok(address),
+        None => Err(WordFault::Address),
     }
 }
 
@@ -180,6 +178,20 @@ fn control_of<'a>(alloc: Global, matches: &ArgMatches<'a>) -> Result<Option<&'a 
     Ok(Some(path))
 }
 
+/// What stands before each line of the log. `Log` with a text that names no form, and `Memory`.
+fn log_of(alloc: Global, matches: &ArgMatches) -> Result<LogForm, WordFault>
+    ensures form { IfOk result (IsLog (rows_of (found_of matches.now))) }
+    ensures fault { IfErr result (HasNoLog (rows_of (found_of matches.now))) }
+{
+    let Some(text) = text_if(matches, "log") else {
+        return Ok(LogForm::Plain);
+    };
+    match LogForm::read(text) {
+        Some(form) => Ok(form),
+        None => Err(WordFault::Log(String::from_str(alloc, text)?)),
+    }
+}
+
 /// What words say of a server that is to run.
 pub(crate) fn serving_of<'a>(
     alloc: Global,
@@ -190,7 +202,7 @@ pub(crate) fn serving_of<'a>(
 {
     Ok(Settings {
         port: number_of(matches, "port")?,
-        bind: address_of(matches)?,
+        bind: bind_of(matches)?,
         out: text_or(matches, "out", OUT),
         sessions: sessions_of(matches)?,
         connections: count_of(matches, "connections")?,
@@ -203,5 +215,7 @@ pub(crate) fn serving_of<'a>(
         printer_limits: printer_limits_of(matches)?,
         restart_seconds: limit_of(matches, "restart")?,
         spool: text_if(matches, "spool"),
+        log: log_of(alloc, matches)?,
+        log_jobs: flag_of(matches, "log-jobs"),
     })
 }

@@ -1,15 +1,19 @@
 //! What the text of a word is worth, by what `clap` reads of it.
 
-ghost use Rattle.std.specs.Prelude.{◌≡◌, IfOk, IfErr, None, Some, map, option_map, unwrap_or};
+ghost use Rattle.std.specs.Prelude.{◌≡◌, IfOk, IfErr, MatchOption, None, Some, map, option_map, unwrap_or};
 ghost use Rattle.std.specs.Int.NonZero.{non_zero_u64_get};
 ghost use Rattle.clap.specs.Words.{all_of, first_of, found_of, rows_of};
-ghost use Rattle.lpd_words.specs.Refused.{HasNoCount, HasNoLimit};
-ghost use Rattle.lpd_words.specs.Values.{HasNoNumber, IsFlag, IsGiven, IsLimit, IsNumber};
+ghost use Rattle.lpd_words.specs.Refused.{HasNoAddress, HasNoCount, HasNoLimit};
+ghost use Rattle.lpd_words.specs.Values.{HasNoNumber, IsAddress, IsFlag, IsGiven, IsLimit, IsNumber};
 ghost use Rattle.lpd_words.specs.declared.envelope.WordFault.TheVariants.{Missing};
 
 use crate::envelope::WordFault;
 use clap::ArgMatches;
+use std::net::Ipv4Addr;
 use std::num::NonZeroU64;
+
+/// The address that is meant where the words don't say it: this machine's own.
+const LOCAL: &str = "127.0.0.1";
 
 /// The text of a word, which has to be there.
 pub(crate) fn text_of<'a>(matches: &ArgMatches<'a>, id: &str) -> Result<&'a str, WordFault>
@@ -62,6 +66,17 @@ pub(crate) fn text_or<'a>(matches: &ArgMatches<'a>, id: &str, other: &'a str) ->
     ensures { result.now ≡ unwrap_or (first_of id.now (rows_of (found_of matches.now))) other.now }
 {
     matches.get_str(id).unwrap_or(other)
+}
+
+/// The address that an option names, 127.0.0.1 where it isn't there. None where its text is no address.
+pub(crate) fn address_of(matches: &ArgMatches, id: &str) -> Option<Ipv4Addr>
+    ensures { MatchOption result (HasNoAddress id.now (rows_of (found_of matches.now)))
+        (IsAddress id.now (rows_of (found_of matches.now))) }
+{
+    match text_or(matches, id, LOCAL).parse() {
+        Ok(address) => Some(address),
+        Err(_) => None,
+    }
 }
 
 /// The number that an option is, if it is there. `Missing` where it is no number.

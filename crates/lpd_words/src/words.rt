@@ -12,8 +12,10 @@ use crate::command::command;
 use crate::controlling::{ControlRequest, request_of};
 use crate::envelope::{Envelope, WordFault};
 use crate::printers::printers_of;
+use crate::questions::{question_of, server_of};
+use crate::queue_question::{QueueQuestion, Server};
 use crate::serving::serving_of;
-use crate::values::{flag_of, number_of, text_of, texts_of};
+use crate::values::{flag_of, number_of, text_if, text_of, texts_of};
 use clap::error::ErrorKind;
 use clap::{ArgMatches, Command, Error};
 use program_edge::{PrinterPlace, Settings};
@@ -21,11 +23,11 @@ use std::alloc::{AllocError, Global};
 use std::env::Env;
 use std::io;
 
-/// A job that is to be sent to a port of 127.0.0.1.
+/// A job that is to be sent.
 #[derive(Debug, Drop)]
 pub struct Sending<'a> {
-    /// The port, 1 to 65,535.
-    pub port: u16,
+    /// The server that it is sent to.
+    pub server: Server,
     /// The name of the queue.
     pub queue: &'a str,
     /// The job's number, 0 to 999.
@@ -51,6 +53,8 @@ pub enum Ask<'a> {
         /// What single printers print to: each number at most once. Where there are any, what each
         /// printer prints to is said.
         printers: Vec<PrinterPlace<'a>>,
+        /// The folder in which a server is to keep jobs, where it is said what stands in it.
+        spool: Option<&'a str>,
     },
     /// To run the script at a path on the spool that the configuration at a path gives.
     Replay {
@@ -62,6 +66,8 @@ pub enum Ask<'a> {
         sending: Sending<'a>,
         envelope: Envelope,
     },
+    /// To ask a server for a queue's state or a removal, or to start a queue's printers.
+    Question(QueueQuestion),
     /// To serve the queues of the configuration at this path.
     Serve {
         config: &'a str,
@@ -109,14 +115,14 @@ fn sending_of<'a>(alloc: Global, matches: &ArgMatches<'a>) -> Result<Sending<'a>
     ensures read { IfOk result (IsSending (rows_of (found_of matches.now))) }
     ensures fault { IfErr result (LacksWords (rows_of (found_of matches.now))) }
 {
-    let port = number_of(matches, "port")?;
+    let server = server_of(matches)?;
     let queue = text_of(matches, "queue")?;
     let number = number_of(matches, "number")?;
     let host = text_of(matches, "host")?;
     let user = text_of(matches, "user")?;
     let files = texts_of(matches, "file")?;
     Ok(Sending {
-        port,
+        server,
         queue,
         number,
         host,
@@ -139,6 +145,7 @@ fn asked_by<'a>(alloc: Global, name: &str, matches: &ArgMatches<'a>) -> Result<A
                 config,
                 sizes,
                 printers,
+                spool: text_if(matches, "spool"),
             })
         }
         "replay" => {
@@ -157,7 +164,10 @@ fn asked_by<'a>(alloc: Global, name: &str, matches: &ArgMatches<'a>) -> Result<A
             Ok(Ask::Serve { config, settings })
         }
         "control" => Ok(Ask::Control(request_of(alloc, matches)?)),
-        _ => Err(WordFault::Missing),
+        _ => {
+            let question = question_of(alloc, name, matches)?;
+            Ok(Ask::Question(question))
+        }
     }
 }
 

@@ -1,3 +1,4 @@
+pub mod AskLemmas
 pub mod Clear
 pub mod Granting
 pub mod JobReading

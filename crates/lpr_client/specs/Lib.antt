@@ -1,3 +1,4 @@
+pub mod Asking
 pub mod Granted
 pub mod OneJob
 pub mod Parts

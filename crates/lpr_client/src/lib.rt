@@ -2,6 +2,7 @@
 //! a queue's state and for removals; and how a job is sent, acknowledgement by acknowledgement.
 #![tactic(auto)]
 
+mod asking;
 mod file;
 mod job;
 mod part;
@@ -9,10 +10,11 @@ mod questions;
 mod send;
 mod sendable;
 
+pub use asking::{AskFault, ask, ask_silently};
 pub use control_file::Control;
 pub use file::DataFile;
 pub use job::job_bytes;
-pub use lpd_commands::{FileName, OctetFault, OctetRead, OctetWrite, Octets, Words};
-pub use questions::{remove_bytes, state_bytes};
+pub use lpd_commands::{Command, FileName, OctetFault, OctetRead, OctetWrite, Octets, Words};
+pub use questions::{has_line, remove_bytes, state_bytes};
 pub use send::{SendFault, send_job};
 pub use sendable::is_sendable;

@@ -20,7 +20,7 @@ fn has_space(octets: &[u8]) -> bool
 }
 
 /// Whether all octets are ones of a word.
-fn all_word_octets(octets: &[u8]) -> bool
+pub(crate) fn all_word_octets(octets: &[u8]) -> bool
     ensures { result ≡ list_all is_word_octet octets.now }
 {
     all_text(octets) && !has_space(octets)

@@ -1,42 +1,52 @@
 -- What a call leaves of the job in hand.
-use Rattle.std.proofs.Common.{◌≡◌, ◌⊎◌, inl, inr, ⊎_elim, ℕ, List, [], ◌∷◌, ◌++◌, Bool, true, false, Option, None, Some, Vec, refl, ap, ◌∙◌, sym, subst, arith, true≢false}
-use Rattle.std.specs.Prelude.{IsTrue, is_some, not, ◌&&◌}
+use Rattle.std.proofs.Common.{◌≡◌, ◌⊎◌, inl, inr, ⊎_elim, ℕ, List, [], ◌∷◌, ◌++◌, Option, None, Some, refl, ap, ◌∙◌, sym, subst, arith, true, true≢false}
+use Rattle.std.specs.Prelude.{IsTrue, is_some, not, ◌&&◌, ◌≤◌}
 use Rattle.std.proofs.lemmas.Bool.{and_parts}
-use Rattle.std.specs.declared.alloc.Global.{Global}
 use Rattle.kept_jobs.specs.Folder.{Elapses, SomeOf}
+use Rattle.memory_folder.specs.declared.file.DiskFile.{DiskFile}
 use Rattle.memory_folder.specs.declared.memory.Passed.{Passed}
-use Rattle.memory_folder.specs.Memory.{LeftSince, moment_of, octets_in, passed_in}
+use Rattle.memory_folder.specs.Memory.{LeftSince, MayHold, MayLeave, moment_of, passed_in}
 
-pub passed_more : (ps : List Passed) (p : Passed) → passed_in (ps ++ p ∷ []) ≡ (p.job, p.octets.items) ∷ passed_in ps
+pub passed_more : (ps : List Passed) (p : Passed) → passed_in (ps ++ p ∷ []) ≡ (p.job, p.file.octets.items) ∷ passed_in ps
 passed_more [] p = refl
-passed_more (q ∷ ps) p = ap (λ l. l ++ (q.job, q.octets.items) ∷ []) (passed_more ps p)
+passed_more (q ∷ ps) p = ap (λ l. l ++ (q.job, q.file.octets.items) ∷ []) (passed_more ps p)
 
-some_here : (o : Option (Vec ℕ Global)) → is_some o ≡ true → (v : Vec ℕ Global) × (o ≡ Some v)
+some_here : (o : Option DiskFile) → is_some o ≡ true → (file : DiskFile) × (o ≡ Some file)
 some_here None h = absurd (true≢false (sym h))
-some_here (Some v) h = (v, refl)
+some_here (Some file) h = (file, refl)
 
-none_here : (o : Option (Vec ℕ Global)) → not (is_some o) ≡ true → o ≡ None
+none_here : (o : Option DiskFile) → not (is_some o) ≡ true → o ≡ None
 none_here None h = refl
-none_here (Some v) h = absurd (true≢false (sym h))
+none_here (Some file) h = absurd (true≢false (sym h))
 
-pub crash_at_publish : (partial taken whole : Option (Vec ℕ Global)) → taken ≡ partial → IsTrue (is_some partial && not (is_some whole)) → (c : Option (List ℕ)) → c ≡ octets_in taken → (c ≡ octets_in whole) ⊎ SomeOf (λ octets. octets_in partial ≡ Some octets) c
-crash_at_publish partial taken whole same ready c is =
-    let v = some_here partial (and_parts (is_some partial) (not (is_some whole)) ready).0 in
-    inr (v.0.items, ap octets_in v.1, is ∙ ap octets_in (same ∙ v.1))
+-- publishing this file, where there is no whole one
 
-began : (octets : List ℕ) → Elapses (moment_of None) (moment_of (Some octets)) (λ t c. LeftSince None t c) (λ t c. LeftSince (Some octets) t c) (λ c. c ≡ Some octets)
-began octets = record {
-  later = omega arith;
+published : (file : DiskFile) (c : Option (List ℕ)) → MayLeave (Some file) c → MayLeave None c ⊎ SomeOf (λ octets. MayHold (Some file) octets) c
+published file c (inl gone) = inl gone.1
+published file c (inr there) = inr there
+
+pub crash_at_publish : (partial taken whole : Option DiskFile) → taken ≡ partial → IsTrue (is_some partial && not (is_some whole)) → (c : Option (List ℕ)) → MayLeave taken c → MayLeave whole c ⊎ SomeOf (λ octets. MayHold partial octets) c
+crash_at_publish partial taken whole same ready c left =
+    let both = and_parts (is_some partial) (not (is_some whole)) ready in
+    let v = some_here partial both.0 in
+    subst (λ p. MayLeave whole c ⊎ SomeOf (λ octets. MayHold p octets) c) (sym v.1)
+    (subst (λ w. MayLeave w c ⊎ SomeOf (λ octets. MayHold (Some v.0) octets) c) (sym (none_here whole both.1))
+    (published v.0 c (subst (λ t. MayLeave t c) (same ∙ v.1) left)))
+
+least : (n : ℕ) → 0 ≤ n
+least n = omega arith
+
+began : (file : DiskFile) → Elapses (moment_of None) (moment_of (Some file)) (λ t c. LeftSince None t c) (λ t c. LeftSince (Some file) t c) (λ c. MayLeave (Some file) c)
+began file = record {
+  later = least (moment_of (Some file));
   nothing_else = λ t c le left. ⊎_elim (λ now. inr now) (λ none. inl (inr none)) left;
   keeps = λ t c le left. inr (omega arith, ⊎_elim (λ now. now) (λ none. none.1) left);
 }
 
-pub time_at_publish : (partial taken whole : Option (Vec ℕ Global)) → taken ≡ partial → IsTrue (is_some partial && not (is_some whole)) →
-    Elapses (moment_of (octets_in whole)) (moment_of (octets_in taken)) (λ t c. LeftSince (octets_in whole) t c) (λ t c. LeftSince (octets_in taken) t c) (λ c. c ≡ octets_in taken)
+pub time_at_publish : (partial taken whole : Option DiskFile) → taken ≡ partial → IsTrue (is_some partial && not (is_some whole)) →
+    Elapses (moment_of whole) (moment_of taken) (λ t c. LeftSince whole t c) (λ t c. LeftSince taken t c) (λ c. MayLeave taken c)
 time_at_publish partial taken whole same ready =
     let both = and_parts (is_some partial) (not (is_some whole)) ready in
     let v = some_here partial both.0 in
-    let old : octets_in whole ≡ None = ap octets_in (none_here whole both.1) in
-    let new : octets_in taken ≡ Some v.0.items = ap octets_in (same ∙ v.1) in
-    subst (λ w. Elapses (moment_of w) (moment_of (octets_in taken)) (λ t c. LeftSince w t c) (λ t c. LeftSince (octets_in taken) t c) (λ c. c ≡ octets_in taken)) (sym old)
-    (subst (λ w. Elapses (moment_of None) (moment_of w) (λ t c. LeftSince None t c) (λ t c. LeftSince w t c) (λ c. c ≡ w)) (sym new) (began v.0.items))
+    subst (λ w. Elapses (moment_of w) (moment_of taken) (λ t c. LeftSince w t c) (λ t c. LeftSince taken t c) (λ c. MayLeave taken c)) (sym (none_here whole both.1))
+    (subst (λ w. Elapses (moment_of None) (moment_of w) (λ t c. LeftSince None t c) (λ t c. LeftSince w t c) (λ c. MayLeave w c)) (sym (same ∙ v.1)) (began v.0))

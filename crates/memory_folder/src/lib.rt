@@ -1,6 +1,8 @@
-//! A folder in memory for tests, which tells all and fails from some call on.
+//! A folder in memory for tests, which tells all, fails from some call on, and loses in a crash what isn't synced.
 #![tactic(auto)]
 
+mod file;
 mod memory;
 
+pub use file::{Crash, DiskFile};
 pub use memory::{MemoryFolder, Passed};

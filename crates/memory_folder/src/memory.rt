@@ -1,10 +1,11 @@
-//! A folder in memory. Each call is done at once, so a crash leaves what is there: one that has failed stands for one that crashed.
+//! A folder in memory, which fails from some call on as one does whose machine has crashed.
 
-ghost use Rattle.std.specs.Prelude.{◌≡◌, ◌<◌, ◌++◌, ◌&&◌, not, [], ℕ, IfSome, None, Some, OnErr, OnOk, is_some, true, vec_capacity, vec_len};
+ghost use Rattle.std.specs.Prelude.{◌≡◌, ◌<◌, ◌++◌, ◌&&◌, not, [], MatchOption, None, Some, OnOk, is_some, true, vec_capacity, vec_len};
 ghost use Rattle.std.proofs.Common.{inl};
 ghost use Rattle.kept_jobs.specs.Folder.{HasCause, octets_of};
-ghost use Rattle.memory_folder.specs.Memory.{LeftSince, moment_of, octets_in, only_left, passed_in};
+ghost use Rattle.memory_folder.specs.Memory.{LeftSince, MayHold, MayLeave, left_of, moment_of, octets_in, only_left, passed_in};
 
+use crate::file::{Crash, DiskFile};
 use kept_jobs::{Folder, KeepError};
 use std::alloc::{AllocError, Global};
 
@@ -13,16 +14,16 @@ use std::alloc::{AllocError, Global};
 pub struct Passed {
     /// Its number.
     pub job: u64,
-    /// Its octets.
-    pub octets: Vec<u8>,
+    /// Its file.
+    pub file: DiskFile,
 }
 
 /// A folder in memory, as one session has it.
 #[derive(Drop)]
 pub struct MemoryFolder {
     alloc: Global,
-    partial: Option<Vec<u8>>,
-    whole: Option<Vec<u8>>,
+    partial: Option<DiskFile>,
+    whole: Option<DiskFile>,
     passed: Vec<Passed>,
     /// How many more calls go well. After these each call fails, and what is in the folder stays.
     calls: u64,
@@ -51,7 +52,7 @@ fn step(calls: &mut u64, faults: &mut u64, possible: bool) -> Result<(), KeepErr
 }
 
 /// Whether there is a temporary file, and no whole one.
-fn is_ready(partial: &Option<Vec<u8>>, whole: &Option<Vec<u8>>) -> bool
+fn is_ready(partial: &Option<DiskFile>, whole: &Option<DiskFile>) -> bool
     ensures { result ≡ (is_some partial.now && not (is_some whole.now)) }
 {
     partial.is_some() && whole.is_none()
@@ -75,13 +76,15 @@ impl MemoryFolder {
         }
     }
 
-    /// What a crash leaves of the job in hand.
-    pub fn left(&self) -> Option<&[u8]>
-        ensures there { is_some result ≡ is_some self.now.whole }
-        ensures octets { IfSome result (λ octets. octets_in self.now.whole ≡ Some octets.now) }
+    /// What this crash leaves of the job in hand: the octets of its whole file, or no such file.
+    pub fn left(&self, crash: Crash) -> Option<&[u8]>
+        ensures left { MatchOption result (left_of crash self.now.whole ≡ None)
+            (λ octets. left_of crash self.now.whole ≡ Some octets.now) }
+        ensures allowed { MatchOption result (MayLeave self.now.whole None)
+            (λ octets. MayLeave self.now.whole (Some octets.now)) }
     {
         match &self.whole {
-            Some(octets) => Some(octets.as_slice()),
+            Some(file) => file.left(crash),
             None => None,
         }
     }
@@ -99,9 +102,9 @@ impl MemoryFolder {
         ensures same { self.new ≡ record self.old { partial = self.new.partial } }
     {
         match &mut self.partial {
-            Some(partial) => partial.extend_from_slice(octets),
+            Some(file) => file.octets.extend_from_slice(octets),
             None => {
-                self.partial = Some(Vec::from_slice(self.alloc, octets)?);
+                self.partial = Some(DiskFile::new(Vec::from_slice(self.alloc, octets)?));
                 Ok(())
             }
         }
@@ -117,13 +120,13 @@ impl Folder for MemoryFolder {
       passed = passed_in m.passed.items;
     }) };
 
-    ghost may_hold = { λ m octets. octets_in m.partial ≡ Some octets };
+    ghost may_hold = { λ m octets. MayHold m.partial octets };
 
-    ghost may_leave = { λ m c. c ≡ octets_in m.whole };
+    ghost may_leave = { λ m c. MayLeave m.whole c };
 
-    ghost moment = { λ m. moment_of (octets_in m.whole) };
+    ghost moment = { λ m. moment_of m.whole };
 
-    ghost left_since = { λ m t c. LeftSince (octets_in m.whole) t c };
+    ghost left_since = { λ m t c. LeftSince m.whole t c };
 
     ghost faults = { λ m. m.faults };
 
@@ -133,7 +136,7 @@ impl Folder for MemoryFolder {
 
     fn create(&mut self) -> Result<(), KeepError> {
         step(&mut self.calls, &mut self.faults, true)?;
-        self.partial = Some(Vec::new(self.alloc));
+        self.partial = Some(DiskFile::new(Vec::new(self.alloc)));
         self.whole = None;
         Ok(())
     }
@@ -144,7 +147,11 @@ impl Folder for MemoryFolder {
     }
 
     fn sync(&mut self) -> Result<(), KeepError> {
-        step(&mut self.calls, &mut self.faults, true)
+        step(&mut self.calls, &mut self.faults, true)?;
+        if let Some(file) = &mut self.partial {
+            file.synced = file.octets.len();
+        }
+        Ok(())
     }
 
     fn publish(&mut self) -> Result<(), KeepError> {
@@ -156,13 +163,17 @@ impl Folder for MemoryFolder {
     }
 
     fn sync_names(&mut self) -> Result<(), KeepError> {
-        step(&mut self.calls, &mut self.faults, true)
+        step(&mut self.calls, &mut self.faults, true)?;
+        if let Some(file) = &mut self.whole {
+            file.named = true;
+        }
+        Ok(())
     }
 
     fn pass(&mut self, job: u64) {
         self.partial = None;
-        if let Some(octets) = self.whole.take() {
-            self.passed.push_reserved(Passed { job, octets });
+        if let Some(file) = self.whole.take() {
+            self.passed.push_reserved(Passed { job, file });
         }
     }
 
@@ -175,5 +186,5 @@ impl Folder for MemoryFolder {
 
     ghost counts_now = { λ m t c le now. inl now };
 
-    ghost only_now = { λ m c left. only_left (octets_in m.whole) c left };
+    ghost only_now = { λ m c left. only_left m.whole c left };
 }

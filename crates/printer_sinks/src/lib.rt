@@ -22,6 +22,3 @@ pub use memory_dial::{MemoryConnection, MemoryDial, Turn};
 pub use memory_folder::{MemoryFile, MemoryFolder};
 pub use socket::SocketSink;
 pub use stage::Stage;
-
-#[cfg(test)]
-mod tests;

@@ -1,4 +1,5 @@
 -- The words of this crate's contracts.
+pub mod Forms
 pub mod NetworkParts
 pub mod Networks
 pub mod Numerals

@@ -1,7 +1,10 @@
 //! How a server is to run.
 
-ghost use Rattle.std.specs.Prelude.{◌≡◌, [], None, codes, false};
+ghost use Rattle.std.specs.Prelude.{◌≡◌, [], None, IfNone, IfSome, codes, false};
 ghost use Rattle.std.specs.declared.net.ipv4_addr.TheConstants.Ipv4Addr.{LOCALHOST};
+ghost use Rattle.program_edge.specs.Forms.{IsFormName};
+ghost use Rattle.program_edge.specs.declared.settings.LogForm.{LogForm};
+ghost use Rattle.program_edge.specs.declared.settings.LogForm.TheVariants.{Plain};
 
 use crate::networks::Network;
 use crate::places::PrinterPlace;
@@ -25,6 +28,31 @@ pub const ROOM_MS: u64 = 1_000;
 
 /// The most octets that the path of a Unix socket may have: what the system has room for, less the octet 00 behind it.
 pub const MOST_CONTROL_PATH: usize = 107;
+
+/// What stands before each line of a server's log.
+#[derive(Clone, Copy, Debug, PartialEq, Eq)]
+pub enum LogForm {
+    /// Nothing.
+    Plain,
+    /// When it was logged: RFC 3339, in UTC, to the millisecond.
+    Time,
+    /// How grave it is, as systemd's journal reads it: `<3>` to `<7>`.
+    Journal,
+}
+
+impl LogForm {
+    /// The form of this name: `time` or `journal`. None of any other text.
+    pub fn read(text: &str) -> Option<LogForm>
+        ensures form { IfSome result (IsFormName text.now) }
+        ensures none { IfNone result ((form : LogForm) → IsFormName text.now form → ⊥) }
+    {
+        match text {
+            "time" => Some(LogForm::Time),
+            "journal" => Some(LogForm::Journal),
+            _ => None,
+        }
+    }
+}
 
 /// How a server is to run.
 #[derive(Debug, Drop)]
@@ -62,6 +90,11 @@ pub struct Settings<'a> {
     /// The path of the directory where jobs are kept until they are printed, where they are kept: they
     /// outlive the server.
     pub spool: Option<&'a str>,
+    /// What stands before each line of the log. But for `Plain`, a warning that a peer causes again and again is told
+    /// once a minute.
+    pub log: LogForm,
+    /// Whether the log has a line for each job that was received, or has ended.
+    pub log_jobs: bool,
 }
 
 impl<'a> Settings<'a> {
@@ -85,6 +118,7 @@ impl<'a> Settings<'a> {
             × (result.printer_limits.silence_seconds ≡ None) }
         ensures restart_seconds { result.restart_seconds ≡ None }
         ensures spool { result.spool ≡ None }
+        ensures log { (result.log ≡ Plain) × (result.log_jobs ≡ false) }
     {
         Settings {
             bind: Ipv4Addr::LOCALHOST,
@@ -101,6 +135,8 @@ impl<'a> Settings<'a> {
             printer_limits: PrinterLimits::NONE,
             restart_seconds: None,
             spool: None,
+            log: LogForm::Plain,
+            log_jobs: false,
         }
     }
 }

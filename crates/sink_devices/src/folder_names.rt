@@ -69,7 +69,7 @@ fn number_of(name: &[u8]) -> Option<u64>
 
 impl FolderNames {
     /// What is said where there is no name.
-    pub(crate) fn none() -> FolderNames
+    pub fn none() -> FolderNames
         ensures next { result.next ≡ 1 }
         ensures left { result.left ≡ 0 }
     {
@@ -91,7 +91,7 @@ impl FolderNames {
     }
 
     /// What they say with those more that end at octets 00.
-    pub(crate) fn with_all(self, octets: &[u8]) -> FolderNames
+    pub fn with_all(self, octets: &[u8]) -> FolderNames
         ensures { result ≡ with_names self octets.now }
     {
         octets

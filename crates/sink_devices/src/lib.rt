@@ -17,8 +17,6 @@ pub use causes::Causes;
 pub use errand::Errand;
 pub use file_folder::FileFolder;
 pub use folder_names::{FolderNames, names_of};
-pub use pauses::Pauses;
+pub use pauses::{Pauses, pause_seconds};
 pub use tcp_dial::TcpDial;
-
-#[cfg(test)]
-mod tests;
+pub use unended::Unended;

@@ -18,7 +18,7 @@ const LONGEST_SECONDS: u64 = 30;
 const STEP_MS: u64 = 250;
 
 /// How long a pause is, in seconds, after which this many have been: 1, 2, 4, 8, 16, 30, 30 and so on.
-pub(crate) fn pause_seconds(tries: u64) -> u64
+pub fn pause_seconds(tries: u64) -> u64
     ensures { result ≡ min 30 (2 ^ tries) }
 {
     if tries < 5 {

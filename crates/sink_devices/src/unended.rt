@@ -7,28 +7,28 @@ const MOST_UNENDED: u8 = 3;
 
 /// How many jobs in a row there were for which a printer didn't end its connection in time, as far as 3.
 #[derive(Clone, Copy, Debug, PartialEq, Eq)]
-pub(crate) struct Unended {
+pub struct Unended {
     jobs: u8,
     ghost few: { jobs ≤ 3 },
 }
 
 impl Unended {
     /// There was none.
-    pub(crate) fn new() -> Unended
+    pub fn new() -> Unended
         ensures { result.jobs ≡ 0 }
     {
         Unended { jobs: 0 }
     }
 
     /// Whether the end of the next job's connection is waited for: fewer than three were waited for in vain.
-    pub(crate) fn is_patient(self) -> bool
+    pub fn is_patient(self) -> bool
         ensures { IsTrue result ↔ (self.jobs < 3) }
     {
         self.jobs < MOST_UNENDED
     }
 
     /// What it is after a job for which that was waited for.
-    pub(crate) fn after(self, is_ended: bool) -> Unended
+    pub fn after(self, is_ended: bool) -> Unended
         ensures { result.jobs ≡ (if is_ended then 0 else min 3 (1 + self.jobs)) }
     {
         if is_ended {

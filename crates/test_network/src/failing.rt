@@ -7,8 +7,8 @@ use crate::kit::{
 };
 use crate::logging::faults_in;
 use log::{Level, Log, Logged};
+use log_lines::{LineLog, LineQueue, LogForm};
 use lpd_daemon::{Fault, Settings};
-use program_edge::{LineLog, LineQueue};
 use std::fs;
 use std::fs::{File, Files};
 use std::net::{Ipv4Addr, Net, OpenListener, TcpListener, TcpStream};
@@ -95,7 +95,7 @@ fn the_output_fails(rt: HostRuntime) {
             rotate: NonZeroU64::new(1),
             ..settings(&rt, out, connections)
         };
-        let queue = LineQueue::new(alloc, LOG_LINES);
+        let queue = LineQueue::new(alloc, LOG_LINES, LogForm::Plain);
         let logged = Logged::new(rt, Level::Info, LineLog::new(&rt, alloc, &queue));
         let paper = Paper { lines, ..ENDLESS };
         let ended = if lines == 0 {
@@ -129,7 +129,7 @@ fn a_rotation_is_refused(rt: HostRuntime) {
         rotate: NonZeroU64::new(1),
         ..settings(&rt, out, 2)
     };
-    let queue = LineQueue::new(alloc, LOG_LINES);
+    let queue = LineQueue::new(alloc, LOG_LINES, LogForm::Plain);
     let logged = Logged::new(rt, Level::Info, LineLog::new(&rt, alloc, &queue));
     let text = ends_well(&logged, Spool::SMALL, settings, |port| {
         let first = connect(&rt, port);

@@ -6,15 +6,11 @@ mod crowd;
 #[cfg(test)]
 mod failing;
 #[cfg(test)]
-mod freezing;
-#[cfg(test)]
 mod halting;
 #[cfg(test)]
 mod kit;
 #[cfg(test)]
 mod listings;
-#[cfg(test)]
-mod lobby;
 #[cfg(test)]
 mod logging;
 #[cfg(test)]

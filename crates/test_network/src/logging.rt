@@ -5,8 +5,8 @@ use crate::kit::{
     remove, send, settings, write,
 };
 use log::{Level, Logged, error, warn};
+use log_lines::{LineLog, LineQueue, LogForm};
 use lpd_daemon::{Limits, Settings};
-use program_edge::{LineLog, LineQueue};
 use std::alloc::Global;
 use std::io::{Read, Write};
 use std::net::{Net, Shutdown, TcpStream};
@@ -24,7 +24,7 @@ use test_kit::Spool;
 #[test]
 fn two_lines_wait(rt: HostRuntime) {
     let alloc = rt.alloc();
-    let queue = LineQueue::new(alloc, 2);
+    let queue = LineQueue::new(alloc, 2, LogForm::Plain);
     let logged = Logged::new(rt, Level::Info, LineLog::new(&rt, alloc, &queue));
     error!(logged; "fault 72 Network");
     for number in 1..4 {
@@ -71,7 +71,7 @@ impl Write for Slow<'_> {
 #[test]
 fn the_last_line_is_waited_for(rt: HostRuntime) {
     let alloc = rt.alloc();
-    let queue = LineQueue::new(alloc, 2);
+    let queue = LineQueue::new(alloc, 2, LogForm::Plain);
     let line = String::from_str(alloc, "line\n").expect(&rt, "memory");
     queue.put(&rt, Some(line));
     let is_written = AtomicBool::new(false);
@@ -97,7 +97,7 @@ fn the_last_line_is_waited_for(rt: HostRuntime) {
 #[test]
 fn a_line_after_the_end_is_dropped(rt: HostRuntime) {
     let alloc = rt.alloc();
-    let queue = LineQueue::new(alloc, 2);
+    let queue = LineQueue::new(alloc, 2, LogForm::Plain);
     assert!(rt; queue.end(&rt, Duration::from_secs(10)));
     let line = String::from_str(alloc, "line\n").expect(&rt, "memory");
     queue.put(&rt, Some(line));
@@ -112,7 +112,7 @@ fn a_line_after_the_end_is_dropped(rt: HostRuntime) {
 /// The end waits until it is told how many were dropped.
 #[test]
 fn what_was_dropped_is_waited_for(rt: HostRuntime) {
-    let queue = LineQueue::new(rt.alloc(), 0);
+    let queue = LineQueue::new(rt.alloc(), 0, LogForm::Plain);
     queue.put(&rt, None);
     assert!(rt; !queue.end(&rt, Duration::from_millis(50)));
 }
@@ -263,7 +263,7 @@ fn each_end_is_logged(rt: HostRuntime) {
     let file = path(&rt, rt.alloc(), out, 1);
     symlink(&rt, "/dev/full", file.as_str()).expect(&rt, "a link");
     let alloc = rt.alloc();
-    let queue = LineQueue::new(alloc, 64);
+    let queue = LineQueue::new(alloc, 64, LogForm::Plain);
     let logged = Logged::new(rt, Level::Info, LineLog::new(&rt, alloc, &queue));
     let settings = Settings {
         sessions: 1,
@@ -304,7 +304,7 @@ fn a_page_that_isnt_written_is_told(rt: HostRuntime) {
     let file = path(&rt, rt.alloc(), out, 1);
     symlink(&rt, "/dev/full", file.as_str()).expect(&rt, "a link");
     let alloc = rt.alloc();
-    let queue = LineQueue::new(alloc, 64);
+    let queue = LineQueue::new(alloc, 64, LogForm::Plain);
     let logged = Logged::new(rt, Level::Info, LineLog::new(&rt, alloc, &queue));
     ends_well(&logged, Spool::SMALL, settings(&rt, out, 1), |port| {
         assert_eq!(rt; send(&rt, &connect(&rt, port), 1, b"hello world"), Ok(()));

@@ -3,12 +3,13 @@
 use crate::kit::{ENDLESS, HELLO, Terminal, all_lines, beside, is_printed, make, remove};
 use config_values::Config;
 use log::{Level, Log, Logged};
+use log_lines::{LineLog, LineQueue, LogForm};
 use lpd_daemon::{Counter, Plan, Settings};
 use lpd_words::{Outcome, read_config, run};
-use program_edge::{LineLog, LineQueue, StreamReader, StreamWriter};
+use program_edge::{StreamReader, StreamWriter};
 use std::alloc::Global;
 use std::fs;
-use std::fs::Files;
+use std::fs::{File, Files};
 use std::net::{Ipv4Addr, Net, OpenListener, SocketAddr, TcpListener, TcpStream};
 use std::process::Abort;
 use test_kit::Spool;
@@ -32,7 +33,7 @@ fn free_port<R: Abort + Net<Listener = TcpListener, Stream = TcpStream>>(rt: &R)
 
 /// What the program comes to by these words, with nothing to read, what it prints, and which fault
 /// it tells.
-fn outcome_of<'a, R: Abort + AllocGlobal + Files + Log + Net<Stream = TcpStream>>(
+fn outcome_of<'a, R: Abort + AllocGlobal + Files<File = File> + Log + Net<Stream = TcpStream>>(
     rt: &R,
     words: &'a [String],
 ) -> (Outcome<'a>, Vec<u8>, Vec<u8>) {
@@ -45,7 +46,7 @@ fn outcome_of<'a, R: Abort + AllocGlobal + Files + Log + Net<Stream = TcpStream>
 }
 
 /// The configuration that these words ask to serve, and how, as the program has it.
-fn served_by<'a, R: Abort + AllocGlobal + Files + Log + Net<Stream = TcpStream>>(
+fn served_by<'a, R: Abort + AllocGlobal + Files<File = File> + Log + Net<Stream = TcpStream>>(
     rt: &R,
     words: &'a [String],
 ) -> (Config, Settings<'a>) {
@@ -113,7 +114,7 @@ const FAULTS: [(&str, &str); 6] = [
 ];
 
 /// A job that can't be sent, and files that can't be read, end by these words.
-fn all_fail<R: Abort + AllocGlobal + Files + Log + Net<Stream = TcpStream>>(
+fn all_fail<R: Abort + AllocGlobal + Files<File = File> + Log + Net<Stream = TcpStream>>(
     rt: &R,
     out: &str,
     port: u16,
@@ -150,10 +151,10 @@ fn causes_are_told(rt: HostRuntime) {
     let file = format!(in alloc; "{out}/empty").expect(&rt, "memory");
     fs::write(&rt, file.as_str(), b"").expect(&rt, "a file");
     let port = free_port(&rt);
-    let queue = LineQueue::new(alloc, 64);
+    let queue = LineQueue::new(alloc, 64, LogForm::Plain);
     let logged = Logged::new(rt, Level::Info, LineLog::new(&rt, alloc, &queue));
     all_fail(&logged, out, port);
-    let quiet = LineQueue::new(alloc, 64);
+    let quiet = LineQueue::new(alloc, 64, LogForm::Plain);
     let warned = Logged::new(rt, Level::Warn, LineLog::new(&rt, alloc, &quiet));
     all_fail(&warned, out, port);
     remove(&rt, out);

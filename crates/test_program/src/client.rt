@@ -2,8 +2,8 @@
 
 use crate::expected::expect;
 use lpr_client::{
-    Control, DataFile, FileName, Octets, SendFault, Words, is_sendable, job_bytes, remove_bytes,
-    send_job, state_bytes,
+    AskFault, Command, Control, DataFile, FileName, Octets, SendFault, Words, ask, ask_silently,
+    has_line, is_sendable, job_bytes, remove_bytes, send_job, state_bytes,
 };
 use std::alloc::{AllocError, Global};
 use std::process::Abort;
@@ -191,5 +191,109 @@ fn jobs_that_cant_be_sent(rt: HostRuntime) -> Result<(), Fail> {
     assert!(rt; !can_be_sent(alloc, b"lp", b"cfA002h1", data)?);
     assert!(rt; !can_be_sent(alloc, b"lp", name, (b"cfA001h1", b"hello"))?);
     assert!(rt; !can_be_sent(alloc, b"lp", name, (b"dfA001h1", b""))?);
+    Ok(())
+}
+
+/// A server that answers so, and of which this call fails; an output of which this call fails; and to what asking comes, with what is
+/// written on.
+const ASKINGS: [(&[u8], u64, u64, &str, &[u8]); 9] = [
+    (
+        b"two lines\nof text\n",
+        0,
+        0,
+        "told",
+        b"two lines\nof text\n",
+    ),
+    (b"\x01\x02", 0, 0, "told", b"\x01\x02"),
+    (b" ", 0, 0, "told", b" "),
+    (b"\x02", 0, 0, "fault 60 Refused 2", b""),
+    (b"", 0, 0, "fault 61 Cut", b""),
+    (b"text", 1, 0, "fault 62 ReadFault", b""),
+    (b"\x01", 2, 0, "fault 62 ReadFault", b""),
+    (b"text", 3, 0, "fault 62 ReadFault", b"te"),
+    (b"text", 0, 3, "the answer can't be written", b"te"),
+];
+
+#[test]
+fn texts_are_handed_on(rt: HostRuntime) -> Result<(), Fail> {
+    let alloc = rt.alloc();
+    for (answers, fails, output_fails, wanted, written) in ASKINGS {
+        let mut server = Reader::new(answers, 1, fails);
+        let mut sent = Writer::new(alloc, 5, 0);
+        let mut output = Writer::new(alloc, 5, output_fails);
+        let told = match ask(&mut server, &mut sent, b"\x03lp\n", &mut output) {
+            Ok(()) => String::from_str(alloc, "told")?,
+            Err(fault) => fault.to_string(alloc)?,
+        };
+        expect(&rt, answers, told.as_bytes(), wanted.as_bytes());
+        expect(&rt, answers, output.octets.as_slice(), written);
+        expect(&rt, b"the line", sent.octets.as_slice(), b"\x03lp\n");
+    }
+    Ok(())
+}
+
+/// A server that answers so, and of which this call fails; and to what asking without an answer comes.
+const SILENCES: [(&[u8], u64, &str); 4] = [
+    (b"", 0, "silence"),
+    (b"\x00", 0, "fault 60 Refused 0"),
+    (b"text", 0, "fault 60 Refused 116"),
+    (b"", 1, "fault 62 ReadFault"),
+];
+
+#[test]
+fn silence_is_waited_for(rt: HostRuntime) -> Result<(), Fail> {
+    let alloc = rt.alloc();
+    for (answers, fails, wanted) in SILENCES {
+        let mut server = Reader::new(answers, 1, fails);
+        let mut sent = Writer::new(alloc, 5, 0);
+        let told = match ask_silently(&mut server, &mut sent, b"\x01lp\n") {
+            Ok(()) => String::from_str(alloc, "silence")?,
+            Err(fault) => fault.to_string(alloc)?,
+        };
+        expect(&rt, answers, told.as_bytes(), wanted.as_bytes());
+        expect(&rt, b"the line", sent.octets.as_slice(), b"\x01lp\n");
+    }
+    Ok(())
+}
+
+/// Where the line can't be written, nothing is read and nothing is written on.
+#[test]
+fn a_line_that_cant_be_written_is_told(rt: HostRuntime) {
+    let alloc = rt.alloc();
+    for fails in 1..=3 {
+        let mut server = Reader::new(b"text", 1, 0);
+        let mut sent = Writer::new(alloc, 1, fails);
+        let mut output = Writer::new(alloc, 5, 0);
+        let told = ask(&mut server, &mut sent, b"\x03lp\n", &mut output);
+        assert!(rt;
+            told == Err(AskFault::Server(SendFault::WriteFault)),
+            "write {fails}"
+        );
+        assert!(rt; output.octets.is_empty(), "write {fails}");
+        let mut sent = Writer::new(alloc, 1, fails);
+        let told = ask_silently(&mut server, &mut sent, b"\x01lp\n");
+        assert!(rt; told == Err(SendFault::WriteFault), "write {fails}");
+    }
+}
+
+/// Whether this is a line that can be asked: a removal from a queue for an agent, of what a list of words has.
+fn has_removal(alloc: Global, queue: &[u8], agent: &[u8], list: &str) -> Result<bool, Fail> {
+    let queue = Octets::copy_of(alloc, queue)?;
+    let agent = Octets::copy_of(alloc, agent)?;
+    let list = words(alloc, list)?;
+    Ok(has_line(alloc, &Command::Remove { queue, agent, list })?)
+}
+
+#[test]
+fn lines_that_cant_be_asked(rt: HostRuntime) -> Result<(), Fail> {
+    let alloc = rt.alloc();
+    assert!(rt; has_removal(alloc, b"lp", b"ann", "3 bob")?);
+    assert!(rt; has_removal(alloc, &[b'q'; 1014], b"root", "ab")?);
+    assert!(rt; !has_removal(alloc, &[b'q'; 1015], b"root", "ab")?);
+    assert!(rt; !has_removal(alloc, b"", b"ann", "")?);
+    assert!(rt; !has_removal(alloc, b"lp", b"", "")?);
+    assert!(rt; !has_removal(alloc, b"l p", b"ann", "")?);
+    assert!(rt; !has_removal(alloc, b"lp", b"a\tb", "")?);
+    assert!(rt; !has_removal(alloc, b"lp", b"\x7f", "")?);
     Ok(())
 }

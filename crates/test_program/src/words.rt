@@ -6,7 +6,7 @@ use lpd_words::{Outcome, Settings, run};
 use lpr_client::{Control, DataFile, FileName, Octets, is_sendable, job_bytes};
 use program_edge::{Limits, PrinterLimits, StreamReader, StreamWriter};
 use std::alloc::{AllocError, Global};
-use std::fs::Files;
+use std::fs::{File, Files};
 use std::io::{Read, Write};
 use std::net::{Ipv4Addr, Net, OpenListener, SocketAddr, TcpListener, TcpStream};
 use std::process::Abort;
@@ -51,7 +51,7 @@ const FEW: &[u8] = b"pages = 2600\npage_size = 8\nmax_jobs = 8\naccount = 515600
 ///
 /// A configuration is a script of bad lines, and a script is no configuration. A file that can't be read comes before a fault of the
 /// configuration.
-const TOLD: [(&str, &[u8], &[u8]); 29] = [
+const TOLD: [(&str, &[u8], &[u8]); 35] = [
     ("", SCRIPT, b"free 4\nstatus 0\n"),
     ("", CONFIG, b"status 0\n"),
     (
@@ -100,6 +100,27 @@ const TOLD: [(&str, &[u8], &[u8]); 29] = [
         b"fault 53 OutOfRange pages\nstatus 2\n",
     ),
     (
+        "check,FILE,--spool,/no-folder-is-here",
+        CONFIG,
+        b"ok pages 4 page_size 8 queues 1 printers 1\nspool /no-folder-is-here will be made\nstatus 0\n",
+    ),
+    (
+        "check,FILE,--sizes,--spool=no-folder-is-here//,--printer,1=file:x",
+        CONFIG,
+        b"ok pages 4 page_size 8 queues 1 printers 1\nqueue lp jobs 140\nprinter 1 file:x\n\
+          spool no-folder-is-here// will be made\nstatus 0\n",
+    ),
+    (
+        "check,FILE,--spool,/",
+        CONFIG,
+        b"ok pages 4 page_size 8 queues 1 printers 1\nspool / waiting 0 failed 0\nstatus 0\n",
+    ),
+    (
+        "check,FILE,--spool,/there/is/no/such/folder",
+        CONFIG,
+        b"ok pages 4 page_size 8 queues 1 printers 1\nfault 73 WriteFile /there/is/no/such/folder\nstatus 4\n",
+    ),
+    (
         "check,FILE",
         b"pages = 0\n",
         b"fault 53 OutOfRange pages\nstatus 2\n",
@@ -133,24 +154,24 @@ const TOLD: [(&str, &[u8], &[u8]); 29] = [
     (
         "serve,spool.toml,--port,515",
         b"",
-        b"serves spool.toml 515 127.0.0.1 . 8 None None None None None 5 5 1000 false [] None [] None None None None\n",
+        b"serves spool.toml 515 127.0.0.1 . 8 None None None None None 5 5 1000 false [] None [] None None None None Plain false\n",
     ),
     (
         "serve,--port=65535,--bind,10.0.200.255,--out,pages,--sessions,64,--connections,3,--rotate,4294967295,--silence,60,\
          --per-host,4,--slowest,100,--keep-room,--allow,10.0.0.0/8,--allow,192.168.1.7,spool.toml",
         b"",
         b"serves spool.toml 65535 10.0.200.255 pages 64 Some(3) Some(4294967295) Some(60) Some(4) Some(100) 5 5 1000 true \
-          [Network { address: 10.0.0.0, bits: 8 }, Network { address: 192.168.1.7, bits: 32 }] None [] None None None None\n",
+          [Network { address: 10.0.0.0, bits: 8 }, Network { address: 192.168.1.7, bits: 32 }] None [] None None None None Plain false\n",
     ),
     (
         "serve,a,--port,1",
         b"free\n",
-        b"serves a 1 127.0.0.1 . 8 None None None None None 5 5 1000 false [] None [] None None None None\n",
+        b"serves a 1 127.0.0.1 . 8 None None None None None 5 5 1000 false [] None [] None None None None Plain false\n",
     ),
     (
         "serve,a,--port,1,--control,run/spool.control",
         b"",
-        b"serves a 1 127.0.0.1 . 8 None None None None None 5 5 1000 false [] Some(\"run/spool.control\") [] None None None None\n",
+        b"serves a 1 127.0.0.1 . 8 None None None None None 5 5 1000 false [] Some(\"run/spool.control\") [] None None None None Plain false\n",
     ),
     (
         "serve,a,--port,1,--printer,2=folder:jobs/a=b,--patience,10,--printer-silence,4294967295,--restart,1,--printer=1=socket://10.0.0.9,\
@@ -159,12 +180,22 @@ const TOLD: [(&str, &[u8], &[u8]); 29] = [
         b"serves a 1 127.0.0.1 . 8 None None None None None 5 5 1000 false [] None \
           [PrinterPlace { printer: 2, place: Folder(\"jobs/a=b\") }, PrinterPlace { printer: 1, place: Socket(10.0.0.9:9100) }, \
           PrinterPlace { printer: 4294967295, place: Socket(255.255.255.255:1) }, PrinterPlace { printer: 10, place: File(\"/dev/lp0\") }] \
-          Some(10) Some(4294967295) Some(1) None\n",
+          Some(10) Some(4294967295) Some(1) None Plain false\n",
     ),
     (
         "serve,a,--port,1,--spool,/var/spool/jobs",
         b"",
-        b"serves a 1 127.0.0.1 . 8 None None None None None 5 5 1000 false [] None [] None None None Some(\"/var/spool/jobs\")\n",
+        b"serves a 1 127.0.0.1 . 8 None None None None None 5 5 1000 false [] None [] None None None Some(\"/var/spool/jobs\") Plain false\n",
+    ),
+    (
+        "serve,a,--port,1,--log,journal,--log-jobs",
+        b"",
+        b"serves a 1 127.0.0.1 . 8 None None None None None 5 5 1000 false [] None [] None None None None Journal true\n",
+    ),
+    (
+        "serve,a,--port,1,--log=time",
+        b"",
+        b"serves a 1 127.0.0.1 . 8 None None None None None 5 5 1000 false [] None [] None None None None Time false\n",
     ),
     (
         "send,515,lp,1,h1,ann,FILE",
@@ -211,7 +242,46 @@ send,515,l p,1,h1,ann,a
 send,515,lp,1,h 1,ann,a
 send,515,lp,1,h1,,a
 send,515,lp,1,h1,ann
+send,515,lp,1,h1,ann,a,--server
+send,515,lp,1,h1,ann,a,--server,localhost
+send,515,lp,1,h1,ann,a,--server,10.0.0.256
+send,515,lp,1,h1,ann,a,--server,::1
+send,515,lp,1,h1,ann,a,--server,10.0.0.5,--server,10.0.0.6
 send,515,lp,1,h1,ann,a,a,a,a,a,a,a,a,a,a,a,a,a,a,a,a,a,a,a,a,a,a,a,a,a,a,a,a,a,a,a,a,a,a,a,a,a,a,a,a,a,a,a,a,a,a,a,a,a,a,a,a,a
+state
+state,515
+state,0,lp
+state,65536,lp
+state,lp,515
+state,515,
+state,515,l p
+state,515,lp,a b
+state,515,lp,ann,
+state,515,lp,--long=yes
+state,515,lp,--agent,ann
+state,515,lp,--server
+state,515,lp,--server,localhost
+state,515,lp,--server,127.0.0.256
+remove
+remove,515,lp
+remove,0,lp,ann
+remove,515,lp,
+remove,515,l p,ann
+remove,515,lp,a b
+remove,515,lp,ann,3 4
+remove,515,lp,ann,--long
+remove,515,lp,ann,--server,10.0.0
+start
+start,515
+start,0,lp
+start,515,l p
+start,515,lp,ann
+start,515,lp,--long
+start,515,lp,--server,10.0.0.5:515
+serve,a,--port,1,--log,Time
+serve,a,--port,1,--log,
+serve,a,--port,1,--log,time,--log,time
+serve,a,--port,1,--log-jobs=yes
 serve,spool.toml
 serve,--port,515
 serve,a,b,--port,515
@@ -269,6 +339,8 @@ serve,a,--port,515,--restart,4294967296
 check,FILE,--printer,1=file:
 check,FILE,--printer,1=file:x,--printer,1=folder:x
 check,FILE,--restart,1
+check,FILE,--spool
+check,FILE,--spool,a,--spool,b
 serve,a,--port,515,--quiet
 serve,a,--port,515,--spool
 serve,a,--port,515,--spool,a,--spool,b
@@ -328,6 +400,8 @@ fn line_of(alloc: Global, config: &str, settings: &Settings) -> Result<String, A
         printer_limits,
         restart_seconds,
         spool,
+        log,
+        log_jobs,
     } = settings;
     let PrinterLimits {
         patience_minutes,
@@ -342,14 +416,19 @@ fn line_of(alloc: Global, config: &str, settings: &Settings) -> Result<String, A
         room_ms,
     } = *limits;
     format!(in alloc;
-        "serves {config} {port} {bind} {out} {sessions} {connections:?} {rotate:?} {silence:?} {per_host:?} {slowest:?} {no_job_seconds} {leave_seconds} {room_ms} {keep_room} {allowed:?} {control:?} {printers:?} {patience_minutes:?} {silence_seconds:?} {restart_seconds:?} {spool:?}\n"
+        "serves {config} {port} {bind} {out} {sessions} {connections:?} {rotate:?} {silence:?} {per_host:?} {slowest:?} {no_job_seconds} {leave_seconds} {room_ms} {keep_room} {allowed:?} {control:?} {printers:?} {patience_minutes:?} {silence_seconds:?} {restart_seconds:?} {spool:?} {log:?} {log_jobs}\n"
     )
 }
 
 /// What the program prints for these words and this input, its faults, and in a line of its own its exit status, how a server is to
 /// run, or the path and the line of a command for one.
-fn told<
-    R: Abort + AllocGlobal + Env + Files + Log + Net<Listener = TcpListener, Stream = TcpStream>,
+pub fn told<
+    R: Abort
+        + AllocGlobal
+        + Env
+        + Files<File = File>
+        + Log
+        + Net<Listener = TcpListener, Stream = TcpStream>,
 >(rt: &R, words: &[String], input: &[u8]) -> Result<Vec<u8>, AllocError> {
     let alloc = rt.alloc();
     let mut output = StreamWriter::new(Vec::new(alloc));
@@ -389,7 +468,12 @@ pub fn path_of<R: Abort + AllocGlobal + Env>(rt: &R, port: u16) -> String {
 
 /// What the words of a row are told.
 fn told_of_row<
-    R: Abort + AllocGlobal + Env + Files + Log + Net<Listener = TcpListener, Stream = TcpStream>,
+    R: Abort
+        + AllocGlobal
+        + Env
+        + Files<File = File>
+        + Log
+        + Net<Listener = TcpListener, Stream = TcpStream>,
 >(rt: &R, line: &str, octets: &[u8]) -> Vec<u8> {
     let (_holder, port) = listen(rt);
     let file = path_of(rt, port);
@@ -472,7 +556,7 @@ fn sent<
     R: Abort
         + AllocGlobal
         + Env
-        + Files
+        + Files<File = File>
         + Log
         + Net<Listener = TcpListener, Stream = TcpStream>
         + Threads

@@ -1,6 +1,6 @@
 //! What a server has logged.
 
-use program_edge::LineQueue;
+use log_lines::LineQueue;
 use std::alloc::Global;
 use std::process::Abort;
 use std::sync::Wait;

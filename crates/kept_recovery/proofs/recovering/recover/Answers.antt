@@ -3,6 +3,7 @@ use Rattle.kept_recovery.proofs.Listed.{is_free, is_taken, keeps_all, lists_fail
 use Rattle.kept_recovery.proofs.Moments.{none_called, one_more_called}
 use Rattle.kept_recovery.proofs.recovering.recover.Goals as goal
 
+-- A return where temporary files stay.
 pub returns-in_err-clear_partials-clause-any_moment : goal.returns-in_err-clear_partials-clause-any_moment
 returns-in_err-clear_partials-clause-any_moment g c =
     let first = none_called g.S.Store.moment g.S.Store.left_since g.S.Store.may_leave c.args.store.now (g.met.S.Store.only_now
@@ -10,6 +11,7 @@ returns-in_err-clear_partials-clause-any_moment g c =
     one_more_called g.S.Store.moment g.S.Store.left_since g.S.Store.may_leave _ _ _ first c.clear_partials.ensures.crash
     c.clear_partials.ensures.time
 
+-- A return where the names aren't on the disk.
 pub returns-in_err-sync_names-clause-any_moment : goal.returns-in_err-sync_names-clause-any_moment
 returns-in_err-sync_names-clause-any_moment g c =
     let first = none_called g.S.Store.moment g.S.Store.left_since g.S.Store.may_leave c.args.store.now (g.met.S.Store.only_now
@@ -19,6 +21,7 @@ returns-in_err-sync_names-clause-any_moment g c =
     one_more_called g.S.Store.moment g.S.Store.left_since g.S.Store.may_leave _ _ _ cleared c.sync_names.ensures.crash
     c.sync_names.ensures.time
 
+-- A return where the files aren't listed.
 pub returns-in_err-jobs-clause-any_moment : goal.returns-in_err-jobs-clause-any_moment
 returns-in_err-jobs-clause-any_moment g c =
     let first = none_called g.S.Store.moment g.S.Store.left_since g.S.Store.may_leave c.args.store.now (g.met.S.Store.only_now
@@ -49,6 +52,7 @@ returns-clause-jobs g c =
 pub returns-clause-rising : goal.returns-clause-rising
 returns-clause-rising g c = IsNonDecreasingBy-from_sort (λ x. x) _ c.sort_unstable.ensures.sorted
 
+-- What is kept.
 pub returns-clause-kept : goal.returns-clause-kept
 returns-clause-kept g c =
     keeps_all g.S.Store.files g.S.Store.may_leave c.args.store.now c.clear_partials.new.self c.sync_names.new.self c.names.new.self
@@ -56,6 +60,7 @@ returns-clause-kept g c =
     c.in_ok-sync_names.ensures.names (λ n o left. c.clear_partials.ensures.crash n o (c.sync_names.ensures.crash n o left))
     c.names.ensures.crash
 
+-- Which numbers are free.
 pub returns-clause-free : goal.returns-clause-free
 returns-clause-free g c =
     let lists = reorders g.S.Store.files c.sync_names.new.self c.in_ok-jobs.field-0.jobs.items c.sort_unstable.new.self.items
@@ -68,6 +73,7 @@ returns-clause-free g c =
     c.names.ensures.crash
     lists c.in_ok-jobs.ensures.failed no_job no_failed
 
+-- That none is.
 pub returns-clause-full : goal.returns-clause-full
 returns-clause-full g c =
     let lists = reorders g.S.Store.files c.sync_names.new.self c.in_ok-jobs.field-0.jobs.items c.sort_unstable.new.self.items

@@ -1,0 +1,273 @@
+-- The words of questions, and of the servers that jobs and questions are for.
+use Rattle.std.proofs.Common.{◌≡◌, ◌==◌, ◌⊎◌, ◌∙◌, ap, false, inl, inr, length, refl, slice_index, sym, ℕ, List, None, Some, codes}
+use Rattle.std.proofs.lemmas.Bool.{eq-eqb}
+use Rattle.clap.specs.Words.{Row, Text, first_of}
+use Rattle.lpd_commands.specs.declared.command.Command.{Command}
+use Rattle.lpd_commands.specs.declared.command.Command.TheVariants.{PrintWaiting, Receive, State, Remove}
+use Rattle.lpd_words.specs.Asked.{IsAsked}
+use Rattle.lpd_words.specs.Questions.{IsQuery}
+use Rattle.lpd_words.specs.Refused.{Asks, AsksNothing, LacksQuery, LacksQuestion, LacksRequest, LacksServer, LacksWords}
+use Rattle.lpd_words.specs.declared.envelope.WordFault.{WordFault}
+use Rattle.lpd_words.specs.declared.envelope.WordFault.TheVariants as envelope
+use Rattle.lpd_words.specs.declared.words.Ask.{Ask}
+use Rattle.lpd_words.specs.declared.words.Ask.TheVariants.{Input, Check, Replay, Send, Question, Serve, Control}
+
+-- the server of a job isn't there
+pub job_lacks_server : (rows : List Row) (fault : WordFault) → LacksServer rows fault → LacksWords rows fault
+job_lacks_server rows envelope.Missing lacks = λ s is. lacks s.server.port is.server.port
+job_lacks_server rows envelope.Server lacks = lacks
+job_lacks_server rows envelope.Queue lacks = absurd lacks
+job_lacks_server rows envelope.Host lacks = absurd lacks
+job_lacks_server rows envelope.User lacks = absurd lacks
+job_lacks_server rows envelope.Files lacks = absurd lacks
+job_lacks_server rows envelope.Number lacks = absurd lacks
+job_lacks_server rows envelope.Address lacks = absurd lacks
+job_lacks_server rows envelope.Line lacks = absurd lacks
+job_lacks_server rows (envelope.Network text) lacks = absurd lacks
+job_lacks_server rows (envelope.Control text) lacks = absurd lacks
+job_lacks_server rows (envelope.Log text) lacks = absurd lacks
+job_lacks_server rows (envelope.Printer text) lacks = absurd lacks
+job_lacks_server rows (envelope.PrinterTwice text) lacks = absurd lacks
+job_lacks_server rows envelope.Command lacks = absurd lacks
+job_lacks_server rows envelope.Memory lacks = absurd lacks
+
+-- nor is that of a question
+pub question_lacks_server : (name : Text) (rows : List Row) (fault : WordFault) → Asks name rows → LacksServer rows fault → LacksQuestion name rows fault
+question_lacks_server name rows envelope.Missing asks lacks =
+    λ question is. lacks question.server.port is.server.port
+question_lacks_server name rows envelope.Server asks lacks = (asks, lacks)
+question_lacks_server name rows envelope.Queue asks lacks = absurd lacks
+question_lacks_server name rows envelope.Host asks lacks = absurd lacks
+question_lacks_server name rows envelope.User asks lacks = absurd lacks
+question_lacks_server name rows envelope.Files asks lacks = absurd lacks
+question_lacks_server name rows envelope.Number asks lacks = absurd lacks
+question_lacks_server name rows envelope.Address asks lacks = absurd lacks
+question_lacks_server name rows envelope.Line asks lacks = absurd lacks
+question_lacks_server name rows (envelope.Network text) asks lacks = absurd lacks
+question_lacks_server name rows (envelope.Control text) asks lacks = absurd lacks
+question_lacks_server name rows (envelope.Log text) asks lacks = absurd lacks
+question_lacks_server name rows (envelope.Printer text) asks lacks = absurd lacks
+question_lacks_server name rows (envelope.PrinterTwice text) asks lacks = absurd lacks
+question_lacks_server name rows envelope.Command asks lacks = absurd lacks
+question_lacks_server name rows envelope.Memory asks lacks = absurd lacks
+
+-- what a server is asked for isn't there
+pub lacks_query : (name : Text) (rows : List Row) (fault : WordFault) → LacksQuery name rows fault → LacksQuestion name rows fault
+lacks_query name rows envelope.Missing lacks = λ question is. lacks question.command is.query
+lacks_query name rows envelope.Memory lacks = tt
+lacks_query name rows envelope.Queue lacks = absurd lacks
+lacks_query name rows envelope.Host lacks = absurd lacks
+lacks_query name rows envelope.User lacks = absurd lacks
+lacks_query name rows envelope.Files lacks = absurd lacks
+lacks_query name rows envelope.Number lacks = absurd lacks
+lacks_query name rows envelope.Address lacks = absurd lacks
+lacks_query name rows envelope.Server lacks = absurd lacks
+lacks_query name rows envelope.Line lacks = absurd lacks
+lacks_query name rows (envelope.Network text) lacks = absurd lacks
+lacks_query name rows (envelope.Control text) lacks = absurd lacks
+lacks_query name rows (envelope.Log text) lacks = absurd lacks
+lacks_query name rows (envelope.Printer text) lacks = absurd lacks
+lacks_query name rows (envelope.PrinterTwice text) lacks = absurd lacks
+lacks_query name rows envelope.Command lacks = absurd lacks
+
+-- different numbers
+apart : (m n : ℕ) → (m == n) ≡ false → m ≡ n → ⊥
+apart m n differ e =
+    let same = eq-eqb m n e in
+    cc
+
+-- the third octets of two names that are one
+third : (name one other : Text) → name ≡ one → name ≡ other → slice_index one 2 ≡ slice_index other 2
+third name one other is e = ap (λ (t : Text). slice_index t 2) (sym is ∙ e)
+
+-- a name whose third octet is neither that of state and start nor that of remove asks a server nothing
+no_query : (name one : Text) (rows : List Row) → name ≡ one → (slice_index one 2 == 97) ≡ false → (slice_index one 2 == 109) ≡ false
+    → (command : Command) → IsQuery name rows command → ⊥
+no_query name one rows is a m (PrintWaiting queue) h =
+    apart (slice_index one 2) 97 a (third name one (codes "start") is h.0)
+no_query name one rows is a m (Receive queue) h = absurd h
+no_query name one rows is a m (State queue list long) h =
+    apart (slice_index one 2) 97 a (third name one (codes "state") is h.0)
+no_query name one rows is a m (Remove queue agent list) h =
+    apart (slice_index one 2) 109 m (third name one (codes "remove") is h.0)
+
+-- nothing is asked of no queue
+pub no_queue : (name : Text) (rows : List Row) → first_of (codes "queue") rows ≡ None → (command : Command) → IsQuery name rows command → ⊥
+no_queue name rows none (PrintWaiting queue) h =
+    let bad = sym none ∙ h.1 in
+    cc
+no_queue name rows none (Receive queue) h = absurd h
+no_queue name rows none (State queue list long) h =
+    let bad = sym none ∙ h.1 in
+    cc
+no_queue name rows none (Remove queue agent list) h =
+    let bad = sym none ∙ h.1 in
+    cc
+
+-- nothing is removed for no agent
+pub no_agent : (name : Text) (rows : List Row) → name ≡ codes "remove" → first_of (codes "agent") rows ≡ None → (command : Command) → IsQuery name rows command → ⊥
+no_agent name rows is none (PrintWaiting queue) h =
+    apart 109 97 refl (third name (codes "remove") (codes "start") is h.0)
+no_agent name rows is none (Receive queue) h = absurd h
+no_agent name rows is none (State queue list long) h =
+    apart 109 97 refl (third name (codes "remove") (codes "state") is h.0)
+no_agent name rows is none (Remove queue agent list) h =
+    let bad = sym none ∙ h.2 in
+    cc
+
+-- nothing is asked by another name
+pub no_command : (name : Text) (rows : List Row) → (name ≡ codes "start" → ⊥) → (name ≡ codes "state" → ⊥) → (name ≡ codes "remove" → ⊥) → (command : Command) → IsQuery name rows command → ⊥
+no_command name rows start state remove (PrintWaiting queue) h = start h.0
+no_command name rows start state remove (Receive queue) h = absurd h
+no_command name rows start state remove (State queue list long) h = state h.0
+no_command name rows start state remove (Remove queue agent list) h = remove h.0
+
+no_job : (name : Text) (rows : List Row) → name ≡ codes "send" → LacksWords rows envelope.Missing → (asked : Ask) → IsAsked (Some (name, rows)) asked → ⊥
+no_job name rows is lacks Input h = absurd h
+no_job name rows is lacks (Check config sizes printers spool) h =
+    apart 110 101 refl (third name (codes "send") (codes "check") is h.0)
+no_job name rows is lacks (Replay config script) h =
+    apart 110 112 refl (third name (codes "send") (codes "replay") is h.0)
+no_job name rows is lacks (Send sending envelope) h = lacks sending h.1
+no_job name rows is lacks (Question question) h =
+    no_query name (codes "send") rows is refl refl question.command h.query
+no_job name rows is lacks (Serve config settings) h =
+    apart 110 114 refl (third name (codes "send") (codes "serve") is h.0)
+no_job name rows is lacks (Control request) h =
+    apart 4 7 refl (ap (λ (t : Text). length t) (sym is ∙ h.0))
+
+-- words that ask to check a configuration at no path ask for nothing
+pub no_check : (name : Text) (rows : List Row) → name ≡ codes "check" → first_of (codes "config") rows ≡ None → (asked : Ask) → IsAsked (Some (name, rows)) asked → ⊥
+no_check name rows is none Input h = absurd h
+no_check name rows is none (Check config sizes printers spool) h =
+    let bad = sym none ∙ h.1 in
+    cc
+no_check name rows is none (Replay config script) h =
+    apart 101 112 refl (third name (codes "check") (codes "replay") is h.0)
+no_check name rows is none (Send sending envelope) h =
+    apart 101 110 refl (third name (codes "check") (codes "send") is h.0)
+no_check name rows is none (Question question) h =
+    no_query name (codes "check") rows is refl refl question.command h.query
+no_check name rows is none (Serve config settings) h =
+    apart 101 114 refl (third name (codes "check") (codes "serve") is h.0)
+no_check name rows is none (Control request) h =
+    apart 101 110 refl (third name (codes "check") (codes "control") is h.0)
+
+-- nor do those that ask to replay one, or a script, at no path
+pub no_replay : (name : Text) (rows : List Row) → name ≡ codes "replay" → (first_of (codes "config") rows ≡ None) ⊎ (first_of (codes "script") rows ≡ None) → (asked : Ask) → IsAsked (Some (name, rows)) asked → ⊥
+no_replay name rows is none Input h = absurd h
+no_replay name rows is none (Check config sizes printers spool) h =
+    apart 112 101 refl (third name (codes "replay") (codes "check") is h.0)
+no_replay name rows is (inl none) (Replay config script) h =
+    let bad = sym none ∙ h.1 in
+    cc
+no_replay name rows is (inr none) (Replay config script) h =
+    let bad = sym none ∙ h.2 in
+    cc
+no_replay name rows is none (Send sending envelope) h =
+    apart 112 110 refl (third name (codes "replay") (codes "send") is h.0)
+no_replay name rows is none (Question question) h =
+    no_query name (codes "replay") rows is refl refl question.command h.query
+no_replay name rows is none (Serve config settings) h =
+    apart 112 114 refl (third name (codes "replay") (codes "serve") is h.0)
+no_replay name rows is none (Control request) h =
+    apart 112 110 refl (third name (codes "replay") (codes "control") is h.0)
+
+-- nor those that ask to serve one at no path
+pub no_serving : (name : Text) (rows : List Row) → name ≡ codes "serve" → first_of (codes "config") rows ≡ None → (asked : Ask) → IsAsked (Some (name, rows)) asked → ⊥
+no_serving name rows is none Input h = absurd h
+no_serving name rows is none (Check config sizes printers spool) h =
+    apart 114 101 refl (third name (codes "serve") (codes "check") is h.0)
+no_serving name rows is none (Replay config script) h =
+    apart 114 112 refl (third name (codes "serve") (codes "replay") is h.0)
+no_serving name rows is none (Send sending envelope) h =
+    apart 114 110 refl (third name (codes "serve") (codes "send") is h.0)
+no_serving name rows is none (Question question) h =
+    no_query name (codes "serve") rows is refl refl question.command h.query
+no_serving name rows is none (Serve config settings) h =
+    let bad = sym none ∙ h.1 in
+    cc
+no_serving name rows is none (Control request) h =
+    apart 114 110 refl (third name (codes "serve") (codes "control") is h.0)
+
+no_request : (name : Text) (rows : List Row) → name ≡ codes "control" → LacksRequest rows envelope.Missing → (asked : Ask) → IsAsked (Some (name, rows)) asked → ⊥
+no_request name rows is lacks Input h = absurd h
+no_request name rows is lacks (Check config sizes printers spool) h =
+    apart 110 101 refl (third name (codes "control") (codes "check") is h.0)
+no_request name rows is lacks (Replay config script) h =
+    apart 110 112 refl (third name (codes "control") (codes "replay") is h.0)
+no_request name rows is lacks (Send sending envelope) h =
+    apart 7 4 refl (ap (λ (t : Text). length t) (sym is ∙ h.0))
+no_request name rows is lacks (Question question) h =
+    no_query name (codes "control") rows is refl refl question.command h.query
+no_request name rows is lacks (Serve config settings) h =
+    apart 110 114 refl (third name (codes "control") (codes "serve") is h.0)
+no_request name rows is lacks (Control request) h = lacks request h.1
+
+-- words that ask to send a command to a server, and don't have all of its words, ask for nothing
+pub asks_no_request : (name : Text) (rows : List Row) (fault : WordFault) → name ≡ codes "control" → LacksRequest rows fault → AsksNothing (Some (name, rows)) fault
+asks_no_request name rows envelope.Missing is lacks = no_request name rows is lacks
+asks_no_request name rows (envelope.Control text) is lacks = inr (is, lacks)
+asks_no_request name rows (envelope.Log text) is lacks = absurd lacks
+asks_no_request name rows envelope.Command is lacks = (is, lacks)
+asks_no_request name rows envelope.Memory is lacks = tt
+asks_no_request name rows envelope.Queue is lacks = absurd lacks
+asks_no_request name rows envelope.Host is lacks = absurd lacks
+asks_no_request name rows envelope.User is lacks = absurd lacks
+asks_no_request name rows envelope.Files is lacks = absurd lacks
+asks_no_request name rows envelope.Number is lacks = absurd lacks
+asks_no_request name rows envelope.Address is lacks = absurd lacks
+asks_no_request name rows envelope.Server is lacks = absurd lacks
+asks_no_request name rows envelope.Line is lacks = absurd lacks
+asks_no_request name rows (envelope.Network text) is lacks = absurd lacks
+asks_no_request name rows (envelope.Printer text) is lacks = absurd lacks
+asks_no_request name rows (envelope.PrinterTwice text) is lacks = absurd lacks
+
+-- words that ask to send a job, and don't have all of its words, ask for nothing
+pub asks_no_job : (name : Text) (rows : List Row) (fault : WordFault) → name ≡ codes "send" → LacksWords rows fault → AsksNothing (Some (name, rows)) fault
+asks_no_job name rows envelope.Missing is lacks = no_job name rows is lacks
+asks_no_job name rows envelope.Server is lacks = (inl is, lacks)
+asks_no_job name rows envelope.Memory is lacks = tt
+asks_no_job name rows envelope.Queue is lacks = absurd lacks
+asks_no_job name rows envelope.Host is lacks = absurd lacks
+asks_no_job name rows envelope.User is lacks = absurd lacks
+asks_no_job name rows envelope.Files is lacks = absurd lacks
+asks_no_job name rows envelope.Number is lacks = absurd lacks
+asks_no_job name rows envelope.Address is lacks = absurd lacks
+asks_no_job name rows envelope.Line is lacks = absurd lacks
+asks_no_job name rows (envelope.Network text) is lacks = absurd lacks
+asks_no_job name rows (envelope.Control text) is lacks = absurd lacks
+asks_no_job name rows (envelope.Log text) is lacks = absurd lacks
+asks_no_job name rows (envelope.Printer text) is lacks = absurd lacks
+asks_no_job name rows (envelope.PrinterTwice text) is lacks = absurd lacks
+asks_no_job name rows envelope.Command is lacks = absurd lacks
+
+-- words that ask a server, and don't have all words of that, ask for nothing, where they don't ask for anything else
+pub asks_no_question : (name : Text) (rows : List Row) (fault : WordFault) → (name ≡ codes "check" → ⊥) → (name ≡ codes "replay" → ⊥) → (name ≡ codes "send" → ⊥)
+    → (name ≡ codes "serve" → ⊥) → (name ≡ codes "control" → ⊥) → LacksQuestion name rows fault → AsksNothing (Some (name, rows)) fault
+asks_no_question name rows envelope.Missing check replay send serve control lacks = go
+  where
+    go : (asked : Ask) → IsAsked (Some (name, rows)) asked → ⊥
+    go Input h = absurd h
+    go (Check config sizes printers spool) h = check h.0
+    go (Replay config script) h = replay h.0
+    go (Send sending envelope) h = send h.0
+    go (Question question) h = lacks question h
+    go (Serve config settings) h = serve h.0
+    go (Control request) h = control h.0
+asks_no_question name rows envelope.Server check replay send serve control lacks =
+    (inr lacks.0, lacks.1)
+asks_no_question name rows envelope.Line check replay send serve control lacks = lacks
+asks_no_question name rows envelope.Memory check replay send serve control lacks = tt
+asks_no_question name rows envelope.Queue check replay send serve control lacks = absurd lacks
+asks_no_question name rows envelope.Host check replay send serve control lacks = absurd lacks
+asks_no_question name rows envelope.User check replay send serve control lacks = absurd lacks
+asks_no_question name rows envelope.Files check replay send serve control lacks = absurd lacks
+asks_no_question name rows envelope.Number check replay send serve control lacks = absurd lacks
+asks_no_question name rows envelope.Address check replay send serve control lacks = absurd lacks
+asks_no_question name rows (envelope.Network text) check replay send serve control lacks = absurd lacks
+asks_no_question name rows (envelope.Control text) check replay send serve control lacks = absurd lacks
+asks_no_question name rows (envelope.Log text) check replay send serve control lacks = absurd lacks
+asks_no_question name rows (envelope.Printer text) check replay send serve control lacks = absurd lacks
+asks_no_question name rows (envelope.PrinterTwice text) check replay send serve control lacks = absurd lacks
+asks_no_question name rows envelope.Command check replay send serve control lacks = absurd lacks

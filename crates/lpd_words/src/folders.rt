@@ -1,0 +1,51 @@
+//! What stands in the folder in which a server is to keep jobs is said.
+
+ghost use Rattle.std.specs.Prelude.{◌≡◌, ◌≢◌, IfErr, IfOk, OnOk, string_bytes};
+ghost use Rattle.job_disk.specs.declared.looking.FolderState.{FolderState};
+ghost use Rattle.lpd_commands.specs.Ends.{Writes};
+ghost use Rattle.lpd_words.specs.Folders.{folder_line};
+ghost use Rattle.lpd_words.specs.Order.{write_faults};
+ghost use Rattle.lpd_words.specs.Status.{status_of};
+
+use crate::fault::Fault;
+use crate::files::print;
+use job_disk::{FolderState, look};
+use log::{Log, info};
+use lpd_commands::OctetWrite;
+use std::alloc::{AllocError, Global};
+use std::fs::{File, Files};
+
+/// The line that says what stands in the folder at this path.
+fn folder_line(alloc: Global, path: &str, state: FolderState) -> Result<String, AllocError>
+    ensures { IfOk result (λ line. string_bytes line ≡ folder_line path.now state) }
+{
+    match state {
+        FolderState::Absent => format!(in alloc; "spool {path} will be made\n"),
+        FolderState::Present { waiting, failed } => {
+            format!(in alloc; "spool {path} waiting {waiting} failed {failed}\n")
+        }
+    }
+}
+
+/// Says what stands in the folder at this path, of which nothing is made or changed. Answers `Folder` where a server
+/// couldn't take it, of which the log is told why, `WriteFile`, and `Memory`.
+pub(crate) fn check_folder<R: Files<File = File> + Log, W: OctetWrite>(
+    alloc: Global,
+    rt: &R,
+    path: &str,
+    output: &mut W,
+) -> Result<(), Fault>
+    ensures printed { OnOk result ((state : FolderState)
+        × Writes (W.written output.old) (W.written output.new) (folder_line path.now state)) }
+    ensures write_fault { W.faults output.new ≡ write_faults (W.faults output.old) result }
+    ensures fault { IfErr result (λ fault. status_of fault ≢ 1) }
+{
+    let state = match look(rt, alloc, path) {
+        Ok(state) => state,
+        Err(why) => {
+            info!(rt; "{path}: {why}");
+            return Err(Fault::Folder(String::from_str(alloc, path)?));
+        }
+    };
+    print(output, folder_line(alloc, path, state)?.as_bytes())
+}
