@@ -7,8 +7,9 @@
 # The files of these crates lie in beside/NAME with other endings, since a repository's .rt and .antt files are read by its gate, all
 # of them. rt works in a copy of the repository, in which the crate has its right place and names; the copy lies in the folder that
 # BESIDE_COPY names, or in ~/.cache/hurgwaye/beside, and keeps what was proved for the next time. A module that a crate of the gate has
-# too is not kept twice: the file beside/NAME/shares names its folder, from crates/ on, and it is copied from there. Two words in
-# place of rt's:
+# too is not kept twice: the file beside/NAME/shares names its folder, from crates/ on, and it is copied from there. A test has no files, so
+# each line `NAME FILE` of beside/NAME/rows makes a constant of the crate's module `rows` of a file, from crates/ on. Two words in place
+# of rt's:
 #
 #   tools/beside.sh bench path               # copies the crate, and prints the path of its folder there
 #   tools/beside.sh bench back               # brings back what was edited there, as by `rt fmt`, and copies nothing
@@ -24,6 +25,16 @@ shared_by() {
     [ ! -f "$top/beside/$1/shares" ] || cat "$top/beside/$1/shares"
 }
 
+# The constants of a crate's module `rows`.
+rows_of() {
+    echo '//! Files of the repository, as they stand there.'
+    while read -r constant file; do
+        printf '\n/// `%s`.\npub const %s: &str = r##"' "$file" "$constant"
+        cat "$top/crates/$file"
+        printf '"##;\n'
+    done < "$top/beside/$1/rows"
+}
+
 mkdir -p "$copy/crates"
 exec 9> "$copy/lock"
 flock 9
@@ -35,7 +46,8 @@ if [ "${1:-}" = back ]; then
         find "$top/beside/$name/$part" -name '*.rt' | while read -r file; do mv "$file" "${file%.rt}.rattle"; done
         find "$top/beside/$name/$part" -name '*.antt' | while read -r file; do mv "$file" "${file%.antt}.proof"; done
     done
-    # What is shared is edited where it stands.
+    # What is shared is edited where it stands, and rows too.
+    [ ! -f "$top/beside/$name/rows" ] || rm -f "$top/beside/$name/src/rows.rattle"
     shared_by "$name" | while read -r folder; do rm -rf "$top/beside/$name/src/$(basename "$folder")"; done
     exit
 fi
@@ -57,6 +69,7 @@ for folder in "$top"/beside/*/; do
     find "$crate" -path "$crate/out" -prune -o -name '*.rattle' -print | while read -r file; do mv "$file" "${file%.rattle}.rt"; done
     find "$crate" -path "$crate/out" -prune -o -name '*.proof' -print | while read -r file; do mv "$file" "${file%.proof}.antt"; done
     shared_by "$(basename "$folder")" | while read -r module; do cp -a "$top/crates/$module" "$crate/src/"; done
+    [ ! -f "$folder/rows" ] || rows_of "$(basename "$folder")" > "$crate/src/rows.rt"
 done
 cat "$top/beside/stands-on.txt" >> "$copy/crates.txt"
 rm -rf "$copy/beside"

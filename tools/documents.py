@@ -22,6 +22,8 @@ CODE = (".rt", ".antt", ".rattle", ".proof", ".sh", ".py", ".toml", ".edit", ".s
 PATH = re.compile(r"[\w.-]+(?:/[\w.*-]+)+/?")
 FILE = re.compile(r"[\w-]+\.(?:rt|antt|rattle|proof|sh|py|toml|md|edit|rows|service)")
 WORD = re.compile(r"[A-Za-z_][A-Za-z0-9_]*")
+# Words of other programs that documents tell of.
+OTHERS = {"force_localhost", "page_log"}
 
 
 def read(path):
@@ -135,7 +137,7 @@ def names_are_missing():
             folders.add(it)
             it = os.path.dirname(it)
     base = {os.path.basename(it) for it in every}
-    words = known_words()
+    words = known_words() | OTHERS
     wrong = []
     for path in sorted(every):
         if not path.endswith((".md", ".rt", ".antt", ".rattle", ".proof")):

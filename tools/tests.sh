@@ -2,7 +2,8 @@
 # Runs all rows and tests by `rt try`, and each program on its stored run: what is compiled is run, and nothing is proved. It says
 # where `rt version` is none of the kits that the README names; then comes what failed, and a line for each crate. The last line is
 # 'N passed, M failed', where a stored run counts as one, and so do docs/TRUSTED.md, which must not be stale, and the names and
-# options that documents and comments tell of, which must be there; the exit status is 0 only where none failed. As many crates are
+# options that documents and comments tell of, which must be there, and the commands of the first page; the exit status is 0
+# only where none failed. As many crates are
 # tried at a time as there are processors, or as RT_JOBS says; each takes up to 2 GB of memory.
 set -u
 cd "$(dirname "${BASH_SOURCE[0]}")/.." || exit 2
@@ -96,5 +97,11 @@ for crate in $programs; do
         add "$crate" 0 1
     fi
 done
+# The commands of the first page, by the program.
+if bash tools/program.sh "$folder/lpd_server" && bash tools/first-page.sh "$folder/lpd_server"; then
+    passed=$((passed + 1))
+else
+    failed=$((failed + 1))
+fi
 echo "$passed passed, $failed failed"
 [ "$failed" -eq 0 ]

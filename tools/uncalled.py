@@ -18,22 +18,10 @@ CRATES = os.path.join(TOP, "crates")
 
 # The crates that stand beside the gate; the last one has the calls of the whole surface.
 SURFACE = "test_surface"
-BESIDE = {"bench", "test_control", "test_soak", SURFACE}
+BESIDE = {it.name for it in os.scandir(os.path.join(TOP, "beside")) if it.is_dir()}
 
 # Crates that call the product and are no part of it.
-CALLERS = {
-    "bench",
-    "test_calls",
-    "test_control",
-    "test_kit",
-    "test_kit_seats",
-    "test_network",
-    "test_program",
-    "test_soak",
-    "test_texts",
-    "test_threads",
-    SURFACE,
-}
+CALLERS = BESIDE | {"test_calls", "test_kit", "test_kit_seats", "test_network", "test_program", "test_texts"}
 
 COMMENT_OR_TEXT = re.compile(r"//.*|\"(?:[^\"\\]|\\[\s\S])*\"")
 CALL = re.compile(r"(?<!fn )\b(\w+)(?:::<[^;(]*>)?\(")
@@ -47,9 +35,11 @@ def sources(crate):
     """The code of a crate's files by their names, without comments and texts."""
     folder = os.path.join(TOP, "beside" if crate in BESIDE else "crates", crate, "src")
     found = {}
-    for name in os.listdir(folder):
-        with open(os.path.join(folder, name), encoding="utf-8") as file:
-            found[name] = COMMENT_OR_TEXT.sub("", file.read())
+    for at, _, names in os.walk(folder):
+        for name in names:
+            path = os.path.join(at, name)
+            with open(path, encoding="utf-8") as file:
+                found[os.path.relpath(path, folder)] = COMMENT_OR_TEXT.sub("", file.read())
     return found
 
 
@@ -76,7 +66,8 @@ def functions(code, crate):
 
 
 def main():
-    code = {crate: sources(crate) for crate in [*os.listdir(CRATES), *BESIDE]}
+    gate = [it for it in os.listdir(CRATES) if os.path.isdir(os.path.join(CRATES, it, "src"))]
+    code = {crate: sources(crate) for crate in [*gate, *BESIDE]}
     surface = {file.removesuffix("_calls.rattle") for file in code[SURFACE]} & set(code)
     needs_test = {one for crate in surface for one in handed_on(code, crate)}
     by_tests, by_anybody = calls_in(code, CALLERS), calls_in(code, code)

@@ -446,10 +446,10 @@ SCENES = [killed_once, a_second_server, a_failed_job_is_sent_again, a_job_is_rem
           a_read_only_disk, a_folder_that_goes_away, stopped_now_amid_a_job, many_kept_jobs, killed_at_random]
 
 
-def main():
+def main(scenes, doc):
     if not os.path.isfile(PROGRAM):
-        raise SystemExit(__doc__)
-    chosen = [it for it in SCENES if not sys.argv[2:] or it.__name__ in sys.argv[2:]]
+        raise SystemExit(doc)
+    chosen = [it for it in scenes if not sys.argv[2:] or it.__name__ in sys.argv[2:]]
     passed = 0
     for scene in chosen:
         try:
@@ -464,4 +464,4 @@ def main():
 
 
 if __name__ == "__main__":
-    sys.exit(main())
+    sys.exit(main(SCENES, __doc__))

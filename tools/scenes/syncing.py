@@ -1,0 +1,126 @@
+#!/usr/bin/env python3
+"""Scenes of a server whose syncs are watched and refused: syncing.py PROGRAM [SCENE..], where PROGRAM is the built lpd_server.
+
+`strace` attaches to the server while it runs, and so has to be there and to be allowed. A line says what was seen; the last line is
+'N passed, M failed'."""
+import contextlib
+import glob
+import os
+import re
+import shutil
+import subprocess
+import sys
+import time
+
+from client import send
+from keeping import Room, check, main
+
+
+class Watched(Room):
+    """A room whose server is watched for a while."""
+
+    def watching(self, *refused):
+        words = [it for call in refused for it in ("-e", f"inject={call}:error=EIO")]
+        return ["strace", "-ff", "-qq", "-y", "-o", f"{self.folder}/trace", "-e", "trace=fdatasync,fsync,rename,renameat,renameat2,write,sendto", *words]
+
+    @contextlib.contextmanager
+    def watch(self, *refused):
+        """Has each thread's calls noted in a file of its own; those that are named fail with EIO."""
+        line = [*self.watching(*refused), "-p", str(self.server.pid)]
+        watcher = subprocess.Popen(line, stdin=subprocess.DEVNULL, stderr=subprocess.DEVNULL)
+        for _ in range(200):
+            if all(self.is_watched(task) for task in os.listdir(f"/proc/{self.server.pid}/task")):
+                break
+            check(watcher.poll() is None, "strace isn't allowed")
+            time.sleep(0.02)
+        try:
+            yield
+        finally:
+            watcher.terminate()
+            watcher.wait(10)
+
+    def is_watched(self, task):
+        with open(f"/proc/{self.server.pid}/task/{task}/status") as status:
+            return "TracerPid:\t0\n" not in status.read()
+
+    def calls(self, end):
+        """The calls of a thread that named a file with this end, in their order: syncs and renames that went well, and octets 00 that were sent."""
+        kinds = ((r"fdatasync\(\d+<\S+\.tmp>\) += 0", "tmp"), (r"rename\w*\(.*\.tmp.*\.job.*\) += 0", "rename"),
+                 (r"rename\w*\(.*\.failed.*\.job.*\) += 0", "again"), (r"fsync\(\d+<\S+/kept>\) += 0", "folder"), (r"(write|sendto)\(\d+<(socket|TCP).*\"\\0\"", "octet"))
+        for path in glob.glob(f"{self.folder}/trace.*"):
+            with open(path) as file:
+                lines = file.readlines()
+            if any(end in line for line in lines):
+                return [kind for line in lines for call, kind in kinds if re.match(call, line)]
+        return []
+
+
+def a_job_is_synced_before_it_is_acknowledged():
+    """A job's file is synced, then gets its name, then the folder is synced, and only then the last octet 00 is written."""
+    with Watched() as room:
+        room.start()
+        with room.watch():
+            check(send(room.port, 1, b"synced") == 0, "it is taken")
+        calls = room.calls(".tmp")
+        check(calls == ["octet"] * 4 + ["tmp", "rename", "folder", "octet"], calls)
+        room.await_files(0)
+        return ", ".join(calls)
+
+
+def a_start_syncs_the_folder():
+    """A start has the folder synced before a session is answered."""
+    with Watched() as room:
+        plain = room.line()
+        room.line = lambda: [*room.watching(), *plain]
+        room.start()
+        told = room.tell("stop", "now")
+        check("end done" in told or told == "", told)
+        room.server.wait(20)
+        calls = room.calls("/kept>")
+        check(calls == ["folder"], calls)
+        return "folder"
+
+
+def a_job_that_is_sent_again_is_synced():
+    """The name of a failed job that is sent again is on the disk before the command is answered."""
+    with Watched() as room:
+        os.symlink("/dev/full", f"{room.folder}/printer-1")
+        room.start()
+        check(send(room.port, 1, b"again") == 0, "it is taken")
+        room.await_files(1, "failed")
+        with room.watch():
+            told = room.tell("resend", room.files("failed")[0].split(".")[0])
+            check("end done" in told or told == "", told)
+        calls = room.calls('.failed"')
+        check(calls[:2] == ["again", "folder"], calls)
+        return ", ".join(calls)
+
+
+def refuses(call):
+    """A job whose sync fails is answered by 02, leaves no file, and isn't printed; the next one is taken."""
+    with Watched() as room:
+        room.start()
+        with room.watch(call):
+            octet = send(room.port, 1, b"unsynced")
+            check(octet == 2, f"answered by {octet}")
+        check(not room.files("job") and not room.files("tmp"), room.files("*"))
+        room.await_log("Input/output error")
+        check(send(room.port, 2, b"synced") == 0, "it goes on")
+        room.await_files(0)
+        check(room.printed() == b"synced", room.printed())
+        return room.log().strip().splitlines()[-1][-90:]
+
+
+def a_file_s_sync_fails():
+    return refuses("fdatasync")
+
+
+def the_folder_s_sync_fails():
+    return refuses("fsync")
+
+
+if __name__ == "__main__":
+    if not shutil.which("strace"):
+        raise SystemExit("strace isn't there")
+    sys.exit(main([a_job_is_synced_before_it_is_acknowledged, a_start_syncs_the_folder, a_job_that_is_sent_again_is_synced, a_file_s_sync_fails,
+                   the_folder_s_sync_fails], __doc__))
