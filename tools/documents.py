@@ -14,10 +14,10 @@ It looks at two things:
 
 import os
 import re
+import subprocess
 import sys
 
 TOP = os.path.dirname(os.path.dirname(os.path.abspath(__file__)))
-KIT = os.environ.get("RATTLE_KIT", "/opt/rattle/rattle")
 CODE = (".rt", ".antt", ".rattle", ".proof", ".sh", ".py", ".toml", ".edit", ".service", ".txt", ".rows", ".8")
 PATH = re.compile(r"[\w.-]+(?:/[\w.*-]+)+/?")
 FILE = re.compile(r"[\w-]+\.(?:rt|antt|rattle|proof|sh|py|toml|md|edit|rows|service)")
@@ -94,15 +94,22 @@ def options_differ():
 
 # -- names
 
+def kit():
+    """The folder of the toolchain's sources, which lies beside the page that `rt doc` names."""
+    page = subprocess.run(["rt", "doc"], capture_output=True, text=True, check=True).stdout.strip()
+    return os.path.join(os.path.dirname(page), "rattle")
+
+
 def known_words():
-    """Each word of code, ours and the toolchain's, and of the comments and texts in it."""
+    """Each word of code, ours and the toolchain's, and of the texts in it."""
     words = set()
-    for root in (TOP, KIT):
+    sources = kit()
+    for root in (TOP, sources):
         for at, folders, names in os.walk(root):
             folders[:] = [it for it in folders if it not in (".git", "out")]
             for name in names:
                 words.update((name, name.partition(".")[0]))
-                if name.endswith(CODE) or root == KIT and name.endswith(".md"):
+                if name.endswith(CODE) or root == sources and name.endswith(".md"):
                     with open(os.path.join(at, name), encoding="utf-8", errors="replace") as it:
                         text = it.read()
                     if name.endswith((".rt", ".rattle")):

@@ -8,6 +8,7 @@ import os
 import re
 import subprocess
 import sys
+import tempfile
 import time
 
 from client import Server, ask, send, spool, state
@@ -120,14 +121,14 @@ def a_printer_is_gone_amid_a_job():
 
 def a_printer_that_is_gone_holds_up_no_stop():
     """Without --printer-silence such a job waits; `stop now` ends the server within three seconds, and names the job."""
-    with printer(), server("--control", "/tmp/hurgwaye-vanishing.control") as it:
+    with tempfile.TemporaryDirectory() as room, printer(), server("--control", f"{room}/control") as it:
         check(send(it.port, 1, b"n" * 1_000_000) == 0, "the job isn't taken")
         time.sleep(1)
         link("down")
         time.sleep(4)
         check(stopped(it) == 0, "the printer stands still")
         start = time.monotonic()
-        subprocess.run([PROGRAM, "control", "/tmp/hurgwaye-vanishing.control", "stop", "now"], check=True, timeout=10, stdout=subprocess.DEVNULL)
+        subprocess.run([PROGRAM, "control", f"{room}/control", "stop", "now"], check=True, timeout=10, stdout=subprocess.DEVNULL)
         check(it.process.wait(5) == 0, "its status isn't 0")
         took = time.monotonic() - start
         check(took < 3, took)
