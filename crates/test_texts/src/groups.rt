@@ -1,6 +1,6 @@
 //! The groups of rows.
 
-use crate::{lines, sessions, tables, trials};
+use crate::{lines, sessions, status, tables, trials};
 use std::alloc::AllocError;
 use std::sync::Wait;
 use test_kit::{Form, Group};
@@ -36,11 +36,19 @@ pub enum Texts {
     Trials,
     /// Octets that a receiver reads, what it asks, and what is written.
     Sessions,
+    /// Requests for the status of a server, and what they ask for.
+    Requests,
+    /// Octets, as they stand in a page and in a label.
+    Marked,
+    /// Times in milliseconds, how many fall into each bucket, and their sum.
+    Times,
+    /// How many looks there were, and which of them are kept.
+    Looks,
 }
 
 impl Texts {
     /// All groups.
-    pub const ALL: [Texts; 14] = [
+    pub const ALL: [Texts; 18] = [
         Texts::Commands,
         Texts::Subcommands,
         Texts::Names,
@@ -55,6 +63,10 @@ impl Texts {
         Texts::Changes,
         Texts::Trials,
         Texts::Sessions,
+        Texts::Requests,
+        Texts::Marked,
+        Texts::Times,
+        Texts::Looks,
     ];
 }
 
@@ -75,6 +87,10 @@ impl Group for Texts {
             Texts::Changes => ("changes", Form::Line),
             Texts::Trials => ("trials", Form::Line),
             Texts::Sessions => ("sessions", Form::Octets),
+            Texts::Requests => ("requests", Form::Octets),
+            Texts::Marked => ("marked", Form::Line),
+            Texts::Times => ("times", Form::Line),
+            Texts::Looks => ("looks", Form::Line),
         }
     }
 
@@ -100,6 +116,10 @@ impl Group for Texts {
             Texts::Changes => tables::changes(told, alloc, asked),
             Texts::Trials => trials::trial(told, alloc, asked),
             Texts::Sessions => sessions::sessions(told, alloc, asked),
+            Texts::Requests => status::request(told, alloc, asked),
+            Texts::Marked => status::marked(told, alloc, asked),
+            Texts::Times => status::times(told, alloc, asked),
+            Texts::Looks => status::looks(told, alloc, asked),
         }
     }
 }

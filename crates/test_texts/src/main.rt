@@ -1,4 +1,4 @@
-//! Rows of texts, of claims and of what a receiver reads: what is asked, and what has to be answered, in the files of `data/`.
+//! Rows of texts, of claims, of what a receiver reads and of what a status page shows: what is asked, and what has to be answered, in the files of `data/`.
 //!
 //! Prints how many rows each group has, and a line for each row that is answered otherwise.
 #![tactic(auto)]
@@ -6,6 +6,7 @@
 mod groups;
 mod lines;
 mod sessions;
+mod status;
 mod tables;
 mod trials;
 

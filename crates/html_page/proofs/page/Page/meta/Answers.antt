@@ -1,0 +1,9 @@
+use Rattle.std.proofs.Common.{◌∙◌, is_ok, map, refl, string_bytes}
+use Rattle.html_page.specs.Parts.{Meta, told}
+use Rattle.html_page.proofs.PageLemmas.{put_or_not}
+use Rattle.html_page.proofs.page.Page.meta.Goals as goal
+
+pub invariant_of-self : goal.invariant_of-self
+invariant_of-self c =
+    let p = c.args.self.now in
+    record { begins = put_or_not p.opened.items (string_bytes p.text) (string_bytes c.push_str.new.self) c.as_str.result.now (Meta (map told c.args.attributes.now)) (is_ok c.push_str.result) refl c.push_str.ensures.bytes (c.as_str.ensures.value ∙ c.in_ok-element.ensures) p.begins }

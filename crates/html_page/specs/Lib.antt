@@ -1,0 +1,4 @@
+pub mod Names
+pub mod Parts
+pub mod Tokens
+pub mod Written

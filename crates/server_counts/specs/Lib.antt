@@ -1,0 +1,3 @@
+pub mod Histogram
+pub mod Counts
+pub mod Hour

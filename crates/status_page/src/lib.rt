@@ -1,0 +1,19 @@
+//! The page that shows people how a server stands: its pages, queues, printers, jobs, sessions, and in which order all jobs can finish.
+#![tactic(auto)]
+
+mod banker;
+mod cards;
+mod figures;
+mod frame;
+mod page;
+mod plot;
+mod pool;
+mod rates;
+mod rows;
+mod sessions;
+mod standing;
+mod style;
+mod tiles;
+mod turns;
+
+pub use page::html;

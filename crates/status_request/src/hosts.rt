@@ -1,0 +1,49 @@
+//! Which server a request is for: its fields Host.
+
+ghost use Rattle.std.specs.Prelude.{◌≡◌, ◌↔◌, ◌≤◌, All, IsTrue, length, map};
+ghost use Rattle.httparse.specs.Spans.{IsHeaderWithin, header_bytes};
+ghost use Rattle.status_request.specs.Asked.{AreHere, host_values};
+ghost use Rattle.status_request.specs.Request.{IsNamed};
+
+use crate::asked::{is_host, names_here};
+use httparse::spans::HeaderSpan;
+
+/// How many of these fields are Host.
+fn host_count(octets: &[u8], fields: &[HeaderSpan]) -> usize
+    requires { All (IsHeaderWithin (length octets.now)) fields.now }
+    ensures count { result ≡ length (host_values (map (header_bytes octets.now) fields.now)) }
+    ensures within { result ≤ length fields.now }
+{
+    let Some((first, rest)) = fields.split_first() else {
+        return 0;
+    };
+    let others = host_count(octets, rest);
+    if is_host(first.name.of(octets)) {
+        others + 1
+    } else {
+        others
+    }
+}
+
+/// Whether each field Host names this server.
+fn are_here(octets: &[u8], fields: &[HeaderSpan], name: &[u8]) -> bool
+    requires { All (IsHeaderWithin (length octets.now)) fields.now }
+    ensures { IsTrue result ↔ AreHere name.now (map (header_bytes octets.now) fields.now) }
+{
+    let Some((first, rest)) = fields.split_first() else {
+        return true;
+    };
+    let is_other = is_host(first.name.of(octets)) && !names_here(first.value.of(octets), name);
+    !is_other && are_here(octets, rest, name)
+}
+
+/// Whether a request of HTTP/1.0 or 1.1 with these fields is for the server of this name: it has one field Host, which names that, or in
+/// HTTP/1.0 perhaps none (RFC 9112, section 3.2).
+pub(crate) fn is_named(octets: &[u8], fields: &[HeaderSpan], minor: u8, name: &[u8]) -> bool
+    requires { All (IsHeaderWithin (length octets.now)) fields.now }
+    ensures { IsTrue result
+        ↔ IsNamed name.now minor (map (header_bytes octets.now) fields.now) }
+{
+    let hosts = host_count(octets, fields);
+    (hosts == 1 || hosts == 0 && minor == 0) && are_here(octets, fields, name)
+}

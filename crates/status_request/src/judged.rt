@@ -1,0 +1,66 @@
+//! What octets that have come so far ask for.
+
+ghost use Rattle.status_request.specs.Request.{IsReading};
+
+use crate::asked::{Method, Resource, method_named, path, resource_at};
+use crate::hosts::is_named;
+use httparse::spans::{EMPTY_HEADER_SPAN, parse_request};
+use httparse::{Error, Status};
+
+/// How many octets the head of a request may have.
+pub const MOST_OCTETS: usize = 8_192;
+
+/// How many fields it may have.
+pub const MOST_FIELDS: usize = 64;
+
+/// Why a request isn't answered.
+#[derive(Clone, Copy, Debug, PartialEq, Eq)]
+pub enum Refusal {
+    /// 400: no head of a request can come of the octets.
+    BadRequest,
+    /// 400: it isn't said to be for this server: a field Host names another, as of a page that was loaded from elsewhere, or there are two
+    /// of them, or in HTTP/1.1 none.
+    OtherHost,
+    /// 404: there is nothing at its path.
+    NotFound,
+    /// 405: neither GET nor HEAD.
+    MethodNotAllowed,
+    /// 431: the head has too many octets or fields.
+    TooLarge,
+}
+
+/// What octets ask for.
+#[derive(Clone, Copy, Debug, PartialEq, Eq)]
+pub enum Reading {
+    /// The head isn't whole.
+    More,
+    /// A resource, by this method.
+    Wanted { method: Method, resource: Resource },
+    /// It isn't answered, and why.
+    Refused(Refusal),
+}
+
+/// What the octets ask for, as far as they have come, of a server of this name. The whole head is read again at each call; it is
+/// short.
+pub fn judge(octets: &[u8], name: &[u8]) -> Reading
+    ensures { IsReading name.now octets.now result }
+{
+    let mut fields = [EMPTY_HEADER_SPAN; MOST_FIELDS];
+    match parse_request(octets, &mut fields) {
+        Ok(Status::Complete(head)) => {
+            if !is_named(octets, &fields[..head.headers], head.version, name) {
+                return Reading::Refused(Refusal::OtherHost);
+            }
+            let Some(method) = method_named(head.method.of(octets)) else {
+                return Reading::Refused(Refusal::MethodNotAllowed);
+            };
+            let Some(resource) = resource_at(path(head.path.of(octets))) else {
+                return Reading::Refused(Refusal::NotFound);
+            };
+            Reading::Wanted { method, resource }
+        }
+        Ok(Status::Partial) if octets.len() < MOST_OCTETS => Reading::More,
+        Ok(Status::Partial) | Err(Error::TooManyHeaders) => Reading::Refused(Refusal::TooLarge),
+        Err(_) => Reading::Refused(Refusal::BadRequest),
+    }
+}
