@@ -7,7 +7,7 @@ use percent_encoding::{AsciiSet, CONTROLS, ascii_set, percent_encode};
 use std::fmt;
 
 /// The octets below 80 (hexadecimal) that are not shown as they are: those below 21, 7F and `%`.
-const HIDDEN: AsciiSet = ascii_set!(CONTROLS.add(b' ').add(b'%'));
+pub const HIDDEN: AsciiSet = ascii_set!(CONTROLS.add(b' ').add(b'%'));
 
 /// Octets of strangers as one word of shown text: the octets 21 to 7E (hexadecimal) but `%` stay as they are, and each other one is
 /// `%` with two upper-case hexadecimal digits. No octet at all is shown as `-`, and a `-` alone as `%2D`.

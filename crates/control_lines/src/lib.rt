@@ -10,7 +10,7 @@ mod verb;
 
 pub use answer::{AnswerEnd, read_answer};
 pub use command::{Command, LineFault};
-pub use escaped::Escaped;
+pub use escaped::{Escaped, HIDDEN};
 pub use laws::{
     cut_answer_has_no_end, escaped_is_one_word, escaped_is_read_back, line_has_one_meaning,
     line_is_short, most_is_reached, others_are_hidden,

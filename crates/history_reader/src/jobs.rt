@@ -98,7 +98,7 @@ impl Job {
     }
 
     /// What an entry makes of a job.
-    fn change(&mut self, alloc: Global, entry: &Entry) -> Result<(), AllocError>
+    pub fn change(&mut self, alloc: Global, entry: &Entry) -> Result<(), AllocError>
         requires granted { self.old.granted < 2 ^ 63 }
         requires handed { self.old.handed < 2 ^ 63 }
         requires back { self.old.back < 2 ^ 63 }

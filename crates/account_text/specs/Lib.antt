@@ -1,0 +1,4 @@
+pub mod Lines
+pub mod Meant
+pub mod Reading
+pub mod Told

@@ -1,0 +1,4 @@
+pub mod Held
+pub mod KeptPages
+pub mod Made
+pub mod OneQueue

@@ -1,0 +1,4 @@
+pub mod HeadsBack
+pub mod InTurn
+pub mod Ranged
+pub mod Same
