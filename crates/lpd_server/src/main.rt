@@ -5,15 +5,16 @@ ghost use Rattle.std.specs.Prelude.{◌≡◌, ◌≤◌};
 ghost use Rattle.std.specs.Process.{exit_status};
 ghost use Rattle.lpd_words.specs.Outcome.{IfEnded};
 
+use log::filter::{Builder, Filter, FilteredLog};
 use log::sink::Console;
-use log::{Level, Log, Logged, error, info};
+use log::{Level, LevelFilter, Log, Logged, error, info};
 use log_lines::{LineLog, LineQueue, LogForm};
 use lpd_daemon::{Counter, JOB_LINES, OpenFault, Plan};
-use lpd_words::{ControlRequest, Outcome};
+use lpd_words::{ControlRequest, Outcome, PROGRESS, Unread};
 use program_edge::{
     FaultName, Settings, StreamReader, StreamWriter, fill_standard_descriptors, tell, tell_cause,
 };
-use std::alloc::Global;
+use std::alloc::{AllocError, Global};
 use std::fs::{File, Files};
 use std::io::{IsTerminal, Lock, Write};
 use std::net::{Net, TcpListener, TcpStream};
@@ -36,15 +37,27 @@ fn most_told(informs: bool) -> Level {
     if informs { Level::Info } else { Level::Warn }
 }
 
+/// What is logged where no server is asked for: as `most_told` says, and how far a job is where that is asked for.
+fn told(alloc: Global, is_terminal: bool) -> Result<Filter, AllocError> {
+    let most = LevelFilter::from(most_told(is_terminal));
+    let builder = Builder::new(alloc).filter_level(most)?;
+    Ok(builder.filter_module(PROGRESS, LevelFilter::Info)?.build())
+}
+
 /// Does what the words ask for, but for serving and for commands to a server.
 fn run<'a>(rt: &HostRuntime, words: &'a [String]) -> Outcome<'a>
     ensures { IfEnded result (λ status. status ≤ 5) }
 {
+    let alloc = rt.alloc();
     let mut input = StreamReader::new(rt.stdin().lock());
     let mut output = StreamWriter::new(rt.stdout().lock());
     let mut faults = StreamWriter::new(rt.stderr());
-    let logged = Logged::new(*rt, most_told(rt.stderr().is_terminal()), Console(*rt));
-    lpd_words::run(&logged, words, &mut input, &mut output, &mut faults)
+    let Ok(filter) = told(alloc, rt.stderr().is_terminal()) else {
+        let unread = Unread::Memory;
+        return Outcome::Ended(lpd_words::tell_unread(alloc, unread, &mut output, &mut faults));
+    };
+    let logged = Logged::new(*rt, Level::Info, FilteredLog::new(Console(*rt), filter));
+    lpd_words::run(&logged, rt, words, &mut input, &mut output, &mut faults)
 }
 
 /// Sends a command to a server's control socket, and prints the answer. Answers the exit status.

@@ -26,6 +26,9 @@ job_lacks_server rows envelope.Line lacks = absurd lacks
 job_lacks_server rows (envelope.Network text) lacks = absurd lacks
 job_lacks_server rows (envelope.Control text) lacks = absurd lacks
 job_lacks_server rows (envelope.Log text) lacks = absurd lacks
+job_lacks_server rows (envelope.Status text) lacks = absurd lacks
+job_lacks_server rows (envelope.StatusHost text) lacks = absurd lacks
+job_lacks_server rows envelope.NoStatus lacks = absurd lacks
 job_lacks_server rows (envelope.Printer text) lacks = absurd lacks
 job_lacks_server rows (envelope.PrinterTwice text) lacks = absurd lacks
 job_lacks_server rows envelope.Command lacks = absurd lacks
@@ -46,6 +49,9 @@ question_lacks_server name rows envelope.Line asks lacks = absurd lacks
 question_lacks_server name rows (envelope.Network text) asks lacks = absurd lacks
 question_lacks_server name rows (envelope.Control text) asks lacks = absurd lacks
 question_lacks_server name rows (envelope.Log text) asks lacks = absurd lacks
+question_lacks_server name rows (envelope.Status text) asks lacks = absurd lacks
+question_lacks_server name rows (envelope.StatusHost text) asks lacks = absurd lacks
+question_lacks_server name rows envelope.NoStatus asks lacks = absurd lacks
 question_lacks_server name rows (envelope.Printer text) asks lacks = absurd lacks
 question_lacks_server name rows (envelope.PrinterTwice text) asks lacks = absurd lacks
 question_lacks_server name rows envelope.Command asks lacks = absurd lacks
@@ -66,22 +72,25 @@ lacks_query name rows envelope.Line lacks = absurd lacks
 lacks_query name rows (envelope.Network text) lacks = absurd lacks
 lacks_query name rows (envelope.Control text) lacks = absurd lacks
 lacks_query name rows (envelope.Log text) lacks = absurd lacks
+lacks_query name rows (envelope.Status text) lacks = absurd lacks
+lacks_query name rows (envelope.StatusHost text) lacks = absurd lacks
+lacks_query name rows envelope.NoStatus lacks = absurd lacks
 lacks_query name rows (envelope.Printer text) lacks = absurd lacks
 lacks_query name rows (envelope.PrinterTwice text) lacks = absurd lacks
 lacks_query name rows envelope.Command lacks = absurd lacks
 
 -- different numbers
-apart : (m n : ℕ) → (m == n) ≡ false → m ≡ n → ⊥
+pub apart : (m n : ℕ) → (m == n) ≡ false → m ≡ n → ⊥
 apart m n differ e =
     let same = eq-eqb m n e in
     cc
 
 -- the third octets of two names that are one
-third : (name one other : Text) → name ≡ one → name ≡ other → slice_index one 2 ≡ slice_index other 2
+pub third : (name one other : Text) → name ≡ one → name ≡ other → slice_index one 2 ≡ slice_index other 2
 third name one other is e = ap (λ (t : Text). slice_index t 2) (sym is ∙ e)
 
 -- a name whose third octet is neither that of state and start nor that of remove asks a server nothing
-no_query : (name one : Text) (rows : List Row) → name ≡ one → (slice_index one 2 == 97) ≡ false → (slice_index one 2 == 109) ≡ false
+pub no_query : (name one : Text) (rows : List Row) → name ≡ one → (slice_index one 2 == 97) ≡ false → (slice_index one 2 == 109) ≡ false
     → (command : Command) → IsQuery name rows command → ⊥
 no_query name one rows is a m (PrintWaiting queue) h =
     apart (slice_index one 2) 97 a (third name one (codes "start") is h.0)
@@ -124,7 +133,7 @@ no_command name rows start state remove (Remove queue agent list) h = remove h.0
 
 no_job : (name : Text) (rows : List Row) → name ≡ codes "send" → LacksWords rows envelope.Missing → (asked : Ask) → IsAsked (Some (name, rows)) asked → ⊥
 no_job name rows is lacks Input h = absurd h
-no_job name rows is lacks (Check config sizes printers spool) h =
+no_job name rows is lacks (Check checking) h =
     apart 110 101 refl (third name (codes "send") (codes "check") is h.0)
 no_job name rows is lacks (Replay config script) h =
     apart 110 112 refl (third name (codes "send") (codes "replay") is h.0)
@@ -136,27 +145,10 @@ no_job name rows is lacks (Serve config settings) h =
 no_job name rows is lacks (Control request) h =
     apart 4 7 refl (ap (λ (t : Text). length t) (sym is ∙ h.0))
 
--- words that ask to check a configuration at no path ask for nothing
-pub no_check : (name : Text) (rows : List Row) → name ≡ codes "check" → first_of (codes "config") rows ≡ None → (asked : Ask) → IsAsked (Some (name, rows)) asked → ⊥
-no_check name rows is none Input h = absurd h
-no_check name rows is none (Check config sizes printers spool) h =
-    let bad = sym none ∙ h.1 in
-    cc
-no_check name rows is none (Replay config script) h =
-    apart 101 112 refl (third name (codes "check") (codes "replay") is h.0)
-no_check name rows is none (Send sending envelope) h =
-    apart 101 110 refl (third name (codes "check") (codes "send") is h.0)
-no_check name rows is none (Question question) h =
-    no_query name (codes "check") rows is refl refl question.command h.query
-no_check name rows is none (Serve config settings) h =
-    apart 101 114 refl (third name (codes "check") (codes "serve") is h.0)
-no_check name rows is none (Control request) h =
-    apart 101 110 refl (third name (codes "check") (codes "control") is h.0)
-
--- nor do those that ask to replay one, or a script, at no path
+-- words that ask to replay a configuration, or a script, at no path ask for nothing
 pub no_replay : (name : Text) (rows : List Row) → name ≡ codes "replay" → (first_of (codes "config") rows ≡ None) ⊎ (first_of (codes "script") rows ≡ None) → (asked : Ask) → IsAsked (Some (name, rows)) asked → ⊥
 no_replay name rows is none Input h = absurd h
-no_replay name rows is none (Check config sizes printers spool) h =
+no_replay name rows is none (Check checking) h =
     apart 112 101 refl (third name (codes "replay") (codes "check") is h.0)
 no_replay name rows is (inl none) (Replay config script) h =
     let bad = sym none ∙ h.1 in
@@ -173,10 +165,10 @@ no_replay name rows is none (Serve config settings) h =
 no_replay name rows is none (Control request) h =
     apart 112 110 refl (third name (codes "replay") (codes "control") is h.0)
 
--- nor those that ask to serve one at no path
+-- nor do those that ask to serve one at no path
 pub no_serving : (name : Text) (rows : List Row) → name ≡ codes "serve" → first_of (codes "config") rows ≡ None → (asked : Ask) → IsAsked (Some (name, rows)) asked → ⊥
 no_serving name rows is none Input h = absurd h
-no_serving name rows is none (Check config sizes printers spool) h =
+no_serving name rows is none (Check checking) h =
     apart 114 101 refl (third name (codes "serve") (codes "check") is h.0)
 no_serving name rows is none (Replay config script) h =
     apart 114 112 refl (third name (codes "serve") (codes "replay") is h.0)
@@ -192,7 +184,7 @@ no_serving name rows is none (Control request) h =
 
 no_request : (name : Text) (rows : List Row) → name ≡ codes "control" → LacksRequest rows envelope.Missing → (asked : Ask) → IsAsked (Some (name, rows)) asked → ⊥
 no_request name rows is lacks Input h = absurd h
-no_request name rows is lacks (Check config sizes printers spool) h =
+no_request name rows is lacks (Check checking) h =
     apart 110 101 refl (third name (codes "control") (codes "check") is h.0)
 no_request name rows is lacks (Replay config script) h =
     apart 110 112 refl (third name (codes "control") (codes "replay") is h.0)
@@ -209,6 +201,9 @@ pub asks_no_request : (name : Text) (rows : List Row) (fault : WordFault) → na
 asks_no_request name rows envelope.Missing is lacks = no_request name rows is lacks
 asks_no_request name rows (envelope.Control text) is lacks = inr (is, lacks)
 asks_no_request name rows (envelope.Log text) is lacks = absurd lacks
+asks_no_request name rows (envelope.Status text) is lacks = absurd lacks
+asks_no_request name rows (envelope.StatusHost text) is lacks = absurd lacks
+asks_no_request name rows envelope.NoStatus is lacks = absurd lacks
 asks_no_request name rows envelope.Command is lacks = (is, lacks)
 asks_no_request name rows envelope.Memory is lacks = tt
 asks_no_request name rows envelope.Queue is lacks = absurd lacks
@@ -238,6 +233,9 @@ asks_no_job name rows envelope.Line is lacks = absurd lacks
 asks_no_job name rows (envelope.Network text) is lacks = absurd lacks
 asks_no_job name rows (envelope.Control text) is lacks = absurd lacks
 asks_no_job name rows (envelope.Log text) is lacks = absurd lacks
+asks_no_job name rows (envelope.Status text) is lacks = absurd lacks
+asks_no_job name rows (envelope.StatusHost text) is lacks = absurd lacks
+asks_no_job name rows envelope.NoStatus is lacks = absurd lacks
 asks_no_job name rows (envelope.Printer text) is lacks = absurd lacks
 asks_no_job name rows (envelope.PrinterTwice text) is lacks = absurd lacks
 asks_no_job name rows envelope.Command is lacks = absurd lacks
@@ -249,7 +247,7 @@ asks_no_question name rows envelope.Missing check replay send serve control lack
   where
     go : (asked : Ask) → IsAsked (Some (name, rows)) asked → ⊥
     go Input h = absurd h
-    go (Check config sizes printers spool) h = check h.0
+    go (Check checking) h = check h.0
     go (Replay config script) h = replay h.0
     go (Send sending envelope) h = send h.0
     go (Question question) h = lacks question h
@@ -268,6 +266,9 @@ asks_no_question name rows envelope.Address check replay send serve control lack
 asks_no_question name rows (envelope.Network text) check replay send serve control lacks = absurd lacks
 asks_no_question name rows (envelope.Control text) check replay send serve control lacks = absurd lacks
 asks_no_question name rows (envelope.Log text) check replay send serve control lacks = absurd lacks
+asks_no_question name rows (envelope.Status text) check replay send serve control lacks = absurd lacks
+asks_no_question name rows (envelope.StatusHost text) check replay send serve control lacks = absurd lacks
+asks_no_question name rows envelope.NoStatus check replay send serve control lacks = absurd lacks
 asks_no_question name rows (envelope.Printer text) check replay send serve control lacks = absurd lacks
 asks_no_question name rows (envelope.PrinterTwice text) check replay send serve control lacks = absurd lacks
 asks_no_question name rows envelope.Command check replay send serve control lacks = absurd lacks

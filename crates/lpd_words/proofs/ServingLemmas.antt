@@ -1,5 +1,5 @@
 -- The values of the words of a server, by the rows of a parse.
-use Rattle.std.proofs.Common.{◌≡◌, ◌∙◌, ◌<◌, ◌^◌, inl, inr, sym, refl, ap, arith, slice_index, ℕ, List, Option, Some, None, Result, Ok, Err, IfOk, IfErr, option_map, unwrap_or, codes}
+use Rattle.std.proofs.Common.{◌≡◌, ◌∙◌, ◌<◌, ◌^◌, inl, sym, refl, ap, arith, slice_index, ℕ, List, Option, Some, None, Result, Ok, Err, IfOk, IfErr, option_map, unwrap_or, codes}
 use Rattle.std.specs.Borrow.{Bor}
 use Rattle.std.specs.Str.Parse.{ParsesUnsigned, digits_value, without_leading_plus}
 use Rattle.clap.specs.Words.{Row, Text, TriesOne, first_of, one_of}
@@ -8,7 +8,7 @@ use Rattle.lpd_commands.specs.declared.command.Command.TheVariants.{PrintWaiting
 use Rattle.lpd_words.specs.Asked.{IsAsked}
 use Rattle.lpd_words.specs.Questions.{IsQuery}
 use Rattle.lpd_words.specs.Values.{IsGiven}
-use Rattle.lpd_words.specs.Refused.{AsksNothing, HasNoCount, HasNoLimit, HasNoPrinters, LacksServing}
+use Rattle.lpd_words.specs.Refused.{AsksNothing, HasNoCount, HasNoLimit, LacksServing}
 use Rattle.lpd_words.specs.Serving.{IsLog}
 use Rattle.lpd_words.specs.declared.envelope.WordFault.{WordFault}
 use Rattle.lpd_words.specs.declared.envelope.WordFault.TheVariants as envelope
@@ -75,7 +75,7 @@ no_query name rows (Remove queue agent list) is h =
 -- words that ask to serve, and don't say how, ask for nothing
 no_server : (name : Text) (rows : List Row) → name ≡ codes "serve" → LacksServing rows envelope.Missing → (asked : Ask) → IsAsked (Some (name, rows)) asked → ⊥
 no_server name rows is lacks Input h = absurd h
-no_server name rows is lacks (Check config sizes printers spool) h =
+no_server name rows is lacks (Check checking) h =
     below 101 (omega arith) (third name (codes "check") is h.0)
 no_server name rows is lacks (Replay config script) h =
     below 112 (omega arith) (third name (codes "replay") is h.0)
@@ -92,8 +92,11 @@ asks_no_server name rows envelope.Address is lacks = (is, lacks)
 asks_no_server name rows envelope.Server is lacks = absurd lacks
 asks_no_server name rows envelope.Line is lacks = absurd lacks
 asks_no_server name rows (envelope.Network text) is lacks = (is, lacks)
-asks_no_server name rows (envelope.Control text) is lacks = inl (is, lacks)
+asks_no_server name rows (envelope.Control text) is lacks = inl (inl is, lacks)
 asks_no_server name rows (envelope.Log text) is lacks = (is, lacks)
+asks_no_server name rows (envelope.Status text) is lacks = (is, lacks)
+asks_no_server name rows (envelope.StatusHost text) is lacks = (is, lacks)
+asks_no_server name rows envelope.NoStatus is lacks = (is, lacks)
 asks_no_server name rows (envelope.Printer text) is lacks = (inl is, lacks)
 asks_no_server name rows (envelope.PrinterTwice text) is lacks = (inl is, lacks)
 asks_no_server name rows envelope.Command is lacks = absurd lacks
@@ -109,25 +112,6 @@ asks_no_server name rows envelope.Memory is lacks = tt
 pub no_limit : (rows : List Row) (id : Text) → HasNoCount rows id → HasNoLimit rows id
 no_limit rows id none None is = none None is
 no_limit rows id none (Some n) is = none (Some n) is.0
-
--- words that ask to check, and don't say what printers print to, ask for nothing
-pub asks_no_check : (name : Text) (rows : List Row) (fault : WordFault) → name ≡ codes "check" → HasNoPrinters rows fault → AsksNothing (Some (name, rows)) fault
-asks_no_check name rows (envelope.Printer text) is lacks = (inr is, lacks)
-asks_no_check name rows (envelope.PrinterTwice text) is lacks = (inr is, lacks)
-asks_no_check name rows envelope.Memory is lacks = tt
-asks_no_check name rows envelope.Address is lacks = absurd lacks
-asks_no_check name rows envelope.Server is lacks = absurd lacks
-asks_no_check name rows envelope.Line is lacks = absurd lacks
-asks_no_check name rows (envelope.Network text) is lacks = absurd lacks
-asks_no_check name rows (envelope.Control text) is lacks = absurd lacks
-asks_no_check name rows (envelope.Log text) is lacks = absurd lacks
-asks_no_check name rows envelope.Command is lacks = absurd lacks
-asks_no_check name rows envelope.Missing is lacks = absurd lacks
-asks_no_check name rows envelope.Queue is lacks = absurd lacks
-asks_no_check name rows envelope.Host is lacks = absurd lacks
-asks_no_check name rows envelope.User is lacks = absurd lacks
-asks_no_check name rows envelope.Files is lacks = absurd lacks
-asks_no_check name rows envelope.Number is lacks = absurd lacks
 
 -- a text that names no form of the log's lines is none of an option that names one
 pub no_log : (rows : List Row) (text : Text) → first_of (codes "log") rows ≡ Some text → ((form : LogForm) → IsFormName text form → ⊥) → (form : LogForm) → IsLog rows form → ⊥

@@ -1,12 +1,13 @@
 -- What the words ask for, by what clap reads of them.
-use Rattle.std.specs.Prelude.{◌≡◌, ◌≤◌, ◌<◌, List, Option, Some, None, codes, length, map, option_map}
+use Rattle.std.specs.Prelude.{◌≡◌, ◌≤◌, ◌<◌, List, Option, Some, None, codes, length, map}
 use Rattle.std.specs.List.{join_with_byte}
 use Rattle.clap.specs.Words.{Row, Text, all_of, first_of}
 use Rattle.control_lines.specs.Commands.{Means}
 use Rattle.control_lines.specs.declared.command.Command.{Command}
+use Rattle.lpd_words.specs.Checking.{IsChecking}
 use Rattle.lpd_words.specs.Naming.{IsEnvelope}
 use Rattle.lpd_words.specs.Questions.{IsQuestion, IsServer}
-use Rattle.lpd_words.specs.Serving.{ArePrinters, IsServing}
+use Rattle.lpd_words.specs.Serving.{IsServing}
 use Rattle.lpd_words.specs.Values.{IsFlag, IsNumber}
 use Rattle.lpd_words.specs.declared.words.Ask.{Ask}
 use Rattle.lpd_words.specs.declared.words.Ask.TheVariants.{Input, Check, Replay, Send, Question, Serve, Control}
@@ -22,6 +23,7 @@ pub record IsSending (rows : List Row) (sending : Sending) : Type 0 where
   pub host : first_of (codes "host") rows ≡ Some sending.host.now
   pub user : first_of (codes "user") rows ≡ Some sending.user.now
   pub files : all_of (codes "file") rows ≡ Some (map (λ file. file.now) sending.files.items)
+  pub progress : IsFlag rows (codes "progress") sending.progress
 
 -- the path of a control socket, no longer than one may be
 abbrev pub IsPath : List Row → Text → Type 0
@@ -40,10 +42,7 @@ pub record IsControlRequest (rows : List Row) (request : ControlRequest) : Type 
 -- what the command of this name with the words of these rows asks for
 abbrev pub IsAskedBy : Text → List Row → Ask → Type 0
 IsAskedBy name rows Input = ⊥
-IsAskedBy name rows (Check config sizes printers spool) =
-    (name ≡ codes "check") × (first_of (codes "config") rows ≡ Some config.now)
-    × IsFlag rows (codes "sizes") sizes × ArePrinters rows printers.items
-    × (option_map (λ path. path.now) spool ≡ first_of (codes "spool") rows)
+IsAskedBy name rows (Check checking) = (name ≡ codes "check") × IsChecking rows checking
 IsAskedBy name rows (Replay config script) =
     (name ≡ codes "replay") × (first_of (codes "config") rows ≡ Some config.now)
     × (first_of (codes "script") rows ≡ Some script.now)
@@ -57,7 +56,7 @@ IsAskedBy name rows (Control request) = (name ≡ codes "control") × IsControlR
 
 -- a check is asked for, and something is said of printers
 abbrev pub ChecksPrinters : Ask → Type 0
-ChecksPrinters (Check config sizes printers spool) = 0 < length printers.items
+ChecksPrinters (Check checking) = 0 < length checking.printers.items
 ChecksPrinters asked = ⊥
 
 -- what words ask for: what their command asks for, and without one what the input asks

@@ -3,15 +3,9 @@ use Rattle.std.specs.Prelude.{◌∷◌, List, codes, pos, true, []}
 use Rattle.clap.specs.Words.{App, Rule, new_app}
 use Rattle.clap.specs.declared.builder.value_parser.ValueParser.TheVariants as parser
 use Rattle.lpd_words.specs.Questions.{remove_app, server_option, server_port, start_app, state_app}
-use Rattle.lpd_words.specs.Rules.{flag, number, option, with_commands, with_rules, word, words}
-use Rattle.lpd_words.specs.Serving.{printer, serve_app}
-
--- the words and options of `check`
-abbrev pub check_words : List Rule
-check_words = word (codes "config") ∷ flag (codes "sizes") ∷ printer ∷ option (codes "spool") ∷ []
-
-abbrev pub check_app : App
-check_app = with_rules (new_app (codes "check")) check_words
+use Rattle.lpd_words.specs.Rules.{flag, number, with_commands, with_rules, word, words}
+use Rattle.lpd_words.specs.Checking.{check_app}
+use Rattle.lpd_words.specs.Serving.{serve_app}
 
 -- the words of `replay`
 abbrev pub replay_words : List Rule
@@ -24,7 +18,7 @@ replay_app = with_rules (new_app (codes "replay")) replay_words
 abbrev pub send_words : List Rule
 send_words =
     server_port ∷ word (codes "queue") ∷ number (codes "number") (parser.Signed (pos 0) (pos 999))
-    ∷ word (codes "host") ∷ word (codes "user") ∷ words (codes "file") ∷ server_option ∷ []
+    ∷ word (codes "host") ∷ word (codes "user") ∷ words (codes "file") ∷ server_option ∷ flag (codes "progress") ∷ []
 
 abbrev pub send_app : App
 send_app = with_rules (new_app (codes "send")) send_words

@@ -1,4 +1,4 @@
--- What `check` prints of the folder in which a server is to keep jobs.
+-- What `check` prints of what a server has in the system's files.
 use Rattle.std.specs.Prelude.{◌++◌, ℕ, List, codes}
 use Rattle.std.specs.Fmt.{decimal}
 use Rattle.job_disk.specs.declared.looking.FolderState.{FolderState}
@@ -10,3 +10,11 @@ folder_line path Absent = codes "spool " ++ path ++ codes " will be made\n"
 folder_line path (Present waiting failed) =
     codes "spool " ++ path ++ codes " waiting " ++ decimal waiting ++ codes " failed "
     ++ decimal failed ++ codes "\n"
+
+-- that the directory of printers' files is there
+abbrev pub out_line : List ℕ → List ℕ
+out_line path = codes "out " ++ path ++ codes " is there\n"
+
+-- that a control socket could be made
+abbrev pub socket_line : List ℕ → List ℕ
+socket_line path = codes "control " ++ path ++ codes " will be made\n"

@@ -1,6 +1,7 @@
 -- The words of this crate's contracts.
 pub mod Asked
 pub mod Causes
+pub mod Checking
 pub mod CommandLine
 pub mod Controlling
 pub mod DataFiles
@@ -9,6 +10,7 @@ pub mod Naming
 pub mod Order
 pub mod Outcome
 pub mod Places
+pub mod Progress
 pub mod Questions
 pub mod Refused
 pub mod Rules

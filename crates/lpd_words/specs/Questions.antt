@@ -1,5 +1,5 @@
 -- Questions for a server, and requests to start printers: as clap sees their words, what they say, and what comes of them.
-use Rattle.std.specs.Prelude.{◌≡◌, ◌++◌, ◌∷◌, ℕ, List, [], Option, Some, None, Result, Ok, Err, codes, pos, unwrap_or}
+use Rattle.std.specs.Prelude.{◌≡◌, ◌++◌, ◌∷◌, ℕ, List, [], Option, Some, Result, Ok, Err, codes, pos, unwrap_or}
 use Rattle.clap.specs.Words.{App, Row, Rule, Text, all_of, first_of, new_app}
 use Rattle.clap.specs.declared.builder.value_parser.ValueParser.TheVariants as parser
 use Rattle.lpd_commands.specs.Ends.{Writes}

@@ -16,6 +16,8 @@ use Rattle.lpd_values.specs.Kept.{is_operand}
 use Rattle.lpd_values.specs.Kinds.{is_word_octet}
 use Rattle.lpd_values.specs.declared.limits.TheConstants.{MAX_FILES}
 use Rattle.lpd_words.specs.Asked.{ChecksPrinters, IsAsked}
+use Rattle.lpd_words.specs.Checking.{IsChecking}
+use Rattle.lpd_words.specs.declared.checking.Checking.{Checking}
 use Rattle.lpd_words.specs.Serving.{AreAllowed, AreLimits, AreOfDifferentPrinters, ArePrinterLimits, IsLog}
 use Rattle.program_edge.specs.declared.settings.TheConstants.{MOST_CONTROL_PATH}
 use Rattle.lpd_words.specs.Values.{HasNoNumber, IsAddress, IsGiven, IsGivenOr, IsLimit}
@@ -34,11 +36,13 @@ use Rattle.lpd_words.specs.declared.words.Unread.TheVariants.{Shown, Refused, Me
 use Rattle.program_edge.specs.Networks.{IsNetworkText}
 use Rattle.program_edge.specs.declared.networks.Network.{Network}
 use Rattle.program_edge.specs.Places.{IsPrinterText}
+use Rattle.program_edge.specs.StatusPlaces.{IsHostName, IsStatusText}
 use Rattle.program_edge.specs.declared.places.PrinterPlace.{PrinterPlace}
 use Rattle.program_edge.specs.declared.settings.Limits.{Limits}
 use Rattle.program_edge.specs.declared.settings.LogForm.{LogForm}
 use Rattle.program_edge.specs.declared.settings.PrinterLimits.{PrinterLimits}
 use Rattle.program_edge.specs.declared.settings.Settings.{Settings}
+use Rattle.program_edge.specs.declared.status.StatusPlace.{StatusPlace}
 
 -- a host that can stand in the names of files: 1 to 120 octets of words
 abbrev pub is_host : List ℕ → Bool
@@ -64,6 +68,9 @@ IsWrong s envelope.Line = ⊥
 IsWrong s (envelope.Network text) = ⊥
 IsWrong s (envelope.Control text) = ⊥
 IsWrong s (envelope.Log text) = ⊥
+IsWrong s (envelope.Status text) = ⊥
+IsWrong s (envelope.StatusHost text) = ⊥
+IsWrong s envelope.NoStatus = ⊥
 IsWrong s (envelope.Printer text) = ⊥
 IsWrong s (envelope.PrinterTwice text) = ⊥
 IsWrong s envelope.Command = ⊥
@@ -148,6 +155,23 @@ HasNoLog rows (envelope.Log text) =
 HasNoLog rows envelope.Memory = Unit {0}
 HasNoLog rows fault = ⊥
 
+-- a text names no place for the status, and so the option names none; or memory was refused
+abbrev pub HasNoStatus : List Row → WordFault → Type 0
+HasNoStatus rows (envelope.Status text) =
+    (first_of (codes "status") rows ≡ Some (string_bytes text))
+    × ((place : StatusPlace) → IsStatusText (string_bytes text) place → ⊥)
+HasNoStatus rows envelope.Memory = Unit {0}
+HasNoStatus rows fault = ⊥
+
+-- the name by which the status may be asked for is none, or it is shown nowhere; or memory was refused
+abbrev pub HasNoStatusHost : List Row → WordFault → Type 0
+HasNoStatusHost rows (envelope.StatusHost text) =
+    (first_of (codes "status-host") rows ≡ Some (string_bytes text)) × (IsHostName (string_bytes text) → ⊥)
+HasNoStatusHost rows envelope.NoStatus =
+    (first_of (codes "status-host") rows ≢ None) × (first_of (codes "status") rows ≡ None)
+HasNoStatusHost rows envelope.Memory = Unit {0}
+HasNoStatusHost rows fault = ⊥
+
 -- the option for printers gives this text behind others, which say this of printers, of each once
 abbrev pub IsBehind : List Row → List PrinterPlace → Text → Type 0
 IsBehind rows printers text =
@@ -167,6 +191,15 @@ HasNoPrinters rows (envelope.PrinterTwice text) =
 HasNoPrinters rows envelope.Memory = Unit {0}
 HasNoPrinters rows fault = ⊥
 
+-- the words of a configuration that is checked aren't all there, or wrong
+abbrev pub LacksChecking : List Row → WordFault → Type 0
+LacksChecking rows envelope.Missing = (checking : Checking) → IsChecking rows checking → ⊥
+LacksChecking rows (envelope.Control text) = HasNoControl rows (envelope.Control text)
+LacksChecking rows (envelope.Printer text) = HasNoPrinters rows (envelope.Printer text)
+LacksChecking rows (envelope.PrinterTwice text) = HasNoPrinters rows (envelope.PrinterTwice text)
+LacksChecking rows envelope.Memory = Unit {0}
+LacksChecking rows fault = ⊥
+
 -- what a printer on the network may do isn't given by numbers above 0
 abbrev pub HasNoPrinterLimits : List Row → Type 0
 HasNoPrinterLimits rows = (limits : PrinterLimits) → ArePrinterLimits rows limits → ⊥
@@ -182,6 +215,9 @@ LacksServing rows envelope.Missing = (s : Settings) → IsServing rows s → ⊥
 LacksServing rows (envelope.Network text) = HasNoNetworks rows (envelope.Network text)
 LacksServing rows (envelope.Control text) = HasNoControl rows (envelope.Control text)
 LacksServing rows (envelope.Log text) = HasNoLog rows (envelope.Log text)
+LacksServing rows (envelope.Status text) = HasNoStatus rows (envelope.Status text)
+LacksServing rows (envelope.StatusHost text) = HasNoStatusHost rows (envelope.StatusHost text)
+LacksServing rows envelope.NoStatus = HasNoStatusHost rows envelope.NoStatus
 LacksServing rows (envelope.Printer text) = HasNoPrinters rows (envelope.Printer text)
 LacksServing rows (envelope.PrinterTwice text) = HasNoPrinters rows (envelope.PrinterTwice text)
 LacksServing rows envelope.Memory = Unit {0}
@@ -237,16 +273,27 @@ LacksRequest rows envelope.Command = HasNoCommand rows envelope.Command
 LacksRequest rows envelope.Memory = Unit {0}
 LacksRequest rows fault = ⊥
 
--- words ask to serve, and name a control socket that can't be, or to send a command to one that can't be
+-- words ask to serve or to check, and name a control socket that can't be, or to send a command to one that can't be
 abbrev pub NamesNoControl : Option (Text × List Row) → WordFault → Type 0
 NamesNoControl None fault = ⊥
 NamesNoControl (Some met) fault =
-    ((met.0 ≡ codes "serve") × HasNoControl met.1 fault) ⊎ ((met.0 ≡ codes "control") × HasNoPath met.1 fault)
+    (((met.0 ≡ codes "serve") ⊎ (met.0 ≡ codes "check")) × HasNoControl met.1 fault)
+    ⊎ ((met.0 ≡ codes "control") × HasNoPath met.1 fault)
 
 -- words ask to serve, and name no form of the log's lines
 abbrev pub NamesNoLog : Option (Text × List Row) → WordFault → Type 0
 NamesNoLog None fault = ⊥
 NamesNoLog (Some met) fault = (met.0 ≡ codes "serve") × HasNoLog met.1 fault
+
+-- words ask to serve, and name no place for the status
+abbrev pub NamesNoStatus : Option (Text × List Row) → WordFault → Type 0
+NamesNoStatus None fault = ⊥
+NamesNoStatus (Some met) fault = (met.0 ≡ codes "serve") × HasNoStatus met.1 fault
+
+-- words ask to serve, and name no host for the status, or one for none
+abbrev pub NamesNoStatusHost : Option (Text × List Row) → WordFault → Type 0
+NamesNoStatusHost None fault = ⊥
+NamesNoStatusHost (Some met) fault = (met.0 ≡ codes "serve") × HasNoStatusHost met.1 fault
 
 -- words ask to send a command that is none
 abbrev pub NamesNoCommand : Option (Text × List Row) → WordFault → Type 0
@@ -268,6 +315,9 @@ AsksNothing met envelope.Line = NamesNoLine met
 AsksNothing met (envelope.Network text) = NamesNoNetworks met (envelope.Network text)
 AsksNothing met (envelope.Control text) = NamesNoControl met (envelope.Control text)
 AsksNothing met (envelope.Log text) = NamesNoLog met (envelope.Log text)
+AsksNothing met (envelope.Status text) = NamesNoStatus met (envelope.Status text)
+AsksNothing met (envelope.StatusHost text) = NamesNoStatusHost met (envelope.StatusHost text)
+AsksNothing met envelope.NoStatus = NamesNoStatusHost met envelope.NoStatus
 AsksNothing met (envelope.Printer text) = NamesNoPrinters met (envelope.Printer text)
 AsksNothing met (envelope.PrinterTwice text) = NamesNoPrinters met (envelope.PrinterTwice text)
 AsksNothing met envelope.Command = NamesNoCommand met envelope.Command

@@ -9,6 +9,7 @@ use Rattle.lpd_words.specs.Values.{IsAddress, IsFlag, IsGiven, IsGivenOr, IsLimi
 use Rattle.program_edge.specs.Networks.{NameNetworks}
 use Rattle.program_edge.specs.declared.networks.Network.{Network}
 use Rattle.program_edge.specs.Places.{IsPrinterText}
+use Rattle.program_edge.specs.StatusPlaces.{IsHostName, IsStatusText}
 use Rattle.program_edge.specs.declared.places.PrinterPlace.{PrinterPlace}
 use Rattle.program_edge.specs.declared.settings.Limits.{Limits}
 use Rattle.program_edge.specs.declared.settings.LogForm.{LogForm}
@@ -16,6 +17,7 @@ use Rattle.program_edge.specs.declared.settings.LogForm.TheVariants.{Journal, Pl
 use Rattle.program_edge.specs.declared.settings.PrinterLimits.{PrinterLimits}
 use Rattle.program_edge.specs.declared.settings.Settings.{Settings}
 use Rattle.program_edge.specs.declared.settings.TheConstants.{MOST_CONTROL_PATH}
+use Rattle.program_edge.specs.declared.status.StatusPlace.{StatusPlace}
 
 -- the port to listen on, which has to be there
 abbrev pub listening_port : Rule
@@ -37,7 +39,7 @@ serve_words =
     ∷ count (codes "per-host") ∷ count (codes "slowest") ∷ flag (codes "keep-room")
     ∷ repeated (codes "allow") ∷ option (codes "control") ∷ printer ∷ count (codes "patience")
     ∷ count (codes "printer-silence") ∷ count (codes "restart") ∷ option (codes "spool") ∷ option (codes "log")
-    ∷ flag (codes "log-jobs") ∷ []
+    ∷ flag (codes "log-jobs") ∷ option (codes "status") ∷ option (codes "status-host") ∷ []
 
 abbrev pub serve_app : App
 serve_app = with_rules (new_app (codes "serve")) serve_words
@@ -66,6 +68,18 @@ abbrev pub IsLog : List Row → LogForm → Type 0
 IsLog rows Plain = first_of (codes "log") rows ≡ None
 IsLog rows Time = first_of (codes "log") rows ≡ Some (codes "time")
 IsLog rows Journal = first_of (codes "log") rows ≡ Some (codes "journal")
+
+-- where the status is shown: what the option says, if it is there
+abbrev pub IsStatus : List Row → Option StatusPlace → Type 0
+IsStatus rows None = first_of (codes "status") rows ≡ None
+IsStatus rows (Some place) =
+    (text : Text) × (first_of (codes "status") rows ≡ Some text) × IsStatusText text place
+
+-- by which name the status may be asked for: what the option says, if it is there; then the status is shown somewhere
+abbrev pub IsStatusHost : List Row → Option Text → Type 0
+IsStatusHost rows None = first_of (codes "status-host") rows ≡ None
+IsStatusHost rows (Some name) =
+    (first_of (codes "status-host") rows ≡ Some name) × IsHostName name × (first_of (codes "status") rows ≢ None)
 
 -- no two of these are for one printer
 abbrev pub AreOfDifferentPrinters : List PrinterPlace → Type 0
@@ -100,3 +114,5 @@ pub record IsServing (rows : List Row) (settings : Settings) : Type 0 where
   pub spool : option_map (λ path. path.now) settings.spool ≡ first_of (codes "spool") rows
   pub log : IsLog rows settings.log
   pub log_jobs : IsFlag rows (codes "log-jobs") settings.log_jobs
+  pub status : IsStatus rows settings.status
+  pub status_host : IsStatusHost rows (option_map (λ name. name.now) settings.status_host)

@@ -4,7 +4,7 @@ use Rattle.lpr_client.specs.declared.send.SendFault.{SendFault}
 use Rattle.lpr_client.specs.declared.send.SendFault.TheVariants as send
 use Rattle.lpd_script.specs.Status as script
 use Rattle.lpd_words.specs.declared.fault.Fault.{Fault}
-use Rattle.lpd_words.specs.declared.fault.Fault.TheVariants.{Memory, Run, Network, Send, Printer, Folder}
+use Rattle.lpd_words.specs.declared.fault.Fault.TheVariants.{Memory, Run, Network, Send, Printer, Folder, Socket}
 
 -- 4 for memory, 5 for what the server or its connection did
 abbrev pub send_status : SendFault → ℕ
@@ -23,6 +23,7 @@ status_of Network = 4
 status_of (Send fault) = send_status fault
 status_of (Printer number text) = 1
 status_of (Folder path) = 4
+status_of (Socket path) = 4
 
 -- 0 for what was done
 abbrev pub end_status : Result (Unit {0}) Fault → ℕ

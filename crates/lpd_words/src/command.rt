@@ -2,12 +2,12 @@
 
 ghost use Rattle.std.specs.Prelude.{◌≡◌, IfOk};
 ghost use Rattle.clap.specs.Words.{app_of};
-ghost use Rattle.lpd_words.specs.CommandLine.{check_app, command_line, control_app, program_app, replay_app, send_app};
+ghost use Rattle.lpd_words.specs.CommandLine.{command_line, control_app, program_app, replay_app, send_app};
 ghost use Rattle.lpd_words.specs.Rules.{IsCommand};
 
-use crate::printers::PRINTER;
+use crate::checking::check;
 use crate::questions::{QUEUE, remove, server_option, server_port, start, state};
-use crate::rules::{flag, number, option, plain, repeated, with_words, word, words};
+use crate::rules::{flag, number, plain, with_words, word, words};
 use crate::serving::serve;
 use clap::Command;
 use clap::builder::ValueParser;
@@ -41,23 +41,6 @@ Exit status:
 A fault is one line on standard error: `fault`, its number, its name and what it is about.
 The keys of a configuration and all faults: docs/OPERATING.md; a configuration with remarks: docs/example.toml.";
 
-const MORE_OF_CHECK: &str = "\
-Prints one line, as: ok pages 1024 page_size 4096 queues 2 printers 3
-With --sizes a line more for each queue, as: queue lp jobs 622
-So many jobs fit into the account, each as large as the queue allows, between two moments without held jobs.
-With --printer, whose PLACE `serve --help` tells, a line more for each printer, as: printer 1 socket://10.0.0.9:9100
-A printer without a PLACE prints to a file of the directory that `serve --out DIR` names: printer 2 DIR/printer-2
-With --spool at last a line for DIR, as: spool DIR waiting 3 failed 0, or where it isn't there: spool DIR will be made
-Nothing is made or changed. Where `serve` couldn't take DIR the fault is told that it would have.
-
-Examples:
-  lpd_server check spool.toml
-  lpd_server check spool.toml --sizes
-  lpd_server check spool.toml --printer 1=socket://10.0.0.9
-  lpd_server check spool.toml --spool /var/spool/hurgwaye
-
-The keys of a configuration: docs/OPERATING.md, and with remarks docs/example.toml.";
-
 const MORE_OF_REPLAY: &str = "\
 Both files are read before anything is done. The lines of a script: docs/OPERATING.md.
 
@@ -67,6 +50,9 @@ Example:
 const MORE_OF_SEND: &str = "\
 Files are sent in the order given, each as it is. When the server has taken them all, prints `sent` and the
 number in three digits. A word that begins with - stands behind a word --.
+With --progress a line on standard error after each tenth of the job, but after no fewer than 65536 octets, as:
+[INFO  lpd_words::progress] sent 104867 of 1048664 octets
+Where standard error is a terminal the same lines stand there without it.
 
 Examples:
   lpd_server send 515 lp 1 myhost ann letter.txt
@@ -96,22 +82,6 @@ Examples:
   lpd_server control spool.control remove lp ann
   lpd_server control spool.control stop 60";
 
-/// The command that reads a configuration.
-fn check<'a>(alloc: Global) -> Result<Command<'a>, AllocError>
-    ensures { IfOk result (λ command. IsCommand command check_app) }
-{
-    let about = "Reads a configuration, and says what spool it is for";
-    let sizes = "Says how many jobs fit into the account";
-    let spool = "Says how many jobs wait in DIR, where a server keeps them, and how many failed";
-    let words = vec![in alloc;
-        word(alloc, "config", "CONFIG", CONFIG),
-        flag(alloc, "sizes", sizes),
-        repeated(alloc, "printer", "K=PLACE", PRINTER),
-        option(alloc, "spool", "DIR", spool),
-    ]?;
-    with_words(plain(alloc, "check", about, MORE_OF_CHECK), words)
-}
-
 /// The command that runs a script.
 fn replay<'a>(alloc: Global) -> Result<Command<'a>, AllocError>
     ensures { IfOk result (λ command. IsCommand command replay_app) }
@@ -133,6 +103,7 @@ fn send<'a>(alloc: Global) -> Result<Command<'a>, AllocError>
     let host = "The host that sends the job: 1 to 120 octets, no white space";
     let user = "The user that sends the job: 1 to 255 octets in one line";
     let files = "The files to print: 1 to 52, none of them empty";
+    let progress = "Tells on standard error how far the job is, where that is no terminal too";
     let words = vec![in alloc;
         server_port(alloc),
         word(alloc, "queue", "QUEUE", QUEUE),
@@ -141,6 +112,7 @@ fn send<'a>(alloc: Global) -> Result<Command<'a>, AllocError>
         word(alloc, "user", "USER", user),
         words(alloc, "file", "FILE", files),
         server_option(alloc),
+        flag(alloc, "progress", progress),
     ]?;
     with_words(plain(alloc, "send", about, MORE_OF_SEND), words)
 }

@@ -46,7 +46,7 @@ pub enum WordFault {
     #[error("ADDRESS isn't four numbers of 0 to 255 with points between")]
     Address,
     /// The address of a server isn't one.
-    #[error("SERVER isn't four numbers of 0 to 255 with points between")]
+    #[error("--server isn't four numbers of 0 to 255 with points between")]
     Server,
     /// What a server is asked has no line.
     #[error("QUEUE, AGENT and LIST aren't words without white space in a line of at most 1023 octets")]
@@ -60,6 +60,15 @@ pub enum WordFault {
     /// This text names no form of the log's lines.
     #[error("'{0}' is no FORM of the log: time or journal")]
     Log(String),
+    /// This text names no place for the status.
+    #[error("'{0}' is no [ADDRESS:]PORT of the status: a port, 1 to 65535, or an IPv4 address, a colon and a port")]
+    Status(String),
+    /// This text is no name of a host.
+    #[error("'{0}' is no NAME of a host: 1 to 253 letters, digits, - and .")]
+    StatusHost(String),
+    /// A name is given for the status, which is shown nowhere.
+    #[error("--status-host is given without --status")]
+    NoStatus,
     /// This text says nothing of a printer.
     #[error("'{0}' is no K=PLACE: a printer's number from 1, and file:PATH, folder:PATH or socket://A.B.C.D with or without a port :1 to :65535 behind it")]
     Printer(String),

@@ -27,9 +27,12 @@ pub enum Fault {
     /// The configuration has no printer of this number, and this text says what it prints to.
     #[error("printer {number} isn't there: {text}")]
     Printer { number: u32, text: String },
-    /// The folder at this path can't be taken to keep jobs.
-    #[error("fault 73 WriteFile {0}")]
+    /// The folder at this path can't be taken to keep jobs, or isn't there for the printers' files.
+    #[error("{name} {0}", name = FaultName::WriteFile)]
     Folder(String),
+    /// A control socket can't be made at this path.
+    #[error("{name} {0}", name = FaultName::Network)]
+    Socket(String),
 }
 
 impl From<AllocError> for Fault {
@@ -57,7 +60,8 @@ impl Fault {
         match self {
             Fault::Printer { .. } => 1,
             Fault::Run(fault) => fault.status(),
-            Fault::Memory | Fault::Network | Fault::Folder(_) | Fault::Send(SendFault::Memory) => 4,
+            Fault::Memory | Fault::Network | Fault::Folder(_) | Fault::Socket(_) => 4,
+            Fault::Send(SendFault::Memory) => 4,
             Fault::Send(_) => 5,
         }
     }

@@ -1,9 +1,9 @@
-//! What stands in the folder in which a server is to keep jobs is said.
+//! What stands in the folders of a server is said.
 
 ghost use Rattle.std.specs.Prelude.{◌≡◌, ◌≢◌, IfErr, IfOk, OnOk, string_bytes};
 ghost use Rattle.job_disk.specs.declared.looking.FolderState.{FolderState};
 ghost use Rattle.lpd_commands.specs.Ends.{Writes};
-ghost use Rattle.lpd_words.specs.Folders.{folder_line};
+ghost use Rattle.lpd_words.specs.Folders.{folder_line, out_line};
 ghost use Rattle.lpd_words.specs.Order.{write_faults};
 ghost use Rattle.lpd_words.specs.Status.{status_of};
 
@@ -12,6 +12,7 @@ use crate::files::print;
 use job_disk::{FolderState, look};
 use log::{Log, info};
 use lpd_commands::OctetWrite;
+use program_edge::tell_cause;
 use std::alloc::{AllocError, Global};
 use std::fs::{File, Files};
 
@@ -48,4 +49,31 @@ pub(crate) fn check_folder<R: Files<File = File> + Log, W: OctetWrite>(
         }
     };
     print(output, folder_line(alloc, path, state)?.as_bytes())
+}
+
+/// The line that says that the directory of printers' files is there.
+fn out_line(alloc: Global, path: &str) -> Result<String, AllocError>
+    ensures { IfOk result (λ line. string_bytes line ≡ out_line path.now) }
+{
+    format!(in alloc; "out {path} is there\n")
+}
+
+/// Says that the directory of printers' files at this path is there. Answers `Folder` where no folder is, of which the
+/// log is told why, `WriteFile`, and `Memory`.
+pub(crate) fn check_out<R: Files<File = File> + Log, W: OctetWrite>(
+    alloc: Global,
+    rt: &R,
+    path: &str,
+    output: &mut W,
+) -> Result<(), Fault>
+    ensures printed { OnOk result
+        (Writes (W.written output.old) (W.written output.new) (out_line path.now)) }
+    ensures write_fault { W.faults output.new ≡ write_faults (W.faults output.old) result }
+    ensures fault { IfErr result (λ fault. status_of fault ≢ 1) }
+{
+    if let Err(error) = rt.open_dir(path) {
+        tell_cause(rt, &path, Some(error));
+        return Err(Fault::Folder(String::from_str(alloc, path)?));
+    }
+    print(output, out_line(alloc, path)?.as_bytes())
 }

@@ -25,19 +25,22 @@ ghost use Rattle.lpr_client.specs.Sendable.{is_sendable, is_sendable_file};
 ghost use Rattle.lpr_client.specs.declared.file.DataFile.{DataFile};
 
 use crate::asking::{ask_question, connect, socket_of};
+use crate::checking::Checking;
 use crate::controlling::ControlRequest;
 use crate::envelope::Envelope;
 use crate::fault::Fault;
 use crate::files::{check, print, replay};
-use crate::folders::check_folder;
+use crate::folders::{check_folder, check_out};
 use crate::naming::three_digits;
+use crate::progress::ProgressWriter;
 use crate::queue_question::Server;
 use crate::readers::OpenReaders;
+use crate::sockets::check_socket;
 use crate::words::{Ask, Sending, Unread, read_words};
 use log::Log;
 use lpd_commands::{OctetRead, OctetWrite, write_all};
 use lpd_script::{read_all, run_input};
-use lpr_client::{DataFile, FileName, Octets, send_job};
+use lpr_client::{DataFile, FileName, Octets, SendFault, job_length, send_job};
 use program_edge::{PrinterPlace, Settings, StreamReader, StreamWriter, tell, tell_cause};
 use std::alloc::{AllocError, Global};
 use std::fs::{File, Files};
@@ -158,24 +161,30 @@ fn data_files<R: OpenReaders>(
 }
 
 /// Sends a job to this server. Answers `Network` where it can't be
-/// reached, and the faults of `send_job`. The log is told why the connection failed.
+/// reached, and the faults of `send_job`. The log is told why the connection failed, and how far the job is, by `PROGRESS`
+/// where that is asked for.
 pub fn send<R: Net + Log>(
     alloc: Global,
     rt: &R,
     server: Server,
     envelope: &Envelope,
     files: &[DataFile],
+    tells_progress: bool,
 ) -> Result<(), Fault>
     requires { IsTrue (is_sendable envelope.now.queue envelope.now.name envelope.now.control
         files.now) }
     ensures { IfErr result IsNetworkFault }
 {
     let address = socket_of(server);
-    let (reader, writer) = connect(rt, address)?;
-    let (mut reader, mut writer) = (StreamReader::new(reader), StreamWriter::new(writer));
     let (queue, name, control) = (&envelope.queue, &envelope.name, &envelope.control);
+    let Ok(octets) = job_length(alloc, queue, name, control, files) else {
+        return Err(Fault::Send(SendFault::Memory));
+    };
+    let (reader, writer) = connect(rt, address)?;
+    let mut reader = StreamReader::new(reader);
+    let mut writer = ProgressWriter::new(rt, StreamWriter::new(writer), octets, tells_progress);
     let sent = send_job(alloc, &mut reader, &mut writer, queue, name, control, files);
-    tell_cause(rt, &address, reader.cause().or(writer.cause()));
+    tell_cause(rt, &address, reader.cause().or(writer.writer().cause()));
     sent.map_err(Fault::Send)
 }
 
@@ -195,7 +204,8 @@ fn send_files<R: Files + Net + Log, W: OctetWrite>(
     let names = envelope.control.prints.as_slice();
     let files = data_files(alloc, rt, names, sending.files.as_slice())?;
     let line = sent_line(alloc, envelope.control.number)?;
-    send(alloc, rt, sending.server, envelope, files.as_slice())?;
+    let (server, progress) = (sending.server, sending.progress);
+    send(alloc, rt, server, envelope, files.as_slice(), progress)?;
     print(output, line.as_slice())
 }
 
@@ -215,6 +225,29 @@ fn check_file<R: Files + Log + Alloc<A = Global>, W: OctetWrite>(
     let end = check(rt.alloc(), &mut file, sizes, printers, output);
     tell_cause(rt, &config, file.cause());
     end
+}
+
+/// Looks at the directory of printers' files, at the control socket and at the folder of jobs, as far as it is asked for.
+fn check_places<R: Files<File = File> + Log, N: Net, W: OctetWrite>(
+    alloc: Global,
+    rt: &R,
+    host: &N,
+    checking: &Checking,
+    output: &mut W,
+) -> Result<(), Fault>
+    ensures write_fault { W.faults output.new ≡ write_faults (W.faults output.old) result }
+    ensures fault { IfErr result (λ fault. status_of fault ≢ 1) }
+{
+    if let Some(path) = checking.out {
+        check_out(alloc, rt, path, output)?;
+    }
+    if let Some(path) = checking.control {
+        check_socket(alloc, rt, host, path, output)?;
+    }
+    match checking.spool {
+        Some(path) => check_folder(alloc, rt, path, output),
+        None => Ok(()),
+    }
 }
 
 /// Runs the script at a path on the spool that the configuration at a path gives. The log is told
@@ -243,9 +276,10 @@ fn replay_files<R: Files + Log, W: OctetWrite>(
 }
 
 /// Does what is asked for, but for what the standard input asks, for serving, and for commands to a server.
-fn run_asked<R: Files<File = File> + Net + Log + Alloc<A = Global>, W: OctetWrite>(
+fn run_asked<R: Files<File = File> + Net + Log + Alloc<A = Global>, N: Net, W: OctetWrite>(
     alloc: Global,
     rt: &R,
+    host: &N,
     ask: Ask,
     output: &mut W,
 ) -> Result<(), Fault>
@@ -255,17 +289,10 @@ fn run_asked<R: Files<File = File> + Net + Log + Alloc<A = Global>, W: OctetWrit
 {
     match ask {
         Ask::Input | Ask::Serve { .. } | Ask::Control(_) => Ok(()),
-        Ask::Check {
-            config,
-            sizes,
-            printers,
-            spool,
-        } => {
-            check_file(rt, config, sizes, printers.as_slice(), output)?;
-            match spool {
-                Some(path) => check_folder(alloc, rt, path, output),
-                None => Ok(()),
-            }
+        Ask::Check(checking) => {
+            let (config, printers) = (checking.config, checking.printers.as_slice());
+            check_file(rt, config, checking.sizes, printers, output)?;
+            check_places(alloc, rt, host, &checking, output)
         }
         Ask::Replay { config, script } => replay_files(alloc, rt, config, script, output),
         Ask::Send { sending, envelope } => send_files(alloc, rt, &sending, &envelope, output),
@@ -293,14 +320,23 @@ fn ended<E: OctetWrite>(alloc: Global, end: Result<(), Fault>, faults: &mut E) -
 /// was asked for and printed; 1 where the words can't be read, which `faults` is told; otherwise
 /// that of the fault, which is told there in one line, 1 too where it is a printer that isn't there. Faults are looked for in this order: the
 /// words, files read, the configuration, the network. Before a fault for a file or the network the
-/// log is told at INFO which file or address it is about, and why.
+/// log is told at INFO which file or address it is about, and why. A control socket is looked for by `host`, since a logger
+/// hands no Unix sockets on.
 pub fn run<
     'a,
     R: Files<File = File> + Net + Log + Alloc<A = Global>,
+    N: Net,
     I: OctetRead,
     W: OctetWrite,
     E: OctetWrite,
->(rt: &R, words: &'a [String], input: &mut I, output: &mut W, faults: &mut E) -> Outcome<'a>
+>(
+    rt: &R,
+    host: &N,
+    words: &'a [String],
+    input: &mut I,
+    output: &mut W,
+    faults: &mut E,
+) -> Outcome<'a>
     ensures status { IfEnded result (λ status. status ≤ 5) }
     ensures taken { result ≡ Ended 0 → IsTaken (map string_bytes words.entry.now) }
     // Where words can be read, one alone ends so: `check`, for a printer that isn't there.
@@ -341,7 +377,7 @@ pub fn run<
         Ok(Ask::Serve { config, settings }) => Outcome::Serve { config, settings },
         Ok(Ask::Control(request)) => Outcome::Control(request),
         Ok(ask) => {
-            let end = run_asked(alloc, rt, ask, output);
+            let end = run_asked(alloc, rt, host, ask, output);
             Outcome::Ended(ended(alloc, end, faults))
         }
         Err(unread) => Outcome::Ended(tell_unread(alloc, unread, output, faults)),

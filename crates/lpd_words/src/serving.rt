@@ -2,10 +2,10 @@
 
 ghost use Rattle.std.specs.Prelude.{◌≡◌, IfOk, IfErr, codes, option_map};
 ghost use Rattle.clap.specs.Words.{found_of, rows_of};
-ghost use Rattle.lpd_words.specs.Refused.{HasNoAddress, HasNoControl, HasNoLimits, HasNoLog, HasNoNetworks, HasNoSessions};
+ghost use Rattle.lpd_words.specs.Refused.{HasNoAddress, HasNoControl, HasNoLimits, HasNoLog, HasNoNetworks, HasNoSessions, HasNoStatus, HasNoStatusHost};
 ghost use Rattle.lpd_words.specs.Refused.{LacksServing};
 ghost use Rattle.lpd_words.specs.Rules.{IsCommand, IsWord};
-ghost use Rattle.lpd_words.specs.Serving.{AreAllowed, AreLimits, IsControl, IsLog, IsServing};
+ghost use Rattle.lpd_words.specs.Serving.{AreAllowed, AreLimits, IsControl, IsLog, IsServing, IsStatus, IsStatusHost};
 ghost use Rattle.lpd_words.specs.Serving.{listening_port, serve_app};
 ghost use Rattle.lpd_words.specs.Values.{IsAddress, IsGivenOr};
 ghost use Rattle.lpd_words.specs.declared.envelope.WordFault.TheVariants.{Address, Missing};
@@ -21,6 +21,7 @@ use clap::builder::ValueParser;
 use clap::{Arg, ArgMatches, Command};
 use program_edge::{
     LEAVE_SECONDS, Limits, LogForm, MOST_CONTROL_PATH, NO_JOB_SECONDS, Network, ROOM_MS, Settings,
+    StatusPlace, is_host_name,
 };
 use std::alloc::{AllocError, Global};
 use std::net::Ipv4Addr;
@@ -78,6 +79,9 @@ pub(crate) fn serve<'a>(alloc: Global) -> Result<Command<'a>, AllocError>
     let log =
         "Sets before each line of the log its time, or what systemd's journal reads: FORM is time or journal";
     let log_jobs = "Logs each job that was received, done, failed, removed or aborted";
+    let status =
+        "Shows how all stands to browsers, and counts to Prometheus, at PORT of ADDRESS [default: 127.0.0.1]";
+    let status_host = "Lets browsers ask for that by the name NAME too";
     let words = vec![in alloc;
         word(alloc, "config", "CONFIG", CONFIG),
         listening_port(alloc),
@@ -99,6 +103,8 @@ pub(crate) fn serve<'a>(alloc: Global) -> Result<Command<'a>, AllocError>
         option(alloc, "spool", "DIR", spool),
         option(alloc, "log", "FORM", log),
         flag(alloc, "log-jobs", log_jobs),
+        option(alloc, "status", "[ADDRESS:]PORT", status),
+        option(alloc, "status-host", "NAME", status_host),
     ]?;
     with_words(plain(alloc, "serve", about, MORE_OF_SERVE), words)
 }
@@ -164,7 +170,10 @@ fn networks_of(alloc: Global, matches: &ArgMatches) -> Result<Vec<Network>, Word
 }
 
 /// The path of the control socket, if there is one. `Control` where it is too long, and `Memory`.
-fn control_of<'a>(alloc: Global, matches: &ArgMatches<'a>) -> Result<Option<&'a str>, WordFault>
+pub(crate) fn control_of<'a>(
+    alloc: Global,
+    matches: &ArgMatches<'a>,
+) -> Result<Option<&'a str>, WordFault>
     ensures path { IfOk result (λ path.
         IsControl (rows_of (found_of matches.now)) (option_map (λ text. text.now) path)) }
     ensures fault { IfErr result (HasNoControl (rows_of (found_of matches.now))) }
@@ -189,6 +198,39 @@ fn log_of(alloc: Global, matches: &ArgMatches) -> Result<LogForm, WordFault>
     match LogForm::read(text) {
         Some(form) => Ok(form),
         None => Err(WordFault::Log(String::from_str(alloc, text)?)),
+    }
+}
+
+/// Where the status is shown, if it is. `Status` with a text that names no place, and `Memory`.
+fn status_of(alloc: Global, matches: &ArgMatches) -> Result<Option<StatusPlace>, WordFault>
+    ensures place { IfOk result (IsStatus (rows_of (found_of matches.now))) }
+    ensures fault { IfErr result (HasNoStatus (rows_of (found_of matches.now))) }
+{
+    let Some(text) = text_if(matches, "status") else {
+        return Ok(None);
+    };
+    match StatusPlace::read(text) {
+        Some(place) => Ok(Some(place)),
+        None => Err(WordFault::Status(String::from_str(alloc, text)?)),
+    }
+}
+
+/// By which name the status may be asked for, if one is given. `StatusHost` with a text that is no name of a host,
+/// `NoStatus` where the status is shown nowhere, and `Memory`.
+fn status_host_of<'a>(alloc: Global, matches: &ArgMatches<'a>) -> Result<Option<&'a str>, WordFault>
+    ensures name { IfOk result (λ name.
+        IsStatusHost (rows_of (found_of matches.now)) (option_map (λ text. text.now) name)) }
+    ensures fault { IfErr result (HasNoStatusHost (rows_of (found_of matches.now))) }
+{
+    let Some(name) = text_if(matches, "status-host") else {
+        return Ok(None);
+    };
+    if !is_host_name(name) {
+        return Err(WordFault::StatusHost(String::from_str(alloc, name)?));
+    }
+    match text_if(matches, "status") {
+        Some(_) => Ok(Some(name)),
+        None => Err(WordFault::NoStatus),
     }
 }
 
@@ -217,5 +259,7 @@ pub(crate) fn serving_of<'a>(
         spool: text_if(matches, "spool"),
         log: log_of(alloc, matches)?,
         log_jobs: flag_of(matches, "log-jobs"),
+        status: status_of(alloc, matches)?,
+        status_host: status_host_of(alloc, matches)?,
     })
 }

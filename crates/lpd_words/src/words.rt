@@ -8,17 +8,17 @@ ghost use Rattle.lpd_words.specs.Refused.{AsksNothing, HasNoWords, IsUnread, IsU
 ghost use Rattle.lpd_words.specs.Refused.{LacksWords};
 ghost use Rattle.lpd_words.specs.declared.words.Unread.TheVariants.{Memory};
 
+use crate::checking::{Checking, checking_of};
 use crate::command::command;
 use crate::controlling::{ControlRequest, request_of};
 use crate::envelope::{Envelope, WordFault};
-use crate::printers::printers_of;
 use crate::questions::{question_of, server_of};
 use crate::queue_question::{QueueQuestion, Server};
 use crate::serving::serving_of;
-use crate::values::{flag_of, number_of, text_if, text_of, texts_of};
+use crate::values::{flag_of, number_of, text_of, texts_of};
 use clap::error::ErrorKind;
 use clap::{ArgMatches, Command, Error};
-use program_edge::{PrinterPlace, Settings};
+use program_edge::Settings;
 use std::alloc::{AllocError, Global};
 use std::env::Env;
 use std::io;
@@ -38,6 +38,8 @@ pub struct Sending<'a> {
     pub user: &'a str,
     /// The paths of the files to print, 1 to 52, in order.
     pub files: Vec<&'a str>,
+    /// Whether it is asked to tell how far the job is.
+    pub progress: bool,
 }
 
 /// What the words ask for.
@@ -45,17 +47,8 @@ pub struct Sending<'a> {
 pub enum Ask<'a> {
     /// No word: to run what the standard input has.
     Input,
-    /// To read the configuration at this path.
-    Check {
-        config: &'a str,
-        /// Whether to say how many jobs fit into the account.
-        sizes: bool,
-        /// What single printers print to: each number at most once. Where there are any, what each
-        /// printer prints to is said.
-        printers: Vec<PrinterPlace<'a>>,
-        /// The folder in which a server is to keep jobs, where it is said what stands in it.
-        spool: Option<&'a str>,
-    },
+    /// To read a configuration.
+    Check(Checking<'a>),
     /// To run the script at a path on the spool that the configuration at a path gives.
     Replay {
         config: &'a str,
@@ -128,6 +121,7 @@ fn sending_of<'a>(alloc: Global, matches: &ArgMatches<'a>) -> Result<Sending<'a>
         host,
         user,
         files: Vec::from_slice(alloc, files)?,
+        progress: flag_of(matches, "progress"),
     })
 }
 
@@ -137,17 +131,7 @@ fn asked_by<'a>(alloc: Global, name: &str, matches: &ArgMatches<'a>) -> Result<A
     ensures fault { IfErr result (AsksNothing (Some (name.now, rows_of (found_of matches.now)))) }
 {
     match name {
-        "check" => {
-            let config = text_of(matches, "config")?;
-            let sizes = flag_of(matches, "sizes");
-            let printers = printers_of(alloc, matches)?;
-            Ok(Ask::Check {
-                config,
-                sizes,
-                printers,
-                spool: text_if(matches, "spool"),
-            })
-        }
+        "check" => Ok(Ask::Check(checking_of(alloc, matches)?)),
         "replay" => {
             let config = text_of(matches, "config")?;
             let script = text_of(matches, "script")?;

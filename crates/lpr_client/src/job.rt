@@ -1,6 +1,6 @@
 //! A job as it is sent.
 
-ghost use Rattle.std.specs.Prelude.{IsTrue, ◌≡◌, map, IfOk};
+ghost use Rattle.std.specs.Prelude.{IsTrue, ◌≡◌, ◌-◌, ◌^◌, length, map, min, IfOk};
 ghost use Rattle.std.specs.List.{concat};
 ghost use Rattle.control_file.specs.Written.{control_text};
 ghost use Rattle.control_file.specs.View.{contents};
@@ -29,6 +29,18 @@ fn joined(alloc: Global, parts: &[Part]) -> Result<Octets, AllocError>
     Ok(Octets::from_vec(octets))
 }
 
+/// How many octets parts have, at most the last value of a `usize`.
+fn length_of(parts: &[Part]) -> usize
+    ensures { result ≡ min (length (concat (map part_octets parts.now))) (2 ^ 64 - 1) }
+{
+    let mut length = 0usize;
+    for part in parts {
+        let (head, tail) = part.octets();
+        length = length.saturating_add(head.len()).saturating_add(tail.len());
+    }
+    length
+}
+
 /// The octets that send a job to a queue: the line that asks for it, the data files in order, and last the control file
 /// under this name (RFC 1179, sections 5.2, 6.2 and 6.3). AllocError where memory for them is refused.
 pub fn job_bytes(
@@ -47,4 +59,22 @@ pub fn job_bytes(
 {
     let parts = parts_of(alloc, queue, name, control, files)?;
     joined(alloc, parts.as_slice())
+}
+
+/// How many octets send a job to a queue, as many as `job_bytes` answers, and at most the last value of a `usize`.
+/// AllocError where memory for its lines is refused.
+pub fn job_length(
+    alloc: Global,
+    queue: &Octets,
+    name: &FileName,
+    control: &Control,
+    files: &[DataFile],
+) -> Result<usize, AllocError>
+    requires { IsTrue (is_sendable queue.now name.now control.now files.now) }
+    ensures { IfOk result (λ octets. octets ≡ min
+        (length (job_octets queue.now name.now (control_text (contents control.now)) files.now))
+        (2 ^ 64 - 1)) }
+{
+    let parts = parts_of(alloc, queue, name, control, files)?;
+    Ok(length_of(parts.as_slice()))
 }

@@ -13,7 +13,7 @@ mod sendable;
 pub use asking::{AskFault, ask, ask_silently};
 pub use control_file::Control;
 pub use file::DataFile;
-pub use job::job_bytes;
+pub use job::{job_bytes, job_length};
 pub use lpd_commands::{Command, FileName, OctetFault, OctetRead, OctetWrite, Octets, Words};
 pub use questions::{has_line, remove_bytes, state_bytes};
 pub use send::{SendFault, send_job};

@@ -4,4 +4,5 @@ pub mod NetworkParts
 pub mod Networks
 pub mod Numerals
 pub mod Places
+pub mod StatusPlaces
 pub mod Told

@@ -7,6 +7,7 @@ mod networks;
 mod numerals;
 mod places;
 mod settings;
+mod status;
 mod streams;
 mod telling;
 
@@ -17,5 +18,6 @@ pub use settings::{
     LEAVE_SECONDS, Limits, LogForm, MOST_CONTROL_PATH, MOST_SESSIONS, NO_JOB_SECONDS,
     PrinterLimits, ROOM_MS, Settings,
 };
+pub use status::{StatusPlace, is_host_name};
 pub use streams::{StreamReader, StreamWriter};
 pub use telling::{FaultName, tell, tell_cause};

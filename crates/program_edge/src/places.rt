@@ -2,6 +2,8 @@
 
 ghost use Rattle.std.specs.List.{after_first, before_first, position_or_len};
 ghost use Rattle.std.specs.Prelude.{◌≡◌, ◌<◌, ◌++◌, ℕ, IfNone, IfSome, List, MatchOption, length};
+ghost use Rattle.std.specs.Net.Grammar.{IsSocketV4Text};
+ghost use Rattle.std.specs.Net.Socket.{v4_port};
 ghost use Rattle.std.specs.declared.net.socket_addr.SocketAddrV4.{SocketAddrV4};
 ghost use Rattle.program_edge.specs.Places.{IsPlaceText, IsPrinterText, IsSocketText, is_equals_sign};
 ghost use Rattle.program_edge.specs.declared.places.Place.{Place};
@@ -83,6 +85,22 @@ fn path_after<'a>(text: &'a str, word: &str) -> Option<&'a str>
     Some(path)
 }
 
+/// The address and the port that a text names, with a colon between. None where it names none, and at the port 0.
+pub(crate) fn socket_of(text: &str) -> Option<SocketAddrV4>
+    ensures socket { IfSome result (λ socket. IsSocketV4Text text.now socket
+        × (0 < v4_port socket)) }
+    ensures none { IfNone result ((socket : SocketAddrV4) → IsSocketV4Text text.now socket
+        → 0 < v4_port socket → ⊥) }
+{
+    let Ok(socket) = text.parse::<SocketAddrV4>() else {
+        return None;
+    };
+    if socket.port() == 0 {
+        return None;
+    }
+    Some(socket)
+}
+
 /// The address that a text writes: an IPv4 address, for the port 9100, or one with another port.
 /// None where it writes none, and at the port 0.
 fn address_of(text: &str) -> Option<SocketAddrV4>
@@ -92,13 +110,7 @@ fn address_of(text: &str) -> Option<SocketAddrV4>
     if let Ok(address) = text.parse::<Ipv4Addr>() {
         return Some(SocketAddrV4::new(address, RAW_PORT));
     }
-    let Ok(address) = text.parse::<SocketAddrV4>() else {
-        return None;
-    };
-    if address.port() == 0 {
-        return None;
-    }
-    Some(address)
+    socket_of(text)
 }
 
 /// The place that a text writes. None where it writes none.

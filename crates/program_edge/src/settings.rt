@@ -8,6 +8,7 @@ ghost use Rattle.program_edge.specs.declared.settings.LogForm.TheVariants.{Plain
 
 use crate::networks::Network;
 use crate::places::PrinterPlace;
+use crate::status::StatusPlace;
 use std::alloc::Global;
 use std::net::Ipv4Addr;
 use std::num::NonZeroU64;
@@ -95,6 +96,10 @@ pub struct Settings<'a> {
     pub log: LogForm,
     /// Whether the log has a line for each job that was received, or has ended.
     pub log_jobs: bool,
+    /// Where the status is shown to browsers, where it is.
+    pub status: Option<StatusPlace>,
+    /// The name of this machine by which browsers may ask for the status, beside its addresses and `localhost`.
+    pub status_host: Option<&'a str>,
 }
 
 impl<'a> Settings<'a> {
@@ -119,6 +124,7 @@ impl<'a> Settings<'a> {
         ensures restart_seconds { result.restart_seconds ≡ None }
         ensures spool { result.spool ≡ None }
         ensures log { (result.log ≡ Plain) × (result.log_jobs ≡ false) }
+        ensures status { (result.status ≡ None) × (result.status_host ≡ None) }
     {
         Settings {
             bind: Ipv4Addr::LOCALHOST,
@@ -137,6 +143,8 @@ impl<'a> Settings<'a> {
             spool: None,
             log: LogForm::Plain,
             log_jobs: false,
+            status: None,
+            status_host: None,
         }
     }
 }

@@ -41,7 +41,7 @@ fn outcome_of<'a, R: Abort + AllocGlobal + Files<File = File> + Log + Net<Stream
     let mut input = StreamReader::new(b"".as_slice());
     let mut output = StreamWriter::new(Vec::new(alloc));
     let mut faults = StreamWriter::new(Vec::new(alloc));
-    let outcome = run(rt, words, &mut input, &mut output, &mut faults);
+    let outcome = run(rt, rt, words, &mut input, &mut output, &mut faults);
     (outcome, output.into_stream(), faults.into_stream())
 }
 

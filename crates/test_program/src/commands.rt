@@ -1,12 +1,12 @@
 //! Commands that are sent to a control socket, which a thread of the test answers.
 
 use crate::expected::expect;
-use crate::words::{listen, path_of, words_of};
+use crate::words::{self, CONFIG, listen, path_of, words_of};
 use log::Log;
 use lpd_words::{Ask, control, read_words};
 use program_edge::StreamWriter;
 use std::alloc::Global;
-use std::fs::Files;
+use std::fs::{File, Files};
 use std::io::{Read, Write};
 use std::net::{Net, TcpListener, TcpStream};
 use std::os::unix::net::UnixListener;
@@ -150,5 +150,46 @@ fn no_socket_is_there(rt: HostRuntime) -> Result<(), Fail> {
     let wanted = unanswered(&rt, path.as_str());
     expect(&rt, b"no socket", answer.as_slice(), wanted.as_bytes());
     assert!(rt; begun.elapsed(&rt)? < Duration::from_secs(1));
+    Ok(())
+}
+
+/// What `check` tells of a control socket at this path behind the line of the configuration.
+fn checked<
+    R: Abort
+        + AllocGlobal
+        + Env
+        + Files<File = File>
+        + Log
+        + Net<Listener = TcpListener, Stream = TcpStream>,
+>(rt: &R, path: &str) -> Result<String, Fail> {
+    let alloc = rt.alloc();
+    let file = format!(in alloc; "{path}-config")?;
+    fs::write(rt, file.as_str(), CONFIG)?;
+    let line = format!(in alloc; "check,FILE,--control,{path}")?;
+    let words = words_of(alloc, line.as_str(), file.as_str(), "")?;
+    let told = words::told(rt, words.as_slice(), b"")?;
+    fs::remove_file(rt, file.as_str())?;
+    let text = str::from_utf8(told.as_slice()).unwrap_or("");
+    let rest = text.strip_prefix("ok pages 4 page_size 8 queues 1 printers 1\n");
+    Ok(String::from_str(alloc, rest.unwrap_or(""))?)
+}
+
+#[test]
+fn sockets_are_looked_at(rt: HostRuntime) -> Result<(), Fail> {
+    let alloc = rt.alloc();
+    let (_holder, path) = socket_path(&rt);
+    let path = path.as_str();
+    let free = format!(in alloc; "control {path} will be made\nstatus 0\n")?;
+    let taken = unanswered(&rt, path);
+    assert_eq!(rt; checked(&rt, path)?.as_str(), free.as_str());
+    let listener = UnixListener::bind(&rt, path)?;
+    assert_eq!(rt; checked(&rt, path)?.as_str(), taken.as_str());
+    // Its file stays, and a server takes it over.
+    drop(listener);
+    assert_eq!(rt; checked(&rt, path)?.as_str(), free.as_str());
+    fs::remove_file(&rt, path)?;
+    fs::write(&rt, path, b"no socket")?;
+    assert_eq!(rt; checked(&rt, path)?.as_str(), taken.as_str());
+    fs::remove_file(&rt, path)?;
     Ok(())
 }

@@ -12,6 +12,8 @@ mod expected;
 #[cfg(test)]
 mod faults;
 #[cfg(test)]
+mod progress;
+#[cfg(test)]
 mod questions;
 #[cfg(test)]
 mod values;

@@ -16,7 +16,8 @@ use std::thread::Threads;
 use std::time::{Duration, Instant};
 use std::{env, fs, io, thread};
 
-const CONFIG: &[u8] =
+/// A configuration of one queue and one printer.
+pub const CONFIG: &[u8] =
     b"pages = 4\npage_size = 8\nmax_jobs = 8\naccount = 100000\n[[queue]]\nname = \"lp\"\nlimit = 3\nprinters = 1\n";
 
 /// The same and a script behind it.
@@ -51,7 +52,7 @@ const FEW: &[u8] = b"pages = 2600\npage_size = 8\nmax_jobs = 8\naccount = 515600
 ///
 /// A configuration is a script of bad lines, and a script is no configuration. A file that can't be read comes before a fault of the
 /// configuration.
-const TOLD: [(&str, &[u8], &[u8]); 35] = [
+const TOLD: [(&str, &[u8], &[u8]); 43] = [
     ("", SCRIPT, b"free 4\nstatus 0\n"),
     ("", CONFIG, b"status 0\n"),
     (
@@ -121,6 +122,37 @@ const TOLD: [(&str, &[u8], &[u8]); 35] = [
         b"ok pages 4 page_size 8 queues 1 printers 1\nfault 73 WriteFile /there/is/no/such/folder\nstatus 4\n",
     ),
     (
+        "check,FILE,--spool,/,--out,/,--control,/no-socket-is-here",
+        CONFIG,
+        b"ok pages 4 page_size 8 queues 1 printers 1\nout / is there\ncontrol /no-socket-is-here will be made\n\
+          spool / waiting 0 failed 0\nstatus 0\n",
+    ),
+    (
+        "check,FILE,--control=no-socket-is-here,--printer,1=file:x",
+        CONFIG,
+        b"ok pages 4 page_size 8 queues 1 printers 1\nprinter 1 file:x\ncontrol no-socket-is-here will be made\nstatus 0\n",
+    ),
+    (
+        "check,FILE,--out,/there/is/no/such/folder,--spool,/",
+        CONFIG,
+        b"ok pages 4 page_size 8 queues 1 printers 1\nfault 73 WriteFile /there/is/no/such/folder\nstatus 4\n",
+    ),
+    (
+        "check,FILE,--out,/dev/null",
+        CONFIG,
+        b"ok pages 4 page_size 8 queues 1 printers 1\nfault 73 WriteFile /dev/null\nstatus 4\n",
+    ),
+    (
+        "check,FILE,--control,/there/is/no/such/folder",
+        CONFIG,
+        b"ok pages 4 page_size 8 queues 1 printers 1\nfault 72 Network /there/is/no/such/folder\nstatus 4\n",
+    ),
+    (
+        "check,FILE,--out,/,--control,/dev/null",
+        CONFIG,
+        b"ok pages 4 page_size 8 queues 1 printers 1\nout / is there\nfault 72 Network /dev/null\nstatus 4\n",
+    ),
+    (
         "check,FILE",
         b"pages = 0\n",
         b"fault 53 OutOfRange pages\nstatus 2\n",
@@ -154,24 +186,28 @@ const TOLD: [(&str, &[u8], &[u8]); 35] = [
     (
         "serve,spool.toml,--port,515",
         b"",
-        b"serves spool.toml 515 127.0.0.1 . 8 None None None None None 5 5 1000 false [] None [] None None None None Plain false\n",
+        b"serves spool.toml 515 127.0.0.1 . 8 None None None None None 5 5 1000 false [] None [] None None None None Plain false \
+          None None\n",
     ),
     (
         "serve,--port=65535,--bind,10.0.200.255,--out,pages,--sessions,64,--connections,3,--rotate,4294967295,--silence,60,\
          --per-host,4,--slowest,100,--keep-room,--allow,10.0.0.0/8,--allow,192.168.1.7,spool.toml",
         b"",
         b"serves spool.toml 65535 10.0.200.255 pages 64 Some(3) Some(4294967295) Some(60) Some(4) Some(100) 5 5 1000 true \
-          [Network { address: 10.0.0.0, bits: 8 }, Network { address: 192.168.1.7, bits: 32 }] None [] None None None None Plain false\n",
+          [Network { address: 10.0.0.0, bits: 8 }, Network { address: 192.168.1.7, bits: 32 }] None [] None None None None Plain false \
+          None None\n",
     ),
     (
         "serve,a,--port,1",
         b"free\n",
-        b"serves a 1 127.0.0.1 . 8 None None None None None 5 5 1000 false [] None [] None None None None Plain false\n",
+        b"serves a 1 127.0.0.1 . 8 None None None None None 5 5 1000 false [] None [] None None None None Plain false \
+          None None\n",
     ),
     (
         "serve,a,--port,1,--control,run/spool.control",
         b"",
-        b"serves a 1 127.0.0.1 . 8 None None None None None 5 5 1000 false [] Some(\"run/spool.control\") [] None None None None Plain false\n",
+        b"serves a 1 127.0.0.1 . 8 None None None None None 5 5 1000 false [] Some(\"run/spool.control\") [] None None None None Plain false \
+          None None\n",
     ),
     (
         "serve,a,--port,1,--printer,2=folder:jobs/a=b,--patience,10,--printer-silence,4294967295,--restart,1,--printer=1=socket://10.0.0.9,\
@@ -180,22 +216,36 @@ const TOLD: [(&str, &[u8], &[u8]); 35] = [
         b"serves a 1 127.0.0.1 . 8 None None None None None 5 5 1000 false [] None \
           [PrinterPlace { printer: 2, place: Folder(\"jobs/a=b\") }, PrinterPlace { printer: 1, place: Socket(10.0.0.9:9100) }, \
           PrinterPlace { printer: 4294967295, place: Socket(255.255.255.255:1) }, PrinterPlace { printer: 10, place: File(\"/dev/lp0\") }] \
-          Some(10) Some(4294967295) Some(1) None Plain false\n",
+          Some(10) Some(4294967295) Some(1) None Plain false \
+          None None\n",
     ),
     (
         "serve,a,--port,1,--spool,/var/spool/jobs",
         b"",
-        b"serves a 1 127.0.0.1 . 8 None None None None None 5 5 1000 false [] None [] None None None Some(\"/var/spool/jobs\") Plain false\n",
+        b"serves a 1 127.0.0.1 . 8 None None None None None 5 5 1000 false [] None [] None None None Some(\"/var/spool/jobs\") Plain false \
+          None None\n",
     ),
     (
         "serve,a,--port,1,--log,journal,--log-jobs",
         b"",
-        b"serves a 1 127.0.0.1 . 8 None None None None None 5 5 1000 false [] None [] None None None None Journal true\n",
+        b"serves a 1 127.0.0.1 . 8 None None None None None 5 5 1000 false [] None [] None None None None Journal true None None\n",
     ),
     (
         "serve,a,--port,1,--log=time",
         b"",
-        b"serves a 1 127.0.0.1 . 8 None None None None None 5 5 1000 false [] None [] None None None None Time false\n",
+        b"serves a 1 127.0.0.1 . 8 None None None None None 5 5 1000 false [] None [] None None None None Time false None None\n",
+    ),
+    (
+        "serve,a,--port,1,--status,631",
+        b"",
+        b"serves a 1 127.0.0.1 . 8 None None None None None 5 5 1000 false [] None [] None None None None Plain false \
+          Some(StatusPlace { address: 127.0.0.1, port: 631 }) None\n",
+    ),
+    (
+        "serve,a,--port,1,--status-host,Spool-1.example,--status=0.0.0.0:65535",
+        b"",
+        b"serves a 1 127.0.0.1 . 8 None None None None None 5 5 1000 false [] None [] None None None None Plain false \
+          Some(StatusPlace { address: 0.0.0.0, port: 65535 }) Some(\"Spool-1.example\")\n",
     ),
     (
         "send,515,lp,1,h1,ann,FILE",
@@ -234,6 +284,8 @@ const BAD: &str = "
 spool,spool.toml
 check
 check,a,b
+check,a,--out
+check,a,--control,aaaaaaaaaaaaaaaaaaaaaaaaaaaaaaaaaaaaaaaaaaaaaaaaaaaaaaaaaaaaaaaaaaaaaaaaaaaaaaaaaaaaaaaaaaaaaaaaaaaaaaaaaaaa
 replay,a
 send,0,lp,1,h1,ann,a
 send,65536,lp,1,h1,ann,a
@@ -282,6 +334,21 @@ serve,a,--port,1,--log,Time
 serve,a,--port,1,--log,
 serve,a,--port,1,--log,time,--log,time
 serve,a,--port,1,--log-jobs=yes
+serve,a,--port,1,--status,0
+serve,a,--port,1,--status,65536
+serve,a,--port,1,--status,+631
+serve,a,--port,1,--status,0631
+serve,a,--port,1,--status,http
+serve,a,--port,1,--status,localhost:631
+serve,a,--port,1,--status,127.0.0.1
+serve,a,--port,1,--status,127.0.0.1:0
+serve,a,--port,1,--status,127.0.0.1:65536
+serve,a,--port,1,--status,
+serve,a,--port,1,--status,631,--status,632
+serve,a,--port,1,--status-host,spool.example
+serve,a,--port,1,--status,631,--status-host,spool_1
+serve,a,--port,1,--status,631,--status-host,spool.example:631
+serve,a,--port,1,--status,631,--status-host,
 serve,spool.toml
 serve,--port,515
 serve,a,b,--port,515
@@ -402,6 +469,8 @@ fn line_of(alloc: Global, config: &str, settings: &Settings) -> Result<String, A
         spool,
         log,
         log_jobs,
+        status,
+        status_host,
     } = settings;
     let PrinterLimits {
         patience_minutes,
@@ -416,7 +485,7 @@ fn line_of(alloc: Global, config: &str, settings: &Settings) -> Result<String, A
         room_ms,
     } = *limits;
     format!(in alloc;
-        "serves {config} {port} {bind} {out} {sessions} {connections:?} {rotate:?} {silence:?} {per_host:?} {slowest:?} {no_job_seconds} {leave_seconds} {room_ms} {keep_room} {allowed:?} {control:?} {printers:?} {patience_minutes:?} {silence_seconds:?} {restart_seconds:?} {spool:?} {log:?} {log_jobs}\n"
+        "serves {config} {port} {bind} {out} {sessions} {connections:?} {rotate:?} {silence:?} {per_host:?} {slowest:?} {no_job_seconds} {leave_seconds} {room_ms} {keep_room} {allowed:?} {control:?} {printers:?} {patience_minutes:?} {silence_seconds:?} {restart_seconds:?} {spool:?} {log:?} {log_jobs} {status:?} {status_host:?}\n"
     )
 }
 
@@ -434,7 +503,7 @@ pub fn told<
     let mut output = StreamWriter::new(Vec::new(alloc));
     let mut faults = StreamWriter::new(Vec::new(alloc));
     let mut input = StreamReader::new(input);
-    let outcome = run(rt, words, &mut input, &mut output, &mut faults);
+    let outcome = run(rt, rt, words, &mut input, &mut output, &mut faults);
     let mut told = output.into_stream();
     told.extend_from_slice(faults.into_stream().as_slice())?;
     let end = match &outcome {

@@ -2,8 +2,9 @@ use Rattle.std.proofs.Common.{inl, inr}
 use Rattle.std.proofs.lemmas.Result.{err_from_is_err_and}
 use Rattle.clap.specs.Words.{found_of, rows_of}
 use Rattle.lpd_words.proofs.AskedLemmas.{names_no_job}
-use Rattle.lpd_words.proofs.QuestionLemmas.{asks_no_job, asks_no_question, asks_no_request, no_check, no_replay, no_serving}
-use Rattle.lpd_words.proofs.ServingLemmas.{asks_no_check, asks_no_server}
+use Rattle.lpd_words.proofs.CheckingLemmas.{asks_no_check}
+use Rattle.lpd_words.proofs.QuestionLemmas.{asks_no_job, asks_no_question, asks_no_request, no_replay, no_serving}
+use Rattle.lpd_words.proofs.ServingLemmas.{asks_no_server}
 use Rattle.lpd_words.proofs.words.asked_by.Goals as goal
 
 pub returns-in_err-envelope-in-send-clause-fault : goal.returns-in_err-envelope-in-send-clause-fault
@@ -21,12 +22,11 @@ returns-in_err-settings-in-serve-clause-fault c =
     rw (p.1, p.2)
     (asks_no_server _ _ c.in_err-settings-in-serve.field-0.0 c.in-serve.is c.in_err-settings-in-serve.ensures.fault)
 
-pub returns-in_err-printers-in-check-clause-fault : goal.returns-in_err-printers-in-check-clause-fault
-returns-in_err-printers-in-check-clause-fault c =
-    let r = c.from_residual-in_err-printers-in-check in
-    let p = err_from_is_err_and r.result r.ensures.1 in
+pub returns-in_err-checking_of-in-check-clause-fault : goal.returns-in_err-checking_of-in-check-clause-fault
+returns-in_err-checking_of-in-check-clause-fault c =
+    let p = err_from_is_err_and c.from_residual.result c.from_residual.ensures.1 in
     rw (p.1, p.2)
-    (asks_no_check _ _ c.in_err-printers-in-check.field-0.0 c.in-check.is c.in_err-printers-in-check.ensures.fault)
+    (asks_no_check c.args.name.now (rows_of (found_of c.args.matches.now)) c.in_err-checking_of-in-check.field-0.0 c.in-check.is c.in_err-checking_of-in-check.ensures.fault)
 
 pub returns-in_err-sending-in-send-clause-fault : goal.returns-in_err-sending-in-send-clause-fault
 returns-in_err-sending-in-send-clause-fault c =
@@ -42,12 +42,6 @@ returns-in_err-question-in_default-clause-fault c =
     let d = c.in_default in
     rw (p.1, p.2)
     (asks_no_question c.args.name.now (rows_of (found_of c.args.matches.now)) c.in_err-question-in_default.field-0.0 d.not-check d.not-replay d.not-send d.not-serve d.not-control c.in_err-question-in_default.ensures.fault)
-
-pub returns-in_err-config-in-check-clause-fault : goal.returns-in_err-config-in-check-clause-fault
-returns-in_err-config-in-check-clause-fault c =
-    let p = err_from_is_err_and c.from_residual.result c.from_residual.ensures.1 in
-    rw (p.1, p.2, c.in_err-config-in-check.ensures.fault.0)
-    (no_check c.args.name.now (rows_of (found_of c.args.matches.now)) c.in-check.is c.in_err-config-in-check.ensures.fault.1)
 
 pub returns-in_err-config-in-replay-clause-fault : goal.returns-in_err-config-in-replay-clause-fault
 returns-in_err-config-in-replay-clause-fault c =

@@ -1,18 +1,12 @@
-use Rattle.std.proofs.Common.{◌≡◌, ◌<◌, arith, subst, sym}
-use Rattle.std.proofs.NetLemmas.Theorems.{IsSocketV4Text_unique}
-use Rattle.std.specs.Net.Socket.{v4_port}
+use Rattle.std.proofs.Common.{Option, Some, None}
+use Rattle.std.specs.Prelude.{IfNone}
 use Rattle.std.specs.declared.net.socket_addr.SocketAddrV4.{SocketAddrV4}
 use Rattle.program_edge.proofs.PlaceLemmas.{no_socket}
 use Rattle.program_edge.proofs.places.address_of.Goals as goal
 
-pub returns-in_default-parse-clause-none : goal.returns-in_default-parse-clause-none
-returns-in_default-parse-clause-none c =
-    no_socket c.args.text.now c.in_default.ensures.value (λ address is over. c.in_default-parse.ensures.value address is)
-
-pub returns-then-port-eq0-clause-none : goal.returns-then-port-eq0-clause-none
-returns-then-port-eq0-clause-none c =
-    no_socket c.args.text.now c.in_default.ensures.value
-    (λ address is over.
-    let same : c.in-Ok-parse.address ≡ address = IsSocketV4Text_unique _ _ _ c.in-Ok-parse.ensures.value is in
-    let positive = subst (λ (a : SocketAddrV4). 0 < v4_port a) (sym same) over in
-    absurd (omega (arith, positive, c.port.ensures, c.if-port-eq0.true)))
+pub returns-clause-none : goal.returns-clause-none
+returns-clause-none c = if_none_weaker c.socket_of.result (no_socket c.args.text.now c.in_default.ensures.value) c.socket_of.ensures.none
+  where
+    if_none_weaker : {A B : Type 0} (o : Option SocketAddrV4) → (A → B) → IfNone o A → IfNone o B
+    if_none_weaker None f h = f h
+    if_none_weaker (Some x) f h = tt

@@ -1,0 +1,47 @@
+-- The words of a configuration that is checked.
+use Rattle.std.proofs.Common.{◌≡◌, List, Some, codes, inl, inr, refl}
+use Rattle.clap.specs.Words.{Row, Text}
+use Rattle.lpd_words.specs.Asked.{IsAsked}
+use Rattle.lpd_words.specs.Refused.{AsksNothing, LacksChecking}
+use Rattle.lpd_words.specs.declared.envelope.WordFault.{WordFault}
+use Rattle.lpd_words.specs.declared.envelope.WordFault.TheVariants as envelope
+use Rattle.lpd_words.specs.declared.words.Ask.{Ask}
+use Rattle.lpd_words.specs.declared.words.Ask.TheVariants.{Input, Check, Replay, Send, Question, Serve, Control}
+use Rattle.lpd_words.proofs.QuestionLemmas.{apart, no_query, third}
+
+-- words that ask to check, and don't say what, ask for nothing
+no_check : (name : Text) (rows : List Row) → name ≡ codes "check" → LacksChecking rows envelope.Missing → (asked : Ask) → IsAsked (Some (name, rows)) asked → ⊥
+no_check name rows is lacks Input h = absurd h
+no_check name rows is lacks (Check checking) h = lacks checking h.1
+no_check name rows is lacks (Replay config script) h =
+    apart 101 112 refl (third name (codes "check") (codes "replay") is h.0)
+no_check name rows is lacks (Send sending envelope) h =
+    apart 101 110 refl (third name (codes "check") (codes "send") is h.0)
+no_check name rows is lacks (Question question) h =
+    no_query name (codes "check") rows is refl refl question.command h.query
+no_check name rows is lacks (Serve config settings) h =
+    apart 101 114 refl (third name (codes "check") (codes "serve") is h.0)
+no_check name rows is lacks (Control request) h =
+    apart 101 110 refl (third name (codes "check") (codes "control") is h.0)
+
+-- words that ask to check, and don't have all words of that, or wrong ones, ask for nothing
+pub asks_no_check : (name : Text) (rows : List Row) (fault : WordFault) → name ≡ codes "check" → LacksChecking rows fault → AsksNothing (Some (name, rows)) fault
+asks_no_check name rows (envelope.Printer text) is lacks = (inr is, lacks)
+asks_no_check name rows (envelope.PrinterTwice text) is lacks = (inr is, lacks)
+asks_no_check name rows envelope.Memory is lacks = tt
+asks_no_check name rows envelope.Address is lacks = absurd lacks
+asks_no_check name rows envelope.Server is lacks = absurd lacks
+asks_no_check name rows envelope.Line is lacks = absurd lacks
+asks_no_check name rows (envelope.Network text) is lacks = absurd lacks
+asks_no_check name rows (envelope.Control text) is lacks = inl (inr is, lacks)
+asks_no_check name rows (envelope.Log text) is lacks = absurd lacks
+asks_no_check name rows (envelope.Status text) is lacks = absurd lacks
+asks_no_check name rows (envelope.StatusHost text) is lacks = absurd lacks
+asks_no_check name rows envelope.NoStatus is lacks = absurd lacks
+asks_no_check name rows envelope.Command is lacks = absurd lacks
+asks_no_check name rows envelope.Missing is lacks = no_check name rows is lacks
+asks_no_check name rows envelope.Queue is lacks = absurd lacks
+asks_no_check name rows envelope.Host is lacks = absurd lacks
+asks_no_check name rows envelope.User is lacks = absurd lacks
+asks_no_check name rows envelope.Files is lacks = absurd lacks
+asks_no_check name rows envelope.Number is lacks = absurd lacks
