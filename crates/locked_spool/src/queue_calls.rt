@@ -52,9 +52,11 @@ impl<E: SpoolLedger, K: Ledger, H: Ledger> Locked<E, K, H> {
         ensures account { WritesStarted self.old self.new queue.now (done_of result) }
         ensures shares { mine.new ≡ when_started result mine.old }
     {
-        let answer = self.start_queue(mine, queue);
-        self.look_for_stopped();
-        answer
+        let found = self.start_queue(mine, queue)?;
+        if found.stopped > 0 {
+            self.look_for_stopped();
+        }
+        Ok(found)
     }
 
     /// Starts the stopped printers of a queue. Where none is stopped nothing changes.

@@ -2,7 +2,7 @@
 use Rattle.std.specs.Prelude.{◌≡◌, ◌⊎◌, ℕ, Result, Err}
 use Rattle.lpd_commands.specs.Ends.{one_more}
 use Rattle.lpd_daemon.specs.declared.faults.Fault.{Fault}
-use Rattle.lpd_daemon.specs.declared.faults.Fault.TheVariants.{Memory, Output, PrinterFile}
+use Rattle.lpd_daemon.specs.declared.faults.Fault.TheVariants.{Memory, Network, Output, PrinterFile}
 
 -- memory was refused, or the output can't be written
 abbrev pub IsRunningFault : Fault → Type 0
@@ -11,6 +11,10 @@ IsRunningFault fault = (fault ≡ Memory) ⊎ (fault ≡ Output)
 -- memory was refused, or a printer's file can't be opened
 abbrev pub IsOpeningFault : Fault → Type 0
 IsOpeningFault fault = (fault ≡ Memory) ⊎ ((path : _) × (fault ≡ PrinterFile path))
+
+-- memory was refused, or the system doesn't give what listening takes
+abbrev pub IsListeningFault : Fault → Type 0
+IsListeningFault fault = (fault ≡ Memory) ⊎ (fault ≡ Network)
 
 -- a writer's faults after a result: one more where writing is what failed
 abbrev pub write_faults : {A : Type 0} → ℕ → Result A Fault → ℕ

@@ -7,7 +7,8 @@ ghost use Rattle.server_edge.specs.declared.desk.Serves.TheVariants.{All, NoJobs
 
 use crate::ending::Ending;
 use crate::house::House;
-use crate::job_lines::{Outcome, SessionNotes};
+use crate::job_book::SessionNotes;
+use crate::job_lines::Outcome;
 use crate::served::Served;
 use job_disk::DiskFolder;
 use job_files::JobEnd;
@@ -143,13 +144,13 @@ impl<R: Files<File = File> + Clock + Wait + Log, E: SpoolLedger, K: Ledger, H: L
         }
     }
 
-    /// Has the files of jobs that were removed taken away, and tells of these jobs where each has a line.
+    /// Has the files of jobs that were removed taken away, and notes the end of these jobs.
     pub(crate) fn end_removed(&self, jobs: Vec<u64>) {
         for job in jobs {
             if let Some(kept) = &self.kept {
                 kept.end(self.rt, job, JobEnd::Removed);
             }
-            self.tell_job(job, Outcome::Removed);
+            self.note_end(job, Outcome::Removed);
         }
     }
 
@@ -188,6 +189,9 @@ impl<R: Files<File = File> + Clock + Wait + Log, E: SpoolLedger, K: Ledger, H: L
         self.settle(requests, visit.peer);
         if let SessionEnd::Refused(refusal) = end {
             complain(rt, visit.peer, &refusal);
+            if let Some(book) = &self.job_book {
+                book.note_refusal(rt, refusal);
+            }
         }
         if let Some(why) = failure_of(end) {
             complain(rt, visit.peer, &why);
@@ -207,6 +211,9 @@ impl<R: Files<File = File> + Clock + Wait + Log, E: SpoolLedger, K: Ledger, H: L
             let Some(visit) = self.desk.take(self.rt, serves, &self.waker) else {
                 break;
             };
+            if let Some(book) = &self.job_book {
+                book.note_connection(self.rt);
+            }
             self.answer(requests, &mut input, number, &visit, serves);
             self.desk.leave(self.rt, serves, visit);
         }
@@ -221,7 +228,7 @@ impl<R: Files<File = File> + Clock + Wait + Log, E: SpoolLedger, K: Ledger, H: L
     ) -> SessionSeat<E, K, H> {
         let number = seat.number();
         let seated = Seated::new(self.rt, &self.spool, seat);
-        let notes = SessionNotes::new(self.rt, &self.job_log);
+        let notes = SessionNotes::new(self.rt, &self.job_book);
         let Some(kept) = &self.kept else {
             let mut noting = Noting::new(seated, notes);
             self.serve_all(&mut noting, number, serves);

@@ -10,6 +10,7 @@ use crate::house::House;
 use crate::listening::{Gate, Porter, announce_all};
 use crate::places::Opened;
 use crate::roles::{Roles, Seats, serves_at};
+use crate::showing::Board;
 use log::Log;
 use lpd_commands::OctetWrite;
 use shared_spool::{PrinterSeat, SessionSeat, SpoolLedger};
@@ -28,6 +29,8 @@ struct Crew<E: SpoolLedger, K: Ledger, H: Ledger> {
     looking: Vec<JoinHandle<SessionSeat<E, K, H>>>,
     printing: Vec<JoinHandle<PrinterSeat<E, K, H>>>,
     steward: Option<JoinHandle<(SessionSeat<E, K, H>, Counter)>>,
+    // Who shows the status, where it is shown.
+    showing: Vec<JoinHandle<()>>,
     // All were started.
     is_whole: bool,
 }
@@ -41,6 +44,8 @@ pub(crate) struct Entrance {
     /// What the printers print to, by their numbers, from 1.
     pub(crate) places: Vec<Opened>,
     pub(crate) counter: Counter,
+    /// Where the status is asked for, if it is shown.
+    pub(crate) board: Option<Board>,
 }
 
 /// What comes back once all threads have ended: the seats, and what waits for the server's end.
@@ -82,6 +87,7 @@ impl<E: SpoolLedger + Send + Sync, K: Ledger + Send + Sync, H: Ledger + Send + S
         roles: Roles<E, K, H>,
         places: Vec<Opened>,
         counter: Counter,
+        board: Option<Board>,
     ) -> (Crew<E, K, H>, SessionSeat<E, K, H>)
     where
         R::Dir: Send + Sync,
@@ -101,6 +107,7 @@ impl<E: SpoolLedger + Send + Sync, K: Ledger + Send + Sync, H: Ledger + Send + S
             looking: Vec::new(alloc),
             printing: Vec::new(alloc),
             steward: None,
+            showing: Vec::new(alloc),
             is_whole: true,
         };
         for (seat, opened) in printers.into_iter().zip(places) {
@@ -121,6 +128,10 @@ impl<E: SpoolLedger + Send + Sync, K: Ledger + Send + Sync, H: Ledger + Send + S
         let thread = scope.spawn(move || house.look_after(steward, counter));
         crew.steward = thread.ok();
         crew.is_whole &= crew.steward.is_some();
+        if let Some(board) = board {
+            let thread = scope.spawn(move || house.show_all(board));
+            crew.is_whole &= keep(&mut crew.showing, thread);
+        }
         (crew, porter)
     }
 
@@ -137,6 +148,7 @@ impl<E: SpoolLedger + Send + Sync, K: Ledger + Send + Sync, H: Ledger + Send + S
             looking,
             printing,
             steward,
+            showing,
             ..
         } = self;
         let (rt, alloc) = (house.rt, house.alloc);
@@ -148,6 +160,10 @@ impl<E: SpoolLedger + Send + Sync, K: Ledger + Send + Sync, H: Ledger + Send + S
         house.spool.close(rt, &mut seat);
         house.ending.close();
         house.oversight.wake_steward();
+        house.end_showing();
+        for thread in showing {
+            thread.join(rt);
+        }
         join_all(rt, looking, &mut sessions);
         join_all(rt, printing, &mut printers);
         let _ = sessions.push(seat);
@@ -195,6 +211,7 @@ where
             gate,
             places,
             counter,
+            board,
             ..
         } = entrance;
         // The output comes back with the seats, so that it is known what was written.
@@ -208,7 +225,7 @@ where
                     (W.faults output.entry.now) (W.written result.2.now)
                     (W.faults result.2.now) result.0 }
             {
-                let (crew, seat) = Crew::start(scope, self, roles, places, counter);
+                let (crew, seat) = Crew::start(scope, self, roles, places, counter, board);
                 let mut porter = Porter::new(self, seat, gate);
                 let admitted = porter.admit(crew.is_whole, output);
                 // However it went, all threads are joined before the seats are looked at.

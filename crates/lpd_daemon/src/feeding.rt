@@ -1,7 +1,7 @@
 //! The thread that has the spool take the jobs that its folder has kept.
 
 use crate::house::House;
-use crate::job_lines::SessionNotes;
+use crate::job_book::SessionNotes;
 use crate::keeping::Kept;
 use crate::owner::Owner;
 use crate::stored::{FedFolder, StoredJobs};
@@ -126,7 +126,7 @@ impl<R: Files<File = File> + Clock + Log + Wait, E: SpoolLedger, K: Ledger, H: L
         };
         let seated = Seated::new(self.rt, &self.spool, seat);
         let keeping = Keeping::new(self.alloc, seated, FedFolder::new(&kept.disk));
-        let mut feeder = Noting::new(keeping, SessionNotes::new(self.rt, &self.job_log));
+        let mut feeder = Noting::new(keeping, SessionNotes::new(self.rt, &self.job_book));
         for _ in self.rt.forever() {
             if self.ending.stops() || self.ending.is_over() {
                 break;

@@ -1,12 +1,14 @@
 //! What all threads of a server share.
 
 use crate::ending::Ending;
-use crate::job_lines::{JobLog, Outcome};
+use crate::job_book::JobBook;
+use crate::job_lines::Outcome;
 use crate::keeping::Kept;
 use crate::oversight::Oversight;
 use crate::posts::Posts;
 use crate::restarting::Restarts;
 use crate::rotating::Rotations;
+use crate::showing::Showing;
 use log::Log;
 use mio::Waker;
 use program_edge::{Limits, PrinterLimits};
@@ -40,12 +42,14 @@ pub(crate) struct House<'a, R, E: SpoolLedger, K: Ledger, H: Ledger> {
     pub(crate) ending: Ending,
     /// Where jobs are kept until they are printed, if they are.
     pub(crate) kept: Option<Kept<'a, R>>,
-    /// What has a line of the log for each job, if it is asked for.
-    pub(crate) job_log: Option<JobLog>,
+    /// What is noted of each job, where the log has lines of them or the status is shown.
+    pub(crate) job_book: Option<JobBook>,
+    /// What is known of the thread that shows the status, where there is one.
+    pub(crate) showing: Option<Showing>,
 }
 
 impl<R, E: SpoolLedger, K: Ledger, H: Ledger> House<'_, R, E, K, H> {
-    /// Whether a steward looks after the server.
+    /// Whether somebody looks after the server, or at it.
     pub(crate) fn is_watched(&self) -> bool {
         self.oversight.start.is_some()
     }
@@ -57,10 +61,10 @@ impl<R, E: SpoolLedger, K: Ledger, H: Ledger> House<'_, R, E, K, H> {
 }
 
 impl<R: Clock + Log + Wait, E: SpoolLedger, K: Ledger, H: Ledger> House<'_, R, E, K, H> {
-    /// Tells what has become of a job that isn't held any more, where each has a line of the log.
-    pub(crate) fn tell_job(&self, job: u64, outcome: Outcome) {
-        if let Some(job_log) = &self.job_log {
-            job_log.end(self.rt, job, outcome);
+    /// Notes what has become of a job that isn't held any more.
+    pub(crate) fn note_end(&self, job: u64, outcome: Outcome) {
+        if let Some(book) = &self.job_book {
+            book.end(self.rt, job, outcome);
         }
     }
 }

@@ -14,7 +14,9 @@ mod device;
 mod ending;
 mod faults;
 mod feeding;
+mod furniture;
 mod house;
+mod job_book;
 mod job_lines;
 mod keeping;
 mod lines;
@@ -32,6 +34,7 @@ mod room;
 mod rotating;
 mod served;
 mod serving;
+mod showing;
 mod sink;
 mod standing;
 mod status;
@@ -46,7 +49,7 @@ pub use faults::Fault;
 pub use job_lines::JOB_LINES;
 pub use printer_worker::{PrintSink, SinkFault};
 pub use program_edge::{
-    Limits, LogForm, MOST_SESSIONS, Place, PrinterLimits, PrinterPlace, Settings,
+    Limits, LogForm, MOST_SESSIONS, Place, PrinterLimits, PrinterPlace, Settings, StatusPlace,
 };
 pub use serving::{Plan, serve};
 pub use sink::{Explains, FileSink};

@@ -1,6 +1,5 @@
 //! What is known of a server beside its spool, for whoever looks after it.
 
-use crate::counter::Counter;
 use crate::standing::Standstills;
 use config_values::Config;
 use mio::Waker;
@@ -15,7 +14,7 @@ use std::time::Instant;
 pub(crate) struct Oversight {
     /// The spool's configuration.
     pub(crate) config: Config,
-    /// When the server started, where a steward looks after it.
+    /// When the server started, where somebody looks after it or at it.
     pub(crate) start: Option<Instant>,
     pub(crate) standstills: Standstills,
     /// The printers' pipes, by the printers' numbers, from 1, where a steward looks after it.
@@ -27,16 +26,17 @@ pub(crate) struct Oversight {
 }
 
 impl Oversight {
-    /// Of a server that starts now with this configuration, which this reaches beside its clients, nothing is known yet.
+    /// Of a server that starts now with this configuration nothing is known yet. `waker` wakes the steward, if there is one; where
+    /// the server is watched its start is known.
     pub(crate) fn new<R: Clock>(
         rt: &R,
         alloc: Global,
         config: Config,
         pipes: Vec<Option<File>>,
-        counter: &mut Counter,
+        waker: Option<Waker>,
+        is_watched: bool,
     ) -> Result<Oversight, AllocError> {
         let printers = config.printer_count();
-        let is_watched = counter.is_open();
         let start = if is_watched {
             Instant::now(rt).ok()
         } else {
@@ -48,7 +48,7 @@ impl Oversight {
             standstills: Standstills::new(alloc, printers)?,
             pipes,
             in_lobby: AtomicU64::new(0),
-            waker: counter.take_waker(),
+            waker,
         })
     }
 

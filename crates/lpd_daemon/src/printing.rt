@@ -150,7 +150,7 @@ impl<
             if let Some(kept) = &house.kept {
                 kept.end(house.rt, job, end);
             }
-            house.tell_job(job, Outcome::from(end));
+            house.note_end(job, Outcome::from(end));
         }
         left
     }

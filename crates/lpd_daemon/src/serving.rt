@@ -1,37 +1,33 @@
 //! A server, from its start to its end.
 
-ghost use Rattle.std.specs.Int.NonZero.{non_zero_u64_get};
-ghost use Rattle.std.specs.Prelude.{◌≡◌, ◌≤◌, ◌+◌, ◌-◌, ◌^◌, ◌*◌, ℕ, min, None, Some, Ok, OnOk};
-ghost use Rattle.std.specs.Prelude.{IfErr, false, if◌then◌else◌, option_map, true};
+ghost use Rattle.std.specs.Prelude.{◌≡◌, ◌≤◌, ◌+◌, ◌*◌, ℕ, Ok, OnOk};
+ghost use Rattle.std.specs.Prelude.{IfErr, false, if◌then◌else◌, true};
 ghost use Rattle.lpd_daemon.specs.Faults.{IsOpeningFault, IsRunningFault, write_faults};
 ghost use Rattle.lpd_daemon.specs.Lines.{IsQuiet, WritesAll, line_octets};
 ghost use Rattle.lpd_daemon.specs.declared.lines.PrintedLine.TheVariants.{Closed};
 ghost use Rattle.lpd_commands.specs.Ends.{Writes};
 ghost use Rattle.spool_ledgers.specs.Blanks.{AreFor, mark};
 
-use crate::configuration::copy_of;
 use crate::counter::Counter;
 use crate::crew::{Entrance, Returned};
 use crate::ending::Ending;
 use crate::faults::Fault;
+use crate::furniture::{Furniture, sessions_of};
 use crate::house::House;
-use crate::job_lines::JobLog;
 use crate::keeping::Kept;
 use crate::lines::{PrintedLine, print_or_tell};
 use crate::listening::{Gate, listen};
-use crate::oversight::Oversight;
-use crate::places::{Opened, open_places, pipes_of};
-use crate::posts::Posts;
-use crate::restarting::Restarts;
-use crate::roles::{NO_JOB_SESSIONS, OTHERS, Roles, Seats};
+use crate::places::{Opened, open_places};
+use crate::roles::{OTHERS, Roles, Seats};
 use crate::room::AccountRoom;
 use crate::rotating::Rotations;
+use crate::showing::{Board, Showing, open_board};
 use config_values::Config;
 use log::{Log, warn};
 use lpd_commands::OctetWrite;
 use mio::Waker;
-use program_edge::{MOST_SESSIONS, Settings};
-use server_edge::{Desk, Lobby};
+use program_edge::{Limits, PrinterLimits, Settings};
+use server_edge::Lobby;
 use shared_spool::{Blanks, SharedSpool, SpoolLedger};
 use std::alloc::{AllocError, Global};
 use std::fs::{File, Files};
@@ -48,6 +44,9 @@ const KEPT_DESCRIPTORS: u64 = 64;
 
 /// How many more are kept for the control socket and what comes to it.
 const STEWARDS_DESCRIPTORS: u64 = 80;
+
+/// How many more are kept for who shows the status and for who asks for it.
+const BOARDS_DESCRIPTORS: u64 = 80;
 
 /// How many more are kept for the folder in which jobs are, and for what is read of it.
 const FOLDERS_DESCRIPTORS: u64 = 8;
@@ -106,16 +105,11 @@ fn folder_descriptors(sessions: u32, are_kept: bool) -> u64
     }
 }
 
-/// How many sessions one host may have: without a number as many as there are.
-fn most_of(per_host: Option<NonZeroU64>) -> u32
-    ensures any { per_host ≡ None → result ≡ 2 ^ 32 - 1 }
-    ensures most { (most : ℕ) → option_map non_zero_u64_get per_host ≡ Some most
-        → result ≡ min most (2 ^ 32 - 1) }
+/// How many more descriptors are kept where the status is shown.
+fn board_descriptors(is_shown: bool) -> u64
+    ensures { result ≡ (if is_shown then 80 else 0) }
 {
-    match per_host {
-        None => u32::MAX,
-        Some(most) => u32::try_from(most.get()).unwrap_or(u32::MAX),
-    }
+    if is_shown { BOARDS_DESCRIPTORS } else { 0 }
 }
 
 /// Opens the folder in which jobs are kept, if the settings name one. Where the account isn't rotated by itself that is logged: it
@@ -153,15 +147,22 @@ pub struct Plan<'a> {
 struct Server<'a, R> {
     rt: &'a R,
     alloc: Global,
-    settings: Settings<'a>,
     // How many threads serve connections.
     sessions: u32,
+    limits: Limits,
+    printer_limits: PrinterLimits,
+    // After how many connections the account is rotated.
+    rotate: Option<NonZeroU64>,
+    room: Option<AccountRoom>,
     lobby: Lobby,
     waker: Waker,
     port: u16,
     places: Vec<Opened>,
     kept: Option<Kept<'a, R>>,
     counter: Counter,
+    // Where the status is asked for, if it is shown, and what wakes who shows it.
+    board: Option<(Board, Waker)>,
+    furniture: Furniture,
 }
 
 /// Runs a server: opens what its printers print to, as the settings say, or else files in their
@@ -178,10 +179,11 @@ struct Server<'a, R> {
 ///
 /// After `connections` connections it waits until their sessions have ended and no job is held or a
 /// printer is stopped, closes the spool, and prints `closed entries E` with the entries of all
-/// segments. It does what `counter` is asked, and ends as that says where it is asked to stop.
+/// segments. It does what `counter` is asked, and ends as that says where it is asked to stop. Where the settings have a place for
+/// that, its status is shown there.
 ///
 /// PrinterFile where what a printer prints to can't be opened, before it listens; Network where it can't
-/// listen; Output where a line couldn't be written, which is logged at once: after the first one it
+/// listen, for jobs or for who asks for its status; Output where a line couldn't be written, which is logged at once: after the first one it
 /// goes on to its end;
 /// Memory where memory or a thread is refused. A printer's file that fails later stops its printer.
 pub fn serve<
@@ -203,28 +205,110 @@ where
     let Plan {
         config,
         mut settings,
-        counter,
+        mut counter,
     } = plan;
-    let sessions = settings.sessions.clamp(1, MOST_SESSIONS) + NO_JOB_SESSIONS;
     let places = open_places(rt, alloc, &settings, config.printer_count())?;
     let kept = open_kept(rt, alloc, &settings, &config)?;
+    let board = open_board(rt, alloc, &settings)?;
+    let furniture = Furniture::make(rt, alloc, &settings, &config, &places, &mut counter)?;
+    let sessions = sessions_of(&settings);
     let descriptors = kept_descriptors(config.printer_count(), sessions, counter.is_open());
     let descriptors = descriptors.saturating_add(folder_descriptors(sessions, kept.is_some()));
+    let descriptors = descriptors.saturating_add(board_descriptors(board.is_some()));
     let (lobby, waker, port) = listen(rt, alloc, &mut settings, descriptors)?;
     let blanks = Blanks::new(&config, sessions + OTHERS);
+    let limits = settings.limits;
+    let room = AccountRoom::new(&config, sessions, limits.room_ms);
     let server = Server {
         rt,
         alloc,
-        settings,
         sessions,
+        limits,
+        printer_limits: settings.printer_limits,
+        rotate: settings.rotate,
+        room: settings.keep_room.then_some(room),
         lobby,
         waker,
         port,
         places,
         kept,
         counter,
+        board,
+        furniture,
     };
     server.run::<Brand, Brand, Brand, W>(config, blanks, output)
+}
+
+impl<'a, R> Server<'a, R> {
+    /// What its threads share with this spool, and what single ones own.
+    fn set_up<E: SpoolLedger, K: Ledger, H: Ledger>(
+        self,
+        spool: SharedSpool<E, K, H>,
+    ) -> (House<'a, R, E, K, H>, Entrance)
+        ensures { result.0.spool ≡ spool }
+    {
+        let Server {
+            rt,
+            alloc,
+            limits,
+            printer_limits,
+            rotate,
+            room,
+            lobby,
+            waker,
+            port,
+            places,
+            kept,
+            counter,
+            board,
+            furniture,
+            ..
+        } = self;
+        let (board, showing) = match board {
+            Some((board, waker)) => (Some(board), Some(Showing::new(waker))),
+            None => (None, None),
+        };
+        let Furniture {
+            restarts,
+            oversight,
+            job_book,
+            desk,
+            doors,
+            posts,
+        } = furniture;
+        let house = House {
+            rt,
+            alloc,
+            spool,
+            limits,
+            printer_limits,
+            restarts,
+            least: room.map(|room| room.least),
+            desk,
+            posts,
+            rotations: Rotations::new(alloc),
+            waker,
+            oversight,
+            ending: Ending::new(),
+            kept,
+            job_book,
+            showing,
+        };
+        let gate = Gate {
+            lobby,
+            doors,
+            every: rotate,
+            room,
+        };
+        let entrance = Entrance {
+            port,
+            gate,
+            places,
+            counter,
+            board,
+        };
+        (house, entrance)
+    }
 }
 
 impl<
@@ -258,57 +342,11 @@ where
         ensures write_fault { W.faults output.new ≡ write_faults (W.faults output.old) result }
         ensures fault { IfErr result IsRunningFault }
     {
-        let (rt, alloc, sessions) = (self.rt, self.alloc, self.sessions);
-        let limits = self.settings.limits;
-        let keeps_room = self.settings.keep_room;
-        let room = keeps_room.then_some(AccountRoom::new(&config, sessions, limits.room_ms));
-        let mut counter = self.counter;
-        let places = self.places;
-        let looked_at = if counter.is_open() {
-            places.as_slice()
-        } else {
-            &[]
-        };
-        let pipes = pipes_of(alloc, looked_at)?;
-        let queues = config.queues().len();
-        let restarts = Restarts::new(alloc, queues, self.settings.restart_seconds)?;
-        let copy = copy_of(alloc, &config)?;
-        let oversight = Oversight::new(rt, alloc, copy, pipes, &mut counter)?;
-        let job_log = JobLog::open(alloc, self.settings.log_jobs, config.max_jobs())?;
-        let opened = SharedSpool::<E, K, H>::new(alloc, blanks, config, sessions + OTHERS);
+        let seats = self.sessions + OTHERS;
+        let opened = SharedSpool::<E, K, H>::new(self.alloc, blanks, config, seats);
         let opened = opened.map_err(AllocError::from)?;
         let roles = Roles::deal(opened.sessions, opened.printers)?;
-        let (desk, doors) = Desk::new(alloc, most_of(limits.per_host))?;
-        let posts = Posts::new(alloc, sessions as usize)?;
-        let house = House {
-            rt,
-            alloc,
-            spool: opened.spool,
-            limits,
-            printer_limits: self.settings.printer_limits,
-            restarts,
-            least: room.map(|room| room.least),
-            desk,
-            posts,
-            rotations: Rotations::new(alloc),
-            waker: self.waker,
-            oversight,
-            ending: Ending::new(),
-            kept: self.kept,
-            job_log,
-        };
-        let gate = Gate {
-            lobby: self.lobby,
-            doors,
-            every: self.settings.rotate,
-            room,
-        };
-        let entrance = Entrance {
-            port: self.port,
-            gate,
-            places,
-            counter,
-        };
+        let (house, entrance) = self.set_up(opened.spool);
         house.run(roles, entrance, output)
     }
 }

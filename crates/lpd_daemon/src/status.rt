@@ -13,6 +13,35 @@ use std::sync::Wait;
 use std::sync::ledger::Ledger;
 use std::time::Instant;
 
+/// What the edge of a server knows at one moment.
+#[derive(Drop)]
+pub(crate) struct Survey {
+    /// For how many seconds the server runs.
+    pub(crate) uptime: u64,
+    stops: bool,
+    lobby: usize,
+    kept: Option<KeptJobs>,
+    sessions: Vec<SeenSession>,
+    standstills: Vec<Option<Standstill>>,
+}
+
+impl Survey {
+    /// What the edge knows beside a spool that this shows.
+    pub(crate) fn outside<'a>(&'a self, sight: &'a Sight) -> Outside<'a> {
+        Outside {
+            uptime: self.uptime,
+            stops: self.stops,
+            segment: sight.segment,
+            lobby: self.lobby,
+            kept: self.kept,
+            sessions: self.sessions.as_slice(),
+            // No queue has the number 0.
+            held: sight.held.get(1..).unwrap_or(&[]),
+            standstills: self.standstills.as_slice(),
+        }
+    }
+}
+
 impl<R: Files<File = File> + Clock + Log + Wait, E: SpoolLedger, K: Ledger, H: Ledger> House<
     '_,
     R,
@@ -57,26 +86,29 @@ impl<R: Files<File = File> + Clock + Log + Wait, E: SpoolLedger, K: Ledger, H: L
         Ok(standstills)
     }
 
+    /// What the edge of the server knows at this moment, at which the spool is as that shows. None where the clock can't be read.
+    /// AllocError where memory for it is refused.
+    pub(crate) fn survey(&self, sight: &Sight) -> Result<Option<Survey>, AllocError> {
+        let (Some(start), Ok(now)) = (self.oversight.start, Instant::now(self.rt)) else {
+            return Ok(None);
+        };
+        Ok(Some(Survey {
+            uptime: now.saturating_duration_since(start).as_secs(),
+            stops: self.ending.stops(),
+            lobby: self.oversight.in_lobby() as usize,
+            kept: self.kept.as_ref().map(|kept| kept.counts()),
+            sessions: self.seen_sessions(start, now)?,
+            standstills: self.seen_standstills(sight, now)?,
+        }))
+    }
+
     /// Tells how the spool, its sessions, its printers and its jobs stand.
     pub(crate) fn tell_status(&self) -> Result<Vec<u8>, AllocError> {
         let sight = self.spool.sight(self.rt, self.alloc)?;
-        let (Some(start), Ok(now)) = (self.oversight.start, Instant::now(self.rt)) else {
+        let Some(survey) = self.survey(&sight)? else {
             return Answer::new(self.alloc).end(AnswerEnd::Done);
         };
-        let sessions = self.seen_sessions(start, now)?;
-        let standstills = self.seen_standstills(&sight, now)?;
-        let held = sight.held.get(1..).unwrap_or(&[]);
-        let outside = Outside {
-            uptime: now.saturating_duration_since(start).as_secs(),
-            stops: self.ending.stops(),
-            segment: sight.segment,
-            lobby: self.oversight.in_lobby() as usize,
-            kept: self.kept.as_ref().map(|kept| kept.counts()),
-            sessions: sessions.as_slice(),
-            held,
-            standstills: standstills.as_slice(),
-        };
-        let config = &self.oversight.config;
+        let (config, outside) = (&self.oversight.config, survey.outside(&sight));
         let text = status_text(self.alloc, config, &sight.spool, &outside)?;
         Answer::of_lines(self.alloc, text).end(AnswerEnd::Done)
     }

@@ -145,14 +145,14 @@ impl<R: Files<File = File> + Clock + Log + Wait, E: SpoolLedger, K: Ledger, H: L
     K,
     H,
 > {
-    /// Does what is asked, until the spool is closed. Answers the seat, and what still waits for the server's end. Where nothing may
-    /// be asked it answers at once.
+    /// Does what is asked, and tells again of printers that stand still, until the spool is closed. Answers the seat, and what still
+    /// waits for the server's end. Where nobody looks after the server or at it, this answers at once.
     pub(crate) fn look_after(
         &self,
         seat: SessionSeat<E, K, H>,
         counter: Counter,
     ) -> (SessionSeat<E, K, H>, Counter) {
-        if !counter.is_open() {
+        if !self.is_watched() {
             return (seat, counter);
         }
         let mut steward = Steward {

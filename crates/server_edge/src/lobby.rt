@@ -9,7 +9,7 @@
 //!
 //! One thread holds them, with no octet read: what came is looked at, and left for the session.
 
-ghost use Rattle.std.specs.Prelude.{◌≡◌, ◌<◌, ◌-◌, ◌↔◌, ◌++◌, [], IsTrue, Some, codes, length};
+ghost use Rattle.std.specs.Prelude.{◌≡◌, ◌<◌, ◌-◌, ◌↔◌, ◌++◌, [], IsTrue, None, Some, codes, length};
 ghost use Rattle.std.specs.Fmt.{decimal};
 
 use crate::desk::Desk;
@@ -265,6 +265,19 @@ impl Lobby {
         let mut visit = self.release(at)?;
         visit.errand = errand;
         Some(visit)
+    }
+
+    /// The connection that has been ready for the longest time, whatever it comes for: where one thread serves them all. Its stream is
+    /// as it was accepted, with no octet read.
+    pub fn next_ready(&mut self) -> Option<Visit>
+        ensures none { self.old.room.others.items ≡ [] → self.old.room.jobs.items ≡ []
+            → result ≡ None }
+    {
+        let mut ready = self.room.others.pop_front();
+        if ready.is_none() {
+            ready = self.room.jobs.pop_front();
+        }
+        self.release(ready?.at)
     }
 
     /// Whether a job waits for a session.

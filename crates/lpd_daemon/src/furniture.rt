@@ -1,0 +1,95 @@
+//! What a server's threads share beside the spool.
+
+ghost use Rattle.std.specs.Int.NonZero.{non_zero_u64_get};
+ghost use Rattle.std.specs.Prelude.{◌≡◌, ◌≤◌, ◌-◌, ◌^◌, ℕ, IfErr, None, Some, min, option_map};
+ghost use Rattle.lpd_daemon.specs.declared.faults.Fault.TheVariants.{Memory};
+
+use crate::configuration::copy_of;
+use crate::counter::Counter;
+use crate::faults::Fault;
+use crate::job_book::JobBook;
+use crate::oversight::Oversight;
+use crate::places::{Opened, pipes_of};
+use crate::posts::Posts;
+use crate::restarting::Restarts;
+use crate::roles::NO_JOB_SESSIONS;
+use config_values::Config;
+use program_edge::{MOST_SESSIONS, Settings};
+use server_edge::{Desk, Doors};
+use std::alloc::{AllocError, Global};
+use std::num::NonZeroU64;
+use std::rt::Clock;
+
+/// How many sessions one host may have: without a number as many as there are.
+fn most_of(per_host: Option<NonZeroU64>) -> u32
+    ensures any { per_host ≡ None → result ≡ 2 ^ 32 - 1 }
+    ensures most { (most : ℕ) → option_map non_zero_u64_get per_host ≡ Some most
+        → result ≡ min most (2 ^ 32 - 1) }
+{
+    match per_host {
+        None => u32::MAX,
+        Some(most) => u32::try_from(most.get()).unwrap_or(u32::MAX),
+    }
+}
+
+/// How many threads serve connections by these settings.
+pub(crate) fn sessions_of(settings: &Settings<'_>) -> u32
+    ensures { result ≤ 66 }
+{
+    settings.sessions.clamp(1, MOST_SESSIONS) + NO_JOB_SESSIONS
+}
+
+/// What a server's threads share beside the spool, and what is handed to them by.
+#[derive(Drop)]
+pub(crate) struct Furniture {
+    pub(crate) restarts: Restarts,
+    pub(crate) oversight: Oversight,
+    pub(crate) job_book: Option<JobBook>,
+    pub(crate) desk: Desk,
+    pub(crate) doors: Doors,
+    pub(crate) posts: Posts,
+}
+
+impl Furniture {
+    /// That of a server that starts now. AllocError where memory for it is refused.
+    fn new<R: Clock>(
+        rt: &R,
+        alloc: Global,
+        settings: &Settings<'_>,
+        config: &Config,
+        places: &[Opened],
+        counter: &mut Counter,
+    ) -> Result<Furniture, AllocError> {
+        let (is_shown, has_steward) = (settings.status.is_some(), counter.is_open());
+        let pipes = pipes_of(alloc, if has_steward { places } else { &[] })?;
+        let waker = counter.take_waker();
+        let copy = copy_of(alloc, config)?;
+        let oversight = Oversight::new(rt, alloc, copy, pipes, waker, is_shown || has_steward)?;
+        let (desk, doors) = Desk::new(alloc, most_of(settings.limits.per_host))?;
+        Ok(Furniture {
+            restarts: Restarts::new(alloc, config.queues().len(), settings.restart_seconds)?,
+            oversight,
+            job_book: JobBook::open(alloc, settings.log_jobs, is_shown, config.max_jobs())?,
+            desk,
+            doors,
+            posts: Posts::new(alloc, sessions_of(settings) as usize)?,
+        })
+    }
+
+    /// That of a server that starts now. Memory where memory for it is refused.
+    pub(crate) fn make<R: Clock>(
+        rt: &R,
+        alloc: Global,
+        settings: &Settings<'_>,
+        config: &Config,
+        places: &[Opened],
+        counter: &mut Counter,
+    ) -> Result<Furniture, Fault>
+        ensures { IfErr result (λ fault. fault ≡ Memory) }
+    {
+        match Furniture::new(rt, alloc, settings, config, places, counter) {
+            Ok(furniture) => Ok(furniture),
+            Err(AllocError) => Err(Fault::Memory),
+        }
+    }
+}

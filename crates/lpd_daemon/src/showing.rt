@@ -1,0 +1,289 @@
+//! The thread that shows the status of the server to browsers and to what monitors it: one request and one response a connection, one
+//! after another.
+
+ghost use Rattle.std.specs.Prelude.{IfErr};
+ghost use Rattle.lpd_daemon.specs.Faults.{IsListeningFault};
+
+use crate::faults::Fault;
+use crate::house::House;
+use log::{Log, warn};
+use mio::Waker;
+use program_edge::{Settings, tell_cause};
+use server_counts::{LastHour, Look, ServerCounts};
+use server_edge::{Doorway, Listening, Lobby, Visit};
+use shared_spool::{Sight, SpoolLedger};
+use spool_snapshot::Pages;
+use status_answers::{
+    Method, Reading, Resource, Scene, read_request, refusal_response, send_response,
+    status_response, timeout_response, unavailable_response,
+};
+use std::alloc::{AllocError, Global};
+use std::fs::{File, Files};
+use std::net::{Net, Shutdown, SocketAddr, TcpListener, TcpStream};
+use std::rt::Clock;
+use std::sync::ledger::Ledger;
+use std::sync::{Mutex, Wait};
+use std::thread;
+use std::time::Duration;
+
+/// How many connections may wait for their first lines.
+const PLACES: u64 = 64;
+
+/// The time between two looks at where the pages are, in seconds.
+const LOOK_SECONDS: u64 = 60;
+
+/// The pause after the system didn't tell what happened, in milliseconds.
+const PAUSE_MS: u64 = 100;
+
+/// The name by which a browser on this machine asks.
+const LOCALHOST: &str = "localhost";
+
+/// Where the status is asked for, and what is known there alone.
+#[derive(Drop)]
+pub(crate) struct Board {
+    lobby: Lobby,
+    /// The name by which browsers may ask, beside the machine's addresses and `localhost`.
+    name: String,
+    hour: LastHour,
+    /// From which second on the next look is due.
+    due: u64,
+}
+
+/// What others know of the thread that shows the status.
+#[derive(Drop)]
+pub(crate) struct Showing {
+    /// What wakes it.
+    waker: Waker,
+    /// The connection that it answers.
+    answered: Mutex<Option<TcpStream>>,
+}
+
+impl Showing {
+    /// A thread that answers nobody yet, and is woken by this.
+    pub(crate) fn new(waker: Waker) -> Showing {
+        Showing {
+            waker,
+            answered: Mutex::new(None),
+        }
+    }
+
+    /// Ends the connection that is answered, and wakes the thread.
+    fn end<R: Wait>(&self, rt: &R) {
+        if let Some(stream) = &*self.answered.lock(rt) {
+            // A peer that is gone already needs no end.
+            let _ = stream.shutdown(Shutdown::Both);
+        }
+        // A thread that isn't woken looks within a minute.
+        let _ = self.waker.wake();
+    }
+}
+
+/// Who may come to the board, and its name. AllocError where memory for them is refused.
+fn door_of(alloc: Global, settings: &Settings<'_>) -> Result<(Doorway, String), AllocError> {
+    let allowed = Vec::from_slice(alloc, settings.allowed.as_slice())?;
+    let name = String::from_str(alloc, settings.status_host.unwrap_or(LOCALHOST))?;
+    Ok((Doorway::new(alloc, allowed), name))
+}
+
+/// A board where the settings have a place for it, and what wakes its thread.
+///
+/// Network where the system doesn't give what it takes, of which the log is told why; Memory.
+pub(crate) fn open_board<R: Log + Net<Listener = TcpListener, Stream = TcpStream>>(
+    rt: &R,
+    alloc: Global,
+    settings: &Settings<'_>,
+) -> Result<Option<(Board, Waker)>, Fault>
+    ensures { IfErr result IsListeningFault }
+{
+    let Some(place) = settings.status else {
+        return Ok(None);
+    };
+    let Ok((doorway, name)) = door_of(alloc, settings) else {
+        return Err(Fault::Memory);
+    };
+    let address = SocketAddr::from((place.address, place.port));
+    let listening = Listening {
+        address,
+        places: PLACES,
+        connections: u64::MAX,
+        doorway,
+    };
+    match Lobby::new(rt, alloc, listening) {
+        Ok((lobby, waker, _port)) => {
+            let (hour, due) = (LastHour::new(alloc), 0);
+            let board = Board {
+                lobby,
+                name,
+                hour,
+                due,
+            };
+            Ok(Some((board, waker)))
+        }
+        Err(error) => {
+            tell_cause(rt, &address, Some(error));
+            Err(Fault::Network)
+        }
+    }
+}
+
+/// What is seen N seconds after the server's start.
+fn look_of(second: u64, pages: Pages, counts: &ServerCounts) -> Look {
+    Look {
+        second,
+        free: pages.free,
+        chained: pages.chained,
+        lent: pages.lent,
+        out: pages.out,
+        done: counts.done,
+        octets: counts.octets_done,
+    }
+}
+
+/// The numbers of the jobs whose sessions wait for a page. AllocError where memory for them is refused.
+fn put_off_of(alloc: Global, sight: &Sight) -> Result<Vec<u64>, AllocError> {
+    let mut put_off = Vec::new(alloc);
+    for waiting in &sight.waiting {
+        put_off.push(waiting.job)?;
+    }
+    Ok(put_off)
+}
+
+impl<R: Files<File = File> + Clock + Log + Wait, E: SpoolLedger, K: Ledger, H: Ledger> House<
+    '_,
+    R,
+    E,
+    K,
+    H,
+> {
+    /// The seconds since the server's start; none where the clock can't be read.
+    fn uptime(&self) -> u64 {
+        let start = self.oversight.start;
+        let elapsed = start.and_then(|start| start.elapsed(self.rt).ok());
+        elapsed.map_or(0, |elapsed| elapsed.as_secs())
+    }
+
+    /// What was counted since the server's start.
+    fn counts(&self) -> ServerCounts {
+        match &self.job_book {
+            Some(book) => book.counts(self.rt),
+            None => ServerCounts::new(),
+        }
+    }
+
+    /// Looks where the pages are, where that is due. What there is no memory for is passed over.
+    fn look(&self, board: &mut Board) {
+        let second = self.uptime();
+        if second < board.due {
+            return;
+        }
+        board.due = second.saturating_add(LOOK_SECONDS);
+        if let Ok(sight) = self.spool.sight(self.rt, self.alloc) {
+            let _ = board
+                .hour
+                .note(look_of(second, sight.spool.pages, &self.counts()));
+        }
+    }
+
+    /// The response with a resource of the server as it is now, and by GET with its body. The spool's lock isn't held while it is drawn. AllocError where memory for it is refused.
+    fn draw(
+        &self,
+        board: &Board,
+        method: Method,
+        resource: Resource,
+    ) -> Result<String, AllocError> {
+        let (rt, alloc) = (self.rt, self.alloc);
+        let sight = self.spool.sight(rt, alloc)?;
+        let Some(survey) = self.survey(&sight)? else {
+            return unavailable_response(alloc);
+        };
+        let order = sight.spool.finishing_order(alloc)?;
+        let put_off = put_off_of(alloc, &sight)?;
+        let ages = match &self.job_book {
+            Some(book) => book.ages(rt, sight.spool.jobs.as_slice())?,
+            None => Vec::new(alloc),
+        };
+        let counts = self.counts();
+        let scene = Scene {
+            config: &self.oversight.config,
+            spool: &sight.spool,
+            outside: &survey.outside(&sight),
+            order: order.as_ref().map(|order| order.as_slice()),
+            put_off: put_off.as_slice(),
+            ages: ages.as_slice(),
+            counts: &counts,
+            hour: board.hour.looks(),
+        };
+        status_response(alloc, &scene, method, resource)
+    }
+
+    /// The response to a connection.
+    fn response_to(&self, board: &Board, visit: &Visit) -> Result<String, AllocError> {
+        match read_request(self.rt, &visit.stream, board.name.as_bytes()) {
+            Reading::Wanted { method, resource } => match self.draw(board, method, resource) {
+                Ok(response) => Ok(response),
+                Err(AllocError) => unavailable_response(self.alloc),
+            },
+            Reading::Refused(refusal) => refusal_response(self.alloc, refusal),
+            Reading::More => timeout_response(self.alloc),
+        }
+    }
+
+    /// Answers a connection. What goes wrong with one peer doesn't concern the next.
+    fn show(&self, board: &Board, visit: &Visit) {
+        match self.response_to(board, visit) {
+            Ok(response) => {
+                let _ = send_response(self.rt, &visit.stream, response.as_str());
+            }
+            Err(AllocError) =>
+                warn!(self.rt; "{}: memory was refused to show the status", visit.peer),
+        }
+    }
+
+    /// Answers a connection, which whoever ends the server may end meanwhile.
+    fn show_to(&self, board: &Board, showing: &Showing, visit: &Visit) {
+        *showing.answered.lock(self.rt) = visit.stream.try_clone().ok();
+        if !self.ending.is_closed() {
+            self.show(board, visit);
+        }
+        *showing.answered.lock(self.rt) = None;
+    }
+
+    /// Waits for a connection, until the next look is due.
+    fn wait_at(&self, board: &mut Board) {
+        let seconds = board.due.saturating_sub(self.uptime()).min(LOOK_SECONDS);
+        if let Err(error) = board
+            .lobby
+            .round(self.rt, Some(seconds.saturating_mul(1_000)))
+        {
+            warn!(self.rt; "the status can't be asked for: {error}");
+            thread::sleep(self.rt, Duration::from_millis(PAUSE_MS));
+        }
+    }
+
+    /// Answers who asks for the status, until the spool is closed.
+    pub(crate) fn show_all(&self, board: Board) {
+        let Some(showing) = &self.showing else {
+            return;
+        };
+        let mut board = board;
+        for _ in self.rt.forever() {
+            if self.ending.is_closed() {
+                break;
+            }
+            self.look(&mut board);
+            match board.lobby.next_ready() {
+                Some(visit) => self.show_to(&board, showing, &visit),
+                None => self.wait_at(&mut board),
+            }
+        }
+    }
+}
+
+impl<R: Wait, E: SpoolLedger, K: Ledger, H: Ledger> House<'_, R, E, K, H> {
+    /// The status isn't shown any more, once the spool is closed.
+    pub(crate) fn end_showing(&self) {
+        if let Some(showing) = &self.showing {
+            showing.end(self.rt);
+        }
+    }
+}
