@@ -66,7 +66,7 @@ def of_page():
 def of_guide():
     text = read("docs/OPERATING.md")
     options = {}
-    for option, value in re.findall(r"^\| `--([a-z-]+)(?: ([A-Z=]+))?` \|", text, re.M):
+    for option, value in re.findall(r"^\| `--([a-z-]+)(?: ([A-Z=:\[\]]+))?` \|", text, re.M):
         options.setdefault(option, set()).add(value)
     for line in re.findall(r"^\| `((?:[a-z]+) [A-Z].*?)` \|", text, re.M):
         for option, value in re.findall(r"--([a-z-]+)(?: ([A-Z][A-Z=.]*))?", line):
