@@ -44,9 +44,8 @@ take() {
 }
 
 for turn in $(seq "$turns"); do
-    take none
-    take watched --status 5151
-    take again
+    # Each comes first as often as last.
+    if [ $((turn % 2)) = 1 ]; then take none; take watched --status 5151; take again; else take again; take watched --status 5151; take none; fi
     sleep "${REST:-2}"
 done
 median() { sort -g | awk '{ a[NR] = $1 } END { print (a[int((NR + 1) / 2)] + a[int(NR / 2) + 1]) / 2 }'; }
