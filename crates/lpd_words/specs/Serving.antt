@@ -38,8 +38,9 @@ serve_words =
     ∷ sessions ∷ count (codes "connections") ∷ count (codes "rotate") ∷ count (codes "silence")
     ∷ count (codes "per-host") ∷ count (codes "slowest") ∷ flag (codes "keep-room")
     ∷ repeated (codes "allow") ∷ option (codes "control") ∷ printer ∷ count (codes "patience")
-    ∷ count (codes "printer-silence") ∷ count (codes "restart") ∷ option (codes "spool") ∷ option (codes "log")
-    ∷ flag (codes "log-jobs") ∷ option (codes "status") ∷ option (codes "status-host") ∷ []
+    ∷ count (codes "printer-silence") ∷ count (codes "restart") ∷ option (codes "spool")
+    ∷ option (codes "account") ∷ option (codes "log") ∷ flag (codes "log-jobs") ∷ option (codes "status")
+    ∷ option (codes "status-host") ∷ []
 
 abbrev pub serve_app : App
 serve_app = with_rules (new_app (codes "serve")) serve_words
@@ -112,6 +113,7 @@ pub record IsServing (rows : List Row) (settings : Settings) : Type 0 where
   pub printer_limits : ArePrinterLimits rows settings.printer_limits
   pub restart : IsLimit rows (codes "restart") (option_map non_zero_u64_get settings.restart_seconds)
   pub spool : option_map (λ path. path.now) settings.spool ≡ first_of (codes "spool") rows
+  pub account : option_map (λ path. path.now) settings.account ≡ first_of (codes "account") rows
   pub log : IsLog rows settings.log
   pub log_jobs : IsFlag rows (codes "log-jobs") settings.log_jobs
   pub status : IsStatus rows settings.status

@@ -45,6 +45,7 @@ Examples:
   lpd_server serve spool.toml --port 5150 --bind 0.0.0.0 --out pages --sessions 16 --silence 60
   lpd_server serve spool.toml --port 515 --printer 1=socket://10.0.0.9
   lpd_server serve spool.toml --port 515 --keep-room --spool /var/spool/hurgwaye
+  lpd_server serve spool.toml --port 515 --keep-room --account /var/lib/hurgwaye/account
   lpd_server serve spool.toml --port 5150 --connections 1";
 
 /// The option that has to be there, the port to listen on.
@@ -75,6 +76,8 @@ pub(crate) fn serve<'a>(alloc: Global) -> Result<Command<'a>, AllocError>
     let silent = "Fails a job whose network printer takes nothing for SECONDS";
     let spool =
         "Keeps each job in a file of DIR until it is printed, so that it outlives the server";
+    let account =
+        "Writes each segment of the account into a file of DIR, as it is rotated and at the end";
     let restart = "Starts a queue again SECONDS after a printer of it failed";
     let log =
         "Sets before each line of the log its time, or what systemd's journal reads: FORM is time or journal";
@@ -101,6 +104,7 @@ pub(crate) fn serve<'a>(alloc: Global) -> Result<Command<'a>, AllocError>
         count(alloc, "printer-silence", "SECONDS", silent),
         count(alloc, "restart", "SECONDS", restart),
         option(alloc, "spool", "DIR", spool),
+        option(alloc, "account", "DIR", account),
         option(alloc, "log", "FORM", log),
         flag(alloc, "log-jobs", log_jobs),
         option(alloc, "status", "[ADDRESS:]PORT", status),
@@ -257,6 +261,7 @@ pub(crate) fn serving_of<'a>(
         printer_limits: printer_limits_of(matches)?,
         restart_seconds: limit_of(matches, "restart")?,
         spool: text_if(matches, "spool"),
+        account: text_if(matches, "account"),
         log: log_of(alloc, matches)?,
         log_jobs: flag_of(matches, "log-jobs"),
         status: status_of(alloc, matches)?,

@@ -91,6 +91,8 @@ pub struct Settings<'a> {
     /// The path of the directory where jobs are kept until they are printed, where they are kept: they
     /// outlive the server.
     pub spool: Option<&'a str>,
+    /// The path of the directory where each segment of the account becomes a file, where they do.
+    pub account: Option<&'a str>,
     /// What stands before each line of the log. But for `Plain`, a warning that a peer causes again and again is told
     /// once a minute.
     pub log: LogForm,
@@ -123,6 +125,7 @@ impl<'a> Settings<'a> {
             × (result.printer_limits.silence_seconds ≡ None) }
         ensures restart_seconds { result.restart_seconds ≡ None }
         ensures spool { result.spool ≡ None }
+        ensures account { result.account ≡ None }
         ensures log { (result.log ≡ Plain) × (result.log_jobs ≡ false) }
         ensures status { (result.status ≡ None) × (result.status_host ≡ None) }
     {
@@ -141,6 +144,7 @@ impl<'a> Settings<'a> {
             printer_limits: PrinterLimits::NONE,
             restart_seconds: None,
             spool: None,
+            account: None,
             log: LogForm::Plain,
             log_jobs: false,
             status: None,

@@ -52,7 +52,7 @@ const FEW: &[u8] = b"pages = 2600\npage_size = 8\nmax_jobs = 8\naccount = 515600
 ///
 /// A configuration is a script of bad lines, and a script is no configuration. A file that can't be read comes before a fault of the
 /// configuration.
-const TOLD: [(&str, &[u8], &[u8]); 43] = [
+const TOLD: [(&str, &[u8], &[u8]); 44] = [
     ("", SCRIPT, b"free 4\nstatus 0\n"),
     ("", CONFIG, b"status 0\n"),
     (
@@ -186,7 +186,7 @@ const TOLD: [(&str, &[u8], &[u8]); 43] = [
     (
         "serve,spool.toml,--port,515",
         b"",
-        b"serves spool.toml 515 127.0.0.1 . 8 None None None None None 5 5 1000 false [] None [] None None None None Plain false \
+        b"serves spool.toml 515 127.0.0.1 . 8 None None None None None 5 5 1000 false [] None [] None None None None None Plain false \
           None None\n",
     ),
     (
@@ -194,19 +194,19 @@ const TOLD: [(&str, &[u8], &[u8]); 43] = [
          --per-host,4,--slowest,100,--keep-room,--allow,10.0.0.0/8,--allow,192.168.1.7,spool.toml",
         b"",
         b"serves spool.toml 65535 10.0.200.255 pages 64 Some(3) Some(4294967295) Some(60) Some(4) Some(100) 5 5 1000 true \
-          [Network { address: 10.0.0.0, bits: 8 }, Network { address: 192.168.1.7, bits: 32 }] None [] None None None None Plain false \
+          [Network { address: 10.0.0.0, bits: 8 }, Network { address: 192.168.1.7, bits: 32 }] None [] None None None None None Plain false \
           None None\n",
     ),
     (
         "serve,a,--port,1",
         b"free\n",
-        b"serves a 1 127.0.0.1 . 8 None None None None None 5 5 1000 false [] None [] None None None None Plain false \
+        b"serves a 1 127.0.0.1 . 8 None None None None None 5 5 1000 false [] None [] None None None None None Plain false \
           None None\n",
     ),
     (
         "serve,a,--port,1,--control,run/spool.control",
         b"",
-        b"serves a 1 127.0.0.1 . 8 None None None None None 5 5 1000 false [] Some(\"run/spool.control\") [] None None None None Plain false \
+        b"serves a 1 127.0.0.1 . 8 None None None None None 5 5 1000 false [] Some(\"run/spool.control\") [] None None None None None Plain false \
           None None\n",
     ),
     (
@@ -216,35 +216,41 @@ const TOLD: [(&str, &[u8], &[u8]); 43] = [
         b"serves a 1 127.0.0.1 . 8 None None None None None 5 5 1000 false [] None \
           [PrinterPlace { printer: 2, place: Folder(\"jobs/a=b\") }, PrinterPlace { printer: 1, place: Socket(10.0.0.9:9100) }, \
           PrinterPlace { printer: 4294967295, place: Socket(255.255.255.255:1) }, PrinterPlace { printer: 10, place: File(\"/dev/lp0\") }] \
-          Some(10) Some(4294967295) Some(1) None Plain false \
+          Some(10) Some(4294967295) Some(1) None None Plain false \
           None None\n",
     ),
     (
         "serve,a,--port,1,--spool,/var/spool/jobs",
         b"",
-        b"serves a 1 127.0.0.1 . 8 None None None None None 5 5 1000 false [] None [] None None None Some(\"/var/spool/jobs\") Plain false \
+        b"serves a 1 127.0.0.1 . 8 None None None None None 5 5 1000 false [] None [] None None None Some(\"/var/spool/jobs\") None Plain false \
+          None None\n",
+    ),
+    (
+        "serve,a,--port,1,--account,account,--spool,jobs",
+        b"",
+        b"serves a 1 127.0.0.1 . 8 None None None None None 5 5 1000 false [] None [] None None None Some(\"jobs\") Some(\"account\") Plain false \
           None None\n",
     ),
     (
         "serve,a,--port,1,--log,journal,--log-jobs",
         b"",
-        b"serves a 1 127.0.0.1 . 8 None None None None None 5 5 1000 false [] None [] None None None None Journal true None None\n",
+        b"serves a 1 127.0.0.1 . 8 None None None None None 5 5 1000 false [] None [] None None None None None Journal true None None\n",
     ),
     (
         "serve,a,--port,1,--log=time",
         b"",
-        b"serves a 1 127.0.0.1 . 8 None None None None None 5 5 1000 false [] None [] None None None None Time false None None\n",
+        b"serves a 1 127.0.0.1 . 8 None None None None None 5 5 1000 false [] None [] None None None None None Time false None None\n",
     ),
     (
         "serve,a,--port,1,--status,631",
         b"",
-        b"serves a 1 127.0.0.1 . 8 None None None None None 5 5 1000 false [] None [] None None None None Plain false \
+        b"serves a 1 127.0.0.1 . 8 None None None None None 5 5 1000 false [] None [] None None None None None Plain false \
           Some(StatusPlace { address: 127.0.0.1, port: 631 }) None\n",
     ),
     (
         "serve,a,--port,1,--status-host,Spool-1.example,--status=0.0.0.0:65535",
         b"",
-        b"serves a 1 127.0.0.1 . 8 None None None None None 5 5 1000 false [] None [] None None None None Plain false \
+        b"serves a 1 127.0.0.1 . 8 None None None None None 5 5 1000 false [] None [] None None None None None Plain false \
           Some(StatusPlace { address: 0.0.0.0, port: 65535 }) Some(\"Spool-1.example\")\n",
     ),
     (
@@ -409,6 +415,8 @@ check,FILE,--restart,1
 check,FILE,--spool
 check,FILE,--spool,a,--spool,b
 serve,a,--port,515,--quiet
+serve,a,--port,515,--account
+serve,a,--port,515,--account,a,--account,b
 serve,a,--port,515,--spool
 serve,a,--port,515,--spool,a,--spool,b
 serve,a,--port,515,--control
@@ -467,6 +475,7 @@ fn line_of(alloc: Global, config: &str, settings: &Settings) -> Result<String, A
         printer_limits,
         restart_seconds,
         spool,
+        account,
         log,
         log_jobs,
         status,
@@ -485,7 +494,7 @@ fn line_of(alloc: Global, config: &str, settings: &Settings) -> Result<String, A
         room_ms,
     } = *limits;
     format!(in alloc;
-        "serves {config} {port} {bind} {out} {sessions} {connections:?} {rotate:?} {silence:?} {per_host:?} {slowest:?} {no_job_seconds} {leave_seconds} {room_ms} {keep_room} {allowed:?} {control:?} {printers:?} {patience_minutes:?} {silence_seconds:?} {restart_seconds:?} {spool:?} {log:?} {log_jobs} {status:?} {status_host:?}\n"
+        "serves {config} {port} {bind} {out} {sessions} {connections:?} {rotate:?} {silence:?} {per_host:?} {slowest:?} {no_job_seconds} {leave_seconds} {room_ms} {keep_room} {allowed:?} {control:?} {printers:?} {patience_minutes:?} {silence_seconds:?} {restart_seconds:?} {spool:?} {account:?} {log:?} {log_jobs} {status:?} {status_host:?}\n"
     )
 }
 
