@@ -145,7 +145,7 @@ fn goes_on(head: &Head, left: &Start, next: &Head) -> bool
 }
 
 /// Whether a segment names this digest as that of the segment before it.
-fn names_digest(origin: &Origin, digest: &[u8; 32]) -> bool
+pub fn names_digest(origin: &Origin, digest: &[u8; 32]) -> bool
     ensures { IsTrue result ↔ ((origin_seen origin.now).previous ≡ Some digest.now) }
 {
     match &origin.previous {

@@ -25,12 +25,19 @@ fn fits_shape(octets: &[u8], shape: &[u8]) -> bool
     }
 }
 
+/// Whether octets have the shape of a time as it stands in a line: `2026-11-26T22:00:00Z`, with any digits.
+pub fn is_time(text: &[u8]) -> bool
+    ensures { result ≡ R.fits_shape text.now (codes "0000-00-00T00:00:00Z") }
+{
+    fits_shape(text, b"0000-00-00T00:00:00Z")
+}
+
 /// A time.
 pub(crate) fn stamp(alloc: Global, word: &[u8]) -> Result<Octets, LineFault>
     ensures { MatchResult result (λ o. R.stamp_of word.now ≡ Some o)
         (λ f. (f ≡ LineFault.Memory) ⊎ ((f ≡ LineFault.Bad) × (R.stamp_of word.now ≡ None))) }
 {
-    if !fits_shape(word, b"0000-00-00T00:00:00Z") {
+    if !is_time(word) {
         return Err(LineFault::Bad);
     }
     let octets = Octets::copy_of(alloc, word)?;

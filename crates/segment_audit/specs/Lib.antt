@@ -1,0 +1,3 @@
+pub mod Audited
+pub mod Counted
+pub mod Told

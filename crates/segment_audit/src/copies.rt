@@ -1,0 +1,96 @@
+//! Copies of what stands at the head of a segment: a line goes to the caller, and the audit keeps what it says.
+
+ghost use Rattle.std.specs.Prelude.{◌≡◌, IfOk};
+ghost use Rattle.account.specs.Seen.{base_seen};
+ghost use Rattle.segment_text.specs.Seen.{origin_seen, printer_seen, start_seen};
+
+use account::Base;
+use config_values::{Config, Queue};
+use lpd_values::Octets;
+use segment_text::{Origin, PrinterPlace, Start};
+use std::alloc::{AllocError, Global};
+
+/// Where a segment stands, once more.
+///
+/// AllocError where memory is refused.
+pub(crate) fn copy_origin(alloc: Global, origin: &Origin) -> Result<Origin, AllocError>
+    ensures { IfOk result (λ copy. origin_seen copy ≡ origin_seen origin.now) }
+{
+    Ok(Origin {
+        run: origin.run,
+        segment: origin.segment,
+        first: Octets::copy_of(alloc, origin.first.as_slice())?,
+        last: Octets::copy_of(alloc, origin.last.as_slice())?,
+        previous: origin.previous,
+    })
+}
+
+/// A queue that says the same.
+fn copy_queue(alloc: Global, queue: &Queue) -> Result<Queue, AllocError>
+    ensures { IfOk result (λ copy. copy ≡ queue.now) }
+{
+    let name = Vec::from_slice(alloc, queue.name())?;
+    // A queue's name is a text, so memory alone can be wanting.
+    let name = String::from_utf8(name).or(Err(AllocError))?;
+    Ok(Queue::new(name, queue.limit(), queue.printers()))
+}
+
+/// A configuration that says the same.
+///
+/// AllocError where memory is refused.
+pub(crate) fn copy_config(alloc: Global, config: &Config) -> Result<Config, AllocError>
+    ensures { IfOk result (λ copy. copy ≡ config.now) }
+{
+    let mut queues = Vec::new(alloc);
+    for queue in config.queues() {
+        queues.push(copy_queue(alloc, queue)?)?;
+    }
+    Ok(Config::new(
+        config.pages(),
+        config.page_size(),
+        config.max_jobs(),
+        config.account(),
+        queues,
+    ))
+}
+
+/// A printer's place, once more.
+///
+/// AllocError where memory is refused.
+pub(crate) fn copy_printer(
+    alloc: Global,
+    printer: &PrinterPlace,
+) -> Result<PrinterPlace, AllocError>
+    ensures { IfOk result (λ copy. printer_seen copy ≡ printer_seen printer.now) }
+{
+    Ok(PrinterPlace {
+        place: Octets::copy_of(alloc, printer.place.as_slice())?,
+        length: printer.length,
+    })
+}
+
+/// A base that says the same.
+fn copy_base(alloc: Global, base: &Base) -> Result<Base, AllocError>
+    ensures { IfOk result (λ copy. base_seen copy ≡ base_seen base.now) }
+{
+    Ok(Base {
+        accepted: base.accepted,
+        reserved: base.reserved,
+        closed: base.closed,
+        stopped: Vec::from_slice(alloc, base.stopped.as_slice())?,
+    })
+}
+
+/// What is before a segment, once more.
+///
+/// AllocError where memory is refused.
+pub(crate) fn copy_start(alloc: Global, start: &Start) -> Result<Start, AllocError>
+    ensures { IfOk result (λ copy. start_seen copy ≡ start_seen start.now) }
+{
+    Ok(Start {
+        entries: start.entries,
+        kinds: start.kinds,
+        handed: start.handed,
+        base: copy_base(alloc, &start.base)?,
+    })
+}
