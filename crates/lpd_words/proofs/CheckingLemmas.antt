@@ -6,7 +6,7 @@ use Rattle.lpd_words.specs.Refused.{AsksNothing, LacksChecking}
 use Rattle.lpd_words.specs.declared.envelope.WordFault.{WordFault}
 use Rattle.lpd_words.specs.declared.envelope.WordFault.TheVariants as envelope
 use Rattle.lpd_words.specs.declared.words.Ask.{Ask}
-use Rattle.lpd_words.specs.declared.words.Ask.TheVariants.{Input, Check, Replay, Send, Question, Serve, Control}
+use Rattle.lpd_words.specs.declared.words.Ask.TheVariants.{Input, Check, Replay, Send, Question, Serve, Control, Audit, Usage}
 use Rattle.lpd_words.proofs.QuestionLemmas.{apart, no_query, third}
 
 -- words that ask to check, and don't say what, ask for nothing
@@ -23,6 +23,10 @@ no_check name rows is lacks (Serve config settings) h =
     apart 101 114 refl (third name (codes "check") (codes "serve") is h.0)
 no_check name rows is lacks (Control request) h =
     apart 101 110 refl (third name (codes "check") (codes "control") is h.0)
+no_check name rows is lacks (Audit request) h =
+    apart 101 100 refl (third name (codes "check") (codes "audit") is h.0)
+no_check name rows is lacks (Usage request) h =
+    apart 101 97 refl (third name (codes "check") (codes "usage") is h.0)
 
 -- words that ask to check, and don't have all words of that, or wrong ones, ask for nothing
 pub asks_no_check : (name : Text) (rows : List Row) (fault : WordFault) → name ≡ codes "check" → LacksChecking rows fault → AsksNothing (Some (name, rows)) fault
@@ -35,6 +39,9 @@ asks_no_check name rows envelope.Line is lacks = absurd lacks
 asks_no_check name rows (envelope.Network text) is lacks = absurd lacks
 asks_no_check name rows (envelope.Control text) is lacks = inl (inr is, lacks)
 asks_no_check name rows (envelope.Log text) is lacks = absurd lacks
+asks_no_check name rows (envelope.Digest text) is lacks = absurd lacks
+asks_no_check name rows (envelope.Grouping text) is lacks = absurd lacks
+asks_no_check name rows (envelope.Time text) is lacks = absurd lacks
 asks_no_check name rows (envelope.Status text) is lacks = absurd lacks
 asks_no_check name rows (envelope.StatusHost text) is lacks = absurd lacks
 asks_no_check name rows envelope.NoStatus is lacks = absurd lacks

@@ -1,5 +1,6 @@
 mod AllowLemmas
 mod AskedLemmas
+mod AuditLemmas
 mod CheckingLemmas
 mod CommandLemmas
 mod ControlLemmas

@@ -10,7 +10,7 @@ use Rattle.lpd_words.specs.Refused.{Asks, AsksNothing, LacksQuery, LacksQuestion
 use Rattle.lpd_words.specs.declared.envelope.WordFault.{WordFault}
 use Rattle.lpd_words.specs.declared.envelope.WordFault.TheVariants as envelope
 use Rattle.lpd_words.specs.declared.words.Ask.{Ask}
-use Rattle.lpd_words.specs.declared.words.Ask.TheVariants.{Input, Check, Replay, Send, Question, Serve, Control}
+use Rattle.lpd_words.specs.declared.words.Ask.TheVariants.{Input, Check, Replay, Send, Question, Serve, Control, Audit, Usage}
 
 -- the server of a job isn't there
 pub job_lacks_server : (rows : List Row) (fault : WordFault) → LacksServer rows fault → LacksWords rows fault
@@ -26,6 +26,9 @@ job_lacks_server rows envelope.Line lacks = absurd lacks
 job_lacks_server rows (envelope.Network text) lacks = absurd lacks
 job_lacks_server rows (envelope.Control text) lacks = absurd lacks
 job_lacks_server rows (envelope.Log text) lacks = absurd lacks
+job_lacks_server rows (envelope.Digest text) lacks = absurd lacks
+job_lacks_server rows (envelope.Grouping text) lacks = absurd lacks
+job_lacks_server rows (envelope.Time text) lacks = absurd lacks
 job_lacks_server rows (envelope.Status text) lacks = absurd lacks
 job_lacks_server rows (envelope.StatusHost text) lacks = absurd lacks
 job_lacks_server rows envelope.NoStatus lacks = absurd lacks
@@ -49,6 +52,9 @@ question_lacks_server name rows envelope.Line asks lacks = absurd lacks
 question_lacks_server name rows (envelope.Network text) asks lacks = absurd lacks
 question_lacks_server name rows (envelope.Control text) asks lacks = absurd lacks
 question_lacks_server name rows (envelope.Log text) asks lacks = absurd lacks
+question_lacks_server name rows (envelope.Digest text) asks lacks = absurd lacks
+question_lacks_server name rows (envelope.Grouping text) asks lacks = absurd lacks
+question_lacks_server name rows (envelope.Time text) asks lacks = absurd lacks
 question_lacks_server name rows (envelope.Status text) asks lacks = absurd lacks
 question_lacks_server name rows (envelope.StatusHost text) asks lacks = absurd lacks
 question_lacks_server name rows envelope.NoStatus asks lacks = absurd lacks
@@ -72,6 +78,9 @@ lacks_query name rows envelope.Line lacks = absurd lacks
 lacks_query name rows (envelope.Network text) lacks = absurd lacks
 lacks_query name rows (envelope.Control text) lacks = absurd lacks
 lacks_query name rows (envelope.Log text) lacks = absurd lacks
+lacks_query name rows (envelope.Digest text) lacks = absurd lacks
+lacks_query name rows (envelope.Grouping text) lacks = absurd lacks
+lacks_query name rows (envelope.Time text) lacks = absurd lacks
 lacks_query name rows (envelope.Status text) lacks = absurd lacks
 lacks_query name rows (envelope.StatusHost text) lacks = absurd lacks
 lacks_query name rows envelope.NoStatus lacks = absurd lacks
@@ -144,6 +153,10 @@ no_job name rows is lacks (Serve config settings) h =
     apart 110 114 refl (third name (codes "send") (codes "serve") is h.0)
 no_job name rows is lacks (Control request) h =
     apart 4 7 refl (ap (λ (t : Text). length t) (sym is ∙ h.0))
+no_job name rows is lacks (Audit request) h =
+    apart 110 100 refl (third name (codes "send") (codes "audit") is h.0)
+no_job name rows is lacks (Usage request) h =
+    apart 110 97 refl (third name (codes "send") (codes "usage") is h.0)
 
 -- words that ask to replay a configuration, or a script, at no path ask for nothing
 pub no_replay : (name : Text) (rows : List Row) → name ≡ codes "replay" → (first_of (codes "config") rows ≡ None) ⊎ (first_of (codes "script") rows ≡ None) → (asked : Ask) → IsAsked (Some (name, rows)) asked → ⊥
@@ -164,6 +177,10 @@ no_replay name rows is none (Serve config settings) h =
     apart 112 114 refl (third name (codes "replay") (codes "serve") is h.0)
 no_replay name rows is none (Control request) h =
     apart 112 110 refl (third name (codes "replay") (codes "control") is h.0)
+no_replay name rows is none (Audit request) h =
+    apart 112 100 refl (third name (codes "replay") (codes "audit") is h.0)
+no_replay name rows is none (Usage request) h =
+    apart 112 97 refl (third name (codes "replay") (codes "usage") is h.0)
 
 -- nor do those that ask to serve one at no path
 pub no_serving : (name : Text) (rows : List Row) → name ≡ codes "serve" → first_of (codes "config") rows ≡ None → (asked : Ask) → IsAsked (Some (name, rows)) asked → ⊥
@@ -181,6 +198,10 @@ no_serving name rows is none (Serve config settings) h =
     cc
 no_serving name rows is none (Control request) h =
     apart 114 110 refl (third name (codes "serve") (codes "control") is h.0)
+no_serving name rows is none (Audit request) h =
+    apart 114 100 refl (third name (codes "serve") (codes "audit") is h.0)
+no_serving name rows is none (Usage request) h =
+    apart 114 97 refl (third name (codes "serve") (codes "usage") is h.0)
 
 no_request : (name : Text) (rows : List Row) → name ≡ codes "control" → LacksRequest rows envelope.Missing → (asked : Ask) → IsAsked (Some (name, rows)) asked → ⊥
 no_request name rows is lacks Input h = absurd h
@@ -195,12 +216,19 @@ no_request name rows is lacks (Question question) h =
 no_request name rows is lacks (Serve config settings) h =
     apart 110 114 refl (third name (codes "control") (codes "serve") is h.0)
 no_request name rows is lacks (Control request) h = lacks request h.1
+no_request name rows is lacks (Audit request) h =
+    apart 110 100 refl (third name (codes "control") (codes "audit") is h.0)
+no_request name rows is lacks (Usage request) h =
+    apart 110 97 refl (third name (codes "control") (codes "usage") is h.0)
 
 -- words that ask to send a command to a server, and don't have all of its words, ask for nothing
 pub asks_no_request : (name : Text) (rows : List Row) (fault : WordFault) → name ≡ codes "control" → LacksRequest rows fault → AsksNothing (Some (name, rows)) fault
 asks_no_request name rows envelope.Missing is lacks = no_request name rows is lacks
 asks_no_request name rows (envelope.Control text) is lacks = inr (is, lacks)
 asks_no_request name rows (envelope.Log text) is lacks = absurd lacks
+asks_no_request name rows (envelope.Digest text) is lacks = absurd lacks
+asks_no_request name rows (envelope.Grouping text) is lacks = absurd lacks
+asks_no_request name rows (envelope.Time text) is lacks = absurd lacks
 asks_no_request name rows (envelope.Status text) is lacks = absurd lacks
 asks_no_request name rows (envelope.StatusHost text) is lacks = absurd lacks
 asks_no_request name rows envelope.NoStatus is lacks = absurd lacks
@@ -233,6 +261,9 @@ asks_no_job name rows envelope.Line is lacks = absurd lacks
 asks_no_job name rows (envelope.Network text) is lacks = absurd lacks
 asks_no_job name rows (envelope.Control text) is lacks = absurd lacks
 asks_no_job name rows (envelope.Log text) is lacks = absurd lacks
+asks_no_job name rows (envelope.Digest text) is lacks = absurd lacks
+asks_no_job name rows (envelope.Grouping text) is lacks = absurd lacks
+asks_no_job name rows (envelope.Time text) is lacks = absurd lacks
 asks_no_job name rows (envelope.Status text) is lacks = absurd lacks
 asks_no_job name rows (envelope.StatusHost text) is lacks = absurd lacks
 asks_no_job name rows envelope.NoStatus is lacks = absurd lacks
@@ -242,8 +273,8 @@ asks_no_job name rows envelope.Command is lacks = absurd lacks
 
 -- words that ask a server, and don't have all words of that, ask for nothing, where they don't ask for anything else
 pub asks_no_question : (name : Text) (rows : List Row) (fault : WordFault) → (name ≡ codes "check" → ⊥) → (name ≡ codes "replay" → ⊥) → (name ≡ codes "send" → ⊥)
-    → (name ≡ codes "serve" → ⊥) → (name ≡ codes "control" → ⊥) → LacksQuestion name rows fault → AsksNothing (Some (name, rows)) fault
-asks_no_question name rows envelope.Missing check replay send serve control lacks = go
+    → (name ≡ codes "serve" → ⊥) → (name ≡ codes "control" → ⊥) → (name ≡ codes "audit" → ⊥) → (name ≡ codes "usage" → ⊥) → LacksQuestion name rows fault → AsksNothing (Some (name, rows)) fault
+asks_no_question name rows envelope.Missing check replay send serve control audit usage lacks = go
   where
     go : (asked : Ask) → IsAsked (Some (name, rows)) asked → ⊥
     go Input h = absurd h
@@ -253,22 +284,27 @@ asks_no_question name rows envelope.Missing check replay send serve control lack
     go (Question question) h = lacks question h
     go (Serve config settings) h = serve h.0
     go (Control request) h = control h.0
-asks_no_question name rows envelope.Server check replay send serve control lacks =
+    go (Audit request) h = audit h.0
+    go (Usage request) h = usage h.0
+asks_no_question name rows envelope.Server check replay send serve control audit usage lacks =
     (inr lacks.0, lacks.1)
-asks_no_question name rows envelope.Line check replay send serve control lacks = lacks
-asks_no_question name rows envelope.Memory check replay send serve control lacks = tt
-asks_no_question name rows envelope.Queue check replay send serve control lacks = absurd lacks
-asks_no_question name rows envelope.Host check replay send serve control lacks = absurd lacks
-asks_no_question name rows envelope.User check replay send serve control lacks = absurd lacks
-asks_no_question name rows envelope.Files check replay send serve control lacks = absurd lacks
-asks_no_question name rows envelope.Number check replay send serve control lacks = absurd lacks
-asks_no_question name rows envelope.Address check replay send serve control lacks = absurd lacks
-asks_no_question name rows (envelope.Network text) check replay send serve control lacks = absurd lacks
-asks_no_question name rows (envelope.Control text) check replay send serve control lacks = absurd lacks
-asks_no_question name rows (envelope.Log text) check replay send serve control lacks = absurd lacks
-asks_no_question name rows (envelope.Status text) check replay send serve control lacks = absurd lacks
-asks_no_question name rows (envelope.StatusHost text) check replay send serve control lacks = absurd lacks
-asks_no_question name rows envelope.NoStatus check replay send serve control lacks = absurd lacks
-asks_no_question name rows (envelope.Printer text) check replay send serve control lacks = absurd lacks
-asks_no_question name rows (envelope.PrinterTwice text) check replay send serve control lacks = absurd lacks
-asks_no_question name rows envelope.Command check replay send serve control lacks = absurd lacks
+asks_no_question name rows envelope.Line check replay send serve control audit usage lacks = lacks
+asks_no_question name rows envelope.Memory check replay send serve control audit usage lacks = tt
+asks_no_question name rows envelope.Queue check replay send serve control audit usage lacks = absurd lacks
+asks_no_question name rows envelope.Host check replay send serve control audit usage lacks = absurd lacks
+asks_no_question name rows envelope.User check replay send serve control audit usage lacks = absurd lacks
+asks_no_question name rows envelope.Files check replay send serve control audit usage lacks = absurd lacks
+asks_no_question name rows envelope.Number check replay send serve control audit usage lacks = absurd lacks
+asks_no_question name rows envelope.Address check replay send serve control audit usage lacks = absurd lacks
+asks_no_question name rows (envelope.Network text) check replay send serve control audit usage lacks = absurd lacks
+asks_no_question name rows (envelope.Control text) check replay send serve control audit usage lacks = absurd lacks
+asks_no_question name rows (envelope.Log text) check replay send serve control audit usage lacks = absurd lacks
+asks_no_question name rows (envelope.Digest text) check replay send serve control audit usage lacks = absurd lacks
+asks_no_question name rows (envelope.Grouping text) check replay send serve control audit usage lacks = absurd lacks
+asks_no_question name rows (envelope.Time text) check replay send serve control audit usage lacks = absurd lacks
+asks_no_question name rows (envelope.Status text) check replay send serve control audit usage lacks = absurd lacks
+asks_no_question name rows (envelope.StatusHost text) check replay send serve control audit usage lacks = absurd lacks
+asks_no_question name rows envelope.NoStatus check replay send serve control audit usage lacks = absurd lacks
+asks_no_question name rows (envelope.Printer text) check replay send serve control audit usage lacks = absurd lacks
+asks_no_question name rows (envelope.PrinterTwice text) check replay send serve control audit usage lacks = absurd lacks
+asks_no_question name rows envelope.Command check replay send serve control audit usage lacks = absurd lacks

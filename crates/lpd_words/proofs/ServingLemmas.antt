@@ -16,7 +16,7 @@ use Rattle.lpd_words.specs.declared.words.Ask.{Ask}
 use Rattle.program_edge.specs.Forms.{IsFormName}
 use Rattle.program_edge.specs.declared.settings.LogForm.{LogForm}
 use Rattle.program_edge.specs.declared.settings.LogForm.TheVariants.{Journal, Plain, Time}
-use Rattle.lpd_words.specs.declared.words.Ask.TheVariants.{Input, Check, Replay, Send, Question, Serve, Control}
+use Rattle.lpd_words.specs.declared.words.Ask.TheVariants.{Input, Check, Replay, Send, Question, Serve, Control, Audit, Usage}
 
 -- the text of an option, or another where it isn't there
 pub text_or : (o : Option (Bor Text)) (first : Option Text) (other : Bor Text) → option_map (λ s. s.now) o ≡ first → (unwrap_or o other).now ≡ unwrap_or first other.now
@@ -86,6 +86,10 @@ no_server name rows is lacks (Question question) h =
 no_server name rows is lacks (Serve config settings) h = lacks settings h.2
 no_server name rows is lacks (Control request) h =
     below 110 (omega arith) (third name (codes "control") is h.0)
+no_server name rows is lacks (Audit request) h =
+    below 100 (omega arith) (third name (codes "audit") is h.0)
+no_server name rows is lacks (Usage request) h =
+    below 97 (omega arith) (third name (codes "usage") is h.0)
 
 pub asks_no_server : (name : Text) (rows : List Row) (fault : WordFault) → name ≡ codes "serve" → LacksServing rows fault → AsksNothing (Some (name, rows)) fault
 asks_no_server name rows envelope.Address is lacks = (is, lacks)
@@ -94,6 +98,9 @@ asks_no_server name rows envelope.Line is lacks = absurd lacks
 asks_no_server name rows (envelope.Network text) is lacks = (is, lacks)
 asks_no_server name rows (envelope.Control text) is lacks = inl (inl is, lacks)
 asks_no_server name rows (envelope.Log text) is lacks = (is, lacks)
+asks_no_server name rows (envelope.Digest text) is lacks = absurd lacks
+asks_no_server name rows (envelope.Grouping text) is lacks = absurd lacks
+asks_no_server name rows (envelope.Time text) is lacks = absurd lacks
 asks_no_server name rows (envelope.Status text) is lacks = (is, lacks)
 asks_no_server name rows (envelope.StatusHost text) is lacks = (is, lacks)
 asks_no_server name rows envelope.NoStatus is lacks = (is, lacks)

@@ -4,13 +4,14 @@ use Rattle.std.specs.List.{join_with_byte}
 use Rattle.clap.specs.Words.{Row, Text, all_of, first_of}
 use Rattle.control_lines.specs.Commands.{Means}
 use Rattle.control_lines.specs.declared.command.Command.{Command}
+use Rattle.lpd_words.specs.Auditing.{IsAuditRequest, IsUsageRequest}
 use Rattle.lpd_words.specs.Checking.{IsChecking}
 use Rattle.lpd_words.specs.Naming.{IsEnvelope}
 use Rattle.lpd_words.specs.Questions.{IsQuestion, IsServer}
 use Rattle.lpd_words.specs.Serving.{IsServing}
 use Rattle.lpd_words.specs.Values.{IsFlag, IsNumber}
 use Rattle.lpd_words.specs.declared.words.Ask.{Ask}
-use Rattle.lpd_words.specs.declared.words.Ask.TheVariants.{Input, Check, Replay, Send, Question, Serve, Control}
+use Rattle.lpd_words.specs.declared.words.Ask.TheVariants.{Input, Check, Replay, Send, Question, Serve, Control, Audit, Usage}
 use Rattle.lpd_words.specs.declared.words.Sending.{Sending}
 use Rattle.lpd_words.specs.declared.controlling.ControlRequest.{ControlRequest}
 use Rattle.program_edge.specs.declared.settings.TheConstants.{MOST_CONTROL_PATH}
@@ -53,6 +54,8 @@ IsAskedBy name rows (Serve config settings) =
     (name ≡ codes "serve") × (first_of (codes "config") rows ≡ Some config.now)
     × IsServing rows settings
 IsAskedBy name rows (Control request) = (name ≡ codes "control") × IsControlRequest rows request
+IsAskedBy name rows (Audit request) = (name ≡ codes "audit") × IsAuditRequest rows request
+IsAskedBy name rows (Usage request) = (name ≡ codes "usage") × IsUsageRequest rows request
 
 -- a check is asked for, and something is said of printers
 abbrev pub ChecksPrinters : Ask → Type 0

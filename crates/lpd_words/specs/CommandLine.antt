@@ -4,6 +4,7 @@ use Rattle.clap.specs.Words.{App, Rule, new_app}
 use Rattle.clap.specs.declared.builder.value_parser.ValueParser.TheVariants as parser
 use Rattle.lpd_words.specs.Questions.{remove_app, server_option, server_port, start_app, state_app}
 use Rattle.lpd_words.specs.Rules.{flag, number, with_commands, with_rules, word, words}
+use Rattle.lpd_words.specs.Auditing.{audit_app, usage_app}
 use Rattle.lpd_words.specs.Checking.{check_app}
 use Rattle.lpd_words.specs.Serving.{serve_app}
 
@@ -41,7 +42,8 @@ program_app = record {
 
 abbrev pub commands : List App
 commands =
-    check_app ∷ replay_app ∷ send_app ∷ state_app ∷ remove_app ∷ start_app ∷ serve_app ∷ control_app ∷ []
+    check_app ∷ replay_app ∷ send_app ∷ state_app ∷ remove_app ∷ start_app ∷ serve_app ∷ control_app
+    ∷ audit_app ∷ usage_app ∷ []
 
 -- the command line: nothing, or one of these commands with its words; help and the version
 abbrev pub command_line : App

@@ -1,5 +1,6 @@
 -- The words of this crate's contracts.
 pub mod Asked
+pub mod Auditing
 pub mod Causes
 pub mod Checking
 pub mod CommandLine

@@ -3,6 +3,7 @@ use Rattle.std.specs.Prelude.{◌≡◌, ◌≢◌, ◌⊎◌, ◌<◌, ◌&&◌
 use Rattle.std.specs.Prelude.{Option, Some, None, length, codes, string_bytes}
 use Rattle.std.specs.List.{AllZip, Any, join_with_byte, list_all}
 use Rattle.std.specs.declared.net.ipv4_addr.Ipv4Addr.{Ipv4Addr}
+use Rattle.account_text.specs.Reading.{digest_of}
 use Rattle.clap.specs.Words.{IsAmong, Kinds, Row, Text, all_of, fault_of, first_of, subcommand_of}
 use Rattle.clap.specs.declared.error.kind.ErrorKind.{ErrorKind}
 use Rattle.clap.specs.declared.error.kind.ErrorKind.TheVariants.{DisplayHelp, DisplayVersion}
@@ -16,7 +17,10 @@ use Rattle.lpd_values.specs.Kept.{is_operand}
 use Rattle.lpd_values.specs.Kinds.{is_word_octet}
 use Rattle.lpd_values.specs.declared.limits.TheConstants.{MAX_FILES}
 use Rattle.lpd_words.specs.Asked.{ChecksPrinters, IsAsked}
+use Rattle.lpd_words.specs.Auditing.{grouping_name}
 use Rattle.lpd_words.specs.Checking.{IsChecking}
+use Rattle.lpd_words.specs.declared.auditing.Grouping.{Grouping}
+use Rattle.segment_text.specs.Reading.{fits_shape}
 use Rattle.lpd_words.specs.declared.checking.Checking.{Checking}
 use Rattle.lpd_words.specs.Serving.{AreAllowed, AreLimits, AreOfDifferentPrinters, ArePrinterLimits, IsLog}
 use Rattle.program_edge.specs.declared.settings.TheConstants.{MOST_CONTROL_PATH}
@@ -68,6 +72,9 @@ IsWrong s envelope.Line = ⊥
 IsWrong s (envelope.Network text) = ⊥
 IsWrong s (envelope.Control text) = ⊥
 IsWrong s (envelope.Log text) = ⊥
+IsWrong s (envelope.Digest text) = ⊥
+IsWrong s (envelope.Grouping text) = ⊥
+IsWrong s (envelope.Time text) = ⊥
 IsWrong s (envelope.Status text) = ⊥
 IsWrong s (envelope.StatusHost text) = ⊥
 IsWrong s envelope.NoStatus = ⊥
@@ -273,6 +280,56 @@ LacksRequest rows envelope.Command = HasNoCommand rows envelope.Command
 LacksRequest rows envelope.Memory = Unit {0}
 LacksRequest rows fault = ⊥
 
+-- an option is there, and its text is no digest; or memory was refused
+abbrev pub HasNoDigest : Text → List Row → WordFault → Type 0
+HasNoDigest id rows (envelope.Digest text) =
+    (first_of id rows ≡ Some (string_bytes text)) × (digest_of (string_bytes text) ≡ None)
+HasNoDigest id rows envelope.Memory = Unit {0}
+HasNoDigest id rows fault = ⊥
+
+-- an option is there, and its text is no time; or memory was refused
+abbrev pub HasNoTime : Text → List Row → WordFault → Type 0
+HasNoTime id rows (envelope.Time text) =
+    (first_of id rows ≡ Some (string_bytes text))
+    × (fits_shape (string_bytes text) (codes "0000-00-00T00:00:00Z") ≡ false)
+HasNoTime id rows envelope.Memory = Unit {0}
+HasNoTime id rows fault = ⊥
+
+-- the option for what usage is told by is there, and its text names nothing; or memory was refused
+abbrev pub HasNoGrouping : List Row → WordFault → Type 0
+HasNoGrouping rows (envelope.Grouping text) =
+    (first_of (codes "by") rows ≡ Some (string_bytes text))
+    × ((by : Grouping) → string_bytes text ≡ grouping_name by → ⊥)
+HasNoGrouping rows envelope.Memory = Unit {0}
+HasNoGrouping rows fault = ⊥
+
+-- the words of an audit aren't all there, or are wrong
+abbrev pub LacksAudit : List Row → WordFault → Type 0
+LacksAudit rows envelope.Missing = all_of (codes "file") rows ≡ None
+LacksAudit rows (envelope.Digest text) =
+    HasNoDigest (codes "after") rows (envelope.Digest text) ⊎ HasNoDigest (codes "ends") rows (envelope.Digest text)
+LacksAudit rows envelope.Memory = Unit {0}
+LacksAudit rows fault = ⊥
+
+-- the words of what is asked of use aren't all there, or are wrong
+abbrev pub LacksUsage : List Row → WordFault → Type 0
+LacksUsage rows envelope.Missing = all_of (codes "file") rows ≡ None
+LacksUsage rows (envelope.Grouping text) = HasNoGrouping rows (envelope.Grouping text)
+LacksUsage rows (envelope.Time text) =
+    HasNoTime (codes "since") rows (envelope.Time text) ⊎ HasNoTime (codes "until") rows (envelope.Time text)
+LacksUsage rows envelope.Memory = Unit {0}
+LacksUsage rows fault = ⊥
+
+-- words ask for an audit, and an option of it gives no digest
+abbrev pub NamesNoDigest : Option (Text × List Row) → WordFault → Type 0
+NamesNoDigest None fault = ⊥
+NamesNoDigest (Some met) fault = (met.0 ≡ codes "audit") × LacksAudit met.1 fault
+
+-- words ask what was used, and an option of it names nothing to tell it by, or gives no time
+abbrev pub NamesNoUsage : Option (Text × List Row) → WordFault → Type 0
+NamesNoUsage None fault = ⊥
+NamesNoUsage (Some met) fault = (met.0 ≡ codes "usage") × LacksUsage met.1 fault
+
 -- words ask to serve or to check, and name a control socket that can't be, or to send a command to one that can't be
 abbrev pub NamesNoControl : Option (Text × List Row) → WordFault → Type 0
 NamesNoControl None fault = ⊥
@@ -306,8 +363,8 @@ NamesNoJob None fault = ⊥
 NamesNoJob (Some met) fault =
     (met.0 ≡ codes "send") × ((s : Sending) × IsSending met.1 s × IsWrong s fault)
 
--- why what clap reads of words asks for nothing: a word isn't there, or those of a job, a question, a server or a command
--- for one are wrong
+-- why what clap reads of words asks for nothing: a word isn't there, or those of a job, a question, a server, a command
+-- for one, an audit or of what is asked of use are wrong
 abbrev pub AsksNothing : Option (Text × List Row) → WordFault → Type 0
 AsksNothing met envelope.Address = NamesNoAddress met
 AsksNothing met envelope.Server = NamesNoServer met
@@ -321,6 +378,9 @@ AsksNothing met envelope.NoStatus = NamesNoStatusHost met envelope.NoStatus
 AsksNothing met (envelope.Printer text) = NamesNoPrinters met (envelope.Printer text)
 AsksNothing met (envelope.PrinterTwice text) = NamesNoPrinters met (envelope.PrinterTwice text)
 AsksNothing met envelope.Command = NamesNoCommand met envelope.Command
+AsksNothing met (envelope.Digest text) = NamesNoDigest met (envelope.Digest text)
+AsksNothing met (envelope.Grouping text) = NamesNoUsage met (envelope.Grouping text)
+AsksNothing met (envelope.Time text) = NamesNoUsage met (envelope.Time text)
 AsksNothing met envelope.Memory = Unit {0}
 AsksNothing met envelope.Missing = (asked : Ask) → IsAsked met asked → ⊥
 AsksNothing met fault = NamesNoJob met fault

@@ -5,6 +5,7 @@ ghost use Rattle.clap.specs.Words.{app_of};
 ghost use Rattle.lpd_words.specs.CommandLine.{command_line, control_app, program_app, replay_app, send_app};
 ghost use Rattle.lpd_words.specs.Rules.{IsCommand};
 
+use crate::auditing::{audit, usage};
 use crate::checking::check;
 use crate::questions::{QUEUE, remove, server_option, server_port, start, state};
 use crate::rules::{flag, number, plain, with_words, word, words};
@@ -28,6 +29,8 @@ Examples:
   lpd_server remove 515 lp ann 1
   lpd_server serve spool.toml --port 515
   lpd_server control spool.control status
+  lpd_server audit account/segment-*
+  lpd_server usage account/segment-*
   lpd_server < both
 
 Exit status:
@@ -37,6 +40,7 @@ Exit status:
   3  the script can't be run (fault 70)
   4  memory, a file or the network failed (faults 12, 71, 72 and 73)
   5  a job or a question wasn't taken (faults 60 to 63), or a command for a server was refused (fault 60)
+  6  an account isn't as it has to be (faults 80 to 83)
 
 A fault is one line on standard error: `fault`, its number, its name and what it is about.
 The keys of a configuration and all faults: docs/OPERATING.md; a configuration with remarks: docs/example.toml.";
@@ -154,6 +158,8 @@ pub(crate) fn command<'a>(alloc: Global) -> Result<Command<'a>, AllocError>
         start(alloc)?,
         serve(alloc)?,
         control(alloc)?,
+        audit(alloc)?,
+        usage(alloc)?,
     ]?;
     program(alloc).subcommands(commands)
 }

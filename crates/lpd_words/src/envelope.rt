@@ -78,6 +78,15 @@ pub enum WordFault {
     /// The words behind the path of a control socket are no command.
     #[error("the words behind PATH are no command: they are status, start QUEUE, hold QUEUE, release QUEUE, remove QUEUE NUMBER, remove QUEUE USER, rotate, stop, stop SECONDS or stop now")]
     Command,
+    /// This text is no digest.
+    #[error("'{0}' is no DIGEST: 64 hexadecimal digits")]
+    Digest(String),
+    /// This text names nothing that usage is told by.
+    #[error("'{0}' is no GROUPING: user, host or queue")]
+    Grouping(String),
+    /// This text is no time.
+    #[error("'{0}' is no TIME: as 2026-11-26T22:00:00Z, in UTC and to the second")]
+    Time(String),
     /// A word isn't there.
     #[error("a word is missing")]
     Missing,

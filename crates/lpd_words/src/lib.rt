@@ -2,6 +2,7 @@
 #![tactic(auto)]
 
 mod asking;
+mod auditing;
 mod checking;
 mod command;
 mod controlling;
@@ -24,6 +25,7 @@ mod values;
 mod words;
 
 pub use asking::ask_queue;
+pub use auditing::{AuditRequest, Grouping, UsageRequest};
 pub use checking::Checking;
 pub use controlling::{ControlFault, ControlRequest, ask_server, control};
 pub use envelope::{Envelope, WordFault};

@@ -14,7 +14,7 @@ ghost use Rattle.lpd_words.specs.CommandLine.{command_line};
 ghost use Rattle.lpd_words.specs.DataFiles.{AreRead};
 ghost use Rattle.lpd_words.specs.Naming.{sent_line};
 ghost use Rattle.lpd_words.specs.Order.{write_faults};
-ghost use Rattle.lpd_words.specs.Outcome.{IfControls, IfEnded, IfServes};
+ghost use Rattle.lpd_words.specs.Outcome.{IfControls, IfEnded, IfReports, IfServes};
 ghost use Rattle.lpd_words.specs.Status.{end_status, status_of};
 ghost use Rattle.lpd_words.specs.Refused.{AsksOfPrinters, IsRefused, IsTaken};
 ghost use Rattle.lpd_words.specs.Unread.{IsUnreadStatus};
@@ -25,6 +25,7 @@ ghost use Rattle.lpr_client.specs.Sendable.{is_sendable, is_sendable_file};
 ghost use Rattle.lpr_client.specs.declared.file.DataFile.{DataFile};
 
 use crate::asking::{ask_question, connect, socket_of};
+use crate::auditing::{AuditRequest, UsageRequest};
 use crate::checking::Checking;
 use crate::controlling::ControlRequest;
 use crate::envelope::Envelope;
@@ -61,6 +62,10 @@ pub enum Outcome<'a> {
     },
     /// They ask to send a command to a server's control socket.
     Control(ControlRequest<'a>),
+    /// They ask to check an account.
+    Audit(AuditRequest<'a>),
+    /// They ask what was used.
+    Usage(UsageRequest<'a>),
 }
 
 /// The line that says that the job of this number was sent.
@@ -275,7 +280,8 @@ fn replay_files<R: Files + Log, W: OctetWrite>(
     end
 }
 
-/// Does what is asked for, but for what the standard input asks, for serving, and for commands to a server.
+/// Does what is asked for, but for what the standard input asks, for serving, for commands to a server, and for what is asked
+/// of an account.
 fn run_asked<R: Files<File = File> + Net + Log + Alloc<A = Global>, N: Net, W: OctetWrite>(
     alloc: Global,
     rt: &R,
@@ -289,6 +295,7 @@ fn run_asked<R: Files<File = File> + Net + Log + Alloc<A = Global>, N: Net, W: O
 {
     match ask {
         Ask::Input | Ask::Serve { .. } | Ask::Control(_) => Ok(()),
+        Ask::Audit(_) | Ask::Usage(_) => Ok(()),
         Ask::Check(checking) => {
             let (config, printers) = (checking.config, checking.printers.as_slice());
             check_file(rt, config, checking.sizes, printers, output)?;
@@ -316,7 +323,8 @@ fn ended<E: OctetWrite>(alloc: Global, end: Result<(), Fault>, faults: &mut E) -
 
 /// Does what the words ask for, of which the first is the program's name: without others, what the
 /// input asks (see `lpd_script::run_input`). Where they ask to serve, `Serve` says how, and where they
-/// ask to send a command to a server, `Control` says which; nothing is done for either yet. Otherwise `Ended` has the exit status: 0 where it was done, or help or the version
+/// ask to send a command to a server, `Control` says which; where they ask something of an account, `Audit` and `Usage` say
+/// what; nothing is done for these yet. Otherwise `Ended` has the exit status: 0 where it was done, or help or the version
 /// was asked for and printed; 1 where the words can't be read, which `faults` is told; otherwise
 /// that of the fault, which is told there in one line, 1 too where it is a printer that isn't there. Faults are looked for in this order: the
 /// words, files read, the configuration, the network. Before a fault for a file or the network the
@@ -370,12 +378,24 @@ pub fn run<
         (I.faults input.new)
         × IsUntouched (E.written faults.old) (E.faults faults.old) (E.written faults.new)
         (E.faults faults.new)) }
+    // Nor is it where words ask something of an account.
+    ensures reports { IfReports result (λ ask.
+        IsAsked (subcommand_of command_line (map string_bytes words.entry.now)) ask
+        × (fault_of command_line (map string_bytes words.entry.now) ≡ [])
+        × IsUntouched (W.written output.old) (W.faults output.old) (W.written output.new)
+        (W.faults output.new)
+        × IsUntouched (I.left input.old) (I.faults input.old) (I.left input.new)
+        (I.faults input.new)
+        × IsUntouched (E.written faults.old) (E.faults faults.old) (E.written faults.new)
+        (E.faults faults.new)) }
 {
     let alloc = rt.alloc();
     match read_words(alloc, words) {
         Ok(Ask::Input) => Outcome::Ended(run_input(alloc, input, output, faults)),
         Ok(Ask::Serve { config, settings }) => Outcome::Serve { config, settings },
         Ok(Ask::Control(request)) => Outcome::Control(request),
+        Ok(Ask::Audit(request)) => Outcome::Audit(request),
+        Ok(Ask::Usage(request)) => Outcome::Usage(request),
         Ok(ask) => {
             let end = run_asked(alloc, rt, host, ask, output);
             Outcome::Ended(ended(alloc, end, faults))

@@ -8,6 +8,7 @@ ghost use Rattle.lpd_words.specs.Refused.{AsksNothing, HasNoWords, IsUnread, IsU
 ghost use Rattle.lpd_words.specs.Refused.{LacksWords};
 ghost use Rattle.lpd_words.specs.declared.words.Unread.TheVariants.{Memory};
 
+use crate::auditing::{AuditRequest, UsageRequest, audit_of, usage_of};
 use crate::checking::{Checking, checking_of};
 use crate::command::command;
 use crate::controlling::{ControlRequest, request_of};
@@ -68,6 +69,10 @@ pub enum Ask<'a> {
     },
     /// To send a command to a server's control socket.
     Control(ControlRequest<'a>),
+    /// To check an account.
+    Audit(AuditRequest<'a>),
+    /// To tell what was used.
+    Usage(UsageRequest<'a>),
 }
 
 /// Why words ask for nothing.
@@ -148,6 +153,8 @@ fn asked_by<'a>(alloc: Global, name: &str, matches: &ArgMatches<'a>) -> Result<A
             Ok(Ask::Serve { config, settings })
         }
         "control" => Ok(Ask::Control(request_of(alloc, matches)?)),
+        "audit" => Ok(Ask::Audit(audit_of(alloc, matches)?)),
+        "usage" => Ok(Ask::Usage(usage_of(alloc, matches)?)),
         _ => {
             let question = question_of(alloc, name, matches)?;
             Ok(Ask::Question(question))

@@ -9,16 +9,15 @@ use Rattle.spool_history.specs.Texts.{removal_text}
 use Rattle.spool_calls.specs.Looks.{Detail, What}
 use Rattle.spool_calls.specs.Kept.{Kept}
 use Rattle.spool_calls.specs.Calls.{Removes, Starts, before, removed_by}
-use Rattle.spool_core.specs.declared.closing.Started.{Started}
 use Rattle.spool_core.specs.declared.telling.Removal.{Removal}
-use Rattle.spool_core.specs.Halves.{FindsRemoval, FindsStart, RemovesJobs, StartsQueue}
+use Rattle.spool_core.specs.Halves.{FindsQueue, FindsRemoval, RemovesJobs, StartsQueue}
 
 module _ (d : Detail) (b : Base) (h : List (Event (What d))) (old new : Kept) where
   abbrev v : State (What d)
   v = before d b h old
 
-  pub starts : (name : List ℕ) (s : Started) → FindsStart d b h old name (Ok s) → StartsQueue d b h old s.queue new → Starts d b h old name new (Ok tt)
-  starts name s f did = subst (λ (n : ℕ). TakesJobs v n × StartsQueue d b h old n new) (sym f.0) (f.1, did)
+  pub starts : (name : List ℕ) (q : ℕ) → FindsQueue d b h old name (Ok q) → StartsQueue d b h old q new → Starts d b h old name new (Ok tt)
+  starts name q f did = subst (λ (n : ℕ). TakesJobs v n × StartsQueue d b h old n new) (sym f.0) (f.1, did)
 
   pub removes : (name agent : List ℕ) (list : List (List ℕ)) (r : Removal) → FindsRemoval d b h old name agent list (Ok r) → RemovesJobs d b h old r.queue r.numbers.items new
       → Removes d b h old name agent list new (Ok r.text)

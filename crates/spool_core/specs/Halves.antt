@@ -31,6 +31,11 @@ module _ (d : Detail) (b : Base) (h : List (Event (What d))) (old : Kept) where
   abbrev pub RemovesJobs : (q : ℕ) → List ℕ → (new : Kept) → Type 0
   RemovesJobs q numbers new = ((numbers ≡ []) × (new ≡ old)) ⊎ ((numbers ≢ []) × Leaves d b (Removed q numbers ∷ h) new)
 
+  -- a queue in which printers may be started is found
+  abbrev pub FindsQueue : List ℕ → Result ℕ Refusal → Type 0
+  FindsQueue name (Ok q) = (queue d b h old name ≡ q) × TakesJobs (before d b h old) q
+  FindsQueue name (Err n) = RefusesQueue (before d b h old) (queue d b h old name) n
+
   -- a start finds its queue, and how many printers of it are stopped
   abbrev pub FindsStart : List ℕ → Result found.Started Refusal → Type 0
   FindsStart name (Ok s) =

@@ -3,7 +3,7 @@
 
 ghost use Rattle.std.specs.Prelude.{◌≡◌, [], IfOk, map};
 ghost use Rattle.spool_calls.specs.Calls.{IsRight, Admits, Starts, Closes, Rotates};
-ghost use Rattle.spool_core.specs.Halves.{FindsStart, StartsQueue};
+ghost use Rattle.spool_core.specs.Halves.{FindsQueue, FindsStart, StartsQueue};
 ghost use Rattle.spool_core.specs.Places.{Takes};
 ghost use Rattle.spool_calls.specs.Printers.{started, stopped_among, with_none};
 ghost use Rattle.spool_calls.specs.Stocks.{all_end, CanEnd, EndsTo, is_out, IsStocked, listed, stock, stock_after};
@@ -134,12 +134,12 @@ impl Core {
         }
     }
 
-    /// The queue of a name, and how many of its printers a start would start.
+    /// The number of the queue of a name, whose printers may be started.
     ///
     /// Closed once the spool is closed; UnknownQueue where no queue has this name.
-    pub fn start_of(&self, queue: &[u8]) -> Result<Started, Refusal>
-        ensures answer { IsRight self.now (λ d b h. FindsStart d b h self.now queue.now result) }
-        ensures takes { IfOk result (λ found. Takes self.now found.queue) }
+    fn open_queue(&self, queue: &[u8]) -> Result<u32, Refusal>
+        ensures answer { IsRight self.now (λ d b h. FindsQueue d b h self.now queue.now result) }
+        ensures takes { IfOk result (λ q. Takes self.now q) }
     {
         if self.closed {
             return Err(Refusal::Closed);
@@ -147,6 +147,17 @@ impl Core {
         let Some(number) = self.config.queue_named(queue) else {
             return Err(Refusal::UnknownQueue);
         };
+        Ok(number)
+    }
+
+    /// The queue of a name, and how many of its printers a start would start.
+    ///
+    /// Closed once the spool is closed; UnknownQueue where no queue has this name.
+    pub fn start_of(&self, queue: &[u8]) -> Result<Started, Refusal>
+        ensures answer { IsRight self.now (λ d b h. FindsStart d b h self.now queue.now result) }
+        ensures takes { IfOk result (λ found. Takes self.now found.queue) }
+    {
+        let number = self.open_queue(queue)?;
         Ok(Started {
             queue: number,
             stopped: self.stopped_in(number),
@@ -170,8 +181,9 @@ impl Core {
         ensures answer { IsRight self.old (λ d b h.
             Starts d b h self.old queue.now self.new result) }
     {
-        let found = self.start_of(queue)?;
-        self.start_printers(found.queue);
+        // How many are stopped isn't asked: nobody is told.
+        let number = self.open_queue(queue)?;
+        self.start_printers(number);
         Ok(())
     }
 

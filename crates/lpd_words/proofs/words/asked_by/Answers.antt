@@ -2,6 +2,7 @@ use Rattle.std.proofs.Common.{inl, inr}
 use Rattle.std.proofs.lemmas.Result.{err_from_is_err_and}
 use Rattle.clap.specs.Words.{found_of, rows_of}
 use Rattle.lpd_words.proofs.AskedLemmas.{names_no_job}
+use Rattle.lpd_words.proofs.AuditLemmas.{asks_no_audit, asks_no_usage}
 use Rattle.lpd_words.proofs.CheckingLemmas.{asks_no_check}
 use Rattle.lpd_words.proofs.QuestionLemmas.{asks_no_job, asks_no_question, asks_no_request, no_replay, no_serving}
 use Rattle.lpd_words.proofs.ServingLemmas.{asks_no_server}
@@ -41,7 +42,7 @@ returns-in_err-question-in_default-clause-fault c =
     let p = err_from_is_err_and r.result r.ensures.1 in
     let d = c.in_default in
     rw (p.1, p.2)
-    (asks_no_question c.args.name.now (rows_of (found_of c.args.matches.now)) c.in_err-question-in_default.field-0.0 d.not-check d.not-replay d.not-send d.not-serve d.not-control c.in_err-question-in_default.ensures.fault)
+    (asks_no_question c.args.name.now (rows_of (found_of c.args.matches.now)) c.in_err-question-in_default.field-0.0 d.not-check d.not-replay d.not-send d.not-serve d.not-control d.not-audit d.not-usage c.in_err-question-in_default.ensures.fault)
 
 pub returns-in_err-config-in-replay-clause-fault : goal.returns-in_err-config-in-replay-clause-fault
 returns-in_err-config-in-replay-clause-fault c =
@@ -70,3 +71,17 @@ returns-in_err-request_of-in-control-clause-fault c =
     let p = err_from_is_err_and r.result r.ensures.1 in
     rw (p.1, p.2)
     (asks_no_request c.args.name.now (rows_of (found_of c.args.matches.now)) c.in_err-request_of-in-control.field-0.0 c.in-control.is c.in_err-request_of-in-control.ensures.fault)
+
+pub returns-in_err-audit_of-in-audit-clause-fault : goal.returns-in_err-audit_of-in-audit-clause-fault
+returns-in_err-audit_of-in-audit-clause-fault c =
+    let r = c.from_residual-in_err-audit_of-in-audit in
+    let p = err_from_is_err_and r.result r.ensures.1 in
+    rw (p.1, p.2)
+    (asks_no_audit c.args.name.now (rows_of (found_of c.args.matches.now)) c.in_err-audit_of-in-audit.field-0.0 c.in-audit.is c.in_err-audit_of-in-audit.ensures.fault)
+
+pub returns-in_err-usage_of-in-usage-clause-fault : goal.returns-in_err-usage_of-in-usage-clause-fault
+returns-in_err-usage_of-in-usage-clause-fault c =
+    let r = c.from_residual-in_err-usage_of-in-usage in
+    let p = err_from_is_err_and r.result r.ensures.1 in
+    rw (p.1, p.2)
+    (asks_no_usage c.args.name.now (rows_of (found_of c.args.matches.now)) c.in_err-usage_of-in-usage.field-0.0 c.in-usage.is c.in_err-usage_of-in-usage.ensures.fault)
