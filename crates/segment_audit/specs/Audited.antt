@@ -99,3 +99,15 @@ MayCome after is i = MayStand (present is) i × Meets after is i
 abbrev pub AreAudited : (after : Option (List ℕ)) → List Item → Type 0
 AreAudited after [] = Unit {0}
 AreAudited after (i ∷ is) = MayCome after is i × AreAudited after is
+
+-- the digest that the segment ends in that was over last
+abbrev pub last_digest : List Item → Option (List ℕ)
+last_digest [] = None
+last_digest (OfLast l ∷ is) = Some l.digest
+last_digest (_ ∷ is) = last_digest is
+
+-- the configuration that was read last
+abbrev pub last_config : List Item → Option Config
+last_config [] = None
+last_config (OfConfig c ∷ is) = Some c
+last_config (_ ∷ is) = last_config is

@@ -1,3 +1,5 @@
 pub mod Audited
 pub mod Counted
+pub mod Read
+pub mod Streams
 pub mod Told

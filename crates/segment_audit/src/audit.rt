@@ -1,8 +1,11 @@
 //! An audit of segments.
 
-ghost use Rattle.std.specs.Prelude.{◌≡◌, ◌≤◌, ◌<◌, ◌^◌, ◌↔◌, ◌⊎◌, ◌∷◌, [], IfOk, IsTrue, List, MatchResult, Option};
+ghost use Rattle.std.specs.Prelude.{◌≡◌, ◌≤◌, ◌<◌, ◌^◌, ◌↔◌, ◌∷◌, [], ℕ, IsTrue, List, MatchOption, MatchResult, None, Option, Some};
 ghost use Rattle.segment_text.specs.Items.{item_line, item_seen, Item};
+ghost use Rattle.segment_text.specs.Streams.{HasRead, HasReadAtMost};
 ghost use Rattle.segment_audit.specs.Audited as A;
+ghost use Rattle.segment_audit.specs.Read.{entries_in};
+ghost use Rattle.segment_audit.specs.Told.{IsAtMost};
 
 use crate::fault::AuditFault;
 use crate::part::{Part, Place};
@@ -23,11 +26,30 @@ pub struct SegmentAudit {
     reader: SegmentReader,
     lines: u64,
     tally: Tally,
+    ghost few: { (lines ≤ 2 ^ 62) × HasReadAtMost reader lines × (entries_in place.part ≤ lines)
+        × IsAtMost lines tally },
+}
+
+/// The reader of what comes behind a line.
+fn reader_behind(reader: SegmentReader, got: &SegmentLine) -> SegmentReader
+    ensures read { (is : List Item) → HasRead reader (item_seen got.now ∷ A.present is)
+        → HasRead result (A.present (item_seen got.now ∷ is)) }
+    ensures few { (n : ℕ) → HasReadAtMost reader n → HasReadAtMost result n }
+{
+    match got {
+        SegmentLine::Last(_) => SegmentReader::begin(),
+        _ => reader,
+    }
 }
 
 impl SegmentAudit {
+    ghost use Rattle.segment_audit.specs.Streams.{HasAudited, IsRefused};
+    ghost use Rattle.segment_audit.specs.Told.{IsTallyOf};
+
     /// An audit that has read no line. The first segment may be any one, or else has to name the digest `after`.
-    pub fn begin(after: Option<[u8; 32]>) -> SegmentAudit {
+    pub fn begin(after: Option<[u8; 32]>) -> SegmentAudit
+        ensures { HasAudited result after [] }
+    {
         SegmentAudit {
             after,
             place: Place::begin(),
@@ -48,7 +70,13 @@ impl SegmentAudit {
         self,
         alloc: Global,
         line: &[u8],
-    ) -> Result<(SegmentAudit, SegmentLine), AuditFault> {
+    ) -> Result<(SegmentAudit, SegmentLine), AuditFault>
+        ensures { (after : Option (List ℕ)) (is : List Item) → HasAudited self after is → MatchResult result
+            (λ got. (line.now ≡ item_line (item_seen got.1))
+            × A.MayCome after is (item_seen got.1)
+            × HasAudited got.0 after (item_seen got.1 ∷ is))
+            (λ f. IsRefused f after is line.now) }
+    {
         let SegmentAudit {
             after,
             place,
@@ -77,23 +105,36 @@ impl SegmentAudit {
     }
 
     /// Whether no segment has begun that isn't over: a file may end here.
-    pub fn is_between(&self) -> bool {
+    pub fn is_between(&self) -> bool
+        ensures { (after : Option (List ℕ)) (is : List Item) → HasAudited self.now after is
+            → (IsTrue result ↔ (A.present is ≡ [])) }
+    {
         matches!(self.place.part, Part::Between)
     }
 
     /// The digest that the last segment ends in that is over. None before one is.
-    pub fn digest(&self) -> Option<[u8; 32]> {
+    pub fn digest(&self) -> Option<[u8; 32]>
+        ensures { (after : Option (List ℕ)) (is : List Item) → HasAudited self.now after is
+            → result ≡ A.last_digest is }
+    {
         let past = self.place.past.as_ref()?;
         Some(past.digest)
     }
 
     /// What the lines that were read say, in numbers.
-    pub fn tally(&self) -> Tally {
+    pub fn tally(&self) -> Tally
+        ensures { (after : Option (List ℕ)) (is : List Item) → HasAudited self.now after is
+            → IsTallyOf result is }
+    {
         self.tally
     }
 
     /// The configuration of the segment that is read, or before its line that of the one that was over last.
-    pub fn config(&self) -> Option<&Config> {
+    pub fn config(&self) -> Option<&Config>
+        ensures { (after : Option (List ℕ)) (is : List Item) → HasAudited self.now after is
+            → MatchOption result (A.last_config is ≡ None)
+            (λ c. A.last_config is ≡ Some c.now) }
+    {
         match &self.place.part {
             Part::Headed(_, config, _) => Some(config),
             Part::Entries(head, _) => Some(&head.config),
@@ -102,13 +143,5 @@ impl SegmentAudit {
                 Some(&past.head.config)
             }
         }
-    }
-}
-
-/// The reader of what comes behind a line.
-fn reader_behind(reader: SegmentReader, got: &SegmentLine) -> SegmentReader {
-    match got {
-        SegmentLine::Last(_) => SegmentReader::begin(),
-        _ => reader,
     }
 }

@@ -1,21 +1,21 @@
 //! How far a segment is read, and what the one before it left.
 
-ghost use Rattle.std.specs.Prelude.{◌≡◌, ◌<◌, ◌≤◌, ◌+◌, ◌×◌, ◌^◌, ◌↔◌, ◌⊎◌, ◌∷◌, ℕ, IfOk, IsTrue, List, MatchOption, MatchResult, Option};
-ghost use Rattle.account.specs.Seen.{base_seen, event_seen};
-ghost use Rattle.segment_text.specs.Heads as H;
+ghost use Rattle.std.specs.Prelude.{◌≡◌, ◌<◌, ◌≤◌, ◌+◌, ◌^◌, ◌↔◌, ◌⊎◌, ◌∷◌, [], IfOk, IsTrue, List, MatchResult, Option, Some};
+ghost use Rattle.account.specs.Seen.{event_seen, octets};
+ghost use Rattle.spool_history.specs.Legal.{May};
 ghost use Rattle.segment_text.specs.Items as I;
 ghost use Rattle.segment_text.specs.Items.{item_seen, Item};
-ghost use Rattle.segment_text.specs.Seen.{head_seen, IsStart, last_seen, origin_seen};
+ghost use Rattle.segment_text.specs.Seen.{head_seen};
 ghost use Rattle.segment_audit.specs.Audited as A;
-ghost use Rattle.segment_audit.specs.Read.{entries_in, IsPast, IsPart, IsPlace, LeavesOf, Refuses};
+ghost use Rattle.segment_audit.specs.Read.{entries_in, HasEntries, IsLeft, IsPart, IsPast, IsPlace, Refuses, start_behind};
 
 use crate::copies::{copy_config, copy_origin, copy_printer, copy_start};
 use crate::fault::AuditFault;
 use account::{Base, Entry};
 use account_audit::Audit;
 use config_values::Config;
-use segment_text::{Head, Last, Origin, PrinterPlace, SegmentLine, Start, follows, names_digest};
-use std::alloc::{AllocError, Global};
+use segment_text::{Head, Last, Origin, PrinterPlace, SegmentLine, Stage, Start, follows, names_digest};
+use std::alloc::Global;
 
 /// A segment that is over.
 #[derive(Drop)]
@@ -69,8 +69,7 @@ fn may_follow(after: &Option<[u8; 32]>, past: &Option<Past>, next: &Head) -> boo
 
 /// What a segment leaves, of this head, these entries and this base. None where its numbers have more than 64 bits.
 fn left_by(head: &Head, audit: &Audit, base: Base) -> Option<Start>
-    ensures { (left : H.Start) → LeavesOf head.now audit.now base left → MatchOption result
-        (IsStart left → ⊥) (λ s. (start_seen s ≡ left) × IsStart left) }
+    ensures { IsLeft result (start_behind head.now audit.now base) }
 {
     let kinds = u128::from(head.start.kinds) + audit.kinds();
     let handed = u128::from(head.start.handed) + audit.handed();
@@ -89,6 +88,13 @@ fn begin_entries(
     past: &Option<Past>,
     alloc: Global,
 ) -> Result<Part, AuditFault>
+    ensures read { (was : Option A.Past) → IsPast past.now was → MatchResult result
+        (λ part. A.MayFollow after.now was (head_seen head)
+        × ((is : List Item) → I.stage_of is ≡ Stage.Entries → head_seen head ≡ A.head_of is
+        → A.events_of is ≡ [] → IsPart part is))
+        (λ f. (f ≡ AuditFault.Memory)
+        ⊎ ((f ≡ AuditFault.Follow) × (A.MayFollow after.now was (head_seen head) → ⊥))) }
+    ensures few { IfOk result (λ part. entries_in part ≡ 0) }
 {
     if !may_follow(after, past, &head) {
         return Err(AuditFault::Follow);
@@ -100,6 +106,12 @@ fn begin_entries(
 /// Reads one entry more.
 fn step(head: Head, audit: Audit, alloc: Global, entry: &Entry) -> Result<Part, AuditFault>
     requires { audit.entries < 2 ^ 63 }
+    ensures read { (is : List Item) → HasEntries head audit is → MatchResult result
+        (λ part. May octets (A.state_of is) (event_seen entry.now)
+        × IsPart part (I.Item.OfEvent (event_seen entry.now) ∷ is))
+        (λ f. (f ≡ AuditFault.Memory)
+        ⊎ ((f ≡ AuditFault.Entry) × (May octets (A.state_of is) (event_seen entry.now) → ⊥))) }
+    ensures few { IfOk result (λ part. entries_in part ≡ audit.entries + 1) }
 {
     match audit.step(alloc, &head.config, entry)? {
         Some(audit) => Ok(Part::Entries(head, audit)),
@@ -109,6 +121,16 @@ fn step(head: Head, audit: Audit, alloc: Global, entry: &Entry) -> Result<Part, 
 
 /// Ends a segment.
 fn end(head: Head, audit: Audit, alloc: Global, last: &Last) -> Result<Place, AuditFault>
+    ensures read { (is : List Item) → HasEntries head audit is → MatchResult result
+        (λ place. A.MayEnd (A.state_of is) × IsPart place.part []
+        × IsPast place.past (Some (record {
+          head = A.head_of is;
+          digest = last.now.digest;
+          left = A.left_by is;
+        })))
+        (λ f. (f ≡ AuditFault.Memory)
+        ⊎ ((f ≡ AuditFault.Entry) × (A.MayEnd (A.state_of is) → ⊥))) }
+    ensures few { IfOk result (λ place. entries_in place.part ≡ 0) }
 {
     let Some(base) = audit.end(alloc)? else {
         return Err(AuditFault::Entry);
@@ -128,7 +150,7 @@ impl Place {
     /// Where no line was read.
     pub(crate) fn begin() -> Place
         ensures place { IsPlace result [] }
-        ensures few { entries_in result ≡ 0 }
+        ensures few { entries_in result.part ≡ 0 }
     {
         Place {
             past: None,
@@ -143,13 +165,13 @@ impl Place {
         alloc: Global,
         got: &SegmentLine,
     ) -> Result<Place, AuditFault>
-        requires { entries_in self < 2 ^ 63 }
+        requires { entries_in self.part < 2 ^ 63 }
         ensures read { (is : List Item) → IsPlace self is
             → I.Suits (I.stage_of (A.present is)) (item_seen got.now) → MatchResult result
             (λ place. A.Meets after.now is (item_seen got.now)
             × IsPlace place (item_seen got.now ∷ is))
             (λ f. Refuses f after.now is (item_seen got.now)) }
-        ensures few { IfOk result (λ place. entries_in place ≤ entries_in self + 1) }
+        ensures few { IfOk result (λ place. entries_in place.part ≤ entries_in self.part + 1) }
     {
         let Place { past, part } = self;
         let part = match (part, got) {

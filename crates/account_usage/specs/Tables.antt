@@ -1,0 +1,27 @@
+-- What a table has counted.
+use Rattle.std.specs.Prelude.{◌≡◌, ◌<◌, ◌+◌, ◌^◌, ℕ, List}
+use Rattle.lpd_values.specs.Contents.{Contents}
+use Rattle.account_usage.specs.declared.grouping.Grouping.{Grouping}
+use Rattle.account_usage.specs.declared.grouping.Grouping.TheVariants as grouping
+use Rattle.account_usage.specs.declared.table.UsageTable.{UsageTable}
+use Rattle.account_usage.specs.Rows.{rows_sent, rows_printed, held_sent, held_printed}
+
+-- all octets that were sent, and that were printed: of the rows, and of the jobs that haven't ended
+abbrev pub all_sent : UsageTable → ℕ
+all_sent t = rows_sent t.rows.items + held_sent t.held.items
+
+abbrev pub all_printed : UsageTable → ℕ
+all_printed t = rows_printed t.rows.items + held_printed t.held.items
+
+-- so many were sent more, as long as all have 64 bits
+abbrev pub HasSent : ℕ → UsageTable → UsageTable → Type 0
+HasSent n was is = all_sent was + n < 2 ^ 64 → all_sent is ≡ all_sent was + n
+
+abbrev pub HasPrinted : ℕ → UsageTable → UsageTable → Type 0
+HasPrinted n was is = all_printed was + n < 2 ^ 64 → all_printed is ≡ all_printed was + n
+
+-- the name of the row that a job of this control file counts in, where it has this name without it
+abbrev pub name_by : Grouping → Contents → List ℕ → List ℕ
+name_by grouping.User control name = control.user
+name_by grouping.Host control name = control.host
+name_by grouping.Queue control name = name

@@ -1,0 +1,46 @@
+//! Jobs that haven't ended.
+
+ghost use Rattle.std.specs.Prelude.{◌≡◌, ◌<◌, ◌+◌, ◌^◌, IfSome, length};
+ghost use Rattle.account_usage.specs.Rows.{held_printed, held_sent};
+
+use lpd_values::Octets;
+
+/// A job that hasn't ended.
+#[derive(Drop)]
+pub(crate) struct HeldJob {
+    /// Its number.
+    pub(crate) number: u64,
+    /// The name of the row that it counts in.
+    pub(crate) name: Octets,
+    /// The octets of the pages that were put into its files, up to 2^64 - 1.
+    pub(crate) sent: u64,
+    /// The octets of its pages that were printed, up to 2^64 - 1.
+    pub(crate) printed: u64,
+}
+
+/// At which place the job of a number stands, if it does.
+pub(crate) fn place_of(held: &[HeldJob], number: u64) -> Option<usize>
+    ensures { IfSome result (λ at. at < length held.now) }
+{
+    held.iter().position(|job| job.number == number)
+}
+
+/// Adds octets to the job at a place.
+pub(crate) fn add_octets(held: &mut [HeldJob], at: usize, sent: u64, printed: u64)
+    requires { at < length held.old }
+    ensures sent { held_sent held.old + sent < 2 ^ 64
+        → held_sent held.new ≡ held_sent held.old + sent }
+    ensures printed { held_printed held.old + printed < 2 ^ 64
+        → held_printed held.new
+        ≡ held_printed held.old + printed }
+{
+    let Some((first, rest)) = held.split_first_mut() else {
+        return;
+    };
+    if at == 0 {
+        first.sent = first.sent.saturating_add(sent);
+        first.printed = first.printed.saturating_add(printed);
+        return;
+    }
+    add_octets(rest, at - 1, sent, printed);
+}

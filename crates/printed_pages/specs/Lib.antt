@@ -1,0 +1,3 @@
+pub mod Folders
+pub mod Pages
+pub mod Trails
