@@ -5,12 +5,13 @@ ghost use Rattle.std.specs.Prelude.{◌≡◌, ◌≤◌};
 ghost use Rattle.std.specs.Process.{exit_status};
 ghost use Rattle.lpd_words.specs.Outcome.{IfEnded};
 
+use account_reports::AUDIT;
 use log::filter::{Builder, Filter, FilteredLog};
 use log::sink::Console;
 use log::{Level, LevelFilter, Log, Logged, error, info};
 use log_lines::{LineLog, LineQueue, LogForm};
 use lpd_daemon::{Counter, JOB_LINES, OpenFault, Plan};
-use lpd_words::{ControlRequest, Outcome, PROGRESS, Unread};
+use lpd_words::{AuditRequest, ControlRequest, Outcome, PROGRESS, Unread, UsageRequest};
 use program_edge::{
     FaultName, Settings, StreamReader, StreamWriter, fill_standard_descriptors, tell, tell_cause,
 };
@@ -37,11 +38,29 @@ fn most_told(informs: bool) -> Level {
     if informs { Level::Info } else { Level::Warn }
 }
 
-/// What is logged where no server is asked for: as `most_told` says, and how far a job is where that is asked for.
-fn told(alloc: Global, is_terminal: bool) -> Result<Filter, AllocError> {
+/// What is logged where no server is asked for: as `most_told` says, and of how far something is, which this part of the program
+/// tells, all where that is asked for.
+fn told(
+    alloc: Global,
+    is_terminal: bool,
+    part: &str,
+    tells_progress: bool,
+) -> Result<Filter, AllocError> {
     let most = LevelFilter::from(most_told(is_terminal));
     let builder = Builder::new(alloc).filter_level(most)?;
-    Ok(builder.filter_module(PROGRESS, LevelFilter::Info)?.build())
+    if !tells_progress {
+        return Ok(builder.build());
+    }
+    Ok(builder.filter_module(part, LevelFilter::Info)?.build())
+}
+
+/// Tells that memory was refused. Answers the exit status.
+fn refuse_memory<W: Write + Drop>(alloc: Global, faults: &mut StreamWriter<W>) -> u8
+    ensures { result ≡ 4 }
+{
+    // Where standard error can't be written, the status alone tells.
+    let _ = tell(alloc, &FaultName::Memory, faults);
+    4
 }
 
 /// Does what the words ask for, but for serving and for commands to a server.
@@ -52,7 +71,8 @@ fn run<'a>(rt: &HostRuntime, words: &'a [String]) -> Outcome<'a>
     let mut input = StreamReader::new(rt.stdin().lock());
     let mut output = StreamWriter::new(rt.stdout().lock());
     let mut faults = StreamWriter::new(rt.stderr());
-    let Ok(filter) = told(alloc, rt.stderr().is_terminal()) else {
+    // What asks for it is known by the part that sends a job alone.
+    let Ok(filter) = told(alloc, rt.stderr().is_terminal(), PROGRESS, true) else {
         let unread = Unread::Memory;
         return Outcome::Ended(lpd_words::tell_unread(alloc, unread, &mut output, &mut faults));
     };
@@ -68,6 +88,31 @@ fn control(rt: &HostRuntime, request: &ControlRequest) -> u8
     let mut faults = StreamWriter::new(rt.stderr());
     let logged = Logged::new(*rt, most_told(rt.stderr().is_terminal()), Console(*rt));
     lpd_words::control(rt, &logged, request, &mut output, &mut faults)
+}
+
+/// Checks an account, of which `progress` asks to be told how far that is. Answers the exit status.
+fn audit(rt: &HostRuntime, request: &AuditRequest) -> u8
+    ensures { result ≤ 6 }
+{
+    let alloc = rt.alloc();
+    let mut output = StreamWriter::new(rt.stdout().lock());
+    let mut faults = StreamWriter::new(rt.stderr());
+    let is_terminal = rt.stderr().is_terminal();
+    let Ok(filter) = told(alloc, is_terminal, AUDIT, request.progress) else {
+        return refuse_memory(alloc, &mut faults);
+    };
+    let logged = Logged::new(*rt, Level::Info, FilteredLog::new(Console(*rt), filter));
+    account_reports::audit(&logged, alloc, request, &mut output, &mut faults)
+}
+
+/// Tells what was used. Answers the exit status.
+fn usage(rt: &HostRuntime, request: &UsageRequest) -> u8
+    ensures { result ≤ 6 }
+{
+    let mut output = StreamWriter::new(rt.stdout().lock());
+    let mut faults = StreamWriter::new(rt.stderr());
+    let logged = Logged::new(*rt, most_told(rt.stderr().is_terminal()), Console(*rt));
+    account_reports::usage(&logged, rt.alloc(), request, &mut output, &mut faults)
 }
 
 /// Starts the thread that writes what is logged, so that no other waits for whoever reads that. It
@@ -155,8 +200,8 @@ where
 
 /// The exit code of this status.
 fn code(status: u8) -> ExitCode
-    requires { status ≤ 5 }
-    ensures { exit_status result ≤ 5 }
+    requires { status ≤ 6 }
+    ensures { exit_status result ≤ 6 }
 {
     ExitCode::from(status)
 }
@@ -177,12 +222,12 @@ fn main(rt: HostRuntime) -> ExitCode {
     match run(&rt, words.as_slice()) {
         Outcome::Ended(status) => code(status),
         Outcome::Control(request) => code(control(&rt, &request)),
+        Outcome::Audit(request) => code(audit(&rt, &request)),
+        Outcome::Usage(request) => code(usage(&rt, &request)),
         Outcome::Serve { config, settings } => {
             let Ok(queue) = start_log(&rt, alloc, settings.log, rt.stderr()) else {
                 let mut faults = StreamWriter::new(rt.stderr());
-                // Where standard error can't be written, the status alone tells.
-                let _ = tell(alloc, &FaultName::Memory, &mut faults);
-                return code(4);
+                return code(refuse_memory(alloc, &mut faults));
             };
             let is_terminal = rt.stderr().is_terminal();
             let level = most_told(is_terminal || settings.log_jobs);

@@ -19,7 +19,7 @@ use Rattle.lpd_values.specs.declared.limits.TheConstants.{MAX_FILES}
 use Rattle.lpd_words.specs.Asked.{ChecksPrinters, IsAsked}
 use Rattle.lpd_words.specs.Auditing.{grouping_name}
 use Rattle.lpd_words.specs.Checking.{IsChecking}
-use Rattle.lpd_words.specs.declared.auditing.Grouping.{Grouping}
+use Rattle.account_usage.specs.declared.grouping.Grouping.{Grouping}
 use Rattle.segment_text.specs.Reading.{fits_shape}
 use Rattle.lpd_words.specs.declared.checking.Checking.{Checking}
 use Rattle.lpd_words.specs.Serving.{AreAllowed, AreLimits, AreOfDifferentPrinters, ArePrinterLimits, IsLog}

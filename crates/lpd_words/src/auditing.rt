@@ -10,6 +10,7 @@ ghost use Rattle.lpd_words.specs.Rules.{IsCommand, IsWord};
 use crate::envelope::WordFault;
 use crate::rules::{flag, option, plain, repeated, with_words, word};
 use crate::values::{flag_of, text_if, text_or, texts_of};
+use account_usage::Grouping;
 use clap::{Arg, ArgMatches, Command};
 use segment_text::is_time;
 use std::alloc::{AllocError, Global};
@@ -50,17 +51,6 @@ Nothing is checked but that each line can be read: `audit` does that.
 Examples:
   lpd_server usage /var/lib/hurgwaye/account/segment-*
   lpd_server usage segment-* --by queue --since 2026-11-01T00:00:00Z --csv";
-
-/// What usage is told by.
-#[derive(Clone, Copy, Debug, PartialEq, Eq)]
-pub enum Grouping {
-    /// The user of a job's control file.
-    User,
-    /// The host of a job's control file.
-    Host,
-    /// The queue.
-    Queue,
-}
 
 /// An audit of segments that is asked for.
 #[derive(Debug, Drop)]

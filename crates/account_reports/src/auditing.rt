@@ -1,0 +1,165 @@
+//! The audit of an account.
+
+ghost use Rattle.std.specs.Prelude.{◌≡◌, ◌⊎◌};
+ghost use Rattle.account_reports.specs.Faults.{end_status};
+
+use crate::fault::ReportFault;
+use crate::files::{TakesLines, take_file};
+use crate::notes::write_text;
+use crate::rereading::Rereading;
+use log::{Log, info};
+use lpd_commands::OctetWrite;
+use lpd_words::AuditRequest;
+use program_edge::tell;
+use segment_audit::{SegmentAudit, SegmentLine, Tally};
+use std::alloc::{AllocError, Global};
+use std::fs::{File, Files};
+
+/// The part of the program that tells the log how far an audit is.
+pub const AUDIT: &str = "account_reports::auditing";
+
+/// After how many lines of a file the log is told how far the audit is.
+const STEP: u64 = 100_000;
+
+/// An audit of segments, and of what printers wrote.
+#[derive(Drop)]
+struct Auditing<'a, 'o, R, O> {
+    rt: &'a R,
+    audit: SegmentAudit,
+    rereading: Rereading<'a, R>,
+    output: &'o mut O,
+}
+
+impl<'a, R: Files<File = File> + Log, O: OctetWrite> TakesLines<'a> for Auditing<'a, '_, R, O> {
+    fn take(
+        self,
+        alloc: Global,
+        line: &[u8],
+        path: &'a str,
+        number: u64,
+    ) -> Result<Self, ReportFault<'a>> {
+        let Auditing {
+            rt,
+            audit,
+            mut rereading,
+            output,
+        } = self;
+        let (audit, got) = match audit.read(alloc, line) {
+            Ok(taken) => taken,
+            Err(fault) => return Err(ReportFault::of_line(fault, path, number)),
+        };
+        rereading.take(alloc, output, &got, path, number)?;
+        if number % STEP == 0 {
+            info!(rt; "{path}: {number} lines");
+        }
+        Ok(Auditing {
+            rt,
+            audit,
+            rereading,
+            output,
+        })
+    }
+
+    fn end_file(self, path: &'a str, number: u64) -> Result<Self, ReportFault<'a>> {
+        if number == 1 || !self.audit.is_between() {
+            return Err(ReportFault::Line(path, number));
+        }
+        Ok(self)
+    }
+}
+
+/// The line that tells what segments say, in numbers, and the one that tells in which digest they end.
+fn summary(alloc: Global, tally: &Tally, digest: &str) -> Result<String, AllocError> {
+    let Tally {
+        segments,
+        entries,
+        jobs,
+        done,
+        removed,
+        failed,
+        aborted,
+    } = tally;
+    format!(in alloc;
+        "legal segments {segments} entries {entries} jobs {jobs} done {done} removed {removed} failed {failed} aborted {aborted}\nends {digest}\n"
+    )
+}
+
+impl<'a, R: Files<File = File> + Log, O: OctetWrite> Auditing<'a, '_, R, O> {
+    /// All files were read: whether they end as they are to is asked, and what they say is told.
+    fn finish(self, alloc: Global, request: &AuditRequest<'a>) -> Result<(), ReportFault<'a>> {
+        let Auditing {
+            audit,
+            mut rereading,
+            output,
+            ..
+        } = self;
+        let last = request.files.last().map_or("", |path| path);
+        let Some(digest) = audit.digest() else {
+            return Err(ReportFault::Line(last, 1));
+        };
+        let written = hex::encode(alloc, digest)?;
+        if let Some(wanted) = &request.ends {
+            if wanted.as_slice() != digest.as_slice() {
+                return Err(ReportFault::Ends(last, written));
+            }
+        }
+        let tally = audit.tally();
+        let text = summary(alloc, &tally, written.as_str())?;
+        write_text(output, text.as_bytes())?;
+        rereading.end(alloc, output)
+    }
+}
+
+/// Audits the segments of these files.
+fn audit_files<'a, R: Files<File = File> + Log, O: OctetWrite>(
+    rt: &'a R,
+    alloc: Global,
+    request: &AuditRequest<'a>,
+    output: &mut O,
+) -> Result<(), ReportFault<'a>> {
+    let mut auditing = Auditing {
+        rt,
+        audit: SegmentAudit::begin(request.after),
+        rereading: Rereading::new(rt, alloc, request.printed.as_slice())?,
+        output,
+    };
+    for path in &request.files {
+        auditing = take_file(rt, alloc, path, auditing)?;
+    }
+    auditing.finish(alloc, request)
+}
+
+/// The exit status of an end. A fault is told.
+pub(crate) fn ended<E: OctetWrite>(
+    alloc: Global,
+    end: Result<(), ReportFault>,
+    faults: &mut E,
+) -> u8
+    ensures { result ≡ end_status end.entry }
+{
+    let Err(fault) = end else {
+        return 0;
+    };
+    // There is nowhere else to tell of a fault here: the exit status says that there was one.
+    let _ = tell(alloc, &fault, faults);
+    fault.status()
+}
+
+/// Audits an account: each line of its segments, which segment follows on which, and, where that is asked for, what printers wrote. Tells
+/// `output` what it says in numbers and in which digest it ends, and `faults` in a line what is wrong. The log is told at INFO how far
+/// it is, by `AUDIT`, and why a file can't be read. Memory is taken for the held jobs, for one line and for one page, however long the
+/// account is.
+///
+/// Answers the exit status: 0 where all is legal and was printed so, 6 where it isn't, 4 for memory and files.
+pub fn audit<'a, R: Files<File = File> + Log, O: OctetWrite, E: OctetWrite>(
+    rt: &'a R,
+    alloc: Global,
+    request: &AuditRequest<'a>,
+    output: &mut O,
+    faults: &mut E,
+) -> u8
+    ensures { (result ≡ 0) ⊎ (result ≡ 4) ⊎ (result ≡ 6) }
+{
+    let end = audit_files(rt, alloc, request, output);
+    ended(alloc, end, faults)
+}

@@ -1,0 +1,16 @@
+//! What is told of accounts that stand in files: whether they are legal and were printed so, and who used how much.
+#![tactic(auto)]
+
+mod auditing;
+mod fault;
+mod files;
+mod line_reader;
+mod notes;
+mod printers;
+mod rereading;
+mod usage;
+
+pub use auditing::{AUDIT, audit};
+pub use fault::ReportFault;
+pub use line_reader::{LineFault, LineReader, MOST_LINE};
+pub use usage::usage;

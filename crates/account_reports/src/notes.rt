@@ -1,0 +1,85 @@
+//! Lines that tell what of a printer's octets was judged, and what wasn't.
+
+ghost use Rattle.std.specs.Prelude.{◌≡◌};
+
+use crate::fault::ReportFault;
+use lpd_commands::{OctetWrite, write_all};
+use std::alloc::Global;
+use std::fmt;
+
+/// What is told of a printer.
+#[derive(Clone, Copy, Debug, PartialEq, Eq)]
+pub(crate) enum Told {
+    /// So many octets are those of the pages that it printed.
+    Judged(u64),
+    /// What it printed can't be read again.
+    Unread,
+    /// So many octets lie between what a run printed and what the next one did.
+    Between(u64),
+    /// Its file lost so many octets between two runs.
+    Lost(u64),
+    /// So many octets lie behind the last page.
+    Tail(u64),
+    /// So many octets of pages were printed behind one that failed, or before the first run that begins here.
+    Unplaced(u64),
+    /// No file of its folder has the pages of the job of this number.
+    Missing(u64),
+}
+
+/// A line about a printer.
+#[derive(Drop)]
+pub(crate) struct Note {
+    /// The printer's number.
+    pub(crate) printer: u32,
+    /// What is told of it.
+    pub(crate) told: Told,
+}
+
+impl fmt::Display for Note {
+    fn fmt<W: fmt::Write>(&self, f: &mut fmt::Formatter<W>) -> fmt::Result {
+        let printer = self.printer;
+        match self.told {
+            Told::Judged(octets) => writeln!(f, "printed {printer} octets {octets}"),
+            Told::Unread => writeln!(f, "not judged {printer}: it can't be read again"),
+            Told::Between(octets) => {
+                writeln!(f, "not judged {printer}: {octets} octets between two runs")
+            }
+            Told::Lost(octets) => writeln!(
+                f,
+                "not judged {printer}: its file lost {octets} octets between two runs"
+            ),
+            Told::Tail(octets) => {
+                writeln!(
+                    f,
+                    "not judged {printer}: {octets} octets behind the last page"
+                )
+            }
+            Told::Unplaced(octets) => writeln!(
+                f,
+                "not judged {printer}: {octets} octets of pages, of which it isn't known where they begin"
+            ),
+            Told::Missing(job) => {
+                writeln!(f, "not judged {printer}: job {job}, which no file has")
+            }
+        }
+    }
+}
+
+/// Writes a text. `WriteFile` where it can't be written.
+pub(crate) fn write_text<'a, O: OctetWrite>(
+    output: &mut O,
+    text: &[u8],
+) -> Result<(), ReportFault<'a>> {
+    write_all(output, text).or(Err(ReportFault::WriteFile))
+}
+
+/// Writes a line about a printer. `WriteFile` where it can't be written, `Memory` where memory for it is refused.
+pub(crate) fn note<'a, O: OctetWrite>(
+    alloc: Global,
+    output: &mut O,
+    printer: u32,
+    told: Told,
+) -> Result<(), ReportFault<'a>> {
+    let line = format!(in alloc; "{}", Note { printer, told })?;
+    write_text(output, line.as_bytes())
+}

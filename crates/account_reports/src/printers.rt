@@ -1,0 +1,98 @@
+//! Where a printer's octets are read again.
+
+ghost use Rattle.std.specs.Prelude.{◌≡◌, ◌≤◌, IfSome, length};
+
+use printed_pages::PrintedOctets;
+use std::alloc::{AllocError, Global};
+use std::fs::{File, Files, OpenOptions};
+use std::io::{ErrorKind, Read, Seek, SeekFrom};
+use std::{io, str};
+
+/// How often a read that was interrupted is tried.
+const TRIES: u32 = 1_000;
+
+/// How many octets of names are read at once.
+const PIECE: usize = 8_192;
+
+/// A file that is read again.
+#[derive(Drop)]
+pub(crate) struct PrintedFile {
+    file: File,
+    /// At which octet the next read begins, where that is known.
+    at: Option<u64>,
+}
+
+impl PrintedFile {
+    /// The file at a path. An error where it can't be opened.
+    pub(crate) fn open<R: Files<File = File>>(rt: &R, path: &str) -> io::Result<PrintedFile> {
+        let file = OpenOptions::new().read(true).open(rt, path)?;
+        Ok(PrintedFile { file, at: Some(0) })
+    }
+
+    /// How many octets it has. None where that can't be told.
+    pub(crate) fn length(&mut self) -> Option<u64> {
+        self.at = None;
+        self.file.seek(SeekFrom::End(0)).ok()
+    }
+}
+
+impl PrintedOctets for PrintedFile {
+    fn go_to(&mut self, at: u64) -> bool {
+        if self.at == Some(at) {
+            return true;
+        }
+        self.at = self.file.seek(SeekFrom::Start(at)).ok();
+        self.at == Some(at)
+    }
+
+    fn read(&mut self, buffer: &mut [u8]) -> Option<usize> {
+        let at = self.at.take()?;
+        for _ in 0..TRIES {
+            match self.file.read(buffer) {
+                Ok(count) => {
+                    self.at = at.checked_add(count as u64);
+                    return Some(count);
+                }
+                Err(error) if error.kind() == ErrorKind::Interrupted => {}
+                Err(_) => return None,
+            }
+        }
+        None
+    }
+}
+
+/// The number of a job's file of this name: `job-` and ten digits or more. None of any other name.
+fn job_number(name: &[u8]) -> Option<u64> {
+    let digits = name.strip_prefix(b"job-")?;
+    if digits.len() < 10 || !digits.iter().all(|octet| octet.is_ascii_digit()) {
+        return None;
+    }
+    str::from_utf8(digits).ok()?.parse().ok()
+}
+
+/// Puts the numbers of jobs' files behind these, of names that end at octets 00.
+fn push_numbers(numbers: &mut Vec<u64>, names: &[u8]) -> Result<(), AllocError> {
+    for name in names.split(|octet| *octet == 0) {
+        if let Some(number) = job_number(name) {
+            numbers.push(number)?;
+        }
+    }
+    Ok(())
+}
+
+/// The numbers of the jobs' files in the folder at a path, rising. An error where it can't be read, or memory is refused.
+pub(crate) fn job_numbers<R: Files>(rt: &R, alloc: Global, path: &str) -> io::Result<Vec<u64>> {
+    let mut numbers = Vec::new(alloc);
+    let mut folder = rt.open_dir(path)?;
+    let mut buffer = [0u8; PIECE];
+    for _ in 0..u64::MAX {
+        let count = folder.read(&mut buffer)?;
+        if count == 0 {
+            break;
+        }
+        // No read ends inside a name.
+        push_numbers(&mut numbers, &buffer[..count])?;
+    }
+    numbers.sort_unstable();
+    Ok(numbers)
+}

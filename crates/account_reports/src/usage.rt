@@ -1,0 +1,217 @@
+//! What was used, as an account tells it.
+
+ghost use Rattle.std.specs.Prelude.{◌≡◌, ◌≤◌, ◌⊎◌, ◌^◌};
+ghost use Rattle.segment_text.specs.Streams.{HasReadAtMost};
+
+use crate::auditing::ended;
+use crate::fault::ReportFault;
+use crate::files::{TakesLines, take_file};
+use crate::notes::write_text;
+use account_text::put_shown;
+use account_usage::{Grouping, UsageRow, UsageTable, is_within};
+use log::Log;
+use lpd_commands::OctetWrite;
+use lpd_words::UsageRequest;
+use segment_text::{LineFault, SegmentLine, SegmentReader};
+use std::alloc::{AllocError, Global};
+use std::fs::{File, Files};
+
+/// How many lines of one segment are read at most.
+const MOST_LINES: u64 = 1 << 62;
+
+/// A table of usage, and how far the segment is read.
+#[derive(Drop)]
+struct Counting<'a> {
+    table: UsageTable,
+    reader: SegmentReader,
+    /// How many lines of the segment were read.
+    lines: u64,
+    since: Option<&'a str>,
+    until: Option<&'a str>,
+    /// Whether the segment that is read is one of those that are asked for.
+    counts: bool,
+    ghost few: { (lines ≤ 2 ^ 62) × HasReadAtMost reader lines },
+}
+
+/// The text of a time as octets.
+fn octets_of(time: Option<&str>) -> Option<&[u8]> {
+    Some(time?.as_bytes())
+}
+
+impl<'a> TakesLines<'a> for Counting<'a> {
+    fn take(
+        self,
+        alloc: Global,
+        line: &[u8],
+        path: &'a str,
+        number: u64,
+    ) -> Result<Self, ReportFault<'a>> {
+        let Counting {
+            mut table,
+            mut reader,
+            lines,
+            since,
+            until,
+            mut counts,
+        } = self;
+        if lines >= MOST_LINES {
+            return Err(ReportFault::Line(path, number));
+        }
+        let got = match reader.read(alloc, line) {
+            Ok(got) => got,
+            Err(LineFault::Bad) => return Err(ReportFault::Line(path, number)),
+            Err(LineFault::Memory) => return Err(ReportFault::Memory),
+        };
+        if let SegmentLine::Origin(origin) = &got {
+            counts = is_within(origin, octets_of(since), octets_of(until));
+        }
+        if counts {
+            table.read(alloc, &got)?;
+        }
+        Ok(Counting {
+            table,
+            reader,
+            lines: lines + 1,
+            since,
+            until,
+            counts,
+        })
+    }
+
+    fn end_file(self, path: &'a str, number: u64) -> Result<Self, ReportFault<'a>> {
+        if !self.reader.is_over() {
+            return Err(ReportFault::Line(path, number));
+        }
+        let Counting {
+            table,
+            since,
+            until,
+            ..
+        } = self;
+        Ok(Counting {
+            table,
+            reader: SegmentReader::begin(),
+            lines: 0,
+            since,
+            until,
+            counts: false,
+        })
+    }
+}
+
+/// Puts a row of a table as a line behind a text, its name shown as one word.
+fn put_row(text: &mut Vec<u8>, alloc: Global, row: &UsageRow) -> Result<(), AllocError> {
+    let mut name = Vec::new(alloc);
+    put_shown(&mut name, alloc, row.name.as_slice())?;
+    // The name stands behind a space there.
+    text.extend_from_slice(name.get(1..).unwrap_or(&[]))?;
+    let UsageRow {
+        jobs,
+        sent,
+        printed,
+        ..
+    } = row;
+    let numbers = format!(in alloc; " jobs {jobs} sent {sent} printed {printed}\n")?;
+    text.extend_from_slice(numbers.as_bytes())
+}
+
+/// The name of what usage is told by.
+fn heading(by: Grouping) -> &'static str {
+    match by {
+        Grouping::User => "user",
+        Grouping::Host => "host",
+        Grouping::Queue => "queue",
+    }
+}
+
+/// The numbers of a row, as texts.
+fn numbers_of(alloc: Global, row: &UsageRow) -> Result<[String; 3], AllocError> {
+    Ok([
+        format!(in alloc; "{}", row.jobs)?,
+        format!(in alloc; "{}", row.sent)?,
+        format!(in alloc; "{}", row.printed)?,
+    ])
+}
+
+/// Writes the rows of a table as records, names as they are.
+fn write_records(
+    records: &mut csv::Writer<Vec<u8>>,
+    by: Grouping,
+    rows: &[(&[u8], [String; 3])],
+) -> Result<(), csv::Error> {
+    records.write_fields(&[heading(by).as_bytes(), b"jobs", b"sent", b"printed"])?;
+    for (name, [jobs, sent, printed]) in rows {
+        records.write_fields(&[name, jobs.as_bytes(), sent.as_bytes(), printed.as_bytes()])?;
+    }
+    records.flush()
+}
+
+/// A table with commas between (RFC 4180).
+///
+/// AllocError where memory is refused: nothing else can fail of a table in memory.
+fn records_of(alloc: Global, by: Grouping, rows: &[UsageRow]) -> Result<Vec<u8>, AllocError> {
+    let mut named = Vec::new(alloc);
+    for row in rows {
+        named.push((row.name.as_slice(), numbers_of(alloc, row)?))?;
+    }
+    let mut records = csv::WriterBuilder::new()
+        .terminator(csv::Terminator::Any(b'\n'))
+        .from_writer(Vec::new(alloc));
+    if write_records(&mut records, by, named.as_slice()).is_err() {
+        return Err(AllocError);
+    }
+    records.into_inner().or(Err(AllocError))
+}
+
+/// A table as lines.
+fn lines_of(alloc: Global, rows: &[UsageRow]) -> Result<Vec<u8>, AllocError> {
+    let mut text = Vec::new(alloc);
+    for row in rows {
+        put_row(&mut text, alloc, row)?;
+    }
+    Ok(text)
+}
+
+/// Counts what the segments of these files tell, and writes it.
+fn tell_usage<'a, R: Files<File = File> + Log, O: OctetWrite>(
+    rt: &R,
+    alloc: Global,
+    request: &UsageRequest<'a>,
+    output: &mut O,
+) -> Result<(), ReportFault<'a>> {
+    let mut counting = Counting {
+        table: UsageTable::new(alloc, request.by),
+        reader: SegmentReader::begin(),
+        lines: 0,
+        since: request.since,
+        until: request.until,
+        counts: false,
+    };
+    for path in &request.files {
+        counting = take_file(rt, alloc, path, counting)?;
+    }
+    let rows = counting.table.rows();
+    if request.csv {
+        let text = records_of(alloc, request.by, rows)?;
+        return write_text(output, text.as_slice());
+    }
+    let text = lines_of(alloc, rows)?;
+    write_text(output, text.as_slice())
+}
+
+/// Tells `output` who used how much, as the segments of these files say: each line of them has to be one that may stand there, and nothing
+/// else is checked. The log is told at INFO why a file can't be read, and `faults` in a line what is wrong.
+///
+/// Answers the exit status: 0 where it was told, 6 where a line can't be read, 4 for memory and files.
+pub fn usage<R: Files<File = File> + Log, O: OctetWrite, E: OctetWrite>(
+    rt: &R,
+    alloc: Global,
+    request: &UsageRequest,
+    output: &mut O,
+    faults: &mut E,
+) -> u8
+    ensures { (result ≡ 0) ⊎ (result ≡ 4) ⊎ (result ≡ 6) }
+{
+    let end = tell_usage(rt, alloc, request, output);
+    ended(alloc, end, faults)
+}

@@ -1,0 +1,298 @@
+#!/usr/bin/env python3
+"""Scenes of accounts: auditing.py PROGRAM [SCENE..], where PROGRAM is the built lpd_server.
+
+Servers write their accounts under load, one is killed, and the files are changed and audited. Each scene is bounded in time and runs on
+loopback alone. A line says what was seen; the last line is 'N passed, M failed'."""
+import contextlib
+import glob
+import hashlib
+import os
+import random
+import re
+import resource
+import shutil
+import signal
+import subprocess
+import sys
+import tempfile
+import threading
+import time
+
+from client import connect, free_port, send, spool
+from keeping import check, main
+
+PROGRAM = os.path.abspath(sys.argv[1]) if len(sys.argv) > 1 else ""
+CLIENTS = 8
+JOBS = int(os.environ.get("JOBS", "40"))
+
+
+class Books:
+    """A folder with printers' files and an account, over which one server after another runs."""
+
+    def __init__(self, *words, config=spool(queues=("lp", "plotter"), account=200_000)):
+        self.room = tempfile.TemporaryDirectory()
+        self.folder = self.room.name
+        self.account = f"{self.folder}/account"
+        self.words = words
+        self.port = free_port()
+        self.server = None
+        with open(f"{self.folder}/spool.toml", "w") as file:
+            file.write(config)
+
+    def start(self):
+        line = [PROGRAM, "serve", f"{self.folder}/spool.toml", "--port", str(self.port), "--out", self.folder, "--account", self.account,
+                "--control", f"{self.folder}/control", "--sessions", "16", *self.words]
+        self.server = subprocess.Popen(line, stdin=subprocess.DEVNULL, stdout=open(f"{self.folder}/said", "ab"),
+                                       stderr=open(f"{self.folder}/log", "ab"))
+        for _ in range(400):
+            with contextlib.suppress(OSError):
+                connect(self.port).close()
+                return
+            check(self.server.poll() is None, f"the server ended: {self.log()[-400:]}")
+            time.sleep(0.01)
+        raise AssertionError("nothing listens")
+
+    def tell(self, *words):
+        line = [PROGRAM, "control", f"{self.folder}/control", *words]
+        told = subprocess.run(line, capture_output=True, text=True, timeout=120)
+        return told.stdout + told.stderr
+
+    def stop(self):
+        self.tell("stop", "60")
+        check(self.server.wait(60) == 0, f"the server ended with {self.server.returncode}: {self.log()[-400:]}")
+
+    def kill(self):
+        self.server.send_signal(signal.SIGKILL)
+        self.server.wait()
+
+    def log(self):
+        return open(f"{self.folder}/log", "rb").read().decode(errors="replace")
+
+    def segments(self):
+        return sorted(glob.glob(f"{self.account}/segment-*"))
+
+    def load(self, jobs=JOBS):
+        """Clients send jobs of random sizes, each from an address of its own."""
+        def one(number):
+            chance = random.Random(number)
+            for k in range(jobs):
+                octets = chance.randbytes(chance.choice([1, 100, 4096, 4097, 20_000]))
+                with contextlib.suppress(OSError):
+                    send(self.port, k, octets, queue=chance.choice(["lp", "plotter"]), host=f"127.0.0.{number + 2}")
+        threads = [threading.Thread(target=one, args=(number,)) for number in range(CLIENTS)]
+        for thread in threads:
+            thread.start()
+        for thread in threads:
+            thread.join(120)
+
+    def audit(self, *words, files=None):
+        """The exit status of an audit, and what it tells."""
+        line = [PROGRAM, "audit", *(self.segments() if files is None else files), *words]
+        told = subprocess.run(line, capture_output=True, text=True, timeout=120)
+        return told.returncode, told.stdout, told.stderr
+
+    def __enter__(self):
+        return self
+
+    def __exit__(self, *_):
+        if self.server:
+            self.server.kill()
+            self.server.wait()
+        self.room.cleanup()
+
+
+def digests(text):
+    return re.findall(r"\b[0-9a-f]{64}\b", text)
+
+
+def two_runs(room):
+    """Two runs under load with rotations, of which the first is killed."""
+    room.start()
+    room.load()
+    for _ in range(100):
+        if len(room.segments()) >= 2:
+            break
+        time.sleep(0.1)
+    check(len(room.segments()) >= 2, f"{len(room.segments())} segments: {room.log()[-400:]}")
+    room.kill()
+    room.start()
+    room.load()
+    room.stop()
+
+
+def written_and_audited():
+    with Books("--rotate", "40") as room:
+        two_runs(room)
+        status, told, why = room.audit("--printed", room.folder)
+        check(status == 0, f"status {status}: {told}{why}")
+        legal = re.match(r"legal segments (\d+) entries (\d+) jobs (\d+) done (\d+) removed 0 failed 0 aborted \d+\nends ([0-9a-f]{64})\n", told)
+        check(legal and int(legal[1]) == len(room.segments()), told)
+        check(int(legal[3]) >= int(legal[4]) > JOBS, told)
+        check("printed 1 octets" in told and "printed 2 octets" in told, told)
+        check(legal[5] in room.log(), "the log doesn't have the last digest")
+        check(room.audit("--ends", legal[5])[0] == 0, "its own end isn't taken")
+        status, told, why = room.audit("--ends", "0" * 64)
+        check(status == 6 and why.startswith("fault 82 Follow"), f"{status} {told}{why}")
+        first = digests(open(room.segments()[0]).read().splitlines()[-1])[-1]
+        check(room.audit("--after", first, files=room.segments()[1:])[0] == 0, "what comes behind the first isn't taken")
+        check(room.audit("--after", first)[0] == 6, "the first is taken behind itself")
+        mode = [oct(os.stat(path).st_mode & 0o777) for path in (room.account, room.segments()[0])]
+        check(mode == ["0o700", "0o600"], mode)
+        used = subprocess.run([PROGRAM, "usage", *room.segments(), "--by", "queue"], capture_output=True, text=True, timeout=60)
+        jobs = sum(int(n) for n in re.findall(r" jobs (\d+) ", used.stdout))
+        check(used.returncode == 0 and jobs == int(legal[3]), f"{used.stdout}{used.stderr} of {legal[3]}")
+        return f"{legal[0].splitlines()[0]}; {len(told.splitlines())} lines"
+
+
+def rewrite(path, lines):
+    """Writes a segment anew with all digests right within itself."""
+    body = "".join(line + "\n" for line in lines[:-1])
+    end = lines[-1].split(" ")
+    end[2] = hashlib.sha256(body.encode()).hexdigest()
+    with open(path, "w") as file:
+        file.write(body + " ".join(end) + "\n")
+
+
+def changed_files_are_told():
+    with Books("--rotate", "40") as room:
+        two_runs(room)
+        kept = f"{room.folder}/kept"
+        shutil.copytree(room.account, kept)
+        end = digests(room.audit()[1])[-1]
+        middle = room.segments()[len(room.segments()) // 2]
+        lines = open(middle).read().splitlines()
+        put = next(at for at, line in enumerate(lines) if line.startswith("put "))
+        opened = next(at for at, line in enumerate(lines) if line.startswith("opened "))
+
+        def told(label, fault, *words, files=None):
+            status, out, why = room.audit(*words, files=files)
+            check(status == 6 and re.match(fault, why), f"{label}: {status} {out}{why}")
+            shutil.rmtree(room.account)
+            shutil.copytree(kept, room.account)
+
+        def write(lines):
+            with open(middle, "w") as file:
+                file.write("".join(line + "\n" for line in lines))
+
+        # a digit of a digest: the line can be read, and the last line's digest isn't that of the lines
+        digit = lines[put][:-1] + ("0" if lines[put][-1] != "0" else "1")
+        write(lines[:put] + [digit] + lines[put + 1:])
+        told("a digit of a digest", r"fault 8[01] ")
+        # the same, and all of the segment's own digest right: the page that is handed out isn't the one that was put, or
+        # the next segment names another digest
+        rewrite(middle, lines[:put] + [digit] + lines[put + 1:])
+        told("a digit, and the segment's end right", r"fault 8[12] ")
+        number = lines[opened].split(" ")
+        number[1] = str(int(number[1]) + 1)
+        rewrite(middle, lines[:opened] + [" ".join(number)] + lines[opened + 1:])
+        told("a job's number", r"fault 81 Entry .*:%d\n" % (opened + 1))
+        write(lines[:put] + lines[put + 1:])
+        told("an entry taken away", r"fault 8[01] ")
+        write(lines[:put - 1] + [lines[put], lines[put - 1]] + lines[put + 1:])
+        told("two swapped", r"fault 81 Entry .*:%d\n" % put)
+        told("a segment left out", r"fault 82 Follow ", files=[it for it in room.segments() if it != middle])
+        last = room.segments()[-1]
+        with open(last) as file:
+            text = file.read()
+        with open(last, "w") as file:
+            file.write(text[:len(text) // 2])
+        told("a last segment cut off", r"fault 80 Line ")
+        os.remove(last)
+        told("no last segment", r"fault 82 Follow .* ends in ", "--ends", end)
+        tail = text.splitlines()
+        user = [line.replace(" ann ", " eve ") if line.startswith("controlled ") else line for line in tail]
+        changes = user != tail
+        rewrite(last, user if changes else tail[:2] + tail[2:])
+        if changes:
+            check(room.audit()[0] == 0, "a segment that was written anew isn't legal by itself")
+            told("a last segment written anew", r"fault 82 Follow .* ends in ", "--ends", end)
+        printer = f"{room.folder}/printer-1"
+        with open(printer, "r+b") as file:
+            file.seek(5000)
+            octet = file.read(1)
+            file.seek(5000)
+            file.write(bytes([octet[0] ^ 1]))
+        told("an octet of printer-1", r"fault 83 Printed .* printer 1 job \d+ place \d+ octet \d+ of ", "--printed", room.folder)
+        return "each change is told"
+
+
+def hostile_files():
+    """Files that are no segments end in a fault line, in bounded memory and time."""
+    def limited():
+        resource.setrlimit(resource.RLIMIT_AS, (1 << 30, 1 << 30))
+
+    with tempfile.TemporaryDirectory() as folder:
+        path = f"{folder}/segment"
+        head = "account 1 1 1 2026-11-26T22:00:00Z 2026-11-26T22:00:09Z first\nconfig 64 64 16 16000000 a 16 1\nprinter file:a - \n"
+        good = head.replace(" - \n", " -\n") + "base 0 0 0 0 0 open running\n"
+        files = {
+            "a line of 10 MB": b"account 1 " + b"1" * 10_000_000 + b"\n",
+            "binary": random.Random(1).randbytes(1_000_000),
+            "half a line": good.encode()[:-5],
+            "a head alone": good.encode(),
+            "nothing": b"",
+            "a number past 64 bits": good.encode() + b"opened 18446744073709551616 1 1\n",
+            "ten million entries": good.encode() + b"started 1\n" * 10_000_000,
+            "octets 00": b"\0" * 1_000_000,
+            "line feeds": b"\n" * 1_000_000,
+        }
+        for label, octets in files.items():
+            with open(path, "wb") as file:
+                file.write(octets)
+            for word in ("audit", "usage"):
+                began = time.monotonic()
+                told = subprocess.run([PROGRAM, word, path], capture_output=True, timeout=120, preexec_fn=limited)
+                check(told.returncode == 6 and told.stderr.startswith(b"fault 8") and told.stderr.count(b"\n") == 1 and len(told.stderr) < 4096,
+                      f"{label}, {word}: {told.returncode} {told.stderr[:200]}")
+                check(time.monotonic() - began < 60, f"{label}, {word}: {time.monotonic() - began} s")
+        told = subprocess.run([PROGRAM, "audit", f"{folder}/none"], capture_output=True, timeout=20)
+        check(told.returncode == 4 and told.stderr.startswith(b"fault 71 ReadFile"), told)
+        return f"{len(files)} files, each refused in one line"
+
+
+def a_long_account():
+    """An account of a million entries, with eight jobs held at a time, over several segments: how long an audit takes."""
+    entries = int(os.environ.get("ENTRIES", "1000000"))
+    with tempfile.TemporaryDirectory() as folder:
+        total, digest, run = 0, None, 0
+        while total < entries:
+            run += 1
+            total += write_segment(f"{folder}/segment-{run:010}", run, digest, min(200_000, entries - total))
+            digest = open(f"{folder}/segment-{run:010}").read().rsplit(" ", 1)[1].strip()
+        before = resource.getrusage(resource.RUSAGE_CHILDREN)
+        told = subprocess.run([PROGRAM, "audit", *sorted(glob.glob(f"{folder}/segment-*"))], capture_output=True, text=True, timeout=300)
+        after = resource.getrusage(resource.RUSAGE_CHILDREN)
+        check(told.returncode == 0 and f"entries {total} " in told.stdout, f"{told.stdout}{told.stderr}")
+        return f"{total} entries in {run} segments: {after.ru_utime - before.ru_utime + after.ru_stime - before.ru_stime:.1f} s of a processor"
+
+
+def write_segment(path, run, previous, entries):
+    """Writes the only segment of a run: jobs of one page, eight held at a time, and the close."""
+    digest = hashlib.sha256(b"x").hexdigest()
+    lines = [f"account 1 {run} 1 2026-11-26T22:00:00Z 2026-11-26T23:00:00Z {'after ' + previous if previous else 'first'}",
+             "config 64 64 16 16000000 a 2 1", "printer file:a -", "base 0 0 0 0 0 open running"]
+    head = len(lines)
+    job = 0
+    held = []
+    while len(lines) - head < entries - 100:
+        job += 1
+        lines += [f"opened {job} {job % 8} 1", f"began {job} dfA001h1 1", f"granted {job}", f"put {job} 0 0 1 {digest}",
+                  f"ended {job} 0 part", f"controlled {job} whole 1 h1 ann dfA001h1"]
+        held.append(job)
+        if len(held) == 8:
+            first = held.pop(0)
+            lines += [f"handed 1 {first} 0 0 0 1 {digest}", f"printed done 1 {first} 0 0 0 1 {digest}"]
+    for first in held:
+        lines += [f"handed 1 {first} 0 0 0 1 {digest}", f"printed done 1 {first} 0 0 0 1 {digest}"]
+    lines.append("closed")
+    body = "".join(line + "\n" for line in lines)
+    count = len(lines) - head
+    with open(path, "w") as file:
+        file.write(body + f"end {count} {hashlib.sha256(body.encode()).hexdigest()}\n")
+    return count
+
+
+SCENES = [written_and_audited, changed_files_are_told, hostile_files, a_long_account]
+
+if __name__ == "__main__":
+    sys.exit(main(SCENES, __doc__))
