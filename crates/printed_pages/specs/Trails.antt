@@ -1,5 +1,5 @@
 -- How a printer's file goes on, by what the account says.
-use Rattle.std.specs.Prelude.{◌≡◌, ◌<◌, ◌≤◌, ◌+◌, ◌==◌, ◌^◌, ℕ, Option, Some, None, if◌then◌else◌, min}
+use Rattle.std.specs.Prelude.{◌≡◌, ◌<◌, ◌≤◌, ◌+◌, ◌-◌, ◌==◌, ◌^◌, ℕ, Option, Some, None, if◌then◌else◌, min}
 use Rattle.spool_history.specs.Events.{Event, Sheet, Turn}
 use Rattle.spool_history.specs.Events.Event.{AtPrinter}
 use Rattle.spool_history.specs.Events.Turn.{Handed, Printed, Failed}

@@ -1,7 +1,6 @@
 //! One page.
 
-ghost use Rattle.std.specs.Prelude.{◌≡◌, ◌≤◌, ◌+◌, ◌^◌, ◌↔◌, IsTrue, MatchResult, length};
-ghost use Rattle.account.specs.declared.entry.Outline.{Outline};
+ghost use Rattle.std.specs.Prelude.{◌≡◌, ◌<◌, ◌+◌, ◌^◌, ◌↔◌, IsTrue, MatchResult, length};
 ghost use Rattle.printed_pages.specs.Pages.{DiffersAt, Matches};
 
 use account::{Outline, Sheet};

@@ -5,10 +5,12 @@
 mod audit;
 mod copies;
 mod fault;
+mod laws;
 mod part;
 mod tally;
 
 pub use audit::SegmentAudit;
 pub use fault::AuditFault;
+pub use laws::audited_segments_are_legal;
 pub use segment_text::SegmentLine;
 pub use tally::Tally;
