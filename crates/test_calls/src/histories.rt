@@ -14,6 +14,8 @@
 use crate::entries::entry;
 use crate::scripts::CONFIG;
 use account::{Act, Base, Entry};
+use account_audit::check;
+use account_text::{parse_entry, write_entry};
 use config_values::Config;
 use history_legality::{free_pages, is_legal, is_safe_now, leaves_joined, may};
 use history_reader::{Next, State, next_page, now, rotated};
@@ -68,7 +70,29 @@ impl Account {
         if !leaves_joined(self.alloc, entries)? {
             return Ok(Some("not joined"));
         }
+        if !self.audits(None)? {
+            return Ok(Some("not audited"));
+        }
         Ok(None)
+    }
+
+    /// Whether an audit takes all entries, in order of writing, and this one behind them. Each but that was written as a line and read back.
+    fn audits(&self, more: Option<Entry>) -> Result<bool, AllocError> {
+        let mut entries = Vec::new(self.alloc);
+        for entry in self.entries.iter().rev() {
+            let line = write_entry(self.alloc, entry)?;
+            match parse_entry(self.alloc, line.as_slice()) {
+                Ok(entry) => entries.push(entry)?,
+                Err(_) => return Ok(false),
+            }
+        }
+        if let Some(entry) = more {
+            entries.push(entry)?;
+        }
+        if entries.len() > 1_000_000 {
+            return Ok(false);
+        }
+        check(self.alloc, &self.config, &self.base, entries.as_slice())
     }
 
     /// Which of the first three jobs may be lent a page, as the digits of a number.
@@ -107,6 +131,9 @@ impl Account {
     /// Appends what the reader says once an entry came, if it may. The newest entry stands first.
     fn push_entry(&mut self, told: &mut String, entry: Entry) -> Result<(), AllocError> {
         if !may(self.alloc, &self.config, &self.state()?, &entry)? {
+            if self.audits(Some(entry))? {
+                return told.push_str("audited");
+            }
             return told.push_str("refused");
         }
         self.entries.insert(0, entry)?;
