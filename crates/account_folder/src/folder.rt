@@ -70,6 +70,7 @@ pub struct AccountFolder<'a, R> {
     closed: SystemTime,
     head: Head,
     entries: Vec<Entry>,
+    is_in_hand: bool,
 }
 
 /// The head of a segment of this run, of which nothing else is known.
@@ -136,6 +137,7 @@ impl<'a, R: Files<File = File>> AccountFolder<'a, R> {
             closed: begun,
             head: head_of(alloc, next.run, next.previous, config, printers),
             entries: Vec::new(alloc),
+            is_in_hand: false,
         })
     }
 
@@ -163,6 +165,7 @@ impl<'a, R: Files<File = File>> AccountFolder<'a, R> {
             base,
         };
         self.entries = entries;
+        self.is_in_hand = true;
     }
 
     /// Writes the segment in hand into a file at this path, and has that on the disk. Answers the digest that it ends in.
@@ -207,10 +210,13 @@ impl<'a, R: Files<File = File>> AccountFolder<'a, R> {
         made
     }
 
-    /// Makes the segment in hand a file, and has the file and its name on the disk.
+    /// Makes the segment in hand a file, and has the file and its name on the disk. None where none is in hand.
     ///
     /// An error with the file, or the folder, and the cause where that fails: the segment is still in hand then, and this can be called again.
-    pub fn put_away(&mut self) -> Result<PutAway, WriteFault<'a>> {
+    pub fn put_away(&mut self) -> Result<Option<PutAway>, WriteFault<'a>> {
+        if !self.is_in_hand {
+            return Ok(None);
+        }
         let Some(name) = self.next else {
             let cause = io::Error::new(io::ErrorKind::Other, "no number is left");
             return Err(WriteFault::new(self.path, None, cause));
@@ -227,12 +233,13 @@ impl<'a, R: Files<File = File>> AccountFolder<'a, R> {
         self.next = name.next();
         self.head.origin.previous = Some(digest);
         self.entries = Vec::new(self.alloc);
-        Ok(PutAway {
+        self.is_in_hand = false;
+        Ok(Some(PutAway {
             name,
             run,
             segment,
             entries,
             digest,
-        })
+        }))
     }
 }
