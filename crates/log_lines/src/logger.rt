@@ -19,8 +19,8 @@ pub struct LineLog<'a, R: Clock + Wait> {
     rt: &'a R,
     alloc: Global,
     queue: &'a LineQueue,
-    /// Of what is logged for information, only what this part of the program gives is told; where there is none, all is.
-    informing: Option<&'a str>,
+    /// Of what is logged for information, only what these parts of the program give is told; where there are none, all is.
+    informing: Option<&'a [&'a str]>,
 }
 
 impl<'a, R: Clock + Wait> LineLog<'a, R> {
@@ -34,10 +34,10 @@ impl<'a, R: Clock + Wait> LineLog<'a, R> {
         }
     }
 
-    /// The same, which tells of what is logged for information only what this part of the program gives.
-    pub fn informed_by(self, target: &'a str) -> LineLog<'a, R> {
+    /// The same, which tells of what is logged for information only what these parts of the program give.
+    pub fn informed_by(self, targets: &'a [&'a str]) -> LineLog<'a, R> {
         LineLog {
-            informing: Some(target),
+            informing: Some(targets),
             ..self
         }
     }
@@ -45,7 +45,9 @@ impl<'a, R: Clock + Wait> LineLog<'a, R> {
     /// Whether a record is to be told.
     fn is_told<D: Display, K: Source, S: Spans>(&self, record: &Record<'_, D, K, S>) -> bool {
         match (record.level(), self.informing) {
-            (Level::Info, Some(target)) => record.target() == target,
+            (Level::Info, Some(targets)) => {
+                targets.iter().any(|target| record.target() == *target)
+            }
             (Level::Warn, _) if self.queue.form() != LogForm::Plain => {
                 match format!(in self.alloc; "{}", record.args()) {
                     Ok(text) => self.queue.is_new(self.rt, self.alloc, text.as_str()),

@@ -154,16 +154,22 @@ impl<R: Files<File = File> + Clock + Log + Wait, E: SpoolLedger, K: Ledger, H: L
     /// Rotates the account. The porter prints that.
     fn rotate_account(&self, seat: &mut SessionSeat<E, K, H>) -> Result<Vec<u8>, AllocError> {
         let mut answer = Answer::new(self.alloc);
+        if !self.takes_place() {
+            return answer.end_by(Some("segments of the account wait to be written"));
+        }
         match self.spool.rotate(self.rt, seat) {
             Ok(segment) => {
                 let rotation = rotation_of(&segment);
-                self.rotations.add(self.rt, Ok(segment));
+                self.note_rotated(Ok(segment));
                 let _ = self.waker.wake();
                 let (number, entries) = (rotation.number, rotation.entries);
                 answer.line(&PrintedLine::Rotated { number, entries })?;
                 answer.end(AnswerEnd::Done)
             }
-            Err(refusal) => answer.end_by(Some(refusal)),
+            Err(refusal) => {
+                self.give_place_back();
+                answer.end_by(Some(refusal))
+            }
         }
     }
 

@@ -31,6 +31,8 @@ struct Crew<E: SpoolLedger, K: Ledger, H: Ledger> {
     steward: Option<JoinHandle<(SessionSeat<E, K, H>, Counter)>>,
     // Who shows the status, where it is shown.
     showing: Vec<JoinHandle<()>>,
+    // Who writes the account's segments, where they become files.
+    archiving: Vec<JoinHandle<()>>,
     // All were started.
     is_whole: bool,
 }
@@ -108,6 +110,7 @@ impl<E: SpoolLedger + Send + Sync, K: Ledger + Send + Sync, H: Ledger + Send + S
             printing: Vec::new(alloc),
             steward: None,
             showing: Vec::new(alloc),
+            archiving: Vec::new(alloc),
             is_whole: true,
         };
         for (seat, opened) in printers.into_iter().zip(places) {
@@ -132,6 +135,10 @@ impl<E: SpoolLedger + Send + Sync, K: Ledger + Send + Sync, H: Ledger + Send + S
             let thread = scope.spawn(move || house.show_all(board));
             crew.is_whole &= keep(&mut crew.showing, thread);
         }
+        if house.archive.is_some() {
+            let thread = scope.spawn(move || house.archive_all());
+            crew.is_whole &= keep(&mut crew.archiving, thread);
+        }
         (crew, porter)
     }
 
@@ -149,6 +156,7 @@ impl<E: SpoolLedger + Send + Sync, K: Ledger + Send + Sync, H: Ledger + Send + S
             printing,
             steward,
             showing,
+            archiving,
             ..
         } = self;
         let (rt, alloc) = (house.rt, house.alloc);
@@ -160,6 +168,7 @@ impl<E: SpoolLedger + Send + Sync, K: Ledger + Send + Sync, H: Ledger + Send + S
         house.spool.close(rt, &mut seat);
         house.ending.close();
         house.oversight.wake_steward();
+        house.close_shelf();
         house.end_showing();
         for thread in showing {
             thread.join(rt);
@@ -172,6 +181,11 @@ impl<E: SpoolLedger + Send + Sync, K: Ledger + Send + Sync, H: Ledger + Send + S
             let (seat, given_back) = steward.join(rt);
             let _ = sessions.push(seat);
             counter = Some(given_back);
+        }
+        // Nobody rotates the account any more.
+        house.end_archiving();
+        for thread in archiving {
+            thread.join(rt);
         }
         let seats = Seats { sessions, printers };
         Returned { seats, counter }

@@ -1,5 +1,6 @@
 //! What all threads of a server share.
 
+use crate::archiving::Archive;
 use crate::ending::Ending;
 use crate::job_book::JobBook;
 use crate::job_lines::Outcome;
@@ -42,6 +43,8 @@ pub(crate) struct House<'a, R, E: SpoolLedger, K: Ledger, H: Ledger> {
     pub(crate) ending: Ending,
     /// Where jobs are kept until they are printed, if they are.
     pub(crate) kept: Option<Kept<'a, R>>,
+    /// Where the account's segments become files, if they do.
+    pub(crate) archive: Option<Archive<'a, R>>,
     /// What is noted of each job, where the log has lines of them or the status is shown.
     pub(crate) job_book: Option<JobBook>,
     /// What is known of the thread that shows the status, where there is one.

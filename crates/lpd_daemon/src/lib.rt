@@ -1,11 +1,12 @@
 //! The server: a spool behind a listener on IPv4 (RFC 1179, section 3.1). One thread holds
 //! connections until their first line is there and hands them on to threads that serve them, one
 //! thread a printer writes the printer's pages to a file, to the network or into a folder, one looks
-//! for peers that are gone and starts queues again, and one rotates the account where room is kept in
-//! it.
+//! for peers that are gone and starts queues again, one rotates the account where room is kept in
+//! it, and one writes its segments where they become files.
 #![tactic(auto)]
 
 mod answering;
+mod archiving;
 mod commanding;
 mod configuration;
 mod counter;
@@ -43,6 +44,7 @@ mod stopping;
 mod stored;
 mod watching;
 
+pub use archiving::ACCOUNT_LINES;
 pub use control_socket::{OpenFault, SocketFile};
 pub use counter::Counter;
 pub use faults::Fault;

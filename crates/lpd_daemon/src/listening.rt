@@ -160,13 +160,13 @@ impl<'a, R: Clock + Log + Wait, E: SpoolLedger, K: Ledger, H: Ledger> Porter<'a,
     }
 
     /// Where the account has its turn before the next connection, waits until no job is held or a
-    /// printer is stopped, and rotates it.
+    /// printer is stopped, and rotates it. It isn't rotated while its segments wait to become files.
     fn take_turn(&mut self) {
         let (house, rt) = (self.house, self.house.rt);
-        if has_turn(self.gate.every, self.handed_on) {
+        if has_turn(self.gate.every, self.handed_on) && house.takes_place() {
             house.spool.idle_wait(rt);
             let rotated = house.spool.rotate(rt, &mut self.seat);
-            house.rotations.add(rt, rotated);
+            house.note_rotated(rotated);
         }
     }
 

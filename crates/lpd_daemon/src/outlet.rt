@@ -57,6 +57,12 @@ impl Outlet {
         }
     }
 
+    /// How many octets it has, where it is one of a disk.
+    pub(crate) fn length(&self) -> Option<u64> {
+        let metadata = self.file.metadata().ok()?;
+        metadata.is_file().then_some(metadata.len())
+    }
+
     /// The same file, where it is a pipe: whether its reader has taken what was written can be asked. None where the system gives no
     /// second number for it.
     pub(crate) fn pipe(&self) -> Option<File> {

@@ -6,7 +6,9 @@ ghost use Rattle.lpd_daemon.specs.Faults.{IsOpeningFault};
 use crate::faults::Fault;
 use crate::outlet::Outlet;
 use log::{Log, warn};
+use lpd_values::Octets;
 use program_edge::{Place, Settings, tell_cause};
+use segment_text::PrinterPlace;
 use sink_devices::names_of;
 use std::alloc::{AllocError, Global};
 use std::fs::{File, Files};
@@ -29,6 +31,14 @@ impl Opened {
     pub(crate) fn pipe(&self) -> Option<File> {
         match self {
             Opened::File(outlet) => outlet.pipe(),
+            Opened::Socket(_) | Opened::Folder { .. } => None,
+        }
+    }
+
+    /// How many octets the file has, where it is one of a disk.
+    fn length(&self) -> Option<u64> {
+        match self {
+            Opened::File(outlet) => outlet.length(),
             Opened::Socket(_) | Opened::Folder { .. } => None,
         }
     }
@@ -100,6 +110,28 @@ pub(crate) fn open_places<R: Files<File = File> + Log>(
         places.push(opened)?;
     }
     Ok(places)
+}
+
+/// What printers print to, as their places are written, and how long the files among these are now: what the heads of the account's
+/// segments tell.
+pub(crate) fn told_places(
+    alloc: Global,
+    settings: &Settings<'_>,
+    places: &[Opened],
+) -> Result<Vec<PrinterPlace>, AllocError> {
+    let mut told = Vec::new(alloc);
+    for (at, opened) in places.iter().enumerate() {
+        let printer = (at as u32).saturating_add(1);
+        let place = match place_of(settings, printer) {
+            Some(place) => format!(in alloc; "{place}")?,
+            None => format!(in alloc; "file:{}/printer-{printer}", settings.out)?,
+        };
+        told.push(PrinterPlace {
+            place: Octets::from_vec(place.into_bytes()),
+            length: opened.length(),
+        })?;
+    }
+    Ok(told)
 }
 
 /// The pipes among these, by the printers' numbers, from 1.

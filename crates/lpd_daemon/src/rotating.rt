@@ -65,21 +65,30 @@ impl Rotations {
         mem::replace(&mut *self.rotated.lock(rt), Vec::new(alloc))
     }
 
-    /// One more. Where the account wasn't rotated the log is told why, and the server goes on.
-    pub(crate) fn add<R: Log + Wait>(&self, rt: &R, rotated: Result<Segment, RotateError>) {
-        match rotated {
-            Ok(segment) => {
-                let rotation = rotation_of(&segment);
-                if self.rotated.lock(rt).push(rotation).is_err() {
-                    warn!(rt; "memory was refused: a rotation isn't printed");
-                }
-            }
-            Err(error) => error!(rt; "fault {error}"),
+    /// One more.
+    fn add<R: Log + Wait>(&self, rt: &R, rotation: Rotation) {
+        if self.rotated.lock(rt).push(rotation).is_err() {
+            warn!(rt; "memory was refused: a rotation isn't printed");
         }
     }
 }
 
 impl<R: Clock + Wait + Log, E: SpoolLedger, K: Ledger, H: Ledger> House<'_, R, E, K, H> {
+    /// What comes of a rotation for which there was a place: the segment is printed of, and where the account is kept it waits
+    /// to become a file. Where the account wasn't rotated the log is told why, and the server goes on.
+    pub(crate) fn note_rotated(&self, rotated: Result<Segment, RotateError>) {
+        match rotated {
+            Ok(segment) => {
+                self.rotations.add(self.rt, rotation_of(&segment));
+                self.shelve(segment);
+            }
+            Err(error) => {
+                self.give_place_back();
+                error!(self.rt; "fault {error}");
+            }
+        }
+    }
+
     /// Rotates the account as soon as no job is held and `least` entries are counted, again and again
     /// until the spool is closed; never where no room is kept. Answers the seat.
     pub(crate) fn keep_rotating(&self, seat: SessionSeat<E, K, H>) -> SessionSeat<E, K, H> {
@@ -88,11 +97,15 @@ impl<R: Clock + Wait + Log, E: SpoolLedger, K: Ledger, H: Ledger> House<'_, R, E
         };
         let (rt, mut seat) = (self.rt, seat);
         for _ in rt.forever() {
+            if !self.wait_for_place() {
+                break;
+            }
             let Some(rotated) = self.spool.rotate_wait(rt, &mut seat, least) else {
+                self.give_place_back();
                 break;
             };
             let is_refused = rotated.is_err();
-            self.rotations.add(rt, rotated);
+            self.note_rotated(rotated);
             if is_refused {
                 thread::sleep(rt, Duration::from_secs(PAUSE_SECONDS));
             } else {

@@ -8,6 +8,7 @@ ghost use Rattle.lpd_daemon.specs.declared.lines.PrintedLine.TheVariants.{Closed
 ghost use Rattle.lpd_commands.specs.Ends.{Writes};
 ghost use Rattle.spool_ledgers.specs.Blanks.{AreFor, mark};
 
+use crate::archiving::{Archive, open_archive};
 use crate::counter::Counter;
 use crate::crew::{Entrance, Returned};
 use crate::ending::Ending;
@@ -28,7 +29,7 @@ use lpd_commands::OctetWrite;
 use mio::Waker;
 use program_edge::{Limits, PrinterLimits, Settings};
 use server_edge::Lobby;
-use shared_spool::{Blanks, SharedSpool, SpoolLedger};
+use shared_spool::{Blanks, Segment, SharedSpool, SpoolLedger};
 use std::alloc::{AllocError, Global};
 use std::fs::{File, Files};
 use std::marker::Brand;
@@ -51,17 +52,30 @@ const BOARDS_DESCRIPTORS: u64 = 80;
 /// How many more are kept for the folder in which jobs are, and for what is read of it.
 const FOLDERS_DESCRIPTORS: u64 = 8;
 
+/// How many entries this segment and those before it have.
+fn entries_until(segment: &Segment) -> u64 {
+    let entries = segment.entries.len() as u64;
+    segment.before.saturating_add(entries)
+}
+
 /// Takes all seats back, and prints how many entries all segments of the account have, where all
-/// was well until now.
+/// was well until now. Where the account's segments become files, those that are left do so before.
 ///
 /// Output where the line can't be written, which is logged; Memory where a seat or memory for the
 /// line is missing.
-fn finish<R: Log, E: SpoolLedger, K: Ledger, H: Ledger, W: OctetWrite>(
+fn finish<
+    R: Files<File = File> + Clock + Log + Wait,
+    E: SpoolLedger,
+    K: Ledger,
+    H: Ledger,
+    W: OctetWrite,
+>(
     rt: &R,
     alloc: Global,
     spool: SharedSpool<E, K, H>,
     seats: Seats<E, K, H>,
     told: Result<(), Fault>,
+    archive: Option<&Archive<'_, R>>,
     output: &mut W,
 ) -> Result<(), Fault>
     ensures before { OnOk result (told ≡ Ok tt) }
@@ -71,11 +85,15 @@ fn finish<R: Log, E: SpoolLedger, K: Ledger, H: Ledger, W: OctetWrite>(
         → W.faults output.new ≡ write_faults n result }
     ensures fault { IfErr told IsRunningFault → IfErr result IsRunningFault }
 {
+    let last = spool.finish(seats.sessions, seats.printers).ok();
+    let entries = last.as_ref().map(entries_until);
+    if let Some(archive) = archive {
+        archive.end(rt, last);
+    }
     told?;
-    let Ok(segment) = spool.finish(seats.sessions, seats.printers) else {
+    let Some(entries) = entries else {
         return Err(Fault::Memory);
     };
-    let entries = segment.before.saturating_add(segment.entries.len() as u64);
     print_or_tell(rt, alloc, output, PrintedLine::Closed { entries })
 }
 
@@ -159,6 +177,7 @@ struct Server<'a, R> {
     port: u16,
     places: Vec<Opened>,
     kept: Option<Kept<'a, R>>,
+    archive: Option<Archive<'a, R>>,
     counter: Counter,
     // Where the status is asked for, if it is shown, and what wakes who shows it.
     board: Option<(Board, Waker)>,
@@ -209,6 +228,7 @@ where
     } = plan;
     let places = open_places(rt, alloc, &settings, config.printer_count())?;
     let kept = open_kept(rt, alloc, &settings, &config)?;
+    let archive = open_archive(rt, alloc, &settings, &config, &places)?;
     let board = open_board(rt, alloc, &settings)?;
     let furniture = Furniture::make(rt, alloc, &settings, &config, &places, &mut counter)?;
     let sessions = sessions_of(&settings);
@@ -232,6 +252,7 @@ where
         port,
         places,
         kept,
+        archive,
         counter,
         board,
         furniture,
@@ -259,6 +280,7 @@ impl<'a, R> Server<'a, R> {
             port,
             places,
             kept,
+            archive,
             counter,
             board,
             furniture,
@@ -291,6 +313,7 @@ impl<'a, R> Server<'a, R> {
             oversight,
             ending: Ending::new(),
             kept,
+            archive,
             job_book,
             showing,
         };
@@ -389,7 +412,8 @@ where
         print_or_tell(rt, alloc, output, line)?;
         let (told, returned) = self.work(roles, entrance, output);
         let Returned { seats, counter } = returned;
-        let ended = finish(rt, alloc, self.spool, seats, told, output);
+        let archive = self.archive.as_ref();
+        let ended = finish(rt, alloc, self.spool, seats, told, archive, output);
         if let Some(counter) = counter {
             counter.end(rt, alloc, &ended);
         }

@@ -10,7 +10,7 @@ use log::filter::{Builder, Filter, FilteredLog};
 use log::sink::Console;
 use log::{Level, LevelFilter, Log, Logged, error, info};
 use log_lines::{LineLog, LineQueue, LogForm};
-use lpd_daemon::{Counter, JOB_LINES, OpenFault, Plan};
+use lpd_daemon::{ACCOUNT_LINES, Counter, JOB_LINES, OpenFault, Plan};
 use lpd_words::{AuditRequest, ControlRequest, Outcome, PROGRESS, Unread, UsageRequest};
 use program_edge::{
     FaultName, Settings, StreamReader, StreamWriter, fill_standard_descriptors, tell, tell_cause,
@@ -33,9 +33,19 @@ const LINES: usize = 256;
 const PATIENCE_SECONDS: u64 = 2;
 
 /// What is logged at the most. For information are why a file can't be opened or an address can't be listened on, in a line before the
-/// fault, and what becomes of jobs.
+/// fault, what becomes of jobs, and of segments of the account.
 fn most_told(informs: bool) -> Level {
     if informs { Level::Info } else { Level::Warn }
+}
+
+/// Which parts of a server log for information where standard error is no terminal.
+fn informing(settings: &Settings) -> &'static [&'static str] {
+    match (settings.log_jobs, settings.account) {
+        (true, Some(_)) => &[JOB_LINES, ACCOUNT_LINES],
+        (true, None) => &[JOB_LINES],
+        (false, Some(_)) => &[ACCOUNT_LINES],
+        (false, None) => &[],
+    }
 }
 
 /// What is logged where no server is asked for: as `most_told` says, and of how far something is, which this part of the program
@@ -230,13 +240,14 @@ fn main(rt: HostRuntime) -> ExitCode {
                 return code(refuse_memory(alloc, &mut faults));
             };
             let is_terminal = rt.stderr().is_terminal();
-            let level = most_told(is_terminal || settings.log_jobs);
+            let informing = informing(&settings);
+            let level = most_told(is_terminal || !informing.is_empty());
             let lines = LineLog::new(&rt, alloc, &queue);
-            // For information: the lines of jobs, and at a terminal all.
+            // For information: the lines of jobs and of the account's segments, and at a terminal all.
             let lines = if is_terminal {
                 lines
             } else {
-                lines.informed_by(JOB_LINES)
+                lines.informed_by(informing)
             };
             let logged = Logged::new(rt, level, lines);
             let status = if filled {

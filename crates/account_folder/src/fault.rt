@@ -1,0 +1,48 @@
+//! Why a segment isn't put away.
+
+use crate::names::SegmentName;
+use std::error::Error;
+use std::fmt::{Debug, Display, Formatter, Write};
+use std::{fmt, io};
+
+/// A segment wasn't put away: at which file that failed, and why.
+#[derive(Clone, Copy)]
+pub struct WriteFault<'a> {
+    folder: &'a str,
+    name: Option<SegmentName>,
+    /// What the system says of it.
+    pub cause: io::Error,
+}
+
+impl<'a> WriteFault<'a> {
+    /// It failed at the file that was to get this name, or where none is given at the folder.
+    pub(crate) fn new(
+        folder: &'a str,
+        name: Option<SegmentName>,
+        cause: io::Error,
+    ) -> WriteFault<'a> {
+        WriteFault {
+            folder,
+            name,
+            cause,
+        }
+    }
+}
+
+impl Display for WriteFault<'_> {
+    fn fmt<W: Write>(&self, f: &mut Formatter<W>) -> fmt::Result {
+        let (folder, cause) = (self.folder, &self.cause);
+        match &self.name {
+            Some(name) => write!(f, "{folder}/{name}: {cause}"),
+            None => write!(f, "{folder}: {cause}"),
+        }
+    }
+}
+
+impl Debug for WriteFault<'_> {
+    fn fmt<W: Write>(&self, f: &mut Formatter<W>) -> fmt::Result {
+        Display::fmt(self, f)
+    }
+}
+
+impl Error for WriteFault<'_> {}

@@ -1,0 +1,245 @@
+//! A folder of segments, which one server writes.
+
+use crate::fault::WriteFault;
+use crate::listing::list;
+use crate::names::SegmentName;
+use crate::opening::{FILE_MODE, OpenError, make_folder, take_lock};
+use crate::reading::next_in;
+use crate::stamps::stamp;
+use crate::writing::{TextFault, write_segment};
+use account::{Base, Entry, Segment};
+use config_values::Config;
+use lpd_values::Octets;
+use program_edge::StreamWriter;
+use segment_text::{Head, Origin, PrinterPlace, Start};
+use std::alloc::Global;
+use std::fmt::{Display, Formatter, Write};
+use std::fs::{File, Files, OpenOptions};
+use std::os::unix::fs::OpenOptionsExt;
+use std::time::SystemTime;
+use std::{fmt, fs, io, mem};
+
+/// A segment that has become a file.
+#[derive(Clone, Copy)]
+pub struct PutAway {
+    /// The name of the file.
+    pub name: SegmentName,
+    /// The number of its run.
+    pub run: u64,
+    /// Its number in the run.
+    pub segment: u64,
+    /// How many entries it has.
+    pub entries: u64,
+    /// The digest that it ends in.
+    pub digest: [u8; 32],
+}
+
+impl Display for PutAway {
+    fn fmt<W: Write>(&self, f: &mut Formatter<W>) -> fmt::Result {
+        let PutAway {
+            name,
+            run,
+            segment,
+            entries,
+            ..
+        } = self;
+        write!(
+            f,
+            "{name} run {run} segment {segment} entries {entries} digest "
+        )?;
+        for octet in &self.digest {
+            write!(f, "{octet:02x}")?;
+        }
+        Ok(())
+    }
+}
+
+/// A folder of segments, which one server has at a time, and the segment in hand that is to become a file of it.
+#[derive(Drop)]
+pub struct AccountFolder<'a, R> {
+    rt: &'a R,
+    alloc: Global,
+    path: &'a str,
+    folder: File,
+    // Held while the server has the folder.
+    _lock: File,
+    // The name of the next file, if there may be one.
+    next: Option<SegmentName>,
+    // When the segment in hand was begun, and when it was closed.
+    begun: SystemTime,
+    closed: SystemTime,
+    head: Head,
+    entries: Vec<Entry>,
+    is_in_hand: bool,
+}
+
+/// The head of a segment of this run, of which nothing else is known.
+fn head_of(
+    alloc: Global,
+    run: u64,
+    previous: Option<[u8; 32]>,
+    config: Config,
+    printers: Vec<PrinterPlace>,
+) -> Head {
+    let origin = Origin {
+        run,
+        segment: 0,
+        first: Octets::from_vec(Vec::new(alloc)),
+        last: Octets::from_vec(Vec::new(alloc)),
+        previous,
+    };
+    let start = Start {
+        entries: 0,
+        kinds: 0,
+        handed: 0,
+        base: Base::first(alloc),
+    };
+    Head {
+        origin,
+        config,
+        printers,
+        start,
+    }
+}
+
+impl<'a, R: Files<File = File>> AccountFolder<'a, R> {
+    /// The folder at this path, which is made where nothing is there, for a run of this configuration and of these printers that
+    /// begins at this time. Temporary files that a server has left are removed.
+    ///
+    /// # Errors
+    ///
+    /// `InUse` where another server has it; `Broken` where its last segment isn't whole; `Full` where no number is left; `Failed`
+    /// where it can't be made, opened or read, or memory is refused.
+    pub fn open(
+        rt: &'a R,
+        alloc: Global,
+        path: &'a str,
+        config: Config,
+        printers: Vec<PrinterPlace>,
+        begun: SystemTime,
+    ) -> Result<AccountFolder<'a, R>, OpenError> {
+        make_folder(rt, alloc, path)?;
+        let lock = take_lock(rt, alloc, path)?;
+        let listing = list(rt, alloc, path)?;
+        for name in &listing.left {
+            let path = format!(in alloc; "{path}/{name}.tmp").map_err(io::Error::from)?;
+            fs::remove_file(rt, path.as_str())?;
+        }
+        let next = next_in(rt, alloc, path, &listing)?;
+        Ok(AccountFolder {
+            rt,
+            alloc,
+            path,
+            folder: File::open(rt, path)?,
+            _lock: lock,
+            next: Some(next.name),
+            begun,
+            closed: begun,
+            head: head_of(alloc, next.run, next.previous, config, printers),
+            entries: Vec::new(alloc),
+            is_in_hand: false,
+        })
+    }
+
+    /// The folder's path.
+    pub fn path(&self) -> &'a str {
+        self.path
+    }
+
+    /// Takes a segment in hand, which was closed at this time. One that was in hand is let go.
+    pub fn take(&mut self, segment: Segment, closed: SystemTime) {
+        let Segment {
+            number,
+            before,
+            kinds_before,
+            handed_before,
+            base,
+            entries,
+        } = segment;
+        self.begun = mem::replace(&mut self.closed, closed);
+        self.head.origin.segment = number;
+        self.head.start = Start {
+            entries: before,
+            kinds: kinds_before,
+            handed: handed_before,
+            base,
+        };
+        self.entries = entries;
+        self.is_in_hand = true;
+    }
+
+    /// Writes the segment in hand into a file at this path, and has that on the disk. Answers the digest that it ends in.
+    fn write(&mut self, path: &str) -> io::Result<[u8; 32]> {
+        self.head.origin.first = stamp(self.alloc, self.begun)?;
+        self.head.origin.last = stamp(self.alloc, self.closed)?;
+        let mut options = OpenOptions::new();
+        options
+            .write(true)
+            .create(true)
+            .truncate(true)
+            .mode(FILE_MODE);
+        let mut output = StreamWriter::new(options.open(self.rt, path)?);
+        let entries = self.entries.as_slice();
+        let written = write_segment(self.alloc, &self.head, entries, &mut output);
+        let cause = output.cause();
+        match written {
+            Ok(digest) => {
+                output.into_stream().sync_all()?;
+                Ok(digest)
+            }
+            Err(TextFault::Memory) => Err(io::ErrorKind::OutOfMemory.into()),
+            Err(TextFault::Output) => Err(cause.unwrap_or(io::ErrorKind::Other.into())),
+        }
+    }
+
+    /// Writes the segment in hand under another name, and gives it this one.
+    fn make_file(&mut self, name: SegmentName) -> io::Result<[u8; 32]> {
+        let path = self.path;
+        let temporary = format!(in self.alloc; "{path}/{name}.tmp")?;
+        let whole = format!(in self.alloc; "{path}/{name}")?;
+        let made = match self.write(temporary.as_str()) {
+            Ok(digest) => {
+                fs::rename(self.rt, temporary.as_str(), whole.as_str()).map(|()| digest)
+            }
+            Err(cause) => Err(cause),
+        };
+        if made.is_err() {
+            // Half a file takes room where that may be wanting. The next try makes it anew in any case.
+            let _ = fs::remove_file(self.rt, temporary.as_str());
+        }
+        made
+    }
+
+    /// Makes the segment in hand a file, and has the file and its name on the disk. None where none is in hand.
+    ///
+    /// An error with the file, or the folder, and the cause where that fails: the segment is still in hand then, and this can be called again.
+    pub fn put_away(&mut self) -> Result<Option<PutAway>, WriteFault<'a>> {
+        if !self.is_in_hand {
+            return Ok(None);
+        }
+        let Some(name) = self.next else {
+            let cause = io::Error::new(io::ErrorKind::Other, "no number is left");
+            return Err(WriteFault::new(self.path, None, cause));
+        };
+        let digest = match self.make_file(name) {
+            Ok(digest) => digest,
+            Err(cause) => return Err(WriteFault::new(self.path, Some(name), cause)),
+        };
+        if let Err(cause) = self.folder.sync_all() {
+            return Err(WriteFault::new(self.path, None, cause));
+        }
+        let (run, segment) = (self.head.origin.run, self.head.origin.segment);
+        let entries = self.entries.len() as u64;
+        self.next = name.next();
+        self.head.origin.previous = Some(digest);
+        self.entries = Vec::new(self.alloc);
+        self.is_in_hand = false;
+        Ok(Some(PutAway {
+            name,
+            run,
+            segment,
+            entries,
+            digest,
+        }))
+    }
+}
