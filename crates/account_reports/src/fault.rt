@@ -13,7 +13,7 @@ use std::fmt;
 
 /// Why an account isn't told as legal, or isn't told.
 #[derive(Debug, Drop)]
-pub enum ReportFault<'a> {
+pub(crate) enum ReportFault<'a> {
     /// The line of this number of the file at a path can't be read, or none more stands there where one has to.
     Line(&'a str, u64),
     /// The entry in the line of this number may not come there.
@@ -52,7 +52,7 @@ impl<'a> ReportFault<'a> {
     }
 
     /// The exit status: 6 where the account isn't as it has to be, 4 for memory and files.
-    pub fn status(&self) -> u8
+    pub(crate) fn status(&self) -> u8
         ensures { result ≡ fault_status self.now }
     {
         match self {

@@ -11,6 +11,4 @@ mod rereading;
 mod usage;
 
 pub use auditing::{AUDIT, audit};
-pub use fault::ReportFault;
-pub use line_reader::{LineFault, LineReader, MOST_LINE};
 pub use usage::usage;

@@ -6,11 +6,11 @@ use lpd_commands::{OctetFault, OctetRead};
 use std::alloc::{AllocError, Global};
 
 /// How many octets a line has at most, its LF too. No line of a segment that a server writes has half of them.
-pub const MOST_LINE: usize = 262_144;
+const MOST_LINE: usize = 262_144;
 
 /// Why there is no line more.
 #[derive(Clone, Copy, Debug, PartialEq, Eq)]
-pub enum LineFault {
+pub(crate) enum LineFault {
     /// It is too long.
     TooLong,
     /// The stream ends without an LF.
@@ -21,7 +21,7 @@ pub enum LineFault {
 
 /// Reads lines, each of which ends in LF.
 #[derive(Drop)]
-pub struct LineReader<R: OctetRead + Drop> {
+pub(crate) struct LineReader<R: OctetRead + Drop> {
     reader: R,
     /// What was read stands in it from `start` to `end`, and room behind that.
     buffer: Vec<u8>,
@@ -34,7 +34,7 @@ impl<R: OctetRead + Drop> LineReader<R> {
     /// A reader of the lines of a stream.
     ///
     /// AllocError where memory for one line is refused.
-    pub fn new(alloc: Global, reader: R) -> Result<LineReader<R>, AllocError> {
+    pub(crate) fn new(alloc: Global, reader: R) -> Result<LineReader<R>, AllocError> {
         Ok(LineReader {
             reader,
             buffer: vec![in alloc; 0; MOST_LINE]?,
@@ -44,7 +44,7 @@ impl<R: OctetRead + Drop> LineReader<R> {
     }
 
     /// The stream.
-    pub fn reader(&self) -> &R {
+    pub(crate) fn reader(&self) -> &R {
         &self.reader
     }
 
@@ -108,7 +108,7 @@ impl<R: OctetRead + Drop> LineReader<R> {
     /// The next line, without its LF. None at the end of the stream.
     ///
     /// `TooLong` where it has `MOST_LINE` octets or more, `CutOff` where the stream ends before its LF, `Unread` where it can't be read.
-    pub fn next_line(&mut self) -> Result<Option<&[u8]>, LineFault> {
+    pub(crate) fn next_line(&mut self) -> Result<Option<&[u8]>, LineFault> {
         match self.next_range()? {
             Some((from, to)) => Ok(Some(&self.buffer[from..to])),
             None => Ok(None),

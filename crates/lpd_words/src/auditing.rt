@@ -27,8 +27,8 @@ The first segment is taken as it is, or with --after only where it names DIGEST,
 With --printed what printers wrote is compared with the pages that the account says they printed, by length and SHA-256.
 PLACE is the DIR of `serve --out`, for each printer that prints to a file there, or K=PATH, the file or folder of printer K.
 Then a line for each of these printers, and one for each part of a file that nothing is said of:
-  printed 1 pages 12 octets 40961
-  not judged 1 from 40961 to 43008: behind a page that failed
+  printed 1 octets 40961
+  not judged 1: 2047 octets between two runs
 Whoever can write the account can write all of it anew: compare its end with a digest that was kept elsewhere (--ends).
 
 Faults, each with the file and its line, exit status 6: 80 Line, one that can't be read; 81 Entry, one that may not come there;
