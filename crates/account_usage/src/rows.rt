@@ -112,5 +112,6 @@ pub(crate) fn settle(
     };
     let name = first.name.as_slice();
     add_to_row(rows, alloc, name, 1, first.sent, first.printed)?;
-    settle(rows, alloc, rest)
+    settle(rows, alloc, rest)?;
+    Ok(())
 }
