@@ -27,7 +27,12 @@ fn place_of(rows: &[UsageRow], name: &[u8]) -> Option<usize>
     ensures there { IfSome result (λ _. is_among name.now (map row_name rows.now) ≡ true) }
     ensures absent { IfNone result (is_among name.now (map row_name rows.now) ≡ false) }
 {
-    rows.iter().position(|row| row.name.as_slice() == name)
+    let (first, rest) = rows.split_first()?;
+    if first.name.as_slice() == name {
+        return Some(0);
+    }
+    let at = place_of(rest, name)?;
+    Some(at + 1)
 }
 
 /// Adds to the row at a place.
@@ -107,5 +112,6 @@ pub(crate) fn settle(
     };
     let name = first.name.as_slice();
     add_to_row(rows, alloc, name, 1, first.sent, first.printed)?;
-    settle(rows, alloc, rest)
+    settle(rows, alloc, rest)?;
+    Ok(())
 }

@@ -70,14 +70,15 @@ impl UsageTable {
         }
     }
 
-    /// The name of the queue of a number.
-    fn queue_name(&self, queue: u32) -> &[u8] {
-        let Some(before) = queue.checked_sub(1) else {
-            return NO_NAME;
-        };
-        self.queues
-            .get(before as usize)
-            .map_or(NO_NAME, |name| name.as_slice())
+    /// The name of the row that a job of a queue counts in, before its control file comes.
+    fn first_name(&self, alloc: Global, queue: u32) -> Result<Octets, AllocError> {
+        if self.grouping != Grouping::Queue || queue == 0 {
+            return Octets::copy_of(alloc, NO_NAME);
+        }
+        match self.queues.get(queue as usize - 1) {
+            Some(name) => Octets::copy_of(alloc, name.as_slice()),
+            None => Octets::copy_of(alloc, NO_NAME),
+        }
     }
 
     /// A job was accepted.
@@ -85,11 +86,7 @@ impl UsageTable {
         ensures sent { OnOk result (HasSent 0 self.old self.new) }
         ensures printed { OnOk result (HasPrinted 0 self.old self.new) }
     {
-        let name = match self.grouping {
-            Grouping::User | Grouping::Host => NO_NAME,
-            Grouping::Queue => self.queue_name(queue),
-        };
-        let name = Octets::copy_of(alloc, name)?;
+        let name = self.first_name(alloc, queue)?;
         self.held.push(HeldJob {
             number,
             name,

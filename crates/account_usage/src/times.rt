@@ -22,8 +22,8 @@ fn is_before(some: &[u8], others: &[u8]) -> bool
 /// times, so a segment counts whole. Times are in UTC, as `2026-11-26T22:00:00Z`.
 pub fn is_within(origin: &Origin, since: Option<&[u8]>, until: Option<&[u8]>) -> bool
     ensures { IsTrue result
-        ↔ (MatchOption since (Unit {0}) (λ s. T.is_before origin.now.last s.now ≡ false)
-        × MatchOption until (Unit {0}) (λ u. T.is_before u.now origin.now.first ≡ false)) }
+        ↔ (MatchOption since.entry (Unit {0}) (λ s. T.is_before origin.now.last s.now ≡ false)
+        × MatchOption until.entry (Unit {0}) (λ u. T.is_before u.now origin.now.first ≡ false)) }
 {
     let is_early = match since {
         Some(since) => is_before(origin.last.as_slice(), since),

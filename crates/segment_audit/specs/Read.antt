@@ -101,3 +101,11 @@ Refuses fault.Entry after is (OfEvent e) = Meets after is (OfEvent e) → ⊥
 Refuses fault.Entry after is (OfLast l) = Meets after is (OfLast l) → ⊥
 Refuses fault.Follow after is (OfStart s) = Meets after is (OfStart s) → ⊥
 Refuses _ after is i = ⊥
+
+-- with one line more, which is none of the last ones, this is read of its segment; and the one before it is the same
+abbrev pub GoesOn : Part → (after : Option (List ℕ)) → List Item → Item → Type 0
+GoesOn part after is i = Meets after is i × IsPart part (present (i ∷ is)) × (past_of (i ∷ is) ≡ past_of is)
+
+-- a line comes next in the segment that is read
+abbrev pub ComesNext : List Item → Item → Type 0
+ComesNext is i = Suits (stage_of (present is)) i

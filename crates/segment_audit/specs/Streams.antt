@@ -12,7 +12,7 @@ use Rattle.segment_audit.specs.Told.{IsTallyOf}
 
 -- these lines were read, and are audited
 pub record HasAudited (audit : SegmentAudit) (after : Option (List ℕ)) (is : List Item) : Type 0 where
-  pub after : audit.after ≡ after
+  pub asked : audit.after ≡ after
   pub audited : AreAudited after is
   pub lines : audit.lines ≡ length is
   pub reader : HasRead audit.reader (present is)

@@ -1,13 +1,13 @@
 //! How far a segment is read, and what the one before it left.
 
-ghost use Rattle.std.specs.Prelude.{◌≡◌, ◌<◌, ◌≤◌, ◌+◌, ◌^◌, ◌↔◌, ◌⊎◌, ◌∷◌, [], IfOk, IsTrue, List, MatchResult, Option, Some};
+ghost use Rattle.std.specs.Prelude.{◌≡◌, ◌<◌, ◌≤◌, ◌+◌, ◌^◌, ◌↔◌, ◌⊎◌, ◌∷◌, [], ℕ, IfOk, IsTrue, List, MatchResult, Option, Some};
 ghost use Rattle.account.specs.Seen.{event_seen, octets};
 ghost use Rattle.spool_history.specs.Legal.{May};
 ghost use Rattle.segment_text.specs.Items as I;
 ghost use Rattle.segment_text.specs.Items.{item_seen, Item};
 ghost use Rattle.segment_text.specs.Seen.{head_seen};
 ghost use Rattle.segment_audit.specs.Audited as A;
-ghost use Rattle.segment_audit.specs.Read.{entries_in, HasEntries, IsLeft, IsPart, IsPast, IsPlace, Refuses, start_behind};
+ghost use Rattle.segment_audit.specs.Read.{ComesNext, entries_in, GoesOn, HasEntries, IsBegun, IsHeaded, IsLeft, IsPart, IsPast, IsPlace, Refuses, start_behind};
 
 use crate::copies::{copy_config, copy_origin, copy_printer, copy_start};
 use crate::fault::AuditFault;
@@ -103,6 +103,75 @@ fn begin_entries(
     Ok(Part::Entries(head, audit))
 }
 
+/// The first line of a segment.
+fn begin(alloc: Global, got: &SegmentLine) -> Result<Part, AuditFault>
+    ensures read { (after : Option (List ℕ)) (is : List Item) → A.present is ≡ []
+        → ComesNext is (item_seen got.now) → MatchResult result
+        (λ part. GoesOn part after is (item_seen got.now))
+        (λ f. Refuses f after is (item_seen got.now)) }
+    ensures few { IfOk result (λ part. entries_in part ≡ 0) }
+{
+    match got {
+        SegmentLine::Origin(origin) => {
+            let origin = copy_origin(alloc, origin)?;
+            Ok(Part::Begun(origin))
+        }
+        _ => Err(AuditFault::Line),
+    }
+}
+
+/// The line behind the first one.
+fn add_config(origin: Origin, alloc: Global, got: &SegmentLine) -> Result<Part, AuditFault>
+    ensures read { (after : Option (List ℕ)) (is : List Item) → IsBegun origin (A.present is)
+        → ComesNext is (item_seen got.now) → MatchResult result
+        (λ part. GoesOn part after is (item_seen got.now))
+        (λ f. Refuses f after is (item_seen got.now)) }
+    ensures few { IfOk result (λ part. entries_in part ≡ 0) }
+{
+    match got {
+        SegmentLine::Config(config) => {
+            let config = copy_config(alloc, config)?;
+            Ok(Part::Headed(origin, config, Vec::new(alloc)))
+        }
+        _ => Err(AuditFault::Line),
+    }
+}
+
+/// A printer's line, or the one behind those.
+fn add_to_head(
+    headed: (Origin, Config, Vec<PrinterPlace>),
+    after: &Option<[u8; 32]>,
+    past: &Option<Past>,
+    alloc: Global,
+    got: &SegmentLine,
+) -> Result<Part, AuditFault>
+    ensures read { (is : List Item) → IsHeaded headed.0 headed.1 headed.2.items (A.present is)
+        → IsPast past.now (A.past_of is) → ComesNext is (item_seen got.now) → MatchResult result
+        (λ part. GoesOn part after.now is (item_seen got.now))
+        (λ f. Refuses f after.now is (item_seen got.now)) }
+    ensures few { IfOk result (λ part. entries_in part ≡ 0) }
+{
+    let (origin, config, mut printers) = headed;
+    match got {
+        SegmentLine::Printer(printer) => {
+            let printer = copy_printer(alloc, printer)?;
+            printers.push(printer)?;
+            Ok(Part::Headed(origin, config, printers))
+        }
+        SegmentLine::Start(start) => {
+            let start = copy_start(alloc, start)?;
+            let head = Head {
+                origin,
+                config,
+                printers,
+                start,
+            };
+            begin_entries(head, after, past, alloc)
+        }
+        _ => Err(AuditFault::Line),
+    }
+}
+
 /// Reads one entry more.
 fn step(head: Head, audit: Audit, alloc: Global, entry: &Entry) -> Result<Part, AuditFault>
     requires { audit.entries < 2 ^ 63 }
@@ -146,6 +215,31 @@ fn end(head: Head, audit: Audit, alloc: Global, last: &Last) -> Result<Place, Au
     })
 }
 
+/// A line where an entry may stand.
+fn read_body(
+    head: Head,
+    audit: Audit,
+    past: Option<Past>,
+    alloc: Global,
+    got: &SegmentLine,
+) -> Result<Place, AuditFault>
+    requires { audit.entries < 2 ^ 63 }
+    ensures read { (after : Option (List ℕ)) (is : List Item) → HasEntries head audit (A.present is)
+        → IsPast past (A.past_of is) → ComesNext is (item_seen got.now) → MatchResult result
+        (λ place. A.Meets after is (item_seen got.now) × IsPlace place (item_seen got.now ∷ is))
+        (λ f. Refuses f after is (item_seen got.now)) }
+    ensures few { IfOk result (λ place. entries_in place.part ≤ audit.entries + 1) }
+{
+    match got {
+        SegmentLine::Entry(entry) => {
+            let part = step(head, audit, alloc, entry)?;
+            Ok(Place { past, part })
+        }
+        SegmentLine::Last(last) => end(head, audit, alloc, last),
+        _ => Err(AuditFault::Line),
+    }
+}
+
 impl Place {
     /// Where no line was read.
     pub(crate) fn begin() -> Place
@@ -167,42 +261,20 @@ impl Place {
     ) -> Result<Place, AuditFault>
         requires { entries_in self.part < 2 ^ 63 }
         ensures read { (is : List Item) → IsPlace self is
-            → I.Suits (I.stage_of (A.present is)) (item_seen got.now) → MatchResult result
+            → ComesNext is (item_seen got.now) → MatchResult result
             (λ place. A.Meets after.now is (item_seen got.now)
             × IsPlace place (item_seen got.now ∷ is))
             (λ f. Refuses f after.now is (item_seen got.now)) }
         ensures few { IfOk result (λ place. entries_in place.part ≤ entries_in self.part + 1) }
     {
         let Place { past, part } = self;
-        let part = match (part, got) {
-            (Part::Entries(head, audit), SegmentLine::Last(last)) => {
-                return end(head, audit, alloc, last);
+        let part = match part {
+            Part::Between => begin(alloc, got)?,
+            Part::Begun(origin) => add_config(origin, alloc, got)?,
+            Part::Headed(origin, config, printers) => {
+                add_to_head((origin, config, printers), after, &past, alloc, got)?
             }
-            (Part::Entries(head, audit), SegmentLine::Entry(entry)) => {
-                step(head, audit, alloc, entry)?
-            }
-            (Part::Between, SegmentLine::Origin(origin)) => {
-                Part::Begun(copy_origin(alloc, origin)?)
-            }
-            (Part::Begun(origin), SegmentLine::Config(config)) => {
-                Part::Headed(origin, copy_config(alloc, config)?, Vec::new(alloc))
-            }
-            (Part::Headed(origin, config, mut printers), SegmentLine::Printer(printer)) => {
-                printers.push(copy_printer(alloc, printer)?)?;
-                Part::Headed(origin, config, printers)
-            }
-            (Part::Headed(origin, config, printers), SegmentLine::Start(start)) => {
-                let start = copy_start(alloc, start)?;
-                let head = Head {
-                    origin,
-                    config,
-                    printers,
-                    start,
-                };
-                begin_entries(head, after, &past, alloc)?
-            }
-            // No other line comes next in a segment that is read so far.
-            _ => return Err(AuditFault::Line),
+            Part::Entries(head, audit) => return read_body(head, audit, past, alloc, got),
         };
         Ok(Place { past, part })
     }
