@@ -1,8 +1,9 @@
 -- Ten digits of a number, and the zeros that they begin with.
 use Rattle.std.proofs.Common.{◌≡◌, ◌==◌, ◌<◌, ◌≤◌, ◌+◌, ◌-◌, ◌^◌, ◌++◌, ◌∙◌, ℕ, zero, suc, Option, Some, None, MatchOption, Bool, true, false, List, [], ◌∷◌, get_or, length, replicate, refl, sym, ap, subst, arith}
-use Rattle.std.specs.Fmt.{decimal}
-use Rattle.std.proofs.lemmas.Fmt.{decimal_nonempty, first_decimal}
-use Rattle.std.proofs.lemmas.List.{length-append, length-replicate}
+use native.Mathlib.Numerals.{unary_clauses}
+use Rattle.std.specs.Fmt.{before_digits, char_count, decimal, format_spec, number_padding, padded_integral, sign_text_with, shown_prefix, styled_decimal}
+use Rattle.std.proofs.lemmas.Fmt.{decimal_digit, first_decimal}
+use Rattle.std.proofs.lemmas.List.{append-nil, length-append, length-replicate}
 use Rattle.std.proofs.lemmas.Grind.{common_steps}
 use Rattle.account_folder.specs.Names.{AreOfNone, IsNumber, ten_digits, without_zeros}
 
@@ -63,7 +64,7 @@ of_number digits n ten is = (same, (positive n is, fits))
     same = parts.1 ∙ ap (λ (k : ℕ). replicate k 48 ++ decimal n) zeros
 
     positive : (m : ℕ) → without_zeros digits ≡ decimal m → 0 < m
-    positive zero h = absurd (no_zero_left digits h)
+    positive zero h = absurd (no_zero_left digits (h ∙ decimal_digit 0 (omega arith)))
     positive (suc m) h = omega arith
 
 -- and where they leave those of no number, they are those of none
@@ -75,3 +76,8 @@ of_none digits none n small is same =
 pub told : (o : Option ℕ) (digits rest : List ℕ) → length digits ≡ 10 → rest ≡ without_zeros digits → MatchOption o ((n : ℕ) → n < 2 ^ 64 → rest ≡ decimal n → ⊥) (λ n. rest ≡ decimal n) → MatchOption o (AreOfNone digits) (λ n. (digits ≡ ten_digits n) × IsNumber n)
 told None digits rest ten is none = of_none digits (λ n small h. none n small (is ∙ h))
 told (Some n) digits rest ten is same = of_number digits n ten (sym is ∙ same)
+
+-- what `{:010}` writes
+pub padded : (n : ℕ) → styled_decimal (format_spec 32 0 4 10 18446744073709551615) n ≡ ten_digits n
+unfolding padded_integral char_count
+padded n = simp unary_clauses (ap (λ (l : List ℕ). replicate (10 - length (decimal n)) 48 ++ l) (append-nil (decimal n)))

@@ -1,8 +1,5 @@
-use Rattle.std.proofs.Common.{◌≡◌, ◌++◌, ℕ, List, []}
-use Rattle.account_folder.specs.Names.{ten_digits}
+use Rattle.account_folder.proofs.NameLemmas.{padded}
 use Rattle.account_folder.proofs.names.SegmentNameDisplay.fmt.Goals as goal
 
 pub returns-clause-writes : goal.returns-clause-writes
-returns-clause-writes g c = λ plain ok.
-    let w = c.write.ensures.writes plain ok in
-    ?
+returns-clause-writes g c = λ plain ok. rw (← padded c.args.self.now.number) (rw c.laid_out.ensures at c.write.ensures.writes plain ok)
