@@ -7,42 +7,33 @@ use std::{fmt, io};
 
 /// A segment wasn't put away: at which file that failed, and why.
 #[derive(Clone, Copy)]
-pub struct WriteFault<'a> {
-    folder: &'a str,
+pub struct WriteFault {
     name: Option<SegmentName>,
     /// What the system says of it.
     pub cause: io::Error,
 }
 
-impl<'a> WriteFault<'a> {
+impl WriteFault {
     /// It failed at the file that was to get this name, or where none is given at the folder.
-    pub(crate) fn new(
-        folder: &'a str,
-        name: Option<SegmentName>,
-        cause: io::Error,
-    ) -> WriteFault<'a> {
-        WriteFault {
-            folder,
-            name,
-            cause,
-        }
+    pub(crate) fn new(name: Option<SegmentName>, cause: io::Error) -> WriteFault {
+        WriteFault { name, cause }
     }
 }
 
-impl Display for WriteFault<'_> {
+impl Display for WriteFault {
     fn fmt<W: Write>(&self, f: &mut Formatter<W>) -> fmt::Result {
-        let (folder, cause) = (self.folder, &self.cause);
+        let cause = &self.cause;
         match &self.name {
-            Some(name) => write!(f, "{folder}/{name}: {cause}"),
-            None => write!(f, "{folder}: {cause}"),
+            Some(name) => write!(f, "{name}: {cause}"),
+            None => Display::fmt(cause, f),
         }
     }
 }
 
-impl Debug for WriteFault<'_> {
+impl Debug for WriteFault {
     fn fmt<W: Write>(&self, f: &mut Formatter<W>) -> fmt::Result {
         Display::fmt(self, f)
     }
 }
 
-impl Error for WriteFault<'_> {}
+impl Error for WriteFault {}

@@ -56,10 +56,9 @@ impl Display for PutAway {
 
 /// A folder of segments, which one server has at a time, and the segment in hand that is to become a file of it.
 #[derive(Drop)]
-pub struct AccountFolder<'a, R> {
-    rt: &'a R,
+pub struct AccountFolder {
     alloc: Global,
-    path: &'a str,
+    path: String,
     folder: File,
     // Held while the server has the folder.
     _lock: File,
@@ -102,7 +101,7 @@ fn head_of(
     }
 }
 
-impl<'a, R: Files<File = File>> AccountFolder<'a, R> {
+impl AccountFolder {
     /// The folder at this path, which is made where nothing is there, for a run of this configuration and of these printers that
     /// begins at this time. Temporary files that a server has left are removed.
     ///
@@ -110,14 +109,14 @@ impl<'a, R: Files<File = File>> AccountFolder<'a, R> {
     ///
     /// `InUse` where another server has it; `Broken` where its last segment isn't whole; `Full` where no number is left; `Failed`
     /// where it can't be made, opened or read, or memory is refused.
-    pub fn open(
-        rt: &'a R,
+    pub fn open<R: Files<File = File>>(
+        rt: &R,
         alloc: Global,
-        path: &'a str,
+        path: &str,
         config: Config,
         printers: Vec<PrinterPlace>,
         begun: SystemTime,
-    ) -> Result<AccountFolder<'a, R>, OpenError> {
+    ) -> Result<AccountFolder, OpenError> {
         make_folder(rt, alloc, path)?;
         let lock = take_lock(rt, alloc, path)?;
         let listing = list(rt, alloc, path)?;
@@ -127,9 +126,8 @@ impl<'a, R: Files<File = File>> AccountFolder<'a, R> {
         }
         let next = next_in(rt, alloc, path, &listing)?;
         Ok(AccountFolder {
-            rt,
             alloc,
-            path,
+            path: String::from_str(alloc, path).map_err(io::Error::from)?,
             folder: File::open(rt, path)?,
             _lock: lock,
             next: Some(next.name),
@@ -139,11 +137,6 @@ impl<'a, R: Files<File = File>> AccountFolder<'a, R> {
             entries: Vec::new(alloc),
             is_in_hand: false,
         })
-    }
-
-    /// The folder's path.
-    pub fn path(&self) -> &'a str {
-        self.path
     }
 
     /// Takes a segment in hand, which was closed at this time. One that was in hand is let go.
@@ -169,7 +162,7 @@ impl<'a, R: Files<File = File>> AccountFolder<'a, R> {
     }
 
     /// Writes the segment in hand into a file at this path, and has that on the disk. Answers the digest that it ends in.
-    fn write(&mut self, path: &str) -> io::Result<[u8; 32]> {
+    fn write<R: Files<File = File>>(&mut self, rt: &R, path: &str) -> io::Result<[u8; 32]> {
         self.head.origin.first = stamp(self.alloc, self.begun)?;
         self.head.origin.last = stamp(self.alloc, self.closed)?;
         let mut options = OpenOptions::new();
@@ -178,7 +171,7 @@ impl<'a, R: Files<File = File>> AccountFolder<'a, R> {
             .create(true)
             .truncate(true)
             .mode(FILE_MODE);
-        let mut output = StreamWriter::new(options.open(self.rt, path)?);
+        let mut output = StreamWriter::new(options.open(rt, path)?);
         let entries = self.entries.as_slice();
         let written = write_segment(self.alloc, &self.head, entries, &mut output);
         let cause = output.cause();
@@ -193,19 +186,21 @@ impl<'a, R: Files<File = File>> AccountFolder<'a, R> {
     }
 
     /// Writes the segment in hand under another name, and gives it this one.
-    fn make_file(&mut self, name: SegmentName) -> io::Result<[u8; 32]> {
-        let path = self.path;
+    fn make_file<R: Files<File = File>>(
+        &mut self,
+        rt: &R,
+        name: SegmentName,
+    ) -> io::Result<[u8; 32]> {
+        let path = self.path.as_str();
         let temporary = format!(in self.alloc; "{path}/{name}.tmp")?;
         let whole = format!(in self.alloc; "{path}/{name}")?;
-        let made = match self.write(temporary.as_str()) {
-            Ok(digest) => {
-                fs::rename(self.rt, temporary.as_str(), whole.as_str()).map(|()| digest)
-            }
+        let made = match self.write(rt, temporary.as_str()) {
+            Ok(digest) => { fs::rename(rt, temporary.as_str(), whole.as_str()).map(|()| digest) }
             Err(cause) => Err(cause),
         };
         if made.is_err() {
             // Half a file takes room where that may be wanting. The next try makes it anew in any case.
-            let _ = fs::remove_file(self.rt, temporary.as_str());
+            let _ = fs::remove_file(rt, temporary.as_str());
         }
         made
     }
@@ -213,20 +208,23 @@ impl<'a, R: Files<File = File>> AccountFolder<'a, R> {
     /// Makes the segment in hand a file, and has the file and its name on the disk. None where none is in hand.
     ///
     /// An error with the file, or the folder, and the cause where that fails: the segment is still in hand then, and this can be called again.
-    pub fn put_away(&mut self) -> Result<Option<PutAway>, WriteFault<'a>> {
+    pub fn put_away<R: Files<File = File>>(
+        &mut self,
+        rt: &R,
+    ) -> Result<Option<PutAway>, WriteFault> {
         if !self.is_in_hand {
             return Ok(None);
         }
         let Some(name) = self.next else {
             let cause = io::Error::new(io::ErrorKind::Other, "no number is left");
-            return Err(WriteFault::new(self.path, None, cause));
+            return Err(WriteFault::new(None, cause));
         };
-        let digest = match self.make_file(name) {
+        let digest = match self.make_file(rt, name) {
             Ok(digest) => digest,
-            Err(cause) => return Err(WriteFault::new(self.path, Some(name), cause)),
+            Err(cause) => return Err(WriteFault::new(Some(name), cause)),
         };
         if let Err(cause) = self.folder.sync_all() {
-            return Err(WriteFault::new(self.path, None, cause));
+            return Err(WriteFault::new(None, cause));
         }
         let (run, segment) = (self.head.origin.run, self.head.origin.segment);
         let entries = self.entries.len() as u64;

@@ -13,6 +13,6 @@ mod writing;
 
 pub use fault::WriteFault;
 pub use folder::{AccountFolder, PutAway};
-pub use looking::{FolderState, look};
+pub use looking::{AccountState, look};
 pub use names::SegmentName;
 pub use opening::OpenError;

@@ -9,7 +9,7 @@ use std::io;
 
 /// What stands at a path where a server is to write its account.
 #[derive(Clone, Copy, Debug, PartialEq, Eq)]
-pub enum FolderState {
+pub enum AccountState {
     /// Nothing: a server would make the folder.
     Absent,
     /// A folder that a server would take.
@@ -55,17 +55,17 @@ pub fn look<R: Files<File = File>>(
     rt: &R,
     alloc: Global,
     path: &str,
-) -> Result<FolderState, OpenError> {
+) -> Result<AccountState, OpenError> {
     let listing = match list(rt, alloc, path) {
         Ok(listing) => listing,
         Err(cause) if cause.kind() == io::ErrorKind::NotFound => {
             rt.open_dir(folder_above(path))?;
-            return Ok(FolderState::Absent);
+            return Ok(AccountState::Absent);
         }
         Err(cause) => return Err(OpenError::Failed(cause)),
     };
     check_lock(rt, alloc, path)?;
     next_in(rt, alloc, path, &listing)?;
     let segments = listing.segments;
-    Ok(FolderState::Present { segments })
+    Ok(AccountState::Present { segments })
 }

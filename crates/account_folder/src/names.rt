@@ -1,7 +1,7 @@
 //! How the files of a folder are named.
 
 ghost use Rattle.std.specs.Prelude.{◌≡◌, ◌<◌, ◌≤◌, ◌+◌, ◌++◌, ℕ, List, MatchOption, codes};
-ghost use Rattle.account_folder.specs.Names.{IsNoName, IsNumber, written, without_zeros};
+ghost use Rattle.account_folder.specs.Names.{AreOfNone, IsNoName, IsNumber, ten_digits, without_zeros, written};
 
 use decimals::read_decimal;
 use std::fmt;
@@ -48,6 +48,17 @@ fn without_zeros(digits: &[u8]) -> &[u8]
     }
 }
 
+/// The number that ten digits write. None where they are those of none that a file may have.
+fn number_in(digits: &[u8]) -> Option<u64>
+    ensures { MatchOption result (AreOfNone digits.now) (λ n.
+        (digits.now ≡ ten_digits n) × IsNumber n) }
+{
+    if digits.len() != DIGITS {
+        return None;
+    }
+    read_decimal(without_zeros(digits))
+}
+
 impl SegmentName {
     /// The name that these octets are. None where they are that of no segment's file.
     pub fn parse(octets: &[u8]) -> Option<SegmentName>
@@ -55,10 +66,7 @@ impl SegmentName {
             (octets.now ≡ written name.number) × IsNumber name.number) }
     {
         let digits = behind_word(octets)?;
-        if digits.len() != DIGITS {
-            return None;
-        }
-        let number = read_decimal(without_zeros(digits))?;
+        let number = number_in(digits)?;
         Some(SegmentName { number })
     }
 

@@ -7,7 +7,7 @@ use crate::configuration::copy_of;
 use crate::faults::Fault;
 use crate::house::House;
 use crate::places::{Opened, told_places};
-use account_folder::{AccountFolder, PutAway, WriteFault};
+use account_folder::{AccountFolder, WriteFault};
 use config_values::Config;
 use log::{Log, error, info, warn};
 use program_edge::Settings;
@@ -18,8 +18,8 @@ use std::fs::{File, Files};
 use std::rt::Clock;
 use std::sync::ledger::Ledger;
 use std::sync::{Condvar, Mutex, Wait};
-use std::time::{Duration, Instant, SystemTime, UNIX_EPOCH};
 use std::thread;
+use std::time::{Duration, Instant, SystemTime, UNIX_EPOCH};
 
 /// The part of the program that logs each segment that became a file.
 pub const ACCOUNT_LINES: &str = "lpd_daemon::archiving";
@@ -87,9 +87,10 @@ impl Shelf {
 
 /// Where the account's segments become files.
 #[derive(Drop)]
-pub(crate) struct Archive<'a, R> {
+pub(crate) struct Archive<'a> {
+    path: &'a str,
     // Held by who writes, and so for long: by the archivist, and once it has ended by who ends the server.
-    folder: Mutex<AccountFolder<'a, R>>,
+    folder: Mutex<AccountFolder>,
     shelf: Mutex<Shelf>,
     changed: Condvar,
 }
@@ -114,13 +115,13 @@ fn refused<R: Log, W: Display>(rt: &R, alloc: Global, path: &str, why: &W) -> Fa
 /// while the server runs, that is logged: then there is one file, at the end.
 ///
 /// PrinterFile with the path where it can't be used, or another server has it, of which the log is told why; Memory.
-pub(crate) fn open_archive<'a, R: Files<File = File> + Clock + Log + Wait>(
-    rt: &'a R,
+pub(crate) fn open_archive<'a, R: Files<File = File> + Clock + Log>(
+    rt: &R,
     alloc: Global,
     settings: &Settings<'a>,
     config: &Config,
     places: &[Opened],
-) -> Result<Option<Archive<'a, R>>, Fault>
+) -> Result<Option<Archive<'a>>, Fault>
     ensures { IfErr result IsOpeningFault }
 {
     let Some(path) = settings.account else {
@@ -129,7 +130,10 @@ pub(crate) fn open_archive<'a, R: Files<File = File> + Clock + Log + Wait>(
     if !settings.keep_room && settings.rotate.is_none() {
         warn!(rt; "{path}: the account is kept, but never rotated: without --keep-room or --rotate it is written at the end alone, and no job is taken once it is full");
     }
-    let (config, printers) = (copy_of(alloc, config)?, told_places(alloc, settings, places)?);
+    let (config, printers) = (
+        copy_of(alloc, config)?,
+        told_places(alloc, settings, places)?,
+    );
     let waiting = Vec::with_capacity(alloc, MOST_WAITING + 2)?;
     let folder = match AccountFolder::open(rt, alloc, path, config, printers, time_of(rt)) {
         Ok(folder) => folder,
@@ -143,20 +147,21 @@ pub(crate) fn open_archive<'a, R: Files<File = File> + Clock + Log + Wait>(
         last_tries: None,
     };
     Ok(Some(Archive {
+        path,
         folder: Mutex::new(folder),
         shelf: Mutex::new(shelf),
         changed: Condvar::new(),
     }))
 }
 
-impl<R: Clock + Log + Wait> Archive<'_, R> {
+impl Archive<'_> {
     /// Takes a place for a segment. False where all are taken.
-    fn promise(&self, rt: &R) -> bool {
+    fn promise<R: Wait>(&self, rt: &R) -> bool {
         self.shelf.lock(rt).promise()
     }
 
     /// Takes a place for a segment as soon as there is one. False once no place is waited for any more.
-    fn promise_wait(&self, rt: &R) -> bool {
+    fn promise_wait<R: Wait>(&self, rt: &R) -> bool {
         let mut shelf = self.shelf.lock(rt);
         for _ in rt.forever() {
             if shelf.is_closed {
@@ -171,14 +176,14 @@ impl<R: Clock + Log + Wait> Archive<'_, R> {
     }
 
     /// Gives a place back.
-    fn give_back(&self, rt: &R) {
+    fn give_back<R: Wait>(&self, rt: &R) {
         let mut shelf = self.shelf.lock(rt);
         shelf.promised = shelf.promised.saturating_sub(1);
         self.changed.notify_all();
     }
 
     /// A segment waits from now on.
-    fn add(&self, rt: &R, segment: Segment) {
+    fn add<R: Clock + Log + Wait>(&self, rt: &R, segment: Segment) {
         let closed = time_of(rt);
         let (number, entries) = (segment.number, segment.entries.len());
         if self
@@ -194,19 +199,19 @@ impl<R: Clock + Log + Wait> Archive<'_, R> {
     }
 
     /// Nobody waits for a place any more.
-    fn close(&self, rt: &R) {
+    fn close<R: Wait>(&self, rt: &R) {
         self.shelf.lock(rt).is_closed = true;
         self.changed.notify_all();
     }
 
     /// Nothing is waited for any more. What is left is tried this often at the end.
-    fn finish(&self, rt: &R, tries: u32) {
+    fn finish<R: Wait>(&self, rt: &R, tries: u32) {
         self.shelf.lock(rt).last_tries = Some(tries);
         self.changed.notify_all();
     }
 
     /// The segment that is written next, which is waited for. None once nothing is waited for any more.
-    fn next(&self, rt: &R) -> Option<Shelved> {
+    fn next<R: Wait>(&self, rt: &R) -> Option<Shelved> {
         let mut shelf = self.shelf.lock(rt);
         for _ in rt.forever() {
             if shelf.last_tries.is_some() {
@@ -222,7 +227,7 @@ impl<R: Clock + Log + Wait> Archive<'_, R> {
     }
 
     /// Waits for so many seconds. False once nothing is waited for any more.
-    fn pause(&self, rt: &R, seconds: u64) -> bool {
+    fn pause<R: Clock + Wait>(&self, rt: &R, seconds: u64) -> bool {
         let limit = Duration::from_secs(seconds);
         let shelf = self.shelf.lock(rt);
         let (shelf, _) = self
@@ -232,16 +237,12 @@ impl<R: Clock + Log + Wait> Archive<'_, R> {
     }
 }
 
-impl<'a, R: Files<File = File> + Clock + Log + Wait> Archive<'a, R> {
+impl Archive<'_> {
     /// Tries once to make the segment in hand a file, and has the log told of that.
-    fn try_once(&self, rt: &R) -> Result<(), WriteFault<'a>> {
-        let (path, put_away) = {
-            let mut folder = self.folder.lock(rt);
-            let put_away = folder.put_away();
-            (folder.path(), put_away)
-        };
-        let put_away: Option<PutAway> = put_away?;
+    fn try_once<R: Files<File = File> + Log + Wait>(&self, rt: &R) -> Result<(), WriteFault> {
+        let put_away = self.folder.lock(rt).put_away(rt)?;
         if let Some(put_away) = put_away {
+            let path = self.path;
             info!(rt; "account {path}/{put_away}");
         }
         Ok(())
@@ -249,7 +250,7 @@ impl<'a, R: Files<File = File> + Clock + Log + Wait> Archive<'a, R> {
 
     /// Makes the segment in hand a file, again and again until that is done. Where it fails that is logged, once a minute at most.
     /// False where nothing is waited for any more: the segment is still in hand then.
-    fn write(&self, rt: &R) -> bool {
+    fn write<R: Files<File = File> + Clock + Log + Wait>(&self, rt: &R) -> bool {
         let mut pause = FIRST_PAUSE;
         let mut told: Option<Instant> = None;
         for _ in rt.forever() {
@@ -258,7 +259,8 @@ impl<'a, R: Files<File = File> + Clock + Log + Wait> Archive<'a, R> {
             };
             let now = Instant::now(rt).ok();
             if is_due(told, now) {
-                warn!(rt; "account {fault}: the segment is kept, and is tried again");
+                let path = self.path;
+                warn!(rt; "account {path}: {fault}: the segment is kept, and is tried again");
                 told = now;
             }
             if !self.pause(rt, pause) {
@@ -270,7 +272,7 @@ impl<'a, R: Files<File = File> + Clock + Log + Wait> Archive<'a, R> {
     }
 
     /// Has segments become files, until nothing is waited for any more.
-    fn write_all(&self, rt: &R) {
+    fn write_all<R: Files<File = File> + Clock + Log + Wait>(&self, rt: &R) {
         for _ in rt.forever() {
             let Some(Shelved { segment, closed }) = self.next(rt) else {
                 break;
@@ -283,7 +285,11 @@ impl<'a, R: Files<File = File> + Clock + Log + Wait> Archive<'a, R> {
     }
 
     /// Tries this often to make the segment in hand a file.
-    fn try_often(&self, rt: &R, tries: u32) -> Result<(), WriteFault<'a>> {
+    fn try_often<R: Files<File = File> + Clock + Log + Wait>(
+        &self,
+        rt: &R,
+        tries: u32,
+    ) -> Result<(), WriteFault> {
         let mut pause = FIRST_PAUSE;
         for _ in 1..tries {
             if self.try_once(rt).is_ok() {
@@ -299,7 +305,11 @@ impl<'a, R: Files<File = File> + Clock + Log + Wait> Archive<'a, R> {
     /// doesn't is gone, and the log is told of it.
     ///
     /// It is called once the archivist has ended.
-    pub(crate) fn end(&self, rt: &R, last: Option<Segment>) {
+    pub(crate) fn end<R: Files<File = File> + Clock + Log + Wait>(
+        &self,
+        rt: &R,
+        last: Option<Segment>,
+    ) {
         let tries = self.shelf.lock(rt).last_tries.unwrap_or(LAST_TRIES);
         if let Some(segment) = last {
             self.add(rt, segment);
@@ -307,7 +317,8 @@ impl<'a, R: Files<File = File> + Clock + Log + Wait> Archive<'a, R> {
         let mut ended = self.try_often(rt, tries);
         for _ in 0..u64::MAX {
             if let Err(fault) = &ended {
-                error!(rt; "account {fault}: the segment isn't written, and its entries are gone");
+                let path = self.path;
+                error!(rt; "account {path}: {fault}: the segment isn't written, and its entries are gone");
                 break;
             }
             let Some(Shelved { segment, closed }) = self.shelf.lock(rt).take() else {
@@ -320,8 +331,8 @@ impl<'a, R: Files<File = File> + Clock + Log + Wait> Archive<'a, R> {
     }
 
     /// Tells which segments aren't written since one before them isn't.
-    fn tell_gone(&self, rt: &R) {
-        let path = self.folder.lock(rt).path();
+    fn tell_gone<R: Log + Wait>(&self, rt: &R) {
+        let path = self.path;
         for _ in 0..u64::MAX {
             let Some(Shelved { segment, .. }) = self.shelf.lock(rt).take() else {
                 break;
@@ -384,7 +395,11 @@ impl<R: Clock + Log + Wait, E: SpoolLedger, K: Ledger, H: Ledger> House<'_, R, E
     /// The archivist ends: nobody rotates the account any more.
     pub(crate) fn end_archiving(&self) {
         if let Some(archive) = &self.archive {
-            let tries = if self.ending.cuts_off() { 1 } else { LAST_TRIES };
+            let tries = if self.ending.cuts_off() {
+                1
+            } else {
+                LAST_TRIES
+            };
             archive.finish(self.rt, tries);
         }
     }

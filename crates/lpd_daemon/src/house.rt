@@ -44,7 +44,7 @@ pub(crate) struct House<'a, R, E: SpoolLedger, K: Ledger, H: Ledger> {
     /// Where jobs are kept until they are printed, if they are.
     pub(crate) kept: Option<Kept<'a, R>>,
     /// Where the account's segments become files, if they do.
-    pub(crate) archive: Option<Archive<'a, R>>,
+    pub(crate) archive: Option<Archive<'a>>,
     /// What is noted of each job, where the log has lines of them or the status is shown.
     pub(crate) job_book: Option<JobBook>,
     /// What is known of the thread that shows the status, where there is one.

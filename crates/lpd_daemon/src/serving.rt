@@ -75,7 +75,7 @@ fn finish<
     spool: SharedSpool<E, K, H>,
     seats: Seats<E, K, H>,
     told: Result<(), Fault>,
-    archive: Option<&Archive<'_, R>>,
+    archive: Option<&Archive<'_>>,
     output: &mut W,
 ) -> Result<(), Fault>
     ensures before { OnOk result (told ≡ Ok tt) }
@@ -177,7 +177,7 @@ struct Server<'a, R> {
     port: u16,
     places: Vec<Opened>,
     kept: Option<Kept<'a, R>>,
-    archive: Option<Archive<'a, R>>,
+    archive: Option<Archive<'a>>,
     counter: Counter,
     // Where the status is asked for, if it is shown, and what wakes who shows it.
     board: Option<(Board, Waker)>,

@@ -10,7 +10,7 @@ use Rattle.lpd_words.specs.declared.checking.Checking.{Checking}
 abbrev pub check_words : List Rule
 check_words =
     word (codes "config") ∷ flag (codes "sizes") ∷ printer ∷ option (codes "out") ∷ option (codes "control")
-    ∷ option (codes "spool") ∷ []
+    ∷ option (codes "spool") ∷ option (codes "account") ∷ []
 
 abbrev pub check_app : App
 check_app = with_rules (new_app (codes "check")) check_words
@@ -23,3 +23,4 @@ pub record IsChecking (rows : List Row) (checking : Checking) : Type 0 where
   pub out : option_map (λ path. path.now) checking.out ≡ first_of (codes "out") rows
   pub control : IsControl rows (option_map (λ path. path.now) checking.control)
   pub spool : option_map (λ path. path.now) checking.spool ≡ first_of (codes "spool") rows
+  pub account : option_map (λ path. path.now) checking.account ≡ first_of (codes "account") rows

@@ -22,10 +22,11 @@ With --sizes a line more for each queue, as: queue lp jobs 622
 So many jobs fit into the account, each as large as the queue allows, between two moments without held jobs.
 With --printer, whose PLACE `serve --help` tells, a line more for each printer, as: printer 1 socket://10.0.0.9:9100
 A printer without a PLACE prints to a file of the directory that `serve --out DIR` names: printer 2 DIR/printer-2
-With --out, --control and --spool at last a line for each, in this order, as:
+With --out, --control, --spool and --account at last a line for each, in this order, as:
   out DIR is there
   control PATH will be made
   spool DIR waiting 3 failed 0, or where it isn't there: spool DIR will be made
+  account DIR segments 7, or where it isn't there: account DIR will be made
 Nothing is made or changed. Where `serve` couldn't take DIR or PATH, as where a server answers at PATH, the fault is told
 that it would have, for --out with DIR alone. Whether a file can be made in a folder isn't tried.
 
@@ -53,6 +54,8 @@ pub struct Checking<'a> {
     pub control: Option<&'a str>,
     /// The folder in which a server is to keep jobs, where it is said what stands in it.
     pub spool: Option<&'a str>,
+    /// The folder in which a server is to write its account, where it is said what stands in it.
+    pub account: Option<&'a str>,
 }
 
 /// The command that reads a configuration.
@@ -64,6 +67,7 @@ pub(crate) fn check<'a>(alloc: Global) -> Result<Command<'a>, AllocError>
     let out = "Says that the directory of the printers' files is there";
     let control = "Says that a server could make its control socket at PATH";
     let spool = "Says how many jobs wait in DIR, where a server keeps them, and how many failed";
+    let account = "Says how many segments of its account a server has written in DIR";
     let words = vec![in alloc;
         word(alloc, "config", "CONFIG", CONFIG),
         flag(alloc, "sizes", sizes),
@@ -71,6 +75,7 @@ pub(crate) fn check<'a>(alloc: Global) -> Result<Command<'a>, AllocError>
         option(alloc, "out", "DIR", out),
         option(alloc, "control", "PATH", control),
         option(alloc, "spool", "DIR", spool),
+        option(alloc, "account", "DIR", account),
     ]?;
     with_words(plain(alloc, "check", about, MORE_OF_CHECK), words)
 }
@@ -91,5 +96,6 @@ pub(crate) fn checking_of<'a>(
         out: text_if(matches, "out"),
         control: control_of(alloc, matches)?,
         spool: text_if(matches, "spool"),
+        account: text_if(matches, "account"),
     })
 }

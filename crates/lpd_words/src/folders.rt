@@ -1,14 +1,16 @@
 //! What stands in the folders of a server is said.
 
+ghost use Rattle.account_folder.specs.declared.looking.AccountState.{AccountState};
 ghost use Rattle.std.specs.Prelude.{◌≡◌, ◌≢◌, IfErr, IfOk, OnOk, string_bytes};
 ghost use Rattle.job_disk.specs.declared.looking.FolderState.{FolderState};
 ghost use Rattle.lpd_commands.specs.Ends.{Writes};
-ghost use Rattle.lpd_words.specs.Folders.{folder_line, out_line};
+ghost use Rattle.lpd_words.specs.Folders.{account_line, folder_line, out_line};
 ghost use Rattle.lpd_words.specs.Order.{write_faults};
 ghost use Rattle.lpd_words.specs.Status.{status_of};
 
 use crate::fault::Fault;
 use crate::files::print;
+use account_folder::AccountState;
 use job_disk::{FolderState, look};
 use log::{Log, info};
 use lpd_commands::OctetWrite;
@@ -49,6 +51,41 @@ pub(crate) fn check_folder<R: Files<File = File> + Log, W: OctetWrite>(
         }
     };
     print(output, folder_line(alloc, path, state)?.as_bytes())
+}
+
+/// The line that says what stands in the folder of an account at this path.
+fn account_line(alloc: Global, path: &str, state: AccountState) -> Result<String, AllocError>
+    ensures { IfOk result (λ line. string_bytes line ≡ account_line path.now state) }
+{
+    match state {
+        AccountState::Absent => format!(in alloc; "account {path} will be made\n"),
+        AccountState::Present { segments } => {
+            format!(in alloc; "account {path} segments {segments}\n")
+        }
+    }
+}
+
+/// Says what stands in the folder of an account at this path, of which nothing is made or changed. Answers `Folder` where a
+/// server couldn't take it, of which the log is told why, `WriteFile`, and `Memory`.
+pub(crate) fn check_account<R: Files<File = File> + Log, W: OctetWrite>(
+    alloc: Global,
+    rt: &R,
+    path: &str,
+    output: &mut W,
+) -> Result<(), Fault>
+    ensures printed { OnOk result ((state : AccountState)
+        × Writes (W.written output.old) (W.written output.new) (account_line path.now state)) }
+    ensures write_fault { W.faults output.new ≡ write_faults (W.faults output.old) result }
+    ensures fault { IfErr result (λ fault. status_of fault ≢ 1) }
+{
+    let state = match account_folder::look(rt, alloc, path) {
+        Ok(state) => state,
+        Err(why) => {
+            info!(rt; "{path}: {why}");
+            return Err(Fault::Folder(String::from_str(alloc, path)?));
+        }
+    };
+    print(output, account_line(alloc, path, state)?.as_bytes())
 }
 
 /// The line that says that the directory of printers' files is there.

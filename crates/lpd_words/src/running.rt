@@ -31,7 +31,7 @@ use crate::controlling::ControlRequest;
 use crate::envelope::Envelope;
 use crate::fault::Fault;
 use crate::files::{check, print, replay};
-use crate::folders::{check_folder, check_out};
+use crate::folders::{check_account, check_folder, check_out};
 use crate::naming::three_digits;
 use crate::progress::ProgressWriter;
 use crate::queue_question::Server;
@@ -232,7 +232,8 @@ fn check_file<R: Files + Log + Alloc<A = Global>, W: OctetWrite>(
     end
 }
 
-/// Looks at the directory of printers' files, at the control socket and at the folder of jobs, as far as it is asked for.
+/// Looks at the directory of printers' files, at the control socket, and at the folders of jobs and of the account, as far as it is
+/// asked for.
 fn check_places<R: Files<File = File> + Log, N: Net, W: OctetWrite>(
     alloc: Global,
     rt: &R,
@@ -249,8 +250,11 @@ fn check_places<R: Files<File = File> + Log, N: Net, W: OctetWrite>(
     if let Some(path) = checking.control {
         check_socket(alloc, rt, host, path, output)?;
     }
-    match checking.spool {
-        Some(path) => check_folder(alloc, rt, path, output),
+    if let Some(path) = checking.spool {
+        check_folder(alloc, rt, path, output)?;
+    }
+    match checking.account {
+        Some(path) => check_account(alloc, rt, path, output),
         None => Ok(()),
     }
 }

@@ -52,7 +52,7 @@ const FEW: &[u8] = b"pages = 2600\npage_size = 8\nmax_jobs = 8\naccount = 515600
 ///
 /// A configuration is a script of bad lines, and a script is no configuration. A file that can't be read comes before a fault of the
 /// configuration.
-const TOLD: [(&str, &[u8], &[u8]); 44] = [
+const TOLD: [(&str, &[u8], &[u8]); 47] = [
     ("", SCRIPT, b"free 4\nstatus 0\n"),
     ("", CONFIG, b"status 0\n"),
     (
@@ -126,6 +126,22 @@ const TOLD: [(&str, &[u8], &[u8]); 44] = [
         CONFIG,
         b"ok pages 4 page_size 8 queues 1 printers 1\nout / is there\ncontrol /no-socket-is-here will be made\n\
           spool / waiting 0 failed 0\nstatus 0\n",
+    ),
+    (
+        "check,FILE,--account,/no-account-is-here,--spool,/",
+        CONFIG,
+        b"ok pages 4 page_size 8 queues 1 printers 1\nspool / waiting 0 failed 0\n\
+          account /no-account-is-here will be made\nstatus 0\n",
+    ),
+    (
+        "check,FILE,--account,/",
+        CONFIG,
+        b"ok pages 4 page_size 8 queues 1 printers 1\naccount / segments 0\nstatus 0\n",
+    ),
+    (
+        "check,FILE,--account,/there/is/no/such/folder",
+        CONFIG,
+        b"ok pages 4 page_size 8 queues 1 printers 1\nfault 73 WriteFile /there/is/no/such/folder\nstatus 4\n",
     ),
     (
         "check,FILE,--control=no-socket-is-here,--printer,1=file:x",
@@ -412,6 +428,8 @@ serve,a,--port,515,--restart,4294967296
 check,FILE,--printer,1=file:
 check,FILE,--printer,1=file:x,--printer,1=folder:x
 check,FILE,--restart,1
+check,FILE,--account
+check,FILE,--account,a,--account,b
 check,FILE,--spool
 check,FILE,--spool,a,--spool,b
 serve,a,--port,515,--quiet
