@@ -125,7 +125,7 @@ def written_and_audited():
         two_runs(room)
         status, told, why = room.audit("--printed", room.folder)
         check(status == 0, f"status {status}: {told}{why}")
-        legal = re.match(r"legal segments (\d+) entries (\d+) jobs (\d+) done (\d+) removed 0 failed 0 aborted \d+\nends ([0-9a-f]{64})\n", told)
+        legal = re.search(r"legal segments (\d+) entries (\d+) jobs (\d+) done (\d+) removed 0 failed 0 aborted \d+\nends ([0-9a-f]{64})\n", told)
         check(legal and int(legal[1]) == len(room.segments()), told)
         check(int(legal[3]) >= int(legal[4]) > JOBS, told)
         check("printed 1 octets" in told and "printed 2 octets" in told, told)
@@ -188,8 +188,13 @@ def changed_files_are_told():
         told("a job's number", r"fault 81 Entry .*:%d\n" % (opened + 1))
         write(lines[:put] + lines[put + 1:])
         told("an entry taken away", r"fault 8[01] ")
-        write(lines[:put - 1] + [lines[put], lines[put - 1]] + lines[put + 1:])
-        told("two swapped", r"fault 81 Entry .*:%d\n" % put)
+        handed = next(at for at, line in enumerate(lines) if line.startswith("handed "))
+        place = lines[handed].split(" ")[1:]
+        printed = next(at for at, line in enumerate(lines) if line.startswith("printed ") and line.split(" ")[2:] == place)
+        swapped = list(lines)
+        swapped[handed], swapped[printed] = lines[printed], lines[handed]
+        rewrite(middle, swapped)
+        told("two swapped", r"fault 81 Entry .*:%d\n" % (handed + 1))
         told("a segment left out", r"fault 82 Follow ", files=[it for it in room.segments() if it != middle])
         last = room.segments()[-1]
         with open(last) as file:

@@ -7,8 +7,11 @@ mod files;
 mod line_reader;
 mod notes;
 mod printers;
+mod request;
 mod rereading;
 mod usage;
 
+pub use account_usage::Grouping;
 pub use auditing::{AUDIT, audit};
+pub use request::{AuditRequest, UsageRequest};
 pub use usage::usage;

@@ -4,10 +4,10 @@ use Rattle.account_text.specs.Reading.{digest_of}
 use Rattle.clap.specs.Words.{App, Row, Rule, Text, all_of, first_of, new_app}
 use Rattle.lpd_words.specs.Rules.{flag, option, repeated, with_rules, word}
 use Rattle.lpd_words.specs.Values.{IsFlag}
-use Rattle.lpd_words.specs.declared.auditing.AuditRequest.{AuditRequest}
+use Rattle.account_reports.specs.declared.request.AuditRequest.{AuditRequest}
 use Rattle.account_usage.specs.declared.grouping.Grouping.{Grouping}
 use Rattle.account_usage.specs.declared.grouping.Grouping.TheVariants.{Host, Queue, User}
-use Rattle.lpd_words.specs.declared.auditing.UsageRequest.{UsageRequest}
+use Rattle.account_reports.specs.declared.request.UsageRequest.{UsageRequest}
 use Rattle.segment_text.specs.Reading.{fits_shape}
 
 -- the files of segments: 1 to 65,536

@@ -10,6 +10,7 @@ ghost use Rattle.lpd_words.specs.Rules.{IsCommand, IsWord};
 use crate::envelope::WordFault;
 use crate::rules::{flag, option, plain, repeated, with_words, word};
 use crate::values::{flag_of, text_if, text_or, texts_of};
+use account_reports::{AuditRequest, UsageRequest};
 use account_usage::Grouping;
 use clap::{Arg, ArgMatches, Command};
 use segment_text::is_time;
@@ -51,36 +52,6 @@ Nothing is checked but that each line can be read: `audit` does that.
 Examples:
   lpd_server usage /var/lib/hurgwaye/account/segment-*
   lpd_server usage segment-* --by queue --since 2026-11-01T00:00:00Z --csv";
-
-/// An audit of segments that is asked for.
-#[derive(Debug, Drop)]
-pub struct AuditRequest<'a> {
-    /// The paths of the segments' files, in order.
-    pub files: Vec<&'a str>,
-    /// The digest that the first segment has to name.
-    pub after: Option<[u8; 32]>,
-    /// The digest that the last one has to end in.
-    pub ends: Option<[u8; 32]>,
-    /// Where printers wrote: each a directory, or a printer's number, an equals sign and its path.
-    pub printed: Vec<&'a str>,
-    /// Whether it is asked to tell how far the audit is.
-    pub progress: bool,
-}
-
-/// What was used is asked for.
-#[derive(Debug, Drop)]
-pub struct UsageRequest<'a> {
-    /// The paths of the segments' files, in order.
-    pub files: Vec<&'a str>,
-    /// What it is told by.
-    pub by: Grouping,
-    /// Segments that ended before this time are passed over.
-    pub since: Option<&'a str>,
-    /// Segments that began after this time are passed over.
-    pub until: Option<&'a str>,
-    /// Whether it is told with commas between.
-    pub csv: bool,
-}
 
 /// The word for the files of segments.
 fn segment_files<'a>(alloc: Global) -> Arg<'a>

@@ -25,7 +25,6 @@ ghost use Rattle.lpr_client.specs.Sendable.{is_sendable, is_sendable_file};
 ghost use Rattle.lpr_client.specs.declared.file.DataFile.{DataFile};
 
 use crate::asking::{ask_question, connect, socket_of};
-use crate::auditing::{AuditRequest, UsageRequest};
 use crate::checking::Checking;
 use crate::controlling::ControlRequest;
 use crate::envelope::Envelope;
@@ -38,6 +37,7 @@ use crate::queue_question::Server;
 use crate::readers::OpenReaders;
 use crate::sockets::check_socket;
 use crate::words::{Ask, Sending, Unread, read_words};
+use account_reports::{AuditRequest, UsageRequest};
 use log::Log;
 use lpd_commands::{OctetRead, OctetWrite, write_all};
 use lpd_script::{read_all, run_input};

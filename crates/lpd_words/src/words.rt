@@ -8,7 +8,7 @@ ghost use Rattle.lpd_words.specs.Refused.{AsksNothing, HasNoWords, IsUnread, IsU
 ghost use Rattle.lpd_words.specs.Refused.{LacksWords};
 ghost use Rattle.lpd_words.specs.declared.words.Unread.TheVariants.{Memory};
 
-use crate::auditing::{AuditRequest, UsageRequest, audit_of, usage_of};
+use crate::auditing::{audit_of, usage_of};
 use crate::checking::{Checking, checking_of};
 use crate::command::command;
 use crate::controlling::{ControlRequest, request_of};
@@ -17,6 +17,7 @@ use crate::questions::{question_of, server_of};
 use crate::queue_question::{QueueQuestion, Server};
 use crate::serving::serving_of;
 use crate::values::{flag_of, number_of, text_of, texts_of};
+use account_reports::{AuditRequest, UsageRequest};
 use clap::error::ErrorKind;
 use clap::{ArgMatches, Command, Error};
 use program_edge::Settings;
