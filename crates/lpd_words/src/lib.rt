@@ -24,9 +24,8 @@ mod sockets;
 mod values;
 mod words;
 
-pub use account_usage::Grouping;
+pub use account_reports::{AuditRequest, UsageRequest};
 pub use asking::ask_queue;
-pub use auditing::{AuditRequest, UsageRequest};
 pub use checking::Checking;
 pub use controlling::{ControlFault, ControlRequest, ask_server, control};
 pub use envelope::{Envelope, WordFault};

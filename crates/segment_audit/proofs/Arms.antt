@@ -102,7 +102,7 @@ one_more o c ps q q' p h e = record {
   origin = h.origin;
   config = h.config;
   printers = map-append printer_seen ps (q' ∷ [])
-  ∙ (ap (λ (l : List H.Printer). l ++ printer_seen q' ∷ []) h.printers ∙ ap (λ (x : H.Printer). (head_of p).printers ++ x ∷ []) e);
+      ∙ (ap (λ (l : List H.Printer). l ++ printer_seen q' ∷ []) h.printers ∙ ap (λ (x : H.Printer). (head_of p).printers ++ x ∷ []) e);
   events = h.events;
 }
 
