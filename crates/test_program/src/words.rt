@@ -52,7 +52,7 @@ const FEW: &[u8] = b"pages = 2600\npage_size = 8\nmax_jobs = 8\naccount = 515600
 ///
 /// A configuration is a script of bad lines, and a script is no configuration. A file that can't be read comes before a fault of the
 /// configuration.
-const TOLD: [(&str, &[u8], &[u8]); 47] = [
+const TOLD: [(&str, &[u8], &[u8]); 51] = [
     ("", SCRIPT, b"free 4\nstatus 0\n"),
     ("", CONFIG, b"status 0\n"),
     (
@@ -290,6 +290,26 @@ const TOLD: [(&str, &[u8], &[u8]); 47] = [
         b"controls spool.control remove lp -a b\n",
     ),
     (
+        "audit,segment-1,segment-2",
+        b"",
+        b"audits AuditRequest { files: [\"segment-1\", \"segment-2\"], after: None, ends: None, printed: [], progress: false }\n",
+    ),
+    (
+        "audit,--printed,pages,a,--printed=3=/srv/x,--after,0000000000000000000000000000000000000000000000000000000000000001,--progress,--ends=FF00000000000000000000000000000000000000000000000000000000000000",
+        b"",
+        b"audits AuditRequest { files: [\"a\"], after: Some([0, 0, 0, 0, 0, 0, 0, 0, 0, 0, 0, 0, 0, 0, 0, 0, 0, 0, 0, 0, 0, 0, 0, 0, 0, 0, 0, 0, 0, 0, 0, 1]), ends: Some([255, 0, 0, 0, 0, 0, 0, 0, 0, 0, 0, 0, 0, 0, 0, 0, 0, 0, 0, 0, 0, 0, 0, 0, 0, 0, 0, 0, 0, 0, 0, 0]), printed: [\"pages\", \"3=/srv/x\"], progress: true }\n",
+    ),
+    (
+        "usage,a",
+        b"",
+        b"uses UsageRequest { files: [\"a\"], by: User, since: None, until: None, csv: false }\n",
+    ),
+    (
+        "usage,--by,queue,--since=2026-11-26T22:00:00Z,a,b,--until,2026-11-27T22:00:00Z,--csv",
+        b"",
+        b"uses UsageRequest { files: [\"a\", \"b\"], by: Queue, since: Some(\"2026-11-26T22:00:00Z\"), until: Some(\"2026-11-27T22:00:00Z\"), csv: true }\n",
+    ),
+    (
         "control,spool.control,stop,60",
         b"",
         b"controls spool.control stop 60\n",
@@ -451,6 +471,12 @@ control,a,stop,060
 control,a,stop,soon
 control,a,stop,4294967296
 control,aaaaaaaaaaaaaaaaaaaaaaaaaaaaaaaaaaaaaaaaaaaaaaaaaaaaaaaaaaaaaaaaaaaaaaaaaaaaaaaaaaaaaaaaaaaaaaaaaaaaaaaaaaaa,status
+audit
+audit,a,--ends,12
+audit,a,--after,x00000000000000000000000000000000000000000000000000000000000000f
+usage,a,--by,printer
+usage,a,--since,yesterday
+usage,a,--until,2026-11-26 22:00:00
 ";
 
 /// The words that the program is started with, its name before these, with these paths for `FILE` and `SCRIPT`.
@@ -537,6 +563,8 @@ pub fn told<
         Outcome::Ended(status) => format!(in alloc; "status {status}\n")?,
         Outcome::Serve { config, settings } => line_of(alloc, config, settings)?,
         Outcome::Control(request) => format!(in alloc; "controls {} ", request.path)?,
+        Outcome::Audit(request) => format!(in alloc; "audits {request:?}\n")?,
+        Outcome::Usage(request) => format!(in alloc; "uses {request:?}\n")?,
     };
     told.extend_from_slice(end.as_bytes())?;
     if let Outcome::Control(request) = &outcome {
