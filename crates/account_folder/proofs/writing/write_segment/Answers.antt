@@ -1,4 +1,4 @@
-use Rattle.std.proofs.Common.{◌≡◌, ◌∷◌, ◌++◌, List, ℕ, map, subst, sym}
+use Rattle.std.proofs.Common.{◌∷◌, ◌++◌, List, ℕ, map, subst, sym}
 use Rattle.sha2.specs.Sha256.{sha256}
 use Rattle.account.specs.Seen.{event_seen}
 use Rattle.account_text.specs.Lines.{event_line}
