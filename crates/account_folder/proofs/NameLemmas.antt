@@ -1,7 +1,7 @@
 -- Ten digits of a number, and the zeros that they begin with.
 use Rattle.std.proofs.Common.{◌≡◌, ◌==◌, ◌<◌, ◌≤◌, ◌+◌, ◌-◌, ◌^◌, ◌++◌, ◌∙◌, ℕ, zero, suc, Option, Some, None, MatchOption, Bool, true, false, List, [], ◌∷◌, get_or, length, replicate, refl, sym, ap, subst, arith}
 use native.Mathlib.Numerals.{unary_clauses}
-use Rattle.std.specs.Fmt.{before_digits, char_count, decimal, format_spec, number_padding, padded_integral, sign_text_with, shown_prefix, styled_decimal}
+use Rattle.std.specs.Fmt.{char_count, decimal, format_spec, padded_integral, styled_decimal}
 use Rattle.std.proofs.lemmas.Fmt.{decimal_digit, first_decimal}
 use Rattle.std.proofs.lemmas.List.{append-nil, length-append, length-replicate}
 use Rattle.std.proofs.lemmas.Grind.{common_steps}

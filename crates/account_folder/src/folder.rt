@@ -1,5 +1,10 @@
 //! A folder of segments, which one server writes.
 
+ghost use Rattle.std.specs.Prelude.{◌≡◌, IfOk, IfSome, None, OnErr, Some, false, true};
+ghost use Rattle.account.specs.Seen.{base_seen};
+ghost use Rattle.account_folder.specs.Hands.{IsInHandStill, Names};
+ghost use Rattle.segment_text.specs.Seen.{start_seen};
+
 use crate::fault::WriteFault;
 use crate::listing::list;
 use crate::names::SegmentName;
@@ -140,7 +145,21 @@ impl AccountFolder {
     }
 
     /// Takes a segment in hand, which was closed at this time. One that was in hand is let go.
-    pub fn take(&mut self, segment: Segment, closed: SystemTime) {
+    pub fn take(&mut self, segment: Segment, closed: SystemTime)
+        ensures number { self.new.head.origin.segment ≡ segment.number }
+        ensures start { start_seen self.new.head.start ≡ record {
+          entries = segment.before;
+          kinds = segment.kinds_before;
+          handed = segment.handed_before;
+          base = base_seen segment.base;
+        } }
+        ensures entries { self.new.entries.items ≡ segment.entries.items }
+        ensures times { (self.new.begun ≡ self.old.closed) × (self.new.closed ≡ closed) }
+        ensures chain { (self.new.head.origin.run ≡ self.old.head.origin.run)
+            × (self.new.head.origin.previous ≡ self.old.head.origin.previous)
+            × (self.new.next ≡ self.old.next) }
+        ensures in_hand { self.new.is_in_hand ≡ true }
+    {
         let Segment {
             number,
             before,
@@ -162,7 +181,9 @@ impl AccountFolder {
     }
 
     /// Writes the segment in hand into a file at this path, and has that on the disk. Answers the digest that it ends in.
-    fn write<R: Files<File = File>>(&mut self, rt: &R, path: &str) -> io::Result<[u8; 32]> {
+    fn write<R: Files<File = File>>(&mut self, rt: &R, path: &str) -> io::Result<[u8; 32]>
+        ensures { IsInHandStill self.old self.new }
+    {
         self.head.origin.first = stamp(self.alloc, self.begun)?;
         self.head.origin.last = stamp(self.alloc, self.closed)?;
         let mut options = OpenOptions::new();
@@ -190,7 +211,9 @@ impl AccountFolder {
         &mut self,
         rt: &R,
         name: SegmentName,
-    ) -> io::Result<[u8; 32]> {
+    ) -> io::Result<[u8; 32]>
+        ensures { IsInHandStill self.old self.new }
+    {
         let path = self.path.as_str();
         let temporary = format!(in self.alloc; "{path}/{name}.tmp")?;
         let whole = format!(in self.alloc; "{path}/{name}")?;
@@ -208,10 +231,14 @@ impl AccountFolder {
     /// Makes the segment in hand a file, and has the file and its name on the disk. None where none is in hand.
     ///
     /// An error with the file, or the folder, and the cause where that fails: the segment is still in hand then, and this can be called again.
-    pub fn put_away<R: Files<File = File>>(
-        &mut self,
-        rt: &R,
-    ) -> Result<Option<PutAway>, WriteFault> {
+    pub fn put_away<R: Files<File = File>>(&mut self, rt: &R) -> Result<Option<PutAway>, WriteFault>
+        ensures kept { OnErr result (IsInHandStill self.old self.new) }
+        ensures none { IfOk result (λ put. put ≡ None → self.old.is_in_hand ≡ false) }
+        ensures told { IfOk result (λ put. IfSome put (Names self.old)) }
+        ensures put_away { IfOk result (λ put. IfSome put (λ p. (self.new.is_in_hand ≡ false)
+            × (self.new.head.origin.previous ≡ Some p.digest)
+            × (self.new.head.origin.run ≡ self.old.head.origin.run))) }
+    {
         if !self.is_in_hand {
             return Ok(None);
         }

@@ -1,5 +1,4 @@
-use Rattle.std.proofs.Common.{length, ◌≡◌, ◌<◌, ◌≤◌, ◌+◌, ◌++◌, ℕ, List, MatchOption, codes, ◌-◌, ◌*◌}
-use Rattle.account_folder.specs.Names.{AreOfNone, IsNoName, IsNumber, ten_digits, without_zeros, written}
+use Rattle.std.proofs.Common.{length}
 use Rattle.account_folder.proofs.names.+without_zeros.Given as goal
 
 -- proposed from what the function passes where it calls itself
