@@ -1,3 +1,4 @@
 pub mod Arms
+pub mod Configs
 pub mod Lawful
 pub mod Steps

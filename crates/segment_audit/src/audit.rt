@@ -8,7 +8,7 @@ ghost use Rattle.segment_audit.specs.Read.{entries_in};
 ghost use Rattle.segment_audit.specs.Told.{IsAtMost};
 
 use crate::fault::AuditFault;
-use crate::part::{Part, Place};
+use crate::part::{Part, Place, past_config};
 use crate::tally::Tally;
 use account_text::LineFault;
 use config_values::Config;
@@ -138,10 +138,8 @@ impl SegmentAudit {
         match &self.place.part {
             Part::Headed(_, config, _) => Some(config),
             Part::Entries(head, _) => Some(&head.config),
-            Part::Between | Part::Begun(_) => {
-                let past = self.place.past.as_ref()?;
-                Some(&past.head.config)
-            }
+            Part::Between => past_config(&self.place.past),
+            Part::Begun(_) => past_config(&self.place.past),
         }
     }
 }

@@ -1,6 +1,6 @@
 //! How far a segment is read, and what the one before it left.
 
-ghost use Rattle.std.specs.Prelude.{◌≡◌, ◌<◌, ◌≤◌, ◌+◌, ◌^◌, ◌↔◌, ◌⊎◌, ◌∷◌, [], ℕ, IfOk, IsTrue, List, MatchResult, Option, Some};
+ghost use Rattle.std.specs.Prelude.{◌≡◌, ◌<◌, ◌≤◌, ◌+◌, ◌^◌, ◌↔◌, ◌⊎◌, ◌∷◌, [], ℕ, IfOk, IsTrue, List, MatchOption, MatchResult, None, Option, Some};
 ghost use Rattle.account.specs.Seen.{event_seen, octets};
 ghost use Rattle.spool_history.specs.Legal.{May};
 ghost use Rattle.segment_text.specs.Items as I;
@@ -50,6 +50,17 @@ pub(crate) struct Place {
     pub(crate) part: Part,
 }
 
+/// The configuration of the segment that was over last.
+pub(crate) fn past_config(past: &Option<Past>) -> Option<&Config>
+    ensures { (was : Option A.Past) → IsPast past.now was → MatchOption result
+        (A.past_config was ≡ None) (λ c. A.past_config was ≡ Some c.now) }
+{
+    match past {
+        Some(past) => Some(&past.head.config),
+        None => None,
+    }
+}
+
 /// Whether a segment may come.
 fn may_follow(after: &Option<[u8; 32]>, past: &Option<Past>, next: &Head) -> bool
     ensures { (was : Option A.Past) → IsPast past.now was
@@ -71,10 +82,11 @@ fn may_follow(after: &Option<[u8; 32]>, past: &Option<Past>, next: &Head) -> boo
 fn left_by(head: &Head, audit: &Audit, base: Base) -> Option<Start>
     ensures { IsLeft result (start_behind head.now audit.now base) }
 {
+    let entries = head.start.entries.checked_add(audit.entries())?;
     let kinds = u128::from(head.start.kinds) + audit.kinds();
     let handed = u128::from(head.start.handed) + audit.handed();
     Some(Start {
-        entries: head.start.entries.checked_add(audit.entries())?,
+        entries,
         kinds: u64::try_from(kinds).ok()?,
         handed: u64::try_from(handed).ok()?,
         base,
