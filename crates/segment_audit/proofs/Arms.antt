@@ -1,16 +1,18 @@
 -- What one line more makes of what is held of a segment.
-use Rattle.std.proofs.Common.{◌≡◌, ◌+◌, ◌<◌, ◌^◌, ℕ, suc, List, [], ◌∷◌, ◌++◌, length, map, refl, sym, ◌∙◌, ap, subst, arith}
-use Rattle.std.specs.Prelude.{Option, Some, None}
+use Rattle.std.proofs.Common.{◌≡◌, ◌+◌, ◌<◌, ◌^◌, ℕ, suc, List, [], ◌∷◌, ◌++◌, length, map, add-one, refl, sym, ◌∙◌, ap, subst, arith}
+use Rattle.std.specs.Prelude.{Option, Some, None, if◌then◌else◌}
 use Rattle.std.proofs.lemmas.List.{map-append}
 use Rattle.config_values.specs.Config.{Config}
 use Rattle.spool_history.specs.Events.{Event}
 use Rattle.spool_history.specs.Legal.{May}
 use Rattle.spool_history.specs.Now.{State, now}
+use Rattle.spool_history.specs.Base as S
 use Rattle.spool_history.specs.Rotated.{rotated}
 use Rattle.account.specs.declared.base.Base.{Base}
 use Rattle.account.specs.declared.entry.Outline.{Outline}
-use Rattle.account.specs.Kinds.{kinds_in, handed_in}
-use Rattle.account.specs.Seen.{base_seen, octets}
+use Rattle.account.specs.Kinds.{kinds_in, handed_in, kind_of, number_of, is_handed_kind}
+use Rattle.account.specs.declared.entry.Entry.{Entry}
+use Rattle.account.specs.Seen.{base_seen, event_seen, octets}
 use Rattle.history_reader.specs.declared.state.Job.{Job}
 use Rattle.history_reader.specs.Seen.{state_seen, job_seen}
 use Rattle.account_audit.specs.Audited as U
@@ -25,7 +27,7 @@ use Rattle.segment_text.specs.Heads as H
 use Rattle.segment_text.specs.Items.{Item, item_seen, Suits, stage_after, stage_of}
 use Rattle.segment_text.specs.Items.Item.{OfOrigin, OfConfig, OfPrinter, OfStart, OfEvent, OfLast}
 use Rattle.segment_text.specs.Seen.{head_seen, origin_seen, printer_seen, start_seen}
-use Rattle.segment_audit.specs.Audited.{head_of, events_of, state_of, left_by, with_line}
+use Rattle.segment_audit.specs.Audited.{MayEnd, head_of, events_of, state_of, left_by, with_line}
 use Rattle.segment_audit.specs.Read.{HasStepped, IsAtPrinters, IsBegun, IsHeaded, HasEntries, start_behind}
 
 -- no other line comes next
@@ -132,3 +134,43 @@ what_is_left h a b p e r =
 pub none_seen : (jobs : List Job) → map job_seen jobs ≡ [] → jobs ≡ []
 none_seen [] e = refl
 none_seen (j ∷ jobs) e = cc e
+
+-- an entry may come where an audit takes it, and leaves the audit there
+pub may_come : (h : D.Head) (a : U.Audited) (e : Event Outline) (p : List Item) → HasEntries h a p → May octets (state_seen h.config a.state) e → May octets (state_of p) e
+may_come h a e p x m = subst (λ (v : State Outline). May octets v e) (at_state h a p x) m
+
+pub may_not_come : (h : D.Head) (a : U.Audited) (e : Event Outline) (p : List Item) → HasEntries h a p → (May octets (state_seen h.config a.state) e → ⊥) → May octets (state_of p) e → ⊥
+may_not_come h a e p x n m = n (subst (λ (v : State Outline). May octets v e) (sym (at_state h a p x)) m)
+
+pub taken : (h : D.Head) (a a' : U.Audited) (e : Entry) (p : List Item) → HasEntries h a p → U.Decides h.config a e (Some a') → a'.entries ≡ a.entries + 1 → a'.kinds ≡ a.kinds + number_of (kind_of (event_seen e)) → a'.handed ≡ a.handed + (if is_handed_kind (kind_of (event_seen e)) then 1 else 0) → HasEntries h a' (OfEvent (event_seen e) ∷ p)
+taken h a a' e p x d n k g =
+    let sn = x.stepped.entries in
+    let sk = x.stepped.kinds in
+    let sg = x.stepped.handed in
+    record {
+      stage = refl;
+      head = x.head;
+      stepped = record {
+        left = d (base_seen h.start.base) (events_of p) x.stepped.left;
+        entries = n ∙ (ap (λ (m : ℕ). m + 1) sn ∙ add-one (length (events_of p)));
+        kinds = omega (arith, k, sk);
+        handed = omega (arith, g, sg);
+      };
+    }
+
+-- a segment may end where an audit does
+pub may_end : (h : D.Head) (a : U.Audited) (b : Base) (p : List Item) → HasEntries h a p → a.state.jobs.items ≡ [] → base_seen b ≡ rotated (state_seen h.config a.state) → b.accepted < 2 ^ 64 → MayEnd (state_of p)
+may_end h a b p x j r lt =
+    subst MayEnd (at_state h a p x) (ap (λ (l : List Job). map job_seen l) j, subst (λ (n : ℕ). n < 2 ^ 64) (ap (λ (y : S.Base). y.accepted) r) lt)
+
+pub may_not_end : (h : D.Head) (a : U.Audited) (p : List Item) → HasEntries h a p → (a.state.jobs.items ≡ [] → a.state.accepted < 2 ^ 64 → ⊥) → MayEnd (state_of p) → ⊥
+may_not_end h a p x n m =
+    let own = subst MayEnd (sym (at_state h a p x)) m in
+    n (none_seen a.state.jobs.items own.0) own.1
+
+-- the entries begin
+pub first_entries : (h : D.Head) (a : U.Audited) (p : List Item) → stage_of p ≡ stage.Entries → head_seen h ≡ head_of p → events_of p ≡ [] → state_seen h.config a.state ≡ now h.config (base_seen h.start.base) [] → a.entries ≡ 0 → a.kinds ≡ 0 → a.handed ≡ 0 → HasEntries h a p
+first_entries h a p s e z v n k g =
+    let none : HasStepped h.config h.start.base a [] =
+    record { left = record { legal = tt; here = v }; entries = n; kinds = k; handed = g } in
+    record { stage = s; head = e; stepped = subst (λ (es : List (Event Outline)). HasStepped h.config h.start.base a es) (sym z) none }

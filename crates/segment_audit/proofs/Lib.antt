@@ -1,4 +1,5 @@
 pub mod Arms
 pub mod Configs
+pub mod Follow
 pub mod Lawful
 pub mod Steps

@@ -8,7 +8,7 @@ ghost use Rattle.segment_audit.specs.Read.{entries_in};
 ghost use Rattle.segment_audit.specs.Told.{IsAtMost};
 
 use crate::fault::AuditFault;
-use crate::part::{Part, Place, past_config};
+use crate::part::{Part, Place, past_config, past_digest};
 use crate::tally::Tally;
 use account_text::LineFault;
 use config_values::Config;
@@ -117,8 +117,7 @@ impl SegmentAudit {
         ensures { (after : Option (List ℕ)) (is : List Item) → HasAudited self.now after is
             → result ≡ A.last_digest is }
     {
-        let past = self.place.past.as_ref()?;
-        Some(past.digest)
+        past_digest(&self.place.past)
     }
 
     /// What the lines that were read say, in numbers.

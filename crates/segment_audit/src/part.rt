@@ -61,6 +61,16 @@ pub(crate) fn past_config(past: &Option<Past>) -> Option<&Config>
     }
 }
 
+/// The digest that the segment ends in that was over last.
+pub(crate) fn past_digest(past: &Option<Past>) -> Option<[u8; 32]>
+    ensures { (was : Option A.Past) → IsPast past.now was → result ≡ A.past_digest was }
+{
+    match past {
+        Some(past) => Some(past.digest),
+        None => None,
+    }
+}
+
 /// Whether a segment may come.
 fn may_follow(after: &Option<[u8; 32]>, past: &Option<Past>, next: &Head) -> bool
     ensures { (was : Option A.Past) → IsPast past.now was
@@ -82,7 +92,8 @@ fn may_follow(after: &Option<[u8; 32]>, past: &Option<Past>, next: &Head) -> boo
 fn left_by(head: &Head, audit: &Audit, base: Base) -> Option<Start>
     ensures { IsLeft result (start_behind head.now audit.now base) }
 {
-    let entries = head.start.entries.checked_add(audit.entries())?;
+    let own = audit.entries();
+    let entries = head.start.entries.checked_add(own)?;
     let kinds = u128::from(head.start.kinds) + audit.kinds();
     let handed = u128::from(head.start.handed) + audit.handed();
     Some(Start {
@@ -200,6 +211,13 @@ fn step(head: Head, audit: Audit, alloc: Global, entry: &Entry) -> Result<Part, 
     }
 }
 
+/// The last acceptance number of a base has 64 bits.
+fn has_range(base: &Base)
+    ensures { base.now.accepted < 2 ^ 64 }
+{
+    let _accepted = base.accepted;
+}
+
 /// Ends a segment.
 fn end(head: Head, audit: Audit, alloc: Global, last: &Last) -> Result<Place, AuditFault>
     ensures read { (is : List Item) → HasEntries head audit is → MatchResult result
@@ -216,6 +234,7 @@ fn end(head: Head, audit: Audit, alloc: Global, last: &Last) -> Result<Place, Au
     let Some(base) = audit.end(alloc)? else {
         return Err(AuditFault::Entry);
     };
+    has_range(&base);
     let left = left_by(&head, &audit, base);
     Ok(Place {
         past: Some(Past {
