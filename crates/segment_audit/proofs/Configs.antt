@@ -7,12 +7,11 @@ use Rattle.segment_text.specs.declared.items.Stage.TheVariants as stage
 use Rattle.segment_text.specs.Heads as H
 use Rattle.segment_text.specs.Items.{Item, Suits, stage_after, stage_of}
 use Rattle.segment_text.specs.Items.Item.{OfOrigin, OfConfig, OfPrinter, OfStart, OfEvent, OfLast}
-use Rattle.segment_audit.specs.declared.part.Past as J
 use Rattle.segment_audit.specs.declared.part.Part.{Part}
 use Rattle.segment_audit.specs.declared.part.Part.TheVariants as part
 use Rattle.segment_audit.specs.declared.part.Place.{Place}
 use Rattle.segment_audit.specs.Audited.{AreAudited, Past, present, past_of, head_of, last_config, last_digest, past_config, past_digest, with_line}
-use Rattle.segment_audit.specs.Read.{IsAtPrinters, IsBegun, IsHeaded, HasEntries, IsPart, IsPast, IsPlace}
+use Rattle.segment_audit.specs.Read.{IsAtPrinters, IsBegun, IsHeaded, HasEntries, IsPart, IsPlace}
 
 -- before its line it is that of the segment before, and behind it that of its own
 abbrev Known : Stage → H.Head → Option Past → Option Config → Type 0
@@ -103,19 +102,3 @@ digest_known (OfPrinter p ∷ is) = digest_known is
 digest_known (OfStart s ∷ is) = digest_known is
 digest_known (OfEvent e ∷ is) = digest_known is
 digest_known (OfLast l ∷ is) = refl
-
-pub config_some : (p : J.Past) (was : Option Past) → IsPast (Some p) was → past_config was ≡ Some p.head.config
-config_some p None w = absurd w
-config_some p (Some q) w = ap (λ (x : H.Head). Some x.config) (sym w.0)
-
-pub config_none : (was : Option Past) → IsPast None was → past_config was ≡ None
-config_none None w = refl
-config_none (Some q) w = absurd w
-
-pub digest_some : (p : J.Past) (was : Option Past) → IsPast (Some p) was → Some p.digest ≡ past_digest was
-digest_some p None w = absurd w
-digest_some p (Some q) w = ap Some w.1
-
-pub digest_none : (was : Option Past) → IsPast None was → None ≡ past_digest was
-digest_none None w = refl
-digest_none (Some q) w = absurd w

@@ -1,5 +1,4 @@
 pub mod Arms
 pub mod Configs
-pub mod Follow
+pub mod Counts
 pub mod Lawful
-pub mod Steps

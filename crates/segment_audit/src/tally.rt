@@ -122,14 +122,21 @@ impl Tally {
         ensures few { IsAtMost (lines + 1) result }
     {
         let _lines = lines;
+        let segments = count_if(self.segments, is_last(got));
+        let entries = count_if(self.entries, is_entry(got));
+        let jobs = count_if(self.jobs, is_opening(got));
+        let done = count_if(self.done, is_done(got));
+        let removed = self.removed.saturating_add(removed_in(got));
+        let failed = count_if(self.failed, is_failed(got));
+        let aborted = count_if(self.aborted, is_aborted(got));
         Tally {
-            segments: count_if(self.segments, is_last(got)),
-            entries: count_if(self.entries, is_entry(got)),
-            jobs: count_if(self.jobs, is_opening(got)),
-            done: count_if(self.done, is_done(got)),
-            removed: self.removed.saturating_add(removed_in(got)),
-            failed: count_if(self.failed, is_failed(got)),
-            aborted: count_if(self.aborted, is_aborted(got)),
+            segments,
+            entries,
+            jobs,
+            done,
+            removed,
+            failed,
+            aborted,
         }
     }
 }
