@@ -24,7 +24,8 @@ pub struct Differs {
 pub fn page_matches(octets: &[u8], page: &Outline) -> bool
     ensures { IsTrue result ↔ Matches octets.now page.now }
 {
-    octets.len() == page.length as usize && Sha256::digest(octets).as_slice() == page.digest.as_slice()
+    octets.len() == page.length as usize
+        && Sha256::digest(octets).as_slice() == page.digest.as_slice()
 }
 
 /// Judges the octets that were read of a page, which begins at the octet `at` of a printer's file: Ok exactly where they are the page.

@@ -49,11 +49,7 @@ impl From<Differs> for TrailFault {
 }
 
 /// Reads from an octet on until the buffer is full or the file ends, and tells how many octets. None where they can't be read.
-pub(crate) fn read_at<P: PrintedOctets>(
-    source: &mut P,
-    at: u64,
-    buffer: &mut [u8],
-) -> Option<usize>
+pub(crate) fn read_at<P: PrintedOctets>(source: &mut P, at: u64, buffer: &mut [u8]) -> Option<usize>
     ensures { IfSome result (λ n. n ≤ length buffer.old) }
 {
     if !source.go_to(at) {

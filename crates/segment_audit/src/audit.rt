@@ -66,12 +66,9 @@ impl SegmentAudit {
     /// it is an entry that may not come in a legal account, or a last line where a job is held; `Follow` where it is the last
     /// line of a head (`base ..`) that doesn't follow on the segment before, or isn't the one that is asked for; `Memory` where
     /// memory is refused.
-    pub fn read(
-        self,
-        alloc: Global,
-        line: &[u8],
-    ) -> Result<(SegmentAudit, SegmentLine), AuditFault>
-        ensures { (after : Option (List ℕ)) (is : List Item) → HasAudited self after is → MatchResult result
+    pub fn read(self, alloc: Global, line: &[u8]) -> Result<(SegmentAudit, SegmentLine), AuditFault>
+        ensures { (after : Option (List ℕ)) (is : List Item) → HasAudited self after is
+            → MatchResult result
             (λ got. (line.now ≡ item_line (item_seen got.1))
             × A.MayCome after is (item_seen got.1)
             × HasAudited got.0 after (item_seen got.1 ∷ is))

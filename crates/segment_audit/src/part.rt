@@ -14,7 +14,9 @@ use crate::fault::AuditFault;
 use account::{Base, Entry};
 use account_audit::Audit;
 use config_values::Config;
-use segment_text::{Head, Last, Origin, PrinterPlace, SegmentLine, Stage, Start, follows, names_digest};
+use segment_text::{
+    Head, Last, Origin, PrinterPlace, SegmentLine, Stage, Start, follows, names_digest,
+};
 use std::alloc::Global;
 
 /// A segment that is over.

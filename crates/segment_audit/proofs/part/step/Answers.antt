@@ -18,9 +18,9 @@ returns-in-Some-clause-read c = λ is x.
     let told = c.in_ok-audit.ensures in (
       may_come h a e is x (subst (λ (o : Option Audited). MatchOption o (May octets (state_seen h.config a.state) e → ⊥) (λ _. May octets (state_seen h.config a.state) e)) r told.exact),
       taken h a c.in-Some.audit entry is x (subst (Decides h.config a entry) r told.decides)
-      (subst (λ (o : Option Audited). IfSome o (λ (b : Audited). b.entries ≡ a.entries + 1)) r told.counts)
-      (subst (λ (o : Option Audited). IfSome o (λ (b : Audited). b.kinds ≡ a.kinds + number_of (kind_of e))) r told.kinds)
-      (subst (λ (o : Option Audited). IfSome o (λ (b : Audited). b.handed ≡ a.handed + (if is_handed_kind (kind_of e) then 1 else 0))) r told.handed),
+          (subst (λ (o : Option Audited). IfSome o (λ (b : Audited). b.entries ≡ a.entries + 1)) r told.counts)
+          (subst (λ (o : Option Audited). IfSome o (λ (b : Audited). b.kinds ≡ a.kinds + number_of (kind_of e))) r told.kinds)
+          (subst (λ (o : Option Audited). IfSome o (λ (b : Audited). b.handed ≡ a.handed + (if is_handed_kind (kind_of e) then 1 else 0))) r told.handed),
     )
 
 pub returns-in-None-clause-read : goal.returns-in-None-clause-read
