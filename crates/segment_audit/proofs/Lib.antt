@@ -2,3 +2,4 @@ pub mod Arms
 pub mod Configs
 pub mod Counts
 pub mod Lawful
+pub mod Steps

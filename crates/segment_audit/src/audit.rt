@@ -66,6 +66,7 @@ impl SegmentAudit {
     /// it is an entry that may not come in a legal account, or a last line where a job is held; `Follow` where it is the last
     /// line of a head (`base ..`) that doesn't follow on the segment before, or isn't the one that is asked for; `Memory` where
     /// memory is refused.
+    #[tactic(auto, using(crate::proofs::Steps::refused))]
     pub fn read(self, alloc: Global, line: &[u8]) -> Result<(SegmentAudit, SegmentLine), AuditFault>
         ensures { (after : Option (List ℕ)) (is : List Item) → HasAudited self after is
             → MatchResult result
@@ -89,7 +90,10 @@ impl SegmentAudit {
             Err(LineFault::Bad) => return Err(AuditFault::Line),
             Err(LineFault::Memory) => return Err(AuditFault::Memory),
         };
-        let place = place.read(&after, alloc, &got)?;
+        let place = match place.read(&after, alloc, &got) {
+            Ok(place) => place,
+            Err(fault) => return Err(fault),
+        };
         let tally = tally.with(&got, lines);
         let audit = SegmentAudit {
             after,

@@ -97,11 +97,11 @@ fn left_by(head: &Head, audit: &Audit, base: Base) -> Option<Start>
     let own = audit.entries();
     let entries = head.start.entries.checked_add(own)?;
     let kinds = u128::from(head.start.kinds) + audit.kinds();
-    let handed = u128::from(head.start.handed) + audit.handed();
+    let handed = u64::try_from(audit.handed()).ok()?;
     Some(Start {
         entries,
         kinds: u64::try_from(kinds).ok()?,
-        handed: u64::try_from(handed).ok()?,
+        handed: head.start.handed.checked_add(handed)?,
         base,
     })
 }
