@@ -1,3 +1,5 @@
 pub mod Arms
+pub mod Configs
+pub mod Counts
 pub mod Lawful
 pub mod Steps

@@ -67,6 +67,14 @@ pub record Past : Type 0 where
   pub digest : List ℕ
   pub left : Start
 
+abbrev pub past_config : Option Past → Option Config
+past_config None = None
+past_config (Some past) = Some past.head.config
+
+abbrev pub past_digest : Option Past → Option (List ℕ)
+past_digest None = None
+past_digest (Some past) = Some past.digest
+
 -- the segment that was over last
 abbrev pub past_of : List Item → Option Past
 past_of [] = None

@@ -8,7 +8,7 @@ ghost use Rattle.segment_audit.specs.Read.{entries_in};
 ghost use Rattle.segment_audit.specs.Told.{IsAtMost};
 
 use crate::fault::AuditFault;
-use crate::part::{Part, Place};
+use crate::part::{Part, Place, past_config, past_digest};
 use crate::tally::Tally;
 use account_text::LineFault;
 use config_values::Config;
@@ -66,8 +66,10 @@ impl SegmentAudit {
     /// it is an entry that may not come in a legal account, or a last line where a job is held; `Follow` where it is the last
     /// line of a head (`base ..`) that doesn't follow on the segment before, or isn't the one that is asked for; `Memory` where
     /// memory is refused.
+    #[tactic(auto, using(crate::proofs::Steps::refused))]
     pub fn read(self, alloc: Global, line: &[u8]) -> Result<(SegmentAudit, SegmentLine), AuditFault>
-        ensures { (after : Option (List ℕ)) (is : List Item) → HasAudited self after is → MatchResult result
+        ensures { (after : Option (List ℕ)) (is : List Item) → HasAudited self after is
+            → MatchResult result
             (λ got. (line.now ≡ item_line (item_seen got.1))
             × A.MayCome after is (item_seen got.1)
             × HasAudited got.0 after (item_seen got.1 ∷ is))
@@ -88,7 +90,10 @@ impl SegmentAudit {
             Err(LineFault::Bad) => return Err(AuditFault::Line),
             Err(LineFault::Memory) => return Err(AuditFault::Memory),
         };
-        let place = place.read(&after, alloc, &got)?;
+        let place = match place.read(&after, alloc, &got) {
+            Ok(place) => place,
+            Err(fault) => return Err(fault),
+        };
         let tally = tally.with(&got, lines);
         let audit = SegmentAudit {
             after,
@@ -113,8 +118,7 @@ impl SegmentAudit {
         ensures { (after : Option (List ℕ)) (is : List Item) → HasAudited self.now after is
             → result ≡ A.last_digest is }
     {
-        let past = self.place.past.as_ref()?;
-        Some(past.digest)
+        past_digest(&self.place.past)
     }
 
     /// What the lines that were read say, in numbers.
@@ -134,10 +138,8 @@ impl SegmentAudit {
         match &self.place.part {
             Part::Headed(_, config, _) => Some(config),
             Part::Entries(head, _) => Some(&head.config),
-            Part::Between | Part::Begun(_) => {
-                let past = self.place.past.as_ref()?;
-                Some(&past.head.config)
-            }
+            Part::Between => past_config(&self.place.past),
+            Part::Begun(_) => past_config(&self.place.past),
         }
     }
 }

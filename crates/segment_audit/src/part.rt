@@ -1,6 +1,6 @@
 //! How far a segment is read, and what the one before it left.
 
-ghost use Rattle.std.specs.Prelude.{◌≡◌, ◌<◌, ◌≤◌, ◌+◌, ◌^◌, ◌↔◌, ◌⊎◌, ◌∷◌, [], ℕ, IfOk, IsTrue, List, MatchResult, Option, Some};
+ghost use Rattle.std.specs.Prelude.{◌≡◌, ◌<◌, ◌≤◌, ◌+◌, ◌^◌, ◌↔◌, ◌⊎◌, ◌∷◌, [], ℕ, IfOk, IsTrue, List, MatchOption, MatchResult, None, Option, Some};
 ghost use Rattle.account.specs.Seen.{event_seen, octets};
 ghost use Rattle.spool_history.specs.Legal.{May};
 ghost use Rattle.segment_text.specs.Items as I;
@@ -52,6 +52,27 @@ pub(crate) struct Place {
     pub(crate) part: Part,
 }
 
+/// The configuration of the segment that was over last.
+pub(crate) fn past_config(past: &Option<Past>) -> Option<&Config>
+    ensures { (was : Option A.Past) → IsPast past.now was → MatchOption result
+        (A.past_config was ≡ None) (λ c. A.past_config was ≡ Some c.now) }
+{
+    match past {
+        Some(past) => Some(&past.head.config),
+        None => None,
+    }
+}
+
+/// The digest that the segment ends in that was over last.
+pub(crate) fn past_digest(past: &Option<Past>) -> Option<[u8; 32]>
+    ensures { (was : Option A.Past) → IsPast past.now was → result ≡ A.past_digest was }
+{
+    match past {
+        Some(past) => Some(past.digest),
+        None => None,
+    }
+}
+
 /// Whether a segment may come.
 fn may_follow(after: &Option<[u8; 32]>, past: &Option<Past>, next: &Head) -> bool
     ensures { (was : Option A.Past) → IsPast past.now was
@@ -73,12 +94,14 @@ fn may_follow(after: &Option<[u8; 32]>, past: &Option<Past>, next: &Head) -> boo
 fn left_by(head: &Head, audit: &Audit, base: Base) -> Option<Start>
     ensures { IsLeft result (start_behind head.now audit.now base) }
 {
+    let own = audit.entries();
+    let entries = head.start.entries.checked_add(own)?;
     let kinds = u128::from(head.start.kinds) + audit.kinds();
-    let handed = u128::from(head.start.handed) + audit.handed();
+    let handed = u64::try_from(audit.handed()).ok()?;
     Some(Start {
-        entries: head.start.entries.checked_add(audit.entries())?,
+        entries,
         kinds: u64::try_from(kinds).ok()?,
-        handed: u64::try_from(handed).ok()?,
+        handed: head.start.handed.checked_add(handed)?,
         base,
     })
 }
@@ -190,6 +213,13 @@ fn step(head: Head, audit: Audit, alloc: Global, entry: &Entry) -> Result<Part, 
     }
 }
 
+/// The last acceptance number of a base has 64 bits.
+fn has_range(base: &Base)
+    ensures { base.now.accepted < 2 ^ 64 }
+{
+    let _accepted = base.accepted;
+}
+
 /// Ends a segment.
 fn end(head: Head, audit: Audit, alloc: Global, last: &Last) -> Result<Place, AuditFault>
     ensures read { (is : List Item) → HasEntries head audit is → MatchResult result
@@ -206,6 +236,7 @@ fn end(head: Head, audit: Audit, alloc: Global, last: &Last) -> Result<Place, Au
     let Some(base) = audit.end(alloc)? else {
         return Err(AuditFault::Entry);
     };
+    has_range(&base);
     let left = left_by(&head, &audit, base);
     Ok(Place {
         past: Some(Past {

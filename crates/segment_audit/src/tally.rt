@@ -1,6 +1,6 @@
 //! What segments say so far, in numbers.
 
-ghost use Rattle.std.specs.Prelude.{◌≡◌, ◌≤◌, ◌<◌, ◌+◌, ◌^◌, ◌∷◌, [], ℕ, List};
+ghost use Rattle.std.specs.Prelude.{◌≡◌, ◌≤◌, ◌<◌, ◌+◌, ◌^◌, ◌∷◌, [], if◌then◌else◌, List};
 ghost use Rattle.segment_text.specs.Items.{Item, item_seen};
 ghost use Rattle.segment_audit.specs.Counted as C;
 
@@ -85,6 +85,15 @@ fn is_aborted(got: &SegmentLine) -> bool
     matches!(got, SegmentLine::Entry(Entry::OfJob(_, Act::Aborted)))
 }
 
+/// A count with one more, where that is to be counted.
+fn count_if(count: u64, is_one: bool) -> u64
+    requires { count < 2 ^ 63 }
+    ensures value { result ≡ count + (if is_one then 1 else 0) }
+    ensures few { result ≤ count + 1 }
+{
+    if is_one { count + 1 } else { count }
+}
+
 impl Tally {
     ghost use Rattle.segment_audit.specs.Told.{IsAtMost, IsTallyOf};
 
@@ -113,14 +122,21 @@ impl Tally {
         ensures few { IsAtMost (lines + 1) result }
     {
         let _lines = lines;
+        let segments = count_if(self.segments, is_last(got));
+        let entries = count_if(self.entries, is_entry(got));
+        let jobs = count_if(self.jobs, is_opening(got));
+        let done = count_if(self.done, is_done(got));
+        let removed = self.removed.saturating_add(removed_in(got));
+        let failed = count_if(self.failed, is_failed(got));
+        let aborted = count_if(self.aborted, is_aborted(got));
         Tally {
-            segments: self.segments + u64::from(is_last(got)),
-            entries: self.entries + u64::from(is_entry(got)),
-            jobs: self.jobs + u64::from(is_opening(got)),
-            done: self.done + u64::from(is_done(got)),
-            removed: self.removed.saturating_add(removed_in(got)),
-            failed: self.failed + u64::from(is_failed(got)),
-            aborted: self.aborted + u64::from(is_aborted(got)),
+            segments,
+            entries,
+            jobs,
+            done,
+            removed,
+            failed,
+            aborted,
         }
     }
 }
