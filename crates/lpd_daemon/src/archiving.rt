@@ -6,6 +6,7 @@ ghost use Rattle.lpd_daemon.specs.Faults.{IsOpeningFault};
 use crate::configuration::copy_of;
 use crate::faults::Fault;
 use crate::house::House;
+use crate::keeping::refused;
 use crate::places::{Opened, told_places};
 use account_folder::{AccountFolder, WriteFault};
 use config_values::Config;
@@ -13,7 +14,6 @@ use log::{Log, error, info, warn};
 use program_edge::Settings;
 use shared_spool::{Segment, SpoolLedger};
 use std::alloc::{AllocError, Global};
-use std::fmt::Display;
 use std::fs::{File, Files};
 use std::rt::Clock;
 use std::sync::ledger::Ledger;
@@ -98,17 +98,6 @@ pub(crate) struct Archive<'a> {
 /// The time of day. 1970 where the clock can't be read.
 fn time_of<R: Clock>(rt: &R) -> SystemTime {
     SystemTime::now(rt).unwrap_or(UNIX_EPOCH)
-}
-
-/// The fault of a folder that can't be used. The log is told why.
-fn refused<R: Log, W: Display>(rt: &R, alloc: Global, path: &str, why: &W) -> Fault
-    ensures { IsOpeningFault result }
-{
-    info!(rt; "{path}: {why}");
-    match String::from_str(alloc, path) {
-        Ok(path) => Fault::PrinterFile(path),
-        Err(error) => Fault::from(error),
-    }
 }
 
 /// Opens the folder in which the account's segments become files, if the settings name one. Where the account is never rotated

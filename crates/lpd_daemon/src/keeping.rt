@@ -38,7 +38,7 @@ pub(crate) struct Kept<'a, R> {
 }
 
 /// The fault of a folder that can't be used. The log is told why.
-fn refused<R: Log, W: Display>(rt: &R, alloc: Global, path: &str, why: &W) -> Fault
+pub(crate) fn refused<R: Log, W: Display>(rt: &R, alloc: Global, path: &str, why: &W) -> Fault
     ensures { IsOpeningFault result }
 {
     info!(rt; "{path}: {why}");
