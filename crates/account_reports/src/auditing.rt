@@ -4,12 +4,13 @@ ghost use Rattle.std.specs.Prelude.{◌≡◌, ◌⊎◌};
 ghost use Rattle.account_reports.specs.Faults.{end_status};
 
 use crate::fault::ReportFault;
-use crate::files::{TakesLines, take_file};
+use crate::files::{numbered_line, open_lines, tell_unread};
+use crate::line_reader::LineReader;
 use crate::notes::write_text;
 use crate::request::AuditRequest;
 use crate::rereading::Rereading;
 use log::{Log, info};
-use lpd_commands::OctetWrite;
+use lpd_commands::{OctetRead, OctetWrite};
 use program_edge::tell;
 use segment_audit::{SegmentAudit, SegmentLine, Tally};
 use std::alloc::{AllocError, Global};
@@ -23,23 +24,23 @@ const STEP: u64 = 100_000;
 
 /// An audit of segments, and of what printers wrote.
 #[derive(Drop)]
-struct Auditing<'a, 'o, R, O> {
-    rt: &'a R,
+struct Auditing<'a, 'o, O> {
     audit: SegmentAudit,
-    rereading: Rereading<'a, R>,
+    rereading: Rereading<'a>,
     output: &'o mut O,
 }
 
-impl<'a, R: Files<File = File> + Log, O: OctetWrite> TakesLines<'a> for Auditing<'a, '_, R, O> {
-    fn take(
+impl<'a, O: OctetWrite> Auditing<'a, '_, O> {
+    /// Takes the line of this number of the file at a path, without its LF.
+    fn take<R: Files<File = File> + Log>(
         self,
+        rt: &R,
         alloc: Global,
         line: &[u8],
         path: &'a str,
         number: u64,
     ) -> Result<Self, ReportFault<'a>> {
         let Auditing {
-            rt,
             audit,
             mut rereading,
             output,
@@ -48,23 +49,67 @@ impl<'a, R: Files<File = File> + Log, O: OctetWrite> TakesLines<'a> for Auditing
             Ok(taken) => taken,
             Err(fault) => return Err(ReportFault::of_line(fault, path, number)),
         };
-        rereading.take(alloc, output, &got, path, number)?;
+        rereading.take(rt, alloc, output, &got, path, number)?;
         if number % STEP == 0 {
             info!(rt; "{path}: {number} lines");
         }
         Ok(Auditing {
-            rt,
             audit,
             rereading,
             output,
         })
     }
 
-    fn end_file(self, path: &'a str, number: u64) -> Result<Self, ReportFault<'a>> {
-        if number == 1 || !self.audit.is_between() {
-            return Err(ReportFault::Line(path, number));
+    /// Takes all lines of the file at a path.
+    fn take_lines<R: Files<File = File> + Log, I: OctetRead + Drop>(
+        self,
+        rt: &R,
+        alloc: Global,
+        path: &'a str,
+        lines: &mut LineReader<I>,
+    ) -> Result<Self, ReportFault<'a>> {
+        let mut auditing = self;
+        for number in 1..u64::MAX {
+            match numbered_line(lines, path, number)? {
+                Some(line) => auditing = auditing.take(rt, alloc, line, path, number)?,
+                None if number == 1 || !auditing.audit.is_between() => {
+                    return Err(ReportFault::Line(path, number));
+                }
+                None => return Ok(auditing),
+            }
         }
-        Ok(self)
+        Err(ReportFault::Line(path, u64::MAX))
+    }
+
+    /// Takes all lines of the file at a path. The log is told why it can't be read.
+    fn take_file<R: Files<File = File> + Log>(
+        self,
+        rt: &R,
+        alloc: Global,
+        path: &'a str,
+    ) -> Result<Self, ReportFault<'a>> {
+        let mut lines = open_lines(rt, alloc, path)?;
+        match self.take_lines(rt, alloc, path, &mut lines) {
+            Ok(auditing) => Ok(auditing),
+            Err(fault) => {
+                tell_unread(rt, path, &fault, &lines);
+                Err(fault)
+            }
+        }
+    }
+
+    /// Takes the files at these paths, in order.
+    fn take_files<R: Files<File = File> + Log>(
+        self,
+        rt: &R,
+        alloc: Global,
+        paths: &[&'a str],
+    ) -> Result<Self, ReportFault<'a>> {
+        let mut auditing = self;
+        for path in paths {
+            auditing = auditing.take_file(rt, alloc, path)?;
+        }
+        Ok(auditing)
     }
 }
 
@@ -84,7 +129,7 @@ fn summary(alloc: Global, tally: &Tally, digest: &str) -> Result<String, AllocEr
     )
 }
 
-impl<'a, R: Files<File = File> + Log, O: OctetWrite> Auditing<'a, '_, R, O> {
+impl<'a, O: OctetWrite> Auditing<'a, '_, O> {
     /// All files were read: whether they end as they are to is asked, and what they say is told.
     fn finish(self, alloc: Global, request: &AuditRequest<'a>) -> Result<(), ReportFault<'a>> {
         let Auditing {
@@ -112,21 +157,19 @@ impl<'a, R: Files<File = File> + Log, O: OctetWrite> Auditing<'a, '_, R, O> {
 
 /// Audits the segments of these files.
 fn audit_files<'a, R: Files<File = File> + Log, O: OctetWrite>(
-    rt: &'a R,
+    rt: &R,
     alloc: Global,
     request: &AuditRequest<'a>,
     output: &mut O,
 ) -> Result<(), ReportFault<'a>> {
-    let mut auditing = Auditing {
-        rt,
+    let rereading = Rereading::new(alloc, request.printed.as_slice())?;
+    let auditing = Auditing {
         audit: SegmentAudit::begin(request.after),
-        rereading: Rereading::new(rt, alloc, request.printed.as_slice())?,
+        rereading,
         output,
     };
-    for path in &request.files {
-        auditing = take_file(rt, alloc, path, auditing)?;
-    }
-    auditing.finish(alloc, request)
+    let audited = auditing.take_files(rt, alloc, request.files.as_slice())?;
+    audited.finish(alloc, request)
 }
 
 /// The exit status of an end. A fault is told.
@@ -151,10 +194,10 @@ pub(crate) fn ended<E: OctetWrite>(
 /// account is.
 ///
 /// Answers the exit status: 0 where all is legal and was printed so, 6 where it isn't, 4 for memory and files.
-pub fn audit<'a, R: Files<File = File> + Log, O: OctetWrite, E: OctetWrite>(
-    rt: &'a R,
+pub fn audit<R: Files<File = File> + Log, O: OctetWrite, E: OctetWrite>(
+    rt: &R,
     alloc: Global,
-    request: &AuditRequest<'a>,
+    request: &AuditRequest,
     output: &mut O,
     faults: &mut E,
 ) -> u8

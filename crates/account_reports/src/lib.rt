@@ -2,6 +2,7 @@
 #![tactic(auto)]
 
 mod auditing;
+mod counting;
 mod fault;
 mod files;
 mod line_reader;
@@ -9,9 +10,8 @@ mod notes;
 mod printers;
 mod request;
 mod rereading;
-mod usage;
 
 pub use account_usage::Grouping;
 pub use auditing::{AUDIT, audit};
+pub use counting::usage;
 pub use request::{AuditRequest, UsageRequest};
-pub use usage::usage;

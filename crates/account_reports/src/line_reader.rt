@@ -1,6 +1,6 @@
 //! Lines of a stream, one after the other, in bounded memory.
 
-ghost use Rattle.std.specs.Prelude.{◌≤◌, ◌<◌, ◌≡◌, IfOk, IfSome, length};
+ghost use Rattle.std.specs.Prelude.{◌≤◌, ◌<◌, ◌+◌, IfOk, IfSome, length};
 
 use lpd_commands::{OctetFault, OctetRead};
 use std::alloc::{AllocError, Global};
@@ -27,7 +27,7 @@ pub(crate) struct LineReader<R: OctetRead + Drop> {
     buffer: Vec<u8>,
     start: usize,
     end: usize,
-    ghost within: { (start ≤ end) × (end ≤ length buffer) },
+    ghost within: { (start ≤ end) × (end ≤ length buffer.items) },
 }
 
 impl<R: OctetRead + Drop> LineReader<R> {
@@ -85,7 +85,7 @@ impl<R: OctetRead + Drop> LineReader<R> {
     /// Goes on to behind the next LF, and tells from where to where the line before it stands. None at the end of the stream.
     fn next_range(&mut self) -> Result<Option<(usize, usize)>, LineFault>
         ensures { IfOk result (λ r. IfSome r (λ range.
-            (range.0 ≤ range.1) × (range.1 < length self.new.buffer))) }
+            (range.0 ≤ range.1) × (range.1 < length self.new.buffer.items))) }
     {
         let mut searched = 0;
         for _ in 0..u64::MAX {

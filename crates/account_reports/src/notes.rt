@@ -74,7 +74,7 @@ pub(crate) fn write_text<'a, O: OctetWrite>(
 }
 
 /// Writes a line about a printer. `WriteFile` where it can't be written, `Memory` where memory for it is refused.
-pub(crate) fn note<'a, O: OctetWrite>(
+pub(crate) fn put_note<'a, O: OctetWrite>(
     alloc: Global,
     output: &mut O,
     printer: u32,

@@ -1,7 +1,7 @@
 //! What printers wrote, read again beside their account.
 
 use crate::fault::ReportFault;
-use crate::notes::{Told, note};
+use crate::notes::{Told, put_note};
 use crate::printers::{PrintedFile, job_numbers};
 use account::{Entry, Sheet};
 use lpd_commands::OctetWrite;
@@ -43,8 +43,7 @@ enum Reread {
 
 /// The printers of an account, of which some are read again.
 #[derive(Drop)]
-pub(crate) struct Rereading<'r, R> {
-    rt: &'r R,
+pub(crate) struct Rereading<'r> {
     /// Each a directory, or a printer's number, an equals sign and a path.
     places: Vec<&'r str>,
     /// By the printers' numbers, from 1.
@@ -176,8 +175,13 @@ impl Reread {
             }
             Reread::File(file) => match file.trail.begin_run(length) {
                 RunBegins::There => Ok(()),
-                RunBegins::Behind(octets) => note(alloc, output, printer, Told::Between(octets)),
-                RunBegins::Shorter(octets) => note(alloc, output, printer, Told::Lost(octets)),
+                RunBegins::Behind(octets) => put_note(
+                    alloc,
+                    output,
+                    printer,
+                    Told::Between(octets),
+                ),
+                RunBegins::Shorter(octets) => put_note(alloc, output, printer, Told::Lost(octets)),
             },
         }
     }
@@ -218,12 +222,12 @@ impl Reread {
     ) -> Result<(), ReportFault<'a>> {
         match self {
             Reread::Nowhere => Ok(()),
-            Reread::Folder(folder) => note(alloc, output, printer, Told::Judged(folder.octets)),
+            Reread::Folder(folder) => put_note(alloc, output, printer, Told::Judged(folder.octets)),
             Reread::File(file) => {
-                note(alloc, output, printer, Told::Judged(file.trail.judged()))?;
+                put_note(alloc, output, printer, Told::Judged(file.trail.judged()))?;
                 let unplaced = file.trail.unjudged();
                 if unplaced != 0 {
-                    note(alloc, output, printer, Told::Unplaced(unplaced))?;
+                    put_note(alloc, output, printer, Told::Unplaced(unplaced))?;
                 }
                 let tail = file
                     .octets
@@ -231,7 +235,7 @@ impl Reread {
                     .and_then(|length| file.trail.end(length));
                 match tail {
                     Some(octets) if octets != 0 => {
-                        note(alloc, output, printer, Told::Tail(octets))
+                        put_note(alloc, output, printer, Told::Tail(octets))
                     }
                     _ => Ok(()),
                 }
@@ -240,17 +244,12 @@ impl Reread {
     }
 }
 
-impl<'r, R: Files<File = File>> Rereading<'r, R> {
+impl<'r> Rereading<'r> {
     /// The printers at these places: each a directory, or a printer's number, an equals sign and a path.
     ///
     /// AllocError where memory is refused.
-    pub(crate) fn new(
-        rt: &'r R,
-        alloc: Global,
-        places: &[&'r str],
-    ) -> Result<Rereading<'r, R>, AllocError> {
+    pub(crate) fn new(alloc: Global, places: &[&'r str]) -> Result<Rereading<'r>, AllocError> {
         Ok(Rereading {
-            rt,
             places: Vec::from_slice(alloc, places)?,
             rereads: Vec::new(alloc),
             heads: 0,
@@ -259,22 +258,23 @@ impl<'r, R: Files<File = File>> Rereading<'r, R> {
     }
 
     /// Reads the line of a head that tells a printer's place.
-    fn take_head<'a, O: OctetWrite>(
+    fn take_head<'a, R: Files<File = File>, O: OctetWrite>(
         &mut self,
+        rt: &R,
         alloc: Global,
         output: &mut O,
         place: &PrinterPlace,
     ) -> Result<(), ReportFault<'a>> {
         let at = self.heads;
-        let printer = u32::try_from(at + 1).unwrap_or(u32::MAX);
         self.heads = at.saturating_add(1);
+        let printer = u32::try_from(self.heads).unwrap_or(u32::MAX);
         if at >= self.rereads.len() {
             let reread = match path_of(alloc, self.places.as_slice(), printer)? {
                 None => Reread::Nowhere,
                 Some(path) => {
-                    let reread = Reread::open(self.rt, alloc, printer, place, path)?;
+                    let reread = Reread::open(rt, alloc, printer, place, path)?;
                     if let Reread::Nowhere = reread {
-                        note(alloc, output, printer, Told::Unread)?;
+                        put_note(alloc, output, printer, Told::Unread)?;
                     }
                     reread
                 }
@@ -290,8 +290,9 @@ impl<'r, R: Files<File = File>> Rereading<'r, R> {
     }
 
     /// Reads an entry, in the line of this number of the file at a path.
-    fn take_entry<'a, O: OctetWrite>(
+    fn take_entry<'a, R: Files<File = File>, O: OctetWrite>(
         &mut self,
+        rt: &R,
         alloc: Global,
         output: &mut O,
         entry: &Entry,
@@ -307,7 +308,7 @@ impl<'r, R: Files<File = File>> Rereading<'r, R> {
         let Some(reread) = self.rereads.get_mut(at as usize) else {
             return Ok(());
         };
-        match reread.take(self.rt, alloc, *printer, entry) {
+        match reread.take(rt, alloc, *printer, entry) {
             Ok(()) => Ok(()),
             Err(TrailFault::Memory) => Err(ReportFault::Memory),
             Err(TrailFault::Differs(differs)) => {
@@ -316,10 +317,10 @@ impl<'r, R: Files<File = File>> Rereading<'r, R> {
             }
             Err(TrailFault::Unread) => {
                 if let Reread::Folder(_) = reread {
-                    return note(alloc, output, *printer, Told::Missing(sheet.job));
+                    return put_note(alloc, output, *printer, Told::Missing(sheet.job));
                 }
                 *reread = Reread::Nowhere;
-                note(alloc, output, *printer, Told::Unread)
+                put_note(alloc, output, *printer, Told::Unread)
             }
         }
     }
@@ -327,8 +328,9 @@ impl<'r, R: Files<File = File>> Rereading<'r, R> {
     /// Reads a line that an audit has taken, of this number of the file at a path. What isn't judged is told.
     ///
     /// `Printed` where what was printed isn't what the account says, `WriteFile` where a line can't be written, `Memory`.
-    pub(crate) fn take<'a, O: OctetWrite>(
+    pub(crate) fn take<'a, R: Files<File = File>, O: OctetWrite>(
         &mut self,
+        rt: &R,
         alloc: Global,
         output: &mut O,
         got: &SegmentLine,
@@ -344,8 +346,8 @@ impl<'r, R: Files<File = File>> Rereading<'r, R> {
                 self.heads = 0;
                 Ok(())
             }
-            SegmentLine::Printer(place) => self.take_head(alloc, output, place),
-            SegmentLine::Entry(entry) => self.take_entry(alloc, output, entry, path, line),
+            SegmentLine::Printer(place) => self.take_head(rt, alloc, output, place),
+            SegmentLine::Entry(entry) => self.take_entry(rt, alloc, output, entry, path, line),
             SegmentLine::Config(_) | SegmentLine::Start(_) | SegmentLine::Last(_) => Ok(()),
         }
     }

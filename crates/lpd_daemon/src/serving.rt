@@ -412,8 +412,8 @@ where
         print_or_tell(rt, alloc, output, line)?;
         let (told, returned) = self.work(roles, entrance, output);
         let Returned { seats, counter } = returned;
-        let archive = self.archive.as_ref();
-        let ended = finish(rt, alloc, self.spool, seats, told, archive, output);
+        let House { spool, archive, .. } = self;
+        let ended = finish(rt, alloc, spool, seats, told, archive.as_ref(), output);
         if let Some(counter) = counter {
             counter.end(rt, alloc, &ended);
         }

@@ -5,13 +5,15 @@ ghost use Rattle.segment_text.specs.Streams.{HasReadAtMost};
 
 use crate::auditing::ended;
 use crate::fault::ReportFault;
-use crate::files::{TakesLines, take_file};
+use crate::files::{numbered_line, open_lines, tell_unread};
+use crate::line_reader::LineReader;
 use crate::notes::write_text;
 use crate::request::UsageRequest;
 use account_text::put_shown;
 use account_usage::{Grouping, UsageRow, UsageTable, is_within};
 use log::Log;
-use lpd_commands::OctetWrite;
+use lpd_commands::{OctetRead, OctetWrite};
+use lpd_values::Octets;
 use segment_text::{LineFault, SegmentLine, SegmentReader};
 use std::alloc::{AllocError, Global};
 use std::fs::{File, Files};
@@ -38,7 +40,8 @@ fn octets_of(time: Option<&str>) -> Option<&[u8]> {
     Some(time?.as_bytes())
 }
 
-impl<'a> TakesLines<'a> for Counting<'a> {
+impl<'a> Counting<'a> {
+    /// Takes the line of this number of the file at a path, without its LF.
     fn take(
         self,
         alloc: Global,
@@ -78,24 +81,71 @@ impl<'a> TakesLines<'a> for Counting<'a> {
         })
     }
 
-    fn end_file(self, path: &'a str, number: u64) -> Result<Self, ReportFault<'a>> {
-        if !self.reader.is_over() {
-            return Err(ReportFault::Line(path, number));
-        }
+    /// A file has ended, and its segment is over.
+    fn next_file(self) -> Self {
         let Counting {
             table,
             since,
             until,
             ..
         } = self;
-        Ok(Counting {
+        Counting {
             table,
             reader: SegmentReader::begin(),
             lines: 0,
             since,
             until,
             counts: false,
-        })
+        }
+    }
+
+    /// Takes all lines of the file at a path.
+    fn take_lines<I: OctetRead + Drop>(
+        self,
+        alloc: Global,
+        path: &'a str,
+        lines: &mut LineReader<I>,
+    ) -> Result<Self, ReportFault<'a>> {
+        let mut counting = self;
+        for number in 1..u64::MAX {
+            match numbered_line(lines, path, number)? {
+                Some(line) => counting = counting.take(alloc, line, path, number)?,
+                None if !counting.reader.is_over() => return Err(ReportFault::Line(path, number)),
+                None => return Ok(counting.next_file()),
+            }
+        }
+        Err(ReportFault::Line(path, u64::MAX))
+    }
+
+    /// Takes all lines of the file at a path. The log is told why it can't be read.
+    fn take_file<R: Files<File = File> + Log>(
+        self,
+        rt: &R,
+        alloc: Global,
+        path: &'a str,
+    ) -> Result<Self, ReportFault<'a>> {
+        let mut lines = open_lines(rt, alloc, path)?;
+        match self.take_lines(alloc, path, &mut lines) {
+            Ok(counting) => Ok(counting),
+            Err(fault) => {
+                tell_unread(rt, path, &fault, &lines);
+                Err(fault)
+            }
+        }
+    }
+
+    /// Takes the files at these paths, in order.
+    fn take_files<R: Files<File = File> + Log>(
+        self,
+        rt: &R,
+        alloc: Global,
+        paths: &[&'a str],
+    ) -> Result<Self, ReportFault<'a>> {
+        let mut counting = self;
+        for path in paths {
+            counting = counting.take_file(rt, alloc, path)?;
+        }
+        Ok(counting)
     }
 }
 
@@ -124,24 +174,33 @@ fn heading(by: Grouping) -> &'static str {
     }
 }
 
-/// The numbers of a row, as texts.
-fn numbers_of(alloc: Global, row: &UsageRow) -> Result<[String; 3], AllocError> {
+/// The fields of a row: its name as it is, and its numbers.
+fn fields_of(alloc: Global, row: &UsageRow) -> Result<[Octets; 4], AllocError> {
+    let jobs = format!(in alloc; "{}", row.jobs)?;
+    let sent = format!(in alloc; "{}", row.sent)?;
+    let printed = format!(in alloc; "{}", row.printed)?;
     Ok([
-        format!(in alloc; "{}", row.jobs)?,
-        format!(in alloc; "{}", row.sent)?,
-        format!(in alloc; "{}", row.printed)?,
+        Octets::copy_of(alloc, row.name.as_slice())?,
+        Octets::copy_of(alloc, jobs.as_bytes())?,
+        Octets::copy_of(alloc, sent.as_bytes())?,
+        Octets::copy_of(alloc, printed.as_bytes())?,
     ])
 }
 
-/// Writes the rows of a table as records, names as they are.
+/// Writes rows as records, below one that names their fields.
 fn write_records(
     records: &mut csv::Writer<Vec<u8>>,
     by: Grouping,
-    rows: &[(&[u8], [String; 3])],
+    rows: &[[Octets; 4]],
 ) -> Result<(), csv::Error> {
     records.write_fields(&[heading(by).as_bytes(), b"jobs", b"sent", b"printed"])?;
-    for (name, [jobs, sent, printed]) in rows {
-        records.write_fields(&[name, jobs.as_bytes(), sent.as_bytes(), printed.as_bytes()])?;
+    for fields in rows {
+        records.write_fields(&[
+            fields[0].as_slice(),
+            fields[1].as_slice(),
+            fields[2].as_slice(),
+            fields[3].as_slice(),
+        ])?;
     }
     records.flush()
 }
@@ -150,14 +209,14 @@ fn write_records(
 ///
 /// AllocError where memory is refused: nothing else can fail of a table in memory.
 fn records_of(alloc: Global, by: Grouping, rows: &[UsageRow]) -> Result<Vec<u8>, AllocError> {
-    let mut named = Vec::new(alloc);
+    let mut fields = Vec::new(alloc);
     for row in rows {
-        named.push((row.name.as_slice(), numbers_of(alloc, row)?))?;
+        fields.push(fields_of(alloc, row)?)?;
     }
     let mut records = csv::WriterBuilder::new()
         .terminator(csv::Terminator::Any(b'\n'))
         .from_writer(Vec::new(alloc));
-    if write_records(&mut records, by, named.as_slice()).is_err() {
+    if write_records(&mut records, by, fields.as_slice()).is_err() {
         return Err(AllocError);
     }
     records.into_inner().or(Err(AllocError))
@@ -179,7 +238,7 @@ fn tell_usage<'a, R: Files<File = File> + Log, O: OctetWrite>(
     request: &UsageRequest<'a>,
     output: &mut O,
 ) -> Result<(), ReportFault<'a>> {
-    let mut counting = Counting {
+    let counting = Counting {
         table: UsageTable::new(alloc, request.by),
         reader: SegmentReader::begin(),
         lines: 0,
@@ -187,10 +246,8 @@ fn tell_usage<'a, R: Files<File = File> + Log, O: OctetWrite>(
         until: request.until,
         counts: false,
     };
-    for path in &request.files {
-        counting = take_file(rt, alloc, path, counting)?;
-    }
-    let rows = counting.table.rows();
+    let counted = counting.take_files(rt, alloc, request.files.as_slice())?;
+    let rows = counted.table.rows();
     if request.csv {
         let text = records_of(alloc, request.by, rows)?;
         return write_text(output, text.as_slice());
