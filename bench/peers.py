@@ -446,64 +446,73 @@ def half(peer):
 
 
 KINDS = ("the data ends", "the data is reset", "the control file ends", "the control file is reset", "all data, and no octet behind it",
-         "control first, the data ends", "control first, the data is reset", "control first, the data ends at its last octet",
-         "control first, the second of two files ends", "a file that its sender calls bad", "the job is aborted", "control first, aborted")
+         "all of the control file, and no octet behind it", "data that its sender calls bad", "a control file that its sender calls bad",
+         "the job is aborted", "a whole job, the next one's data ends", "control first, the data ends", "control first, the data is reset",
+         "control first, all data, and no octet behind it", "control first, data that its sender calls bad",
+         "control first, the second of two files ends", "control first, it ends behind one of two files",
+         "one file, control for it and another, it ends", "control first, aborted behind one of two files")
 
 
 def hostile(address, number, kind, size, cut):
     """One connection that sends a job in part: each octet of its data tells of which kind it is."""
-    data, text, two = bytes([0xC0 + KINDS.index(kind)]) * size, control(number), control(number, files="AB")
-    part = data[:max(1, size * cut // 7)] if size > 1 else b""
-    ends_hard = "reset" in kind
-    with contextlib.suppress(OSError, Refused), contextlib.closing(connect(address, 3)) as peer:
-        if ends_hard:
+    data, text = bytes([0xC0 + KINDS.index(kind)]) * size, control(number, files="AB" if " of two " in kind or "another" in kind else "A")
+    part = data[:max(1, size * cut // 5)] if size > 1 else b""
+    letter = "B" if "second of two" in kind else "A"
+    with contextlib.closing(connect(address, 1.5)) as peer:
+        if "reset" in kind:
             peer.setsockopt(socket.SOL_SOCKET, socket.SO_LINGER, struct.pack("ii", 1, 0))
         tell(peer, b"\x02lp\n")
+        if kind.startswith("a whole job"):
+            one = control(number, "h0")
+            for octets in (data_line(number, 1, "h0"), b"+\0", control_line(number, one, "h0"), one + b"\0"):
+                tell(peer, octets)
         if kind.startswith("control first"):
-            whole = two if "two" in kind else text
-            tell(peer, control_line(number, whole))
-            tell(peer, whole + b"\0")
-            if "two" in kind:
-                tell(peer, data_line(number, size))
-                tell(peer, data + b"\0")
-            if "aborted" in kind:
-                peer.sendall(b"\x01\n")
-                peer.recv(1)
-                return
-            tell(peer, data_line(number, size, letter="B" if "two" in kind else "A"))
-            peer.sendall(data if "last" in kind else part)
-        elif kind.startswith("the data"):
-            tell(peer, data_line(number, size))
-            peer.sendall(part)
-        elif kind.startswith("all data"):
-            tell(peer, data_line(number, size))
-            peer.sendall(data)
-        elif kind.startswith("a file"):
-            tell(peer, data_line(number, size))
-            tell(peer, data + b"\x01")
             tell(peer, control_line(number, text))
             tell(peer, text + b"\0")
-        else:
+        if " of two " in kind:
             tell(peer, data_line(number, size))
             tell(peer, data + b"\0")
-            if "aborted" in kind:
-                peer.sendall(b"\x01\n")
-                peer.recv(1)
-                return
+        if "behind one of" not in kind:
+            tell(peer, data_line(number, size, letter=letter))
+        if "control file" in kind or "another" in kind or kind == "the job is aborted":
+            tell(peer, data + b"\0")
+        if "control file" in kind:
             tell(peer, control_line(number, text))
-            peer.sendall(text[:max(1, len(text) * cut // 7)])
-        if ends_hard:
-            time.sleep(0.02)  # (so that the server reads what came before the reset)
+        if "aborted" in kind:
+            tell(peer, b"\x01\n")
+        elif "another" in kind:
+            tell(peer, control_line(number, text))
+            tell(peer, text + b"\0")
+        elif "it ends behind" in kind:
+            pass
+        elif "all data" in kind:
+            peer.sendall(data)
+        elif "data that its sender" in kind:
+            tell(peer, data + b"\x01")
+            if not kind.startswith("control first"):
+                tell(peer, control_line(number, text))
+                tell(peer, text + b"\0")
+        elif "all of the control" in kind:
+            peer.sendall(text)
+        elif "control file that" in kind:
+            tell(peer, text + b"\x01")
+        elif "control file" in kind:
+            peer.sendall(text[:max(1, len(text) * cut // 5)])
+        else:
+            peer.sendall(part)
+        if "reset" in kind:
+            time.sleep(0.02)  # (so that the server reads what came before)
 
 
 def broken(peer):
-    """576 connections that end in the middle of a job, each in one of 12 ways, with one of 8 sizes, cut at one of 6 places; from 16 addresses
-    at once. Then a good job. Answers how many octets of the broken jobs were printed, how many kinds did so, and whether the good job was."""
-    tries = [(kind, size, cut) for kind in KINDS for size in (1, 100, 1000, 1024, 4096, 5000, 65536, 79000) for cut in range(1, 7)]
+    """576 connections that end in the middle of a job, each in one of 18 ways, with one of 8 sizes, cut at one of 4 places; from 16 addresses
+    at once. Then a good job. Answers how many octets of the broken jobs were printed, of how many ways, and whether the good job was."""
+    tries = [(kind, size, cut) for kind in KINDS for size in (1, 100, 1000, 1024, 4096, 5000, 30000, 65536) for cut in range(1, 5)]
 
     def one(index):
         for number in range(index, len(tries), 16):
-            hostile(peer.host(index), number, *tries[number])
+            with contextlib.suppress(OSError, Refused):
+                hostile(peer.host(index), number, *tries[number])
 
     together(16, one)
     peer.sink.wait(lambda data: False, 20, quiet=3)
@@ -513,22 +522,22 @@ def broken(peer):
     printed = [peer.sink.data.count(0xC0 + kind) for kind in range(len(KINDS))]
     if any(printed):
         print("; ".join(f"{kind}: {count}" for kind, count in zip(KINDS, printed) if count), flush=True)
-    return {"octets": sum(printed), "kinds": sum(map(bool, printed)), "good acknowledged": taken, "good printed": came}
+    return {"octets": sum(printed), "ways": sum(map(bool, printed)), "good acknowledged": taken, "good printed": came}
 
 
-def killed(peer):
-    """4 jobs of 64 KiB are acknowledged while the printer takes nothing; then every process of the server is killed, and it is started again.
-    Answers how many were acknowledged, and how many the printer then gets whole."""
+def killed(peer, seconds=1):
+    """4 jobs of 64 KiB are acknowledged while the printer takes nothing; so many seconds later every process of the server is killed, and it is
+    started again. Answers how many were acknowledged, and how many the printer then gets whole."""
     jobs = [f"<{number}>".encode().ljust(8, b".") * (8 * KIB) for number in range(4)]
     peer.sink.halt()
     taken = [send(peer.host(number), number, jobs[number]) for number in range(4)]
-    time.sleep(1)
+    time.sleep(seconds)
     peer.kill()
     peer.sink.empty()
     fcntl.fcntl(peer.sink.file, SET_PIPE_SIZE, MIB)
     peer.sink.goes.set()
     peer.again()
-    peer.sink.wait(lambda data: all(job in data for job in jobs), 45, quiet=20 if peer.name != Ours.name else 5)
+    peer.sink.wait(lambda data: all(job in data for job in jobs), 60, quiet=45 if peer.name != Ours.name else 5)
     return {"acknowledged": sum(taken), "printed": sum(job in peer.sink.data for job in jobs)}
 
 
@@ -563,10 +572,12 @@ ROWS = {
     "half": (half, {"megabytes": 40, "sizes": "half"}),
     "broken": (broken, {}),
     "killed": (killed, {}),
+    "killed-late": (lambda peer: killed(peer, 40), {}),
     "memory": (lambda peer: memory(peer, small), {}),
     "memory-large": (lambda peer: memory(peer, large), {"sizes": "large"}),
 }
 REPEATED = ("small", "large")
+LATE = ("cups-lpd",)  # whose jobs are on the disk half a minute after they were acknowledged
 
 
 # The turns
@@ -599,6 +610,8 @@ def inside(options):
             work, how = ROWS[row]
             for turn in range(options.turns if row in REPEATED else 1):
                 for peer in peers if turn % 2 == 0 else reversed(peers):
+                    if row == "killed-late" and peer.name not in LATE:
+                        continue
                     begun = time.monotonic()
                     try:
                         peer.start(**how)
