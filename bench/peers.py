@@ -194,8 +194,8 @@ class Peer:
 SIZES = {
     # name: pages, octets of a page, pages of a job, entries of the account
     "small": (4096, 4096, 20, 4_000_000),
-    "large": (1200, 65536, 1100, 1_000_000),
-    "half": (610, 65536, 130, 1_000_000),
+    "large": (1200, 65536, 1100, 16_000_000),
+    "half": (610, 65536, 130, 4_000_000),
 }
 
 
@@ -324,8 +324,8 @@ class Refused(Exception):
 def tell(peer, octets):
     """Sends octets that are answered, and wants octet 00."""
     peer.sendall(octets)
-    if (said := peer.recv(1)) != b"\0":
-        raise Refused(octets[:40], said + peer.recv(500))
+    if peer.recv(1) != b"\0":
+        raise Refused
 
 
 def control(number, host="h1", files="A"):
@@ -356,9 +356,7 @@ def send(address, number, octets, limit=LIMIT, pause=None):
             tell(peer, control_line(number, text))
             tell(peer, text + b"\0")
             return True
-    except (OSError, Refused) as error:
-        if os.environ.get("DBG"):
-            print(repr(error), number, flush=True)
+    except (OSError, Refused):
         return False
 
 
@@ -386,10 +384,8 @@ def small_job(client, number):
     return f"<{client:02}-{number:03}>".encode().ljust(KIB - 1, b".") + b"\n"
 
 
-def small(peer):
-    """500 jobs of 1 KiB from 8 clients, each a process with an address of its own that sends its jobs one after another over a connection
-    each. Answers how many were printed, how many a second from the start of the first to the last octet at the printer, and how many came
-    out behind a job that the same client sent later."""
+def start_clients(peer):
+    """A process for each client, all of which begin at once. Answers them, and when that was."""
     ready, start = os.pipe(), os.pipe()
     children = []
     for client in range(CLIENTS):
@@ -405,17 +401,24 @@ def small(peer):
     came = 0
     while came < CLIENTS:
         came += len(os.read(ready[0], 64))
-    begun = time.monotonic()
     os.close(start[1])
-    end = begun + 100
+    begun = time.monotonic()
+    for file in (ready[0], ready[1], start[0]):
+        os.close(file)
+    return children, begun
+
+
+def small(peer):
+    """500 jobs of 1 KiB from 8 clients, each a process with an address of its own that sends its jobs one after another over a connection
+    each. Answers how many were printed, how many a second from the start of the first to the last octet at the printer, and how many came
+    out behind a job that the same client sent later."""
+    children, begun = start_clients(peer)
     peer.sink.wait(lambda data: len(data) >= JOBS * KIB, 100, quiet=15)
     for child in children:
         while os.waitpid(child, os.WNOHANG)[0] == 0:
-            if time.monotonic() > end:
+            if time.monotonic() > begun + 100:
                 os.kill(child, signal.SIGKILL)
             time.sleep(0.01)
-    for file in (ready[0], ready[1], start[0]):
-        os.close(file)
     found = [(int(a), int(b)) for a, b in re.findall(rb"<(\d\d)-(\d\d\d)>\.{1015}\n", bytes(peer.sink.data))]
     latest, behind = {}, 0
     for client, number in found:
@@ -440,74 +443,54 @@ def half(peer):
     """16 jobs of 8 MiB come at once from as many addresses, in room for 40 MB: each stops in its middle for four seconds, or for as long as
     the server takes nothing of it, and then goes on. Nobody sends again what was refused. Answers how many were printed whole."""
     jobs = [f"<{number:02}>".encode() * (2 * MIB) for number in range(16)]
-    sent = together(16, lambda number: send(peer.host(number), number, jobs[number], 60, lambda: time.sleep(4)))
+    sent = together(16, lambda number: send(peer.host(number), number, jobs[number], LIMIT, lambda: time.sleep(4)))
     peer.sink.wait(lambda data: len(data) >= 8 * MIB * sum(map(bool, sent)), 30, quiet=8)
     return {"acknowledged": sum(map(bool, sent)), "whole": sum(job in peer.sink.data for job in jobs)}
 
 
-KINDS = ("the data ends", "the data is reset", "the control file ends", "the control file is reset", "all data, and no octet behind it",
-         "all of the control file, and no octet behind it", "data that its sender calls bad", "a control file that its sender calls bad",
-         "the job is aborted", "a whole job, the next one's data ends", "control first, the data ends", "control first, the data is reset",
-         "control first, all data, and no octet behind it", "control first, data that its sender calls bad",
-         "control first, the second of two files ends", "control first, it ends behind one of two files",
-         "one file, control for it and another, it ends", "control first, aborted behind one of two files")
+# How a job is broken: the parts that are sent of it. L, M are the lines of its data files A and B, C that of its control file, D and T
+# these files with an octet 00 behind them, B and U with an octet 01, by which their sender calls them bad, e and x with none, d and t
+# a part of them; A gives the job up, W is a whole job before it, 2 has the control file name two files, and ! resets the connection.
+# Small letters aren't answered.
+WAYS = {
+    "the data ends": "Ld", "the data is reset": "Ld!", "the control file ends": "LDCt", "the control file is reset": "LDCt!",
+    "all data, no octet behind it": "Le", "all of the control file, no octet behind it": "LDCx", "data that is called bad": "LBCT",
+    "a control file that is called bad": "LDCU", "given up": "LDA", "a whole job, the next one's data ends": "WLd",
+    "control first, the data ends": "CTLd", "control first, the data is reset": "CTLd!", "control first, all data, no octet behind it": "CTLe",
+    "control first, data that is called bad": "CTLB", "control first, the second of two files ends": "2CTLDMd",
+    "control first, it ends behind one of two files": "2CTLD", "one file, control for it and another, it ends": "2LDCT",
+    "control first, given up behind one of two files": "2CTLDA",
+}
 
 
-def hostile(address, number, kind, size, cut):
-    """One connection that sends a job in part: each octet of its data tells of which kind it is."""
-    data, text = bytes([0xC0 + KINDS.index(kind)]) * size, control(number, files="AB" if " of two " in kind or "another" in kind else "A")
-    part = data[:max(1, size * cut // 5)] if size > 1 else b""
-    letter = "B" if "second of two" in kind else "A"
+def parts_of(way, number, size, cut):
+    """The octets of each letter. Each octet of the data tells of which way it is."""
+    data, text = bytes([0xC0 + list(WAYS).index(way)]) * size, control(number, files="AB" if "2" in WAYS[way] else "A")
+    one = control(number, "h0")
+    return {"L": data_line(number, size), "M": data_line(number, size, letter="B"), "C": control_line(number, text), "A": b"\x01\n",
+            "D": data + b"\0", "B": data + b"\x01", "e": data, "d": data[:max(1, size * cut // 5)] if size > 1 else b"",
+            "T": text + b"\0", "U": text + b"\x01", "x": text, "t": text[:len(text) * cut // 5],
+            "W": (data_line(number, 1, "h0"), b"+\0", control_line(number, one, "h0"), one + b"\0")}
+
+
+def hostile(address, number, way, size, cut):
+    """One connection that sends a job in part."""
+    parts = parts_of(way, number, size, cut)
     with contextlib.closing(connect(address, 1.5)) as peer:
-        if "reset" in kind:
+        if "!" in WAYS[way]:
             peer.setsockopt(socket.SOL_SOCKET, socket.SO_LINGER, struct.pack("ii", 1, 0))
         tell(peer, b"\x02lp\n")
-        if kind.startswith("a whole job"):
-            one = control(number, "h0")
-            for octets in (data_line(number, 1, "h0"), b"+\0", control_line(number, one, "h0"), one + b"\0"):
-                tell(peer, octets)
-        if kind.startswith("control first"):
-            tell(peer, control_line(number, text))
-            tell(peer, text + b"\0")
-        if " of two " in kind:
-            tell(peer, data_line(number, size))
-            tell(peer, data + b"\0")
-        if "behind one of" not in kind:
-            tell(peer, data_line(number, size, letter=letter))
-        if "control file" in kind or "another" in kind or kind == "the job is aborted":
-            tell(peer, data + b"\0")
-        if "control file" in kind:
-            tell(peer, control_line(number, text))
-        if "aborted" in kind:
-            tell(peer, b"\x01\n")
-        elif "another" in kind:
-            tell(peer, control_line(number, text))
-            tell(peer, text + b"\0")
-        elif "it ends behind" in kind:
-            pass
-        elif "all data" in kind:
-            peer.sendall(data)
-        elif "data that its sender" in kind:
-            tell(peer, data + b"\x01")
-            if not kind.startswith("control first"):
-                tell(peer, control_line(number, text))
-                tell(peer, text + b"\0")
-        elif "all of the control" in kind:
-            peer.sendall(text)
-        elif "control file that" in kind:
-            tell(peer, text + b"\x01")
-        elif "control file" in kind:
-            peer.sendall(text[:max(1, len(text) * cut // 5)])
-        else:
-            peer.sendall(part)
-        if "reset" in kind:
+        for letter in WAYS[way].strip("2!"):
+            for part in parts[letter] if letter == "W" else [parts[letter]]:
+                peer.sendall(part) if letter.islower() else tell(peer, part)
+        if "!" in WAYS[way]:
             time.sleep(0.02)  # (so that the server reads what came before)
 
 
 def broken(peer):
     """576 connections that end in the middle of a job, each in one of 18 ways, with one of 8 sizes, cut at one of 4 places; from 16 addresses
     at once. Then a good job. Answers how many octets of the broken jobs were printed, of how many ways, and whether the good job was."""
-    tries = [(kind, size, cut) for kind in KINDS for size in (1, 100, 1000, 1024, 4096, 5000, 30000, 65536) for cut in range(1, 5)]
+    tries = [(way, size, cut) for way in WAYS for size in (1, 100, 1000, 1024, 4096, 5000, 30000, 65536) for cut in range(1, 5)]
 
     def one(index):
         for number in range(index, len(tries), 16):
@@ -519,9 +502,9 @@ def broken(peer):
     good = b"+" * KIB
     taken = send(peer.host(0), 999, good)
     came = peer.sink.wait(lambda data: good in data, 15)
-    printed = [peer.sink.data.count(0xC0 + kind) for kind in range(len(KINDS))]
+    printed = [peer.sink.data.count(0xC0 + way) for way in range(len(WAYS))]
     if any(printed):
-        print("; ".join(f"{kind}: {count}" for kind, count in zip(KINDS, printed) if count), flush=True)
+        print(f"{peer.name}: " + "; ".join(f"{way}: {count}" for way, count in zip(WAYS, printed) if count), flush=True)
     return {"octets": sum(printed), "ways": sum(map(bool, printed)), "good acknowledged": taken, "good printed": came}
 
 
@@ -586,47 +569,57 @@ def mount(*words):
     subprocess.run(["mount", *words], check=True, timeout=20)
 
 
-def inside(options):
-    """All turns, in namespaces of their own."""
+def prepare(options, room):
+    """Unpacks the packages, and hides what servers write into behind folders of this script's own. Answers where the packages are."""
     subprocess.run(["ip", "link", "set", "lo", "up"], check=True, timeout=20)
     with open("/proc/sys/net/ipv4/tcp_max_tw_buckets", "w") as file:
         file.write("0")  # (an ended connection keeps no port: BSD lpd wouldn't start again for a minute)
+    os.chmod(room, 0o755)
+    unpacked = f"{room}/packages"
+    os.mkdir(unpacked)
+    for name in ("lprng", "lpr", "cups", "openbsd-inetd"):
+        for file in glob.glob(f"{options.packages}/{name}_*.deb"):
+            subprocess.run(["dpkg", "-x", file, f"{unpacked}/{name}"], check=True, timeout=60)
+    shutil.copytree("/etc", f"{room}/etc", symlinks=True)
+    mount("--bind", f"{room}/etc", "/etc")
+    mount("-t", "tmpfs", "none", "/var/log")
+    return unpacked
+
+
+def take(row, turn, peer, options, figures):
+    """Runs a row with a server that is new, and says what came of it."""
+    work, how = ROWS[row]
+    begun, told, log = time.monotonic(), {}, ""
+    try:
+        peer.start(**how)
+        told = work(peer)
+        figures.setdefault((row, peer.name), []).append(told)
+    except (OSError, subprocess.SubprocessError, Refused) as error:
+        told = {"fault": repr(error)}
+    if options.logs:
+        log = open(f"{peer.folder}/log", errors="replace").read()[-300:]
+    peer.stop()
+    said = ", ".join(f"{name} {it if isinstance(it, str) else round(float(it), 1)}" for name, it in told.items())
+    print(f"{row}, turn {turn + 1}, {peer.name}: {said} ({time.monotonic() - begun:.1f} s) {log}", flush=True)
+
+
+def inside(options):
+    """All turns, in namespaces of their own."""
     with tempfile.TemporaryDirectory(dir=os.environ.get("ROOM", "/var/tmp")) as room:
-        os.chmod(room, 0o755)
-        unpacked = f"{room}/packages"
-        os.mkdir(unpacked)
-        for name in ("lprng", "lpr", "cups", "openbsd-inetd"):
-            for file in glob.glob(f"{options.packages}/{name}_*.deb"):
-                subprocess.run(["dpkg", "-x", file, f"{unpacked}/{name}"], check=True, timeout=60)
-        shutil.copytree("/etc", f"{room}/etc", symlinks=True)
-        mount("--bind", f"{room}/etc", "/etc")
-        mount("-t", "tmpfs", "none", "/var/log")
-        mount("-t", "tmpfs", "none", "/dev/shm")
-        peers = [kind(unpacked, room) for kind in (Ours, Kept, Lprng, Bsd, Cups) if not options.peers or kind.name in options.peers.split(",")]
+        unpacked = prepare(options, room)
+        wanted = options.peers.split(",") if options.peers else []
+        peers = [kind(unpacked, room) for kind in (Ours, Kept, Lprng, Bsd, Cups) if not wanted or kind.name in wanted]
         for peer in peers:
             print(f"{peer.name}: {peer.version(options.packages)}", flush=True)
         figures = {}
         for row in options.rows.split(",") if options.rows else ROWS:
-            work, how = ROWS[row]
             for turn in range(options.turns if row in REPEATED else 1):
                 for peer in peers if turn % 2 == 0 else reversed(peers):
-                    if row == "killed-late" and peer.name not in LATE:
-                        continue
-                    begun = time.monotonic()
-                    try:
-                        peer.start(**how)
-                        figures.setdefault((row, peer.name), []).append(work(peer))
-                    except (OSError, subprocess.SubprocessError, Refused) as error:
-                        print(f"{row}, {peer.name}: {error}", flush=True)
-                    log = open(f"{peer.folder}/log", errors="replace").read()[-300:] if options.logs else ""
-                    if os.environ.get("KEEP"): shutil.copytree(peer.folder, os.environ["KEEP"] + "/" + peer.name, ignore=lambda d, n: ["printer"] if "printer" in n else [], dirs_exist_ok=True)
-                    peer.stop()
-                    told = {name: round(it, 1) for name, it in figures.get((row, peer.name), [{}])[-1].items()}
-                    print(f"{row}, turn {turn + 1}, {peer.name}: {told} in {time.monotonic() - begun:.1f} s {log}", flush=True)
+                    if row != "killed-late" or peer.name in LATE:
+                        take(row, turn, peer, options, figures)
         for (row, name), seen in figures.items():
-            print(f"{row}, {name}: " + ", ".join(f"{it} {statistics.median(one[it] for one in seen):,.1f}" for it in seen[0]))
-        mount("--make-rprivate", "/")
-        for place in ("/etc", "/var/log", "/dev/shm"):
+            print(f"{row}, {name}: " + ", ".join(f"{it} {statistics.median(float(one[it]) for one in seen):,.1f}" for it in seen[0]))
+        for place in ("/etc", "/var/log"):
             subprocess.run(["umount", "-l", place], timeout=20)
 
 
