@@ -180,12 +180,15 @@ class Peer:
         shutil.rmtree(f"{self.folder}/spool", ignore_errors=True)
 
     def peak(self):
-        """The most memory of its main process, in octets."""
+        """The most memory that a process of its program has had so far, in octets, of those that are there."""
+        most = 0
         for process in others():
             with contextlib.suppress(OSError):
-                if self.main in open(f"/proc/{process}/cmdline").read().replace("\0", " "):
-                    return int(re.search(r"VmHWM:\s*(\d+)", open(f"/proc/{process}/status").read())[1]) * KIB
-        return 0
+                words = open(f"/proc/{process}/cmdline").read().replace("\0", " ")
+                if self.main in words and "peers.py" not in words:
+                    found = re.search(r"VmHWM:\s*(\d+)", open(f"/proc/{process}/status").read())
+                    most = max(most, int(found[1]) * KIB if found else 0)
+        return most
 
     def make(self):
         pass
@@ -193,14 +196,15 @@ class Peer:
 
 SIZES = {
     # name: pages, octets of a page, pages of a job, entries of the account
-    "small": (4096, 4096, 20, 4_000_000),
+    "small": (2048, 4096, 1, 1_000_000),
+    "whole": (4096, 4096, 40, 4_000_000),
     "large": (1200, 65536, 1100, 16_000_000),
     "half": (610, 65536, 130, 4_000_000),
 }
 
 
 class Ours(Peer):
-    name, main, words = "this server", "lpd_server serve", ()
+    name, main, words = "this server", " serve ", ()
 
     def version(self, packages):
         said = subprocess.run([PROGRAM, "--version"], capture_output=True, text=True, timeout=20)
@@ -221,7 +225,7 @@ class Kept(Ours):
 
 
 class Lprng(Peer):
-    name, package, main = "LPRng", "lprng", "lprng/usr/sbin/lpd"
+    name, package, main = "LPRng", "lprng", "lpd"
 
     def make(self):
         shutil.copytree(f"{self.unpacked}/lprng/etc/lprng", "/etc/lprng", dirs_exist_ok=True)
@@ -252,7 +256,7 @@ class Bsd(Peer):
 
 
 class Cups(Peer):
-    name, package, main = "cups-lpd", "cups", "cupsd"
+    name, package, main = "cups-lpd", "cups", "/usr/sbin/cupsd"
 
     def make(self):
         programs = f"{self.room}/cups-programs"
@@ -527,18 +531,19 @@ def killed(peer, seconds=1):
 def memory(peer, row):
     """The most that its main process had of memory, and the most that all its processes had together (each shared page once, looked at each
     20 ms), in megabytes, in a row of its own."""
-    most, ends = [0], threading.Event()
-    mine = set()
+    most, main, ends = [0], [0], threading.Event()
+    mine = {os.getpid()}
 
     def look():
         while not ends.wait(0.02):
             total = 0
-            for process in others():
-                with contextlib.suppress(OSError, TypeError):
+            main[0] = max(main[0], peer.peak())
+            for process in set(others()) - mine:
+                with contextlib.suppress(OSError):
                     if "peers.py" in open(f"/proc/{process}/cmdline").read():
-                        mine.add(process)
-                        continue
-                    total += int(re.search(r"\nPss:\s*(\d+)", open(f"/proc/{process}/smaps_rollup").read())[1])
+                        mine.add(process)  # (a client)
+                    elif found := re.search(r"\nPss:\s*(\d+)", open(f"/proc/{process}/smaps_rollup").read()):
+                        total += int(found[1])
             most[0] = max(most[0], total)
 
     thread = threading.Thread(target=look, daemon=True)
@@ -546,16 +551,16 @@ def memory(peer, row):
     row(peer)
     ends.set()
     thread.join(5)
-    return {"main": peer.peak() / 1e6, "all": most[0] * KIB / 1e6}
+    return {"main": main[0] / 1e6, "all": most[0] * KIB / 1e6}
 
 
 ROWS = {
     "small": (small, {}),
     "large": (large, {"sizes": "large"}),
     "half": (half, {"megabytes": 40, "sizes": "half"}),
-    "broken": (broken, {}),
-    "killed": (killed, {}),
-    "killed-late": (lambda peer: killed(peer, 40), {}),
+    "broken": (broken, {"sizes": "whole"}),
+    "killed": (killed, {"sizes": "whole"}),
+    "killed-late": (lambda peer: killed(peer, 40), {"sizes": "whole"}),
     "memory": (lambda peer: memory(peer, small), {}),
     "memory-large": (lambda peer: memory(peer, large), {"sizes": "large"}),
 }
