@@ -1,5 +1,5 @@
 -- The words of an audit and of what is asked of use.
-use Rattle.std.proofs.Common.{◌≡◌, ◌∙◌, ap, refl, slice_index, sym, List, None, Some, codes, inl, inr}
+use Rattle.std.proofs.Common.{◌≡◌, ◌∙◌, ap, refl, slice_index, sym, List, None, Some, codes}
 use Rattle.clap.specs.Words.{Row, Text, all_of}
 use Rattle.lpd_commands.specs.declared.command.Command.{Command}
 use Rattle.lpd_commands.specs.declared.command.Command.TheVariants.{PrintWaiting, Receive, State, Remove}
