@@ -120,8 +120,9 @@ pub(crate) fn told_places(
     places: &[Opened],
 ) -> Result<Vec<PrinterPlace>, AllocError> {
     let mut told = Vec::new(alloc);
-    for (at, opened) in places.iter().enumerate() {
-        let printer = (at as u32).saturating_add(1);
+    let mut printer = 0;
+    for opened in places {
+        printer = u32::saturating_add(printer, 1);
         let place = match place_of(settings, printer) {
             Some(place) => format!(in alloc; "{place}")?,
             None => format!(in alloc; "file:{}/printer-{printer}", settings.out)?,
