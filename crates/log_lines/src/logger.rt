@@ -20,7 +20,7 @@ pub struct LineLog<'a, R: Clock + Wait> {
     alloc: Global,
     queue: &'a LineQueue,
     /// Of what is logged for information, only what these parts of the program give is told; where there are none, all is.
-    informing: Option<&'a [&'a str]>,
+    informing: Option<&'static [&'static str]>,
 }
 
 impl<'a, R: Clock + Wait> LineLog<'a, R> {
@@ -35,7 +35,7 @@ impl<'a, R: Clock + Wait> LineLog<'a, R> {
     }
 
     /// The same, which tells of what is logged for information only what these parts of the program give.
-    pub fn informed_by(self, targets: &'a [&'a str]) -> LineLog<'a, R> {
+    pub fn informed_by(self, targets: &'static [&'static str]) -> LineLog<'a, R> {
         LineLog {
             informing: Some(targets),
             ..self
