@@ -8,7 +8,7 @@ ghost use Rattle.segment_text.specs.Seen.{start_seen};
 use crate::fault::WriteFault;
 use crate::listing::list;
 use crate::names::SegmentName;
-use crate::opening::{FILE_MODE, OpenError, make_folder, take_lock};
+use crate::opening::OpenError;
 use crate::reading::next_in;
 use crate::stamps::stamp;
 use crate::writing::{TextFault, write_segment};
@@ -17,6 +17,7 @@ use config_values::Config;
 use lpd_values::Octets;
 use program_edge::StreamWriter;
 use segment_text::{Head, Origin, PrinterPlace, Start};
+use server_folder::FILE_MODE;
 use std::alloc::Global;
 use std::fmt::{Display, Formatter, Write};
 use std::fs::{File, Files, OpenOptions};
@@ -122,8 +123,7 @@ impl AccountFolder {
         printers: Vec<PrinterPlace>,
         begun: SystemTime,
     ) -> Result<AccountFolder, OpenError> {
-        make_folder(rt, alloc, path)?;
-        let lock = take_lock(rt, alloc, path)?;
+        let lock = server_folder::take(rt, alloc, path)?;
         let listing = list(rt, alloc, path)?;
         for name in &listing.left {
             let path = format!(in alloc; "{path}/{name}.tmp").map_err(io::Error::from)?;

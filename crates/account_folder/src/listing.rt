@@ -4,10 +4,6 @@ use crate::names::SegmentName;
 use std::alloc::{AllocError, Global};
 use std::fs::Files;
 use std::io;
-use std::io::Read;
-
-/// How many octets of names are read at once.
-const PIECE: usize = 8_192;
 
 /// The files of a folder that are segments, or were to become ones.
 #[derive(Drop)]
@@ -29,38 +25,29 @@ fn later(name: SegmentName, other: Option<SegmentName>) -> SegmentName {
 }
 
 impl Listing {
-    /// Notes the names that end at octets 00. Any other name is passed over.
-    fn note(&mut self, octets: &[u8]) -> Result<(), AllocError> {
+    /// The segments among these names, each of which ends at an octet 00. Any other name is passed over.
+    pub(crate) fn of(alloc: Global, octets: &[u8]) -> Result<Listing, AllocError> {
+        let mut listing = Listing {
+            segments: 0,
+            greatest: None,
+            left: Vec::new(alloc),
+        };
         for octets in octets.split(|octet| *octet == 0) {
             if let Some(name) = SegmentName::parse(octets) {
-                self.segments = self.segments.saturating_add(1);
-                self.greatest = Some(later(name, self.greatest));
+                listing.segments = listing.segments.saturating_add(1);
+                listing.greatest = Some(later(name, listing.greatest));
             } else if let Some(octets) = octets.strip_suffix(b".tmp") {
                 if let Some(name) = SegmentName::parse(octets) {
-                    self.left.push(name)?;
+                    listing.left.push(name)?;
                 }
             }
         }
-        Ok(())
+        Ok(listing)
     }
 }
 
 /// The segments in the folder at this path. An error where it can't be read, or memory is refused.
 pub(crate) fn list<R: Files>(rt: &R, alloc: Global, path: &str) -> io::Result<Listing> {
-    let mut listing = Listing {
-        segments: 0,
-        greatest: None,
-        left: Vec::new(alloc),
-    };
-    let mut folder = rt.open_dir(path)?;
-    let mut buffer = [0u8; PIECE];
-    for _ in 0..u64::MAX {
-        let count = folder.read(&mut buffer)?;
-        if count == 0 {
-            break;
-        }
-        // No read ends inside a name.
-        listing.note(&buffer[..count])?;
-    }
-    Ok(listing)
+    let octets = server_folder::names(rt, alloc, path)?;
+    Ok(Listing::of(alloc, octets.as_slice())?)
 }

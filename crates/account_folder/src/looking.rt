@@ -1,10 +1,10 @@
 //! Looking at a folder of segments without taking it.
 
-use crate::listing::list;
+use crate::listing::Listing;
 use crate::opening::OpenError;
 use crate::reading::next_in;
 use std::alloc::Global;
-use std::fs::{File, Files, OpenOptions, TryLockError};
+use std::fs::{File, Files};
 use std::io;
 
 /// What stands at a path where a server is to write its account.
@@ -17,30 +17,6 @@ pub enum AccountState {
         /// How many segments are in it.
         segments: u64,
     },
-}
-
-/// Whether no server has the folder. The lock is shared, and given back at once: it is never made here.
-fn check_lock<R: Files<File = File>>(rt: &R, alloc: Global, path: &str) -> Result<(), OpenError> {
-    let path = format!(in alloc; "{path}/lock").map_err(io::Error::from)?;
-    let file = match OpenOptions::new().write(true).open(rt, path.as_str()) {
-        Ok(file) => file,
-        Err(cause) if cause.kind() == io::ErrorKind::NotFound => return Ok(()),
-        Err(cause) => return Err(OpenError::Failed(cause)),
-    };
-    match file.try_lock_shared() {
-        Ok(()) => Ok(()),
-        Err(TryLockError::WouldBlock) => Err(OpenError::InUse),
-        Err(TryLockError::Error(cause)) => Err(OpenError::Failed(cause)),
-    }
-}
-
-/// The folder in which the one at this path stands or would stand.
-fn folder_above(path: &str) -> &str {
-    match path.trim_end_matches('/').rsplit_once('/') {
-        Some(("", _)) => "/",
-        Some((above, _)) => above,
-        None => ".",
-    }
 }
 
 /// What stands at this path. Nothing is made or changed. The last segment is read to its end.
@@ -56,15 +32,10 @@ pub fn look<R: Files<File = File>>(
     alloc: Global,
     path: &str,
 ) -> Result<AccountState, OpenError> {
-    let listing = match list(rt, alloc, path) {
-        Ok(listing) => listing,
-        Err(cause) if cause.kind() == io::ErrorKind::NotFound => {
-            rt.open_dir(folder_above(path))?;
-            return Ok(AccountState::Absent);
-        }
-        Err(cause) => return Err(OpenError::Failed(cause)),
+    let Some(octets) = server_folder::look(rt, alloc, path)? else {
+        return Ok(AccountState::Absent);
     };
-    check_lock(rt, alloc, path)?;
+    let listing = Listing::of(alloc, octets.as_slice()).map_err(io::Error::from)?;
     next_in(rt, alloc, path, &listing)?;
     let segments = listing.segments;
     Ok(AccountState::Present { segments })

@@ -3,9 +3,10 @@
 use crate::fault::DiskFault;
 use crate::listing::names_in;
 use crate::numbers::Numbers;
-use crate::opening::{FILE_MODE, OpenError, make_folder, take_lock};
+use crate::opening::OpenError;
 use crate::syncs::{Syncs, Told};
 use job_files::{FileName, JobEnd, JobFiles, Stage, WaitingJobs};
+use server_folder::FILE_MODE;
 use std::alloc::{AllocError, Global};
 use std::fs::{File, Files, OpenOptions};
 use std::os::unix::fs::OpenOptionsExt;
@@ -48,8 +49,7 @@ impl<'a, R: Files<File = File> + Wait> Disk<'a, R> {
         path: &'a str,
         jobs: usize,
     ) -> Result<Disk<'a, R>, OpenError> {
-        make_folder(rt, alloc, path)?;
-        let lock = take_lock(rt, alloc, path)?;
+        let lock = server_folder::take(rt, alloc, path)?;
         let names = names_in(rt, alloc, path)?;
         let standing = Standing {
             numbers: Numbers::behind(names.as_slice()),

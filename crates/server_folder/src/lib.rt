@@ -1,0 +1,13 @@
+//! A folder of the operating system that one server has at a time: how it is made, its lock, and which names are in it.
+#![tactic(auto)]
+
+mod fault;
+mod listing;
+mod lock;
+mod looking;
+mod making;
+
+pub use fault::FolderError;
+pub use listing::names;
+pub use looking::look;
+pub use making::{FILE_MODE, take};
