@@ -19,7 +19,7 @@ import threading
 import time
 
 from client import connect, free_port, send, spool
-from keeping import check, main
+from keeping import check, main, small_disk
 
 PROGRAM = os.path.abspath(sys.argv[1]) if len(sys.argv) > 1 else ""
 CLIENTS = 8
@@ -68,8 +68,22 @@ class Books:
     def log(self):
         return open(f"{self.folder}/log", "rb").read().decode(errors="replace")
 
+    def await_log(self, text):
+        for _ in range(200):
+            if text in self.log():
+                return
+            time.sleep(0.05)
+        raise AssertionError(f"the log doesn't say {text}: {self.log()[-400:]}")
+
     def segments(self):
-        return sorted(glob.glob(f"{self.account}/segment-*"))
+        return sorted(glob.glob(f"{self.account}/segment-" + "[0-9]" * 10))
+
+    def await_segments(self, count):
+        for _ in range(400):
+            if len(self.segments()) >= count:
+                return
+            time.sleep(0.05)
+        raise AssertionError(f"{len(self.segments())} segments: {self.log()[-400:]}")
 
     def load(self, jobs=JOBS):
         """Clients send jobs of random sizes, each from an address of its own."""
@@ -109,11 +123,7 @@ def two_runs(room):
     """Two runs under load with rotations, of which the first is killed."""
     room.start()
     room.load()
-    for _ in range(100):
-        if len(room.segments()) >= 2:
-            break
-        time.sleep(0.1)
-    check(len(room.segments()) >= 2, f"{len(room.segments())} segments: {room.log()[-400:]}")
+    room.await_segments(2)
     room.kill()
     room.start()
     room.load()
@@ -221,6 +231,24 @@ def changed_files_are_told():
         return "each change is told"
 
 
+def a_full_disk():
+    """Segments that find no room on the disk wait, jobs are printed meanwhile, and once there is room the account is whole."""
+    with Books("--rotate", "40") as room, small_disk(room.account, 1):
+        room.start()
+        with open(f"{room.account}/filler", "wb") as file:
+            with contextlib.suppress(OSError):
+                file.write(b"x" * (1 << 20))
+        room.load(12)
+        room.await_log("No space left on device")
+        check(not room.segments(), room.segments())
+        os.remove(f"{room.account}/filler")
+        room.await_segments(1)
+        room.stop()
+        status, told, why = room.audit("--printed", room.folder)
+        check(status == 0 and "jobs 96 done 96 " in told, f"status {status}: {told}{why}")
+        return f"{told.splitlines()[0]}; the log: {room.log().strip().splitlines()[0][-110:]}"
+
+
 def measured(*line):
     """The exit status of a program, what it says on standard error, and its memory at its peak in KB."""
     with tempfile.TemporaryFile() as why:
@@ -307,7 +335,7 @@ def write_segment(path, run, previous, entries):
     return count
 
 
-SCENES = [written_and_audited, changed_files_are_told, hostile_files, a_long_account]
+SCENES = [written_and_audited, changed_files_are_told, a_full_disk, hostile_files, a_long_account]
 
 if __name__ == "__main__":
     sys.exit(main(SCENES, __doc__))

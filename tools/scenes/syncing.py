@@ -12,6 +12,7 @@ import subprocess
 import sys
 import time
 
+from auditing import Books
 from client import send
 from keeping import Room, check, main
 
@@ -51,6 +52,22 @@ class Watched(Room):
             with open(path) as file:
                 lines = file.readlines()
             if any(end in line for line in lines):
+                return [kind for line in lines for call, kind in kinds if re.match(call, line)]
+        return []
+
+
+class WatchedBooks(Books):
+    """A room with an account whose server is watched for a while."""
+    watching, watch, is_watched = Watched.watching, Watched.watch, Watched.is_watched
+
+    def calls(self):
+        """The calls that made files of segments, in their order: syncs and renames that went well."""
+        kinds = ((r"fsync\(\d+<\S+/segment-\d+\.tmp>\) += 0", "tmp"), (r"rename\w*\(.*\.tmp.*\) += 0", "rename"),
+                 (r"fsync\(\d+<\S+/account>\) += 0", "folder"))
+        for path in glob.glob(f"{self.folder}/trace.*"):
+            with open(path) as file:
+                lines = file.readlines()
+            if any("segment-" in line for line in lines):
                 return [kind for line in lines for call, kind in kinds if re.match(call, line)]
         return []
 
@@ -119,8 +136,36 @@ def the_folder_s_sync_fails():
     return refuses("fsync")
 
 
+def a_segment_is_synced():
+    """A segment's file is synced, then gets its name, and then the folder is synced."""
+    with WatchedBooks("--rotate", "40") as room:
+        room.start()
+        with room.watch():
+            room.load(8)
+            room.await_segments(1)
+            room.stop()
+        calls = room.calls()
+        check(calls[:3] == ["tmp", "rename", "folder"] and len(calls) == 3 * len(room.segments()), calls)
+        return ", ".join(calls)
+
+
+def a_segment_s_sync_fails():
+    """A segment whose sync fails gets no name and waits, jobs are printed meanwhile, and later the account is whole."""
+    with WatchedBooks("--rotate", "40") as room:
+        room.start()
+        with room.watch("fsync"):
+            room.load(8)
+            room.await_log("Input/output error")
+            check(not room.segments(), room.segments())
+        room.await_segments(1)
+        room.stop()
+        status, told, why = room.audit("--printed", room.folder)
+        check(status == 0 and "jobs 64 done 64 " in told, f"status {status}: {told}{why}")
+        return room.log().strip().splitlines()[0][-110:]
+
+
 if __name__ == "__main__":
     if not shutil.which("strace"):
         raise SystemExit("strace isn't there")
     sys.exit(main([a_job_is_synced_before_it_is_acknowledged, a_start_syncs_the_folder, a_job_that_is_sent_again_is_synced, a_file_s_sync_fails,
-                   the_folder_s_sync_fails], __doc__))
+                   the_folder_s_sync_fails, a_segment_is_synced, a_segment_s_sync_fails], __doc__))

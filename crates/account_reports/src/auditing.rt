@@ -4,13 +4,12 @@ ghost use Rattle.std.specs.Prelude.{◌≡◌, ◌⊎◌};
 ghost use Rattle.account_reports.specs.Faults.{end_status};
 
 use crate::fault::ReportFault;
-use crate::files::{numbered_line, open_lines, tell_unread};
-use crate::line_reader::LineReader;
+use crate::files::{TakeLines, take_files};
 use crate::notes::write_text;
 use crate::request::AuditRequest;
 use crate::rereading::Rereading;
 use log::{Log, info};
-use lpd_commands::{OctetRead, OctetWrite};
+use lpd_commands::OctetWrite;
 use program_edge::tell;
 use segment_audit::{SegmentAudit, SegmentLine, Tally};
 use std::alloc::{AllocError, Global};
@@ -30,8 +29,7 @@ struct Auditing<'a, 'o, O> {
     output: &'o mut O,
 }
 
-impl<'a, O: OctetWrite> Auditing<'a, '_, O> {
-    /// Takes the line of this number of the file at a path, without its LF.
+impl<'a, O: OctetWrite> TakeLines<'a> for Auditing<'a, '_, O> {
     fn take<R: Files<File = File> + Log>(
         self,
         rt: &R,
@@ -60,56 +58,11 @@ impl<'a, O: OctetWrite> Auditing<'a, '_, O> {
         })
     }
 
-    /// Takes all lines of the file at a path.
-    fn take_lines<R: Files<File = File> + Log, I: OctetRead + Drop>(
-        self,
-        rt: &R,
-        alloc: Global,
-        path: &'a str,
-        lines: &mut LineReader<I>,
-    ) -> Result<Self, ReportFault<'a>> {
-        let mut auditing = self;
-        for number in 1..u64::MAX {
-            match numbered_line(lines, path, number)? {
-                Some(line) => auditing = auditing.take(rt, alloc, line, path, number)?,
-                None if number == 1 || !auditing.audit.is_between() => {
-                    return Err(ReportFault::Line(path, number));
-                }
-                None => return Ok(auditing),
-            }
+    fn end_file(self, path: &'a str, number: u64) -> Result<Self, ReportFault<'a>> {
+        if number == 1 || !self.audit.is_between() {
+            return Err(ReportFault::Line(path, number));
         }
-        Err(ReportFault::Line(path, u64::MAX))
-    }
-
-    /// Takes all lines of the file at a path. The log is told why it can't be read.
-    fn take_file<R: Files<File = File> + Log>(
-        self,
-        rt: &R,
-        alloc: Global,
-        path: &'a str,
-    ) -> Result<Self, ReportFault<'a>> {
-        let mut lines = open_lines(rt, alloc, path)?;
-        match self.take_lines(rt, alloc, path, &mut lines) {
-            Ok(auditing) => Ok(auditing),
-            Err(fault) => {
-                tell_unread(rt, path, &fault, &lines);
-                Err(fault)
-            }
-        }
-    }
-
-    /// Takes the files at these paths, in order.
-    fn take_files<R: Files<File = File> + Log>(
-        self,
-        rt: &R,
-        alloc: Global,
-        paths: &[&'a str],
-    ) -> Result<Self, ReportFault<'a>> {
-        let mut auditing = self;
-        for path in paths {
-            auditing = auditing.take_file(rt, alloc, path)?;
-        }
-        Ok(auditing)
+        Ok(self)
     }
 }
 
@@ -168,7 +121,7 @@ fn audit_files<'a, R: Files<File = File> + Log, O: OctetWrite>(
         rereading,
         output,
     };
-    let audited = auditing.take_files(rt, alloc, request.files.as_slice())?;
+    let audited = take_files(auditing, rt, alloc, request.files.as_slice())?;
     audited.finish(alloc, request)
 }
 

@@ -5,14 +5,13 @@ ghost use Rattle.segment_text.specs.Streams.{HasReadAtMost};
 
 use crate::auditing::ended;
 use crate::fault::ReportFault;
-use crate::files::{numbered_line, open_lines, tell_unread};
-use crate::line_reader::LineReader;
+use crate::files::{TakeLines, take_files};
 use crate::notes::write_text;
 use crate::request::UsageRequest;
 use account_text::put_shown;
 use account_usage::{Grouping, UsageRow, UsageTable, is_within};
 use log::Log;
-use lpd_commands::{OctetRead, OctetWrite};
+use lpd_commands::OctetWrite;
 use lpd_values::Octets;
 use segment_text::{LineFault, SegmentLine, SegmentReader};
 use std::alloc::{AllocError, Global};
@@ -40,10 +39,10 @@ fn octets_of(time: Option<&str>) -> Option<&[u8]> {
     Some(time?.as_bytes())
 }
 
-impl<'a> Counting<'a> {
-    /// Takes the line of this number of the file at a path, without its LF.
-    fn take(
+impl<'a> TakeLines<'a> for Counting<'a> {
+    fn take<R: Files<File = File> + Log>(
         self,
+        _rt: &R,
         alloc: Global,
         line: &[u8],
         path: &'a str,
@@ -81,71 +80,24 @@ impl<'a> Counting<'a> {
         })
     }
 
-    /// A file has ended, and its segment is over.
-    fn next_file(self) -> Self {
+    fn end_file(self, path: &'a str, number: u64) -> Result<Self, ReportFault<'a>> {
+        if !self.reader.is_over() {
+            return Err(ReportFault::Line(path, number));
+        }
         let Counting {
             table,
             since,
             until,
             ..
         } = self;
-        Counting {
+        Ok(Counting {
             table,
             reader: SegmentReader::begin(),
             lines: 0,
             since,
             until,
             counts: false,
-        }
-    }
-
-    /// Takes all lines of the file at a path.
-    fn take_lines<I: OctetRead + Drop>(
-        self,
-        alloc: Global,
-        path: &'a str,
-        lines: &mut LineReader<I>,
-    ) -> Result<Self, ReportFault<'a>> {
-        let mut counting = self;
-        for number in 1..u64::MAX {
-            match numbered_line(lines, path, number)? {
-                Some(line) => counting = counting.take(alloc, line, path, number)?,
-                None if !counting.reader.is_over() => return Err(ReportFault::Line(path, number)),
-                None => return Ok(counting.next_file()),
-            }
-        }
-        Err(ReportFault::Line(path, u64::MAX))
-    }
-
-    /// Takes all lines of the file at a path. The log is told why it can't be read.
-    fn take_file<R: Files<File = File> + Log>(
-        self,
-        rt: &R,
-        alloc: Global,
-        path: &'a str,
-    ) -> Result<Self, ReportFault<'a>> {
-        let mut lines = open_lines(rt, alloc, path)?;
-        match self.take_lines(alloc, path, &mut lines) {
-            Ok(counting) => Ok(counting),
-            Err(fault) => {
-                tell_unread(rt, path, &fault, &lines);
-                Err(fault)
-            }
-        }
-    }
-
-    /// Takes the files at these paths, in order.
-    fn take_files<R: Files<File = File> + Log>(
-        self,
-        rt: &R,
-        alloc: Global,
-        paths: &[&'a str],
-    ) -> Result<Self, ReportFault<'a>> {
-        let mut counting = self;
-        for path in paths {
-            counting = counting.take_file(rt, alloc, path)?;
-        }
-        Ok(counting)
+        })
     }
 }
 
@@ -246,7 +198,7 @@ fn tell_usage<'a, R: Files<File = File> + Log, O: OctetWrite>(
         until: request.until,
         counts: false,
     };
-    let counted = counting.take_files(rt, alloc, request.files.as_slice())?;
+    let counted = take_files(counting, rt, alloc, request.files.as_slice())?;
     let rows = counted.table.rows();
     if request.csv {
         let text = records_of(alloc, request.by, rows)?;

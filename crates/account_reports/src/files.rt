@@ -1,4 +1,4 @@
-//! The files of segments, and their lines with their numbers.
+//! The files of segments, line by line.
 
 use crate::fault::ReportFault;
 use crate::line_reader::LineReader;
@@ -11,7 +11,7 @@ use std::fs::{File, Files};
 /// The lines of the file at a path. Of one that can't be opened no line can be read.
 ///
 /// AllocError where memory for one line is refused.
-pub(crate) fn open_lines<R: Files<File = File>>(
+fn open_lines<R: Files<File = File>>(
     rt: &R,
     alloc: Global,
     path: &str,
@@ -19,22 +19,8 @@ pub(crate) fn open_lines<R: Files<File = File>>(
     LineReader::new(alloc, StreamReader::open(rt, path))
 }
 
-/// The line of this number of the file at a path, without its LF. None at the end of the file.
-///
-/// `ReadFile` where it can't be read, `Line` where it is too long or the file ends inside it.
-pub(crate) fn numbered_line<'a, 'l, I: OctetRead + Drop>(
-    lines: &'l mut LineReader<I>,
-    path: &'a str,
-    number: u64,
-) -> Result<Option<&'l [u8]>, ReportFault<'a>> {
-    match lines.next_line() {
-        Ok(line) => Ok(line),
-        Err(fault) => Err(ReportFault::of_reading(fault, path, number)),
-    }
-}
-
 /// Tells the log at INFO why the file at a path can't be read, where that is the fault.
-pub(crate) fn tell_unread<R: Log>(
+fn tell_unread<R: Log>(
     rt: &R,
     path: &str,
     fault: &ReportFault,
@@ -43,4 +29,73 @@ pub(crate) fn tell_unread<R: Log>(
     if let ReportFault::ReadFile(_) = fault {
         tell_cause(rt, &path, lines.reader().cause());
     }
+}
+
+/// Who is told the lines of files, one after the other.
+pub(crate) trait TakeLines<'a>: Sized {
+    /// Takes the line of this number of the file at a path, without its LF.
+    fn take<R: Files<File = File> + Log>(
+        self,
+        rt: &R,
+        alloc: Global,
+        line: &[u8],
+        path: &'a str,
+        number: u64,
+    ) -> Result<Self, ReportFault<'a>>;
+
+    /// The file at a path has ended, and would have gone on with the line of this number. `Line` where it may not end there.
+    fn end_file(self, path: &'a str, number: u64) -> Result<Self, ReportFault<'a>>;
+}
+
+/// Has all lines of the file at a path taken.
+fn take_lines<'a, T: TakeLines<'a>, R: Files<File = File> + Log, I: OctetRead + Drop>(
+    taker: T,
+    rt: &R,
+    alloc: Global,
+    path: &'a str,
+    lines: &mut LineReader<I>,
+) -> Result<T, ReportFault<'a>> {
+    let mut taker = taker;
+    for number in 1..u64::MAX {
+        match lines.next_line() {
+            Ok(Some(line)) => taker = taker.take(rt, alloc, line, path, number)?,
+            Ok(None) => return taker.end_file(path, number),
+            Err(fault) => return Err(ReportFault::of_reading(fault, path, number)),
+        }
+    }
+    Err(ReportFault::Line(path, u64::MAX))
+}
+
+/// Has all lines of the file at a path taken. The log is told why it can't be read.
+fn take_file<'a, T: TakeLines<'a>, R: Files<File = File> + Log>(
+    taker: T,
+    rt: &R,
+    alloc: Global,
+    path: &'a str,
+) -> Result<T, ReportFault<'a>> {
+    let mut lines = open_lines(rt, alloc, path)?;
+    match take_lines(taker, rt, alloc, path, &mut lines) {
+        Ok(taker) => Ok(taker),
+        Err(fault) => {
+            tell_unread(rt, path, &fault, &lines);
+            Err(fault)
+        }
+    }
+}
+
+/// Has the lines of the files at these paths taken, in order.
+///
+/// `ReadFile` where one can't be read, `Line` where a line of it is too long, or it ends inside one or where it may not, and what who
+/// takes them refuses. The log is told why a file can't be read.
+pub(crate) fn take_files<'a, T: TakeLines<'a>, R: Files<File = File> + Log>(
+    taker: T,
+    rt: &R,
+    alloc: Global,
+    paths: &[&'a str],
+) -> Result<T, ReportFault<'a>> {
+    let mut taker = taker;
+    for path in paths {
+        taker = take_file(taker, rt, alloc, path)?;
+    }
+    Ok(taker)
 }

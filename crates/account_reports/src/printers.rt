@@ -3,16 +3,13 @@
 ghost use Rattle.std.specs.Prelude.{◌≡◌, ◌≤◌, IfSome, length};
 
 use printed_pages::PrintedOctets;
-use std::alloc::{AllocError, Global};
+use std::alloc::Global;
 use std::fs::{File, Files, OpenOptions};
 use std::io::{ErrorKind, Read, Seek, SeekFrom};
 use std::{io, str};
 
 /// How often a read that was interrupted is tried.
 const TRIES: u32 = 1_000;
-
-/// How many octets of names are read at once.
-const PIECE: usize = 8_192;
 
 /// A file that is read again.
 #[derive(Drop)]
@@ -70,28 +67,14 @@ fn job_number(name: &[u8]) -> Option<u64> {
     str::from_utf8(digits).ok()?.parse().ok()
 }
 
-/// Puts the numbers of jobs' files behind these, of names that end at octets 00.
-fn push_numbers(numbers: &mut Vec<u64>, names: &[u8]) -> Result<(), AllocError> {
+/// The numbers of the jobs' files in the folder at a path, rising. An error where it can't be read, or memory is refused.
+pub(crate) fn job_numbers<R: Files>(rt: &R, alloc: Global, path: &str) -> io::Result<Vec<u64>> {
+    let names = server_folder::names(rt, alloc, path)?;
+    let mut numbers = Vec::new(alloc);
     for name in names.split(|octet| *octet == 0) {
         if let Some(number) = job_number(name) {
             numbers.push(number)?;
         }
-    }
-    Ok(())
-}
-
-/// The numbers of the jobs' files in the folder at a path, rising. An error where it can't be read, or memory is refused.
-pub(crate) fn job_numbers<R: Files>(rt: &R, alloc: Global, path: &str) -> io::Result<Vec<u64>> {
-    let mut numbers = Vec::new(alloc);
-    let mut folder = rt.open_dir(path)?;
-    let mut buffer = [0u8; PIECE];
-    for _ in 0..u64::MAX {
-        let count = folder.read(&mut buffer)?;
-        if count == 0 {
-            break;
-        }
-        // No read ends inside a name.
-        push_numbers(&mut numbers, &buffer[..count])?;
     }
     numbers.sort_unstable();
     Ok(numbers)
