@@ -12,6 +12,7 @@ fn resource_word(resource: Resource) -> &'static str {
     match resource {
         Resource::Page => "page",
         Resource::Metrics => "metrics",
+        Resource::Json => "json",
     }
 }
 

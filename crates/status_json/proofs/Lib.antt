@@ -1,0 +1,2 @@
+mod DepthLemmas
+pub mod ValueLemmas
