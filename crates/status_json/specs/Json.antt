@@ -1,5 +1,5 @@
 -- What /status.json stands for.
-use Rattle.std.specs.Prelude.{ℕ, ◌+◌, ◌==◌, Bool, true, false, List, [], ◌∷◌, ◌++◌, Option, Some, None, codes, map, if◌then◌else◌, slice_index_or, string_bytes}
+use Rattle.std.specs.Prelude.{ℕ, ◌+◌, ◌==◌, Bool, false, List, [], ◌∷◌, Option, Some, None, codes, map, if◌then◌else◌, slice_index_or, string_bytes}
 use Rattle.std.specs.Borrow.{Bor}
 use Rattle.std.specs.Int.{w32, to_be_bytes}
 use Rattle.std.specs.List.{list_any}
@@ -7,7 +7,7 @@ use Rattle.std.specs.Net.Text.{ipv4_text, socket_text}
 use Rattle.account.specs.declared.entry.Sheet.{Sheet}
 use Rattle.claims.specs.declared.row.Row.{Row}
 use Rattle.claims.specs.Claims.{row_at}
-use Rattle.config_values.specs.Config.{Config, Queue, queue_at}
+use Rattle.config_values.specs.Config.{Queue, queue_at}
 use Rattle.control_lines.specs.Escapes.{escaped}
 use Rattle.counts.specs.Amounts.{amount}
 use Rattle.serde_json.specs.Data.{Data, boolean, null, number, unsigned, string, array, object, member, no_members}
