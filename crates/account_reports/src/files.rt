@@ -48,7 +48,7 @@ pub(crate) trait TakeLines<'a>: Sized {
 }
 
 /// Has all lines of the file at a path taken.
-fn take_lines<'a, T: TakeLines<'a>, R: Files<File = File> + Log, I: OctetRead + Drop>(
+fn take_lines<'a, T: TakeLines<'a> + Drop, R: Files<File = File> + Log, I: OctetRead + Drop>(
     taker: T,
     rt: &R,
     alloc: Global,
@@ -67,7 +67,7 @@ fn take_lines<'a, T: TakeLines<'a>, R: Files<File = File> + Log, I: OctetRead + 
 }
 
 /// Has all lines of the file at a path taken. The log is told why it can't be read.
-fn take_file<'a, T: TakeLines<'a>, R: Files<File = File> + Log>(
+fn take_file<'a, T: TakeLines<'a> + Drop, R: Files<File = File> + Log>(
     taker: T,
     rt: &R,
     alloc: Global,
@@ -87,7 +87,7 @@ fn take_file<'a, T: TakeLines<'a>, R: Files<File = File> + Log>(
 ///
 /// `ReadFile` where one can't be read, `Line` where a line of it is too long, or it ends inside one or where it may not, and what who
 /// takes them refuses. The log is told why a file can't be read.
-pub(crate) fn take_files<'a, T: TakeLines<'a>, R: Files<File = File> + Log>(
+pub(crate) fn take_files<'a, T: TakeLines<'a> + Drop, R: Files<File = File> + Log>(
     taker: T,
     rt: &R,
     alloc: Global,

@@ -31,11 +31,7 @@ fn make<R: Files<File = File>>(rt: &R, alloc: Global, path: &str) -> io::Result<
 /// # Errors
 ///
 /// `InUse` where another server has it; `Failed` where it can't be made, or its lock can't be opened, or memory is refused.
-pub fn take<R: Files<File = File>>(
-    rt: &R,
-    alloc: Global,
-    path: &str,
-) -> Result<File, FolderError> {
+pub fn take<R: Files<File = File>>(rt: &R, alloc: Global, path: &str) -> Result<File, FolderError> {
     make(rt, alloc, path)?;
     take_lock(rt, alloc, path)
 }

@@ -31,19 +31,30 @@ job_low s at j = omega (arith, known_low count 0 (λ n. omega arith) (slice_inde
 
 printer_low : (s : Scene) (at : ℕ) (p : Printer) → depth (printer_data s at p) ≤ 2
 printer_low s at p =
-    omega (arith, known_low sheet_data 1 (λ sheet. omega arith) p.out,
-    known_low standstill_data 1 (λ stop. omega arith) (stop_of p.stopped (slice_index_or s.outside.now.standstills.now at None)))
+    omega (
+      arith,
+      known_low sheet_data 1 (λ sheet. omega arith) p.out,
+      known_low standstill_data 1 (λ stop. omega arith) (stop_of p.stopped (slice_index_or s.outside.now.standstills.now at None)),
+    )
 
 queue_low : (s : Scene) (at : ℕ) (q : Queue) → depth (queue_data s at q) ≤ 1
 queue_low s at q = omega arith
 
 server_low : (s : Scene) → depth (server_data s) ≤ 3
 server_low s =
-    omega (arith, known_low kept_data 1 (λ kept. omega arith) s.outside.now.kept,
-    map_low session_data 1 (λ session. omega arith) s.outside.now.sessions.now)
+    omega (
+      arith,
+      known_low kept_data 1 (λ kept. omega arith) s.outside.now.kept,
+      map_low session_data 1 (λ session. omega arith) s.outside.now.sessions.now,
+    )
 
 pub scene_low : (s : Scene) → depth (scene_data s) ≤ max_depth
 scene_low s =
-    omega (arith, placed_low (job_data s) 2 (job_low s) 0 s.spool.now.jobs.items, order_low s.order,
-    placed_low (printer_data s) 2 (printer_low s) 0 s.spool.now.printers.items,
-    placed_low (queue_data s) 1 (queue_low s) 0 s.config.now.queues, server_low s)
+    omega (
+      arith,
+      placed_low (job_data s) 2 (job_low s) 0 s.spool.now.jobs.items,
+      order_low s.order,
+      placed_low (printer_data s) 2 (printer_low s) 0 s.spool.now.printers.items,
+      placed_low (queue_data s) 1 (queue_low s) 0 s.config.now.queues,
+      server_low s,
+    )

@@ -18,7 +18,8 @@ fn prints(alloc: Global, out: Option<&Sheet>) -> Result<Value, AllocError>
     ensures { IfOk result (λ value. view value ≡ known sheet_data (option_copied out.entry)) }
 {
     match out {
-        Some(sheet) => json!(in alloc; {"job": count(sheet.job), "place": count(u64::from(sheet.place))}),
+        Some(sheet) =>
+            json!(in alloc; {"job": count(sheet.job), "place": count(u64::from(sheet.place))}),
         None => Ok(Value::Null),
     }
 }
@@ -28,7 +29,8 @@ fn standstill(alloc: Global, stop: Option<&Standstill>) -> Result<Value, AllocEr
     ensures { IfOk result (λ value. view value ≡ known standstill_data (option_copied stop.entry)) }
 {
     match stop {
-        Some(stop) => json!(in alloc; {"cause": stop.cause.as_str(), "seconds": count(stop.seconds)}),
+        Some(stop) =>
+            json!(in alloc; {"cause": stop.cause.as_str(), "seconds": count(stop.seconds)}),
         None => Ok(Value::Null),
     }
 }
