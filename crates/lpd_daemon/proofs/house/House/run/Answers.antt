@@ -1,4 +1,4 @@
-use Rattle.std.proofs.Common.{◌∙◌, ap, refl}
+use Rattle.std.proofs.Common.{◌∙◌, ap}
 use Rattle.std.proofs.lemmas.Result.{err_from_is_err_and}
 use Rattle.lpd_daemon.specs.Faults.{write_faults}
 use Rattle.lpd_daemon.proofs.Rotations.{TellsRotations-written, TellsRotations-counts, TellsRotations-fault, WritesAll-ok}
