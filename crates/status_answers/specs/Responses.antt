@@ -1,9 +1,8 @@
 -- What is answered (RFC 9110, RFC 9112).
-use Rattle.std.specs.Prelude.{◌≡◌, ℕ, List, ◌++◌, Some, codes, length}
+use Rattle.std.specs.Prelude.{◌≡◌, ℕ, List, ◌++◌, codes, length}
 use Rattle.std.specs.Fmt.{decimal}
 use Rattle.html_page.specs.Parts.{IsPage}
-use Rattle.serde_json.specs.Read.{read}
-use Rattle.status_json.specs.Json.{scene_data}
+use Rattle.status_json.specs.Json.{IsJson}
 use Rattle.status_metrics.specs.Metrics.{metrics_text}
 use Rattle.status_request.specs.declared.asked.Method.{Method}
 use Rattle.status_request.specs.declared.asked.Method.TheVariants.{Get, Head}
@@ -42,7 +41,7 @@ in_one_line line =
 abbrev pub IsBody : Scene → Resource → List ℕ → Type 0
 IsBody scene Page body = ∥ IsPage body ∥₁
 IsBody scene Metrics body = body ≡ metrics_text scene
-IsBody scene Json body = read body ≡ Some (scene_data scene)
+IsBody scene Json body = IsJson scene body
 
 -- the response with a resource whose text is the body; HEAD is answered without it
 abbrev pub response_text : Method → Resource → List ℕ → List ℕ

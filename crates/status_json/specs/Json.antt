@@ -1,5 +1,5 @@
 -- What /status.json stands for.
-use Rattle.std.specs.Prelude.{ℕ, ◌+◌, ◌==◌, Bool, false, List, [], ◌∷◌, Option, Some, None, codes, map, if◌then◌else◌, slice_index_or, string_bytes}
+use Rattle.std.specs.Prelude.{◌≡◌, ℕ, ◌+◌, ◌==◌, Bool, false, List, [], ◌∷◌, Option, Some, None, codes, map, if◌then◌else◌, slice_index_or, string_bytes}
 use Rattle.std.specs.Borrow.{Bor}
 use Rattle.std.specs.Int.{w32, to_be_bytes}
 use Rattle.std.specs.List.{list_any}
@@ -11,6 +11,7 @@ use Rattle.config_values.specs.Config.{Queue, queue_at}
 use Rattle.control_lines.specs.Escapes.{escaped}
 use Rattle.counts.specs.Amounts.{amount}
 use Rattle.serde_json.specs.Data.{Data, boolean, null, number, unsigned, string, array, object, member, no_members}
+use Rattle.serde_json.specs.Read.{read}
 use Rattle.serde_json.specs.View.{items_of}
 use Rattle.spool_calls.specs.declared.printer.Printer.{Printer}
 use Rattle.spool_snapshot.specs.declared.job.SeenJob.{SeenJob}
@@ -145,3 +146,7 @@ scene_data s =
     member (codes "printers") (list_data (placed_data (printer_data s) s.spool.now.printers.items)) (
     member (codes "queues") (list_data (placed_data (queue_data s) s.config.now.queues)) (
     member (codes "server") (server_data s) no_members)))))))
+
+-- a text of JSON that is read back as the whole
+abbrev pub IsJson : Scene → List ℕ → Type 0
+IsJson s text = read text ≡ Some (scene_data s)

@@ -1,9 +1,8 @@
 //! The whole text.
 
-ghost use Rattle.std.specs.Prelude.{◌≡◌, ◌++◌, IfOk, OnOk, Some, map, string_bytes};
-ghost use Rattle.serde_json.specs.Read.{read};
+ghost use Rattle.std.specs.Prelude.{◌≡◌, ◌++◌, IfOk, OnOk, map, string_bytes};
 ghost use Rattle.serde_json.specs.View.{view};
-ghost use Rattle.status_json.specs.Json.{count, entries_data, kept_data, kept_order, known, pages_data, scene_data, server_data, session_data};
+ghost use Rattle.status_json.specs.Json.{IsJson, count, entries_data, kept_data, kept_order, known, pages_data, scene_data, server_data, session_data};
 
 use crate::jobs::jobs;
 use crate::queues::{printers, queues};
@@ -134,7 +133,7 @@ fn scene_value(alloc: Global, scene: &Scene<'_>) -> Result<Value, AllocError>
 /// AllocError where memory for it is refused.
 #[tactic(auto, using(crate::proofs::DepthLemmas::scene_low))]
 pub fn json(alloc: Global, scene: &Scene<'_>) -> Result<String, AllocError>
-    ensures { IfOk result (λ text. read (string_bytes text) ≡ Some (scene_data scene.now)) }
+    ensures { IfOk result (λ text. IsJson scene.now (string_bytes text)) }
 {
     scene_value(alloc, scene)?.to_string(alloc)
 }
