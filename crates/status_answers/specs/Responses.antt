@@ -2,12 +2,11 @@
 use Rattle.std.specs.Prelude.{◌≡◌, ℕ, List, ◌++◌, codes, length}
 use Rattle.std.specs.Fmt.{decimal}
 use Rattle.html_page.specs.Parts.{IsPage}
-use Rattle.status_json.specs.Json.{IsJson}
 use Rattle.status_metrics.specs.Metrics.{metrics_text}
 use Rattle.status_request.specs.declared.asked.Method.{Method}
 use Rattle.status_request.specs.declared.asked.Method.TheVariants.{Get, Head}
 use Rattle.status_request.specs.declared.asked.Resource.{Resource}
-use Rattle.status_request.specs.declared.asked.Resource.TheVariants.{Page, Metrics, Json}
+use Rattle.status_request.specs.declared.asked.Resource.TheVariants.{Page, Metrics}
 use Rattle.status_request.specs.declared.judged.Refusal.{Refusal}
 use Rattle.status_request.specs.declared.judged.Refusal.TheVariants.{BadRequest, OtherHost, NotFound, MethodNotAllowed, TooLarge}
 use Rattle.status_scene.specs.declared.scene.Scene.{Scene}
@@ -24,7 +23,6 @@ refusal_line TooLarge = codes "431 Request Header Fields Too Large"
 abbrev pub kind_of : Resource → List ℕ
 kind_of Page = codes "text/html; charset=utf-8"
 kind_of Metrics = codes "text/plain; version=0.0.4; charset=utf-8"
-kind_of Json = codes "application/json"
 
 -- a head: nothing is kept, run or fetched from elsewhere, and the connection ends
 unfoldable pub head_text : (line kind : List ℕ) → ℕ → List ℕ
@@ -37,11 +35,10 @@ abbrev pub in_one_line : List ℕ → List ℕ
 in_one_line line =
     let body = line ++ codes "\n" in head_text line (codes "text/plain; charset=utf-8") (length body) ++ body
 
--- the text of a resource: a whole page, exactly the metrics, or JSON that is read back as what the scene says
+-- the text of a resource: a whole page, or exactly the metrics
 abbrev pub IsBody : Scene → Resource → List ℕ → Type 0
 IsBody scene Page body = ∥ IsPage body ∥₁
 IsBody scene Metrics body = body ≡ metrics_text scene
-IsBody scene Json body = IsJson scene body
 
 -- the response with a resource whose text is the body; HEAD is answered without it
 abbrev pub response_text : Method → Resource → List ℕ → List ℕ

@@ -3,7 +3,6 @@
 ghost use Rattle.std.specs.Prelude.{◌≡◌, List, IfOk, codes, string_bytes, ℕ};
 ghost use Rattle.status_answers.specs.Responses.{IsBody, in_one_line, head_text, kind_of, refusal_line, response_text};
 
-use status_json::json;
 use status_metrics::metrics;
 use status_page::html;
 use status_request::{Method, Refusal, Resource};
@@ -32,7 +31,6 @@ fn kind_of(resource: Resource) -> &'static str
     match resource {
         Resource::Page => "text/html; charset=utf-8",
         Resource::Metrics => "text/plain; version=0.0.4; charset=utf-8",
-        Resource::Json => "application/json",
     }
 }
 
@@ -43,7 +41,6 @@ fn text_of(alloc: Global, scene: &Scene<'_>, resource: Resource) -> Result<Strin
     match resource {
         Resource::Page => html(alloc, scene),
         Resource::Metrics => metrics(alloc, scene),
-        Resource::Json => json(alloc, scene),
     }
 }
 

@@ -23,8 +23,8 @@ use Rattle.status_lines.specs.declared.outside.Standstill.{Standstill}
 use Rattle.status_lines.specs.Pieces.{one_line}
 use Rattle.status_lines.specs.Words.{entries_words, job_words, kept_words, lobby_words, pages_words, printer_line, queue_words, session_words, spool_words, standstill_line, uptime_words}
 
--- the texts of elements by their places, the first of which has this one; or what else is told of each
-abbrev pub placed : {X Y : Type 0} → (ℕ → X → List Y) → ℕ → List X → List Y
+-- the texts of elements by their places, the first of which has this one
+abbrev pub placed : {X : Type 0} → (ℕ → X → List ℕ) → ℕ → List X → List ℕ
 placed text at [] = []
 placed text at (x ∷ xs) = text at x ++ placed text (at + 1) xs
 

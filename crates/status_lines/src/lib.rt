@@ -8,9 +8,7 @@ mod pieces;
 mod status;
 
 pub use laws::one_line_has_no_line_feed;
-pub use line::{
-    JobPages, PrinterState, QueueState, SpoolState, StatusLine, address_of, phase_word,
-};
+pub use line::{JobPages, PrinterState, QueueState, SpoolState, StatusLine};
 pub use outside::{KeptJobs, Outside, SeenSession, Standstill};
 pub use pieces::one_line;
-pub use status::{pages_at, spool_state, status_text};
+pub use status::status_text;

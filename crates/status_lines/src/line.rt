@@ -23,8 +23,7 @@ pub enum SpoolState {
 }
 
 impl SpoolState {
-    /// The word for it.
-    pub fn word(self) -> &'static str
+    fn word(self) -> &'static str
         ensures { result.now ≡ spool_word self }
     {
         match self {
@@ -79,7 +78,7 @@ impl fmt::Display for PrinterState {
 }
 
 /// The word for a phase.
-pub fn phase_word(phase: Phase) -> &'static str
+fn phase_word(phase: Phase) -> &'static str
     ensures { result.now ≡ phase_word phase }
 {
     match phase {
@@ -169,7 +168,7 @@ pub enum StatusLine<'a> {
 
 /// The address of a sender, by its number.
 #[tactic(auto, unfolding(std::specs::Net::Addr::IsIpv4OfBits))]
-pub fn address_of(sender: u32) -> Ipv4Addr
+fn address_of(sender: u32) -> Ipv4Addr
     ensures { ipv4_octets result ≡ to_be_bytes w32 sender }
 {
     Ipv4Addr::from_bits(sender)

@@ -24,8 +24,8 @@ fn push(text: &mut String, line: StatusLine<'_>) -> Result<(), AllocError>
     write!(text, "{line}\n")
 }
 
-/// Whether a spool takes jobs: one that is closed doesn't, whatever the server was asked.
-pub fn spool_state(closed: bool, stops: bool) -> SpoolState
+/// Whether the spool takes jobs.
+fn spool_state(closed: bool, stops: bool) -> SpoolState
     ensures { result ≡ spool_state closed stops }
 {
     if closed {
@@ -230,7 +230,7 @@ fn push_queues(
 }
 
 /// What the row at a place says of pages, and nothing where there is none.
-pub fn pages_at(rows: &[Row], at: usize) -> JobPages
+fn pages_at(rows: &[Row], at: usize) -> JobPages
     ensures { result ≡ pages_in (row_at rows.now at) }
 {
     match rows.get(at) {

@@ -6,7 +6,7 @@ use Rattle.std.specs.Str.{bytes_eq}
 use Rattle.status_request.specs.declared.asked.Method.{Method}
 use Rattle.status_request.specs.declared.asked.Method.TheVariants.{Get, Head}
 use Rattle.status_request.specs.declared.asked.Resource.{Resource}
-use Rattle.status_request.specs.declared.asked.Resource.TheVariants.{Page, Metrics, Json}
+use Rattle.status_request.specs.declared.asked.Resource.TheVariants.{Page, Metrics}
 
 -- the path of a target: what stands before a question mark
 abbrev pub path_of : List ℕ → List ℕ
@@ -16,7 +16,6 @@ path_of target = before_first (λ b. b == 63) target
 abbrev pub resource_path : Resource → List ℕ
 resource_path Page = codes "/"
 resource_path Metrics = codes "/metrics"
-resource_path Json = codes "/status.json"
 
 abbrev pub method_name : Method → List ℕ
 method_name Get = codes "GET"

@@ -13,8 +13,6 @@ pub enum Resource {
     Page,
     /// `/metrics`, for Prometheus.
     Metrics,
-    /// `/status.json`, for other programs.
-    Json,
 }
 
 /// How it may be asked for (RFC 9110, section 9.3).
@@ -35,8 +33,6 @@ pub(crate) fn resource_at(path: &[u8]) -> Option<Resource>
         Some(Resource::Page)
     } else if path == b"/metrics".as_slice() {
         Some(Resource::Metrics)
-    } else if path == b"/status.json".as_slice() {
-        Some(Resource::Json)
     } else {
         None
     }

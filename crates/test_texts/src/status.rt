@@ -12,7 +12,6 @@ fn resource_word(resource: Resource) -> &'static str {
     match resource {
         Resource::Page => "page",
         Resource::Metrics => "metrics",
-        Resource::Json => "json",
     }
 }
 

@@ -1,2 +1,0 @@
-mod DepthLemmas
-pub mod ValueLemmas
