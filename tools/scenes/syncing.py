@@ -61,15 +61,11 @@ class WatchedBooks(Books):
     watching, watch, is_watched = Watched.watching, Watched.watch, Watched.is_watched
 
     def calls(self):
-        """The calls that made files of segments, in their order: syncs and renames that went well."""
+        """The calls that made files of segments, thread by thread in their order: syncs and renames that went well."""
         kinds = ((r"fsync\(\d+<\S+/segment-\d+\.tmp>\) += 0", "tmp"), (r"rename\w*\(.*\.tmp.*\) += 0", "rename"),
                  (r"fsync\(\d+<\S+/account>\) += 0", "folder"))
-        for path in glob.glob(f"{self.folder}/trace.*"):
-            with open(path) as file:
-                lines = file.readlines()
-            if any("segment-" in line for line in lines):
-                return [kind for line in lines for call, kind in kinds if re.match(call, line)]
-        return []
+        lines = [line for path in glob.glob(f"{self.folder}/trace.*") for line in open(path)]
+        return [kind for line in lines for call, kind in kinds if re.match(call, line)]
 
 
 def a_job_is_synced_before_it_is_acknowledged():
@@ -145,7 +141,7 @@ def a_segment_is_synced():
             room.await_segments(1)
             room.stop()
         calls = room.calls()
-        check(calls[:3] == ["tmp", "rename", "folder"] and len(calls) == 3 * len(room.segments()), calls)
+        check(calls == ["tmp", "rename", "folder"] * len(room.segments()), calls)
         return ", ".join(calls)
 
 
