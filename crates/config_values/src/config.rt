@@ -1,9 +1,10 @@
 //! A spool's configuration.
 
-ghost use Rattle.std.specs.Prelude.{◌≡◌, ◌≢◌, ◌↔◌, ◌≤◌, ◌<◌, ◌+◌, ◌*◌, ◌^◌, ◌-◌, All, IfSome, IfNone, IsTrue, MatchOption, length, slice_index_or};
+ghost use Rattle.std.specs.Prelude.{◌≡◌, ◌≢◌, ◌↔◌, ◌≤◌, ◌<◌, ◌+◌, ◌*◌, ◌^◌, ◌-◌, All, IfOk, IfSome, IfNone, IsTrue, MatchOption, length, slice_index_or};
 ghost use Rattle.config_values.specs.Config as C;
 
 use crate::queue::{Queue, printers_of, served_from};
+use std::alloc::{AllocError, Global};
 use std::marker::Model;
 
 /// How often each page of its limit may stand in the account for a job: granted, put, and 99 times handed out and come back.
@@ -90,6 +91,25 @@ impl Config {
             account,
             queues,
         }
+    }
+
+    /// A configuration that says the same.
+    ///
+    /// AllocError where memory is refused.
+    pub fn copy_of(alloc: Global, config: &Config) -> Result<Config, AllocError>
+        ensures { IfOk result (λ copy. copy ≡ config.now) }
+    {
+        let mut queues = Vec::new(alloc);
+        for queue in config.queues() {
+            queues.push(Queue::copy_of(alloc, queue)?)?;
+        }
+        Ok(Config::new(
+            config.pages(),
+            config.page_size(),
+            config.max_jobs(),
+            config.account(),
+            queues,
+        ))
     }
 
     /// How many pages there are.

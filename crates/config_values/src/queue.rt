@@ -1,8 +1,9 @@
 //! A queue and its printers.
 
-ghost use Rattle.std.specs.Prelude.{◌≡◌, ◌≤◌, ◌+◌, ◌*◌, ◌^◌, length, string_bytes, sum_by};
+ghost use Rattle.std.specs.Prelude.{◌≡◌, ◌≤◌, ◌+◌, ◌*◌, ◌^◌, IfOk, length, string_bytes, sum_by};
 ghost use Rattle.config_values.specs.Config as C;
 
+use std::alloc::{AllocError, Global};
 use std::marker::Model;
 
 /// A queue. Contracts see its name, its limit and how many printers it has.
@@ -36,6 +37,18 @@ impl Queue {
             limit,
             printers,
         }
+    }
+
+    /// A queue that says the same.
+    ///
+    /// AllocError where memory is refused.
+    pub fn copy_of(alloc: Global, queue: &Queue) -> Result<Queue, AllocError>
+        ensures { IfOk result (λ copy. copy ≡ queue.now) }
+    {
+        let name = Vec::from_slice(alloc, queue.name())?;
+        // A queue's name is a text, so memory alone can be wanting.
+        let name = String::from_utf8(name).or(Err(AllocError))?;
+        Ok(Queue::new(name, queue.limit(), queue.printers()))
     }
 
     /// The octets of its name.

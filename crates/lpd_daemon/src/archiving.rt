@@ -3,7 +3,6 @@
 ghost use Rattle.std.specs.Prelude.{◌≡◌, ◌*◌, IfErr, min};
 ghost use Rattle.lpd_daemon.specs.Faults.{IsOpeningFault};
 
-use crate::configuration::copy_of;
 use crate::faults::Fault;
 use crate::house::House;
 use crate::keeping::refused;
@@ -120,7 +119,7 @@ pub(crate) fn open_archive<'a, R: Files<File = File> + Clock + Log>(
         warn!(rt; "{path}: the account is kept, but never rotated: without --keep-room or --rotate it is written at the end alone, and no job is taken once it is full");
     }
     let (config, printers) = (
-        copy_of(alloc, config)?,
+        Config::copy_of(alloc, config)?,
         told_places(alloc, settings, places)?,
     );
     let waiting = Vec::with_capacity(alloc, MOST_WAITING + 2)?;

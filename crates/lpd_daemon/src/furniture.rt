@@ -4,7 +4,6 @@ ghost use Rattle.std.specs.Int.NonZero.{non_zero_u64_get};
 ghost use Rattle.std.specs.Prelude.{◌≡◌, ◌≤◌, ◌-◌, ◌^◌, ℕ, IfErr, None, Some, min, option_map};
 ghost use Rattle.lpd_daemon.specs.declared.faults.Fault.TheVariants.{Memory};
 
-use crate::configuration::copy_of;
 use crate::counter::Counter;
 use crate::faults::Fault;
 use crate::job_book::JobBook;
@@ -63,7 +62,7 @@ impl Furniture {
         let (is_shown, has_steward) = (settings.status.is_some(), counter.is_open());
         let pipes = pipes_of(alloc, if has_steward { places } else { &[] })?;
         let waker = counter.take_waker();
-        let copy = copy_of(alloc, config)?;
+        let copy = Config::copy_of(alloc, config)?;
         let oversight = Oversight::new(rt, alloc, copy, pipes, waker, is_shown || has_steward)?;
         let (desk, doors) = Desk::new(alloc, most_of(settings.limits.per_host))?;
         Ok(Furniture {

@@ -8,7 +8,6 @@
 mod answering;
 mod archiving;
 mod commanding;
-mod configuration;
 mod counter;
 mod crew;
 mod device;

@@ -5,7 +5,6 @@ ghost use Rattle.account.specs.Seen.{base_seen};
 ghost use Rattle.segment_text.specs.Seen.{origin_seen, printer_seen, start_seen};
 
 use account::Base;
-use config_values::{Config, Queue};
 use lpd_values::Octets;
 use segment_text::{Origin, PrinterPlace, Start};
 use std::alloc::{AllocError, Global};
@@ -23,35 +22,6 @@ pub(crate) fn copy_origin(alloc: Global, origin: &Origin) -> Result<Origin, Allo
         last: Octets::copy_of(alloc, origin.last.as_slice())?,
         previous: origin.previous,
     })
-}
-
-/// A queue that says the same.
-fn copy_queue(alloc: Global, queue: &Queue) -> Result<Queue, AllocError>
-    ensures { IfOk result (λ copy. copy ≡ queue.now) }
-{
-    let name = Vec::from_slice(alloc, queue.name())?;
-    // A queue's name is a text, so memory alone can be wanting.
-    let name = String::from_utf8(name).or(Err(AllocError))?;
-    Ok(Queue::new(name, queue.limit(), queue.printers()))
-}
-
-/// A configuration that says the same.
-///
-/// AllocError where memory is refused.
-pub(crate) fn copy_config(alloc: Global, config: &Config) -> Result<Config, AllocError>
-    ensures { IfOk result (λ copy. copy ≡ config.now) }
-{
-    let mut queues = Vec::new(alloc);
-    for queue in config.queues() {
-        queues.push(copy_queue(alloc, queue)?)?;
-    }
-    Ok(Config::new(
-        config.pages(),
-        config.page_size(),
-        config.max_jobs(),
-        config.account(),
-        queues,
-    ))
 }
 
 /// A printer's place, once more.

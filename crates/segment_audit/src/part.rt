@@ -9,7 +9,7 @@ ghost use Rattle.segment_text.specs.Seen.{head_seen};
 ghost use Rattle.segment_audit.specs.Audited as A;
 ghost use Rattle.segment_audit.specs.Read.{ComesNext, entries_in, GoesOn, HasEntries, IsBegun, IsHeaded, IsLeft, IsPart, IsPast, IsPlace, Refuses, start_behind};
 
-use crate::copies::{copy_config, copy_origin, copy_printer, copy_start};
+use crate::copies::{copy_origin, copy_printer, copy_start};
 use crate::fault::AuditFault;
 use account::{Base, Entry};
 use account_audit::Audit;
@@ -155,7 +155,7 @@ fn add_config(origin: Origin, alloc: Global, got: &SegmentLine) -> Result<Part, 
 {
     match got {
         SegmentLine::Config(config) => {
-            let config = copy_config(alloc, config)?;
+            let config = Config::copy_of(alloc, config)?;
             Ok(Part::Headed(origin, config, Vec::new(alloc)))
         }
         _ => Err(AuditFault::Line),

@@ -21,7 +21,7 @@ header .what{flex:1;color:var(--soft);padding-top:5px}
 .good{color:var(--good);background:var(--goodbg)}
 .wait{color:var(--wait);background:var(--waitbg)}
 .bad{color:var(--bad);background:var(--badbg)}
-.tiles{display:grid;grid-template-columns:repeat(auto-fit,minmax(132px,1fr));gap:12px;margin:0 0 16px}
+.tiles{display:grid;grid-template-columns:repeat(auto-fit,minmax(164px,1fr));gap:12px;margin:0 0 16px}
 .card,.tiles div{background:var(--card);border:1px solid var(--line);border-radius:12px}
 .tiles div{padding:10px 16px 12px;display:flex;flex-direction:column-reverse;justify-content:flex-end}
 .tiles dd{margin:0;font-size:25px;line-height:1.25;letter-spacing:-.02em;font-weight:650}
