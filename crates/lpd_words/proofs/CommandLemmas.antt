@@ -1,10 +1,10 @@
 -- Commands with words and with commands more.
 use Rattle.std.proofs.Common.{◌≡◌, ◌∙◌, ◌∷◌, [], List, Result, IfOk, Ok, Err, false, map, refl, sym, ap}
-use Rattle.clap.specs.Words.{AddsArg, AddsInTurn, AddsSubcommand, App, Rule, app_of, rule_of, with_subcommand}
+use Rattle.clap.specs.Words.{AddsArg, AddsInTurn, App, Rule, app_of, rule_of, with_subcommand}
 use Rattle.clap.specs.declared.builder.arg.Arg.{Arg}
 use Rattle.clap.specs.declared.builder.command.Command.{Command}
 use Rattle.clap.specs.declared.builder.command.Command.TheViews.{out-Command as fields_of}
-use Rattle.lpd_words.specs.Rules.{AreLocal, IsCommand, IsWord, with_commands, with_rules}
+use Rattle.lpd_words.specs.Rules.{AreLocal, IsCommand, IsWord, with_rules}
 
 -- words that were added in turn
 pub words_added : (args : List Arg) (old new : Command) → AddsInTurn AddsArg old args new → AreLocal args → (fields_of old).has_globals ≡ false
@@ -45,26 +45,11 @@ ok_words (Ok new) args old P added local before then =
     then new app last
 ok_words (Err e) args old P added local before then = tt
 
--- commands and what they are, one by one
-abbrev pub AreCommands : List Command → List App → Type 0
-AreCommands [] [] = Unit {0}
-AreCommands [] (app ∷ apps) = ⊥
-AreCommands (command ∷ commands) [] = ⊥
-AreCommands (command ∷ commands) (app ∷ apps) =
-    IsCommand command app × AreCommands commands apps
+-- a program that is known, with one command more
+pub then_with : (new old app sub : App) → new ≡ with_subcommand old sub.top → old ≡ app → new ≡ with_subcommand app sub.top
+then_with new old app sub added from = added ∙ ap (λ x. with_subcommand x sub.top) from
 
-commands_added : (subs : List Command) (apps : List App) (old new : Command) (app : App) → AddsInTurn AddsSubcommand old subs new → AreCommands subs apps → app_of old ≡ app
-    → app_of new ≡ with_commands app apps
-commands_added [] [] old new app same all from = ap app_of (sym same) ∙ from
-commands_added [] (a ∷ apps) old new app added all from = elim all [ ]
-commands_added (sub ∷ subs) [] old new app added all from = elim all [ ]
-commands_added (sub ∷ subs) (a ∷ apps) old new app (between, step, more) ((here, local), there) from =
-    let met : app_of between ≡ with_subcommand app a.top = step.shape local ∙ ap (λ x. with_subcommand x (app_of sub).top) from ∙ ap (λ x. with_subcommand app x.top) here in
-    commands_added subs apps between new _ more there met
-
--- a command line with these commands
-pub ok_commands : {E : Type 0} (r : Result Command E) (items subs : List Command) (old : Command) (app : App) (apps : List App) → IfOk r (λ new. AddsInTurn AddsSubcommand old items new) → items ≡ subs → app_of old ≡ app
-    → AreCommands subs apps → IfOk r (λ new. app_of new ≡ with_commands app apps)
-ok_commands (Ok new) items subs old app apps added same from all =
-    commands_added subs apps old new app (rw (sym same) added) all from
-ok_commands (Err e) items subs old app apps added same from all = tt
+pub ok_then_with : {E : Type 0} (r : Result Command E) (old app sub : App) → IfOk r (λ new. app_of new ≡ with_subcommand old sub.top) → old ≡ app
+    → IfOk r (λ new. app_of new ≡ with_subcommand app sub.top)
+ok_then_with (Ok new) old app sub added from = then_with (app_of new) old app sub added from
+ok_then_with (Err e) old app sub added from = tt

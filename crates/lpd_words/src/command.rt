@@ -1,7 +1,7 @@
 //! The command line, as `clap` reads it.
 
 ghost use Rattle.std.specs.Prelude.{◌≡◌, IfOk};
-ghost use Rattle.clap.specs.Words.{app_of};
+ghost use Rattle.clap.specs.Words.{App, app_of, with_subcommand};
 ghost use Rattle.lpd_words.specs.CommandLine.{command_line, control_app, program_app, replay_app, send_app};
 ghost use Rattle.lpd_words.specs.Rules.{IsCommand};
 
@@ -145,21 +145,29 @@ fn program<'a>(alloc: Global) -> Command<'a>
         .disable_help_subcommand(true)
 }
 
+/// A program with one command more, where that was made.
+fn with_command<'a>(
+    program: Command<'a>,
+    command: Result<Command<'a>, AllocError>,
+) -> Result<Command<'a>, AllocError>
+    ensures { (app : App) → IfOk command.entry (λ command. IsCommand command app)
+        → IfOk result (λ r. app_of r ≡ with_subcommand (app_of program.entry) app.top) }
+{
+    program.subcommand(command?)
+}
+
 /// The command line.
 pub(crate) fn command<'a>(alloc: Global) -> Result<Command<'a>, AllocError>
     ensures { IfOk result (λ command. app_of command ≡ command_line) }
 {
-    let commands = vec![in alloc;
-        check(alloc)?,
-        replay(alloc)?,
-        send(alloc)?,
-        state(alloc)?,
-        remove(alloc)?,
-        start(alloc)?,
-        serve(alloc)?,
-        control(alloc)?,
-        audit(alloc)?,
-        usage(alloc)?,
-    ]?;
-    program(alloc).subcommands(commands)
+    let spools = with_command(program(alloc), check(alloc))?;
+    let spools = with_command(spools, replay(alloc))?;
+    let clients = with_command(spools, send(alloc))?;
+    let clients = with_command(clients, state(alloc))?;
+    let clients = with_command(clients, remove(alloc))?;
+    let clients = with_command(clients, start(alloc))?;
+    let servers = with_command(clients, serve(alloc))?;
+    let servers = with_command(servers, control(alloc))?;
+    let accounts = with_command(servers, audit(alloc))?;
+    with_command(accounts, usage(alloc))
 }

@@ -175,8 +175,12 @@ fn asked_of<'a>(alloc: Global, matches: &ArgMatches<'a>) -> Result<Ask<'a>, Word
 }
 
 /// Why words that `clap` reads ask for nothing, with the text for the user.
-fn why_nothing(alloc: Global, command: &mut Command, fault: WordFault) -> Result<Unread, AllocError>
-    ensures { IfOk result (IsUnreadFor fault) }
+fn why_nothing(
+    alloc: Global,
+    command: &mut Command,
+    fault: &WordFault,
+) -> Result<Unread, AllocError>
+    ensures { IfOk result (IsUnreadFor fault.now) }
 {
     if let WordFault::Memory = fault {
         return Ok(Unread::Memory);
@@ -202,7 +206,7 @@ pub fn read_words<'a>(alloc: Global, words: &'a [String]) -> Result<Ask<'a>, Unr
     };
     match asked_of(alloc, &matches) {
         Ok(asked) => Ok(asked),
-        Err(fault) => Err(why_nothing(alloc, &mut command, fault)?),
+        Err(fault) => Err(why_nothing(alloc, &mut command, &fault)?),
     }
 }
 
