@@ -9,6 +9,7 @@ use crate::ending::Ending;
 use crate::house::House;
 use crate::job_book::SessionNotes;
 use crate::job_lines::Outcome;
+use crate::keeping::Kept;
 use crate::served::Served;
 use job_disk::DiskFolder;
 use job_files::JobEnd;
@@ -219,6 +220,23 @@ impl<R: Files<File = File> + Clock + Wait + Log, E: SpoolLedger, K: Ledger, H: L
         }
     }
 
+    /// The same with a folder in which jobs are kept until they are printed.
+    fn answer_keeping(
+        &self,
+        kept: &Kept<'_, R>,
+        seat: SessionSeat<E, K, H>,
+        serves: Serves,
+    ) -> SessionSeat<E, K, H> {
+        let number = seat.number();
+        let seated = Seated::new(self.rt, &self.spool, seat);
+        let keeping = Keeping::new(self.alloc, seated, DiskFolder::new(&kept.disk));
+        let mut noting = Noting::new(keeping, SessionNotes::new(self.rt, &self.job_book));
+        self.serve_all(&mut noting, number, serves);
+        let Noting { inner, .. } = noting;
+        let Keeping { inner, .. } = inner;
+        inner.into_seat()
+    }
+
     /// Serves connections through a seat, one after another, until no more can come. Answers the
     /// seat.
     pub(crate) fn answer_all(
@@ -226,20 +244,14 @@ impl<R: Files<File = File> + Clock + Wait + Log, E: SpoolLedger, K: Ledger, H: L
         seat: SessionSeat<E, K, H>,
         serves: Serves,
     ) -> SessionSeat<E, K, H> {
+        if let Some(kept) = &self.kept {
+            return self.answer_keeping(kept, seat, serves);
+        }
         let number = seat.number();
         let seated = Seated::new(self.rt, &self.spool, seat);
-        let notes = SessionNotes::new(self.rt, &self.job_book);
-        let Some(kept) = &self.kept else {
-            let mut noting = Noting::new(seated, notes);
-            self.serve_all(&mut noting, number, serves);
-            let Noting { inner, .. } = noting;
-            return inner.into_seat();
-        };
-        let keeping = Keeping::new(self.alloc, seated, DiskFolder::new(&kept.disk));
-        let mut noting = Noting::new(keeping, notes);
+        let mut noting = Noting::new(seated, SessionNotes::new(self.rt, &self.job_book));
         self.serve_all(&mut noting, number, serves);
         let Noting { inner, .. } = noting;
-        let Keeping { inner, .. } = inner;
         inner.into_seat()
     }
 }

@@ -5,7 +5,8 @@ use crate::lines::PrintedLine;
 use crate::rotating::rotation_of;
 use control_lines::{AnswerEnd, Command};
 use log::Log;
-use shared_spool::{Octets, SessionSeat, SpoolLedger};
+use shared_spool::{Octets, SessionSeat, Sight, SpoolLedger};
+use spool_calls::Printer;
 use std::alloc::{AllocError, Global};
 use std::fmt::Display;
 use std::fs::{File, Files};
@@ -67,6 +68,18 @@ impl Answer {
     }
 }
 
+/// Tells which printers of a queue stood still before they were started. An error where memory is refused.
+fn tell_started(answer: &mut Answer, printers: &[Printer], queue: u32) -> Result<(), AllocError> {
+    for (at, printer) in printers.iter().enumerate() {
+        if printer.queue == queue && printer.stopped {
+            let number = at + 1;
+            let line = format!(in answer.alloc; "started {number}")?;
+            answer.line(&line)?;
+        }
+    }
+    Ok(())
+}
+
 impl<R: Files<File = File> + Clock + Log + Wait, E: SpoolLedger, K: Ledger, H: Ledger> House<
     '_,
     R,
@@ -74,6 +87,12 @@ impl<R: Files<File = File> + Clock + Log + Wait, E: SpoolLedger, K: Ledger, H: L
     K,
     H,
 > {
+    /// The printers as they stand now. An error where memory is refused.
+    fn printers(&self) -> Result<Vec<Printer>, AllocError> {
+        let Sight { spool, .. } = self.spool.sight(self.rt, self.alloc)?;
+        Ok(spool.printers)
+    }
+
     /// Starts the stopped printers of a queue, and tells which.
     fn start_queue(
         &self,
@@ -81,17 +100,12 @@ impl<R: Files<File = File> + Clock + Log + Wait, E: SpoolLedger, K: Ledger, H: L
         queue: &[u8],
     ) -> Result<Vec<u8>, AllocError> {
         let mut answer = Answer::new(self.alloc);
-        let sight = self.spool.sight(self.rt, self.alloc)?;
+        let printers = self.printers()?;
         let started = match self.spool.start_telling(self.rt, seat, queue) {
             Ok(started) => started,
             Err(refusal) => return answer.end_by(Some(refusal)),
         };
-        for (at, printer) in sight.spool.printers.iter().enumerate() {
-            if printer.queue == started.queue && printer.stopped {
-                let number = at + 1;
-                answer.line(&format!(in self.alloc; "started {number}")?)?;
-            }
-        }
+        tell_started(&mut answer, printers.as_slice(), started.queue)?;
         if started.stopped == 0 {
             answer.line(&"started none")?;
         }

@@ -6,16 +6,16 @@ ghost use Rattle.lpd_daemon.specs.Keeping.{end_of};
 use crate::device::{Device, DeviceSink, PrinterFile};
 use crate::house::House;
 use crate::job_lines::Outcome;
-use crate::outlet::PatientFile;
+use crate::outlet::{Outlet, PatientFile};
 use crate::places::Opened;
 use crate::sink::{Explains, FileSink};
 use held_jobs::Phase;
 use job_files::JobEnd;
 use log::{Log, warn};
-use printer_sinks::{FolderSink, SocketSink};
+use printer_sinks::{Dial, Folder, FolderSink, Pause, SocketSink};
 use printer_worker::{HandedPage, Leaving, PrintSink, SinkFault, work};
 use shared_spool::{PrinterSeat, SpoolLedger};
-use sink_devices::{Errand, FileFolder, Pauses, TcpDial};
+use sink_devices::{Causes, Errand, FileFolder, Pauses, TcpDial};
 use std::fs::{File, Files};
 use std::net::{Net, TcpListener, TcpStream};
 use std::rt::Clock;
@@ -162,6 +162,39 @@ impl<
     K: Ledger,
     H: Ledger,
 > House<'_, R, E, K, H> {
+    /// What a printer writes to that prints to a file.
+    fn file_of(&self, outlet: Outlet) -> PrinterFile<'_> {
+        let synced = if self.kept.is_some() {
+            outlet.twin()
+        } else {
+            None
+        };
+        PrinterFile {
+            sink: FileSink::new(PatientFile::new(outlet.file, &self.ending)),
+            synced,
+            unsynced: None,
+        }
+    }
+
+    /// Has a printer's pages written to this device, until the spool is closed. Answers the seat.
+    fn print_to<D: Dial + Causes + Drop, P: Pause + Drop, F: Folder + Causes + Drop>(
+        &self,
+        seat: PrinterSeat<E, K, H>,
+        device: Device<'_, D, P, F>,
+    ) -> PrinterSeat<E, K, H> {
+        let printer = seat.printer();
+        let mut sink = Watched {
+            house: self,
+            printer,
+            queue: self.oversight.config.queue_of(printer),
+            sink: DeviceSink::new(device),
+            was_given_up: false,
+            job: None,
+        };
+        let (seat, _report) = work(self.rt, &self.spool, seat, &mut sink);
+        seat
+    }
+
     /// Has a printer's pages written to what it prints to, until the spool is closed. Answers the seat.
     pub(crate) fn print_all(
         &self,
@@ -170,19 +203,7 @@ impl<
     ) -> PrinterSeat<E, K, H> {
         let (printer, limits) = (seat.printer(), self.printer_limits);
         let device = match opened {
-            Opened::File(outlet) => {
-                let synced = if self.kept.is_some() {
-                    outlet.twin()
-                } else {
-                    None
-                };
-                let sink = FileSink::new(PatientFile::new(outlet.file, &self.ending));
-                Device::File(PrinterFile {
-                    sink,
-                    synced,
-                    unsynced: None,
-                })
-            }
+            Opened::File(outlet) => Device::File(self.file_of(outlet)),
             Opened::Socket(address) => {
                 let silence = limits.silence_seconds;
                 let dial = TcpDial::new(self.rt, printer, address.into(), silence, self);
@@ -194,15 +215,6 @@ impl<
                 Device::Folder(FolderSink::new(folder))
             }
         };
-        let mut sink = Watched {
-            house: self,
-            printer,
-            queue: self.oversight.config.queue_of(printer),
-            sink: DeviceSink::new(device),
-            was_given_up: false,
-            job: None,
-        };
-        let (seat, _report) = work(self.rt, &self.spool, seat, &mut sink);
-        seat
+        self.print_to(seat, device)
     }
 }

@@ -7,7 +7,8 @@ use crate::standing::Standstill;
 use control_lines::{AnswerEnd, Command, LineFault};
 use control_socket::{Asked, Pending};
 use log::{Log, warn};
-use shared_spool::{SessionSeat, SpoolLedger};
+use shared_spool::{SeenJob, SessionSeat, SpoolLedger};
+use spool_calls::Printer;
 use std::alloc::AllocError;
 use std::fs::{File, Files};
 use std::rt::Clock;
@@ -31,6 +32,17 @@ fn earlier(first: Option<Instant>, second: Option<Instant>) -> Option<Instant> {
         (Some(first), Some(second)) => Some(first.min(second)),
         (first, second) => first.or(second),
     }
+}
+
+/// Whether the printer of this number, from 1, stands still.
+fn is_stopped(printers: &[Printer], printer: u32) -> bool {
+    let at = (printer as usize).saturating_sub(1);
+    printers.get(at).is_some_and(|printer| printer.stopped)
+}
+
+/// How many of these jobs are in this queue.
+fn jobs_of(jobs: &[SeenJob], queue: u32) -> usize {
+    jobs.iter().filter(|job| job.queue == queue).count()
 }
 
 impl<'a, R: Files<File = File> + Clock + Log + Wait, E: SpoolLedger, K: Ledger, H: Ledger> Steward<
@@ -77,25 +89,26 @@ impl<'a, R: Files<File = File> + Clock + Log + Wait, E: SpoolLedger, K: Ledger, 
         self.tell_standstills(now);
     }
 
+    /// How many jobs of its queue wait behind a printer, where it stands still. None where it runs, of which it is kept that it doesn't
+    /// stand still any more, or memory to look is refused.
+    fn jobs_behind(&self, printer: u32, queue: u32) -> Option<usize> {
+        let house = self.house;
+        let sight = house.spool.sight(house.rt, house.alloc).ok()?;
+        if !is_stopped(sight.spool.printers.as_slice(), printer) {
+            house.oversight.standstills.end(house.rt, printer);
+            return None;
+        }
+        Some(jobs_of(sight.spool.jobs.as_slice(), queue))
+    }
+
     /// Tells that a printer stands still.
     fn tell_standstill(&self, printer: u32, standstill: Standstill, now: Instant) {
         let house = self.house;
-        let Ok(sight) = house.spool.sight(house.rt, house.alloc) else {
+        let queue = house.oversight.config.queue_of(printer);
+        let Some(jobs) = self.jobs_behind(printer, queue) else {
             return;
         };
-        let at = (printer as usize).saturating_sub(1);
-        if !sight
-            .spool
-            .printers
-            .get(at)
-            .is_some_and(|printer| printer.stopped)
-        {
-            house.oversight.standstills.end(house.rt, printer);
-            return;
-        }
-        let queue = house.oversight.config.queue_of(printer);
-        let behind = sight.spool.jobs.iter().filter(|job| job.queue == queue);
-        let (jobs, name) = (behind.count(), house.queue_name(queue));
+        let name = house.queue_name(queue);
         let minutes = now.saturating_duration_since(standstill.since).as_secs() / 60;
         match standstill.cause {
             Some(cause) =>

@@ -126,6 +126,19 @@ impl<R: Clock + Log + Wait, E: SpoolLedger, K: Ledger, H: Ledger> House<'_, R, E
         warn!(self.rt; "job {number} {queue} {user}@{host} {octets} octets is lost: {why}");
     }
 
+    /// Tells of each of these jobs that is whole, or of each that isn't, that it is lost.
+    fn tell_each_lost(&self, jobs: &[SeenJob], is_whole: bool) {
+        let lost = jobs
+            .iter()
+            .filter(|job| (job.phase != Phase::Receiving) == is_whole);
+        for (at, job) in lost.enumerate() {
+            self.tell_lost(job);
+            if at % LINES == LINES - 1 {
+                thread::sleep(self.rt, Duration::from_millis(PAUSE_MS));
+            }
+        }
+    }
+
     /// Tells of each held job that is whole, or of each that isn't, that it is lost. Whole ones aren't where jobs are kept.
     fn tell_lost_of(&self, is_whole: bool) {
         // A whole job stays in its folder, and is printed after the next start.
@@ -136,16 +149,8 @@ impl<R: Clock + Log + Wait, E: SpoolLedger, K: Ledger, H: Ledger> House<'_, R, E
             warn!(self.rt; "memory was refused: jobs that are lost aren't told");
             return;
         };
-        if sight.spool.closed {
-            return;
-        }
-        let jobs = sight.spool.jobs.iter();
-        let lost = jobs.filter(|job| (job.phase != Phase::Receiving) == is_whole);
-        for (at, job) in lost.enumerate() {
-            self.tell_lost(job);
-            if at % LINES == LINES - 1 {
-                thread::sleep(self.rt, Duration::from_millis(PAUSE_MS));
-            }
+        if !sight.spool.closed {
+            self.tell_each_lost(sight.spool.jobs.as_slice(), is_whole);
         }
     }
 
