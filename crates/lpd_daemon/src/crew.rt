@@ -207,13 +207,10 @@ impl<
 where
     R::Dir: Send + Sync,
 {
-    /// Starts a thread for each role but the porter's, has connections accepted and served, and
-    /// joins all threads. Answers how that went, and the seats. One is missing where a thread
-    /// wasn't started, or memory for it was refused.
-    ///
-    /// Output where a line can't be written; Memory where memory for one is refused.
-    pub(crate) fn work<W: OctetWrite>(
-        &self,
+    /// What `work` does, in the scope of its threads.
+    fn work_in<'s, N, W: OctetWrite>(
+        &'s self,
+        scope: &Scope<'s, N>,
         roles: Roles<E, K, H>,
         entrance: Entrance,
         output: &mut W,
@@ -228,6 +225,30 @@ where
             board,
             ..
         } = entrance;
+        let (crew, seat) = Crew::start(scope, self, roles, places, counter, board);
+        let mut porter = Porter::new(self, seat, gate);
+        let admitted = porter.admit(crew.is_whole, output);
+        // However it went, all threads are joined before the seats are looked at.
+        let returned = crew.close(self, porter.leave());
+        // What was rotated while sessions ended.
+        let told = announce_all(self.rt, self.alloc, output, admitted, &self.rotations);
+        (told, returned)
+    }
+
+    /// Starts a thread for each role but the porter's, has connections accepted and served, and
+    /// joins all threads. Answers how that went, and the seats. One is missing where a thread
+    /// wasn't started, or memory for it was refused.
+    ///
+    /// Output where a line can't be written; Memory where memory for one is refused.
+    pub(crate) fn work<W: OctetWrite>(
+        &self,
+        roles: Roles<E, K, H>,
+        entrance: Entrance,
+        output: &mut W,
+    ) -> (Result<(), Fault>, Returned<E, K, H>)
+        ensures { TellsRotations (W.written output.old) (W.faults output.old)
+            (W.written output.new) (W.faults output.new) result.0 }
+    {
         // The output comes back with the seats, so that it is known what was written.
         let (told, returned, _output) = thread::scope(
             thread::scope_env(),
@@ -239,13 +260,7 @@ where
                     (W.faults output.entry.now) (W.written result.2.now)
                     (W.faults result.2.now) result.0 }
             {
-                let (crew, seat) = Crew::start(scope, self, roles, places, counter, board);
-                let mut porter = Porter::new(self, seat, gate);
-                let admitted = porter.admit(crew.is_whole, output);
-                // However it went, all threads are joined before the seats are looked at.
-                let returned = crew.close(self, porter.leave());
-                // What was rotated while sessions ended.
-                let told = announce_all(self.rt, self.alloc, output, admitted, &self.rotations);
+                let (told, returned) = self.work_in(scope, roles, entrance, output);
                 (told, returned, output)
             },
         );

@@ -4,6 +4,7 @@ ghost use Rattle.std.specs.Prelude.{◌≡◌, ◌≤◌, ◌+◌, ◌*◌, ℕ,
 ghost use Rattle.std.specs.Prelude.{IfErr, false, if◌then◌else◌, true};
 ghost use Rattle.lpd_daemon.specs.Faults.{IsOpeningFault, IsRunningFault, write_faults};
 ghost use Rattle.lpd_daemon.specs.Lines.{IsQuiet, WritesAll, line_octets};
+ghost use Rattle.lpd_daemon.specs.declared.faults.Fault.TheVariants.{Memory};
 ghost use Rattle.lpd_daemon.specs.declared.lines.PrintedLine.TheVariants.{Closed};
 ghost use Rattle.lpd_commands.specs.Ends.{Writes};
 ghost use Rattle.spool_ledgers.specs.Blanks.{AreFor, mark};
@@ -149,6 +150,23 @@ fn open_kept<'a, R: Files<File = File> + Log + Wait>(
         warn!(rt; "{path}: jobs are kept, but the account is never rotated: without --keep-room or --rotate no job is taken once it is full");
     }
     Ok(Some(Kept::open(rt, alloc, path, config)?))
+}
+
+/// A spool with N seats beside those of its printers, and who gets which seat. Memory where memory is refused, or a seat is missing.
+fn open_spool<E: SpoolLedger, K: Ledger, H: Ledger>(
+    alloc: Global,
+    blanks: Blanks,
+    config: Config,
+    seats: u32,
+) -> Result<(SharedSpool<E, K, H>, Roles<E, K, H>), Fault>
+    requires { AreFor blanks config seats E.config (mark E.name E.parts) (mark K.name K.parts)
+        (mark H.name H.parts) }
+    ensures { IfErr result (λ fault. fault ≡ Memory) }
+{
+    let opened = SharedSpool::<E, K, H>::new(alloc, blanks, config, seats);
+    let opened = opened.map_err(AllocError::from)?;
+    let roles = Roles::deal(opened.sessions, opened.printers)?;
+    Ok((opened.spool, roles))
 }
 
 /// What a server is to be.
@@ -366,10 +384,8 @@ where
         ensures fault { IfErr result IsRunningFault }
     {
         let seats = self.sessions + OTHERS;
-        let opened = SharedSpool::<E, K, H>::new(self.alloc, blanks, config, seats);
-        let opened = opened.map_err(AllocError::from)?;
-        let roles = Roles::deal(opened.sessions, opened.printers)?;
-        let (house, entrance) = self.set_up(opened.spool);
+        let (spool, roles) = open_spool::<E, K, H>(self.alloc, blanks, config, seats)?;
+        let (house, entrance) = self.set_up(spool);
         house.run(roles, entrance, output)
     }
 }
