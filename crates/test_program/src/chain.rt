@@ -6,7 +6,7 @@ ghost use Rattle.page_chain.specs.Files.{every_page};
 ghost use Rattle.page_chain.specs.Changes.{IsReady};
 ghost use Rattle.page_chain.specs.Held.{IsHeld, places_left, shown};
 
-use crate::expected::expect;
+use crate::kit::expect;
 use lpd_values::{FileName, MAX_FILES, MAX_PRINTS};
 use page_chain::{Chain, ChainError, Place};
 use page_nodes::Nodes;

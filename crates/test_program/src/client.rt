@@ -1,6 +1,6 @@
 //! What a client sends, and how it takes the answers.
 
-use crate::expected::expect;
+use crate::kit::expect;
 use lpr_client::{
     AskFault, Command, Control, DataFile, FileName, Octets, SendFault, Words, ask, ask_silently,
     has_line, is_sendable, job_bytes, remove_bytes, send_job, state_bytes,

@@ -6,15 +6,9 @@ mod chain;
 #[cfg(test)]
 mod client;
 #[cfg(test)]
-mod commands;
-#[cfg(test)]
-mod expected;
-#[cfg(test)]
 mod faults;
 #[cfg(test)]
-mod progress;
-#[cfg(test)]
-mod questions;
+mod kit;
 #[cfg(test)]
 mod values;
 #[cfg(test)]

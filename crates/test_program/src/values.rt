@@ -1,6 +1,6 @@
 //! Values through their public items: texts of faults, lists, copies, a page, and a job that is accepted.
 
-use crate::expected::expect;
+use crate::kit::expect;
 use claims::OpenError;
 use control_file::{Control, FileNames};
 use counts::TooLarge;
