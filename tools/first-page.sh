@@ -4,7 +4,8 @@
 # behind "Install it" run but for the proof and the build, into a folder. The last line is 'N passed, M failed'.
 set -u
 top=$(cd "$(dirname "${BASH_SOURCE[0]}")/.." && pwd)
-program=$(realpath "${1:?the program}")
+: "${1:?the program}"
+program=$(realpath "$1")
 room=$(mktemp -d) || exit 2
 trap 'kill $(jobs -p) 2> /dev/null; rm -rf "$room"' EXIT
 mkdir -p "$room/bin" "$room/docs" "$room/crates/lpd_server/out"
