@@ -7,7 +7,7 @@
 set -eu
 top=$(cd "$(dirname "${BASH_SOURCE[0]}")/.." && pwd)
 turns=${1:-3}
-server=${SERVER:-$top/crates/lpd_server/out/lpd_server}
+server=${SERVER:-$top/out/lpd_server}
 client=${CLIENT:-$(bash "$top/tools/beside.sh" bench path)/out/bench}
 room=$(mktemp -d)
 trap '[ "$BASHPID" != $$ ] || { kill $(jobs -p) 2> /dev/null; rm -rf "$room"; }' EXIT

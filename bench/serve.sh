@@ -9,9 +9,9 @@
 # all jobs of a run.
 set -eu
 top=$(cd "$(dirname "${BASH_SOURCE[0]}")/.." && pwd)
-(cd "$top/crates/lpd_server" && rt run -- --version)
+bash "$top/tools/build.sh"
 bash "$top/tools/beside.sh" bench run -- count
-server=$top/crates/lpd_server/out/lpd_server
+server=$top/out/lpd_server
 client=$(bash "$top/tools/beside.sh" bench path)/out/bench
 
 # A server with 1,024 printers has as many files open.

@@ -6,10 +6,10 @@
 #   02      the first line that is printed otherwise is a session's, which wrote octet 02 and is over
 #   other   otherwise: each of these is printed, and the exit status is 1
 # In each run the four numbers of each line `pages` have to add up to the pages of the pool. It proves nothing. The program has
-# to be built before: (cd crates/lpd_server && rt run < stdin).
+# to be built before: bash tools/build.sh.
 set -u
 cd "$(dirname "${BASH_SOURCE[0]}")/.." || exit 2
-[ -x crates/lpd_server/out/lpd_server ] || { echo "build the program first: (cd crates/lpd_server && rt run < stdin)" >&2; exit 2; }
+[ -x out/lpd_server ] || { echo "build the program first: bash tools/build.sh" >&2; exit 2; }
 folder=$(mktemp -d) || exit 2
 trap 'rm -rf "$folder"' EXIT
 cat > "$folder/refuse.c" <<'C'
@@ -71,7 +71,7 @@ def script_of(title):
 def run(given, refused):
     env = {"LD_PRELOAD": f"{folder}/refuse.so", "REFUSED": str(refused), "TAKEN": f"{folder}/taken"}
     open(f"{folder}/taken", "w").write("0")
-    done = subprocess.run(["crates/lpd_server/out/lpd_server"], input=given, capture_output=True, env=env, timeout=60)
+    done = subprocess.run(["out/lpd_server"], input=given, capture_output=True, env=env, timeout=60)
     return done.stdout, done.stderr, done.returncode, int(open(f"{folder}/taken").read())
 
 def add_up(printed):

@@ -1,10 +1,10 @@
 #!/usr/bin/env bash
 # Runs all rows and tests by `rt try`, and each program on its stored run: what is compiled is run, and nothing is proved. It says
-# where `rt version` is none of the kits that the README names; then comes what failed, and a line for each crate. The last line is
-# 'N passed, M failed', where a stored run counts as one, and so do docs/TRUSTED.md, which must not be stale, and the names and
-# options that documents and comments tell of, which must be there, and the commands of the first page; the exit status is 0
-# only where none failed. As many crates are
-# tried at a time as there are processors, or as RT_JOBS says; each takes up to 2 GB of memory.
+# where `rt version` is none of the kits that the README names, and on standard error which crate has ended; then comes what failed, and
+# a line for each crate. The last line is 'N passed, M failed', where a stored run counts as one, and so do docs/TRUSTED.md, which must
+# not be stale, the names and options that documents and comments tell of, which must be there, and the commands of the first page;
+# the exit status is 0 only where none failed. As many crates are tried at a time as there are processors, or as RT_JOBS says; each
+# takes up to 2 GB of memory.
 set -u
 cd "$(dirname "${BASH_SOURCE[0]}")/.." || exit 2
 echo "tests by rt try: nothing is proved here (bash .ci/run proves)"
@@ -41,8 +41,10 @@ start() {
     fi
     [ -f "$copy/$crate/stdin" ] && input=stdin
     (
+        begun=$SECONDS
         cd "$copy/$crate" && rt try "$@" < "$input" > "$folder/$label.out" 2> "$folder/$label.err"
         echo $? > "$folder/$label.status"
+        echo "[$(find "$folder" -maxdepth 1 -name '*.status' | wc -l) of $all] $label, $((SECONDS - begun)) s" >&2
     ) &
     running=$((running + 1))
 }
@@ -61,6 +63,8 @@ add() {
 
 with_tests=$(grep -rl '^ *#\[test\]' crates/*/src beside/*/src | cut -d/ -f2 | sort -u)
 programs=$(for file in crates/*/stdout beside/*/stdout; do basename "$(dirname "$file")"; done)
+all=$(echo $with_tests $programs | wc -w)
+echo "$all crates, $lanes at a time, in some five minutes where four processors are idle; then the first page" >&2
 for crate in $with_tests; do
     start "$crate tests" "$crate" --test
 done

@@ -24,45 +24,44 @@ const STEP: u64 = 100_000;
 /// An audit of segments, and of what printers wrote.
 #[derive(Drop)]
 struct Auditing<'a, 'o, O> {
-    audit: SegmentAudit,
+    /// What was read. None once a line was refused.
+    audit: Option<SegmentAudit>,
     rereading: Rereading<'a>,
     output: &'o mut O,
 }
 
 impl<'a, O: OctetWrite> TakeLines<'a> for Auditing<'a, '_, O> {
     fn take<R: Files<File = File> + Log>(
-        self,
+        &mut self,
         rt: &R,
         alloc: Global,
         line: &[u8],
         path: &'a str,
         number: u64,
-    ) -> Result<Self, ReportFault<'a>> {
-        let Auditing {
-            audit,
-            mut rereading,
-            output,
-        } = self;
-        let (audit, got) = match audit.read(alloc, line) {
-            Ok(taken) => taken,
+    ) -> Result<(), ReportFault<'a>> {
+        let Some(audit) = self.audit.take() else {
+            return Err(ReportFault::Line(path, number));
+        };
+        let got = match audit.read(alloc, line) {
+            Ok((audit, got)) => {
+                self.audit = Some(audit);
+                got
+            }
             Err(fault) => return Err(ReportFault::of_line(fault, path, number)),
         };
-        rereading.take(rt, alloc, output, &got, path, number)?;
+        self.rereading
+            .take(rt, alloc, self.output, &got, path, number)?;
         if number % STEP == 0 {
             info!(rt; "{path}: {number} lines");
         }
-        Ok(Auditing {
-            audit,
-            rereading,
-            output,
-        })
+        Ok(())
     }
 
-    fn end_file(self, path: &'a str, number: u64) -> Result<Self, ReportFault<'a>> {
-        if number == 1 || !self.audit.is_between() {
-            return Err(ReportFault::Line(path, number));
+    fn end_file(&mut self, path: &'a str, number: u64) -> Result<(), ReportFault<'a>> {
+        match &self.audit {
+            Some(audit) if number != 1 && audit.is_between() => Ok(()),
+            _ => Err(ReportFault::Line(path, number)),
         }
-        Ok(self)
     }
 }
 
@@ -84,14 +83,11 @@ fn summary(alloc: Global, tally: &Tally, digest: &str) -> Result<String, AllocEr
 
 impl<'a, O: OctetWrite> Auditing<'a, '_, O> {
     /// All files were read: whether they end as they are to is asked, and what they say is told.
-    fn finish(self, alloc: Global, request: &AuditRequest<'a>) -> Result<(), ReportFault<'a>> {
-        let Auditing {
-            audit,
-            mut rereading,
-            output,
-            ..
-        } = self;
+    fn finish(&mut self, alloc: Global, request: &AuditRequest<'a>) -> Result<(), ReportFault<'a>> {
         let last = request.files.last().map_or("", |path| path);
+        let Some(audit) = &self.audit else {
+            return Err(ReportFault::Line(last, 1));
+        };
         let Some(digest) = audit.digest() else {
             return Err(ReportFault::Line(last, 1));
         };
@@ -103,8 +99,8 @@ impl<'a, O: OctetWrite> Auditing<'a, '_, O> {
         }
         let tally = audit.tally();
         let text = summary(alloc, &tally, written.as_str())?;
-        write_text(output, text.as_bytes())?;
-        rereading.end(alloc, output)
+        write_text(self.output, text.as_bytes())?;
+        self.rereading.end(alloc, self.output)
     }
 }
 
@@ -116,13 +112,13 @@ fn audit_files<'a, R: Files<File = File> + Log, O: OctetWrite>(
     output: &mut O,
 ) -> Result<(), ReportFault<'a>> {
     let rereading = Rereading::new(alloc, request.printed.as_slice())?;
-    let auditing = Auditing {
-        audit: SegmentAudit::begin(request.after),
+    let mut auditing = Auditing {
+        audit: Some(SegmentAudit::begin(request.after)),
         rereading,
         output,
     };
-    let audited = take_files(auditing, rt, alloc, request.files.as_slice())?;
-    audited.finish(alloc, request)
+    take_files(&mut auditing, rt, alloc, request.files.as_slice())?;
+    auditing.finish(alloc, request)
 }
 
 /// The exit status of an end. A fault is told.

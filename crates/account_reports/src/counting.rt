@@ -20,18 +20,48 @@ use std::fs::{File, Files};
 /// How many lines of one segment are read at most.
 const MOST_LINES: u64 = 1 << 62;
 
+/// A segment that is read, line by line.
+#[derive(Drop)]
+struct Reading {
+    reader: SegmentReader,
+    /// How many of its lines were read.
+    lines: u64,
+    ghost few: { (lines ≤ 2 ^ 62) × HasReadAtMost reader lines },
+}
+
+impl Reading {
+    /// A segment of which nothing was read.
+    fn begin() -> Reading {
+        Reading {
+            reader: SegmentReader::begin(),
+            lines: 0,
+        }
+    }
+
+    /// Reads one line, without its LF.
+    ///
+    /// `Bad` where it is no line that may stand there, or too many were read; `Memory`.
+    fn read(self, alloc: Global, line: &[u8]) -> Result<(Reading, SegmentLine), LineFault> {
+        let Reading { mut reader, lines } = self;
+        if lines >= MOST_LINES {
+            return Err(LineFault::Bad);
+        }
+        let got = reader.read(alloc, line)?;
+        let lines = lines + 1;
+        Ok((Reading { reader, lines }, got))
+    }
+}
+
 /// A table of usage, and how far the segment is read.
 #[derive(Drop)]
 struct Counting<'a> {
     table: UsageTable,
-    reader: SegmentReader,
-    /// How many lines of the segment were read.
-    lines: u64,
+    /// None once a line was refused.
+    reading: Option<Reading>,
     since: Option<&'a str>,
     until: Option<&'a str>,
     /// Whether the segment that is read is one of those that are asked for.
     counts: bool,
-    ghost few: { (lines ≤ 2 ^ 62) × HasReadAtMost reader lines },
 }
 
 /// The text of a time as octets.
@@ -41,63 +71,41 @@ fn octets_of(time: Option<&str>) -> Option<&[u8]> {
 
 impl<'a> TakeLines<'a> for Counting<'a> {
     fn take<R: Files<File = File> + Log>(
-        self,
+        &mut self,
         _rt: &R,
         alloc: Global,
         line: &[u8],
         path: &'a str,
         number: u64,
-    ) -> Result<Self, ReportFault<'a>> {
-        let Counting {
-            mut table,
-            mut reader,
-            lines,
-            since,
-            until,
-            mut counts,
-        } = self;
-        if lines >= MOST_LINES {
+    ) -> Result<(), ReportFault<'a>> {
+        let Some(reading) = self.reading.take() else {
             return Err(ReportFault::Line(path, number));
-        }
-        let got = match reader.read(alloc, line) {
-            Ok(got) => got,
+        };
+        let got = match reading.read(alloc, line) {
+            Ok((reading, got)) => {
+                self.reading = Some(reading);
+                got
+            }
             Err(LineFault::Bad) => return Err(ReportFault::Line(path, number)),
             Err(LineFault::Memory) => return Err(ReportFault::Memory),
         };
         if let SegmentLine::Origin(origin) = &got {
-            counts = is_within(origin, octets_of(since), octets_of(until));
+            self.counts = is_within(origin, octets_of(self.since), octets_of(self.until));
         }
-        if counts {
-            table.read(alloc, &got)?;
+        if self.counts {
+            self.table.read(alloc, &got)?;
         }
-        Ok(Counting {
-            table,
-            reader,
-            lines: lines + 1,
-            since,
-            until,
-            counts,
-        })
+        Ok(())
     }
 
-    fn end_file(self, path: &'a str, number: u64) -> Result<Self, ReportFault<'a>> {
-        if !self.reader.is_over() {
-            return Err(ReportFault::Line(path, number));
+    fn end_file(&mut self, path: &'a str, number: u64) -> Result<(), ReportFault<'a>> {
+        match &self.reading {
+            Some(reading) if reading.reader.is_over() => {}
+            _ => return Err(ReportFault::Line(path, number)),
         }
-        let Counting {
-            table,
-            since,
-            until,
-            ..
-        } = self;
-        Ok(Counting {
-            table,
-            reader: SegmentReader::begin(),
-            lines: 0,
-            since,
-            until,
-            counts: false,
-        })
+        self.reading = Some(Reading::begin());
+        self.counts = false;
+        Ok(())
     }
 }
 
@@ -190,16 +198,15 @@ fn tell_usage<'a, R: Files<File = File> + Log, O: OctetWrite>(
     request: &UsageRequest<'a>,
     output: &mut O,
 ) -> Result<(), ReportFault<'a>> {
-    let counting = Counting {
+    let mut counting = Counting {
         table: UsageTable::new(alloc, request.by),
-        reader: SegmentReader::begin(),
-        lines: 0,
+        reading: Some(Reading::begin()),
         since: request.since,
         until: request.until,
         counts: false,
     };
-    let counted = take_files(counting, rt, alloc, request.files.as_slice())?;
-    let rows = counted.table.rows();
+    take_files(&mut counting, rt, alloc, request.files.as_slice())?;
+    let rows = counting.table.rows();
     if request.csv {
         let text = records_of(alloc, request.by, rows)?;
         return write_text(output, text.as_slice());

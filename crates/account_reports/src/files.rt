@@ -32,33 +32,32 @@ fn tell_unread<R: Log>(
 }
 
 /// Who is told the lines of files, one after the other.
-pub(crate) trait TakeLines<'a>: Sized {
+pub(crate) trait TakeLines<'a> {
     /// Takes the line of this number of the file at a path, without its LF.
     fn take<R: Files<File = File> + Log>(
-        self,
+        &mut self,
         rt: &R,
         alloc: Global,
         line: &[u8],
         path: &'a str,
         number: u64,
-    ) -> Result<Self, ReportFault<'a>>;
+    ) -> Result<(), ReportFault<'a>>;
 
     /// The file at a path has ended, and would have gone on with the line of this number. `Line` where it may not end there.
-    fn end_file(self, path: &'a str, number: u64) -> Result<Self, ReportFault<'a>>;
+    fn end_file(&mut self, path: &'a str, number: u64) -> Result<(), ReportFault<'a>>;
 }
 
 /// Has all lines of the file at a path taken.
-fn take_lines<'a, T: TakeLines<'a> + Drop, R: Files<File = File> + Log, I: OctetRead + Drop>(
-    taker: T,
+fn take_lines<'a, T: TakeLines<'a>, R: Files<File = File> + Log, I: OctetRead + Drop>(
+    taker: &mut T,
     rt: &R,
     alloc: Global,
     path: &'a str,
     lines: &mut LineReader<I>,
-) -> Result<T, ReportFault<'a>> {
-    let mut taker = taker;
+) -> Result<(), ReportFault<'a>> {
     for number in 1..u64::MAX {
         match lines.next_line() {
-            Ok(Some(line)) => taker = taker.take(rt, alloc, line, path, number)?,
+            Ok(Some(line)) => taker.take(rt, alloc, line, path, number)?,
             Ok(None) => return taker.end_file(path, number),
             Err(fault) => return Err(ReportFault::of_reading(fault, path, number)),
         }
@@ -67,35 +66,32 @@ fn take_lines<'a, T: TakeLines<'a> + Drop, R: Files<File = File> + Log, I: Octet
 }
 
 /// Has all lines of the file at a path taken. The log is told why it can't be read.
-fn take_file<'a, T: TakeLines<'a> + Drop, R: Files<File = File> + Log>(
-    taker: T,
+fn take_file<'a, T: TakeLines<'a>, R: Files<File = File> + Log>(
+    taker: &mut T,
     rt: &R,
     alloc: Global,
     path: &'a str,
-) -> Result<T, ReportFault<'a>> {
+) -> Result<(), ReportFault<'a>> {
     let mut lines = open_lines(rt, alloc, path)?;
-    match take_lines(taker, rt, alloc, path, &mut lines) {
-        Ok(taker) => Ok(taker),
-        Err(fault) => {
-            tell_unread(rt, path, &fault, &lines);
-            Err(fault)
-        }
+    let taken = take_lines(taker, rt, alloc, path, &mut lines);
+    if let Err(fault) = &taken {
+        tell_unread(rt, path, fault, &lines);
     }
+    taken
 }
 
 /// Has the lines of the files at these paths taken, in order.
 ///
 /// `ReadFile` where one can't be read, `Line` where a line of it is too long, or it ends inside one or where it may not, and what who
 /// takes them refuses. The log is told why a file can't be read.
-pub(crate) fn take_files<'a, T: TakeLines<'a> + Drop, R: Files<File = File> + Log>(
-    taker: T,
+pub(crate) fn take_files<'a, T: TakeLines<'a>, R: Files<File = File> + Log>(
+    taker: &mut T,
     rt: &R,
     alloc: Global,
     paths: &[&'a str],
-) -> Result<T, ReportFault<'a>> {
-    let mut taker = taker;
+) -> Result<(), ReportFault<'a>> {
     for path in paths {
-        taker = take_file(taker, rt, alloc, path)?;
+        take_file(taker, rt, alloc, path)?;
     }
-    Ok(taker)
+    Ok(())
 }

@@ -2,8 +2,6 @@
 #![tactic(auto)]
 
 #[cfg(test)]
-mod chain;
-#[cfg(test)]
 mod client;
 #[cfg(test)]
 mod faults;
