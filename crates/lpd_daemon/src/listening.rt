@@ -46,11 +46,12 @@ pub(crate) fn listen<R: Log + Net<Listener = TcpListener, Stream = TcpStream>>(
 {
     let address = SocketAddr::from((settings.bind, settings.port));
     let allowed = mem::replace(&mut settings.allowed, Vec::new(alloc));
+    let proxied = mem::replace(&mut settings.proxied, Vec::new(alloc));
     let listening = Listening {
         address,
         places: places(descriptor_limit(), kept).max(1),
         connections: settings.connections.unwrap_or(u64::MAX),
-        doorway: Doorway::new(alloc, allowed),
+        doorway: Doorway::new(alloc, allowed, proxied),
     };
     match Lobby::new(rt, alloc, listening) {
         Ok(listening) => Ok(listening),

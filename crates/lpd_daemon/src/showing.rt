@@ -78,11 +78,11 @@ impl Showing {
     }
 }
 
-/// Who may come to the board, and its name. AllocError where memory for them is refused.
+/// Who may come to the board, where no proxy is believed whom it comes for, and its name. AllocError where memory for them is refused.
 fn door_of(alloc: Global, settings: &Settings<'_>) -> Result<(Doorway, String), AllocError> {
     let allowed = Vec::from_slice(alloc, settings.allowed.as_slice())?;
     let name = String::from_str(alloc, settings.status_host.unwrap_or(LOCALHOST))?;
-    Ok((Doorway::new(alloc, allowed), name))
+    Ok((Doorway::new(alloc, allowed, Vec::new(alloc)), name))
 }
 
 /// A board where the settings have a place for it, and what wakes its thread.

@@ -22,7 +22,7 @@ use Rattle.lpd_words.specs.Checking.{IsChecking}
 use Rattle.account_usage.specs.declared.grouping.Grouping.{Grouping}
 use Rattle.segment_text.specs.Reading.{fits_shape}
 use Rattle.lpd_words.specs.declared.checking.Checking.{Checking}
-use Rattle.lpd_words.specs.Serving.{AreAllowed, AreLimits, AreOfDifferentPrinters, ArePrinterLimits, IsLog}
+use Rattle.lpd_words.specs.Serving.{AreLimits, AreNetworks, AreOfDifferentPrinters, ArePrinterLimits, IsLog}
 use Rattle.program_edge.specs.declared.settings.TheConstants.{MOST_CONTROL_PATH}
 use Rattle.lpd_words.specs.Values.{HasNoNumber, IsAddress, IsGiven, IsGivenOr, IsLimit}
 use Rattle.lpd_words.specs.Asked.{IsControlRequest, IsSending}
@@ -137,13 +137,18 @@ HasNoLimit rows id = (limit : Option ℕ) → IsLimit rows id limit → ⊥
 abbrev pub HasNoLimits : List Row → Type 0
 HasNoLimits rows = (limits : Limits) → AreLimits rows limits → ⊥
 
--- a text names no network, and so the option names none that may be let in; or memory was refused
-abbrev pub HasNoNetworks : List Row → WordFault → Type 0
-HasNoNetworks rows (envelope.Network text) =
+-- a text names no network, and so an option names none; or memory was refused
+abbrev pub HasNoNetworks : List Row → Text → WordFault → Type 0
+HasNoNetworks rows name (envelope.Network text) =
     ((network : Network) → IsNetworkText (string_bytes text) network → ⊥)
-    × ((networks : List Network) → AreAllowed rows networks → ⊥)
-HasNoNetworks rows envelope.Memory = Unit {0}
-HasNoNetworks rows fault = ⊥
+    × ((networks : List Network) → AreNetworks rows name networks → ⊥)
+HasNoNetworks rows name envelope.Memory = Unit {0}
+HasNoNetworks rows name fault = ⊥
+
+-- so it is of one of the two options of a server that name networks
+abbrev pub HasNoServersNetworks : List Row → WordFault → Type 0
+HasNoServersNetworks rows fault =
+    HasNoNetworks rows (codes "allow") fault ⊎ HasNoNetworks rows (codes "proxied") fault
 
 -- the path of a control socket that this word gives is this text, which is longer than one may be
 abbrev pub IsTooLong : Text → List Row → Text → Type 0
@@ -219,7 +224,7 @@ HasNoSessions rows = (sessions : ℕ) → IsGivenOr 8 rows (codes "sessions") se
 abbrev pub LacksServing : List Row → WordFault → Type 0
 LacksServing rows envelope.Address = HasNoAddress (codes "bind") rows
 LacksServing rows envelope.Missing = (s : Settings) → IsServing rows s → ⊥
-LacksServing rows (envelope.Network text) = HasNoNetworks rows (envelope.Network text)
+LacksServing rows (envelope.Network text) = HasNoServersNetworks rows (envelope.Network text)
 LacksServing rows (envelope.Control text) = HasNoControl rows (envelope.Control text)
 LacksServing rows (envelope.Log text) = HasNoLog rows (envelope.Log text)
 LacksServing rows (envelope.Status text) = HasNoStatus rows (envelope.Status text)
@@ -249,7 +254,7 @@ NamesNoLine (Some met) = LacksLine met.0 met.1
 -- words ask to serve, and name no networks
 abbrev pub NamesNoNetworks : Option (Text × List Row) → WordFault → Type 0
 NamesNoNetworks None fault = ⊥
-NamesNoNetworks (Some met) fault = (met.0 ≡ codes "serve") × HasNoNetworks met.1 fault
+NamesNoNetworks (Some met) fault = (met.0 ≡ codes "serve") × HasNoServersNetworks met.1 fault
 
 -- words ask to serve or to check, and say nothing of a printer, or twice of one
 abbrev pub NamesNoPrinters : Option (Text × List Row) → WordFault → Type 0

@@ -37,7 +37,7 @@ serve_words =
     word (codes "config") ∷ listening_port ∷ option (codes "bind") ∷ option (codes "out")
     ∷ sessions ∷ count (codes "connections") ∷ count (codes "rotate") ∷ count (codes "silence")
     ∷ count (codes "per-host") ∷ count (codes "slowest") ∷ flag (codes "keep-room")
-    ∷ repeated (codes "allow") ∷ option (codes "control") ∷ printer ∷ count (codes "patience")
+    ∷ repeated (codes "allow") ∷ repeated (codes "proxied") ∷ option (codes "control") ∷ printer ∷ count (codes "patience")
     ∷ count (codes "printer-silence") ∷ count (codes "restart") ∷ option (codes "spool")
     ∷ option (codes "account") ∷ option (codes "log") ∷ flag (codes "log-jobs") ∷ option (codes "status")
     ∷ option (codes "status-host") ∷ []
@@ -54,9 +54,9 @@ pub record AreLimits (rows : List Row) (limits : Limits) : Type 0 where
   pub leave_seconds : limits.leave_seconds ≡ 5
   pub room_ms : limits.room_ms ≡ 1000
 
--- these networks are let in: those that the option names, each time that it is there, in order
-abbrev pub AreAllowed : List Row → List Network → Type 0
-AreAllowed rows networks = NameNetworks (unwrap_or (all_of (codes "allow") rows) []) networks
+-- these networks are those that an option names, each time that it is there, in order
+abbrev pub AreNetworks : List Row → Text → List Network → Type 0
+AreNetworks rows name networks = NameNetworks (unwrap_or (all_of name rows) []) networks
 
 -- the path of the control socket: what the option says, if it is there, no longer than the path of a socket may be
 abbrev pub IsControl : List Row → Option Text → Type 0
@@ -107,7 +107,8 @@ pub record IsServing (rows : List Row) (settings : Settings) : Type 0 where
   pub rotate : IsLimit rows (codes "rotate") (option_map non_zero_u64_get settings.rotate)
   pub keep_room : IsFlag rows (codes "keep-room") settings.keep_room
   pub limits : AreLimits rows settings.limits
-  pub allowed : AreAllowed rows settings.allowed.items
+  pub allowed : AreNetworks rows (codes "allow") settings.allowed.items
+  pub proxied : AreNetworks rows (codes "proxied") settings.proxied.items
   pub control : IsControl rows (option_map (λ path. path.now) settings.control)
   pub printers : ArePrinters rows settings.printers.items
   pub printer_limits : ArePrinterLimits rows settings.printer_limits

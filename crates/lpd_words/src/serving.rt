@@ -5,7 +5,7 @@ ghost use Rattle.clap.specs.Words.{found_of, rows_of};
 ghost use Rattle.lpd_words.specs.Refused.{HasNoAddress, HasNoControl, HasNoLimits, HasNoLog, HasNoNetworks, HasNoSessions, HasNoStatus, HasNoStatusHost};
 ghost use Rattle.lpd_words.specs.Refused.{LacksServing};
 ghost use Rattle.lpd_words.specs.Rules.{IsCommand, IsWord};
-ghost use Rattle.lpd_words.specs.Serving.{AreAllowed, AreLimits, IsControl, IsLog, IsServing, IsStatus, IsStatusHost};
+ghost use Rattle.lpd_words.specs.Serving.{AreLimits, AreNetworks, IsControl, IsLog, IsServing, IsStatus, IsStatusHost};
 ghost use Rattle.lpd_words.specs.Serving.{listening_port, serve_app};
 ghost use Rattle.lpd_words.specs.Values.{IsAddress, IsGivenOr};
 ghost use Rattle.lpd_words.specs.declared.envelope.WordFault.TheVariants.{Address, Missing};
@@ -46,6 +46,7 @@ Examples:
   lpd_server serve spool.toml --port 515 --printer 1=socket://10.0.0.9
   lpd_server serve spool.toml --port 515 --keep-room --spool /var/spool/hurgwaye
   lpd_server serve spool.toml --port 515 --keep-room --account /var/lib/hurgwaye/account
+  lpd_server serve spool.toml --port 515 --keep-room --bind 0.0.0.0 --proxied 10.0.0.2 --allow 10.0.0.0/8
   lpd_server serve spool.toml --port 5150 --connections 1";
 
 /// The option that has to be there, the port to listen on.
@@ -71,6 +72,8 @@ pub(crate) fn serve<'a>(alloc: Global) -> Result<Command<'a>, AllocError>
     let slowest = "Ends a session whose peer sends fewer than OCTETS a second for a minute";
     let keep_room = "Rotates the account as soon as no job is held, and has new jobs wait for that";
     let allow = "Lets in this network alone, and each other that is named so, as 10.0.0.0/8";
+    let proxied =
+        "Has a proxy's header (PROXY protocol) say whose each connection of this network is, and of each other that is named so";
     let control = "Makes a Unix socket at PATH where the server is looked after";
     let patience = "Fails a job whose network printer isn't reached for MINUTES";
     let silent = "Fails a job whose network printer takes nothing for SECONDS";
@@ -98,6 +101,7 @@ pub(crate) fn serve<'a>(alloc: Global) -> Result<Command<'a>, AllocError>
         count(alloc, "slowest", "OCTETS", slowest),
         flag(alloc, "keep-room", keep_room),
         repeated(alloc, "allow", "NETWORK", allow),
+        repeated(alloc, "proxied", "NETWORK", proxied),
         option(alloc, "control", "PATH", control),
         repeated(alloc, "printer", "K=PLACE", PRINTER),
         count(alloc, "patience", "MINUTES", patience),
@@ -154,14 +158,14 @@ fn limits_of(matches: &ArgMatches) -> Result<Limits, WordFault>
     })
 }
 
-/// The networks that are let in. `Network` with the first text that names none, and `Memory`.
-fn networks_of(alloc: Global, matches: &ArgMatches) -> Result<Vec<Network>, WordFault>
+/// The networks that an option names. `Network` with the first text that names none, and `Memory`.
+fn networks_of(alloc: Global, matches: &ArgMatches, option: &str) -> Result<Vec<Network>, WordFault>
     ensures networks { IfOk result (λ networks.
-        AreAllowed (rows_of (found_of matches.now)) networks.items) }
-    ensures fault { IfErr result (HasNoNetworks (rows_of (found_of matches.now))) }
+        AreNetworks (rows_of (found_of matches.now)) option.now networks.items) }
+    ensures fault { IfErr result (HasNoNetworks (rows_of (found_of matches.now)) option.now) }
 {
     let mut networks = Vec::new(alloc);
-    let Ok(texts) = texts_of(matches, "allow") else {
+    let Ok(texts) = texts_of(matches, option) else {
         return Ok(networks);
     };
     for text in texts {
@@ -255,7 +259,8 @@ pub(crate) fn serving_of<'a>(
         rotate: limit_of(matches, "rotate")?,
         keep_room: flag_of(matches, "keep-room"),
         limits: limits_of(matches)?,
-        allowed: networks_of(alloc, matches)?,
+        allowed: networks_of(alloc, matches, "allow")?,
+        proxied: networks_of(alloc, matches, "proxied")?,
         control: control_of(alloc, matches)?,
         printers: printers_of(alloc, matches)?,
         printer_limits: printer_limits_of(matches)?,

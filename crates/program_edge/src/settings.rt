@@ -78,6 +78,9 @@ pub struct Settings<'a> {
     pub limits: Limits,
     /// The networks whose addresses are let in. Where there is none, each address is.
     pub allowed: Vec<Network>,
+    /// The networks of the proxies: each connection of their addresses begins with a header of the PROXY protocol, which says whose
+    /// it is.
+    pub proxied: Vec<Network>,
     /// The path of the control socket, where there is one: at most `MOST_CONTROL_PATH` octets.
     pub control: Option<&'a str>,
     /// What single printers print to: each number at most once. Every other printer prints to its
@@ -118,7 +121,7 @@ impl<'a> Settings<'a> {
         ensures limits { (result.limits.silence ≡ None) × (result.limits.per_host ≡ None)
             × (result.limits.slowest ≡ None) × (result.limits.no_job_seconds ≡ 5)
             × (result.limits.leave_seconds ≡ 5) × (result.limits.room_ms ≡ 1000) }
-        ensures allowed { result.allowed.items ≡ [] }
+        ensures allowed { (result.allowed.items ≡ []) × (result.proxied.items ≡ []) }
         ensures control { result.control ≡ None }
         ensures printers { result.printers.items ≡ [] }
         ensures printer_limits { (result.printer_limits.patience_minutes ≡ None)
@@ -139,6 +142,7 @@ impl<'a> Settings<'a> {
             keep_room: false,
             limits: Limits::NONE,
             allowed: Vec::new(alloc),
+            proxied: Vec::new(alloc),
             control: None,
             printers: Vec::new(alloc),
             printer_limits: PrinterLimits::NONE,

@@ -2,7 +2,7 @@
 
 ghost use Rattle.std.specs.Prelude.{◌≡◌};
 ghost use Rattle.std.specs.Net.Socket.{socket_ip};
-ghost use Rattle.server_edge.specs.Doorway.{is_in_one, may_come};
+ghost use Rattle.server_edge.specs.Doorway.{is_in_one, may_come, speaks_for_others};
 
 use crate::throttle::{AGAIN_SECONDS, Throttle};
 use program_edge::Network;
@@ -16,18 +16,21 @@ fn is_in_one(networks: &[Network], address: Ipv4Addr) -> bool
     networks.iter().any(|network| network.has(address))
 }
 
-/// Who may come in: the addresses of networks, or where none is named each.
+/// Who may come in: the addresses of networks, or where none is named each; and which proxies are believed whom they come for.
 #[derive(Drop)]
 pub struct Doorway {
     allowed: Vec<Network>,
+    proxied: Vec<Network>,
     pub(crate) refused: Throttle,
 }
 
 impl Doorway {
-    /// The doorway for addresses of these networks.
-    pub fn new(alloc: Global, allowed: Vec<Network>) -> Doorway {
+    /// The doorway for addresses of these networks. Each connection of a network in `proxied` begins with a proxy's header, which
+    /// says whose it is.
+    pub fn new(alloc: Global, allowed: Vec<Network>, proxied: Vec<Network>) -> Doorway {
         Doorway {
             allowed,
+            proxied,
             refused: Throttle::new(alloc),
         }
     }
@@ -51,6 +54,16 @@ impl Doorway {
                 self.allowed.is_empty() || is_in_one(self.allowed.as_slice(), address)
             }
             IpAddr::V6(_) => self.allowed.is_empty(),
+        }
+    }
+
+    /// Whether a peer is a proxy, whose connections begin with a header.
+    pub(crate) fn is_proxy(&self, peer: SocketAddr) -> bool
+        ensures { result ≡ speaks_for_others self.now.proxied.items (socket_ip peer) }
+    {
+        match peer.ip() {
+            IpAddr::V4(address) => is_in_one(self.proxied.as_slice(), address),
+            IpAddr::V6(_) => false,
         }
     }
 }

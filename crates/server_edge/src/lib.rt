@@ -5,6 +5,7 @@ mod desk;
 mod doorway;
 mod first_line;
 mod guests;
+mod headers;
 mod limits;
 mod lobby;
 mod peers;

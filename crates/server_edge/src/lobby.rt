@@ -7,7 +7,8 @@
 //!                              +--- no room left: the oldest silent one is closed
 //! ```
 //!
-//! One thread holds them, with no octet read: what came is looked at, and left for the session.
+//! One thread holds them, with no octet read: what came is looked at, and left for the session. Of a connection that a proxy has
+//! brought its header alone is read, before all else is looked at: from then on it is a connection of whom the header names.
 
 ghost use Rattle.std.specs.Prelude.{◌≡◌, ◌<◌, ◌-◌, ◌↔◌, ◌++◌, [], IsTrue, None, Some, codes, length};
 ghost use Rattle.std.specs.Fmt.{decimal};
@@ -15,6 +16,7 @@ ghost use Rattle.std.specs.Fmt.{decimal};
 use crate::desk::Desk;
 use crate::doorway::Doorway;
 use crate::first_line::Errand;
+use crate::headers::{HeaderFault, Word};
 use crate::waiting_room::{Ready, Visit, WaitingRoom};
 use log::{Log, warn};
 use mio::unix::SourceFd;
@@ -26,7 +28,7 @@ use std::net::{Net, SocketAddr, TcpListener, TcpStream};
 use std::os::fd::{AsRawFd, RawFd};
 use std::rt::Clock;
 use std::sync::Wait;
-use std::time::Duration;
+use std::time::{Duration, Instant};
 use std::{fmt, io};
 
 /// The token of the listener.
@@ -43,6 +45,10 @@ const BACKLOG: i32 = 4_096;
 
 /// The milliseconds until the next try where a connection couldn't be accepted.
 const ACCEPT_PAUSE_MS: u64 = 100;
+
+/// The longest wait of a round while headers of proxies are waited for, and the time between two looks at which are late, in
+/// milliseconds.
+const HEADER_LOOK_MS: u64 = 500;
 
 /// Why a connection that waited is closed: for want of room, as N were by now.
 #[derive(Clone, Copy)]
@@ -72,6 +78,8 @@ pub struct Lobby {
     listener: TcpListener,
     poll: Poll,
     events: Events,
+    // The places of the guests of whom something came in this round, and whether no more comes.
+    heard: Vec<(usize, bool)>,
     // How many connections are accepted yet.
     left: u64,
     accepted: u64,
@@ -79,6 +87,8 @@ pub struct Lobby {
     pause_ms: Option<u64>,
     closed: u64,
     doorway: Doorway,
+    // When it was last looked at which headers are late.
+    looked: Option<Instant>,
 }
 
 /// What a lobby listens at, and for whom.
@@ -111,6 +121,7 @@ impl Lobby {
             listener,
             poll: Poll::new(rt)?,
             events: Events::with_capacity(alloc, EVENTS)?,
+            heard: Vec::new(alloc),
             left: connections,
             accepted: 0,
             room: WaitingRoom::new(alloc),
@@ -118,6 +129,7 @@ impl Lobby {
             pause_ms: Some(0),
             closed: 0,
             doorway,
+            looked: None,
         };
         let (waker, port) = lobby.open(places)?;
         Ok((lobby, waker, port))
@@ -182,23 +194,111 @@ impl Lobby {
         }
     }
 
+    /// Closes a connection whose address isn't let in.
+    fn turn_away<R: Clock + Log>(&mut self, rt: &R, visit: Visit) {
+        let (peer, host) = (visit.peer, visit.host());
+        drop(visit);
+        self.doorway.refused.refuse(rt, peer, host);
+    }
+
+    /// Closes the connection at a place for its header.
+    fn close_for<R: Log>(&mut self, rt: &R, at: usize, fault: HeaderFault) {
+        if let Some(visit) = self.release(at) {
+            let peer = visit.peer;
+            drop(visit);
+            tell(rt, &peer, &fault);
+        }
+    }
+
+    /// Reads the header of the guest at a place, if it is whole. Whom it names is let in as one who comes without a proxy, and the
+    /// proxy itself in any case. Whether what is behind it may be looked at; where the guest is closed, nothing is.
+    fn is_named<R: Clock + Log>(&mut self, rt: &R, at: usize, is_ended: bool) -> Option<bool> {
+        match self.room.read_header(at, is_ended) {
+            Word::Waits => return Some(false),
+            Word::Itself(_) => return Some(true),
+            Word::From(..) => {
+                let peer = self.room.peer_at(at)?;
+                if self.doorway.lets_in(peer) {
+                    return Some(true);
+                }
+                let visit = self.release(at)?;
+                self.turn_away(rt, visit);
+            }
+            Word::Nothing => {
+                self.release(at);
+            }
+            Word::Fault(fault) => self.close_for(rt, at, fault),
+        }
+        None
+    }
+
+    /// Looks at what a guest has sent. Whether it is ready, or gone.
+    fn look<R: Clock + Log>(
+        &mut self,
+        rt: &R,
+        at: usize,
+        is_ended: bool,
+    ) -> Result<bool, AllocError> {
+        if self.room.awaits_header(at) {
+            match self.is_named(rt, at, is_ended) {
+                Some(true) => (),
+                Some(false) => return Ok(false),
+                None => return Ok(true),
+            }
+        }
+        self.room.look(at, is_ended)
+    }
+
+    /// Closes the connections whose headers haven't come in time, some time after the last look at which these are.
+    fn close_late<R: Clock + Log>(&mut self, rt: &R) {
+        if self.room.headers == 0 {
+            return;
+        }
+        let Ok(now) = Instant::now(rt) else {
+            return;
+        };
+        let pause = Duration::from_millis(HEADER_LOOK_MS);
+        if self
+            .looked
+            .is_some_and(|looked| now.duration_since(looked) < pause)
+        {
+            return;
+        }
+        self.looked = Some(now);
+        let mut from = 0;
+        for _ in 0..self.room.visits.len() {
+            let Some(at) = self.room.late_from(from, now) else {
+                break;
+            };
+            self.close_for(rt, at, HeaderFault::Late);
+            from = at.saturating_add(1);
+        }
+    }
+
     /// Gives a connection that was accepted a place, and looks at what it has sent; or closes it,
-    /// where its address isn't let in.
+    /// where its address isn't let in. That of a proxy is let in until its header is read.
     fn admit<R: Clock + Log>(&mut self, rt: &R, visit: Visit) -> Result<(), AllocError> {
         self.left = self.left.saturating_sub(1);
-        if !self.doorway.lets_in(visit.peer) {
-            let (peer, host) = (visit.peer, visit.host());
-            drop(visit);
-            self.doorway.refused.refuse(rt, peer, host);
+        let (descriptor, peer) = (visit.stream.as_raw_fd(), visit.peer);
+        let mut awaited = None;
+        if self.doorway.is_proxy(peer) {
+            match Instant::now(rt) {
+                Ok(now) => awaited = Some(now),
+                Err(error) => {
+                    tell(rt, &peer, &error);
+                    return Ok(());
+                }
+            }
+        } else if !self.doorway.lets_in(peer) {
+            self.turn_away(rt, visit);
             return Ok(());
         }
         self.accepted = self.accepted.saturating_add(1);
         self.make_place(rt);
-        let (descriptor, peer) = (visit.stream.as_raw_fd(), visit.peer);
-        let Some(at) = self.room.settle(self.accepted, visit) else {
+        let Some(at) = self.room.settle(self.accepted, visit, awaited) else {
             return Ok(());
         };
-        if self.room.look(at, false)? {
+        if self.look(rt, at, false)? {
             return Ok(());
         }
         if let Err(error) = self.watch(descriptor, Token(at)) {
@@ -206,7 +306,7 @@ impl Lobby {
             self.release(at);
         }
         // What came between the look and the watch is seen by a second look.
-        self.room.look(at, false)?;
+        self.look(rt, at, false)?;
         Ok(())
     }
 
@@ -297,17 +397,29 @@ impl Lobby {
         let pause_ms = self.pause_ms.unwrap_or(u64::MAX);
         let pause_ms = pause_ms.min(limit_ms.unwrap_or(u64::MAX));
         let pause_ms = pause_ms.min(self.doorway.patience_ms());
+        let pause_ms = if self.room.headers > 0 {
+            pause_ms.min(HEADER_LOOK_MS)
+        } else {
+            pause_ms
+        };
         let patience = (pause_ms < u64::MAX).then_some(Duration::from_millis(pause_ms));
         self.poll.poll(&mut self.events, patience)?;
         self.doorway.refused.tell_again(rt);
+        self.close_late(rt);
         let mut accepts = self.pause_ms.is_some();
+        self.heard.clear();
         for event in self.events.iter() {
             let token = event.token();
             if token == LISTENER {
                 accepts = true;
             } else if token != WAKER {
                 let is_ended = event.is_read_closed() || event.is_error();
-                self.room.look(token.0, is_ended)?;
+                self.heard.push((token.0, is_ended))?;
+            }
+        }
+        for k in 0..self.heard.len() {
+            if let Some((at, is_ended)) = self.heard.get(k).copied() {
+                self.look(rt, at, is_ended)?;
             }
         }
         if accepts {

@@ -51,6 +51,13 @@ pub fn unread_octets(stream: &TcpStream, buffer: &mut [u8]) -> Option<usize>
     usize::try_from(count).ok()
 }
 
+/// Takes as many octets from a stream as this buffer has room for, without waiting for any. Whether it has.
+pub(crate) fn take_octets(stream: &TcpStream, buffer: &mut [u8]) -> bool {
+    let length = buffer.len();
+    let count = unsafe { recv(stream.as_raw_fd(), buffer, MSG_DONTWAIT) };
+    usize::try_from(count).is_ok_and(|count| count == length)
+}
+
 /// What is known of a session that waits for a page, while its peer sends no more.
 #[derive(Clone, Copy)]
 pub struct Standing {

@@ -7,17 +7,20 @@ ghost use Rattle.server_edge.specs.declared.first_line.Errand.TheVariants.{Job};
 
 use crate::first_line::{Errand, FIRST_LINE_OCTETS, errand_of, is_whole};
 use crate::guests::{Guest, Stage, who_leaves};
-use crate::peers::unread_octets;
+use crate::headers::{HEADER_SECONDS, HeaderFault, MOST_HEADER, Word, read_word};
+use crate::peers::{take_octets, unread_octets};
 use std::alloc::{AllocError, Global};
 use std::collections::VecDeque;
-use std::net::{IpAddr, SocketAddr, TcpStream};
+use std::mem;
+use std::net::{IpAddr, Ipv4Addr, SocketAddr, TcpStream};
+use std::time::Instant;
 
 /// A connection that is handed on.
 #[derive(Drop)]
 pub struct Visit {
     /// The stream, which blocks.
     pub stream: TcpStream,
-    /// Its peer.
+    /// Its peer: where a proxy has brought it, whom that names.
     pub peer: SocketAddr,
     /// What it comes for.
     pub errand: Errand,
@@ -48,6 +51,9 @@ pub(crate) struct Ready {
 pub(crate) struct WaitingRoom {
     guests: Vec<Option<Guest>>,
     pub(crate) visits: Vec<Option<Visit>>,
+    // Since when the header of a proxy is waited for, where it is, and for how many it is.
+    awaited: Vec<Option<Instant>>,
+    pub(crate) headers: usize,
     pub(crate) free: Vec<usize>,
     /// Those that are ready, by when they were: that bring a job, and that bring none.
     pub(crate) jobs: VecDeque<Ready>,
@@ -76,6 +82,8 @@ impl WaitingRoom {
         WaitingRoom {
             guests: Vec::new(alloc),
             visits: Vec::new(alloc),
+            awaited: Vec::new(alloc),
+            headers: 0,
             free: Vec::new(alloc),
             jobs: VecDeque::new(alloc),
             others: VecDeque::new(alloc),
@@ -88,6 +96,7 @@ impl WaitingRoom {
             self.free.push(self.visits.len())?;
             self.guests.push(None)?;
             self.visits.push(None)?;
+            self.awaited.push(None)?;
         }
         Ok(())
     }
@@ -107,7 +116,7 @@ impl WaitingRoom {
     }
 
     /// The first guest whose first line isn't whole, where nobody is ready, as one that brings a job. A session for all waits for
-    /// its line as long as its peer may be silent.
+    /// its line as long as its peer may be silent. None while the header of a proxy is waited for.
     pub(crate) fn last_guest(&self) -> Option<Ready>
         ensures { IfSome result (λ ready. ready.errand ≡ Job) }
     {
@@ -115,6 +124,9 @@ impl WaitingRoom {
             return None;
         }
         let at = who_leaves(self.guests.as_slice())?;
+        if self.awaits_header(at) {
+            return None;
+        }
         let Some(Some(visit)) = self.visits.get(at) else {
             return None;
         };
@@ -125,9 +137,16 @@ impl WaitingRoom {
         })
     }
 
-    /// Gives a connection of this number a free place, which is answered.
-    pub(crate) fn settle(&mut self, number: u64, visit: Visit) -> Option<usize> {
+    /// Gives a connection of this number a free place, which is answered. Where it begins with a proxy's header, that is waited for
+    /// since `awaited`.
+    pub(crate) fn settle(
+        &mut self,
+        number: u64,
+        visit: Visit,
+        awaited: Option<Instant>,
+    ) -> Option<usize> {
         let at = self.free.pop()?;
+        self.await_header(at, awaited);
         if let Some(place) = self.visits.get_mut(at) {
             *place = Some(visit);
         }
@@ -143,9 +162,77 @@ impl WaitingRoom {
         }
     }
 
+    /// The peer of the guest at a place.
+    pub(crate) fn peer_at(&self, at: usize) -> Option<SocketAddr> {
+        match self.visits.get(at) {
+            Some(Some(visit)) => Some(visit.peer),
+            _ => None,
+        }
+    }
+
+    /// Whether the header of the guest at a place is waited for.
+    pub(crate) fn awaits_header(&self, at: usize) -> bool {
+        matches!(self.awaited.get(at), Some(Some(_)))
+    }
+
+    /// The header of the guest at a place is waited for since this moment, or isn't any more.
+    fn await_header(&mut self, at: usize, awaited: Option<Instant>) {
+        let is_awaited = awaited.is_some();
+        let Some(place) = self.awaited.get_mut(at) else {
+            return;
+        };
+        let was_awaited = mem::replace(place, awaited).is_some();
+        if is_awaited && !was_awaited {
+            self.headers = self.headers.saturating_add(1);
+        } else if was_awaited && !is_awaited {
+            self.headers = self.headers.saturating_sub(1);
+        }
+    }
+
+    /// The place of a guest whose header has been waited for too long by now, from this place on.
+    pub(crate) fn late_from(&self, from: usize, now: Instant) -> Option<usize> {
+        for at in from..self.awaited.len() {
+            if let Some(since) = self.awaited[at] {
+                if now.duration_since(since).as_secs() >= HEADER_SECONDS {
+                    return Some(at);
+                }
+            }
+        }
+        None
+    }
+
+    /// Reads the header of the guest at a place, and nothing behind it, once it is whole: from then on the guest's peer is whom it
+    /// names. What it says.
+    pub(crate) fn read_header(&mut self, at: usize, is_ended: bool) -> Word {
+        let Some(Some(visit)) = self.visits.get_mut(at) else {
+            return Word::Nothing;
+        };
+        let mut octets = [0u8; MOST_HEADER];
+        let came = unread_octets(&visit.stream, &mut octets);
+        let count = came.unwrap_or(0);
+        let word = read_word(&octets[..count], is_ended || came == Some(0));
+        let length = match word {
+            Word::From(_, _, length) | Word::Itself(length) => length,
+            _ => return word,
+        };
+        let is_taken = match octets.get_mut(..length) {
+            Some(header) => take_octets(&visit.stream, header),
+            None => false,
+        };
+        if !is_taken {
+            return Word::Fault(HeaderFault::Cut);
+        }
+        if let Word::From(address, port, _) = word {
+            visit.peer = SocketAddr::from((Ipv4Addr::from(address), port));
+        }
+        self.await_header(at, None);
+        word
+    }
+
     /// Takes a guest out of its place.
     pub(crate) fn release(&mut self, at: usize) -> Option<Visit> {
         let visit = self.visits.get_mut(at)?.take()?;
+        self.await_header(at, None);
         self.mark(at, None);
         // There is room, since a place was taken from it.
         let _ = self.free.push(at);

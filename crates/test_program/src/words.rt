@@ -196,7 +196,7 @@ const TOLD: [(&str, &[u8], &[u8]); 51] = [
     (
         "serve,spool.toml,--port,515",
         b"",
-        b"serves spool.toml 515 127.0.0.1 . 8 None None None None None 5 5 1000 false [] None [] None None None None None Plain false \
+        b"serves spool.toml 515 127.0.0.1 . 8 None None None None None 5 5 1000 false [] [] None [] None None None None None Plain false \
           None None\n",
     ),
     (
@@ -204,26 +204,33 @@ const TOLD: [(&str, &[u8], &[u8]); 51] = [
          --per-host,4,--slowest,100,--keep-room,--allow,10.0.0.0/8,--allow,192.168.1.7,spool.toml",
         b"",
         b"serves spool.toml 65535 10.0.200.255 pages 64 Some(3) Some(4294967295) Some(60) Some(4) Some(100) 5 5 1000 true \
-          [Network { address: 10.0.0.0, bits: 8 }, Network { address: 192.168.1.7, bits: 32 }] None [] None None None None None Plain false \
+          [Network { address: 10.0.0.0, bits: 8 }, Network { address: 192.168.1.7, bits: 32 }] [] None [] None None None None None Plain false \
           None None\n",
     ),
     (
         "serve,a,--port,1",
         b"free\n",
-        b"serves a 1 127.0.0.1 . 8 None None None None None 5 5 1000 false [] None [] None None None None None Plain false \
+        b"serves a 1 127.0.0.1 . 8 None None None None None 5 5 1000 false [] [] None [] None None None None None Plain false \
+          None None\n",
+    ),
+    (
+        "serve,a,--port,1,--proxied,127.0.0.1,--allow,10.0.0.0/8,--proxied=192.0.2.8/30",
+        b"",
+        b"serves a 1 127.0.0.1 . 8 None None None None None 5 5 1000 false [Network { address: 10.0.0.0, bits: 8 }] \
+          [Network { address: 127.0.0.1, bits: 32 }, Network { address: 192.0.2.8, bits: 30 }] None [] None None None None None Plain false \
           None None\n",
     ),
     (
         "serve,a,--port,1,--control,run/spool.control",
         b"",
-        b"serves a 1 127.0.0.1 . 8 None None None None None 5 5 1000 false [] Some(\"run/spool.control\") [] None None None None None Plain false \
+        b"serves a 1 127.0.0.1 . 8 None None None None None 5 5 1000 false [] [] Some(\"run/spool.control\") [] None None None None None Plain false \
           None None\n",
     ),
     (
         "serve,a,--port,1,--printer,2=folder:jobs/a=b,--patience,10,--printer-silence,4294967295,--restart,1,--printer=1=socket://10.0.0.9,\
          --printer,4294967295=socket://255.255.255.255:1,--printer,10=file:/dev/lp0",
         b"",
-        b"serves a 1 127.0.0.1 . 8 None None None None None 5 5 1000 false [] None \
+        b"serves a 1 127.0.0.1 . 8 None None None None None 5 5 1000 false [] [] None \
           [PrinterPlace { printer: 2, place: Folder(\"jobs/a=b\") }, PrinterPlace { printer: 1, place: Socket(10.0.0.9:9100) }, \
           PrinterPlace { printer: 4294967295, place: Socket(255.255.255.255:1) }, PrinterPlace { printer: 10, place: File(\"/dev/lp0\") }] \
           Some(10) Some(4294967295) Some(1) None None Plain false \
@@ -232,35 +239,35 @@ const TOLD: [(&str, &[u8], &[u8]); 51] = [
     (
         "serve,a,--port,1,--spool,/var/spool/jobs",
         b"",
-        b"serves a 1 127.0.0.1 . 8 None None None None None 5 5 1000 false [] None [] None None None Some(\"/var/spool/jobs\") None Plain false \
+        b"serves a 1 127.0.0.1 . 8 None None None None None 5 5 1000 false [] [] None [] None None None Some(\"/var/spool/jobs\") None Plain false \
           None None\n",
     ),
     (
         "serve,a,--port,1,--account,account,--spool,jobs",
         b"",
-        b"serves a 1 127.0.0.1 . 8 None None None None None 5 5 1000 false [] None [] None None None Some(\"jobs\") Some(\"account\") Plain false \
+        b"serves a 1 127.0.0.1 . 8 None None None None None 5 5 1000 false [] [] None [] None None None Some(\"jobs\") Some(\"account\") Plain false \
           None None\n",
     ),
     (
         "serve,a,--port,1,--log,journal,--log-jobs",
         b"",
-        b"serves a 1 127.0.0.1 . 8 None None None None None 5 5 1000 false [] None [] None None None None None Journal true None None\n",
+        b"serves a 1 127.0.0.1 . 8 None None None None None 5 5 1000 false [] [] None [] None None None None None Journal true None None\n",
     ),
     (
         "serve,a,--port,1,--log=time",
         b"",
-        b"serves a 1 127.0.0.1 . 8 None None None None None 5 5 1000 false [] None [] None None None None None Time false None None\n",
+        b"serves a 1 127.0.0.1 . 8 None None None None None 5 5 1000 false [] [] None [] None None None None None Time false None None\n",
     ),
     (
         "serve,a,--port,1,--status,631",
         b"",
-        b"serves a 1 127.0.0.1 . 8 None None None None None 5 5 1000 false [] None [] None None None None None Plain false \
+        b"serves a 1 127.0.0.1 . 8 None None None None None 5 5 1000 false [] [] None [] None None None None None Plain false \
           Some(StatusPlace { address: 127.0.0.1, port: 631 }) None\n",
     ),
     (
         "serve,a,--port,1,--status-host,Spool-1.example,--status=0.0.0.0:65535",
         b"",
-        b"serves a 1 127.0.0.1 . 8 None None None None None 5 5 1000 false [] None [] None None None None None Plain false \
+        b"serves a 1 127.0.0.1 . 8 None None None None None 5 5 1000 false [] [] None [] None None None None None Plain false \
           Some(StatusPlace { address: 0.0.0.0, port: 65535 }) Some(\"Spool-1.example\")\n",
     ),
     (
@@ -412,6 +419,11 @@ serve,a,--port,515,--allow,10.0.0.0/8,--allow,localhost
 serve,a,--port,515,--allow,10.0.0/8
 serve,a,--port,515,--allow,10.0.0.0/
 serve,a,--port,515,--allow
+serve,a,--port,515,--proxied
+serve,a,--port,515,--proxied,192.0.2.9/30
+serve,a,--port,515,--proxied,proxy.example
+serve,a,--port,515,--allow,10.0.0.0/8,--proxied,10.0.0.0/33
+check,a,--proxied,10.0.0.1
 serve,a,--port,515,--printer
 serve,a,--port,515,--printer,1
 serve,a,--port,515,--printer,1=

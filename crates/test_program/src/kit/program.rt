@@ -49,6 +49,7 @@ fn line_of(alloc: Global, config: &str, settings: &Settings) -> Result<String, A
         keep_room,
         limits,
         allowed,
+        proxied,
         control,
         printers,
         printer_limits,
@@ -73,7 +74,7 @@ fn line_of(alloc: Global, config: &str, settings: &Settings) -> Result<String, A
         room_ms,
     } = *limits;
     format!(in alloc;
-        "serves {config} {port} {bind} {out} {sessions} {connections:?} {rotate:?} {silence:?} {per_host:?} {slowest:?} {no_job_seconds} {leave_seconds} {room_ms} {keep_room} {allowed:?} {control:?} {printers:?} {patience_minutes:?} {silence_seconds:?} {restart_seconds:?} {spool:?} {account:?} {log:?} {log_jobs} {status:?} {status_host:?}\n"
+        "serves {config} {port} {bind} {out} {sessions} {connections:?} {rotate:?} {silence:?} {per_host:?} {slowest:?} {no_job_seconds} {leave_seconds} {room_ms} {keep_room} {allowed:?} {proxied:?} {control:?} {printers:?} {patience_minutes:?} {silence_seconds:?} {restart_seconds:?} {spool:?} {account:?} {log:?} {log_jobs} {status:?} {status_host:?}\n"
     )
 }
 
