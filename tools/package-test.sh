@@ -52,8 +52,12 @@ getent passwd hurgwaye > /dev/null || fail "no user"
 ! running $program || fail "something was started"
 [ ! -e /etc/systemd/system/multi-user.target.wants/lpd_server.service ] || fail "it is enabled"
 echo "installed: user $(id hurgwaye), nothing runs, nothing is enabled"
-systemd-analyze verify --man=no lpd_server.service > /tmp/verified 2>&1 || fail "the unit: $(cat /tmp/verified)"
-echo "systemd-analyze verify: $(grep -c lpd_server /tmp/verified || true) lines about the unit"
+units="lpd_server.service lpd_server-segments.service lpd_server-segments.timer"
+# shellcheck disable=SC2086
+systemd-analyze verify --man=no $units > /tmp/verified 2>&1 || fail "the units: $(cat /tmp/verified)"
+echo "systemd-analyze verify: $(grep -c lpd_server /tmp/verified || true) lines about $units"
+[ ! -e /etc/systemd/system/timers.target.wants/lpd_server-segments.timer ] || fail "the timer is enabled"
+echo "systemd-analyze security: $(systemd-analyze security --offline=true lpd_server.service 2> /dev/null | tail -1)"
 lpd_server check /etc/hurgwaye/spool.toml --sizes > /dev/null || fail "its configuration can't be read"
 test -f /usr/share/man/man8/lpd_server.8.gz || echo "(no man page: excluded here)"
 
@@ -113,6 +117,18 @@ while read -r n; do grep -qa "job $n\." /tmp/all || lost=$((lost + 1)); done < /
 echo "upgraded: acknowledged $before before it, $(wc -l < /tmp/acknowledged) in all, lost $lost, kept and not printed $(find /var/lib/hurgwaye/spool -name '*.job' | wc -l)"
 [ $lost = 0 ] && [ "$(wc -l < /tmp/acknowledged)" -gt "$before" ] || fail "jobs"
 dpkg-query -W -f '${Version} ${Status}\n' hurgwaye
+
+# All segments of the account but the last one are moved, and what is left goes on as the same account.
+account=/var/lib/hurgwaye/account
+before=$(find $account -name 'segment-*' | wc -l)
+setpriv --reuid hurgwaye --regid hurgwaye --init-groups /usr/lib/hurgwaye/move-segments $account $account-old > /tmp/moved || fail "segments: $(cat /tmp/moved)"
+[ "$(find $account -name 'segment-*' | wc -l)" = 1 ] || fail "$(ls $account)"
+[ "$before" -gt 1 ] && [ "$(find $account-old -name 'segment-*' | wc -l)" = $((before - 1)) ] || fail "of $before segments: $(ls $account-old)"
+start
+lpd_server control /run/hurgwaye/control stop 60 > /dev/null || fail "no stop"
+wait $server || true
+lpd_server audit $account-old/segment-* $account/segment-* > /tmp/audited || fail "the account isn't whole: $(cat /tmp/audited)"
+echo "$(cat /tmp/moved); $(head -1 /tmp/audited)"
 
 # Removing stops it and keeps data; purging takes data away.
 start
