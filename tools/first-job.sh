@@ -67,7 +67,7 @@ if [ -n "$keep" ]; then
     echo "The program, unproved, is $keep."
 fi
 echo
-echo "All of it is gone again. What to try next:"
+echo "Nothing else is left of it. What to try next:"
 echo "  bash tools/first-job.sh ./lpd_server   keeps the program; then ./lpd_server --help"
 echo "  bash tools/build.sh                    proves the program and builds it"
 echo "  bash .ci/run                           every proof and test"
