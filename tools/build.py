@@ -163,8 +163,10 @@ class Build:
         room = self.memory - sum(needs for _, needs in self.running.values())
         for at, name in enumerate(open_now):
             if idle > 0 and (self.needs[name] <= room or not self.running):
-                spare = min(idle // (len(open_now) - at), 4, 1 + int(max(0, room / self.needs[name] - 1) / 0.6))
-                return name, max(1, spare)
+                # (of the processors that are idle it gets its share of the work that may be begun)
+                share = self.weights[name] / sum(self.weights[it] for it in open_now[at:])
+                most = 1 + int(max(0, room / self.needs[name] - 1) / 0.6)
+                return name, max(1, min(round(idle * share), most, 4))
         return None
 
     def remaining(self):
