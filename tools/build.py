@@ -27,7 +27,10 @@ LEAST, OF_CODE, OF_PROOFS = 1000, 900, 200
 # Of the memory that is free at the start so much is used.
 SHARE = 0.85
 # A crate that took fewer seconds of a processor was built before.
-BUILT = 4
+BUILT = 8
+# How long a crate takes goes by its lines of code, hardly by those of its proofs: its start stands for so many lines, and a line took so many
+# seconds of a processor; the pace that is seen counts as much as that once so many lines are done.
+START, PACE, FIRST = 40, 0.27, 1000
 
 
 def read_crates():
@@ -136,7 +139,7 @@ class Build:
         self.weights, self.needs = {}, {}
         for name in crates:
             code, proofs = lines_of(name)
-            self.weights[name] = code + proofs / 2 + 50
+            self.weights[name] = code + START
             self.needs[name] = LEAST + (OF_CODE * code + OF_PROOFS * proofs) / 1000
         self.behind = {}
         for name in crates:
@@ -171,9 +174,9 @@ class Build:
 
     def remaining(self):
         """Seconds that the rest is likely to take, by what went before."""
-        pace = (self.worked + 60) / (self.weight + 600)
+        pace = (self.worked + PACE * FIRST) / (self.weight + FIRST)
         still = sum(self.weights[it] for it in self.left)
-        return pace * max(still / self.lanes, max((self.behind[it] for it in self.left), default=0) / 1.6)
+        return pace * max(still / self.lanes, max((self.behind[it] for it in self.left), default=0) / 2)
 
     def run_rt(self, name, top, words):
         """Runs rt in a crate, and returns its status and what it used."""
