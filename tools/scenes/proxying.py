@@ -220,7 +220,8 @@ def hosts_behind_one_proxy():
 def three_thousand_silent():
     """Beside 3,000 silent connections of the proxy nobody waits longer than 1 s, and the server takes no more memory than for others."""
     resource.setrlimit(resource.RLIMIT_NOFILE, (9000, 9000))
-    with server() as one:
+    # (a job reserves 312 entries of the account, some 50 KB)
+    with Server(PROGRAM, spool(pages=64, jobs=64, limit=1, account=4_000_000), *WORDS, device=None) as one:
         def memory():
             return int(re.search(r"VmHWM:\s+(\d+)", open(f"/proc/{one.process.pid}/status").read())[1]) // 1024
 
