@@ -5,7 +5,8 @@ crates' out/ folders, so a run that was stopped goes on where it was. (A crate w
 sources below it in one process first.)
 
 `rt lib` keeps other runs out of a crate and of all crates below it, so of one checkout two crates are hardly ever built side by side.
-Here each lane has a checkout of its own below out/lanes/, whose files are those of the repository under a second name.
+Here each lane has a checkout of its own below ~/.cache/hurgwaye, whose files are those of the repository under a second name: the gate
+refuses a repository with another one in it.
 """
 import hashlib
 import os
@@ -22,6 +23,7 @@ PROGRAM = "lpd_server"
 TOP = os.path.dirname(os.path.dirname(os.path.abspath(__file__)))
 OUT = f"{TOP}/out"
 LOGS = f"{OUT}/logs"
+LANES = os.path.expanduser(f"~/.cache/hurgwaye/lanes-{hashlib.sha256(TOP.encode()).hexdigest()[:12]}")
 # What a proof takes, in MB: at the least, and for each thousand lines of code and of proofs and definitions.
 LEAST, OF_CODE, OF_PROOFS = 1000, 900, 200
 # Of the memory that is free at the start so much is used.
@@ -95,7 +97,7 @@ class Lane:
     """A checkout in which one crate at a time is built."""
 
     def __init__(self, number, listed):
-        self.top = f"{OUT}/lanes/{number}"
+        self.top = f"{LANES}/{number}"
         self.has = set()
         os.makedirs(f"{self.top}/crates", exist_ok=True)
         for name in ("crates.txt", "HANDLES"):
@@ -122,7 +124,7 @@ class Lane:
         link(f"{here}/rlib", f"{there}/rlib")
         if os.path.isdir(f"{here}/incremental"):
             shutil.rmtree(f"{there}/incremental", ignore_errors=True)
-            os.rename(f"{here}/incremental", f"{there}/incremental")
+            shutil.move(f"{here}/incremental", f"{there}/incremental")
         self.has.add(name)
 
 
@@ -255,7 +257,7 @@ class Build:
 
 def finish(build):
     """Puts the program, and its SHA-256, where they are looked for."""
-    shutil.rmtree(f"{OUT}/lanes", ignore_errors=True)
+    shutil.rmtree(LANES, ignore_errors=True)
     made = f"{TOP}/crates/{PROGRAM}/out/{PROGRAM}"
     shutil.copy2(made, f"{OUT}/{PROGRAM}")
     with open(made, "rb") as file:
