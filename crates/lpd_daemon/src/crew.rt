@@ -4,13 +4,13 @@ ghost use Rattle.std.specs.Prelude.{◌≡◌};
 ghost use Rattle.std.specs.Thread.{IsSend};
 ghost use Rattle.lpd_daemon.specs.Lines.{TellsRotations};
 
+use crate::board::Board;
 use crate::counter::Counter;
 use crate::faults::Fault;
 use crate::house::House;
 use crate::listening::{Gate, Porter, announce_all};
 use crate::places::Opened;
 use crate::roles::{Roles, Seats, serves_at};
-use crate::showing::Board;
 use log::Log;
 use lpd_commands::OctetWrite;
 use shared_spool::{PrinterSeat, SessionSeat, SpoolLedger};

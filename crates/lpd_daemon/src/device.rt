@@ -3,9 +3,11 @@
 ghost use Rattle.std.specs.Prelude.{◌≡◌};
 
 use crate::outlet::PatientFile;
-use crate::sink::{Explains, FileSink};
+use crate::sink::Explains;
+use lpd_commands::write_all;
 use printer_sinks::{Dial, Folder, FolderSink, Pause, SocketSink};
 use printer_worker::{HandedPage, Leaving, PrintSink, SinkFault};
+use program_edge::StreamWriter;
 use sink_devices::Causes;
 use std::fs::File;
 use std::io::Error;
@@ -13,7 +15,7 @@ use std::io::Error;
 /// A file that the pages of a printer are written to.
 #[derive(Drop)]
 pub(crate) struct PrinterFile<'a> {
-    pub(crate) sink: FileSink<PatientFile<'a>>,
+    pub(crate) file: StreamWriter<PatientFile<'a>>,
     /// The same file, where a job that is done has to be on the disk before it is let go.
     pub(crate) synced: Option<File>,
     /// Why the last job that was done may not be on the disk.
@@ -46,7 +48,7 @@ impl<D: Dial + Causes + Drop, P: Pause + Drop, F: Folder + Causes + Drop> Device
     /// Writes a page.
     fn write(&mut self, page: &HandedPage) -> Result<(), SinkFault> {
         match self {
-            Device::File(file) => file.sink.write_page(page),
+            Device::File(file) => write_all(&mut file.file, page.bytes()).or(Err(SinkFault)),
             Device::Socket(socket) => socket.print(page.job, page.bytes()).or(Err(SinkFault)),
             Device::Folder(folder) => folder.print(page.job, page.bytes()).or(Err(SinkFault)),
         }
@@ -74,7 +76,7 @@ impl<D: Dial + Causes + Drop, P: Pause + Drop, F: Folder + Causes + Drop> Device
     /// Why a page wasn't written last.
     fn cause(&self) -> Option<Error> {
         match self {
-            Device::File(file) => file.sink.cause(),
+            Device::File(file) => file.file.cause(),
             Device::Socket(socket) => socket.dial().cause(),
             Device::Folder(folder) => folder.folder().cause(),
         }

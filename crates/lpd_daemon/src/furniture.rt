@@ -4,15 +4,15 @@ ghost use Rattle.std.specs.Int.NonZero.{non_zero_u64_get};
 ghost use Rattle.std.specs.Prelude.{◌≡◌, ◌≤◌, ◌-◌, ◌^◌, ℕ, IfErr, None, Some, min, option_map};
 ghost use Rattle.lpd_daemon.specs.declared.faults.Fault.TheVariants.{Memory};
 
-use crate::counter::Counter;
 use crate::faults::Fault;
 use crate::job_book::JobBook;
 use crate::oversight::Oversight;
 use crate::places::{Opened, pipes_of};
 use crate::posts::Posts;
-use crate::restarting::Restarts;
+use crate::restarts::Restarts;
 use crate::roles::NO_JOB_SESSIONS;
 use config_values::Config;
+use mio::Waker;
 use program_edge::{MOST_SESSIONS, Settings};
 use server_edge::{Desk, Doors};
 use std::alloc::{AllocError, Global};
@@ -50,18 +50,18 @@ pub(crate) struct Furniture {
 }
 
 impl Furniture {
-    /// That of a server that starts now. AllocError where memory for it is refused.
+    /// That of a server that starts now, at which a steward looks who is woken by this, if there is one. AllocError where memory for it is refused.
     fn new<R: Clock>(
         rt: &R,
         alloc: Global,
         settings: &Settings<'_>,
         config: &Config,
         places: &[Opened],
-        counter: &mut Counter,
+        waker: Option<Waker>,
+        has_steward: bool,
     ) -> Result<Furniture, AllocError> {
-        let (is_shown, has_steward) = (settings.status.is_some(), counter.is_open());
+        let is_shown = settings.status.is_some();
         let pipes = pipes_of(alloc, if has_steward { places } else { &[] })?;
-        let waker = counter.take_waker();
         let copy = Config::copy_of(alloc, config)?;
         let oversight = Oversight::new(rt, alloc, copy, pipes, waker, is_shown || has_steward)?;
         let (desk, doors) = Desk::new(alloc, most_of(settings.limits.per_host))?;
@@ -75,18 +75,19 @@ impl Furniture {
         })
     }
 
-    /// That of a server that starts now. Memory where memory for it is refused.
+    /// That of a server that starts now, at which a steward looks who is woken by this, if there is one. Memory where memory for it is refused.
     pub(crate) fn make<R: Clock>(
         rt: &R,
         alloc: Global,
         settings: &Settings<'_>,
         config: &Config,
         places: &[Opened],
-        counter: &mut Counter,
+        waker: Option<Waker>,
+        has_steward: bool,
     ) -> Result<Furniture, Fault>
         ensures { IfErr result (λ fault. fault ≡ Memory) }
     {
-        match Furniture::new(rt, alloc, settings, config, places, counter) {
+        match Furniture::new(rt, alloc, settings, config, places, waker, has_steward) {
             Ok(furniture) => Ok(furniture),
             Err(AllocError) => Err(Fault::Memory),
         }

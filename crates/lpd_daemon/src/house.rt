@@ -1,15 +1,15 @@
 //! What all threads of a server share.
 
-use crate::archiving::Archive;
+use crate::archive::Archive;
+use crate::board::Showing;
 use crate::ending::Ending;
 use crate::job_book::JobBook;
 use crate::job_lines::Outcome;
 use crate::keeping::Kept;
 use crate::oversight::Oversight;
 use crate::posts::Posts;
-use crate::restarting::Restarts;
-use crate::rotating::Rotations;
-use crate::showing::Showing;
+use crate::restarts::Restarts;
+use crate::rotations::Rotations;
 use log::Log;
 use mio::Waker;
 use program_edge::{Limits, PrinterLimits};

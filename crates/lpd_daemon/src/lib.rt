@@ -6,7 +6,9 @@
 #![tactic(auto)]
 
 mod answering;
+mod archive;
 mod archiving;
+mod board;
 mod commanding;
 mod counter;
 mod crew;
@@ -29,9 +31,11 @@ mod places;
 mod posts;
 mod printing;
 mod restarting;
+mod restarts;
 mod roles;
 mod room;
 mod rotating;
+mod rotations;
 mod served;
 mod serving;
 mod showing;
@@ -43,7 +47,7 @@ mod stopping;
 mod stored;
 mod watching;
 
-pub use archiving::ACCOUNT_LINES;
+pub use archive::ACCOUNT_LINES;
 pub use control_socket::{OpenFault, SocketFile};
 pub use counter::Counter;
 pub use faults::Fault;
@@ -53,4 +57,3 @@ pub use program_edge::{
     Limits, LogForm, MOST_SESSIONS, Place, PrinterLimits, PrinterPlace, Settings, StatusPlace,
 };
 pub use serving::{Plan, serve};
-pub use sink::{Explains, FileSink};

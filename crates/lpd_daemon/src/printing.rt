@@ -8,12 +8,13 @@ use crate::house::House;
 use crate::job_lines::Outcome;
 use crate::outlet::{Outlet, PatientFile};
 use crate::places::Opened;
-use crate::sink::{Explains, FileSink};
+use crate::sink::Explains;
 use held_jobs::Phase;
 use job_files::JobEnd;
 use log::{Log, warn};
 use printer_sinks::{Dial, Folder, FolderSink, Pause, SocketSink};
 use printer_worker::{HandedPage, Leaving, PrintSink, SinkFault, work};
+use program_edge::StreamWriter;
 use shared_spool::{PrinterSeat, SpoolLedger};
 use sink_devices::{Causes, Errand, FileFolder, Pauses, TcpDial};
 use std::fs::{File, Files};
@@ -170,7 +171,7 @@ impl<
             None
         };
         PrinterFile {
-            sink: FileSink::new(PatientFile::new(outlet.file, &self.ending)),
+            file: StreamWriter::new(PatientFile::new(outlet.file, &self.ending)),
             synced,
             unsynced: None,
         }

@@ -5,15 +5,15 @@ ghost use Rattle.std.specs.Prelude.{◌≡◌, ◌↔◌, IsTrue, length, option
 ghost use Rattle.lpd_daemon.specs.Rotating.{HasTurn};
 
 use crate::house::House;
-use log::{Log, error, warn};
+use crate::rotations::Rotation;
+use log::{Log, error};
 use shared_spool::{RotateError, Segment, SessionSeat, SpoolLedger};
-use std::alloc::Global;
 use std::num::NonZeroU64;
 use std::rt::Clock;
+use std::sync::Wait;
 use std::sync::ledger::Ledger;
-use std::sync::{Mutex, Wait};
+use std::thread;
 use std::time::Duration;
-use std::{mem, thread};
 
 /// The pause after a rotation that was refused, in seconds.
 const PAUSE_SECONDS: u64 = 1;
@@ -26,15 +26,6 @@ pub(crate) fn has_turn(every: Option<NonZeroU64>, handed_on: u64) -> bool
     every.is_some_and(|every| handed_on != 0 && handed_on % every.get() == 0)
 }
 
-/// What is printed of a segment that was put away.
-#[derive(Clone, Copy)]
-pub(crate) struct Rotation {
-    /// The segment's number.
-    pub(crate) number: u64,
-    /// Its entries.
-    pub(crate) entries: u64,
-}
-
 /// What is printed of this segment.
 pub(crate) fn rotation_of(segment: &Segment) -> Rotation
     ensures number { result.number ≡ segment.now.number }
@@ -43,33 +34,6 @@ pub(crate) fn rotation_of(segment: &Segment) -> Rotation
     Rotation {
         number: segment.number,
         entries: segment.entries.len() as u64,
-    }
-}
-
-/// Rotations that aren't printed yet.
-#[derive(Drop)]
-pub(crate) struct Rotations {
-    rotated: Mutex<Vec<Rotation>>,
-}
-
-impl Rotations {
-    /// None yet.
-    pub(crate) fn new(alloc: Global) -> Rotations {
-        Rotations {
-            rotated: Mutex::new(Vec::new(alloc)),
-        }
-    }
-
-    /// Those that aren't printed yet, which are taken out.
-    pub(crate) fn take<R: Wait>(&self, rt: &R, alloc: Global) -> Vec<Rotation> {
-        mem::replace(&mut *self.rotated.lock(rt), Vec::new(alloc))
-    }
-
-    /// One more.
-    fn add<R: Log + Wait>(&self, rt: &R, rotation: Rotation) {
-        if self.rotated.lock(rt).push(rotation).is_err() {
-            warn!(rt; "memory was refused: a rotation isn't printed");
-        }
     }
 }
 

@@ -9,7 +9,8 @@ ghost use Rattle.lpd_daemon.specs.declared.lines.PrintedLine.TheVariants.{Closed
 ghost use Rattle.lpd_commands.specs.Ends.{Writes};
 ghost use Rattle.spool_ledgers.specs.Blanks.{AreFor, mark};
 
-use crate::archiving::{Archive, open_archive};
+use crate::archive::{Archive, open_archive};
+use crate::board::{Board, Showing, open_board};
 use crate::counter::Counter;
 use crate::crew::{Entrance, Returned};
 use crate::ending::Ending;
@@ -22,8 +23,7 @@ use crate::listening::{Gate, listen};
 use crate::places::{Opened, open_places};
 use crate::roles::{OTHERS, Roles, Seats};
 use crate::room::AccountRoom;
-use crate::rotating::Rotations;
-use crate::showing::{Board, Showing, open_board};
+use crate::rotations::Rotations;
 use config_values::Config;
 use log::{Log, warn};
 use lpd_commands::OctetWrite;
@@ -248,9 +248,10 @@ where
     let kept = open_kept(rt, alloc, &settings, &config)?;
     let archive = open_archive(rt, alloc, &settings, &config, &places)?;
     let board = open_board(rt, alloc, &settings)?;
-    let furniture = Furniture::make(rt, alloc, &settings, &config, &places, &mut counter)?;
+    let (has_steward, waker) = (counter.is_open(), counter.take_waker());
+    let furniture = Furniture::make(rt, alloc, &settings, &config, &places, waker, has_steward)?;
     let sessions = sessions_of(&settings);
-    let descriptors = kept_descriptors(config.printer_count(), sessions, counter.is_open());
+    let descriptors = kept_descriptors(config.printer_count(), sessions, has_steward);
     let descriptors = descriptors.saturating_add(folder_descriptors(sessions, kept.is_some()));
     let descriptors = descriptors.saturating_add(board_descriptors(board.is_some()));
     let (lobby, waker, port) = listen(rt, alloc, &mut settings, descriptors)?;
