@@ -1,9 +1,9 @@
 //! The thread that has the spool take the jobs that its folder has kept.
 
 use crate::house::House;
-use crate::job_book::SessionNotes;
 use crate::keeping::Kept;
 use crate::owner::Owner;
+use crate::session_notes::SessionNotes;
 use crate::stored::{FedFolder, StoredJobs};
 use kept_recovery::{Fed, feed_one};
 use kept_requests::Keeping;

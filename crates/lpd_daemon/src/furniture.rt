@@ -5,16 +5,15 @@ ghost use Rattle.std.specs.Prelude.{◌≡◌, ◌≤◌, ◌-◌, ◌^◌, ℕ,
 ghost use Rattle.lpd_daemon.specs.declared.faults.Fault.TheVariants.{Memory};
 
 use crate::faults::Fault;
-use crate::job_book::JobBook;
 use crate::oversight::Oversight;
 use crate::places::{Opened, pipes_of};
 use crate::posts::Posts;
-use crate::restarts::Restarts;
 use crate::roles::NO_JOB_SESSIONS;
 use config_values::Config;
 use mio::Waker;
 use program_edge::{MOST_SESSIONS, Settings};
 use server_edge::{Desk, Doors};
+use server_notes::{JobBook, Restarts};
 use std::alloc::{AllocError, Global};
 use std::num::NonZeroU64;
 use std::rt::Clock;

@@ -2,18 +2,14 @@
 
 use crate::archive::Archive;
 use crate::board::Showing;
-use crate::ending::Ending;
-use crate::job_book::JobBook;
-use crate::job_lines::Outcome;
 use crate::keeping::Kept;
 use crate::oversight::Oversight;
 use crate::posts::Posts;
-use crate::restarts::Restarts;
-use crate::rotations::Rotations;
 use log::Log;
 use mio::Waker;
 use program_edge::{Limits, PrinterLimits};
 use server_edge::Desk;
+use server_notes::{Ending, JobBook, Outcome, Restarts, Rotations};
 use shared_spool::{SharedSpool, SpoolLedger};
 use std::alloc::Global;
 use std::rt::Clock;

@@ -1,9 +1,9 @@
 //! A printer's file as the system has it: a file, a device or a pipe.
 
-use crate::ending::Ending;
 use libc::net::{POLLIN, POLLOUT, poll};
 use libc::types::pollfd;
 use os::set_nonblocking;
+use server_notes::Ending;
 use std::fs::{File, FileType, Files, OpenOptions};
 use std::io::{Error, ErrorKind, Write};
 use std::os::fd::{AsRawFd, RawFd};

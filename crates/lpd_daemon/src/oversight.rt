@@ -1,8 +1,8 @@
 //! What is known of a server beside its spool, for whoever looks after it.
 
-use crate::standing::Standstills;
 use config_values::Config;
 use mio::Waker;
+use server_notes::Standstills;
 use std::alloc::{AllocError, Global};
 use std::fs::File;
 use std::rt::Clock;

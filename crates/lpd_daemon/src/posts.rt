@@ -3,8 +3,8 @@
 ghost use Rattle.std.specs.Int.NonZero.{non_zero_u64_get};
 ghost use Rattle.std.specs.Prelude.{◌≡◌, ◌↔◌, ◌<◌, ◌*◌, ◌-◌, ◌^◌, IsTrue, min, unwrap_or};
 
-use crate::moments::{milliseconds, milliseconds_between};
 use server_edge::{Peer, Standing, Visit, ask_peer, may_end, unread_octets};
+use server_notes::{milliseconds, milliseconds_between};
 use shared_spool::Waiting;
 use std::alloc::{AllocError, Global};
 use std::io;

@@ -5,7 +5,6 @@ ghost use Rattle.lpd_daemon.specs.Keeping.{end_of};
 
 use crate::device::{Device, DeviceSink, PrinterFile};
 use crate::house::House;
-use crate::job_lines::Outcome;
 use crate::outlet::{Outlet, PatientFile};
 use crate::places::Opened;
 use crate::sink::Explains;
@@ -15,6 +14,7 @@ use log::{Log, warn};
 use printer_sinks::{Dial, Folder, FolderSink, Pause, SocketSink};
 use printer_worker::{HandedPage, Leaving, PrintSink, SinkFault, work};
 use program_edge::StreamWriter;
+use server_notes::Outcome;
 use shared_spool::{PrinterSeat, SpoolLedger};
 use sink_devices::{Causes, Errand, FileFolder, Pauses, TcpDial};
 use std::fs::{File, Files};

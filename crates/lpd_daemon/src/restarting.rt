@@ -1,8 +1,8 @@
 //! Queues that are started again by themselves once a printer of theirs has failed.
 
 use crate::house::House;
-use crate::restarts::Failures;
 use log::{Log, warn};
+use server_notes::Failures;
 use shared_spool::{SessionSeat, SpoolLedger};
 use std::rt::Clock;
 use std::sync::Wait;

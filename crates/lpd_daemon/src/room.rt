@@ -4,9 +4,9 @@ ghost use Rattle.std.specs.Prelude.{◌≡◌, ◌≤◌, ◌+◌, ◌-◌, ◌*
 ghost use Rattle.config_values.specs.Config.{IsQueue, reserve_of};
 ghost use Rattle.lpd_daemon.specs.Rotating.{next_hold};
 
-use crate::moments::milliseconds_since;
 use config_values::Config;
 use log::{Log, warn};
+use server_notes::milliseconds_since;
 use shared_spool::{SessionSeat, SharedSpool, SpoolLedger};
 use std::rt::Clock;
 use std::sync::Wait;

@@ -5,8 +5,8 @@ ghost use Rattle.std.specs.Prelude.{◌≡◌, ◌↔◌, IsTrue, length, option
 ghost use Rattle.lpd_daemon.specs.Rotating.{HasTurn};
 
 use crate::house::House;
-use crate::rotations::Rotation;
 use log::{Log, error};
+use server_notes::Rotation;
 use shared_spool::{RotateError, Segment, SessionSeat, SpoolLedger};
 use std::num::NonZeroU64;
 use std::rt::Clock;

@@ -39,6 +39,15 @@ fn look_of(second: u64, pages: Pages, counts: &ServerCounts) -> Look {
     }
 }
 
+/// The numbers of the jobs that are held. AllocError where memory for them is refused.
+fn numbers_of(alloc: Global, sight: &Sight) -> Result<Vec<u64>, AllocError> {
+    let mut numbers = Vec::new(alloc);
+    for job in &sight.spool.jobs {
+        numbers.push(job.number)?;
+    }
+    Ok(numbers)
+}
+
 /// The numbers of the jobs whose sessions wait for a page. AllocError where memory for them is refused.
 fn put_off_of(alloc: Global, sight: &Sight) -> Result<Vec<u64>, AllocError> {
     let mut put_off = Vec::new(alloc);
@@ -99,7 +108,7 @@ impl<R: Files<File = File> + Clock + Log + Wait, E: SpoolLedger, K: Ledger, H: L
         let order = sight.spool.finishing_order(alloc)?;
         let put_off = put_off_of(alloc, &sight)?;
         let ages = match &self.job_book {
-            Some(book) => book.ages(rt, sight.spool.jobs.as_slice())?,
+            Some(book) => book.ages(rt, numbers_of(alloc, &sight)?.as_slice())?,
             None => Vec::new(alloc),
         };
         let counts = self.counts();

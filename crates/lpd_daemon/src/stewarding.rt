@@ -3,10 +3,10 @@
 use crate::commanding::Answer;
 use crate::counter::Counter;
 use crate::house::House;
-use crate::standing::Standstill;
 use control_lines::{AnswerEnd, Command, LineFault};
 use control_socket::{Asked, Pending};
 use log::{Log, warn};
+use server_notes::Standstill;
 use shared_spool::{SeenJob, SessionSeat, SpoolLedger};
 use spool_calls::Printer;
 use std::alloc::AllocError;

@@ -12,7 +12,7 @@ pub const JOB_LINES: &str = "lpd_daemon::job_lines";
 
 /// What becomes of a job.
 #[derive(Clone, Copy, Debug, PartialEq, Eq)]
-pub(crate) enum Outcome {
+pub enum Outcome {
     /// It came whole.
     Received,
     /// All its pages were printed.
@@ -112,5 +112,5 @@ pub(crate) fn tell_job<R: Log>(rt: &R, job: u64, noted: &Noted, outcome: Outcome
         outcome,
         took,
     };
-    info!(rt; "job {line}");
+    info!(rt; target: JOB_LINES, "job {line}");
 }

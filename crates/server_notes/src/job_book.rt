@@ -11,10 +11,8 @@ use crate::job_lines::{Outcome, tell_job};
 use crate::moments::milliseconds;
 use control_file::Control;
 use log::Log;
-use lpd_values::{FileName, Octets, Refusal};
-use noted_requests::JobNotes;
+use lpd_values::{Octets, Refusal};
 use server_counts::ServerCounts;
-use spool_snapshot::SeenJob;
 use std::alloc::{AllocError, Global};
 use std::collections::HashMap;
 use std::rt::Clock;
@@ -40,7 +38,7 @@ pub(crate) struct Noted {
 
 /// What is noted of a server's jobs.
 #[derive(Drop)]
-pub(crate) struct JobBook {
+pub struct JobBook {
     alloc: Global,
     /// Whether the log has a line for what becomes of each job.
     has_lines: bool,
@@ -56,7 +54,7 @@ fn since_start<R: Clock>(rt: &R) -> Duration {
 impl JobBook {
     /// With no job, and room for N, where the log has lines of them or their counts are shown. AllocError where memory for them is
     /// refused.
-    pub(crate) fn open(
+    pub fn open(
         alloc: Global,
         has_lines: bool,
         is_shown: bool,
@@ -75,38 +73,38 @@ impl JobBook {
     }
 
     /// What was counted since the server's start.
-    pub(crate) fn counts<R: Wait>(&self, rt: &R) -> ServerCounts {
+    pub fn counts<R: Wait>(&self, rt: &R) -> ServerCounts {
         *self.counts.lock(rt)
     }
 
     /// One more connection is served.
-    pub(crate) fn note_connection<R: Wait>(&self, rt: &R) {
+    pub fn note_connection<R: Wait>(&self, rt: &R) {
         self.counts.lock(rt).connect();
     }
 
     /// A session has ended by this refusal.
-    pub(crate) fn note_refusal<R: Wait>(&self, rt: &R, refusal: Refusal) {
+    pub fn note_refusal<R: Wait>(&self, rt: &R, refusal: Refusal) {
         self.counts.lock(rt).refuse(refusal);
     }
 
-    /// For how many seconds each of these jobs has been held, where that is known. AllocError where memory for them is refused.
-    pub(crate) fn ages<R: Clock + Wait>(
+    /// For how many seconds each job of these numbers has been held, where that is known. AllocError where memory for them is refused.
+    pub fn ages<R: Clock + Wait>(
         &self,
         rt: &R,
-        held: &[SeenJob],
+        held: &[u64],
     ) -> Result<Vec<Option<u64>>, AllocError> {
         let now = since_start(rt);
         let jobs = self.jobs.lock(rt);
         let mut ages = Vec::new(self.alloc);
         for job in held {
-            let noted = jobs.get(&job.number);
+            let noted = jobs.get(job);
             ages.push(noted.map(|noted| now.saturating_sub(noted.since).as_secs()))?;
         }
         Ok(ages)
     }
 
     /// A job was accepted for the queue of this name. Where memory for that is refused, nothing is noted of it.
-    fn begin<R: Clock + Wait>(&self, rt: &R, job: u64, queue: &[u8]) {
+    pub fn begin<R: Clock + Wait>(&self, rt: &R, job: u64, queue: &[u8]) {
         let Ok(queue) = Octets::copy_of(self.alloc, queue) else {
             return;
         };
@@ -121,6 +119,30 @@ impl JobBook {
             received: None,
         };
         let _ = self.jobs.lock(rt).insert(job, noted);
+    }
+
+    /// A job has this number of its sender's.
+    pub fn note_number<R: Wait>(&self, rt: &R, job: u64, number: u16) {
+        if let Some(noted) = self.jobs.lock(rt).get_mut(&job) {
+            noted.number = Some(number);
+        }
+    }
+
+    /// One more page of a job has come, with N octets.
+    pub fn note_page<R: Wait>(&self, rt: &R, job: u64, octets: usize) {
+        if let Some(noted) = self.jobs.lock(rt).get_mut(&job) {
+            noted.pages = noted.pages.saturating_add(1);
+            noted.octets = noted.octets.saturating_add(octets as u64);
+        }
+    }
+
+    /// A job has this control file. What there is no memory for isn't noted.
+    pub fn note_control<R: Wait>(&self, rt: &R, job: u64, control: &Control) {
+        if let Some(noted) = self.jobs.lock(rt).get_mut(&job) {
+            noted.number = Some(control.number);
+            noted.user = Octets::copy_of(self.alloc, control.user.as_slice()).ok();
+            noted.host = Octets::copy_of(self.alloc, control.host.as_slice()).ok();
+        }
     }
 
     /// Tells what has become of a job by now, where the log has a line for that.
@@ -138,7 +160,7 @@ impl JobBook {
     }
 
     /// A job has come whole.
-    fn receive<R: Clock + Log + Wait>(&self, rt: &R, job: u64) {
+    pub fn receive<R: Clock + Log + Wait>(&self, rt: &R, job: u64) {
         let now = since_start(rt);
         let mut jobs = self.jobs.lock(rt);
         if let Some(noted) = jobs.get_mut(&job) {
@@ -163,7 +185,7 @@ impl JobBook {
     }
 
     /// A job isn't held any more: each is told once.
-    pub(crate) fn end<R: Clock + Log + Wait>(&self, rt: &R, job: u64, outcome: Outcome) {
+    pub fn end<R: Clock + Log + Wait>(&self, rt: &R, job: u64, outcome: Outcome) {
         let now = since_start(rt);
         let Some(noted) = self.jobs.lock(rt).remove(&job) else {
             return;
@@ -177,7 +199,7 @@ impl JobBook {
     }
 
     /// A session has let go of a job: it is given up, where it wasn't whole.
-    fn let_go<R: Clock + Log + Wait>(&self, rt: &R, job: u64) {
+    pub fn let_go<R: Clock + Log + Wait>(&self, rt: &R, job: u64) {
         let is_received = self
             .jobs
             .lock(rt)
@@ -185,67 +207,6 @@ impl JobBook {
             .is_some_and(|noted| noted.received.is_some());
         if !is_received {
             self.end(rt, job, Outcome::Aborted);
-        }
-    }
-}
-
-/// What a session's jobs are told to: the book, where there is one.
-#[derive(Drop)]
-pub(crate) struct SessionNotes<'a, R> {
-    rt: &'a R,
-    book: &'a Option<JobBook>,
-}
-
-impl<'a, R> SessionNotes<'a, R> {
-    /// Tells this book, if there is one.
-    pub(crate) fn new(rt: &'a R, book: &'a Option<JobBook>) -> SessionNotes<'a, R> {
-        SessionNotes { rt, book }
-    }
-}
-
-impl<R: Clock + Log + Wait> JobNotes for SessionNotes<'_, R> {
-    fn opened(&mut self, job: u64, _sender: u32, queue: &[u8]) {
-        if let Some(book) = &self.book {
-            book.begin(self.rt, job, queue);
-        }
-    }
-
-    fn file_began(&mut self, job: u64, name: &FileName) {
-        if let Some(book) = &self.book {
-            if let Some(noted) = book.jobs.lock(self.rt).get_mut(&job) {
-                noted.number = Some(name.number());
-            }
-        }
-    }
-
-    fn page_came(&mut self, job: u64, octets: usize) {
-        if let Some(book) = &self.book {
-            if let Some(noted) = book.jobs.lock(self.rt).get_mut(&job) {
-                noted.pages = noted.pages.saturating_add(1);
-                noted.octets = noted.octets.saturating_add(octets as u64);
-            }
-        }
-    }
-
-    fn controlled(&mut self, job: u64, control: &Control) {
-        if let Some(book) = &self.book {
-            if let Some(noted) = book.jobs.lock(self.rt).get_mut(&job) {
-                noted.number = Some(control.number);
-                noted.user = Octets::copy_of(book.alloc, control.user.as_slice()).ok();
-                noted.host = Octets::copy_of(book.alloc, control.host.as_slice()).ok();
-            }
-        }
-    }
-
-    fn received(&mut self, job: u64) {
-        if let Some(book) = &self.book {
-            book.receive(self.rt, job);
-        }
-    }
-
-    fn given_up(&mut self, job: u64) {
-        if let Some(book) = &self.book {
-            book.let_go(self.rt, job);
         }
     }
 }

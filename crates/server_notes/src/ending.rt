@@ -11,7 +11,7 @@ use std::sync::atomic::{AtomicBool, Ordering};
 
 /// How far the end of a server has come. It never goes back.
 #[derive(Drop)]
-pub(crate) struct Ending {
+pub struct Ending {
     stops: AtomicBool,
     cuts_off: AtomicBool,
     closed: AtomicBool,
@@ -19,7 +19,7 @@ pub(crate) struct Ending {
 
 impl Ending {
     /// The server runs.
-    pub(crate) fn new() -> Ending {
+    pub fn new() -> Ending {
         Ending {
             stops: AtomicBool::new(false),
             cuts_off: AtomicBool::new(false),
@@ -28,38 +28,38 @@ impl Ending {
     }
 
     /// Nobody is let in any more, and what was taken is printed to its end.
-    pub(crate) fn stop(&self) {
+    pub fn stop(&self) {
         self.stops.store(true, Ordering::SeqCst);
     }
 
     /// Whether nobody is let in any more.
-    pub(crate) fn stops(&self) -> bool {
+    pub fn stops(&self) -> bool {
         self.stops.load(Ordering::SeqCst)
     }
 
     /// Nothing is waited for any more: no peer, no printer.
-    pub(crate) fn cut_off(&self) {
+    pub fn cut_off(&self) {
         self.stop();
         self.cuts_off.store(true, Ordering::SeqCst);
     }
 
     /// Whether nothing is waited for any more.
-    pub(crate) fn cuts_off(&self) -> bool {
+    pub fn cuts_off(&self) -> bool {
         self.cuts_off.load(Ordering::SeqCst)
     }
 
     /// The spool is closed.
-    pub(crate) fn close(&self) {
+    pub fn close(&self) {
         self.closed.store(true, Ordering::SeqCst);
     }
 
     /// Whether the spool is closed.
-    pub(crate) fn is_closed(&self) -> bool {
+    pub fn is_closed(&self) -> bool {
         self.closed.load(Ordering::SeqCst)
     }
 
     /// Whether no job is to be printed any more.
-    pub(crate) fn is_over(&self) -> bool {
+    pub fn is_over(&self) -> bool {
         self.cuts_off() || self.is_closed()
     }
 }

@@ -4,7 +4,7 @@
 //! start is twice as long, up to ten minutes, until a page is written.
 
 ghost use Rattle.std.specs.Prelude.{◌≡◌, ◌+◌, ◌-◌, ◌^◌, false, min, true};
-ghost use Rattle.lpd_daemon.specs.Restarting.{longer};
+ghost use Rattle.server_notes.specs.Restarting.{longer};
 
 use std::alloc::{AllocError, Global};
 use std::num::NonZeroU64;
@@ -28,11 +28,11 @@ fn longer(seconds: u64) -> u64
 
 /// What has failed of a queue since a page of it was written last.
 #[derive(Clone, Copy, Debug, PartialEq, Eq)]
-pub(crate) struct Failures {
+pub struct Failures {
     /// The time from the last failure to the start behind it, in seconds.
-    pub(crate) seconds: u64,
+    pub seconds: u64,
     /// How many jobs have failed.
-    pub(crate) lost: u64,
+    pub lost: u64,
     /// It was started again, and no job has failed since.
     is_tried: bool,
 }
@@ -81,7 +81,7 @@ struct Row {
 
 /// The queues of a server whose printers failed, where these are started again.
 #[derive(Drop)]
-pub(crate) struct Restarts {
+pub struct Restarts {
     first_seconds: u64,
     /// By the queues' numbers, from 1; none where no queue is started again.
     queues: Vec<Mutex<Row>>,
@@ -90,7 +90,7 @@ pub(crate) struct Restarts {
 impl Restarts {
     /// N queues of which nothing has failed, to be started again so many seconds after a failure; where there is no such number,
     /// none is. An error where memory is refused.
-    pub(crate) fn new(
+    pub fn new(
         alloc: Global,
         queues: usize,
         seconds: Option<NonZeroU64>,
@@ -117,7 +117,7 @@ impl Restarts {
     }
 
     /// A printer of a queue stands still from now on, and a job has failed or, where none is lost, had ended before.
-    pub(crate) fn note_failure<R: Clock + Wait>(&self, rt: &R, queue: u32, is_lost: bool) {
+    pub fn note_failure<R: Clock + Wait>(&self, rt: &R, queue: u32, is_lost: bool) {
         if let Some(row) = self.row(queue) {
             let mut row = row.lock(rt);
             let failures = if is_lost {
@@ -134,14 +134,14 @@ impl Restarts {
     }
 
     /// A page of a queue was written.
-    pub(crate) fn note_page<R: Wait>(&self, rt: &R, queue: u32) {
+    pub fn note_page<R: Wait>(&self, rt: &R, queue: u32) {
         if let Some(row) = self.row(queue) {
             row.lock(rt).failures = Failures::none(self.first_seconds);
         }
     }
 
     /// What has failed of a queue, where its start is due. It counts as started from then on.
-    pub(crate) fn take_due<R: Wait>(&self, rt: &R, queue: u32, now: Instant) -> Option<Failures> {
+    pub fn take_due<R: Wait>(&self, rt: &R, queue: u32, now: Instant) -> Option<Failures> {
         let mut row = self.row(queue)?.lock(rt);
         let failures = row.failures;
         let waited = now.saturating_duration_since(row.failed_at?).as_secs();

@@ -1,7 +1,7 @@
 //! Printers that stand still: since when, and why.
 
 ghost use Rattle.std.specs.Prelude.{◌≡◌, ◌↔◌, ◌≤◌, IsTrue};
-ghost use Rattle.lpd_daemon.specs.Standing.{minutes_until};
+ghost use Rattle.server_notes.specs.Standing.{minutes_until};
 
 use std::alloc::{AllocError, Global};
 use std::io::Error;
@@ -11,10 +11,10 @@ use std::time::Instant;
 
 /// Since when a printer stands still, and why.
 #[derive(Clone, Copy)]
-pub(crate) struct Standstill {
-    pub(crate) since: Instant,
+pub struct Standstill {
+    pub since: Instant,
     /// Why its page wasn't written, where that is known.
-    pub(crate) cause: Option<Error>,
+    pub cause: Option<Error>,
     // How often it was told again since.
     told: u32,
 }
@@ -41,13 +41,13 @@ impl Standstill {
 
 /// The printers of a server that stand still, by their numbers.
 #[derive(Drop)]
-pub(crate) struct Standstills {
+pub struct Standstills {
     printers: Vec<Mutex<Option<Standstill>>>,
 }
 
 impl Standstills {
     /// None of N printers stands still. An error where memory is refused.
-    pub(crate) fn new(alloc: Global, printers: u32) -> Result<Standstills, AllocError> {
+    pub fn new(alloc: Global, printers: u32) -> Result<Standstills, AllocError> {
         let mut places = Vec::new(alloc);
         for _printer in 0..printers {
             places.push(Mutex::new(None))?;
@@ -61,7 +61,7 @@ impl Standstills {
     }
 
     /// A page wasn't written at a printer: it stands still from now on.
-    pub(crate) fn begin<R: Clock + Wait>(&self, rt: &R, printer: u32, cause: Option<Error>) {
+    pub fn begin<R: Clock + Wait>(&self, rt: &R, printer: u32, cause: Option<Error>) {
         let (Some(place), Ok(since)) = (self.place(printer), Instant::now(rt)) else {
             return;
         };
@@ -70,24 +70,19 @@ impl Standstills {
     }
 
     /// A printer goes on.
-    pub(crate) fn end<R: Wait>(&self, rt: &R, printer: u32) {
+    pub fn end<R: Wait>(&self, rt: &R, printer: u32) {
         if let Some(place) = self.place(printer) {
             *place.lock(rt) = None;
         }
     }
 
     /// Since when a printer stands still, where that is known.
-    pub(crate) fn of<R: Wait>(&self, rt: &R, printer: u32) -> Option<Standstill> {
+    pub fn of<R: Wait>(&self, rt: &R, printer: u32) -> Option<Standstill> {
         *self.place(printer)?.lock(rt)
     }
 
     /// Since when a printer stands still, where it is due to be told again. It counts as told from then on.
-    pub(crate) fn take_due<R: Wait>(
-        &self,
-        rt: &R,
-        printer: u32,
-        now: Instant,
-    ) -> Option<Standstill> {
+    pub fn take_due<R: Wait>(&self, rt: &R, printer: u32, now: Instant) -> Option<Standstill> {
         let mut place = self.place(printer)?.lock(rt);
         let standstill = (*place)?;
         let minutes = now.saturating_duration_since(standstill.since).as_secs() / 60;

@@ -1,0 +1,19 @@
+//! What a server notes beside its spool, each under a lock of its own: how far its end has come, what becomes of each job, which printers
+//! stand still, when queues are started again, and rotations that aren't printed yet.
+#![tactic(auto)]
+
+mod ending;
+mod job_book;
+mod job_lines;
+mod moments;
+mod restarts;
+mod rotations;
+mod standstills;
+
+pub use ending::Ending;
+pub use job_book::JobBook;
+pub use job_lines::{JOB_LINES, Outcome};
+pub use moments::{milliseconds, milliseconds_between, milliseconds_since};
+pub use restarts::{Failures, Restarts};
+pub use rotations::{Rotation, Rotations};
+pub use standstills::{Standstill, Standstills};
