@@ -5,10 +5,11 @@ ghost use Rattle.lpd_daemon.specs.Faults.{IsOpeningFault};
 
 use crate::faults::Fault;
 use crate::keeping::refused;
-use crate::places::{Opened, told_places};
+use crate::opening::told_places;
 use account_folder::{AccountFolder, WriteFault};
 use config_values::Config;
 use log::{Log, error, info, warn};
+use printer_devices::Opened;
 use program_edge::Settings;
 use shared_spool::Segment;
 use std::alloc::{AllocError, Global};

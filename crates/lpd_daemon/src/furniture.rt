@@ -6,11 +6,11 @@ ghost use Rattle.lpd_daemon.specs.declared.faults.Fault.TheVariants.{Memory};
 
 use crate::faults::Fault;
 use crate::oversight::Oversight;
-use crate::places::{Opened, pipes_of};
 use crate::posts::Posts;
 use crate::roles::NO_JOB_SESSIONS;
 use config_values::Config;
 use mio::Waker;
+use printer_devices::{Opened, pipes_of};
 use program_edge::{MOST_SESSIONS, Settings};
 use server_edge::{Desk, Doors};
 use server_notes::{JobBook, Restarts};

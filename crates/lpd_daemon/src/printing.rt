@@ -3,17 +3,15 @@
 ghost use Rattle.std.specs.Prelude.{◌≡◌};
 ghost use Rattle.lpd_daemon.specs.Keeping.{end_of};
 
-use crate::device::{Device, DeviceSink, PrinterFile};
+use crate::device_sink::DeviceSink;
 use crate::house::House;
-use crate::outlet::{Outlet, PatientFile};
-use crate::places::Opened;
 use crate::sink::Explains;
 use held_jobs::Phase;
 use job_files::JobEnd;
 use log::{Log, warn};
+use printer_devices::{Device, Opened, PrinterFile};
 use printer_sinks::{Dial, Folder, FolderSink, Pause, SocketSink};
 use printer_worker::{HandedPage, Leaving, PrintSink, SinkFault, work};
-use program_edge::StreamWriter;
 use server_notes::Outcome;
 use shared_spool::{PrinterSeat, SpoolLedger};
 use sink_devices::{Causes, Errand, FileFolder, Pauses, TcpDial};
@@ -163,25 +161,11 @@ impl<
     K: Ledger,
     H: Ledger,
 > House<'_, R, E, K, H> {
-    /// What a printer writes to that prints to a file.
-    fn file_of(&self, outlet: Outlet) -> PrinterFile<'_> {
-        let synced = if self.kept.is_some() {
-            outlet.twin()
-        } else {
-            None
-        };
-        PrinterFile {
-            file: StreamWriter::new(PatientFile::new(outlet.file, &self.ending)),
-            synced,
-            unsynced: None,
-        }
-    }
-
     /// Has a printer's pages written to this device, until the spool is closed. Answers the seat.
     fn print_to<D: Dial + Causes + Drop, P: Pause + Drop, F: Folder + Causes + Drop>(
         &self,
         seat: PrinterSeat<E, K, H>,
-        device: Device<'_, D, P, F>,
+        device: Device<'_, House<'_, R, E, K, H>, D, P, F>,
     ) -> PrinterSeat<E, K, H> {
         let printer = seat.printer();
         let mut sink = Watched {
@@ -204,7 +188,9 @@ impl<
     ) -> PrinterSeat<E, K, H> {
         let (printer, limits) = (seat.printer(), self.printer_limits);
         let device = match opened {
-            Opened::File(outlet) => Device::File(self.file_of(outlet)),
+            Opened::File(outlet) => {
+                Device::File(PrinterFile::new(outlet, self, self.kept.is_some()))
+            }
             Opened::Socket(address) => {
                 let silence = limits.silence_seconds;
                 let dial = TcpDial::new(self.rt, printer, address.into(), silence, self);

@@ -19,13 +19,14 @@ use crate::house::House;
 use crate::keeping::Kept;
 use crate::lines::{PrintedLine, print_or_tell};
 use crate::listening::{Gate, listen};
-use crate::places::{Opened, open_places};
+use crate::opening::open_printers;
 use crate::roles::{OTHERS, Roles, Seats};
 use crate::room::AccountRoom;
 use config_values::Config;
 use log::{Log, warn};
 use lpd_commands::OctetWrite;
 use mio::Waker;
+use printer_devices::Opened;
 use program_edge::{Limits, PrinterLimits, Settings};
 use server_edge::Lobby;
 use server_notes::{Ending, Rotations};
@@ -243,7 +244,7 @@ where
         mut settings,
         mut counter,
     } = plan;
-    let places = open_places(rt, alloc, &settings, config.printer_count())?;
+    let places = open_printers(rt, alloc, &settings, config.printer_count())?;
     let kept = open_kept(rt, alloc, &settings, &config)?;
     let archive = open_archive(rt, alloc, &settings, &config, &places)?;
     let board = open_board(rt, alloc, &settings)?;

@@ -5,10 +5,10 @@ ghost use Rattle.std.specs.List.{list_any};
 ghost use Rattle.lpd_daemon.specs.Stopping.{goes_on, is_awaited, runs_for};
 
 use crate::house::House;
-use crate::outlet::has_unread;
 use control_lines::Escaped;
 use held_jobs::Phase;
 use log::{Log, warn};
+use printer_devices::has_unread;
 use shared_spool::{SeenJob, SessionSeat, Sight, SpoolLedger};
 use spool_calls::Printer;
 use std::rt::Clock;

@@ -3,7 +3,7 @@
 use libc::net::{POLLIN, POLLOUT, poll};
 use libc::types::pollfd;
 use os::set_nonblocking;
-use server_notes::Ending;
+use sink_devices::Errand;
 use std::fs::{File, FileType, Files, OpenOptions};
 use std::io::{Error, ErrorKind, Write};
 use std::os::fd::{AsRawFd, RawFd};
@@ -16,7 +16,7 @@ const TURN_MS: i32 = 1_000;
 
 /// A printer's file.
 #[derive(Drop)]
-pub(crate) struct Outlet {
+pub struct Outlet {
     pub(crate) file: File,
     is_pipe: bool,
     /// It is a file of a disk, or will be.
@@ -85,30 +85,30 @@ fn is_told(descriptor: RawFd, events: i16, limit_ms: i32) -> bool {
 }
 
 /// Whether a pipe has octets that its reader hasn't taken.
-pub(crate) fn has_unread(pipe: &File) -> bool {
+pub fn has_unread(pipe: &File) -> bool {
     is_told(pipe.as_raw_fd(), POLLIN, 0)
 }
 
 /// A printer's file, of which a write waits while the printer takes nothing, until the server waits for nothing any more.
 #[derive(Drop)]
-pub(crate) struct PatientFile<'a> {
+pub struct PatientFile<'a, Q: Errand> {
     file: File,
-    ending: &'a Ending,
+    errand: &'a Q,
 }
 
-impl<'a> PatientFile<'a> {
-    /// The file, whose waits this ends.
-    pub(crate) fn new(file: File, ending: &'a Ending) -> PatientFile<'a> {
-        PatientFile { file, ending }
+impl<'a, Q: Errand> PatientFile<'a, Q> {
+    /// The file, which asks this while it waits.
+    pub(crate) fn new(file: File, errand: &'a Q) -> PatientFile<'a, Q> {
+        PatientFile { file, errand }
     }
 }
 
-impl Write for PatientFile<'_> {
+impl<Q: Errand> Write for PatientFile<'_, Q> {
     fn write(&mut self, octets: &[u8]) -> io::Result<usize> {
         for _ in 0..u64::MAX {
             match self.file.write(octets) {
                 Err(error) if error.kind() == ErrorKind::WouldBlock => {
-                    if self.ending.cuts_off() {
+                    if self.errand.is_cut_off() {
                         break;
                     }
                     is_told(self.file.as_raw_fd(), POLLOUT, TURN_MS);

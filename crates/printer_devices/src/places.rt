@@ -1,14 +1,9 @@
 //! What printers print to, as it is found at a server's start.
 
-ghost use Rattle.std.specs.Prelude.{IfErr};
-ghost use Rattle.lpd_daemon.specs.Faults.{IsOpeningFault};
-
-use crate::faults::Fault;
+use crate::faults::PlaceFault;
 use crate::outlet::Outlet;
 use log::{Log, warn};
-use lpd_values::Octets;
 use program_edge::{Place, Settings, tell_cause};
-use segment_text::PrinterPlace;
 use sink_devices::names_of;
 use std::alloc::{AllocError, Global};
 use std::fs::{File, Files};
@@ -17,7 +12,7 @@ use std::net::SocketAddrV4;
 
 /// What a printer prints to, as it was found.
 #[derive(Drop)]
-pub(crate) enum Opened {
+pub enum Opened {
     /// A file, a device or a pipe, open at its end.
     File(Outlet),
     /// A printer on the network, to which no connection was opened yet.
@@ -28,7 +23,7 @@ pub(crate) enum Opened {
 
 impl Opened {
     /// The pipe, where it is one: whether its reader has taken what was written can be asked.
-    pub(crate) fn pipe(&self) -> Option<File> {
+    pub fn pipe(&self) -> Option<File> {
         match self {
             Opened::File(outlet) => outlet.pipe(),
             Opened::Socket(_) | Opened::Folder { .. } => None,
@@ -36,7 +31,7 @@ impl Opened {
     }
 
     /// How many octets the file has, where it is one of a disk.
-    fn length(&self) -> Option<u64> {
+    pub fn length(&self) -> Option<u64> {
         match self {
             Opened::File(outlet) => outlet.length(),
             Opened::Socket(_) | Opened::Folder { .. } => None,
@@ -57,14 +52,12 @@ fn open_folder<R: Files<File = File> + Log>(rt: &R, path: String) -> io::Result<
 
 /// Opens what a printer prints to. A socket isn't dialled yet.
 ///
-/// PrinterFile with the path where it can't be opened, of which the log is told why; Memory.
+/// Path with the path where it can't be opened, of which the log is told why; Memory.
 fn open_at<R: Files<File = File> + Log>(
     rt: &R,
     alloc: Global,
     place: Place<'_>,
-) -> Result<Opened, Fault>
-    ensures { IfErr result IsOpeningFault }
-{
+) -> Result<Opened, PlaceFault> {
     let (path, opened) = match place {
         Place::Socket(address) => return Ok(Opened::Socket(address)),
         Place::File(path) => (path, Outlet::open(rt, path).map(Opened::File)),
@@ -74,13 +67,13 @@ fn open_at<R: Files<File = File> + Log>(
         Ok(opened) => Ok(opened),
         Err(error) => {
             tell_cause(rt, &path, Some(error));
-            Err(Fault::PrinterFile(String::from_str(alloc, path)?))
+            Err(PlaceFault::Path(String::from_str(alloc, path)?))
         }
     }
 }
 
 /// What settings say that a printer prints to, if they say it.
-fn place_of<'a>(settings: &Settings<'a>, printer: u32) -> Option<Place<'a>> {
+pub fn place_of<'a>(settings: &Settings<'a>, printer: u32) -> Option<Place<'a>> {
     let named = settings.printers.iter();
     let found = named.copied().find(|named| named.printer == printer)?;
     Some(found.place)
@@ -88,15 +81,13 @@ fn place_of<'a>(settings: &Settings<'a>, printer: u32) -> Option<Place<'a>> {
 
 /// Opens what N printers print to: what the settings say of each, or else the file `printer-K` in their directory, at its end.
 ///
-/// PrinterFile with the path of the first that can't be opened, of which the log is told why; Memory.
-pub(crate) fn open_places<R: Files<File = File> + Log>(
+/// Path with the path of the first that can't be opened, of which the log is told why; Memory.
+pub fn open_places<R: Files<File = File> + Log>(
     rt: &R,
     alloc: Global,
     settings: &Settings<'_>,
     printers: u32,
-) -> Result<Vec<Opened>, Fault>
-    ensures { IfErr result IsOpeningFault }
-{
+) -> Result<Vec<Opened>, PlaceFault> {
     let mut places = Vec::new(alloc);
     for at in 0..printers {
         let printer = at + 1;
@@ -112,31 +103,8 @@ pub(crate) fn open_places<R: Files<File = File> + Log>(
     Ok(places)
 }
 
-/// What printers print to, as their places are written, and how long the files among these are now: what the heads of the account's
-/// segments tell.
-pub(crate) fn told_places(
-    alloc: Global,
-    settings: &Settings<'_>,
-    places: &[Opened],
-) -> Result<Vec<PrinterPlace>, AllocError> {
-    let mut told = Vec::new(alloc);
-    let mut printer = 0;
-    for opened in places {
-        printer = u32::saturating_add(printer, 1);
-        let place = match place_of(settings, printer) {
-            Some(place) => format!(in alloc; "{place}")?,
-            None => format!(in alloc; "file:{}/printer-{printer}", settings.out)?,
-        };
-        told.push(PrinterPlace {
-            place: Octets::from_vec(place.into_bytes()),
-            length: opened.length(),
-        })?;
-    }
-    Ok(told)
-}
-
 /// The pipes among these, by the printers' numbers, from 1.
-pub(crate) fn pipes_of(alloc: Global, places: &[Opened]) -> Result<Vec<Option<File>>, AllocError> {
+pub fn pipes_of(alloc: Global, places: &[Opened]) -> Result<Vec<Option<File>>, AllocError> {
     let mut pipes = Vec::new(alloc);
     for opened in places {
         pipes.push(opened.pipe())?;

@@ -1,0 +1,97 @@
+//! What the pages of a printer are written to: a file, a printer on the network, or a folder.
+
+use crate::faults::DeviceFault;
+use crate::outlet::{Outlet, PatientFile};
+use lpd_commands::write_all;
+use printer_sinks::{Dial, Folder, FolderSink, Pause, SocketSink};
+use program_edge::StreamWriter;
+use sink_devices::{Causes, Errand};
+use std::fs::File;
+use std::io::Error;
+
+/// A file that the pages of a printer are written to.
+#[derive(Drop)]
+pub struct PrinterFile<'a, Q: Errand> {
+    file: StreamWriter<PatientFile<'a, Q>>,
+    /// The same file, where a job that is done has to be on the disk before it is let go.
+    synced: Option<File>,
+    /// Why the last job that was done may not be on the disk.
+    unsynced: Option<Error>,
+}
+
+impl<'a, Q: Errand> PrinterFile<'a, Q> {
+    /// Pages are written to this, which asks that while it waits. Where `is_synced` a job that is done has to be on the disk, if the
+    /// file is one of a disk.
+    pub fn new(outlet: Outlet, errand: &'a Q, is_synced: bool) -> PrinterFile<'a, Q> {
+        PrinterFile {
+            synced: if is_synced { outlet.twin() } else { None },
+            file: StreamWriter::new(PatientFile::new(outlet.file, errand)),
+            unsynced: None,
+        }
+    }
+
+    /// Has what was printed on the disk, where that is asked.
+    fn sync(&mut self) -> Result<(), DeviceFault> {
+        self.unsynced = match &self.synced {
+            Some(file) => file.sync_data().err(),
+            None => None,
+        };
+        match self.unsynced {
+            None => Ok(()),
+            Some(_) => Err(DeviceFault),
+        }
+    }
+}
+
+/// What the pages of a printer are written to.
+#[derive(Drop)]
+pub enum Device<'a, Q: Errand, D: Dial + Drop, P: Pause + Drop, F: Folder + Drop> {
+    File(PrinterFile<'a, Q>),
+    Socket(SocketSink<D, P>),
+    Folder(FolderSink<F>),
+}
+
+impl<Q: Errand, D: Dial + Causes + Drop, P: Pause + Drop, F: Folder + Causes + Drop> Device<
+    '_,
+    Q,
+    D,
+    P,
+    F,
+> {
+    /// Writes a page of a job.
+    pub fn write(&mut self, job: u64, octets: &[u8]) -> Result<(), DeviceFault> {
+        match self {
+            Device::File(file) => write_all(&mut file.file, octets).or(Err(DeviceFault)),
+            Device::Socket(socket) => socket.print(job, octets).or(Err(DeviceFault)),
+            Device::Folder(folder) => folder.print(job, octets).or(Err(DeviceFault)),
+        }
+    }
+
+    /// Leaves the job that it is at: where that is done, it has to be where it should be.
+    pub fn leave(&mut self, is_done: bool) -> Result<(), DeviceFault> {
+        match self {
+            Device::File(file) if is_done => file.sync(),
+            Device::File(_) => Ok(()),
+            Device::Socket(socket) => socket.leave().or(Err(DeviceFault)),
+            Device::Folder(folder) => folder.leave(is_done).or(Err(DeviceFault)),
+        }
+    }
+
+    /// Why a job that was left isn't where it should be, where nobody was told that yet.
+    pub fn untold(&self) -> Option<Error> {
+        match self {
+            Device::Folder(folder) => folder.folder().cause(),
+            Device::File(file) => file.unsynced,
+            Device::Socket(_) => None,
+        }
+    }
+
+    /// Why a page wasn't written last.
+    pub fn cause(&self) -> Option<Error> {
+        match self {
+            Device::File(file) => file.file.cause(),
+            Device::Socket(socket) => socket.dial().cause(),
+            Device::Folder(folder) => folder.folder().cause(),
+        }
+    }
+}

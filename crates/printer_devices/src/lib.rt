@@ -1,0 +1,13 @@
+//! What printers print to: found at a server's start, and written to page by page. It is a file, a device or a pipe, a printer on the
+//! network, or a folder.
+#![tactic(auto)]
+
+mod device;
+mod faults;
+mod outlet;
+mod places;
+
+pub use device::{Device, PrinterFile};
+pub use faults::{DeviceFault, PlaceFault};
+pub use outlet::{Outlet, has_unread};
+pub use places::{Opened, open_places, pipes_of, place_of};
