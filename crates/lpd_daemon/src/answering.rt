@@ -6,7 +6,6 @@ ghost use Rattle.lpd_daemon.specs.Ends.{failure_text};
 ghost use Rattle.server_edge.specs.declared.desk.Serves.TheVariants.{All, NoJobs};
 
 use crate::house::House;
-use crate::keeping::Kept;
 use crate::served::Served;
 use crate::session_notes::SessionNotes;
 use job_disk::DiskFolder;
@@ -18,6 +17,7 @@ use noted_requests::Noting;
 use program_edge::{Limits, StreamReader, StreamWriter};
 use request_session::{Input, Requests, serve_with};
 use server_edge::{Serves, Visit, keep_asking, send_in_pieces};
+use server_folders::Kept;
 use server_notes::{Ending, Outcome};
 use session::{Seated, SessionEnd, SessionSeat};
 use shared_spool::SpoolLedger;

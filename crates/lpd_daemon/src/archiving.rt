@@ -1,8 +1,8 @@
 //! The thread that writes the account's segments into files, and who waits for it.
 
-use crate::archive::LAST_TRIES;
 use crate::house::House;
 use log::Log;
+use server_folders::LAST_TRIES;
 use shared_spool::{Segment, SpoolLedger};
 use std::fs::{File, Files};
 use std::rt::Clock;

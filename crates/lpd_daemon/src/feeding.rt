@@ -1,15 +1,13 @@
 //! The thread that has the spool take the jobs that its folder has kept.
 
 use crate::house::House;
-use crate::keeping::Kept;
-use crate::owner::Owner;
 use crate::session_notes::SessionNotes;
-use crate::stored::{FedFolder, StoredJobs};
 use kept_recovery::{Fed, feed_one};
 use kept_requests::Keeping;
 use log::{Log, warn};
 use lpd_values::Refusal;
 use noted_requests::Noting;
+use server_folders::{FedFolder, Kept, Owner, StoredJobs};
 use session::{Seated, SessionEnd, SessionSeat};
 use shared_spool::SpoolLedger;
 use std::fs::{File, Files};

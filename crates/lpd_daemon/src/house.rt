@@ -1,14 +1,13 @@
 //! What all threads of a server share.
 
-use crate::archive::Archive;
 use crate::board::Showing;
-use crate::keeping::Kept;
 use crate::oversight::Oversight;
 use crate::posts::Posts;
 use log::Log;
 use mio::Waker;
 use program_edge::{Limits, PrinterLimits};
 use server_edge::Desk;
+use server_folders::{Archive, Kept};
 use server_notes::{Ending, JobBook, Outcome, Restarts, Rotations};
 use shared_spool::{SharedSpool, SpoolLedger};
 use std::alloc::Global;

@@ -6,7 +6,6 @@
 #![tactic(auto)]
 
 mod answering;
-mod archive;
 mod archiving;
 mod board;
 mod commanding;
@@ -17,12 +16,10 @@ mod faults;
 mod feeding;
 mod furniture;
 mod house;
-mod keeping;
 mod lines;
 mod listening;
 mod opening;
 mod oversight;
-mod owner;
 mod posts;
 mod printing;
 mod restarting;
@@ -37,10 +34,8 @@ mod sink;
 mod status;
 mod stewarding;
 mod stopping;
-mod stored;
 mod watching;
 
-pub use archive::ACCOUNT_LINES;
 pub use control_socket::{OpenFault, SocketFile};
 pub use counter::Counter;
 pub use faults::Fault;
@@ -48,5 +43,6 @@ pub use printer_worker::{PrintSink, SinkFault};
 pub use program_edge::{
     Limits, LogForm, MOST_SESSIONS, Place, PrinterLimits, PrinterPlace, Settings, StatusPlace,
 };
+pub use server_folders::ACCOUNT_LINES;
 pub use server_notes::JOB_LINES;
 pub use serving::{Plan, serve};

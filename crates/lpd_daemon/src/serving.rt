@@ -9,26 +9,25 @@ ghost use Rattle.lpd_daemon.specs.declared.lines.PrintedLine.TheVariants.{Closed
 ghost use Rattle.lpd_commands.specs.Ends.{Writes};
 ghost use Rattle.spool_ledgers.specs.Blanks.{AreFor, mark};
 
-use crate::archive::{Archive, open_archive};
 use crate::board::{Board, Showing, open_board};
 use crate::counter::Counter;
 use crate::crew::{Entrance, Returned};
 use crate::faults::Fault;
 use crate::furniture::{Furniture, sessions_of};
 use crate::house::House;
-use crate::keeping::Kept;
 use crate::lines::{PrintedLine, print_or_tell};
 use crate::listening::{Gate, listen};
-use crate::opening::open_printers;
+use crate::opening::opened;
 use crate::roles::{OTHERS, Roles, Seats};
 use crate::room::AccountRoom;
 use config_values::Config;
 use log::{Log, warn};
 use lpd_commands::OctetWrite;
 use mio::Waker;
-use printer_devices::Opened;
+use printer_devices::{Opened, open_places};
 use program_edge::{Limits, PrinterLimits, Settings};
 use server_edge::Lobby;
+use server_folders::{Archive, Kept, open_archive};
 use server_notes::{Ending, Rotations};
 use shared_spool::{Blanks, Segment, SharedSpool, SpoolLedger};
 use std::alloc::{AllocError, Global};
@@ -149,7 +148,7 @@ fn open_kept<'a, R: Files<File = File> + Log + Wait>(
     if !settings.keep_room && settings.rotate.is_none() {
         warn!(rt; "{path}: jobs are kept, but the account is never rotated: without --keep-room or --rotate no job is taken once it is full");
     }
-    Ok(Some(Kept::open(rt, alloc, path, config)?))
+    Ok(Some(opened(Kept::open(rt, alloc, path, config))?))
 }
 
 /// A spool with N seats beside those of its printers, and who gets which seat. Memory where memory is refused, or a seat is missing.
@@ -244,9 +243,9 @@ where
         mut settings,
         mut counter,
     } = plan;
-    let places = open_printers(rt, alloc, &settings, config.printer_count())?;
+    let places = opened(open_places(rt, alloc, &settings, config.printer_count()))?;
     let kept = open_kept(rt, alloc, &settings, &config)?;
-    let archive = open_archive(rt, alloc, &settings, &config, &places)?;
+    let archive = opened(open_archive(rt, alloc, &settings, &config, &places))?;
     let board = open_board(rt, alloc, &settings)?;
     let (has_steward, waker) = (counter.is_open(), counter.take_waker());
     let furniture = Furniture::make(rt, alloc, &settings, &config, &places, waker, has_steward)?;

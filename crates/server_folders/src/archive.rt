@@ -1,17 +1,15 @@
 //! Where the account's segments become files, and those that wait for it.
 
-ghost use Rattle.std.specs.Prelude.{◌≡◌, ◌*◌, IfErr, min};
-ghost use Rattle.lpd_daemon.specs.Faults.{IsOpeningFault};
+ghost use Rattle.std.specs.Prelude.{◌≡◌, ◌*◌, min};
 
-use crate::faults::Fault;
-use crate::keeping::refused;
-use crate::opening::told_places;
+use crate::refusal::refused;
+use crate::told_places::told_places;
+use account::Segment;
 use account_folder::{AccountFolder, WriteFault};
 use config_values::Config;
 use log::{Log, error, info, warn};
-use printer_devices::Opened;
+use printer_devices::{Opened, PlaceFault};
 use program_edge::Settings;
-use shared_spool::Segment;
 use std::alloc::{AllocError, Global};
 use std::fs::{File, Files};
 use std::rt::Clock;
@@ -32,7 +30,7 @@ const FIRST_PAUSE: u64 = 1;
 const LONGEST_PAUSE: u64 = 60;
 
 /// How often what is left is tried at a server's end.
-pub(crate) const LAST_TRIES: u32 = 3;
+pub const LAST_TRIES: u32 = 3;
 
 /// The pause after one that is as long as this, in seconds.
 fn next_pause(seconds: u64) -> u64
@@ -85,7 +83,7 @@ impl Shelf {
 
 /// Where the account's segments become files.
 #[derive(Drop)]
-pub(crate) struct Archive<'a> {
+pub struct Archive<'a> {
     path: &'a str,
     // Held by who writes, and so for long: by the archivist, and once it has ended by who ends the server.
     folder: Mutex<AccountFolder>,
@@ -101,16 +99,14 @@ fn time_of<R: Clock>(rt: &R) -> SystemTime {
 /// Opens the folder in which the account's segments become files, if the settings name one. Where the account is never rotated
 /// while the server runs, that is logged: then there is one file, at the end.
 ///
-/// PrinterFile with the path where it can't be used, or another server has it, of which the log is told why; Memory.
-pub(crate) fn open_archive<'a, R: Files<File = File> + Clock + Log>(
+/// Path with the path where it can't be used, or another server has it, of which the log is told why; Memory.
+pub fn open_archive<'a, R: Files<File = File> + Clock + Log>(
     rt: &R,
     alloc: Global,
     settings: &Settings<'a>,
     config: &Config,
     places: &[Opened],
-) -> Result<Option<Archive<'a>>, Fault>
-    ensures { IfErr result IsOpeningFault }
-{
+) -> Result<Option<Archive<'a>>, PlaceFault> {
     let Some(path) = settings.account else {
         return Ok(None);
     };
@@ -143,12 +139,12 @@ pub(crate) fn open_archive<'a, R: Files<File = File> + Clock + Log>(
 
 impl Archive<'_> {
     /// Takes a place for a segment. False where all are taken.
-    pub(crate) fn promise<R: Wait>(&self, rt: &R) -> bool {
+    pub fn promise<R: Wait>(&self, rt: &R) -> bool {
         self.shelf.lock(rt).promise()
     }
 
     /// Takes a place for a segment as soon as there is one. False once no place is waited for any more.
-    pub(crate) fn promise_wait<R: Wait>(&self, rt: &R) -> bool {
+    pub fn promise_wait<R: Wait>(&self, rt: &R) -> bool {
         let mut shelf = self.shelf.lock(rt);
         for _ in rt.forever() {
             if shelf.is_closed {
@@ -163,14 +159,14 @@ impl Archive<'_> {
     }
 
     /// Gives a place back.
-    pub(crate) fn give_back<R: Wait>(&self, rt: &R) {
+    pub fn give_back<R: Wait>(&self, rt: &R) {
         let mut shelf = self.shelf.lock(rt);
         shelf.promised = shelf.promised.saturating_sub(1);
         self.changed.notify_all();
     }
 
     /// A segment waits from now on.
-    pub(crate) fn add<R: Clock + Log + Wait>(&self, rt: &R, segment: Segment) {
+    pub fn add<R: Clock + Log + Wait>(&self, rt: &R, segment: Segment) {
         let closed = time_of(rt);
         let (number, entries) = (segment.number, segment.entries.len());
         if self
@@ -186,13 +182,13 @@ impl Archive<'_> {
     }
 
     /// Nobody waits for a place any more.
-    pub(crate) fn close<R: Wait>(&self, rt: &R) {
+    pub fn close<R: Wait>(&self, rt: &R) {
         self.shelf.lock(rt).is_closed = true;
         self.changed.notify_all();
     }
 
     /// Nothing is waited for any more. What is left is tried this often at the end.
-    pub(crate) fn finish<R: Wait>(&self, rt: &R, tries: u32) {
+    pub fn finish<R: Wait>(&self, rt: &R, tries: u32) {
         self.shelf.lock(rt).last_tries = Some(tries);
         self.changed.notify_all();
     }
@@ -259,7 +255,7 @@ impl Archive<'_> {
     }
 
     /// Has segments become files, until nothing is waited for any more.
-    pub(crate) fn write_all<R: Files<File = File> + Clock + Log + Wait>(&self, rt: &R) {
+    pub fn write_all<R: Files<File = File> + Clock + Log + Wait>(&self, rt: &R) {
         for _ in rt.forever() {
             let Some(Shelved { segment, closed }) = self.next(rt) else {
                 break;
@@ -292,11 +288,7 @@ impl Archive<'_> {
     /// doesn't is gone, and the log is told of it.
     ///
     /// It is called once the archivist has ended.
-    pub(crate) fn end<R: Files<File = File> + Clock + Log + Wait>(
-        &self,
-        rt: &R,
-        last: Option<Segment>,
-    ) {
+    pub fn end<R: Files<File = File> + Clock + Log + Wait>(&self, rt: &R, last: Option<Segment>) {
         let tries = self.shelf.lock(rt).last_tries.unwrap_or(LAST_TRIES);
         if let Some(segment) = last {
             self.add(rt, segment);

@@ -9,11 +9,11 @@ use std::fmt;
 
 /// Who sent a kept job, and to which queue.
 #[derive(Drop)]
-pub(crate) struct Owner {
+pub struct Owner {
     /// The number of the sender.
-    pub(crate) sender: u32,
+    pub sender: u32,
     /// The name of the queue.
-    pub(crate) queue: Octets,
+    pub queue: Octets,
 }
 
 /// Why a file doesn't say whose its job is.

@@ -1,20 +1,17 @@
 //! The folder in which jobs are kept until they are printed, as a server's threads share it.
 
-ghost use Rattle.std.specs.Prelude.{IfErr};
-ghost use Rattle.lpd_daemon.specs.Faults.{IsOpeningFault};
-
-use crate::faults::Fault;
 use crate::owner::{Owner, owner_of};
+use crate::refusal::refused;
 use crate::stored::StoredJobs;
 use config_values::Config;
 use job_disk::Disk;
 use job_files::JobEnd;
 use kept_recovery::{Store, recover};
-use log::{Log, info, warn};
+use log::{Log, warn};
+use printer_devices::PlaceFault;
 use status_lines::KeptJobs;
 use std::alloc::{AllocError, Global};
 use std::collections::VecDeque;
-use std::fmt::Display;
 use std::fs::{File, Files};
 use std::rt::Clock;
 use std::sync::{Condvar, Mutex, Wait};
@@ -31,36 +28,23 @@ struct Line {
 
 /// The folder in which jobs are kept.
 #[derive(Drop)]
-pub(crate) struct Kept<'a, R> {
-    pub(crate) disk: Disk<'a, R>,
+pub struct Kept<'a, R> {
+    pub disk: Disk<'a, R>,
     line: Mutex<Line>,
     settled: Condvar,
-}
-
-/// The fault of a folder that can't be used. The log is told why.
-pub(crate) fn refused<R: Log, W: Display>(rt: &R, alloc: Global, path: &str, why: &W) -> Fault
-    ensures { IsOpeningFault result }
-{
-    info!(rt; "{path}: {why}");
-    match String::from_str(alloc, path) {
-        Ok(path) => Fault::PrinterFile(path),
-        Err(error) => Fault::from(error),
-    }
 }
 
 impl<'a, R: Files<File = File> + Log + Wait> Kept<'a, R> {
     /// Opens the folder at a path, which is made where nothing is there. What was coming when the server before ended is removed, and
     /// the whole jobs wait to be fed, by the numbers of their files.
     ///
-    /// PrinterFile with the path where it can't be used, or another server has it, of which the log is told why; Memory.
-    pub(crate) fn open(
+    /// Path with the path where it can't be used, or another server has it, of which the log is told why; Memory.
+    pub fn open(
         rt: &'a R,
         alloc: Global,
         path: &'a str,
         config: &Config,
-    ) -> Result<Kept<'a, R>, Fault>
-        ensures { IfErr result IsOpeningFault }
-    {
+    ) -> Result<Kept<'a, R>, PlaceFault> {
         let disk = match Disk::open(rt, alloc, path, config.max_jobs() as usize) {
             Ok(disk) => disk,
             Err(error) => return Err(refused(rt, alloc, path, &error)),
@@ -85,7 +69,7 @@ impl<'a, R: Files<File = File> + Log + Wait> Kept<'a, R> {
     }
 
     /// Whose the job in this file is. None where the file doesn't say it, of which the log is told.
-    pub(crate) fn owner(&self, rt: &R, alloc: Global, number: u64) -> Option<Owner> {
+    pub fn owner(&self, rt: &R, alloc: Global, number: u64) -> Option<Owner> {
         let mut store = StoredJobs::new(&self.disk);
         let Ok(Some(mut job)) = store.open(number) else {
             warn!(rt; "the job in file {number}.job isn't printed: it can't be opened");
@@ -101,7 +85,7 @@ impl<'a, R: Files<File = File> + Log + Wait> Kept<'a, R> {
     }
 
     /// The job in this file waits to be fed, behind all others. False where the file isn't that of a job, of which the log is told.
-    pub(crate) fn enter(&self, rt: &R, alloc: Global, number: u64) -> Result<bool, AllocError> {
+    pub fn enter(&self, rt: &R, alloc: Global, number: u64) -> Result<bool, AllocError> {
         let Some(owner) = self.owner(rt, alloc, number) else {
             return Ok(false);
         };
@@ -111,23 +95,23 @@ impl<'a, R: Files<File = File> + Log + Wait> Kept<'a, R> {
     }
 
     /// The file of the job that waits to be fed first.
-    pub(crate) fn first(&self, rt: &R) -> Option<u64> {
+    pub fn first(&self, rt: &R) -> Option<u64> {
         self.line.lock(rt).numbers.front().copied()
     }
 
     /// The job that waits first isn't to be fed, and nothing is known of whose it is.
-    pub(crate) fn pass_over(&self, rt: &R) {
+    pub fn pass_over(&self, rt: &R) {
         self.line.lock(rt).numbers.pop_front();
     }
 
     /// The job that waits first isn't to be fed any more: its owner's new jobs don't wait for it.
-    pub(crate) fn leave(&self, rt: &R, owner: &Owner) {
+    pub fn leave(&self, rt: &R, owner: &Owner) {
         self.line.lock(rt).numbers.pop_front();
         self.disk.fed(owner.sender, owner.queue.as_slice());
     }
 
     /// Each job that had room at the start has been fed.
-    pub(crate) fn settle(&self, rt: &R) {
+    pub fn settle(&self, rt: &R) {
         let mut line = self.line.lock(rt);
         if !line.is_settled {
             line.is_settled = true;
@@ -136,7 +120,7 @@ impl<'a, R: Files<File = File> + Log + Wait> Kept<'a, R> {
     }
 
     /// How many jobs wait in the folder to be fed, and how many in it have failed.
-    pub(crate) fn counts(&self) -> KeptJobs {
+    pub fn counts(&self) -> KeptJobs {
         KeptJobs {
             waiting: self.disk.waiting() as u64,
             failed: self.disk.failed() as u64,
@@ -144,7 +128,7 @@ impl<'a, R: Files<File = File> + Log + Wait> Kept<'a, R> {
     }
 
     /// Has the file of a job that has ended taken away, or renamed. The log is told where that fails.
-    pub(crate) fn end(&self, rt: &R, job: u64, end: JobEnd) {
+    pub fn end(&self, rt: &R, job: u64, end: JobEnd) {
         if let Err(fault) = self.disk.end(job, end) {
             warn!(rt; "{fault}: the job is printed again after the next start");
         }
@@ -153,7 +137,7 @@ impl<'a, R: Files<File = File> + Log + Wait> Kept<'a, R> {
 
 impl<R: Clock + Wait> Kept<'_, R> {
     /// Whether each job that had room at the start has been fed. Waits for that for N milliseconds at most.
-    pub(crate) fn is_settled(&self, rt: &R, limit_ms: u64) -> bool {
+    pub fn is_settled(&self, rt: &R, limit_ms: u64) -> bool {
         let limit = Duration::from_millis(limit_ms);
         let line = self.line.lock(rt);
         let (line, _) = self

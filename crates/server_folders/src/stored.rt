@@ -15,7 +15,7 @@ use std::sync::Wait;
 
 /// The whole files of a folder, and why a call there failed last. It tells nothing, as the folder doesn't.
 #[derive(Drop)]
-pub(crate) struct StoredJobs<'a, R> {
+pub struct StoredJobs<'a, R> {
     store: DiskStore<'a, R>,
     faults: u64,
     fault: Option<DiskFault<'a>>,
@@ -23,7 +23,7 @@ pub(crate) struct StoredJobs<'a, R> {
 
 impl<'a, R: Files<File = File> + Wait> StoredJobs<'a, R> {
     /// What this folder has.
-    pub(crate) fn new(disk: &'a Disk<'a, R>) -> StoredJobs<'a, R> {
+    pub fn new(disk: &'a Disk<'a, R>) -> StoredJobs<'a, R> {
         StoredJobs {
             store: DiskStore::new(disk),
             faults: 0,
@@ -32,12 +32,12 @@ impl<'a, R: Files<File = File> + Wait> StoredJobs<'a, R> {
     }
 
     /// Takes out why the folder failed last, if it has since this was asked before.
-    pub(crate) fn take_fault(&mut self) -> Option<DiskFault<'a>> {
+    pub fn take_fault(&mut self) -> Option<DiskFault<'a>> {
         self.fault.take()
     }
 
     /// How many octets a whole file has; none where that can't be told.
-    pub(crate) fn length_of(&self, number: u64) -> u64 {
+    pub fn length_of(&self, number: u64) -> u64 {
         let Ok(file) = self.store.open_job(number) else {
             return 0;
         };
@@ -111,7 +111,7 @@ impl<R: Files<File = File> + Wait> Store for StoredJobs<'_, R> {
 
 /// The hand of whoever feeds a job that is kept already: nothing is written, and the job's file is the one that is fed. It tells nothing.
 #[derive(Drop)]
-pub(crate) struct FedFolder<'a, R> {
+pub struct FedFolder<'a, R> {
     disk: &'a Disk<'a, R>,
     /// The number of the file that is fed, until its job is passed on.
     file: Option<u64>,
@@ -120,7 +120,7 @@ pub(crate) struct FedFolder<'a, R> {
 
 impl<'a, R: Files<File = File> + Wait> FedFolder<'a, R> {
     /// A hand with nothing in it.
-    pub(crate) fn new(disk: &'a Disk<'a, R>) -> FedFolder<'a, R> {
+    pub fn new(disk: &'a Disk<'a, R>) -> FedFolder<'a, R> {
         FedFolder {
             disk,
             file: None,
@@ -129,21 +129,21 @@ impl<'a, R: Files<File = File> + Wait> FedFolder<'a, R> {
     }
 
     /// The job of this file is fed.
-    pub(crate) fn take(&mut self, file: u64)
+    pub fn take(&mut self, file: u64)
         ensures { self.new.file ≡ Some file }
     {
         self.file = Some(file);
     }
 
     /// Whether the job of the file has been passed on.
-    pub(crate) fn is_passed(&self) -> bool
+    pub fn is_passed(&self) -> bool
         ensures { result ≡ is_none self.now.file }
     {
         self.file.is_none()
     }
 
     /// Takes out why a file wasn't taken away whose job had ended.
-    pub(crate) fn take_fault(&mut self) -> Option<DiskFault<'a>> {
+    pub fn take_fault(&mut self) -> Option<DiskFault<'a>> {
         self.fault.take()
     }
 }

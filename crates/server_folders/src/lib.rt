@@ -1,0 +1,16 @@
+//! The folders of a server, as its threads share them: that in which jobs are kept until they are printed, and that in which the account's
+//! segments become files.
+#![tactic(auto)]
+
+mod archive;
+mod kept;
+mod owner;
+mod refusal;
+mod stored;
+mod told_places;
+
+pub use archive::{ACCOUNT_LINES, Archive, LAST_TRIES, open_archive};
+pub use kept::Kept;
+pub use owner::Owner;
+pub use refusal::FOLDER_CAUSES;
+pub use stored::{FedFolder, StoredJobs};

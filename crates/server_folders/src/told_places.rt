@@ -1,0 +1,30 @@
+//! What is told of printers in the heads of the account's segments.
+
+use lpd_values::Octets;
+use printer_devices::{Opened, place_of};
+use program_edge::Settings;
+use segment_text::PrinterPlace;
+use std::alloc::{AllocError, Global};
+
+/// What printers print to, as their places are written, and how long the files among these are now: what the heads of the account's
+/// segments tell.
+pub(crate) fn told_places(
+    alloc: Global,
+    settings: &Settings<'_>,
+    places: &[Opened],
+) -> Result<Vec<PrinterPlace>, AllocError> {
+    let mut told = Vec::new(alloc);
+    let mut printer = 0;
+    for opened in places {
+        printer = u32::saturating_add(printer, 1);
+        let place = match place_of(settings, printer) {
+            Some(place) => format!(in alloc; "{place}")?,
+            None => format!(in alloc; "file:{}/printer-{printer}", settings.out)?,
+        };
+        told.push(PrinterPlace {
+            place: Octets::from_vec(place.into_bytes()),
+            length: opened.length(),
+        })?;
+    }
+    Ok(told)
+}
