@@ -5,7 +5,6 @@ ghost use Rattle.std.specs.Prelude.{◌≡◌, Some, max, option_map};
 ghost use Rattle.lpd_daemon.specs.Ends.{failure_text};
 ghost use Rattle.server_edge.specs.declared.desk.Serves.TheVariants.{All, NoJobs};
 
-use crate::house::House;
 use crate::served::Served;
 use crate::session_notes::SessionNotes;
 use job_disk::DiskFolder;
@@ -18,6 +17,7 @@ use program_edge::{Limits, StreamReader, StreamWriter};
 use request_session::{Input, Requests, serve_with};
 use server_edge::{Serves, Visit, keep_asking, send_in_pieces};
 use server_folders::Kept;
+use server_house::House;
 use server_notes::{Ending, Outcome};
 use session::{Seated, SessionEnd, SessionSeat};
 use shared_spool::SpoolLedger;
@@ -105,7 +105,14 @@ fn patience_of(serves: Serves, limits: &Limits) -> Option<u64>
     }
 }
 
-impl<R: Files<File = File> + Clock + Wait + Log, E: SpoolLedger, K: Ledger, H: Ledger> House<
+/// Who serves connections in a house.
+#[derive(Drop)]
+pub(crate) struct Answering<'h, 'a, R, E: SpoolLedger, K: Ledger, H: Ledger> {
+    pub(crate) house: &'h House<'a, R, E, K, H>,
+}
+
+impl<R: Files<File = File> + Clock + Wait + Log, E: SpoolLedger, K: Ledger, H: Ledger> Answering<
+    '_,
     '_,
     R,
     E,
@@ -120,7 +127,9 @@ impl<R: Files<File = File> + Clock + Wait + Log, E: SpoolLedger, K: Ledger, H: L
         if matches!(serves, Serves::NoJobs) {
             send_in_pieces(stream, UNREAD_OCTETS);
         }
-        let limit = patience_of(serves, &self.limits).map(|seconds| Duration::from_secs(seconds));
+        let limit = patience_of(serves, &self.house.limits).map(|seconds| Duration::from_secs(
+            seconds,
+        ));
         stream.set_read_timeout(limit)?;
         stream.set_write_timeout(limit)
     }
@@ -136,29 +145,27 @@ impl<R: Files<File = File> + Clock + Wait + Log, E: SpoolLedger, K: Ledger, H: L
         writer: &mut W,
     ) -> SessionEnd {
         if input.is_none() {
-            *input = Input::new(self.alloc).ok();
+            *input = Input::new(self.house.alloc).ok();
         }
         match input {
-            Some(input) => serve_with(self.rt, self.alloc, input, requests, sender, reader, writer),
+            Some(input) => serve_with(
+                self.house.rt,
+                self.house.alloc,
+                input,
+                requests,
+                sender,
+                reader,
+                writer,
+            ),
             None => SessionEnd::Memory,
-        }
-    }
-
-    /// Has the files of jobs that were removed taken away, and notes the end of these jobs.
-    pub(crate) fn end_removed(&self, jobs: Vec<u64>) {
-        for job in jobs {
-            if let Some(kept) = &self.kept {
-                kept.end(self.rt, job, JobEnd::Removed);
-            }
-            self.note_end(job, Outcome::Removed);
         }
     }
 
     /// Has the files of the jobs taken away that a session has removed, and tells why a job of it wasn't kept.
     fn settle<T: Served>(&self, requests: &mut T, peer: SocketAddr) {
-        requests.let_go(self.rt, peer);
+        requests.let_go(self.house.rt, peer);
         if let Some(removed) = requests.take_removed() {
-            self.end_removed(removed);
+            self.house.end_removed(removed);
         }
     }
 
@@ -171,25 +178,31 @@ impl<R: Files<File = File> + Clock + Wait + Log, E: SpoolLedger, K: Ledger, H: L
         visit: &Visit,
         serves: Serves,
     ) {
-        let (rt, stream) = (self.rt, &visit.stream);
+        let (rt, stream) = (self.house.rt, &visit.stream);
         if let Err(error) = self.set_up(stream, serves) {
             complain(rt, visit.peer, &error);
             return;
         }
-        let meter = self.posts.begin(rt, number, visit, self.limits.slowest, self.oversight.start);
-        if self.ending.cuts_off() {
-            self.posts.end(rt, number);
+        let meter = self.house.posts.begin(
+            rt,
+            number,
+            visit,
+            self.house.limits.slowest,
+            self.house.oversight.start,
+        );
+        if self.house.ending.cuts_off() {
+            self.house.posts.end(rt, number);
             return;
         }
         let mut reader = StreamReader::new(meter);
         let mut writer = StreamWriter::new(stream);
         let sender = visit.host();
         let end = self.serve_session(requests, input, sender, &mut reader, &mut writer);
-        self.posts.end(rt, number);
+        self.house.posts.end(rt, number);
         self.settle(requests, visit.peer);
         if let SessionEnd::Refused(refusal) = end {
             complain(rt, visit.peer, &refusal);
-            if let Some(book) = &self.job_book {
+            if let Some(book) = &self.house.job_book {
                 book.note_refusal(rt, refusal);
             }
         }
@@ -198,7 +211,12 @@ impl<R: Files<File = File> + Clock + Wait + Log, E: SpoolLedger, K: Ledger, H: L
         }
         if matches!(end, SessionEnd::Finished | SessionEnd::Refused(_)) {
             // A peer that is gone already has lost nothing.
-            let _ = take_leave(rt, stream, self.limits.leave_seconds, &self.ending);
+            let _ = take_leave(
+                rt,
+                stream,
+                self.house.limits.leave_seconds,
+                &self.house.ending,
+            );
         }
     }
 
@@ -207,15 +225,19 @@ impl<R: Files<File = File> + Clock + Wait + Log, E: SpoolLedger, K: Ledger, H: L
     fn serve_all<T: Requests + Served>(&self, requests: &mut T, number: u32, serves: Serves) {
         // What the thread keeps from one connection to the next.
         let mut input = None;
-        for _ in self.rt.forever() {
-            let Some(visit) = self.desk.take(self.rt, serves, &self.waker) else {
+        for _ in self.house.rt.forever() {
+            let Some(visit) = self
+                .house
+                .desk
+                .take(self.house.rt, serves, &self.house.waker)
+            else {
                 break;
             };
-            if let Some(book) = &self.job_book {
-                book.note_connection(self.rt);
+            if let Some(book) = &self.house.job_book {
+                book.note_connection(self.house.rt);
             }
             self.answer(requests, &mut input, number, &visit, serves);
-            self.desk.leave(self.rt, serves, visit);
+            self.house.desk.leave(self.house.rt, serves, visit);
         }
     }
 
@@ -227,9 +249,12 @@ impl<R: Files<File = File> + Clock + Wait + Log, E: SpoolLedger, K: Ledger, H: L
         serves: Serves,
     ) -> SessionSeat<E, K, H> {
         let number = seat.number();
-        let seated = Seated::new(self.rt, &self.spool, seat);
-        let keeping = Keeping::new(self.alloc, seated, DiskFolder::new(&kept.disk));
-        let mut noting = Noting::new(keeping, SessionNotes::new(self.rt, &self.job_book));
+        let seated = Seated::new(self.house.rt, &self.house.spool, seat);
+        let keeping = Keeping::new(self.house.alloc, seated, DiskFolder::new(&kept.disk));
+        let mut noting = Noting::new(
+            keeping,
+            SessionNotes::new(self.house.rt, &self.house.job_book),
+        );
         self.serve_all(&mut noting, number, serves);
         let Noting { inner, .. } = noting;
         let Keeping { inner, .. } = inner;
@@ -243,12 +268,15 @@ impl<R: Files<File = File> + Clock + Wait + Log, E: SpoolLedger, K: Ledger, H: L
         seat: SessionSeat<E, K, H>,
         serves: Serves,
     ) -> SessionSeat<E, K, H> {
-        if let Some(kept) = &self.kept {
+        if let Some(kept) = &self.house.kept {
             return self.answer_keeping(kept, seat, serves);
         }
         let number = seat.number();
-        let seated = Seated::new(self.rt, &self.spool, seat);
-        let mut noting = Noting::new(seated, SessionNotes::new(self.rt, &self.job_book));
+        let seated = Seated::new(self.house.rt, &self.house.spool, seat);
+        let mut noting = Noting::new(
+            seated,
+            SessionNotes::new(self.house.rt, &self.house.job_book),
+        );
         self.serve_all(&mut noting, number, serves);
         let Noting { inner, .. } = noting;
         inner.into_seat()

@@ -2,17 +2,18 @@
 
 ghost use Rattle.std.specs.Prelude.{◌≡◌};
 ghost use Rattle.std.specs.Thread.{IsSend};
-ghost use Rattle.lpd_daemon.specs.Lines.{TellsRotations};
+ghost use Rattle.server_house.specs.Lines.{TellsRotations};
 
-use crate::board::Board;
-use crate::counter::Counter;
-use crate::faults::Fault;
-use crate::house::House;
+use crate::answering::Answering;
+use crate::feeding::Feeding;
 use crate::listening::{Gate, Porter, announce_all};
-use crate::roles::{Roles, Seats, serves_at};
+use crate::printing::Printing;
+use crate::watching::watch;
 use log::Log;
 use lpd_commands::OctetWrite;
 use printer_devices::Opened;
+use server_care::{Board, Care, Counter};
+use server_house::{Fault, House, Roles, Seats, serves_at};
 use shared_spool::{PrinterSeat, SessionSeat, SpoolLedger};
 use std::fs::{File, Files};
 use std::net::{Net, TcpListener, TcpStream};
@@ -114,25 +115,25 @@ impl<E: SpoolLedger + Send + Sync, K: Ledger + Send + Sync, H: Ledger + Send + S
             is_whole: true,
         };
         for (seat, opened) in printers.into_iter().zip(places) {
-            let thread = scope.spawn(move || house.print_all(seat, opened));
+            let thread = scope.spawn(move || Printing { house }.print_all(seat, opened));
             crew.is_whole &= keep(&mut crew.printing, thread);
         }
         for seat in sessions {
             let serves = serves_at(seat.number());
-            let thread = scope.spawn(move || house.answer_all(seat, serves));
+            let thread = scope.spawn(move || Answering { house }.answer_all(seat, serves));
             crew.is_whole &= keep(&mut crew.answering, thread);
         }
-        let thread = scope.spawn(move || house.feed_all(feeder));
+        let thread = scope.spawn(move || Feeding { house }.feed_all(feeder));
         crew.is_whole &= keep(&mut crew.looking, thread);
-        let thread = scope.spawn(move || house.watch(watcher));
+        let thread = scope.spawn(move || watch(house, watcher));
         crew.is_whole &= keep(&mut crew.looking, thread);
         let thread = scope.spawn(move || house.keep_rotating(keeper));
         crew.is_whole &= keep(&mut crew.looking, thread);
-        let thread = scope.spawn(move || house.look_after(steward, counter));
+        let thread = scope.spawn(move || Care { house }.look_after(steward, counter));
         crew.steward = thread.ok();
         crew.is_whole &= crew.steward.is_some();
         if let Some(board) = board {
-            let thread = scope.spawn(move || house.show_all(board));
+            let thread = scope.spawn(move || Care { house }.show_all(board));
             crew.is_whole &= keep(&mut crew.showing, thread);
         }
         if house.archive.is_some() {
@@ -163,13 +164,14 @@ impl<E: SpoolLedger + Send + Sync, K: Ledger + Send + Sync, H: Ledger + Send + S
         let mut seat = seat;
         let (mut sessions, mut printers) = (Vec::new(alloc), Vec::new(alloc));
         join_all(rt, answering, &mut sessions);
-        house.wait_until_done();
-        house.tell_all_lost();
+        let care = Care { house };
+        care.wait_until_done();
+        care.tell_all_lost();
         house.spool.close(rt, &mut seat);
         house.ending.close();
         house.oversight.wake_steward();
         house.close_shelf();
-        house.end_showing();
+        care.end_showing();
         for thread in showing {
             thread.join(rt);
         }
@@ -192,7 +194,9 @@ impl<E: SpoolLedger + Send + Sync, K: Ledger + Send + Sync, H: Ledger + Send + S
     }
 }
 
-impl<
+/// What `work` does, in the scope of its threads.
+fn work_in<
+    's,
     R: Files<File = File>
         + Net<Listener = TcpListener, Stream = TcpStream>
         + Clock
@@ -203,67 +207,79 @@ impl<
     E: SpoolLedger + Send + Sync,
     K: Ledger + Send + Sync,
     H: Ledger + Send + Sync,
-> House<'_, R, E, K, H>
+    N,
+    W: OctetWrite,
+>(
+    house: &'s House<'_, R, E, K, H>,
+    scope: &Scope<'s, N>,
+    roles: Roles<E, K, H>,
+    entrance: Entrance,
+    output: &mut W,
+) -> (Result<(), Fault>, Returned<E, K, H>)
 where
     R::Dir: Send + Sync,
+    ensures { TellsRotations (W.written output.old) (W.faults output.old)
+        (W.written output.new) (W.faults output.new) result.0 }
 {
-    /// What `work` does, in the scope of its threads.
-    fn work_in<'s, N, W: OctetWrite>(
-        &'s self,
-        scope: &Scope<'s, N>,
-        roles: Roles<E, K, H>,
-        entrance: Entrance,
-        output: &mut W,
-    ) -> (Result<(), Fault>, Returned<E, K, H>)
-        ensures { TellsRotations (W.written output.old) (W.faults output.old)
-            (W.written output.new) (W.faults output.new) result.0 }
-    {
-        let Entrance {
-            gate,
-            places,
-            counter,
-            board,
-            ..
-        } = entrance;
-        let (crew, seat) = Crew::start(scope, self, roles, places, counter, board);
-        let mut porter = Porter::new(self, seat, gate);
-        let admitted = porter.admit(crew.is_whole, output);
-        // However it went, all threads are joined before the seats are looked at.
-        let returned = crew.close(self, porter.leave());
-        // What was rotated while sessions ended.
-        let told = announce_all(self.rt, self.alloc, output, admitted, &self.rotations);
-        (told, returned)
-    }
+    let Entrance {
+        gate,
+        places,
+        counter,
+        board,
+        ..
+    } = entrance;
+    let (crew, seat) = Crew::start(scope, house, roles, places, counter, board);
+    let mut porter = Porter::new(house, seat, gate);
+    let admitted = porter.admit(crew.is_whole, output);
+    // However it went, all threads are joined before the seats are looked at.
+    let returned = crew.close(house, porter.leave());
+    // What was rotated while sessions ended.
+    let told = announce_all(house.rt, house.alloc, output, admitted, &house.rotations);
+    (told, returned)
+}
 
-    /// Starts a thread for each role but the porter's, has connections accepted and served, and
-    /// joins all threads. Answers how that went, and the seats. One is missing where a thread
-    /// wasn't started, or memory for it was refused.
-    ///
-    /// Output where a line can't be written; Memory where memory for one is refused.
-    pub(crate) fn work<W: OctetWrite>(
-        &self,
-        roles: Roles<E, K, H>,
-        entrance: Entrance,
-        output: &mut W,
-    ) -> (Result<(), Fault>, Returned<E, K, H>)
-        ensures { TellsRotations (W.written output.old) (W.faults output.old)
-            (W.written output.new) (W.faults output.new) result.0 }
-    {
-        // The output comes back with the seats, so that it is known what was written.
-        let (told, returned, _output) = thread::scope(
-            thread::scope_env(),
-            self.rt,
-            |scope| -> (Result<(), Fault>, Returned<E, K, H>, &mut W)
-                requires { IsSend E.row × IsSend K.row × IsSend H.row }
-                ensures same { result.2.ghost_name ≡ output.entry.ghost_name }
-                ensures tells { TellsRotations (W.written output.entry.now)
-                    (W.faults output.entry.now) (W.written result.2.now)
-                    (W.faults result.2.now) result.0 }
-            {
-                let (told, returned) = self.work_in(scope, roles, entrance, output);
-                (told, returned, output)
-            },
-        );
-        (told, returned)
-    }
+/// Starts a thread for each role but the porter's, has connections accepted and served, and
+/// joins all threads. Answers how that went, and the seats. One is missing where a thread
+/// wasn't started, or memory for it was refused.
+///
+/// Output where a line can't be written; Memory where memory for one is refused.
+pub(crate) fn work<
+    R: Files<File = File>
+        + Net<Listener = TcpListener, Stream = TcpStream>
+        + Clock
+        + Log
+        + Threads
+        + Wait
+        + Sync,
+    E: SpoolLedger + Send + Sync,
+    K: Ledger + Send + Sync,
+    H: Ledger + Send + Sync,
+    W: OctetWrite,
+>(
+    house: &House<'_, R, E, K, H>,
+    roles: Roles<E, K, H>,
+    entrance: Entrance,
+    output: &mut W,
+) -> (Result<(), Fault>, Returned<E, K, H>)
+where
+    R::Dir: Send + Sync,
+    ensures { TellsRotations (W.written output.old) (W.faults output.old)
+        (W.written output.new) (W.faults output.new) result.0 }
+{
+    // The output comes back with the seats, so that it is known what was written.
+    let (told, returned, _output) = thread::scope(
+        thread::scope_env(),
+        house.rt,
+        |scope| -> (Result<(), Fault>, Returned<E, K, H>, &mut W)
+            requires { IsSend E.row × IsSend K.row × IsSend H.row }
+            ensures same { result.2.ghost_name ≡ output.entry.ghost_name }
+            ensures tells { TellsRotations (W.written output.entry.now)
+                (W.faults output.entry.now) (W.written result.2.now)
+                (W.faults result.2.now) result.0 }
+        {
+            let (told, returned) = work_in(house, scope, roles, entrance, output);
+            (told, returned, output)
+        },
+    );
+    (told, returned)
 }

@@ -1,6 +1,5 @@
 //! The thread that has the spool take the jobs that its folder has kept.
 
-use crate::house::House;
 use crate::session_notes::SessionNotes;
 use kept_recovery::{Fed, feed_one};
 use kept_requests::Keeping;
@@ -8,6 +7,7 @@ use log::{Log, warn};
 use lpd_values::Refusal;
 use noted_requests::Noting;
 use server_folders::{FedFolder, Kept, Owner, StoredJobs};
+use server_house::House;
 use session::{Seated, SessionEnd, SessionSeat};
 use shared_spool::SpoolLedger;
 use std::fs::{File, Files};
@@ -57,7 +57,14 @@ type Feeder<'a, R, E, K, H> = Noting<
     SessionNotes<'a, R>,
 >;
 
-impl<R: Files<File = File> + Clock + Log + Wait, E: SpoolLedger, K: Ledger, H: Ledger> House<
+/// Who feeds kept jobs to the spool of a house.
+#[derive(Drop)]
+pub(crate) struct Feeding<'h, 'a, R, E: SpoolLedger, K: Ledger, H: Ledger> {
+    pub(crate) house: &'h House<'a, R, E, K, H>,
+}
+
+impl<R: Files<File = File> + Clock + Log + Wait, E: SpoolLedger, K: Ledger, H: Ledger> Feeding<
+    '_,
     '_,
     R,
     E,
@@ -67,10 +74,10 @@ impl<R: Files<File = File> + Clock + Log + Wait, E: SpoolLedger, K: Ledger, H: L
     /// Whether the spool has room for a job of this owner whose file has N octets: free pages for all of them, a place among the
     /// jobs, and its reserve in the account; or has no job at all. False where memory to look is refused.
     fn has_room(&self, owner: &Owner, octets: u64) -> bool {
-        let Ok(sight) = self.spool.sight(self.rt, self.alloc) else {
+        let Ok(sight) = self.house.spool.sight(self.house.rt, self.house.alloc) else {
             return false;
         };
-        let config = &self.oversight.config;
+        let config = &self.house.oversight.config;
         let free = (sight.spool.pages.free as u64).saturating_mul(u64::from(config.page_size()));
         let reserve = config
             .queue_named(owner.queue.as_slice())
@@ -87,7 +94,7 @@ impl<R: Files<File = File> + Clock + Log + Wait, E: SpoolLedger, K: Ledger, H: L
         feeder: &mut Feeder<'_, R, E, K, H>,
         number: u64,
     ) -> bool {
-        let (rt, alloc) = (self.rt, self.alloc);
+        let (rt, alloc) = (self.house.rt, self.house.alloc);
         let Some(owner) = kept.owner(rt, alloc, number) else {
             kept.pass_over(rt);
             return true;
@@ -105,7 +112,7 @@ impl<R: Files<File = File> + Clock + Log + Wait, E: SpoolLedger, K: Ledger, H: L
         if let Some(fault) = hand.folder.take_fault() {
             warn!(rt; "{fault}: the job is printed again after the next start");
         }
-        if !is_passed && (waits_for_room(fed) || self.ending.is_over()) {
+        if !is_passed && (waits_for_room(fed) || self.house.ending.is_over()) {
             return false;
         }
         kept.leave(rt, &owner);
@@ -119,26 +126,29 @@ impl<R: Files<File = File> + Clock + Log + Wait, E: SpoolLedger, K: Ledger, H: L
     /// Has the spool take the jobs that its folder has kept, in the order of their files, as there is room, until the server stops.
     /// Answers the seat; at once where no jobs are kept.
     pub(crate) fn feed_all(&self, seat: SessionSeat<E, K, H>) -> SessionSeat<E, K, H> {
-        let Some(kept) = &self.kept else {
+        let Some(kept) = &self.house.kept else {
             return seat;
         };
-        let seated = Seated::new(self.rt, &self.spool, seat);
-        let keeping = Keeping::new(self.alloc, seated, FedFolder::new(&kept.disk));
-        let mut feeder = Noting::new(keeping, SessionNotes::new(self.rt, &self.job_book));
-        for _ in self.rt.forever() {
-            if self.ending.stops() || self.ending.is_over() {
+        let seated = Seated::new(self.house.rt, &self.house.spool, seat);
+        let keeping = Keeping::new(self.house.alloc, seated, FedFolder::new(&kept.disk));
+        let mut feeder = Noting::new(
+            keeping,
+            SessionNotes::new(self.house.rt, &self.house.job_book),
+        );
+        for _ in self.house.rt.forever() {
+            if self.house.ending.stops() || self.house.ending.is_over() {
                 break;
             }
-            let has_fed = match kept.first(self.rt) {
+            let has_fed = match kept.first(self.house.rt) {
                 Some(number) => self.feed_first(kept, &mut feeder, number),
                 None => false,
             };
             if !has_fed {
-                kept.settle(self.rt);
-                thread::sleep(self.rt, Duration::from_millis(LOOK_MS));
+                kept.settle(self.house.rt);
+                thread::sleep(self.house.rt, Duration::from_millis(LOOK_MS));
             }
         }
-        kept.settle(self.rt);
+        kept.settle(self.house.rt);
         let Noting { inner, .. } = feeder;
         let Keeping { inner, .. } = inner;
         inner.into_seat()

@@ -6,43 +6,25 @@
 #![tactic(auto)]
 
 mod answering;
-mod archiving;
-mod board;
-mod commanding;
-mod counter;
 mod crew;
 mod device_sink;
-mod faults;
 mod feeding;
-mod furniture;
-mod house;
-mod lines;
 mod listening;
 mod opening;
-mod oversight;
-mod posts;
 mod printing;
-mod restarting;
-mod roles;
-mod room;
-mod rotating;
 mod served;
 mod serving;
 mod session_notes;
-mod showing;
 mod sink;
-mod status;
-mod stewarding;
-mod stopping;
 mod watching;
 
 pub use control_socket::{OpenFault, SocketFile};
-pub use counter::Counter;
-pub use faults::Fault;
 pub use printer_worker::{PrintSink, SinkFault};
 pub use program_edge::{
     Limits, LogForm, MOST_SESSIONS, Place, PrinterLimits, PrinterPlace, Settings, StatusPlace,
 };
+pub use server_care::Counter;
 pub use server_folders::ACCOUNT_LINES;
+pub use server_house::Fault;
 pub use server_notes::JOB_LINES;
 pub use serving::{Plan, serve};

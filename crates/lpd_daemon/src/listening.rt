@@ -1,19 +1,15 @@
 //! The thread that holds connections and hands them on.
 
 ghost use Rattle.std.specs.Prelude.{◌≡◌, ℕ, List, Option, OnOk, IfErr, Ok};
-ghost use Rattle.lpd_daemon.specs.Lines.{TellsRotations};
-ghost use Rattle.lpd_daemon.specs.declared.faults.Fault.TheVariants.{Network};
+ghost use Rattle.server_house.specs.Lines.{TellsRotations};
+ghost use Rattle.server_house.specs.declared.faults.Fault.TheVariants.{Network};
 
-use crate::faults::Fault;
-use crate::house::House;
-use crate::lines::{PrintedLine, print};
-use crate::room::AccountRoom;
-use crate::rotating::has_turn;
 use log::{Log, error, warn};
 use lpd_commands::OctetWrite;
 use mio::Waker;
 use program_edge::{Settings, descriptor_limit, tell_cause};
 use server_edge::{Doors, Doorway, Listening, Lobby, Visit, places};
+use server_house::{AccountRoom, Fault, House, PrintedLine, has_turn, print};
 use server_notes::{Rotation, Rotations};
 use shared_spool::{SessionSeat, SpoolLedger};
 use std::alloc::Global;

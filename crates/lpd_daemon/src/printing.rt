@@ -4,7 +4,6 @@ ghost use Rattle.std.specs.Prelude.{◌≡◌};
 ghost use Rattle.lpd_daemon.specs.Keeping.{end_of};
 
 use crate::device_sink::DeviceSink;
-use crate::house::House;
 use crate::sink::Explains;
 use held_jobs::Phase;
 use job_files::JobEnd;
@@ -12,6 +11,7 @@ use log::{Log, warn};
 use printer_devices::{Device, Opened, PrinterFile};
 use printer_sinks::{Dial, Folder, FolderSink, Pause, SocketSink};
 use printer_worker::{HandedPage, Leaving, PrintSink, SinkFault, work};
+use server_house::House;
 use server_notes::Outcome;
 use shared_spool::{PrinterSeat, SpoolLedger};
 use sink_devices::{Causes, Errand, FileFolder, Pauses, TcpDial};
@@ -20,36 +20,6 @@ use std::net::{Net, TcpListener, TcpStream};
 use std::rt::Clock;
 use std::sync::Wait;
 use std::sync::ledger::Ledger;
-
-impl<R: Clock + Log + Wait, E: SpoolLedger, K: Ledger, H: Ledger> Errand for House<'_, R, E, K, H> {
-    fn is_wanted(&self, job: u64) -> bool {
-        if self.ending.is_over() {
-            return false;
-        }
-        // Without memory to look, the printer is waited for.
-        let Ok(sight) = self.spool.sight(self.rt, self.alloc) else {
-            return true;
-        };
-        let mut jobs = sight.spool.jobs.iter();
-        jobs.any(|held| held.number == job && held.phase != Phase::Ended)
-    }
-
-    fn is_cut_off(&self) -> bool {
-        self.ending.cuts_off()
-    }
-
-    fn tell_unreached(&self, printer: u32, job: u64, seconds: u64) {
-        let Ok(sight) = self.spool.sight(self.rt, self.alloc) else {
-            warn!(self.rt; "printer {printer} hasn't been reached for {seconds} s: job {job} waits for it");
-            return;
-        };
-        let config = &self.oversight.config;
-        let queue = config.queue_of(printer);
-        let free = u64::from(config.account()).saturating_sub(sight.spool.reserved);
-        let (more, name) = (free / config.reserve_of(queue), self.queue_name(queue));
-        warn!(self.rt; "printer {printer} hasn't been reached for {seconds} s: job {job} waits for it, and the account has room for {more} more jobs of {name}");
-    }
-}
 
 /// How a job ends for its folder that a printer has left so: None where others end it, or it stays for the next start. What was printed
 /// and isn't where it should be has failed.
@@ -155,12 +125,18 @@ impl<
     }
 }
 
+/// Who has pages of a house printed.
+#[derive(Drop)]
+pub(crate) struct Printing<'h, 'a, R, E: SpoolLedger, K: Ledger, H: Ledger> {
+    pub(crate) house: &'h House<'a, R, E, K, H>,
+}
+
 impl<
     R: Files<File = File> + Net<Listener = TcpListener, Stream = TcpStream> + Clock + Log + Wait,
     E: SpoolLedger,
     K: Ledger,
     H: Ledger,
-> House<'_, R, E, K, H> {
+> Printing<'_, '_, R, E, K, H> {
     /// Has a printer's pages written to this device, until the spool is closed. Answers the seat.
     fn print_to<D: Dial + Causes + Drop, P: Pause + Drop, F: Folder + Causes + Drop>(
         &self,
@@ -169,14 +145,14 @@ impl<
     ) -> PrinterSeat<E, K, H> {
         let printer = seat.printer();
         let mut sink = Watched {
-            house: self,
+            house: self.house,
             printer,
-            queue: self.oversight.config.queue_of(printer),
+            queue: self.house.oversight.config.queue_of(printer),
             sink: DeviceSink::new(device),
             was_given_up: false,
             job: None,
         };
-        let (seat, _report) = work(self.rt, &self.spool, seat, &mut sink);
+        let (seat, _report) = work(self.house.rt, &self.house.spool, seat, &mut sink);
         seat
     }
 
@@ -186,19 +162,25 @@ impl<
         seat: PrinterSeat<E, K, H>,
         opened: Opened,
     ) -> PrinterSeat<E, K, H> {
-        let (printer, limits) = (seat.printer(), self.printer_limits);
+        let (printer, limits) = (seat.printer(), self.house.printer_limits);
         let device = match opened {
             Opened::File(outlet) => {
-                Device::File(PrinterFile::new(outlet, self, self.kept.is_some()))
+                Device::File(PrinterFile::new(outlet, self.house, self.house.kept.is_some()))
             }
             Opened::Socket(address) => {
                 let silence = limits.silence_seconds;
-                let dial = TcpDial::new(self.rt, printer, address.into(), silence, self);
-                let pauses = Pauses::new(self.rt, limits.patience_minutes, self);
+                let dial = TcpDial::new(
+                    self.house.rt,
+                    printer,
+                    address.into(),
+                    silence,
+                    self.house,
+                );
+                let pauses = Pauses::new(self.house.rt, limits.patience_minutes, self.house);
                 Device::Socket(SocketSink::new(dial, pauses, u64::MAX))
             }
             Opened::Folder { path, next } => {
-                let folder = FileFolder::new(self.rt, self.alloc, printer, path, next);
+                let folder = FileFolder::new(self.house.rt, self.house.alloc, printer, path, next);
                 Device::Folder(FolderSink::new(folder))
             }
         };

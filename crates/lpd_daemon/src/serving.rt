@@ -2,32 +2,29 @@
 
 ghost use Rattle.std.specs.Prelude.{◌≡◌, ◌≤◌, ◌+◌, ◌*◌, ℕ, Ok, OnOk};
 ghost use Rattle.std.specs.Prelude.{IfErr, false, if◌then◌else◌, true};
-ghost use Rattle.lpd_daemon.specs.Faults.{IsOpeningFault, IsRunningFault, write_faults};
-ghost use Rattle.lpd_daemon.specs.Lines.{IsQuiet, WritesAll, line_octets};
-ghost use Rattle.lpd_daemon.specs.declared.faults.Fault.TheVariants.{Memory};
-ghost use Rattle.lpd_daemon.specs.declared.lines.PrintedLine.TheVariants.{Closed};
+ghost use Rattle.server_house.specs.Faults.{IsOpeningFault, IsRunningFault, write_faults};
+ghost use Rattle.server_house.specs.Lines.{IsQuiet, WritesAll, line_octets};
+ghost use Rattle.server_house.specs.declared.faults.Fault.TheVariants.{Memory};
+ghost use Rattle.server_house.specs.declared.lines.PrintedLine.TheVariants.{Closed};
 ghost use Rattle.lpd_commands.specs.Ends.{Writes};
 ghost use Rattle.spool_ledgers.specs.Blanks.{AreFor, mark};
 
-use crate::board::{Board, Showing, open_board};
-use crate::counter::Counter;
-use crate::crew::{Entrance, Returned};
-use crate::faults::Fault;
-use crate::furniture::{Furniture, sessions_of};
-use crate::house::House;
-use crate::lines::{PrintedLine, print_or_tell};
+use crate::crew::{Entrance, Returned, work};
 use crate::listening::{Gate, listen};
 use crate::opening::opened;
-use crate::roles::{OTHERS, Roles, Seats};
-use crate::room::AccountRoom;
 use config_values::Config;
 use log::{Log, warn};
 use lpd_commands::OctetWrite;
 use mio::Waker;
 use printer_devices::{Opened, open_places};
 use program_edge::{Limits, PrinterLimits, Settings};
+use server_care::{Board, Counter, open_board};
 use server_edge::Lobby;
 use server_folders::{Archive, Kept, open_archive};
+use server_house::{
+    AccountRoom, Fault, Furniture, House, OTHERS, PrintedLine, Roles, Seats, Showing,
+    print_or_tell, sessions_of,
+};
 use server_notes::{Ending, Rotations};
 use shared_spool::{Blanks, Segment, SharedSpool, SpoolLedger};
 use std::alloc::{AllocError, Global};
@@ -386,12 +383,15 @@ where
         let seats = self.sessions + OTHERS;
         let (spool, roles) = open_spool::<E, K, H>(self.alloc, blanks, config, seats)?;
         let (house, entrance) = self.set_up(spool);
-        house.run(roles, entrance, output)
+        run_house(house, roles, entrance, output)
     }
 }
 
-impl<
-    'a,
+/// Says where it listens, has all threads work to their end, and says how many entries the account has. Who waits for that at
+/// the control socket is answered then.
+///
+/// Output where a line can't be written; Memory where memory or a thread is refused.
+fn run_house<
     R: Files<File = File>
         + Net<Listener = TcpListener, Stream = TcpStream>
         + Clock
@@ -402,37 +402,31 @@ impl<
     E: SpoolLedger + Send + Sync,
     K: Ledger + Send + Sync,
     H: Ledger + Send + Sync,
-> House<'a, R, E, K, H>
+    W: OctetWrite,
+>(
+    house: House<'_, R, E, K, H>,
+    roles: Roles<E, K, H>,
+    entrance: Entrance,
+    output: &mut W,
+) -> Result<(), Fault>
 where
     R::Dir: Send + Sync,
+    ensures printed { OnOk result
+        (WritesAll (W.written output.old) (W.written output.new)) }
+    ensures write_fault { W.faults output.new ≡ write_faults (W.faults output.old) result }
+    ensures fault { IfErr result IsRunningFault }
 {
-    /// Says where it listens, has all threads work to their end, and says how many entries the account has. Who waits for that at
-    /// the control socket is answered then.
-    ///
-    /// Output where a line can't be written; Memory where memory or a thread is refused.
-    fn run<W: OctetWrite>(
-        self,
-        roles: Roles<E, K, H>,
-        entrance: Entrance,
-        output: &mut W,
-    ) -> Result<(), Fault>
-        ensures printed { OnOk result
-            (WritesAll (W.written output.old) (W.written output.new)) }
-        ensures write_fault { W.faults output.new ≡ write_faults (W.faults output.old) result }
-        ensures fault { IfErr result IsRunningFault }
-    {
-        let (rt, alloc) = (self.rt, self.alloc);
-        let line = PrintedLine::Listening {
-            port: entrance.port,
-        };
-        print_or_tell(rt, alloc, output, line)?;
-        let (told, returned) = self.work(roles, entrance, output);
-        let Returned { seats, counter } = returned;
-        let House { spool, archive, .. } = self;
-        let ended = finish(rt, alloc, spool, seats, told, archive.as_ref(), output);
-        if let Some(counter) = counter {
-            counter.end(rt, alloc, &ended);
-        }
-        ended
+    let (rt, alloc) = (house.rt, house.alloc);
+    let line = PrintedLine::Listening {
+        port: entrance.port,
+    };
+    print_or_tell(rt, alloc, output, line)?;
+    let (told, returned) = work(&house, roles, entrance, output);
+    let Returned { seats, counter } = returned;
+    let House { spool, archive, .. } = house;
+    let ended = finish(rt, alloc, spool, seats, told, archive.as_ref(), output);
+    if let Some(counter) = counter {
+        counter.end(rt, alloc, &ended);
     }
+    ended
 }

@@ -2,8 +2,8 @@
 
 ghost use Rattle.std.specs.Prelude.{◌≡◌, ◌⊎◌, ◌+◌, ◌-◌, ◌^◌, false, min, true};
 
-use crate::house::House;
 use log::{Log, warn};
+use server_house::House;
 use shared_spool::{AbortError, SessionSeat, SpoolLedger, Waiting};
 use std::alloc::AllocError;
 use std::rt::Clock;
@@ -137,40 +137,41 @@ impl<'a, R: Clock + Log + Wait, E: SpoolLedger, K: Ledger, H: Ledger> Watcher<'a
     }
 }
 
-impl<R: Clock + Log + Wait, E: SpoolLedger, K: Ledger, H: Ledger> House<'_, R, E, K, H> {
-    /// Ends jobs that wait for a page and whose peers are gone, until the server ends; and where
-    /// nothing at all happens for as long as a peer may be silent, all that wait. Starts queues again
-    /// where that is due. Answers the seat.
-    pub(crate) fn watch(&self, seat: SessionSeat<E, K, H>) -> SessionSeat<E, K, H> {
-        let Ok(mut buffer) = vec![in self.alloc; 0u8; LOOKED_AT_OCTETS] else {
-            warn!(self.rt; "memory was refused: peers that are gone aren't looked for");
-            return seat;
-        };
-        let last = Sample {
-            waiting: Vec::new(self.alloc),
-            pages: [0; 4],
-            counted: 0,
-        };
-        let mut watcher = Watcher {
-            house: self,
-            seat,
-            still: Stillness { last, seconds: 0 },
-        };
-        let mut step = 0u64;
-        for _ in self.rt.forever() {
-            if self.ending.is_closed() {
-                break;
-            }
-            thread::sleep(self.rt, Duration::from_millis(STEP_MS));
-            step = step.saturating_add(1) % STEPS;
-            if step != 0 {
-                continue;
-            }
-            if watcher.look(buffer.as_mut_slice()).is_err() {
-                warn!(self.rt; "memory was refused to look for peers that are gone");
-            }
-            self.start_all_due(&mut watcher.seat);
+/// Ends jobs that wait for a page and whose peers are gone, until the server ends; and where
+/// nothing at all happens for as long as a peer may be silent, all that wait. Starts queues again
+/// where that is due. Answers the seat.
+pub(crate) fn watch<R: Clock + Log + Wait, E: SpoolLedger, K: Ledger, H: Ledger>(
+    house: &House<'_, R, E, K, H>,
+    seat: SessionSeat<E, K, H>,
+) -> SessionSeat<E, K, H> {
+    let Ok(mut buffer) = vec![in house.alloc; 0u8; LOOKED_AT_OCTETS] else {
+        warn!(house.rt; "memory was refused: peers that are gone aren't looked for");
+        return seat;
+    };
+    let last = Sample {
+        waiting: Vec::new(house.alloc),
+        pages: [0; 4],
+        counted: 0,
+    };
+    let mut watcher = Watcher {
+        house,
+        seat,
+        still: Stillness { last, seconds: 0 },
+    };
+    let mut step = 0u64;
+    for _ in house.rt.forever() {
+        if house.ending.is_closed() {
+            break;
         }
-        watcher.seat
+        thread::sleep(house.rt, Duration::from_millis(STEP_MS));
+        step = step.saturating_add(1) % STEPS;
+        if step != 0 {
+            continue;
+        }
+        if watcher.look(buffer.as_mut_slice()).is_err() {
+            warn!(house.rt; "memory was refused to look for peers that are gone");
+        }
+        house.start_all_due(&mut watcher.seat);
     }
+    watcher.seat
 }

@@ -1,6 +1,6 @@
 use Rattle.std.proofs.Common.{Ok, refl, subst}
-use Rattle.lpd_daemon.specs.Lines.{TellsRotations}
-use Rattle.lpd_daemon.proofs.Rotations.{TellsRotations-then}
+use Rattle.server_house.specs.Lines.{TellsRotations}
+use Rattle.server_house.proofs.Rotations.{TellsRotations-then}
 use Rattle.lpd_daemon.proofs.listening.announce_all.Goals as goal
 
 pub returns-in-Err-clause-tells : goal.returns-in-Err-clause-tells

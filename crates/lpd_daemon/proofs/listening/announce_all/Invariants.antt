@@ -1,5 +1,5 @@
 use Rattle.std.proofs.Common.{ℕ, List, Option, Ok}
-use Rattle.lpd_daemon.specs.Lines.{TellsRotations}
+use Rattle.server_house.specs.Lines.{TellsRotations}
 use Rattle.lpd_daemon.proofs.listening.announce_all.Given as goal
 
 abbrev pub invariant-loop-number : goal.invariant-loop-number

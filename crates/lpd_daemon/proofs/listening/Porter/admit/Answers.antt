@@ -1,4 +1,4 @@
-use Rattle.lpd_daemon.proofs.Rotations.{TellsRotations-none}
+use Rattle.server_house.proofs.Rotations.{TellsRotations-none}
 use Rattle.lpd_daemon.proofs.listening.Porter.admit.Goals as goal
 
 pub rounds-init : goal.rounds-init

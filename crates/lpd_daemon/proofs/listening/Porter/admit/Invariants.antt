@@ -1,4 +1,4 @@
-use Rattle.lpd_daemon.specs.Lines.{TellsRotations}
+use Rattle.server_house.specs.Lines.{TellsRotations}
 use Rattle.lpd_daemon.proofs.listening.Porter.admit.Given as goal
 
 abbrev pub invariant-rounds : goal.invariant-rounds

@@ -1,0 +1,78 @@
+//! Where the status of a server is asked for, and what is known of who shows it.
+
+ghost use Rattle.std.specs.Prelude.{IfErr};
+ghost use Rattle.server_house.specs.Faults.{IsListeningFault};
+
+use log::Log;
+use mio::Waker;
+use program_edge::{Settings, tell_cause};
+use server_counts::LastHour;
+use server_edge::{Doorway, Listening, Lobby};
+use server_house::Fault;
+use std::alloc::{AllocError, Global};
+use std::net::{Net, SocketAddr, TcpListener, TcpStream};
+
+/// How many connections may wait for their first lines.
+const PLACES: u64 = 64;
+
+/// The name by which a browser on this machine asks.
+const LOCALHOST: &str = "localhost";
+
+/// Where the status is asked for, and what is known there alone.
+#[derive(Drop)]
+pub struct Board {
+    pub lobby: Lobby,
+    /// The name by which browsers may ask, beside the machine's addresses and `localhost`.
+    pub name: String,
+    pub hour: LastHour,
+    /// From which second on the next look is due.
+    pub due: u64,
+}
+
+/// Who may come to the board, where no proxy is believed whom it comes for, and its name. AllocError where memory for them is refused.
+fn door_of(alloc: Global, settings: &Settings<'_>) -> Result<(Doorway, String), AllocError> {
+    let allowed = Vec::from_slice(alloc, settings.allowed.as_slice())?;
+    let name = String::from_str(alloc, settings.status_host.unwrap_or(LOCALHOST))?;
+    Ok((Doorway::new(alloc, allowed, Vec::new(alloc)), name))
+}
+
+/// A board where the settings have a place for it, and what wakes its thread.
+///
+/// Network where the system doesn't give what it takes, of which the log is told why; Memory.
+pub fn open_board<R: Log + Net<Listener = TcpListener, Stream = TcpStream>>(
+    rt: &R,
+    alloc: Global,
+    settings: &Settings<'_>,
+) -> Result<Option<(Board, Waker)>, Fault>
+    ensures { IfErr result IsListeningFault }
+{
+    let Some(place) = settings.status else {
+        return Ok(None);
+    };
+    let Ok((doorway, name)) = door_of(alloc, settings) else {
+        return Err(Fault::Memory);
+    };
+    let address = SocketAddr::from((place.address, place.port));
+    let listening = Listening {
+        address,
+        places: PLACES,
+        connections: u64::MAX,
+        doorway,
+    };
+    match Lobby::new(rt, alloc, listening) {
+        Ok((lobby, waker, _port)) => {
+            let (hour, due) = (LastHour::new(alloc), 0);
+            let board = Board {
+                lobby,
+                name,
+                hour,
+                due,
+            };
+            Ok(Some((board, waker)))
+        }
+        Err(error) => {
+            tell_cause(rt, &address, Some(error));
+            Err(Fault::Network)
+        }
+    }
+}

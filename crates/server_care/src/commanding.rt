@@ -1,0 +1,209 @@
+//! What is asked at the control socket, each command as calls of the spool and the lines of its answer.
+
+use crate::care::Care;
+use control_lines::{AnswerEnd, Command};
+use log::Log;
+use server_house::{PrintedLine, rotation_of};
+use shared_spool::{Octets, SessionSeat, Sight, SpoolLedger};
+use spool_calls::Printer;
+use std::alloc::{AllocError, Global};
+use std::fmt::Display;
+use std::fs::{File, Files};
+use std::rt::Clock;
+use std::sync::Wait;
+use std::sync::ledger::Ledger;
+
+/// Who removes what is removed at the control socket.
+const AGENT: &[u8] = b"root";
+
+/// The lines of an answer.
+#[derive(Drop)]
+pub struct Answer {
+    alloc: Global,
+    text: String,
+}
+
+impl Answer {
+    /// No line.
+    pub fn new(alloc: Global) -> Answer {
+        Answer {
+            alloc,
+            text: String::new(alloc),
+        }
+    }
+
+    /// These lines.
+    pub fn of_lines(alloc: Global, text: String) -> Answer {
+        Answer { alloc, text }
+    }
+
+    /// One line more. An error where memory is refused.
+    pub fn line<D: Display>(&mut self, line: &D) -> Result<(), AllocError> {
+        let line = format!(in self.alloc; "{line}\n")?;
+        self.text.push_str(line.as_str())?;
+        Ok(())
+    }
+
+    /// The octets of the answer, which ends so. An error where memory is refused.
+    pub fn end(self, end: AnswerEnd<'_>) -> Result<Vec<u8>, AllocError> {
+        let mut answer = self;
+        answer.line(&end)?;
+        let Answer { text, .. } = answer;
+        Ok(text.into_bytes())
+    }
+
+    /// The octets of the answer: nothing more where this was done, else why it wasn't. An error where memory is refused.
+    pub fn end_by<W: Display + Drop>(self, refused: Option<W>) -> Result<Vec<u8>, AllocError> {
+        match refused {
+            None => self.end(AnswerEnd::Done),
+            Some(refusal) => {
+                let why = format!(in self.alloc; "{refusal}")?;
+                self.end(AnswerEnd::Refused { text: why.as_str() })
+            }
+        }
+    }
+}
+
+/// Tells which printers of a queue stood still before they were started. An error where memory is refused.
+fn tell_started(answer: &mut Answer, printers: &[Printer], queue: u32) -> Result<(), AllocError> {
+    for (at, printer) in printers.iter().enumerate() {
+        if printer.queue == queue && printer.stopped {
+            let number = at + 1;
+            let line = format!(in answer.alloc; "started {number}")?;
+            answer.line(&line)?;
+        }
+    }
+    Ok(())
+}
+
+impl<R: Files<File = File> + Clock + Log + Wait, E: SpoolLedger, K: Ledger, H: Ledger> Care<
+    '_,
+    '_,
+    R,
+    E,
+    K,
+    H,
+> {
+    /// The printers as they stand now. An error where memory is refused.
+    fn printers(&self) -> Result<Vec<Printer>, AllocError> {
+        let Sight { spool, .. } = self.house.spool.sight(self.house.rt, self.house.alloc)?;
+        Ok(spool.printers)
+    }
+
+    /// Starts the stopped printers of a queue, and tells which.
+    fn start_queue(
+        &self,
+        seat: &mut SessionSeat<E, K, H>,
+        queue: &[u8],
+    ) -> Result<Vec<u8>, AllocError> {
+        let mut answer = Answer::new(self.house.alloc);
+        let printers = self.printers()?;
+        let started = match self.house.spool.start_telling(self.house.rt, seat, queue) {
+            Ok(started) => started,
+            Err(refusal) => return answer.end_by(Some(refusal)),
+        };
+        tell_started(&mut answer, printers.as_slice(), started.queue)?;
+        if started.stopped == 0 {
+            answer.line(&"started none")?;
+        }
+        answer.end(AnswerEnd::Done)
+    }
+
+    /// Holds a queue, or releases it.
+    fn hold_queue(
+        &self,
+        seat: &mut SessionSeat<E, K, H>,
+        queue: &[u8],
+        held: bool,
+    ) -> Result<Vec<u8>, AllocError> {
+        let done = if held {
+            self.house.spool.hold(self.house.rt, seat, queue)
+        } else {
+            self.house.spool.release(self.house.rt, seat, queue)
+        };
+        Answer::new(self.house.alloc).end_by(done.err())
+    }
+
+    /// Removes a job or a user's jobs of a queue, and tells which.
+    fn remove_jobs(
+        &self,
+        seat: &mut SessionSeat<E, K, H>,
+        queue: &[u8],
+        whom: &[u8],
+    ) -> Result<Vec<u8>, AllocError> {
+        let list = [Octets::copy_of(self.house.alloc, whom)?];
+        match self
+            .house
+            .spool
+            .remove_telling(self.house.rt, seat, queue, AGENT, &list)
+        {
+            Ok(removal) => {
+                self.house.end_removed(removal.numbers);
+                let mut octets = removal.text.into_vec();
+                let end = Answer::new(self.house.alloc).end(AnswerEnd::Done)?;
+                octets.extend_from_slice(end.as_slice())?;
+                Ok(octets)
+            }
+            Err(refusal) => Answer::new(self.house.alloc).end_by(Some(refusal)),
+        }
+    }
+
+    /// Has a job fed again that has failed, by the number of its file.
+    fn resend_job(&self, number: u64) -> Result<Vec<u8>, AllocError> {
+        let answer = Answer::new(self.house.alloc);
+        let Some(kept) = &self.house.kept else {
+            return answer.end_by(Some("no jobs are kept: the server has no --spool"));
+        };
+        if let Err(fault) = kept.disk.resend(number) {
+            return answer.end_by(Some(fault));
+        }
+        if kept.enter(self.house.rt, self.house.alloc, number)? {
+            return answer.end(AnswerEnd::Done);
+        }
+        answer.end_by(Some("the file isn't that of a kept job"))
+    }
+
+    /// Rotates the account. The porter prints that.
+    fn rotate_account(&self, seat: &mut SessionSeat<E, K, H>) -> Result<Vec<u8>, AllocError> {
+        let mut answer = Answer::new(self.house.alloc);
+        if !self.house.takes_place() {
+            return answer.end_by(Some("segments of the account wait to be written"));
+        }
+        match self.house.spool.rotate(self.house.rt, seat) {
+            Ok(segment) => {
+                let rotation = rotation_of(&segment);
+                self.house.note_rotated(Ok(segment));
+                let _ = self.house.waker.wake();
+                let (number, entries) = (rotation.number, rotation.entries);
+                answer.line(&PrintedLine::Rotated { number, entries })?;
+                answer.end(AnswerEnd::Done)
+            }
+            Err(refusal) => {
+                self.house.give_place_back();
+                answer.end_by(Some(refusal))
+            }
+        }
+    }
+
+    /// Does what a command asks for, but for a stop. The octets of its answer; an error where memory is refused.
+    pub fn carry_out(
+        &self,
+        seat: &mut SessionSeat<E, K, H>,
+        command: &Command,
+    ) -> Result<Vec<u8>, AllocError> {
+        match command {
+            Command::Status => self.tell_status(),
+            Command::Start { queue } => self.start_queue(seat, queue.as_slice()),
+            Command::Hold { queue } => self.hold_queue(seat, queue.as_slice(), true),
+            Command::Release { queue } => self.hold_queue(seat, queue.as_slice(), false),
+            Command::Remove { queue, whom } => {
+                self.remove_jobs(seat, queue.as_slice(), whom.as_slice())
+            }
+            Command::Resend { number } => self.resend_job(*number),
+            Command::Rotate => self.rotate_account(seat),
+            Command::Stop { .. } | Command::StopNow => Answer::new(self.house.alloc).end(
+                AnswerEnd::Done,
+            ),
+        }
+    }
+}

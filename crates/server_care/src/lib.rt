@@ -1,0 +1,15 @@
+//! Who looks after a server and at it: what is asked at its control socket and by signals, its status, its end.
+#![tactic(auto)]
+
+mod board;
+mod care;
+mod commanding;
+mod counter;
+mod showing;
+mod status;
+mod stewarding;
+mod stopping;
+
+pub use board::{Board, open_board};
+pub use care::Care;
+pub use counter::Counter;

@@ -1,0 +1,192 @@
+//! The thread that does what is asked at the control socket and by signals, and tells again of printers that stand still.
+
+use crate::care::Care;
+use crate::commanding::Answer;
+use crate::counter::Counter;
+use control_lines::{AnswerEnd, Command, LineFault};
+use control_socket::{Asked, Pending};
+use log::{Log, warn};
+use server_notes::Standstill;
+use shared_spool::{SeenJob, SessionSeat, SpoolLedger};
+use spool_calls::Printer;
+use std::alloc::AllocError;
+use std::fs::{File, Files};
+use std::rt::Clock;
+use std::sync::Wait;
+use std::sync::ledger::Ledger;
+use std::time::{Duration, Instant};
+
+/// Who does what is asked.
+#[derive(Drop)]
+struct Steward<'h, 'a, R, E: SpoolLedger, K: Ledger, H: Ledger> {
+    care: &'h Care<'h, 'a, R, E, K, H>,
+    seat: SessionSeat<E, K, H>,
+    counter: Counter,
+    /// When nothing is waited for any more, where that was asked.
+    cut_off_at: Option<Instant>,
+}
+
+/// The earlier one of two moments, each of which there may be.
+fn earlier(first: Option<Instant>, second: Option<Instant>) -> Option<Instant> {
+    match (first, second) {
+        (Some(first), Some(second)) => Some(first.min(second)),
+        (first, second) => first.or(second),
+    }
+}
+
+/// Whether the printer of this number, from 1, stands still.
+fn is_stopped(printers: &[Printer], printer: u32) -> bool {
+    let at = (printer as usize).saturating_sub(1);
+    printers.get(at).is_some_and(|printer| printer.stopped)
+}
+
+/// How many of these jobs are in this queue.
+fn jobs_of(jobs: &[SeenJob], queue: u32) -> usize {
+    jobs.iter().filter(|job| job.queue == queue).count()
+}
+
+impl<R: Files<File = File> + Clock + Log + Wait, E: SpoolLedger, K: Ledger, H: Ledger> Steward<
+    '_,
+    '_,
+    R,
+    E,
+    K,
+    H,
+> {
+    /// Nobody is let in any more; after N seconds nothing is waited for any more, where there is such a number.
+    fn stop(&mut self, seconds: Option<u32>) {
+        let house = self.care.house;
+        house.ending.stop();
+        let _ = house.waker.wake();
+        if let (Some(seconds), Ok(now)) = (seconds, Instant::now(house.rt)) {
+            let at = now.checked_add(Duration::from_secs(u64::from(seconds)));
+            self.cut_off_at = earlier(self.cut_off_at, at);
+        }
+    }
+
+    /// Nothing is waited for any more.
+    fn stop_now(&mut self) {
+        self.care.cut_off(&mut self.seat);
+    }
+
+    /// Does what signals ask.
+    fn look_at_signals(&mut self) {
+        match self.counter.pending() {
+            Pending::Neither => {}
+            Pending::One if self.care.house.ending.stops() => {}
+            Pending::One => self.stop(None),
+            Pending::Both => self.stop_now(),
+        }
+    }
+
+    /// Does what is due.
+    fn look_at_clock(&mut self) {
+        let Ok(now) = Instant::now(self.care.house.rt) else {
+            return;
+        };
+        if self.cut_off_at.is_some_and(|at| at <= now) {
+            self.stop_now();
+        }
+        self.tell_standstills(now);
+    }
+
+    /// How many jobs of its queue wait behind a printer, where it stands still. None where it runs, of which it is kept that it doesn't
+    /// stand still any more, or memory to look is refused.
+    fn jobs_behind(&self, printer: u32, queue: u32) -> Option<usize> {
+        let house = self.care.house;
+        let sight = house.spool.sight(house.rt, house.alloc).ok()?;
+        if !is_stopped(sight.spool.printers.as_slice(), printer) {
+            house.oversight.standstills.end(house.rt, printer);
+            return None;
+        }
+        Some(jobs_of(sight.spool.jobs.as_slice(), queue))
+    }
+
+    /// Tells that a printer stands still.
+    fn tell_standstill(&self, printer: u32, standstill: Standstill, now: Instant) {
+        let house = self.care.house;
+        let queue = house.oversight.config.queue_of(printer);
+        let Some(jobs) = self.jobs_behind(printer, queue) else {
+            return;
+        };
+        let name = house.queue_name(queue);
+        let minutes = now.saturating_duration_since(standstill.since).as_secs() / 60;
+        match standstill.cause {
+            Some(cause) =>
+                warn!(house.rt; "printer {printer} of {name} has stood still for {minutes} min, with {jobs} jobs: {cause}"),
+            None =>
+                warn!(house.rt; "printer {printer} of {name} has stood still for {minutes} min, with {jobs} jobs"),
+        }
+    }
+
+    /// Tells of each printer that stands still, where that is due.
+    fn tell_standstills(&self, now: Instant) {
+        let house = self.care.house;
+        for at in 0..house.oversight.config.printer_count() {
+            let printer = at + 1;
+            if let Some(standstill) = house.oversight.standstills.take_due(house.rt, printer, now) {
+                self.tell_standstill(printer, standstill, now);
+            }
+        }
+    }
+
+    /// Does what was asked at the control socket.
+    fn answer(&mut self, asked: Asked) {
+        let alloc = self.care.house.alloc;
+        let answer = match Command::parse(alloc, asked.line.as_slice()) {
+            Ok(Command::Stop { seconds }) => {
+                self.stop(seconds);
+                return;
+            }
+            Ok(Command::StopNow) => {
+                self.stop_now();
+                return;
+            }
+            Ok(command) => self.care.carry_out(&mut self.seat, &command),
+            Err(LineFault::Unknown) => Answer::new(alloc).end(AnswerEnd::Unknown),
+            Err(LineFault::Memory) => Err(AllocError),
+        };
+        // Without memory for the answer there is none.
+        self.counter
+            .answer(&asked, answer.unwrap_or(Vec::new(alloc)));
+    }
+}
+
+impl<R: Files<File = File> + Clock + Log + Wait, E: SpoolLedger, K: Ledger, H: Ledger> Care<
+    '_,
+    '_,
+    R,
+    E,
+    K,
+    H,
+> {
+    /// Does what is asked, and tells again of printers that stand still, until the spool is closed. Answers the seat, and what still
+    /// waits for the server's end. Where nobody looks after the server or at it, this answers at once.
+    pub fn look_after(
+        &self,
+        seat: SessionSeat<E, K, H>,
+        counter: Counter,
+    ) -> (SessionSeat<E, K, H>, Counter) {
+        if !self.house.is_watched() {
+            return (seat, counter);
+        }
+        let mut steward = Steward {
+            care: self,
+            seat,
+            counter,
+            cut_off_at: None,
+        };
+        for _ in self.house.rt.forever() {
+            if self.house.ending.is_closed() {
+                break;
+            }
+            steward.look_at_signals();
+            steward.look_at_clock();
+            if let Some(asked) = steward.counter.next(self.house.rt) {
+                steward.answer(asked);
+            }
+        }
+        let Steward { seat, counter, .. } = steward;
+        (seat, counter)
+    }
+}

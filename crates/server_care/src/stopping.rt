@@ -1,0 +1,182 @@
+//! The end of a server that is stopped: what it still waits for, and what it tells of what is lost.
+
+ghost use Rattle.std.specs.Prelude.{◌≡◌};
+ghost use Rattle.std.specs.List.{list_any};
+ghost use Rattle.server_care.specs.Stopping.{goes_on, is_awaited, runs_for};
+
+use crate::care::Care;
+use control_lines::Escaped;
+use held_jobs::Phase;
+use log::{Log, warn};
+use printer_devices::has_unread;
+use shared_spool::{SeenJob, SessionSeat, Sight, SpoolLedger};
+use spool_calls::Printer;
+use std::rt::Clock;
+use std::sync::Wait;
+use std::sync::ledger::Ledger;
+use std::thread;
+use std::time::Duration;
+
+/// The time between two looks at what is left to do, in milliseconds.
+const LOOK_MS: u64 = 100;
+
+/// How many lines in a row tell of jobs that are lost. The log has room for some more.
+const LINES: usize = 64;
+
+/// The pause after these, in which the log writes them, in milliseconds.
+const PAUSE_MS: u64 = 20;
+
+/// Whether a printer serves this queue and isn't stopped.
+fn runs_for(queue: u32, printer: &Printer) -> bool
+    ensures { result ≡ runs_for queue printer.now }
+{
+    printer.queue == queue && !printer.stopped
+}
+
+/// Whether a printer of this queue isn't stopped.
+fn is_served(printers: &[Printer], queue: u32) -> bool
+    ensures { result ≡ list_any (runs_for queue) printers.now }
+{
+    printers.iter().any(|printer| runs_for(queue, printer))
+}
+
+/// Whether a job goes on by itself, where its queue is held or isn't, and a printer of it runs.
+fn goes_on(is_held: bool, job: &SeenJob) -> bool
+    ensures { result ≡ goes_on is_held job.now job.now.phase }
+{
+    match job.phase {
+        Phase::Receiving => false,
+        Phase::Received => job.handed > 0 || !is_held,
+        Phase::Ended => true,
+    }
+}
+
+/// Whether a server that stops waits for a job: where nobody need do anything for it to come to its end. A queue that is held, or of
+/// which all printers are stopped, waits for somebody.
+fn is_awaited(printers: &[Printer], held: &[bool], job: &SeenJob) -> bool
+    ensures { result ≡ is_awaited printers.now held.now job.now }
+{
+    let is_held = held.get(job.queue as usize).copied().unwrap_or(false);
+    goes_on(is_held, job) && is_served(printers, job.queue)
+}
+
+/// Whether a server that stops waits for a job.
+fn awaits_one(sight: &Sight) -> bool
+    ensures { result ≡ list_any (is_awaited sight.now.spool.printers.items sight.now.held.items)
+        sight.now.spool.jobs.items }
+{
+    let (printers, held) = (sight.spool.printers.as_slice(), sight.held.as_slice());
+    sight
+        .spool
+        .jobs
+        .iter()
+        .any(|job| is_awaited(printers, held, job))
+}
+
+/// Whether a server that isn't stopped waits for nothing more once its last connection was served: no job is held, or a printer is
+/// stopped.
+fn is_idle(sight: &Sight) -> bool {
+    sight.spool.jobs.is_empty() || sight.spool.printers.iter().any(|printer| printer.stopped)
+}
+
+impl<R: Clock + Log + Wait, E: SpoolLedger, K: Ledger, H: Ledger> Care<'_, '_, R, E, K, H> {
+    /// Whether the pipe of a printer that runs has octets that its reader hasn't taken.
+    fn has_full_pipe(&self, sight: &Sight) -> bool {
+        let printers = sight.spool.printers.iter();
+        let mut pipes = self.house.oversight.pipes.iter().zip(printers);
+        pipes.any(|(pipe, printer)| {
+            !printer.stopped && pipe.as_ref().is_some_and(|pipe| has_unread(pipe))
+        })
+    }
+
+    /// Whether nothing is left to do.
+    fn is_done(&self) -> bool {
+        let Ok(sight) = self.house.spool.sight(self.house.rt, self.house.alloc) else {
+            return false;
+        };
+        if self.house.ending.stops() {
+            !awaits_one(&sight) && !self.has_full_pipe(&sight)
+        } else {
+            is_idle(&sight)
+        }
+    }
+
+    /// Waits until nothing is left to do, once no session brings more; or until nothing is waited for any more.
+    pub fn wait_until_done(&self) {
+        if !self.house.is_watched() {
+            self.house.spool.idle_wait(self.house.rt);
+            return;
+        }
+        for _ in self.house.rt.forever() {
+            if self.house.ending.cuts_off() || self.is_done() {
+                return;
+            }
+            thread::sleep(self.house.rt, Duration::from_millis(LOOK_MS));
+        }
+    }
+
+    /// Tells that a job is lost.
+    fn tell_lost(&self, job: &SeenJob) {
+        let (user, host) = (Escaped(job.user.as_slice()), Escaped(job.host.as_slice()));
+        let (number, queue, octets) = (job.number, self.house.queue_name(job.queue), job.octets);
+        let why = match job.phase {
+            Phase::Receiving => "it isn't whole",
+            Phase::Received | Phase::Ended => "it isn't printed",
+        };
+        warn!(self.house.rt; "job {number} {queue} {user}@{host} {octets} octets is lost: {why}");
+    }
+
+    /// Tells of each of these jobs that is whole, or of each that isn't, that it is lost.
+    fn tell_each_lost(&self, jobs: &[SeenJob], is_whole: bool) {
+        let lost = jobs
+            .iter()
+            .filter(|job| (job.phase != Phase::Receiving) == is_whole);
+        for (at, job) in lost.enumerate() {
+            self.tell_lost(job);
+            if at % LINES == LINES - 1 {
+                thread::sleep(self.house.rt, Duration::from_millis(PAUSE_MS));
+            }
+        }
+    }
+
+    /// Tells of each held job that is whole, or of each that isn't, that it is lost. Whole ones aren't where jobs are kept.
+    fn tell_lost_of(&self, is_whole: bool) {
+        // A whole job stays in its folder, and is printed after the next start.
+        if is_whole && self.house.kept.is_some() {
+            return;
+        }
+        let Ok(sight) = self.house.spool.sight(self.house.rt, self.house.alloc) else {
+            warn!(self.house.rt; "memory was refused: jobs that are lost aren't told");
+            return;
+        };
+        if !sight.spool.closed {
+            self.tell_each_lost(sight.spool.jobs.as_slice(), is_whole);
+        }
+    }
+
+    /// Tells of each job that is held that it is lost, where the server is stopped.
+    pub fn tell_all_lost(&self) {
+        if self.house.ending.stops() {
+            self.tell_lost_of(false);
+            self.tell_lost_of(true);
+        }
+    }
+
+    /// Waits for nothing any more: ends the sessions, tells what is lost, and closes the spool. A write that waits for its printer
+    /// ends within a second.
+    pub fn cut_off(&self, seat: &mut SessionSeat<E, K, H>) {
+        if self.house.ending.cuts_off() {
+            return;
+        }
+        self.house.ending.stop();
+        let _ = self.house.waker.wake();
+        // Before their sessions end them.
+        self.tell_lost_of(false);
+        // From here on no job is acknowledged: its session's octet 00 reaches nobody.
+        self.house.posts.hang_up(self.house.rt);
+        // Before a printer gives its job up, since it is waited for no more: that job is lost too.
+        self.tell_lost_of(true);
+        self.house.spool.close(self.house.rt, seat);
+        self.house.ending.cut_off();
+    }
+}

@@ -1,0 +1,88 @@
+//! Who gets which seat.
+
+ghost use Rattle.std.specs.Prelude.{◌≡◌, ◌↔◌, ◌<◌, IfErr};
+ghost use Rattle.server_house.specs.declared.faults.Fault.TheVariants.{Memory};
+ghost use Rattle.server_edge.specs.declared.desk.Serves.TheVariants.{NoJobs};
+
+use crate::faults::Fault;
+use server_edge::Serves;
+use shared_spool::{PrinterSeat, SessionSeat, SpoolLedger};
+use std::sync::ledger::Ledger;
+
+/// How many sessions serve connections that bring no job, and those alone.
+pub const NO_JOB_SESSIONS: u32 = 2;
+
+/// How many sessions' seats are for others than sessions: the porter, the watcher, the keeper, the
+/// steward and the feeder.
+pub const OTHERS: u32 = 5;
+
+/// Seats at a spool.
+#[derive(Drop)]
+pub struct Seats<E: SpoolLedger, K: Ledger, H: Ledger> {
+    pub sessions: Vec<SessionSeat<E, K, H>>,
+    pub printers: Vec<PrinterSeat<E, K, H>>,
+}
+
+/// The seats by who gets them.
+#[derive(Drop)]
+pub struct Roles<E: SpoolLedger, K: Ledger, H: Ledger> {
+    /// Who hands connections on.
+    pub porter: SessionSeat<E, K, H>,
+    /// Who looks for peers that are gone.
+    pub watcher: SessionSeat<E, K, H>,
+    /// Who rotates the account.
+    pub keeper: SessionSeat<E, K, H>,
+    /// Who does what is asked at the control socket and by signals.
+    pub steward: SessionSeat<E, K, H>,
+    /// Who has the spool take what a folder has kept.
+    pub feeder: SessionSeat<E, K, H>,
+    pub sessions: Vec<SessionSeat<E, K, H>>,
+    pub printers: Vec<PrinterSeat<E, K, H>>,
+}
+
+impl<E: SpoolLedger, K: Ledger, H: Ledger> Roles<E, K, H> {
+    /// Deals the seats out: the last ones to others than sessions. Memory where one is missing.
+    pub fn deal(
+        sessions: Vec<SessionSeat<E, K, H>>,
+        printers: Vec<PrinterSeat<E, K, H>>,
+    ) -> Result<Roles<E, K, H>, Fault>
+        ensures { IfErr result (λ fault. fault ≡ Memory) }
+    {
+        let mut sessions = sessions;
+        let Some(porter) = sessions.pop() else {
+            return Err(Fault::Memory);
+        };
+        let Some(keeper) = sessions.pop() else {
+            return Err(Fault::Memory);
+        };
+        let Some(watcher) = sessions.pop() else {
+            return Err(Fault::Memory);
+        };
+        let Some(steward) = sessions.pop() else {
+            return Err(Fault::Memory);
+        };
+        let Some(feeder) = sessions.pop() else {
+            return Err(Fault::Memory);
+        };
+        Ok(Roles {
+            porter,
+            watcher,
+            keeper,
+            steward,
+            feeder,
+            sessions,
+            printers,
+        })
+    }
+}
+
+/// Which connections the session of this seat serves.
+pub fn serves_at(seat: u32) -> Serves
+    ensures { (result ≡ NoJobs) ↔ seat < 2 }
+{
+    if seat < NO_JOB_SESSIONS {
+        Serves::NoJobs
+    } else {
+        Serves::All
+    }
+}

@@ -1,0 +1,81 @@
+//! When the account is rotated.
+
+ghost use Rattle.std.specs.Int.NonZero.{non_zero_u64_get};
+ghost use Rattle.std.specs.Prelude.{◌≡◌, ◌↔◌, IsTrue, length, option_map};
+ghost use Rattle.server_house.specs.Rotating.{HasTurn};
+
+use crate::house::House;
+use log::{Log, error};
+use server_notes::Rotation;
+use shared_spool::{RotateError, Segment, SessionSeat, SpoolLedger};
+use std::num::NonZeroU64;
+use std::rt::Clock;
+use std::sync::Wait;
+use std::sync::ledger::Ledger;
+use std::thread;
+use std::time::Duration;
+
+/// The pause after a rotation that was refused, in seconds.
+const PAUSE_SECONDS: u64 = 1;
+
+/// Whether the account has its turn after `handed_on` connections: after each `every` of them, if
+/// there is such a number.
+pub fn has_turn(every: Option<NonZeroU64>, handed_on: u64) -> bool
+    ensures { IsTrue result ↔ HasTurn (option_map non_zero_u64_get every) handed_on }
+{
+    every.is_some_and(|every| handed_on != 0 && handed_on % every.get() == 0)
+}
+
+/// What is printed of this segment.
+pub fn rotation_of(segment: &Segment) -> Rotation
+    ensures number { result.number ≡ segment.now.number }
+    ensures entries { result.entries ≡ length segment.now.entries.items }
+{
+    Rotation {
+        number: segment.number,
+        entries: segment.entries.len() as u64,
+    }
+}
+
+impl<R: Clock + Wait + Log, E: SpoolLedger, K: Ledger, H: Ledger> House<'_, R, E, K, H> {
+    /// What comes of a rotation for which there was a place: the segment is printed of, and where the account is kept it waits
+    /// to become a file. Where the account wasn't rotated the log is told why, and the server goes on.
+    pub fn note_rotated(&self, rotated: Result<Segment, RotateError>) {
+        match rotated {
+            Ok(segment) => {
+                self.rotations.add(self.rt, rotation_of(&segment));
+                self.shelve(segment);
+            }
+            Err(error) => {
+                self.give_place_back();
+                error!(self.rt; "fault {error}");
+            }
+        }
+    }
+
+    /// Rotates the account as soon as no job is held and `least` entries are counted, again and again
+    /// until the spool is closed; never where no room is kept. Answers the seat.
+    pub fn keep_rotating(&self, seat: SessionSeat<E, K, H>) -> SessionSeat<E, K, H> {
+        let Some(least) = self.least else {
+            return seat;
+        };
+        let (rt, mut seat) = (self.rt, seat);
+        for _ in rt.forever() {
+            if !self.wait_for_place() {
+                break;
+            }
+            let Some(rotated) = self.spool.rotate_wait(rt, &mut seat, least) else {
+                self.give_place_back();
+                break;
+            };
+            let is_refused = rotated.is_err();
+            self.note_rotated(rotated);
+            if is_refused {
+                thread::sleep(rt, Duration::from_secs(PAUSE_SECONDS));
+            } else {
+                let _ = self.waker.wake();
+            }
+        }
+        seat
+    }
+}
