@@ -4,6 +4,7 @@
 
 mod attribute;
 mod attribute_name;
+mod draft;
 mod laws;
 mod page;
 mod tag;

@@ -1,225 +1,149 @@
-//! A page as it is written: tags, texts, and nothing else.
+//! A page of HTML: tags, texts, and nothing else.
 
-ghost use Rattle.std.specs.Prelude.{◌≡◌, ◌∷◌, [], ◌++◌, IfOk, OnErr, OnOk, map, string_bytes};
+ghost use Rattle.std.specs.Prelude.{◌≡◌, ◌∷◌, [], ◌++◌, IfErr, IfOk, map, string_bytes};
 ghost use Rattle.std.specs.Fmt.{decimal};
-ghost use Rattle.std.specs.Str.{chars, encode_utf8_all};
+ghost use Rattle.std.specs.Str.{chars};
 ghost use Rattle.std.specs.Str.Lossy.{utf8_lossy};
-ghost use Rattle.html_page.specs.Parts.{Begins, End, IsPage, LineEnd, Meta, Sheet, Start, Words, part_octets, plain_chars, told};
+ghost use Rattle.html_page.specs.Parts.{End, IsPage, LineEnd, Meta, Sheet, Start, Words, part_octets, told};
 
-use crate::attribute::{Attribute, push_attributes};
+use crate::attribute::Attribute;
+use crate::draft::Draft;
 use crate::tag::Tag;
-use html_text::{Form, push_text};
 use std::alloc::{AllocError, Global};
 
-/// A page of HTML so far. Each of its calls puts one part at the end, whole; where memory for that is refused, nothing is put there.
+/// A page of HTML so far. Each of its calls puts one part at the end, whole. Where memory for a part is refused, neither it nor any later part is
+/// put, and `into_text` says so.
 #[derive(Drop)]
 pub struct Page {
     alloc: Global,
-    text: String,
-    opened: Vec<Tag>,
-    ghost begins: { ∥ Begins opened.items (string_bytes text) ∥₁ },
-}
-
-/// A start tag.
-fn start_tag(alloc: Global, tag: Tag, attributes: &[Attribute<'_>]) -> Result<String, AllocError>
-    ensures { IfOk result (λ text. string_bytes text
-        ≡ part_octets (Start tag (map told attributes.now))) }
-{
-    let mut text = String::from_str(alloc, "<")?;
-    text.push_str(tag.name())?;
-    push_attributes(&mut text, attributes)?;
-    text.push_str(">")?;
-    Ok(text)
-}
-
-/// An end tag.
-fn end_tag(alloc: Global, tag: Tag) -> Result<String, AllocError>
-    ensures { IfOk result (λ text. string_bytes text ≡ part_octets (End tag)) }
-{
-    let mut text = String::from_str(alloc, "</")?;
-    text.push_str(tag.name())?;
-    text.push_str(">")?;
-    Ok(text)
-}
-
-/// An element `meta`.
-fn meta_tag(alloc: Global, attributes: &[Attribute<'_>]) -> Result<String, AllocError>
-    ensures { IfOk result (λ text. string_bytes text
-        ≡ part_octets (Meta (map told attributes.now))) }
-{
-    let mut text = String::from_str(alloc, "<meta")?;
-    push_attributes(&mut text, attributes)?;
-    text.push_str(">")?;
-    Ok(text)
-}
-
-/// The style sheet without each `<`.
-fn plain_sheet(alloc: Global, sheet: &str) -> Result<String, AllocError>
-    ensures { IfOk result (λ text.
-        string_bytes text ≡ encode_utf8_all (plain_chars (chars sheet.now))) }
-{
-    sheet.chars().filter(|c| *c != '<').collect(alloc)
-}
-
-/// An element `style` with this style sheet, of which each `<` is left out.
-fn style_element(alloc: Global, sheet: &str) -> Result<String, AllocError>
-    ensures { IfOk result (λ text.
-        string_bytes text ≡ part_octets (Sheet (chars sheet.now))) }
-{
-    let plain = plain_sheet(alloc, sheet)?;
-    let mut text = String::from_str(alloc, "<style>")?;
-    text.push_str(plain.as_str())?;
-    text.push_str("</style>")?;
-    Ok(text)
+    draft: Draft,
+    is_whole: bool,
 }
 
 impl Page {
-    ghost use Rattle.html_page.specs.Written.{last_closing, opened, outer, written};
+    ghost use Rattle.html_page.specs.Written.{IsLost, IsWhole, Puts, last_closing, opened, outer, written};
 
     /// The words that say that it is HTML.
     ///
     /// AllocError where memory for them is refused.
     pub fn new(alloc: Global) -> Result<Page, AllocError>
-        ensures { IfOk result (λ page. opened page ≡ []) }
+        ensures opened { IfOk result (λ page. opened page ≡ []) }
+        ensures whole { IfOk result (λ page. IsWhole page) }
     {
         Ok(Page {
             alloc,
-            text: String::from_str(alloc, "<!DOCTYPE html>")?,
-            opened: Vec::new(alloc),
+            draft: Draft::new(alloc)?,
+            is_whole: true,
         })
     }
 
     /// Opens an element: its start tag.
-    ///
-    /// AllocError where memory for it is refused.
-    pub fn open(&mut self, tag: Tag, attributes: &[Attribute<'_>]) -> Result<(), AllocError>
-        ensures opened { OnOk result (opened self.new ≡ opened self.old ++ tag ∷ []) }
-        ensures written { OnOk result (written self.new
-            ≡ written self.old ++ part_octets (Start tag (map told attributes.now))) }
-        ensures unchanged { OnErr result (written self.new ≡ written self.old) }
+    pub fn open(&mut self, tag: Tag, attributes: &[Attribute<'_>])
+        ensures opened { IsWhole self.new → opened self.new ≡ opened self.old ++ tag ∷ [] }
+        ensures put { Puts self.old self.new (part_octets (Start tag (map told attributes.now))) }
     {
-        let start = start_tag(self.alloc, tag, attributes)?;
-        self.opened.push(tag)?;
-        let put = self.text.push_str(start.as_str());
-        if put.is_err() {
-            let _unopened = self.opened.pop();
+        if self.is_whole {
+            self.is_whole = self.draft.open(tag, attributes).is_ok();
         }
-        put
     }
 
     /// Closes the element that was opened last and is still open: its end tag. Where none is open, it does nothing.
-    ///
-    /// AllocError where memory for it is refused.
-    pub fn close(&mut self) -> Result<(), AllocError>
-        ensures opened { OnOk result (opened self.new ≡ outer (opened self.old)) }
-        ensures written { OnOk result
-            (written self.new ≡ written self.old ++ last_closing (opened self.old)) }
-        ensures unchanged { OnErr result (written self.new ≡ written self.old) }
+    pub fn close(&mut self)
+        ensures opened { IsWhole self.new → opened self.new ≡ outer (opened self.old) }
+        ensures put { Puts self.old self.new (last_closing (opened self.old)) }
     {
-        let Some(tag) = self.opened.last().copied() else {
-            return Ok(());
-        };
-        let end = end_tag(self.alloc, tag)?;
-        self.text.push_str(end.as_str())?;
-        let _closed = self.opened.pop();
-        Ok(())
+        if self.is_whole {
+            self.is_whole = self.draft.close().is_ok();
+        }
     }
 
     /// Puts an element `meta` at the end.
-    ///
-    /// AllocError where memory for it is refused.
-    pub fn meta(&mut self, attributes: &[Attribute<'_>]) -> Result<(), AllocError>
-        ensures written { OnOk result (written self.new
-            ≡ written self.old ++ part_octets (Meta (map told attributes.now))) }
-        ensures unchanged { OnErr result (written self.new ≡ written self.old) }
+    pub fn meta(&mut self, attributes: &[Attribute<'_>])
+        ensures put { Puts self.old self.new (part_octets (Meta (map told attributes.now))) }
     {
-        let element = meta_tag(self.alloc, attributes)?;
-        self.text.push_str(element.as_str())
+        if self.is_whole {
+            self.is_whole = self.draft.meta(attributes).is_ok();
+        }
     }
 
     /// Puts a style sheet at the end, of which each `<` is left out.
-    ///
-    /// AllocError where memory for it is refused.
-    pub fn style(&mut self, sheet: &str) -> Result<(), AllocError>
-        ensures written { OnOk result (written self.new
-            ≡ written self.old ++ part_octets (Sheet (chars sheet.now))) }
-        ensures unchanged { OnErr result (written self.new ≡ written self.old) }
+    pub fn style(&mut self, sheet: &str)
+        ensures put { Puts self.old self.new (part_octets (Sheet (chars sheet.now))) }
     {
-        let element = style_element(self.alloc, sheet)?;
-        self.text.push_str(element.as_str())
+        if self.is_whole {
+            self.is_whole = self.draft.style(sheet).is_ok();
+        }
     }
 
     /// Puts words at the end: any text.
-    ///
-    /// AllocError where memory for it is refused.
-    pub fn words(&mut self, text: &str) -> Result<(), AllocError>
-        ensures written { OnOk result (written self.new
-            ≡ written self.old ++ part_octets (Words (chars text.now))) }
-        ensures unchanged { OnErr result (written self.new ≡ written self.old) }
+    pub fn words(&mut self, text: &str)
+        ensures put { Puts self.old self.new (part_octets (Words (chars text.now))) }
     {
-        let mut shown = String::new(self.alloc);
-        push_text(&mut shown, Form::Html, text)?;
-        self.text.push_str(shown.as_str())
+        if self.is_whole {
+            self.is_whole = self.draft.words(text).is_ok();
+        }
     }
 
     /// Puts an element with these words at the end.
-    ///
-    /// AllocError where memory for it is refused; its start tag may have been put by then.
-    pub fn element(
-        &mut self,
-        tag: Tag,
-        attributes: &[Attribute<'_>],
-        text: &str,
-    ) -> Result<(), AllocError> {
-        self.open(tag, attributes)?;
-        self.words(text)?;
-        self.close()
+    pub fn element(&mut self, tag: Tag, attributes: &[Attribute<'_>], text: &str) {
+        self.open(tag, attributes);
+        self.words(text);
+        self.close();
     }
 
     /// Puts octets at the end as words: U+FFFD stands for each sequence that isn't UTF-8.
-    ///
-    /// AllocError where memory for it is refused.
-    pub fn octets(&mut self, octets: &[u8]) -> Result<(), AllocError>
-        ensures written { OnOk result (written self.new
-            ≡ written self.old ++ part_octets (Words (chars (utf8_lossy octets.now)))) }
-        ensures unchanged { OnErr result (written self.new ≡ written self.old) }
+    pub fn octets(&mut self, octets: &[u8])
+        ensures put { Puts self.old self.new (part_octets (Words (chars (utf8_lossy octets.now)))) }
     {
-        let text = String::from_utf8_lossy(self.alloc, octets)?;
-        self.words(text.as_str())
+        if self.is_whole {
+            self.is_whole = self.draft.octets(octets).is_ok();
+        }
     }
 
     /// Puts a number at the end, in decimal digits.
-    ///
-    /// AllocError where memory for it is refused.
-    pub fn number(&mut self, n: u64) -> Result<(), AllocError>
-        ensures written { OnOk result (written self.new
-            ≡ written self.old ++ part_octets (Words (chars (decimal n)))) }
-        ensures unchanged { OnErr result (written self.new ≡ written self.old) }
+    pub fn number(&mut self, n: u64)
+        ensures put { Puts self.old self.new (part_octets (Words (chars (decimal n)))) }
     {
-        let digits = n.to_string(self.alloc)?;
-        self.words(digits.as_str())
+        if self.is_whole {
+            self.is_whole = self.draft.number(n).is_ok();
+        }
     }
 
     /// Ends the line.
-    ///
-    /// AllocError where memory for it is refused.
-    pub fn end_line(&mut self) -> Result<(), AllocError>
-        ensures written { OnOk result (written self.new ≡ written self.old ++ part_octets LineEnd) }
-        ensures unchanged { OnErr result (written self.new ≡ written self.old) }
+    pub fn end_line(&mut self)
+        ensures put { Puts self.old self.new (part_octets LineEnd) }
     {
-        self.text.push_str("\n")
+        if self.is_whole {
+            self.is_whole = self.draft.end_line().is_ok();
+        }
+    }
+
+    /// A text that was made to stand on the page. Where memory for it was refused it is empty, and the page has lost a part.
+    pub fn text(&mut self, made: Result<String, AllocError>) -> String
+        ensures made { IfOk made (λ text. string_bytes result ≡ string_bytes text) }
+        ensures kept { IfOk made (λ _. self.new ≡ self.old) }
+        ensures lost { IfErr made (λ _. IsLost self.new) }
+        ensures written { written self.new ≡ written self.old }
+    {
+        match made {
+            Ok(text) => text,
+            Err(AllocError) => {
+                self.is_whole = false;
+                String::new(self.alloc)
+            }
+        }
     }
 
     /// The whole page: each element that is still open is closed.
     ///
-    /// AllocError where memory for it is refused.
-    pub fn into_text(mut self) -> Result<String, AllocError>
-        ensures { IfOk result (λ text. ∥ IsPage (string_bytes text) ∥₁) }
+    /// AllocError where memory for it is refused, or was for a part of it.
+    pub fn into_text(self) -> Result<String, AllocError>
+        ensures page { IfOk result (λ text. ∥ IsPage (string_bytes text) ∥₁) }
+        ensures whole { IfOk result (λ _. IsWhole self) }
     {
-        while !self.opened.is_empty() {
-            self.close()?;
+        if !self.is_whole {
+            return Err(AllocError);
         }
-        let Page { text, .. } = self;
-        Ok(text)
+        self.draft.into_text()
     }
 }

@@ -5,110 +5,93 @@ use crate::rows::{MOST_ROWS, close_table, column, number_cell, open_rows, open_t
 use crate::turns::{Turn, pages_of};
 use html_page::{Attribute, AttributeName, Page, Tag, class, id};
 use status_scene::Scene;
-use std::alloc::{AllocError, Global};
+use std::alloc::Global;
 
 /// A part of a bar from the left.
-fn mark(
-    alloc: Global,
-    page: &mut Page,
-    kind: &str,
-    part: u64,
-    whole: u64,
-) -> Result<(), AllocError> {
-    let width = format!(in alloc; "width:{}%", Share { part, whole })?;
+fn mark(alloc: Global, page: &mut Page, kind: &str, part: u64, whole: u64) {
+    let width = page.text(format!(in alloc; "width:{}%", Share { part, whole }));
     let style = Attribute::new(AttributeName::Style, width.as_str());
-    page.element(Tag::Mark, &[class(kind), style], "")
+    page.element(Tag::Mark, &[class(kind), style], "");
 }
 
 /// What a job may still need, of what is free in its turn.
-fn bar(alloc: Global, page: &mut Page, turn: &Turn, pages: u64) -> Result<(), AllocError> {
+fn bar(alloc: Global, page: &mut Page, turn: &Turn, pages: u64) {
     let hidden = Attribute::new(AttributeName::AriaHidden, "true");
-    page.open(Tag::Cell, &[class("wide")])?;
-    page.open(Tag::Division, &[class("till"), hidden])?;
-    mark(alloc, page, "then", turn.free, pages)?;
-    mark(alloc, page, "need", turn.needs, pages)?;
-    page.close()?;
-    page.close()
+    page.open(Tag::Cell, &[class("wide")]);
+    page.open(Tag::Division, &[class("till"), hidden]);
+    mark(alloc, page, "then", turn.free, pages);
+    mark(alloc, page, "need", turn.needs, pages);
+    page.close();
+    page.close();
 }
 
 /// The row of a turn by its place, from 0.
-fn row(
-    alloc: Global,
-    page: &mut Page,
-    at: usize,
-    turn: &Turn,
-    pages: u64,
-) -> Result<(), AllocError> {
-    let job = format!(in alloc; "{}", turn.job)?;
-    page.open(Tag::Row, &[])?;
-    number_cell(alloc, page, (at as u64).saturating_add(1))?;
-    row_head(page, job.as_str())?;
-    number_cell(alloc, page, turn.holds.saturating_add(turn.needs))?;
-    number_cell(alloc, page, turn.holds)?;
-    number_cell(alloc, page, turn.needs)?;
-    number_cell(alloc, page, turn.free)?;
-    bar(alloc, page, turn, pages)?;
-    page.close()?;
-    page.end_line()
+fn row(alloc: Global, page: &mut Page, at: usize, turn: &Turn, pages: u64) {
+    let job = page.text(format!(in alloc; "{}", turn.job));
+    page.open(Tag::Row, &[]);
+    number_cell(alloc, page, (at as u64).saturating_add(1));
+    row_head(page, job.as_str());
+    number_cell(alloc, page, turn.holds.saturating_add(turn.needs));
+    number_cell(alloc, page, turn.holds);
+    number_cell(alloc, page, turn.needs);
+    number_cell(alloc, page, turn.free);
+    bar(alloc, page, turn, pages);
+    page.close();
+    page.end_line();
 }
 
 /// The heads of the table.
-fn heads(page: &mut Page) -> Result<(), AllocError> {
-    column(page, "n", "turn")?;
-    column(page, "n", "job")?;
-    column(page, "n", "claim")?;
-    column(page, "n", "holds")?;
-    column(page, "n", "may need")?;
-    column(page, "n", "free then")?;
-    column(page, "wide", "of the pool")
+fn heads(page: &mut Page) {
+    column(page, "n", "turn");
+    column(page, "n", "job");
+    column(page, "n", "claim");
+    column(page, "n", "holds");
+    column(page, "n", "may need");
+    column(page, "n", "free then");
+    column(page, "wide", "of the pool");
 }
 
 /// The turns.
-fn table(alloc: Global, page: &mut Page, turns: &[Turn], pages: u64) -> Result<(), AllocError> {
-    open_table(page, "turns", "the banker’s table")?;
-    heads(page)?;
-    open_rows(page)?;
+fn table(alloc: Global, page: &mut Page, turns: &[Turn], pages: u64) {
+    open_table(page, "turns", "the banker’s table");
+    heads(page);
+    open_rows(page);
     for (at, turn) in turns.iter().take(MOST_ROWS).enumerate() {
-        row(alloc, page, at, turn, pages)?;
+        row(alloc, page, at, turn, pages);
     }
-    close_table(alloc, page, turns.len(), "7")
+    close_table(alloc, page, turns.len(), "7");
 }
 
 /// What the table says.
-fn words(alloc: Global, page: &mut Page, scene: &Scene<'_>) -> Result<(), AllocError> {
+fn words(alloc: Global, page: &mut Page, scene: &Scene<'_>) {
     let free = Grouped(pages_of(scene.spool.claims.free()));
     let pages = Grouped(u64::from(scene.config.pages()));
-    let now = format!(in alloc; " Free now: {free} of {pages} pages.")?;
-    page.open(Tag::Paragraph, &[])?;
+    let now = page.text(format!(in alloc; " Free now: {free} of {pages} pages."));
+    page.open(Tag::Paragraph, &[]);
     page.words(
         "A page is lent only while such an order remains (Habermann, 1969): each job in its turn may still need no more than is free then, finishes, and gives back what it holds. Amber is what the job may still need, of the green that is free in its turn.",
-    )?;
-    page.words(now.as_str())?;
-    page.close()
+    );
+    page.words(now.as_str());
+    page.close();
 }
 
 /// The banker's table, folded away.
-pub(crate) fn banker(
-    alloc: Global,
-    page: &mut Page,
-    scene: &Scene<'_>,
-    turns: &[Turn],
-) -> Result<(), AllocError> {
-    page.open(Tag::Section, &[class("card"), id("banker")])?;
-    page.open(Tag::Details, &[])?;
-    page.open(Tag::Summary, &[])?;
-    page.words("The banker’s table ")?;
-    page.element(Tag::Small, &[], "in which order every job can finish")?;
-    page.close()?;
-    words(alloc, page, scene)?;
+pub(crate) fn banker(alloc: Global, page: &mut Page, scene: &Scene<'_>, turns: &[Turn]) {
+    page.open(Tag::Section, &[class("card"), id("banker")]);
+    page.open(Tag::Details, &[]);
+    page.open(Tag::Summary, &[]);
+    page.words("The banker’s table ");
+    page.element(Tag::Small, &[], "in which order every job can finish");
+    page.close();
+    words(alloc, page, scene);
     if scene.order.is_some() {
-        table(alloc, page, turns, u64::from(scene.config.pages()))?;
+        table(alloc, page, turns, u64::from(scene.config.pages()));
     } else {
         let alert = Attribute::new(AttributeName::Role, "alert");
         let text = "No order was found in which every job can finish: this must not be.";
-        page.element(Tag::Paragraph, &[class("chip bad"), alert], text)?;
+        page.element(Tag::Paragraph, &[class("chip bad"), alert], text);
     }
-    page.close()?;
-    page.close()?;
-    page.end_line()
+    page.close();
+    page.close();
+    page.end_line();
 }

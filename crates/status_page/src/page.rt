@@ -24,14 +24,14 @@ pub fn html(alloc: Global, scene: &Scene<'_>) -> Result<String, AllocError>
 {
     let turns = turns_of(alloc, scene)?;
     let mut page = Page::new(alloc)?;
-    begin(alloc, &mut page, scene)?;
-    tiles(alloc, &mut page, scene)?;
-    pool(alloc, &mut page, scene)?;
-    rates(alloc, &mut page, scene)?;
-    queues(alloc, &mut page, scene)?;
-    jobs(alloc, &mut page, scene, turns.as_slice())?;
-    sessions(alloc, &mut page, scene)?;
-    banker(alloc, &mut page, scene, turns.as_slice())?;
-    end(&mut page)?;
+    begin(alloc, &mut page, scene);
+    tiles(alloc, &mut page, scene);
+    pool(alloc, &mut page, scene);
+    rates(alloc, &mut page, scene);
+    queues(alloc, &mut page, scene);
+    jobs(alloc, &mut page, scene, turns.as_slice());
+    sessions(alloc, &mut page, scene);
+    banker(alloc, &mut page, scene, turns.as_slice());
+    end(&mut page);
     page.into_text()
 }

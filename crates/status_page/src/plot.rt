@@ -67,87 +67,80 @@ fn corners(alloc: Global, area: Area, hour: &[Look], total: u64) -> Result<Strin
 }
 
 /// Draws an area.
-fn draw(
-    alloc: Global,
-    page: &mut Page,
-    area: Area,
-    hour: &[Look],
-    total: u64,
-) -> Result<(), AllocError> {
-    let corners = corners(alloc, area, hour, total)?;
+fn draw(alloc: Global, page: &mut Page, area: Area, hour: &[Look], total: u64) {
+    let corners = page.text(corners(alloc, area, hour, total));
     let points = Attribute::new(AttributeName::Points, corners.as_str());
-    page.element(Tag::Polygon, &[class(area.kind()), points], "")
+    page.element(Tag::Polygon, &[class(area.kind()), points], "");
 }
 
 /// A line or more of a drawing.
-pub(crate) fn path(page: &mut Page, kind: &str, drawing: &str) -> Result<(), AllocError> {
+pub(crate) fn path(page: &mut Page, kind: &str, drawing: &str) {
     let drawing = Attribute::new(AttributeName::Drawing, drawing);
-    page.element(Tag::Path, &[class(kind), drawing], "")
+    page.element(Tag::Path, &[class(kind), drawing], "");
 }
 
-/// Opens a plot of this name, with words beside its axis from the top down, and opens its canvas.
-pub(crate) fn open_plot(page: &mut Page, name: &str, ticks: &[String]) -> Result<(), AllocError> {
+/// Opens a plot of this name, and its axis.
+pub(crate) fn open_plot(page: &mut Page, name: &str) {
     let hidden = Attribute::new(AttributeName::AriaHidden, "true");
-    page.element(Tag::Heading3, &[], name)?;
-    page.open(Tag::Division, &[class("plot")])?;
-    page.open(Tag::Division, &[class("ys"), hidden])?;
-    for tick in ticks {
-        page.element(Tag::Span, &[], tick.as_str())?;
-    }
-    page.close()?;
+    page.element(Tag::Heading3, &[], name);
+    page.open(Tag::Division, &[class("plot")]);
+    page.open(Tag::Division, &[class("ys"), hidden]);
+}
+
+/// Words beside the axis, below those that are there.
+pub(crate) fn tick(page: &mut Page, text: Result<String, AllocError>) {
+    let text = page.text(text);
+    page.element(Tag::Span, &[], text.as_str());
+}
+
+/// Closes the axis, and opens the canvas of a plot of this name.
+pub(crate) fn open_canvas(page: &mut Page, name: &str) {
+    page.close();
     let attributes = [
         Attribute::new(AttributeName::ViewBox, "0 0 3600 1000"),
         Attribute::new(AttributeName::PreserveAspectRatio, "none"),
         Attribute::new(AttributeName::Role, "img"),
         Attribute::new(AttributeName::AriaLabel, name),
     ];
-    page.open(Tag::Svg, &attributes)
+    page.open(Tag::Svg, &attributes);
 }
 
 /// Closes the canvas and the plot, with its axes.
-pub(crate) fn close_plot(page: &mut Page) -> Result<(), AllocError> {
+pub(crate) fn close_plot(page: &mut Page) {
     let hidden = Attribute::new(AttributeName::AriaHidden, "true");
     path(
         page,
         "grid",
         "M0 250H3600M0 500H3600M0 750H3600M900 0V1000M1800 0V1000M2700 0V1000",
-    )?;
-    path(page, "axis", "M0 0V1000H3600")?;
-    page.close()?;
-    page.open(Tag::Division, &[class("xs"), hidden])?;
-    page.element(Tag::Span, &[], "−60 min")?;
-    page.element(Tag::Span, &[], "−45")?;
-    page.element(Tag::Span, &[], "−30")?;
-    page.element(Tag::Span, &[], "−15")?;
-    page.element(Tag::Span, &[], "now")?;
-    page.close()?;
-    page.close()
+    );
+    path(page, "axis", "M0 0V1000H3600");
+    page.close();
+    page.open(Tag::Division, &[class("xs"), hidden]);
+    page.element(Tag::Span, &[], "−60 min");
+    page.element(Tag::Span, &[], "−45");
+    page.element(Tag::Span, &[], "−30");
+    page.element(Tag::Span, &[], "−15");
+    page.element(Tag::Span, &[], "now");
+    page.close();
+    page.close();
 }
 
-/// The words beside an axis that goes up to this number.
-fn ticks(alloc: Global, greatest: u64) -> Result<Vec<String>, AllocError> {
-    let mut ticks = Vec::new(alloc);
-    for quarter in 0..5u64 {
-        let n = (4 - quarter).saturating_mul(greatest) / 4;
-        ticks.push(format!(in alloc; "{}", Grouped(n))?)?;
-    }
-    Ok(ticks)
-}
+/// The name of the plot.
+const NAME: &str = "Pages in use, the last hour";
 
 /// Where the pages were over the last hour, once there are two looks.
-pub(crate) fn plot(
-    alloc: Global,
-    page: &mut Page,
-    hour: &[Look],
-    total: u64,
-) -> Result<(), AllocError> {
+pub(crate) fn plot(alloc: Global, page: &mut Page, hour: &[Look], total: u64) {
     if hour.len() < 2 {
-        return Ok(());
+        return;
     }
-    let ticks = ticks(alloc, total)?;
-    open_plot(page, "Pages in use, the last hour", ticks.as_slice())?;
-    draw(alloc, page, Area::Chained, hour, total)?;
-    draw(alloc, page, Area::Lent, hour, total)?;
-    draw(alloc, page, Area::Out, hour, total)?;
-    close_plot(page)
+    open_plot(page, NAME);
+    for quarter in 0..5u64 {
+        let n = (4 - quarter).saturating_mul(total) / 4;
+        tick(page, format!(in alloc; "{}", Grouped(n)));
+    }
+    open_canvas(page, NAME);
+    draw(alloc, page, Area::Chained, hour, total);
+    draw(alloc, page, Area::Lent, hour, total);
+    draw(alloc, page, Area::Out, hour, total);
+    close_plot(page);
 }

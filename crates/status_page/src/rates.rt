@@ -1,7 +1,7 @@
 //! Jobs and octets a minute over the last hour, as bars.
 
 use crate::figures::{Grouped, Size};
-use crate::plot::{HEIGHT, across, close_plot, down, open_plot, path};
+use crate::plot::{HEIGHT, across, close_plot, down, open_canvas, open_plot, path, tick};
 use html_page::{Attribute, AttributeName, Page, Tag, class, id};
 use server_counts::Look;
 use status_scene::Scene;
@@ -72,34 +72,34 @@ fn bars(alloc: Global, rate: Rate, hour: &[Look], greatest: u64) -> Result<Strin
 }
 
 /// One plot.
-fn draw(alloc: Global, page: &mut Page, rate: Rate, hour: &[Look]) -> Result<(), AllocError> {
+fn draw(alloc: Global, page: &mut Page, rate: Rate, hour: &[Look]) {
     let greatest = rate.greatest(hour);
-    let mut ticks = Vec::new(alloc);
-    ticks.push(rate.words(alloc, greatest)?)?;
-    ticks.push(rate.words(alloc, greatest / 2)?)?;
-    ticks.push(rate.words(alloc, 0)?)?;
-    let lines = bars(alloc, rate, hour, greatest)?;
-    open_plot(page, rate.title(), ticks.as_slice())?;
-    path(page, "rate", lines.as_str())?;
-    close_plot(page)
+    open_plot(page, rate.title());
+    tick(page, rate.words(alloc, greatest));
+    tick(page, rate.words(alloc, greatest / 2));
+    tick(page, rate.words(alloc, 0));
+    open_canvas(page, rate.title());
+    let lines = page.text(bars(alloc, rate, hour, greatest));
+    path(page, "rate", lines.as_str());
+    close_plot(page);
 }
 
 /// Jobs and octets a minute over the last hour, once there are two looks.
-pub(crate) fn rates(alloc: Global, page: &mut Page, scene: &Scene<'_>) -> Result<(), AllocError> {
+pub(crate) fn rates(alloc: Global, page: &mut Page, scene: &Scene<'_>) {
     if scene.hour.len() < 2 {
-        return Ok(());
+        return;
     }
     let label = Attribute::new(AttributeName::AriaLabelledBy, "rates");
-    page.open(Tag::Section, &[class("card"), label])?;
-    page.element(Tag::Heading2, &[id("rates")], "Printed")?;
-    page.open(Tag::Division, &[class("pair")])?;
-    page.open(Tag::Division, &[])?;
-    draw(alloc, page, Rate::Jobs, scene.hour)?;
-    page.close()?;
-    page.open(Tag::Division, &[])?;
-    draw(alloc, page, Rate::Octets, scene.hour)?;
-    page.close()?;
-    page.close()?;
-    page.close()?;
-    page.end_line()
+    page.open(Tag::Section, &[class("card"), label]);
+    page.element(Tag::Heading2, &[id("rates")], "Printed");
+    page.open(Tag::Division, &[class("pair")]);
+    page.open(Tag::Division, &[]);
+    draw(alloc, page, Rate::Jobs, scene.hour);
+    page.close();
+    page.open(Tag::Division, &[]);
+    draw(alloc, page, Rate::Octets, scene.hour);
+    page.close();
+    page.close();
+    page.close();
+    page.end_line();
 }

@@ -12,84 +12,80 @@ use std::alloc::{AllocError, Global};
 pub(crate) const MOST_ROWS: usize = 200;
 
 /// The head of a column.
-pub(crate) fn column(page: &mut Page, kind: &str, text: &str) -> Result<(), AllocError> {
+pub(crate) fn column(page: &mut Page, kind: &str, text: &str) {
     let scope = Attribute::new(AttributeName::Scope, "col");
-    page.element(Tag::HeaderCell, &[scope, class(kind)], text)
+    page.element(Tag::HeaderCell, &[scope, class(kind)], text);
 }
 
 /// The head of a row.
-pub(crate) fn row_head(page: &mut Page, text: &str) -> Result<(), AllocError> {
+pub(crate) fn row_head(page: &mut Page, text: &str) {
     let scope = Attribute::new(AttributeName::Scope, "row");
-    page.element(Tag::HeaderCell, &[scope, class("n")], text)
+    page.element(Tag::HeaderCell, &[scope, class("n")], text);
 }
 
 /// A cell with these words.
-pub(crate) fn cell(page: &mut Page, kind: &str, text: &str) -> Result<(), AllocError> {
-    page.element(Tag::Cell, &[class(kind)], text)
+pub(crate) fn cell(page: &mut Page, kind: &str, text: &str) {
+    page.element(Tag::Cell, &[class(kind)], text);
 }
 
 /// A cell with a number.
-pub(crate) fn number_cell(alloc: Global, page: &mut Page, n: u64) -> Result<(), AllocError> {
-    let text = format!(in alloc; "{}", Grouped(n))?;
-    cell(page, "n", text.as_str())
+pub(crate) fn number_cell(alloc: Global, page: &mut Page, n: u64) {
+    let text = page.text(format!(in alloc; "{}", Grouped(n)));
+    cell(page, "n", text.as_str());
 }
 
 /// Opens a table that can be scrolled, of this name, with the row of its heads.
-pub(crate) fn open_table(page: &mut Page, kind: &str, name: &str) -> Result<(), AllocError> {
+pub(crate) fn open_table(page: &mut Page, kind: &str, name: &str) {
     let attributes = [
         class("scroll"),
         Attribute::new(AttributeName::TabIndex, "0"),
         Attribute::new(AttributeName::Role, "region"),
         Attribute::new(AttributeName::AriaLabel, name),
     ];
-    page.open(Tag::Division, &attributes)?;
-    page.open(Tag::Table, &[class(kind)])?;
-    page.open(Tag::TableHead, &[])?;
-    page.open(Tag::Row, &[])
+    page.open(Tag::Division, &attributes);
+    page.open(Tag::Table, &[class(kind)]);
+    page.open(Tag::TableHead, &[]);
+    page.open(Tag::Row, &[]);
 }
 
 /// Closes the row of a table's heads, and opens its rows.
-pub(crate) fn open_rows(page: &mut Page) -> Result<(), AllocError> {
-    page.close()?;
-    page.close()?;
-    page.end_line()?;
-    page.open(Tag::TableBody, &[])
+pub(crate) fn open_rows(page: &mut Page) {
+    page.close();
+    page.close();
+    page.end_line();
+    page.open(Tag::TableBody, &[]);
 }
 
 /// Closes a table, with a row that tells how many more there are than are listed, of this many columns.
-pub(crate) fn close_table(
-    alloc: Global,
-    page: &mut Page,
-    rows: usize,
-    columns: &str,
-) -> Result<(), AllocError> {
+pub(crate) fn close_table(alloc: Global, page: &mut Page, rows: usize, columns: &str) {
     if rows > MOST_ROWS {
-        let text = format!(in alloc; "and {} more", Grouped((rows - MOST_ROWS) as u64))?;
+        let text = page.text(format!(in alloc; "and {} more", Grouped((rows - MOST_ROWS) as u64)));
         let span = Attribute::new(AttributeName::ColSpan, columns);
-        page.open(Tag::Row, &[])?;
-        page.element(Tag::Cell, &[class("more"), span], text.as_str())?;
-        page.close()?;
+        page.open(Tag::Row, &[]);
+        page.element(Tag::Cell, &[class("more"), span], text.as_str());
+        page.close();
     }
-    page.close()?;
-    page.close()?;
-    page.close()
+    page.close();
+    page.close();
+    page.close();
 }
 
 /// Who sent a job, as its control file says it.
-fn sender(page: &mut Page, job: &SeenJob) -> Result<(), AllocError> {
+fn sender(page: &mut Page, job: &SeenJob) {
     if job.user.as_slice().is_empty() {
-        return cell(page, "who soft", "not told yet");
+        cell(page, "who soft", "not told yet");
+        return;
     }
-    page.open(Tag::Cell, &[class("who")])?;
-    page.open(Tag::Bdi, &[])?;
-    page.octets(job.user.as_slice())?;
-    page.close()?;
-    page.open(Tag::Small, &[])?;
-    page.open(Tag::Bdi, &[])?;
-    page.octets(job.host.as_slice())?;
-    page.close()?;
-    page.close()?;
-    page.close()
+    page.open(Tag::Cell, &[class("who")]);
+    page.open(Tag::Bdi, &[]);
+    page.octets(job.user.as_slice());
+    page.close();
+    page.open(Tag::Small, &[]);
+    page.open(Tag::Bdi, &[]);
+    page.octets(job.host.as_slice());
+    page.close();
+    page.close();
+    page.close();
 }
 
 /// The class of a job that stands so, and the word for it.
@@ -130,21 +126,21 @@ fn remark_of(alloc: Global, standing: Standing) -> Result<String, AllocError> {
 }
 
 /// What a job does or waits for.
-fn state(alloc: Global, page: &mut Page, standing: Standing) -> Result<(), AllocError> {
+fn state(alloc: Global, page: &mut Page, standing: Standing) {
     let (kind, word) = state_of(standing);
-    let remark = remark_of(alloc, standing)?;
-    page.open(Tag::Cell, &[class(kind)])?;
-    page.element(Tag::B, &[], word)?;
-    page.element(Tag::Small, &[], remark.as_str())?;
-    page.close()
+    let remark = page.text(remark_of(alloc, standing));
+    page.open(Tag::Cell, &[class(kind)]);
+    page.element(Tag::B, &[], word);
+    page.element(Tag::Small, &[], remark.as_str());
+    page.close();
 }
 
 /// For how long a job is held, where that is known.
-fn age(alloc: Global, page: &mut Page, age: Option<u64>) -> Result<(), AllocError> {
+fn age(alloc: Global, page: &mut Page, age: Option<u64>) {
     match age {
         Some(seconds) => {
-            let text = format!(in alloc; "{}", Span(seconds))?;
-            cell(page, "n", text.as_str())
+            let text = page.text(format!(in alloc; "{}", Span(seconds)));
+            cell(page, "n", text.as_str());
         }
         None => cell(page, "n", ""),
     }
@@ -158,62 +154,58 @@ fn row(
     turns: &[Turn],
     at: usize,
     job: &SeenJob,
-) -> Result<(), AllocError> {
-    let number = format!(in alloc; "{}", job.number)?;
-    let size = format!(in alloc; "{}", Size(job.octets))?;
-    page.open(Tag::Row, &[])?;
-    row_head(page, number.as_str())?;
-    sender(page, job)?;
-    page.open(Tag::Cell, &[class("q")])?;
-    page.open(Tag::Bdi, &[])?;
-    page.octets(scene.config.name_of(job.queue))?;
-    page.close()?;
-    page.close()?;
-    let pages = format!(in alloc; "{}", Grouped(u64::from(job.granted)))?;
-    cell(page, "n wide", pages.as_str())?;
-    cell(page, "n wide", size.as_str())?;
-    age(alloc, page, scene.ages.get(at).copied().unwrap_or(None))?;
-    state(alloc, page, standing_of(scene, turns, job))?;
-    page.close()?;
-    page.end_line()
+) {
+    let number = page.text(format!(in alloc; "{}", job.number));
+    let size = page.text(format!(in alloc; "{}", Size(job.octets)));
+    page.open(Tag::Row, &[]);
+    row_head(page, number.as_str());
+    sender(page, job);
+    page.open(Tag::Cell, &[class("q")]);
+    page.open(Tag::Bdi, &[]);
+    page.octets(scene.config.name_of(job.queue));
+    page.close();
+    page.close();
+    let pages = page.text(format!(in alloc; "{}", Grouped(u64::from(job.granted))));
+    cell(page, "n wide", pages.as_str());
+    cell(page, "n wide", size.as_str());
+    age(alloc, page, scene.ages.get(at).copied().unwrap_or(None));
+    state(alloc, page, standing_of(scene, turns, job));
+    page.close();
+    page.end_line();
 }
 
 /// The heads of the table.
-fn heads(page: &mut Page) -> Result<(), AllocError> {
-    column(page, "n", "job")?;
-    column(page, "", "from")?;
-    column(page, "", "queue")?;
-    column(page, "n wide", "pages")?;
-    column(page, "n wide", "size")?;
-    column(page, "n", "held for")?;
-    column(page, "", "state")
+fn heads(page: &mut Page) {
+    column(page, "n", "job");
+    column(page, "", "from");
+    column(page, "", "queue");
+    column(page, "n wide", "pages");
+    column(page, "n wide", "size");
+    column(page, "n", "held for");
+    column(page, "", "state");
 }
 
 /// The held jobs, in order of acceptance.
-pub(crate) fn jobs(
-    alloc: Global,
-    page: &mut Page,
-    scene: &Scene<'_>,
-    turns: &[Turn],
-) -> Result<(), AllocError> {
+pub(crate) fn jobs(alloc: Global, page: &mut Page, scene: &Scene<'_>, turns: &[Turn]) {
     let held = scene.spool.jobs.as_slice();
     let label = Attribute::new(AttributeName::AriaLabelledBy, "jobs");
-    page.open(Tag::Section, &[class("card"), label])?;
-    page.open(Tag::Heading2, &[id("jobs")])?;
-    page.words("Jobs ")?;
-    page.element(Tag::Small, &[], "in order of acceptance")?;
-    page.close()?;
+    page.open(Tag::Section, &[class("card"), label]);
+    page.open(Tag::Heading2, &[id("jobs")]);
+    page.words("Jobs ");
+    page.element(Tag::Small, &[], "in order of acceptance");
+    page.close();
     if held.is_empty() {
-        page.element(Tag::Paragraph, &[class("none")], "No job is held.")?;
-        return page.close();
+        page.element(Tag::Paragraph, &[class("none")], "No job is held.");
+        page.close();
+        return;
     }
-    open_table(page, "jobs", "jobs")?;
-    heads(page)?;
-    open_rows(page)?;
+    open_table(page, "jobs", "jobs");
+    heads(page);
+    open_rows(page);
     for (at, job) in held.iter().take(MOST_ROWS).enumerate() {
-        row(alloc, page, scene, turns, at, job)?;
+        row(alloc, page, scene, turns, at, job);
     }
-    close_table(alloc, page, held.len(), "7")?;
-    page.close()?;
-    page.end_line()
+    close_table(alloc, page, held.len(), "7");
+    page.close();
+    page.end_line();
 }

@@ -5,54 +5,51 @@ use crate::rows::{MOST_ROWS, cell, close_table, column, open_rows, open_table};
 use html_page::{Attribute, AttributeName, Page, Tag, class, id};
 use status_lines::SeenSession;
 use status_scene::Scene;
-use std::alloc::{AllocError, Global};
+use std::alloc::Global;
 
 /// From how many seconds on a peer is called silent.
 const SILENT: u64 = 60;
 
 /// The row of a session.
-fn row(alloc: Global, page: &mut Page, session: &SeenSession) -> Result<(), AllocError> {
-    let peer = format!(in alloc; "{}", session.peer)?;
-    let silent = format!(in alloc; "{}", Span(session.silent))?;
+fn row(alloc: Global, page: &mut Page, session: &SeenSession) {
+    let peer = page.text(format!(in alloc; "{}", session.peer));
+    let silent = page.text(format!(in alloc; "{}", Span(session.silent)));
     let kind = if session.silent < SILENT {
         "st"
     } else {
         "st stay"
     };
-    page.open(Tag::Row, &[])?;
-    cell(page, "", peer.as_str())?;
-    page.open(Tag::Cell, &[class(kind)])?;
+    page.open(Tag::Row, &[]);
+    cell(page, "", peer.as_str());
+    page.open(Tag::Cell, &[class(kind)]);
     if session.silent >= SILENT {
-        page.element(Tag::B, &[], "silent ")?;
+        page.element(Tag::B, &[], "silent ");
     }
-    page.words(silent.as_str())?;
-    page.close()?;
-    page.close()?;
-    page.end_line()
+    page.words(silent.as_str());
+    page.close();
+    page.close();
+    page.end_line();
 }
 
 /// The sessions that serve a connection.
-pub(crate) fn sessions(
-    alloc: Global,
-    page: &mut Page,
-    scene: &Scene<'_>,
-) -> Result<(), AllocError> {
+pub(crate) fn sessions(alloc: Global, page: &mut Page, scene: &Scene<'_>) {
     let sessions = scene.outside.sessions;
     let label = Attribute::new(AttributeName::AriaLabelledBy, "sessions");
-    page.open(Tag::Section, &[class("card"), label])?;
-    page.element(Tag::Heading2, &[id("sessions")], "Sessions")?;
+    page.open(Tag::Section, &[class("card"), label]);
+    page.element(Tag::Heading2, &[id("sessions")], "Sessions");
     if sessions.is_empty() {
-        page.element(Tag::Paragraph, &[class("none")], "No session is open.")?;
-        return page.close();
+        page.element(Tag::Paragraph, &[class("none")], "No session is open.");
+        page.close();
+        return;
     }
-    open_table(page, "peers", "sessions")?;
-    column(page, "", "peer")?;
-    column(page, "", "nothing came for")?;
-    open_rows(page)?;
+    open_table(page, "peers", "sessions");
+    column(page, "", "peer");
+    column(page, "", "nothing came for");
+    open_rows(page);
     for session in sessions.iter().take(MOST_ROWS) {
-        row(alloc, page, session)?;
+        row(alloc, page, session);
     }
-    close_table(alloc, page, sessions.len(), "2")?;
-    page.close()?;
-    page.end_line()
+    close_table(alloc, page, sessions.len(), "2");
+    page.close();
+    page.end_line();
 }

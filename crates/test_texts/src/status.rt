@@ -52,10 +52,10 @@ pub fn marked(told: &mut String, alloc: Global, asked: &str) -> Result<(), Alloc
     let shown = octets(alloc, asked)?;
     let text = String::from_utf8_lossy(alloc, shown.as_slice())?;
     let mut page = Page::new(alloc)?;
-    page.open(Tag::Paragraph, &[class(text.as_str())])?;
-    page.octets(shown.as_slice())?;
-    page.open(Tag::B, &[])?;
-    page.number(shown.len() as u64)?;
+    page.open(Tag::Paragraph, &[class(text.as_str())]);
+    page.octets(shown.as_slice());
+    page.open(Tag::B, &[]);
+    page.number(shown.len() as u64);
     told.push_str(page.into_text()?.as_str())?;
     let mut label = String::new(alloc);
     push_octets(alloc, &mut label, Form::Label, shown.as_slice())?;

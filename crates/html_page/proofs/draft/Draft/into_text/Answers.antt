@@ -1,7 +1,7 @@
 use Rattle.std.proofs.Common.{◌≡◌, length, rules, string_bytes}
 use Rattle.std.proofs.lemmas.List.{nil_from_length}
 use Rattle.html_page.proofs.PageLemmas.{all_closed}
-use Rattle.html_page.proofs.page.Page.into_text.Goals as goal
+use Rattle.html_page.proofs.draft.Draft.into_text.Goals as goal
 
 pub returns : goal.returns
 returns c =

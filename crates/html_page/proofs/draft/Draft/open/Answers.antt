@@ -1,7 +1,7 @@
 use Rattle.std.proofs.Common.{◌∙◌, map, refl, rules, string_bytes, sym, vec_len}
 use Rattle.html_page.specs.Parts.{Start, told}
 use Rattle.html_page.proofs.PageLemmas.{popped, put, stays}
-use Rattle.html_page.proofs.page.Page.open.Goals as goal
+use Rattle.html_page.proofs.draft.Draft.open.Goals as goal
 
 pub invariant_of-self : goal.invariant_of-self
 invariant_of-self c =

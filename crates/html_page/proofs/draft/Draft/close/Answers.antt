@@ -1,7 +1,7 @@
 use Rattle.std.proofs.Common.{◌∙◌, refl, string_bytes, sym, vec_len}
 use Rattle.html_page.specs.Parts.{End}
 use Rattle.html_page.proofs.PageLemmas.{closes, put, stays}
-use Rattle.html_page.proofs.page.Page.close.Goals as goal
+use Rattle.html_page.proofs.draft.Draft.close.Goals as goal
 
 pub invariant_of-self : goal.invariant_of-self
 invariant_of-self c =

@@ -2,7 +2,7 @@ use Rattle.std.proofs.Common.{List, ℕ, ◌++◌, ap, ◌∙◌, is_ok, refl, s
 use Rattle.std.specs.Str.{chars}
 use Rattle.html_page.specs.Parts.{Words, part_octets}
 use Rattle.html_page.proofs.PageLemmas.{put_or_not}
-use Rattle.html_page.proofs.page.Page.words.Goals as goal
+use Rattle.html_page.proofs.draft.Draft.words.Goals as goal
 
 pub invariant_of-self : goal.invariant_of-self
 invariant_of-self c =

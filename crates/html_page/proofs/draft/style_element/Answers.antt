@@ -2,7 +2,7 @@ use Rattle.std.proofs.Common.{List, ℕ, ◌++◌, codes, ap, ◌∙◌, string_
 use Rattle.std.specs.Str.{chars}
 use Rattle.html_page.specs.Parts.{plain_chars}
 use Rattle.html_page.proofs.NameLemmas.{sheet_put}
-use Rattle.html_page.proofs.page.style_element.Goals as goal
+use Rattle.html_page.proofs.draft.style_element.Goals as goal
 
 pub returns : goal.returns
 returns c =

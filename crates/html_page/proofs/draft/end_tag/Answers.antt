@@ -1,6 +1,6 @@
 use Rattle.std.proofs.Common.{List, ℕ, ◌++◌, codes, ap, ◌∙◌, string_bytes}
 use Rattle.html_page.proofs.NameLemmas.{end_put}
-use Rattle.html_page.proofs.page.end_tag.Goals as goal
+use Rattle.html_page.proofs.draft.end_tag.Goals as goal
 
 pub returns : goal.returns
 returns c =

@@ -1,7 +1,7 @@
 use Rattle.std.proofs.Common.{◌∙◌, is_ok, map, refl, string_bytes}
 use Rattle.html_page.specs.Parts.{Meta, told}
 use Rattle.html_page.proofs.PageLemmas.{put_or_not}
-use Rattle.html_page.proofs.page.Page.meta.Goals as goal
+use Rattle.html_page.proofs.draft.Draft.meta.Goals as goal
 
 pub invariant_of-self : goal.invariant_of-self
 invariant_of-self c =

@@ -1,7 +1,7 @@
 use Rattle.std.proofs.Common.{is_ok, refl, string_bytes}
 use Rattle.html_page.specs.Parts.{LineEnd}
 use Rattle.html_page.proofs.PageLemmas.{line_octets, put_or_not}
-use Rattle.html_page.proofs.page.Page.end_line.Goals as goal
+use Rattle.html_page.proofs.draft.Draft.end_line.Goals as goal
 
 pub invariant_of-self : goal.invariant_of-self
 invariant_of-self c =

@@ -2,7 +2,7 @@ use Rattle.std.proofs.Common.{◌∙◌, is_ok, refl, string_bytes}
 use Rattle.std.specs.Str.{chars}
 use Rattle.html_page.specs.Parts.{Sheet}
 use Rattle.html_page.proofs.PageLemmas.{put_or_not}
-use Rattle.html_page.proofs.page.Page.style.Goals as goal
+use Rattle.html_page.proofs.draft.Draft.style.Goals as goal
 
 pub invariant_of-self : goal.invariant_of-self
 invariant_of-self c =

@@ -2,7 +2,7 @@ use Rattle.std.proofs.Common.{List, ℕ, ◌++◌, codes, ap, ◌∙◌, string_
 use Rattle.std.specs.List.{flat_map}
 use Rattle.html_page.specs.Parts.{told_octets}
 use Rattle.html_page.proofs.NameLemmas.{meta_put}
-use Rattle.html_page.proofs.page.meta_tag.Goals as goal
+use Rattle.html_page.proofs.draft.meta_tag.Goals as goal
 
 pub returns : goal.returns
 returns c =
