@@ -50,6 +50,9 @@ def part_of(process):
             return crate, "edits"
         return crate, "tests" if "--test" in words else "proof"
     text = " ".join(words)
+    if not text.strip():
+        # (one that ends has no command line any more, and is what it was)
+        return None
     named = re.search(r"/rt-run-\d+-[^/ ]*/bin/(\w+?)(_tests)?(?= |$)", text) or re.search(r"/crates/(\w+)/", text + f" {folder}/")
     if named:
         return named[1], "runs"
