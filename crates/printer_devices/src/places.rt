@@ -1,5 +1,9 @@
 //! What printers print to, as it is found at a server's start.
 
+ghost use Rattle.std.specs.Prelude.{◌≡◌, ◌==◌, option_map};
+ghost use Rattle.std.specs.List.{find};
+ghost use Rattle.program_edge.specs.declared.places.PrinterPlace.{PrinterPlace};
+
 use crate::faults::PlaceFault;
 use crate::outlet::Outlet;
 use log::{Log, warn};
@@ -73,10 +77,15 @@ fn open_at<R: Files<File = File> + Log>(
 }
 
 /// What settings say that a printer prints to, if they say it.
-pub fn place_of<'a>(settings: &Settings<'a>, printer: u32) -> Option<Place<'a>> {
-    let named = settings.printers.iter();
-    let found = named.copied().find(|named| named.printer == printer)?;
-    Some(found.place)
+pub fn place_of<'a>(settings: &Settings<'a>, printer: u32) -> Option<Place<'a>>
+    ensures { result ≡ option_map (λ (said : PrinterPlace). said.place)
+        (find (λ (said : PrinterPlace). said.printer == printer) settings.now.printers.items) }
+{
+    let said = settings
+        .printers
+        .iter()
+        .find(|said| said.printer == printer)?;
+    Some(said.place)
 }
 
 /// Opens what N printers print to: what the settings say of each, or else the file `printer-K` in their directory, at its end.

@@ -27,7 +27,10 @@ pub struct Doorway {
 impl Doorway {
     /// The doorway for addresses of these networks. Each connection of a network in `proxied` begins with a proxy's header, which
     /// says whose it is.
-    pub fn new(alloc: Global, allowed: Vec<Network>, proxied: Vec<Network>) -> Doorway {
+    pub fn new(alloc: Global, allowed: Vec<Network>, proxied: Vec<Network>) -> Doorway
+        ensures allowed { result.allowed ≡ allowed }
+        ensures proxied { result.proxied ≡ proxied }
+    {
         Doorway {
             allowed,
             proxied,
