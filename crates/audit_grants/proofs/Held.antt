@@ -17,7 +17,7 @@ use Rattle.history_reader.specs.Seen.{job_seen, state_seen}
 use Rattle.claims.specs.Safety.{IsSafe}
 use Rattle.spool_history.specs.Claimed.{IsTableOf}
 use Rattle.spool_history.specs.Now.{IsSafeNow}
-use Rattle.spool_moves.proofs.Claimed.{table_safe, safe_table}
+use Rattle.step_lemmas.proofs.HeldJobs.Claimed.{table_safe, safe_table}
 use Rattle.spool_laws.proofs.Adding.{length_up_to}
 use Rattle.audit_grants.specs.Lent.{lent, lent_row, HasRow, IsTableFor}
 use Rattle.audit_grants.proofs.OneQueue.{kind_of, set_kind}

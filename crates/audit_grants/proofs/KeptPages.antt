@@ -14,7 +14,7 @@ use Rattle.lpd_values.specs.Kept.{is_among}
 use Rattle.spool_history.specs.Acts.{File, Page, numbered, pages_named, all_pages, is_same_page, pages_among}
 use Rattle.spool_laws.proofs.Known.{Has, clash, or_true, test}
 use Rattle.spool_laws.proofs.Copies.{named_there}
-use Rattle.spool_moves.proofs.EachPage.{among_last, how_many_either, how_many_same}
+use Rattle.step_lemmas.proofs.HeldJobs.EachPage.{among_last, how_many_either, how_many_same}
 
 -- the places of these names
 abbrev pub placed : {C : Type 0} → List (List ℕ) → List (File C) → List (Page C)

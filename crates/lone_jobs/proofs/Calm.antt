@@ -16,7 +16,7 @@ use Rattle.spool_laws.proofs.Facts.{facts, is_out}
 use Rattle.spool_laws.proofs.Known.{Has, has_contained, clash, known, test}
 use Rattle.spool_laws.proofs.Moves.{moved}
 use Rattle.spool_laws.proofs.Turns.{given}
-use Rattle.spool_moves.proofs.Moving.{jobs_left}
+use Rattle.step_lemmas.proofs.HeldJobs.Moving.{jobs_left}
 use Rattle.spool_calls.specs.Looks.Detail.{Octets}
 use Rattle.spool_requests.specs.Shows.{with_event}
 use Rattle.spool_history.specs.Refusals.{HasEntries}

@@ -2,7 +2,7 @@
 use Rattle.std.proofs.Common.{◌≡◌, ◌⊎◌, ℕ, suc, ◌+◌, ◌-◌, ◌*◌, ◌<◌, ◌≤◌, min, refl, sym, ap, ◌∙◌, inl, inr, arith}
 use Rattle.std.proofs.Math.Nat.{div-mul-le_self}
 use Rattle.spool_history.specs.Legal.{pages_for}
-use Rattle.spool_moves.proofs.Files.{none_left_is_all, all_is_none_left}
+use Rattle.step_lemmas.proofs.HeldJobs.Files.{none_left_is_all, all_is_none_left}
 
 pub no_pages : (z : ℕ) → 1 ≤ z → pages_for z 0 ≡ 0
 no_pages z one = sym (none_left_is_all z 0 0 one (omega arith) (omega arith))

@@ -18,7 +18,7 @@ use Rattle.lpr_client.specs.Parts.{AreCounted}
 use Rattle.lpr_client.proofs.JobReading.{IsSendable, sendable}
 use Rattle.lpr_client.proofs.LineLemmas.{receive_line, control_line}
 use Rattle.spool_history.specs.Legal.{pages_for}
-use Rattle.spool_moves.proofs.Files.{all_is_none_left}
+use Rattle.step_lemmas.proofs.HeldJobs.Files.{all_is_none_left}
 use Rattle.config_values.specs.Config.{queue_named}
 use Rattle.spool_trace.specs.Trace.{Trace}
 use Rattle.lone_jobs.specs.Lone.{Sent, HasRoomFor, HaveOwnNames, file_names, pages_of_files}

@@ -10,7 +10,7 @@ use Rattle.spool_history.specs.Events.{Event}
 use Rattle.spool_calls.specs.declared.printer.Printer.{Printer}
 use Rattle.spool_calls.specs.Looks.{Detail, What}
 use Rattle.spool_calls.specs.Kept.{Kept, Leaves}
-use Rattle.core_steps.proofs.Handing.{Waits, hands_first, held}
+use Rattle.step_lemmas.proofs.Cores.Handing.{Waits, hands_first, held}
 use Rattle.spool_core.specs.Due.{HasTurn, IsTurn}
 use Rattle.spool_core.specs.Printers.{BeginsNext}
 

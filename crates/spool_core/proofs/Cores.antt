@@ -14,8 +14,8 @@ use Rattle.spool_calls.specs.Kept.{Kept, Leaves}
 use Rattle.spool_calls.specs.Calls.{IsRight}
 use Rattle.spool_core.specs.declared.core_state.Core.TheInside.{Inside}
 use Rattle.spool_core.specs.Inside.{core_view, IsCore}
-use Rattle.core_steps.proofs.Leaving.{Found}
-use Rattle.core_steps.proofs.Printers.{printer_there}
+use Rattle.step_lemmas.proofs.Cores.Leaving.{Found}
+use Rattle.step_lemmas.proofs.Cores.Printers.{printer_there}
 
 -- an answer of a core that stays as it is
 pub stays : (k now : Kept) (P : Kept → (d : Detail) → Base → List (Event (What d)) → Type 0) → k ≡ now → IsRight k (P k) → IsRight now (P now)

@@ -13,9 +13,9 @@ use Rattle.spool_calls.specs.declared.printer.Printer.{Printer}
 use Rattle.spool_calls.specs.declared.handed.HandedPage.{HandedPage}
 use Rattle.spool_calls.specs.Looks.Detail.{Outlines}
 use Rattle.spool_calls.specs.Kept.{Kept}
-use Rattle.core_steps.proofs.Leaving.{Found}
-use Rattle.core_steps.proofs.Printers.{printer_there}
-use Rattle.core_steps.proofs.Backing.{IsOutOf, room_free}
+use Rattle.step_lemmas.proofs.Cores.Leaving.{Found}
+use Rattle.step_lemmas.proofs.Cores.Printers.{printer_there}
+use Rattle.step_lemmas.proofs.Cores.Backing.{IsOutOf, room_free}
 use Rattle.spool_core.specs.declared.core_state.Core.TheInside.{Inside}
 use Rattle.spool_core.specs.Inside.{core_view, IsCore}
 use Rattle.spool_core.specs.Printers.{IsOutAt}

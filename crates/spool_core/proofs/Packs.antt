@@ -10,7 +10,7 @@ use Rattle.held_jobs.specs.Moves.{received_job}
 use Rattle.held_jobs.specs.Books.{Books, job_at, prints_of, with_job}
 use Rattle.spool_core.specs.declared.core_state.Core.TheInside.{Inside}
 use Rattle.spool_core.specs.Inside.{core_view}
-use Rattle.core_steps.proofs.Receiving.{received_core}
+use Rattle.step_lemmas.proofs.Cores.Receiving.{received_core}
 
 -- the job that was put at a place stands there
 pub put_there : (b c : Books) (i : ℕ) (j : HeldJob) → i < length b.jobs → c ≡ with_job b i j → job_at c i ≡ j

@@ -8,7 +8,7 @@ use Rattle.spool_calls.specs.Looks.{Detail, What}
 use Rattle.spool_calls.specs.Kept.{Kept, Leaves, facts_of, left_by}
 use Rattle.spool_calls.specs.Calls.{IsRight}
 use Rattle.spool_calls.specs.Readers.{ArePlaced, placed}
-use Rattle.core_steps.proofs.Turning.{facts_kept}
+use Rattle.step_lemmas.proofs.Cores.Turning.{facts_kept}
 use Rattle.spool_snapshot.specs.declared.snapshot.Snapshot.{Snapshot}
 use Rattle.spool_snapshot.specs.Jobs.{seen_job}
 use Rattle.spool_snapshot.specs.Shows.{Shows}

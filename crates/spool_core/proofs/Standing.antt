@@ -13,7 +13,7 @@ use Rattle.spool_laws.proofs.Staying.{stays}
 use Rattle.spool_laws.proofs.Sums.{pages_add_up}
 use Rattle.spool_laws.proofs.Whole.{all_placed}
 use Rattle.spool_calls.specs.Looks.{size}
-use Rattle.core_steps.proofs.Ranges.{limit_pages}
+use Rattle.step_lemmas.proofs.Cores.Ranges.{limit_pages}
 use Rattle.spool_core.specs.Headline.{HeadlineStands}
 
 some_printer : (c : Config) (q : ℕ) → IsConfig c → IsQueue c q → 1 ≤ (queue_at c q).printers

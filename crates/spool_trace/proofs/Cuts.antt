@@ -14,7 +14,7 @@ use Rattle.spool_history.specs.Now.{now}
 use Rattle.spool_history.specs.Legal.{IsLegal, May}
 use Rattle.spool_laws.proofs.Known.{Has, has_at, test, clash}
 use Rattle.spool_laws.proofs.Counts.{last_push}
-use Rattle.spool_moves.proofs.Files.{all_is_none_left}
+use Rattle.step_lemmas.proofs.HeldJobs.Files.{all_is_none_left}
 
 -- pages of z octets of what is left: each is full, or has all that is left
 abbrev pub Sized : ℕ → ℕ → List (List ℕ) → Type 0

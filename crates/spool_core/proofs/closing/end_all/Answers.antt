@@ -1,6 +1,6 @@
 use Rattle.std.proofs.Common.{refl}
 use Rattle.spool_calls.specs.Stocks.{all_end, stock}
-use Rattle.core_steps.proofs.EndingMany.{ending_start, ending_can, ending_hit, ending_done}
+use Rattle.step_lemmas.proofs.Cores.EndingMany.{ending_start, ending_can, ending_hit, ending_done}
 use Rattle.spool_core.proofs.closing.end_all.Goals as goal
 
 pub loop-i-init : goal.loop-i-init

@@ -1,5 +1,5 @@
 use Rattle.spool_calls.specs.Stocks.{all_end, stock}
-use Rattle.core_steps.proofs.EndingMany.{Ending}
+use Rattle.step_lemmas.proofs.Cores.EndingMany.{Ending}
 use Rattle.spool_core.proofs.closing.end_all.Given as goal
 
 abbrev pub invariant-loop-i : goal.invariant-loop-i

@@ -2,7 +2,7 @@ use Rattle.std.proofs.Common.{◌≡◌, ◌-◌, true, false, ap, sym, ◌∙�
 use Rattle.held_jobs.specs.Jobs.{Facts}
 use Rattle.held_jobs.specs.Books.{job_at}
 use Rattle.spool_calls.specs.Stocks.{listed, stock}
-use Rattle.core_steps.proofs.EndingMany.{ending_start, ending_can, ending_hit, ending_miss, ending_done}
+use Rattle.step_lemmas.proofs.Cores.EndingMany.{ending_start, ending_can, ending_hit, ending_miss, ending_done}
 use Rattle.spool_core.proofs.closing.end_listed.Goals as goal
 
 pub loop-i-init : goal.loop-i-init

@@ -1,6 +1,6 @@
 use Rattle.std.proofs.Common.{refl}
 use Rattle.spool_calls.specs.Printers.{no_kept, with_none}
-use Rattle.core_steps.proofs.Starting.{mapped_more}
+use Rattle.step_lemmas.proofs.Cores.Starting.{mapped_more}
 use Rattle.spool_core.proofs.closing.forget_jobs.Goals as goal
 
 pub loop-printer-preserved : goal.loop-printer-preserved

@@ -1,5 +1,5 @@
 use Rattle.spool_calls.specs.Printers.{with_none}
-use Rattle.core_steps.proofs.Starting.{IsMapped}
+use Rattle.step_lemmas.proofs.Cores.Starting.{IsMapped}
 use Rattle.spool_core.proofs.closing.forget_jobs.Given as goal
 
 abbrev pub invariant-loop-printer : goal.invariant-loop-printer

@@ -1,4 +1,4 @@
-use Rattle.core_steps.proofs.Starting.{started_less, started_more}
+use Rattle.step_lemmas.proofs.Cores.Starting.{started_less, started_more}
 use Rattle.spool_core.proofs.closing.start_printers.Goals as goal
 use Rattle.spool_core.proofs.closing.start_printers.Goals.{then-printer-queue, else-printer-queue}
 

@@ -9,7 +9,7 @@ use Rattle.spool_calls.specs.Looks.{Detail, What}
 use Rattle.spool_calls.specs.Looks.Detail.{Outlines}
 use Rattle.spool_calls.specs.Kept.{Kept}
 use Rattle.spool_calls.specs.Calls.{IsRight}
-use Rattle.core_steps.proofs.Leaving.{Found}
+use Rattle.step_lemmas.proofs.Cores.Leaving.{Found}
 use Rattle.spool_core.specs.declared.core_state.Core.TheInside.{Inside}
 use Rattle.spool_core.specs.Inside.{core_view}
 use Rattle.spool_core.proofs.Cores.{found, parts, stays, still}
@@ -19,9 +19,9 @@ use Rattle.claims.specs.Changes.{closed}
 use Rattle.spool_calls.specs.Tickets.{MayAbort, count_of}
 use Rattle.spool_calls.specs.declared.answers.ReturnedTicket.{ReturnedTicket}
 use Rattle.spool_calls.specs.Calls.{Aborts}
-use Rattle.core_steps.proofs.Leaving.{every_counted, jobs_len, one_stored}
-use Rattle.core_steps.proofs.Receiving.{pool_room}
-use Rattle.core_steps.proofs.Aborting.{abort_done, abort_none, abort_refused, aborted_room}
+use Rattle.step_lemmas.proofs.Cores.Leaving.{every_counted, jobs_len, one_stored}
+use Rattle.step_lemmas.proofs.Cores.Receiving.{pool_room}
+use Rattle.step_lemmas.proofs.Cores.Aborting.{abort_done, abort_none, abort_refused, aborted_room}
 use Rattle.spool_core.proofs.core_state.Core.abort.Goals.{After-may_abort, After-remove}
 use Rattle.spool_core.proofs.core_state.Core.abort.Goals as goal
 

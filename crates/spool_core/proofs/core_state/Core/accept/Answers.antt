@@ -19,7 +19,7 @@ use Rattle.claims.specs.Changes.{opened, HasPlace}
 use Rattle.config_values.specs.Config.{limit_of, reserve_of}
 use Rattle.spool_history.specs.Now.{amounts}
 use Rattle.spool_calls.specs.Calls.{OpensFor}
-use Rattle.core_steps.proofs.Opening.{claim_fits, greater, kinds, open_done, opened_core, row_room, unused}
+use Rattle.step_lemmas.proofs.Cores.Opening.{claim_fits, greater, kinds, open_done, opened_core, row_room, unused}
 use Rattle.spool_core.proofs.core_state.Core.accept.Goals.{After-reserve_of}
 use Rattle.spool_core.proofs.core_state.Core.accept.Goals as goal
 

@@ -19,8 +19,8 @@ use Rattle.spool_calls.specs.Looks.{Detail, What}
 use Rattle.spool_calls.specs.Looks.Detail.{Outlines}
 use Rattle.spool_calls.specs.Kept.{Kept}
 use Rattle.spool_calls.specs.Calls.{Asks, IsRight}
-use Rattle.core_steps.proofs.Leaving.{Found}
-use Rattle.core_steps.proofs.Asking.{ask_none, ask_not_open, ask_over, ask_none_free, ask_not_safe, ask_page, row_needs}
+use Rattle.step_lemmas.proofs.Cores.Leaving.{Found}
+use Rattle.step_lemmas.proofs.Cores.Asking.{ask_none, ask_not_open, ask_over, ask_none_free, ask_not_safe, ask_page, row_needs}
 use Rattle.spool_core.specs.declared.core_state.Core.TheInside.{Inside}
 use Rattle.spool_core.specs.Inside.{core_view}
 use Rattle.spool_core.proofs.Cores.{found, parts, stays, still}

@@ -9,7 +9,7 @@ use Rattle.spool_calls.specs.Looks.{Detail, What}
 use Rattle.spool_calls.specs.Looks.Detail.{Outlines}
 use Rattle.spool_calls.specs.Kept.{Kept}
 use Rattle.spool_calls.specs.Calls.{IsRight}
-use Rattle.core_steps.proofs.Leaving.{Found}
+use Rattle.step_lemmas.proofs.Cores.Leaving.{Found}
 use Rattle.spool_core.specs.Inside.{core_view}
 use Rattle.spool_core.proofs.Cores.{found, stays, still}
 use Rattle.held_jobs.specs.declared.phase.Phase.TheVariants.{Receiving}
@@ -20,7 +20,7 @@ use Rattle.config_values.specs.Config.{limit_of}
 use Rattle.spool_history.specs.Legal.{pages_for}
 use Rattle.lpd_values.specs.declared.refusal.Refusal.TheVariants.{NotOpen, FileOpen, NameTaken, FilesFull, OverClaim}
 use Rattle.spool_calls.specs.Calls.{Begins}
-use Rattle.core_steps.proofs.Filing.{begin_done, begin_full, begin_none, begin_not_open, begin_open, begin_over, begin_taken, files_room, idle}
+use Rattle.step_lemmas.proofs.Cores.Filing.{begin_done, begin_full, begin_none, begin_not_open, begin_open, begin_over, begin_taken, files_room, idle}
 use Rattle.spool_core.proofs.core_state.Core.begin_file.Goals.{After-begin, After-is_receiving}
 use Rattle.spool_core.proofs.core_state.Core.begin_file.Goals as goal
 

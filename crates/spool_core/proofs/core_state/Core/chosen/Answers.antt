@@ -6,7 +6,7 @@ use Rattle.spool_history.specs.Events.{Event}
 use Rattle.spool_calls.specs.Looks.{Detail, What}
 use Rattle.spool_calls.specs.Kept.{Kept}
 use Rattle.spool_calls.specs.Telling.{Chooses}
-use Rattle.core_steps.proofs.Telling.{choose_numbers}
+use Rattle.step_lemmas.proofs.Cores.Telling.{choose_numbers}
 use Rattle.spool_core.specs.Inside.{core_view}
 use Rattle.spool_core.proofs.Cores.{stays}
 use Rattle.spool_core.proofs.core_state.Core.chosen.Goals as goal

@@ -7,8 +7,8 @@ use Rattle.spool_calls.specs.Looks.Detail.{Outlines}
 use Rattle.spool_calls.specs.Kept.{Kept}
 use Rattle.spool_calls.specs.Calls.{Closes, IsRight}
 use Rattle.spool_calls.specs.Stocks.{stock}
-use Rattle.core_steps.proofs.EndingMany.{stocked}
-use Rattle.core_steps.proofs.Closing.{close_done, close_leaves}
+use Rattle.step_lemmas.proofs.Cores.EndingMany.{stocked}
+use Rattle.step_lemmas.proofs.Cores.Closing.{close_done, close_leaves}
 use Rattle.spool_core.specs.Inside.{core_view}
 use Rattle.spool_core.proofs.Cores.{still}
 use Rattle.spool_core.proofs.core_state.Core.close.Goals as goal

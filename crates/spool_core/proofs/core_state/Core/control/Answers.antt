@@ -10,7 +10,7 @@ use Rattle.spool_calls.specs.Looks.{Detail, What}
 use Rattle.spool_calls.specs.Looks.Detail.{Outlines}
 use Rattle.spool_calls.specs.Kept.{Kept}
 use Rattle.spool_calls.specs.Calls.{IsRight}
-use Rattle.core_steps.proofs.Leaving.{Found}
+use Rattle.step_lemmas.proofs.Cores.Leaving.{Found}
 use Rattle.spool_core.specs.declared.core_state.Core.TheInside.{Inside}
 use Rattle.spool_core.specs.Inside.{core_view}
 use Rattle.spool_core.specs.Places.{LacksControl}
@@ -25,7 +25,7 @@ use Rattle.spool_calls.specs.declared.answers.Receipt.{Receipt}
 use Rattle.spool_calls.specs.declared.answers.ReturnedControl.{ReturnedControl}
 use Rattle.spool_calls.specs.declared.answers.Receipt.TheVariants.{Stored, Received}
 use Rattle.spool_calls.specs.Calls.{Controls}
-use Rattle.core_steps.proofs.Receiving.{control_counted, control_idle, control_open, control_received, control_stored, pool_room}
+use Rattle.step_lemmas.proofs.Cores.Receiving.{control_counted, control_idle, control_open, control_received, control_stored, pool_room}
 use Rattle.spool_core.proofs.Packs.{put_there, received_pack, unprinted}
 use Rattle.spool_core.proofs.core_state.Core.control.Goals.{After-is_open, After-receive}
 use Rattle.spool_core.proofs.core_state.Core.control.Goals as goal

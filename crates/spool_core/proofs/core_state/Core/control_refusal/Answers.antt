@@ -5,7 +5,7 @@ use Rattle.lpd_values.specs.declared.refusal.Refusal.{Refusal}
 use Rattle.spool_history.specs.Refusals.{MayControl, RefusesControl}
 use Rattle.spool_calls.specs.Kept.{Kept}
 use Rattle.spool_calls.specs.Calls.{IsRight, before}
-use Rattle.core_steps.proofs.Reading.{may_control}
+use Rattle.step_lemmas.proofs.Cores.Reading.{may_control}
 use Rattle.spool_core.specs.Places.{LacksControl}
 use Rattle.spool_core.proofs.core_state.Core.control_refusal.Goals as goal
 

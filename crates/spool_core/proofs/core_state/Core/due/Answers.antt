@@ -6,7 +6,7 @@ use Rattle.spool_calls.specs.Looks.{Detail, What}
 use Rattle.spool_calls.specs.Kept.{Kept}
 use Rattle.config_values.specs.Config.{IsPrinter}
 use Rattle.spool_calls.specs.Calls.{IsRight}
-use Rattle.core_steps.proofs.Handing.{Waits, hands_busy, hands_empty, hands_none, hands_some, hands_stopped}
+use Rattle.step_lemmas.proofs.Cores.Handing.{Waits, hands_busy, hands_empty, hands_none, hands_some, hands_stopped}
 use Rattle.spool_core.specs.declared.due.Due.{Due}
 use Rattle.spool_core.specs.declared.due.Due.TheVariants as due
 use Rattle.spool_core.specs.Inside.{core_view}

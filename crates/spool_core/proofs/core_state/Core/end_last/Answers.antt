@@ -11,7 +11,7 @@ use Rattle.spool_calls.specs.Looks.{Detail, What}
 use Rattle.spool_calls.specs.Looks.Detail.{Outlines}
 use Rattle.spool_calls.specs.Kept.{Kept}
 use Rattle.spool_calls.specs.Calls.{IsRight}
-use Rattle.core_steps.proofs.Leaving.{Found}
+use Rattle.step_lemmas.proofs.Cores.Leaving.{Found}
 use Rattle.spool_core.specs.declared.core_state.Core.TheInside.{Inside}
 use Rattle.spool_core.specs.Inside.{core_view}
 use Rattle.spool_core.proofs.Cores.{found, stays, still}
@@ -22,8 +22,8 @@ use Rattle.lpd_values.specs.declared.refusal.Refusal.TheVariants.{NotOpen}
 use Rattle.spool_calls.specs.declared.answers.Receipt.{Receipt}
 use Rattle.spool_calls.specs.declared.answers.Receipt.TheVariants.{Stored, Received}
 use Rattle.spool_calls.specs.Calls.{Ends, EndsFile}
-use Rattle.core_steps.proofs.Reading.{last_file}
-use Rattle.core_steps.proofs.Receiving.{end_counted, end_idle, end_none, end_received, end_refused, end_stored, pool_room}
+use Rattle.step_lemmas.proofs.Cores.Reading.{last_file}
+use Rattle.step_lemmas.proofs.Cores.Receiving.{end_counted, end_idle, end_none, end_received, end_refused, end_stored, pool_room}
 use Rattle.spool_core.proofs.Packs.{put_there, received_pack, unprinted}
 use Rattle.spool_core.proofs.core_state.Core.end_last.Goals.{After-end_file, After-has_prints, After-next_page-file, After-receive}
 use Rattle.spool_core.proofs.core_state.Core.end_last.Goals as goal

@@ -14,7 +14,7 @@ use Rattle.spool_calls.specs.Looks.{Detail, What}
 use Rattle.spool_calls.specs.Looks.Detail.{Outlines}
 use Rattle.spool_calls.specs.Kept.{Kept}
 use Rattle.spool_calls.specs.Calls.{Fails, IsRight}
-use Rattle.core_steps.proofs.Backing.{fails_gone, foreign, job_there}
+use Rattle.step_lemmas.proofs.Cores.Backing.{fails_gone, foreign, job_there}
 use Rattle.spool_core.specs.Inside.{core_view}
 use Rattle.spool_core.proofs.Cores.{printer_of, printer_within, stays, still}
 use Rattle.spool_core.proofs.Outs.{Seen, at_is, left, out_is, room, seen_of, view_left}

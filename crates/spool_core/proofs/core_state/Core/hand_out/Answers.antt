@@ -18,7 +18,7 @@ use Rattle.spool_calls.specs.Looks.{Detail, What}
 use Rattle.spool_calls.specs.Looks.Detail.{Outlines}
 use Rattle.spool_calls.specs.Kept.{Kept, sheet_out}
 use Rattle.spool_calls.specs.Calls.{Hands, IsRight}
-use Rattle.core_steps.proofs.Handing.{Waits, free_here, hand_few, hand_ready, handed_core, hands_page, kind_there, need_here}
+use Rattle.step_lemmas.proofs.Cores.Handing.{Waits, free_here, hand_few, hand_ready, handed_core, hands_page, kind_there, need_here}
 use Rattle.spool_core.specs.declared.core_state.Core.TheInside.{Inside}
 use Rattle.spool_core.specs.Inside.{core_view}
 use Rattle.spool_core.specs.Due.{IsTurn}

@@ -9,7 +9,7 @@ use Rattle.spool_history.specs.Events.{Event}
 use Rattle.spool_history.specs.Refusals.{RefusesControl}
 use Rattle.spool_calls.specs.Looks.{Detail, What}
 use Rattle.spool_calls.specs.Kept.{Kept, left_by}
-use Rattle.core_steps.proofs.Reading.{refuses_none, refuses_unreceived, refuses_twice}
+use Rattle.step_lemmas.proofs.Cores.Reading.{refuses_none, refuses_unreceived, refuses_twice}
 use Rattle.spool_core.specs.Inside.{core_view}
 use Rattle.spool_core.specs.Places.{LacksControl}
 use Rattle.spool_core.proofs.Cores.{found, stays}

@@ -7,7 +7,7 @@ use Rattle.spool_calls.specs.Looks.{Detail, What}
 use Rattle.spool_calls.specs.Looks.Detail.{Outlines}
 use Rattle.spool_calls.specs.Kept.{Kept}
 use Rattle.spool_calls.specs.Readers.{HasOpenFile, IsOpenFile}
-use Rattle.core_steps.proofs.Reading.{last_file, no_file_of, no_file_open, no_file_unreceived}
+use Rattle.step_lemmas.proofs.Cores.Reading.{last_file, no_file_of, no_file_open, no_file_unreceived}
 use Rattle.spool_core.specs.Inside.{core_view}
 use Rattle.spool_core.proofs.Cores.{found, stays}
 use Rattle.spool_core.proofs.core_state.Core.open_file.Goals as goal

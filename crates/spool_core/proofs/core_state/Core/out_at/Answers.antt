@@ -10,7 +10,7 @@ use Rattle.spool_calls.specs.Looks.{Detail, What}
 use Rattle.spool_calls.specs.Looks.Detail.{Outlines}
 use Rattle.spool_calls.specs.Kept.{Kept, kept_out}
 use Rattle.spool_calls.specs.Calls.{before}
-use Rattle.core_steps.proofs.Printers.{printer_seen, printer_there}
+use Rattle.step_lemmas.proofs.Cores.Printers.{printer_seen, printer_there}
 use Rattle.spool_calls.specs.Printers.{no_kept}
 use Rattle.spool_core.specs.Inside.{core_view}
 use Rattle.spool_core.proofs.Cores.{printer_of, printer_within, stays}

@@ -5,7 +5,7 @@ use Rattle.spool_calls.specs.Looks.{Detail, What}
 use Rattle.spool_calls.specs.Kept.{Kept}
 use Rattle.spool_calls.specs.Readers.{ArePlaced, Placed, placed}
 use Rattle.spool_calls.specs.Printers.{out_among}
-use Rattle.core_steps.proofs.Reading.{places_read}
+use Rattle.step_lemmas.proofs.Cores.Reading.{places_read}
 use Rattle.spool_core.specs.Inside.{core_view}
 use Rattle.spool_core.proofs.Cores.{stays}
 use Rattle.spool_core.proofs.core_state.Core.pages_by_place.Goals as goal

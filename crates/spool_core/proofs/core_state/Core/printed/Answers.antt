@@ -18,7 +18,7 @@ use Rattle.spool_calls.specs.Looks.{Detail, What}
 use Rattle.spool_calls.specs.Looks.Detail.{Outlines}
 use Rattle.spool_calls.specs.Kept.{Kept}
 use Rattle.spool_calls.specs.Calls.{IsRight, Prints}
-use Rattle.core_steps.proofs.Backing.{again_core, back_awaited, back_core, back_few, back_held, foreign, idle_printer, job_there, prints_again, prints_gone, prints_last, room_stored}
+use Rattle.step_lemmas.proofs.Cores.Backing.{again_core, back_awaited, back_core, back_few, back_held, foreign, idle_printer, job_there, prints_again, prints_gone, prints_last, room_stored}
 use Rattle.spool_core.specs.declared.core_state.Core.TheInside.{Inside}
 use Rattle.spool_core.specs.Inside.{core_view, IsCore}
 use Rattle.spool_core.proofs.Cores.{printer_of, printer_within, stays, still}

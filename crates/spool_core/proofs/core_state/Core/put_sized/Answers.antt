@@ -9,14 +9,14 @@ use Rattle.spool_calls.specs.Looks.{Detail, What}
 use Rattle.spool_calls.specs.Looks.Detail.{Outlines}
 use Rattle.spool_calls.specs.Kept.{Kept}
 use Rattle.spool_calls.specs.Calls.{IsRight}
-use Rattle.core_steps.proofs.Leaving.{Found}
+use Rattle.step_lemmas.proofs.Cores.Leaving.{Found}
 use Rattle.spool_core.specs.declared.core_state.Core.TheInside.{Inside}
 use Rattle.spool_core.specs.Inside.{core_view}
 use Rattle.spool_core.proofs.Cores.{found, stays, still}
 use Rattle.held_jobs.specs.Moves.{Awaits}
 use Rattle.spool_calls.specs.declared.answers.ReturnedPage.{ReturnedPage}
 use Rattle.spool_calls.specs.Calls.{Puts, PutsAs}
-use Rattle.core_steps.proofs.Filing.{can_put, put_done, put_none, put_refused}
+use Rattle.step_lemmas.proofs.Cores.Filing.{can_put, put_done, put_none, put_refused}
 use Rattle.spool_core.proofs.core_state.Core.put_sized.Goals.{After-awaits, After-put}
 use Rattle.spool_core.proofs.core_state.Core.put_sized.Goals as goal
 

@@ -8,9 +8,9 @@ use Rattle.spool_history.specs.Legal.{May}
 use Rattle.spool_calls.specs.Looks.{Detail, What, size}
 use Rattle.spool_calls.specs.Kept.{Kept, Leaves}
 use Rattle.spool_calls.specs.Calls.{before, removed_by}
-use Rattle.core_steps.proofs.Leaving.{is_open}
-use Rattle.core_steps.proofs.Removing.{may_remove}
-use Rattle.core_steps.proofs.Telling.{numbers_left, removal_left}
+use Rattle.step_lemmas.proofs.Cores.Leaving.{is_open}
+use Rattle.step_lemmas.proofs.Cores.Removing.{may_remove}
+use Rattle.step_lemmas.proofs.Cores.Telling.{numbers_left, removal_left}
 use Rattle.spool_core.specs.declared.telling.Removal.{Removal}
 use Rattle.spool_core.specs.Halves.{FindsRemoval, MayRemove}
 use Rattle.spool_core.specs.Inside.{core_view}

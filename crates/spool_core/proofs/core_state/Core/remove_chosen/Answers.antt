@@ -8,8 +8,8 @@ use Rattle.spool_calls.specs.Looks.Detail.{Outlines}
 use Rattle.spool_calls.specs.Kept.{Kept, Leaves}
 use Rattle.spool_calls.specs.Calls.{IsRight}
 use Rattle.spool_calls.specs.Stocks.{EndsTo, listed, stock}
-use Rattle.core_steps.proofs.EndingMany.{stocked}
-use Rattle.core_steps.proofs.Closing.{removed_leaves}
+use Rattle.step_lemmas.proofs.Cores.EndingMany.{stocked}
+use Rattle.step_lemmas.proofs.Cores.Closing.{removed_leaves}
 use Rattle.spool_core.specs.Halves.{MayRemove, RemovesJobs}
 use Rattle.spool_core.specs.Inside.{core_view}
 use Rattle.spool_core.proofs.Cores.{still}

@@ -10,7 +10,7 @@ use Rattle.spool_calls.specs.Looks.Detail.{Outlines}
 use Rattle.spool_calls.specs.Kept.{Kept, left_by}
 use Rattle.spool_calls.specs.Calls.{IsRight, Rotates}
 use Rattle.spool_calls.specs.Printers.{stopped_among, with_none}
-use Rattle.core_steps.proofs.Closing.{rotate_done, rotated_core}
+use Rattle.step_lemmas.proofs.Cores.Closing.{rotate_done, rotated_core}
 use Rattle.spool_core.specs.Inside.{core_view}
 use Rattle.spool_core.proofs.Cores.{still}
 use Rattle.spool_core.proofs.core_state.Core.rotated.Goals.{After-forget_jobs}

@@ -9,7 +9,7 @@ use Rattle.spool_calls.specs.Looks.Detail.{Outlines}
 use Rattle.spool_calls.specs.Kept.{Kept, Leaves}
 use Rattle.spool_calls.specs.Calls.{IsRight}
 use Rattle.spool_calls.specs.Printers.{started}
-use Rattle.core_steps.proofs.Starting.{start_leads, start_reaches, started_core}
+use Rattle.step_lemmas.proofs.Cores.Starting.{start_leads, start_reaches, started_core}
 use Rattle.spool_core.specs.Halves.{StartsQueue}
 use Rattle.spool_core.specs.Inside.{core_view}
 use Rattle.spool_core.specs.Places.{Takes}

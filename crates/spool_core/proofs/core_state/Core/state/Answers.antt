@@ -13,7 +13,7 @@ use Rattle.spool_calls.specs.Looks.{Detail, What}
 use Rattle.spool_calls.specs.Kept.{Kept}
 use Rattle.spool_calls.specs.Calls.{Tells}
 use Rattle.spool_calls.specs.Telling.{serving, stopped_in}
-use Rattle.core_steps.proofs.Telling.{tell_text}
+use Rattle.step_lemmas.proofs.Cores.Telling.{tell_text}
 use Rattle.spool_core.specs.Inside.{core_view}
 use Rattle.spool_core.proofs.Cores.{stays}
 use Rattle.spool_core.proofs.core_state.Core.state.Goals as goal

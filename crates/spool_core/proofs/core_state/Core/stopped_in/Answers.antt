@@ -3,7 +3,7 @@ use Rattle.spool_calls.specs.declared.printer.Printer.{Printer}
 use Rattle.spool_calls.specs.Looks.Detail.{Outlines}
 use Rattle.spool_calls.specs.Kept.{Kept}
 use Rattle.spool_calls.specs.Telling.{stopped_in}
-use Rattle.core_steps.proofs.Reading.{few_stopped, reads_stopped}
+use Rattle.step_lemmas.proofs.Cores.Reading.{few_stopped, reads_stopped}
 use Rattle.spool_core.specs.Inside.{core_view}
 use Rattle.spool_core.proofs.core_state.Core.stopped_in.Goals as goal
 

@@ -1,0 +1,20 @@
+-- Where each event leaves what a spool's core keeps.
+pub mod Leaving
+pub mod Ranges
+pub mod Phases
+pub mod Asking
+pub mod Turning
+pub mod Printers
+pub mod Opening
+pub mod Filing
+pub mod Receiving
+pub mod Aborting
+pub mod Backing
+pub mod Handing
+pub mod Stocks
+pub mod EndingMany
+pub mod Closing
+pub mod Starting
+pub mod Reading
+pub mod Telling
+pub mod Removing

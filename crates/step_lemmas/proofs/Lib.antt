@@ -1,0 +1,4 @@
+pub mod HeldJobs
+pub mod OneJob
+pub mod Rows
+pub mod Cores
