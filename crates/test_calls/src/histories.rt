@@ -18,8 +18,7 @@ use account_audit::check;
 use account_text::{parse_entry, write_entry};
 use config_values::Config;
 use history_legality::{free_pages, is_legal, is_safe_now, leaves_joined, may};
-use history_reader::{Next, State, next_page, now, rotated};
-use history_texts::{removal_text, state_text};
+use history_reader::{Next, State, next_page, now, removal_text, rotated, state_text};
 use std::alloc::{AllocError, Global};
 use test_kit::rows::{number, short_number, word, words};
 

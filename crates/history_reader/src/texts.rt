@@ -4,8 +4,8 @@ ghost use Rattle.std.specs.Prelude.{◌≡◌, ◌≤◌, IfOk, length, map};
 ghost use Rattle.spool_history.specs.Texts.{printers_in, removal_text, state_text, stopped_in};
 ghost use Rattle.history_reader.specs.Seen.{printer_seen, state_seen};
 
+use crate::state::{Printer, State};
 use config_values::Config;
-use history_reader::{Printer, State};
 use lpd_values::Octets;
 use std::alloc::{AllocError, Global};
 use told_jobs::{Shown, StateQuery};
