@@ -1,9 +1,9 @@
 -- Jobs are fed, one after another.
 use Rattle.std.proofs.Common.{◌≡◌, ◌<◌, ◌+◌, ℕ, List, [], ◌∷◌, ◌++◌, Option, Some, None, IfSome, refl, length, take, get_or, ap, subst, ◌∙◌}
 use Rattle.std.proofs.lemmas.List.{take_more}
+use Rattle.job_store.specs.Files.{Files, SameJobs, whole_told}
 use Rattle.request_session.specs.Carried.{Carrying, Ending}
 use Rattle.kept_recovery.specs.declared.feeding.Fed.{Fed}
-use Rattle.kept_recovery.specs.Files.{Files, SameJobs, whole_told}
 use Rattle.kept_recovery.specs.Feeding.{Feeds, FeedsAll}
 
 -- the same is told of whole files

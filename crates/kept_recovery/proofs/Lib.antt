@@ -1,4 +1,1 @@
-pub mod Moments
-pub mod Listed
-pub mod Headed
 pub mod Feeds

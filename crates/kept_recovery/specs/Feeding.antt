@@ -2,13 +2,13 @@
 use Rattle.std.specs.Prelude.{◌≡◌, ℕ, List, [], ◌∷◌, Option, IfSome}
 use Rattle.lpd_commands.specs.Ends.{Took}
 use Rattle.job_heads.specs.Head.{head}
+use Rattle.job_store.specs.Files.{IsNotThere, IsOfFile}
+use Rattle.job_store.specs.Heads.{IsHeadless}
 use Rattle.request_session.specs.declared.ending.SessionEnd.{SessionEnd}
 use Rattle.request_session.specs.Carried.{Carrying, Ending}
 use Rattle.request_session.specs.Served.{ServedBy, Side, Source, around}
 use Rattle.kept_recovery.specs.declared.feeding.Fed.{Fed}
 use Rattle.kept_recovery.specs.declared.feeding.Fed.TheVariants as fed
-use Rattle.kept_recovery.specs.Files.{IsNotThere, IsOfFile}
-use Rattle.kept_recovery.specs.Heads.{IsHeadless}
 
 module _ {Q : Type 0} (carries : Carrying Q) (ends : Ending Q) where
   -- what stands behind the head of a file was served as a session of the sender that the head names

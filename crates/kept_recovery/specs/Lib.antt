@@ -1,4 +1,1 @@
-pub mod Files
-pub mod Kept
-pub mod Heads
 pub mod Feeding

@@ -3,13 +3,12 @@
 ghost use Rattle.std.specs.Prelude.{◌≡◌, ◌<◌, ℕ, None, IfErr, IfOk, IfSome};
 ghost use Rattle.std.specs.List.Sorted.{IsNonDecreasing};
 ghost use Rattle.kept_jobs.specs.Folder.{HasCause};
-ghost use Rattle.kept_recovery.specs.Files.{KeepsJobs, ListsJobs, SameFiles, whole_told};
+ghost use Rattle.job_store.specs.Files.{KeepsJobs, ListsJobs, SameFiles, whole_told};
+ghost use Rattle.job_store.specs.Kept.{ContentsAreThere, LeavesNoMore};
 ghost use Rattle.kept_recovery.specs.Feeding.{Feeds, FeedsAll};
-ghost use Rattle.kept_recovery.specs.Kept.{ContentsAreThere, LeavesNoMore};
 
-use crate::heading::read_sender;
-use crate::{Numbers, Store, recover};
 use job_heads::HeadFault;
+use job_store::{Numbers, Store, read_sender, recover};
 use kept_jobs::KeepError;
 use request_session::{OctetFault, OctetWrite, Requests, SessionEnd, serve_by};
 use std::alloc::{AllocError, Global};

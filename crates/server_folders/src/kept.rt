@@ -6,7 +6,7 @@ use crate::stored::StoredJobs;
 use config_values::Config;
 use job_disk::Disk;
 use job_files::JobEnd;
-use kept_recovery::{Store, recover};
+use job_store::{Store, recover};
 use log::{Log, warn};
 use printer_devices::PlaceFault;
 use status_lines::KeptJobs;

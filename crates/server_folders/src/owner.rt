@@ -1,7 +1,7 @@
 //! Whose a kept job is: what stands at the head of its file.
 
 use job_heads::HeadFault;
-use kept_recovery::read_sender;
+use job_store::read_sender;
 use lpd_commands::{Command, OctetFault, OctetRead, parse_command};
 use lpd_values::{MAX_LINE, Octets};
 use std::alloc::Global;

@@ -5,8 +5,8 @@ ghost use Rattle.kept_jobs.specs.Folder.{HasCause};
 
 use job_disk::{Disk, DiskFault, DiskStore};
 use job_hand::Folder;
+use job_store::{Names, Store};
 use kept_jobs::KeepError;
-use kept_recovery::{Names, Store};
 use program_edge::StreamReader;
 use std::alloc::Global;
 use std::fs::{File, Files};

@@ -1,8 +1,8 @@
 use Rattle.std.proofs.Common.{get_or, subst, arith}
-use Rattle.kept_recovery.specs.Files.{whole_told}
+use Rattle.job_store.specs.Files.{whole_told}
+use Rattle.job_store.proofs.Moments.{more_called}
 use Rattle.kept_recovery.specs.Feeding.{Feeds}
 use Rattle.kept_recovery.proofs.Feeds.{feeds_next, stays_more, told_still}
-use Rattle.kept_recovery.proofs.Moments.{more_called}
 use Rattle.kept_recovery.proofs.feeding.feed.Goals as goal
 
 pub loop-job-preserved : goal.loop-job-preserved

@@ -1,7 +1,7 @@
 use Rattle.std.proofs.Common.{◌≡◌, IfSome, take}
-use Rattle.kept_recovery.specs.Files.{whole_told}
+use Rattle.job_store.specs.Files.{whole_told}
+use Rattle.job_store.specs.Kept.{LeavesNoMore}
 use Rattle.kept_recovery.specs.Feeding.{FeedsAll}
-use Rattle.kept_recovery.specs.Kept.{LeavesNoMore}
 use Rattle.kept_recovery.proofs.feeding.feed.Given as goal
 
 abbrev pub invariant-loop-job : goal.invariant-loop-job

@@ -1,4 +1,4 @@
-use Rattle.kept_recovery.proofs.Moments.{one_called}
+use Rattle.job_store.proofs.Moments.{one_called}
 use Rattle.kept_recovery.proofs.feeding.feed_one.Goals as goal
 
 pub returns-in-Ok-None-clause-any_moment : goal.returns-in-Ok-None-clause-any_moment

@@ -1,4 +1,4 @@
-use Rattle.kept_recovery.specs.Files.{whole_told}
+use Rattle.job_store.specs.Files.{whole_told}
 use Rattle.kept_recovery.proofs.Feeds.{feeds_same, told_same}
 use Rattle.kept_recovery.proofs.feeding.recover_all.Goals as goal
 

@@ -2,8 +2,8 @@
 
 ghost use Rattle.std.specs.Prelude.{◌≡◌, ◌≤◌, List, ℕ, Option, None, IfOk, IfSome, OnOk, is_some};
 ghost use Rattle.kept_jobs.specs.Folder.{Elapses, HasCause, NoMore};
-ghost use Rattle.kept_recovery.specs.Files.{HasNoPartials, KeepsJobs, ListsFailed, ListsJobs, Opens, SameFiles, whole_told};
-ghost use Rattle.kept_recovery.specs.Kept.{LeftAsSeen};
+ghost use Rattle.job_store.specs.Files.{HasNoPartials, KeepsJobs, ListsFailed, ListsJobs, Opens, SameFiles, whole_told};
+ghost use Rattle.job_store.specs.Kept.{LeftAsSeen};
 
 use kept_jobs::KeepError;
 use lpd_commands::OctetRead;
@@ -21,7 +21,7 @@ pub struct Names {
 /// A folder with temporary files of jobs, whole ones, and those of failed jobs, each by its number. What a call does is said of all numbers
 /// at once, and what a crash may leave of one job doesn't depend on what it leaves of another.
 pub trait Store {
-    ghost use Rattle.kept_recovery.specs.Files.{Files};
+    ghost use Rattle.job_store.specs.Files.{Files};
 
     /// The octets of a whole file, read one after another.
     type Job: OctetRead + Drop;

@@ -11,7 +11,7 @@ use Rattle.lpd_commands.proofs.Writing.{Took-append}
 use Rattle.job_heads.specs.Head.{head, mark, name}
 use Rattle.job_heads.specs.declared.HeadFault.{HeadFault}
 use Rattle.job_heads.specs.declared.HeadFault.TheVariants.{NoHead, OtherVersion}
-use Rattle.kept_recovery.specs.Heads.{HasSender, IsHeadless}
+use Rattle.job_store.specs.Heads.{HasSender, IsHeadless}
 
 Took-read : (old rest : Option (List ℕ)) (got : List ℕ) (room : ℕ) → Reads old rest got room → Took old rest got
 Took-read None rest got room h = h

@@ -1,6 +1,6 @@
 use Rattle.std.proofs.Common.{length, ◌-◌, ◌≤◌, take}
 use Rattle.lpd_commands.specs.Ends.{Took}
-use Rattle.kept_recovery.proofs.heading.read_full.Given as goal
+use Rattle.job_store.proofs.heading.read_full.Given as goal
 
 abbrev pub invariant-loop-count : goal.invariant-loop-count
 invariant-loop-count g l = record {

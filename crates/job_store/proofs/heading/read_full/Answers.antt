@@ -1,6 +1,6 @@
 use Rattle.std.proofs.Common.{◌≡◌, ◌≤◌, ◌-◌, ◌∙◌, length, arith}
-use Rattle.kept_recovery.proofs.Headed.{reads_more, rest_length, still_within}
-use Rattle.kept_recovery.proofs.heading.read_full.Goals as goal
+use Rattle.job_store.proofs.Headed.{reads_more, rest_length, still_within}
+use Rattle.job_store.proofs.heading.read_full.Goals as goal
 
 pub loop-count-preserved : goal.loop-count-preserved
 loop-count-preserved g c =

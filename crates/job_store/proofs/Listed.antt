@@ -2,8 +2,8 @@
 use Rattle.std.proofs.Common.{◌⊎◌, inl, inr, ◌≡◌, ◌<◌, ◌≤◌, ◌==◌, ℕ, true, false, List, Option, Some, None, IfNone, IfSome, is_some, if◌then◌else◌, cond, count_by, refl, ◌∙◌, sym, ap, arith}
 use Rattle.std.specs.List.Sorted.{IsPermutation}
 use Rattle.std.proofs.lemmas.List.Sorted.{sum_by-IsPermutation}
-use Rattle.kept_recovery.specs.Files.{Files, IsListOf, SameJobs}
-use Rattle.kept_recovery.specs.Kept.{HasContents, IsFreeFrom, IsTaken, KeepsAll}
+use Rattle.job_store.specs.Files.{Files, IsListOf, SameJobs}
+use Rattle.job_store.specs.Kept.{HasContents, IsFreeFrom, IsTaken, KeepsAll}
 
 -- what isn't listed isn't there
 not_listed : (o : Option (List ℕ)) (k : ℕ) → k ≡ (if is_some o then 1 else 0) → k ≡ 0 → o ≡ None

@@ -1,6 +1,6 @@
 use Rattle.std.proofs.Common.{arith}
-use Rattle.kept_recovery.proofs.Headed.{headed, read_of_head, too_few}
-use Rattle.kept_recovery.proofs.heading.read_sender.Goals as goal
+use Rattle.job_store.proofs.Headed.{headed, read_of_head, too_few}
+use Rattle.job_store.proofs.heading.read_sender.Goals as goal
 
 pub returns-then-count-lt-HEAD_LENGTH : goal.returns-then-count-lt-HEAD_LENGTH
 returns-then-count-lt-HEAD_LENGTH g c =

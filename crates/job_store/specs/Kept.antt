@@ -2,7 +2,7 @@
 use Rattle.std.specs.Prelude.{◌≡◌, ◌⊎◌, ◌≤◌, ℕ, true, List, Option, Some, None, IfSome, is_some}
 use Rattle.kept_jobs.specs.Folder.{IsNever, LeavesOnly, NoMore}
 use Rattle.kept_jobs.specs.Kept.{AllOrNone, IsKept}
-use Rattle.kept_recovery.specs.Files.{Files, hand}
+use Rattle.job_store.specs.Files.{Files, hand}
 
 -- the octets of each whole file are on the disk, if its name is
 abbrev pub HasContents : Files → (ℕ → Option (List ℕ) → Type 0) → Type 0

@@ -3,7 +3,7 @@
 ghost use Rattle.std.specs.Prelude.{◌≡◌, ◌<◌, ◌≤◌, ℕ, List, IfErr, IfOk, IfSome, length, take};
 ghost use Rattle.lpd_commands.specs.Ends.{IsReadOut, Took};
 ghost use Rattle.job_heads.specs.Head.{head};
-ghost use Rattle.kept_recovery.specs.Heads.{HasSender};
+ghost use Rattle.job_store.specs.Heads.{HasSender};
 
 use job_heads::{HEAD_LENGTH, HeadFault, read_head};
 use lpd_commands::{OctetFault, OctetRead};

@@ -1,7 +1,7 @@
 use Rattle.std.proofs.lemmas.List.Sorted.{IsNonDecreasingBy-from_sort}
-use Rattle.kept_recovery.proofs.Listed.{is_free, is_taken, keeps_all, lists_failed, lists_jobs, reorders}
-use Rattle.kept_recovery.proofs.Moments.{none_called, one_more_called}
-use Rattle.kept_recovery.proofs.recovering.recover.Goals as goal
+use Rattle.job_store.proofs.Listed.{is_free, is_taken, keeps_all, lists_failed, lists_jobs, reorders}
+use Rattle.job_store.proofs.Moments.{none_called, one_more_called}
+use Rattle.job_store.proofs.recovering.recover.Goals as goal
 
 -- A return where temporary files stay.
 pub returns-in_err-clear_partials-clause-any_moment : goal.returns-in_err-clear_partials-clause-any_moment

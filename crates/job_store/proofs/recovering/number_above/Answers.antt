@@ -2,8 +2,8 @@ use Rattle.std.proofs.Common.{◌≡◌, ◌<◌, ◌≤◌, ◌==◌, ℕ, fals
 use Rattle.std.proofs.lemmas.Bool.Decides.{nat_tests}
 use Rattle.std.proofs.lemmas.Grind.{common_steps}
 use Rattle.std.proofs.lemmas.List.Sums.{count_by_more_no}
-use Rattle.kept_recovery.proofs.recovering.number_above.Goals as goal
-use Rattle.kept_recovery.proofs.recovering.number_above.Goals.{then-number-next+in_ok-next, else-number-next}
+use Rattle.job_store.proofs.recovering.number_above.Goals as goal
+use Rattle.job_store.proofs.recovering.number_above.Goals.{then-number-next+in_ok-next, else-number-next}
 
 other : (number n : ℕ) → number < n → (number == n) ≡ false
 other number n less = grind (arith, nat_tests)

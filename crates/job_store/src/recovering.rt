@@ -3,8 +3,8 @@
 ghost use Rattle.std.specs.Prelude.{◌≡◌, ◌<◌, ◌≤◌, ◌==◌, ◌⊎◌, ℕ, List, Some, IfNone, IfOk, IfSome, OnOk, count_by};
 ghost use Rattle.std.specs.List.Sorted.{IsNonDecreasing};
 ghost use Rattle.kept_jobs.specs.Folder.{HasCause};
-ghost use Rattle.kept_recovery.specs.Files.{HasGreatest, IsAbove, KeepsJobs, ListsFailed, ListsJobs};
-ghost use Rattle.kept_recovery.specs.Kept.{ContentsAreThere, GoesOnFrom, HasNoneLeft, KeepsFound, LeavesNoMore};
+ghost use Rattle.job_store.specs.Files.{HasGreatest, IsAbove, KeepsJobs, ListsFailed, ListsJobs};
+ghost use Rattle.job_store.specs.Kept.{ContentsAreThere, GoesOnFrom, HasNoneLeft, KeepsFound, LeavesNoMore};
 
 use crate::{Names, Store};
 use kept_jobs::KeepError;

@@ -1,7 +1,7 @@
 -- What a crash at any moment leaves, call after call.
 use Rattle.std.proofs.Common.{inl, inr, ◌≤◌, ℕ, List, Option, arith}
 use Rattle.kept_jobs.specs.Folder.{Elapses, NoMore}
-use Rattle.kept_recovery.specs.Kept.{LeavesNoMore}
+use Rattle.job_store.specs.Kept.{LeavesNoMore}
 
 module _ {D : Type 0} (moment : D → ℕ) (left_since : D → ℕ → ℕ → Option (List ℕ) → Type 0) (may_leave : D → ℕ → Option (List ℕ)
     → Type 0) where

@@ -1,6 +1,6 @@
 use Rattle.std.proofs.Common.{◌≤◌, arith}
 use Rattle.std.proofs.lemmas.Option.{IfSome_then}
-use Rattle.kept_recovery.proofs.recovering.number_above_both.Goals as goal
+use Rattle.job_store.proofs.recovering.number_above_both.Goals as goal
 
 pub returns-clause-jobs : goal.returns-clause-jobs
 returns-clause-jobs c =

@@ -1,5 +1,5 @@
 use Rattle.std.proofs.Common.{◌≡◌, ◌≤◌, ℕ, ◌==◌, count_by, take}
-use Rattle.kept_recovery.proofs.recovering.number_above.Given as goal
+use Rattle.job_store.proofs.recovering.number_above.Given as goal
 
 abbrev pub invariant-loop-number : goal.invariant-loop-number
 invariant-loop-number l = record {
