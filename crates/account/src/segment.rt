@@ -3,7 +3,7 @@
 use crate::base::Base;
 use crate::entry::Entry;
 
-/// What an account had from one rotation to the next.
+/// What an account had from one rotation or trim to the next.
 #[derive(Drop)]
 pub struct Segment {
     /// Its number, from 1.
@@ -14,8 +14,12 @@ pub struct Segment {
     pub kinds_before: u64,
     /// How many of these are of the kind Handed.
     pub handed_before: u64,
-    /// What its entries begin from.
+    /// What the entries since the last rotation begin from.
     pub base: Base,
+    /// How many of these earlier segments have. It is 0 where the segment begins from its base.
+    pub since: u64,
+    /// How many entries more than configured the account might have for these, as so much of the counted reserve was given back.
+    pub freed: u64,
     /// Its entries, in order of writing.
     pub entries: Vec<Entry>,
 }

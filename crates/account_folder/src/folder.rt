@@ -167,6 +167,8 @@ impl AccountFolder {
             handed_before,
             base,
             entries,
+            since: _,
+            freed: _,
         } = segment;
         self.begun = mem::replace(&mut self.closed, closed);
         self.head.origin.segment = number;

@@ -1,5 +1,5 @@
 -- The ranges of a configuration.
-use Rattle.std.specs.Prelude.{◌≢◌, ◌≤◌, ℕ, List, [], ◌∷◌, All, length}
+use Rattle.std.specs.Prelude.{◌≢◌, ◌≤◌, ◌^◌, ℕ, List, [], ◌∷◌, All, length}
 use Rattle.config_values.specs.Config.{Config, Queue}
 
 -- a queue's name: 1 to 64 octets from 21 to 7E in hexadecimal
@@ -29,7 +29,7 @@ pub record IsConfig (c : Config) : Type 0 where
   pub max_jobs_low : 1 ≤ c.max_jobs
   pub max_jobs_high : c.max_jobs ≤ 1024
   pub account_low : 1 ≤ c.account
-  pub account_high : c.account ≤ 16000000
+  pub account_high : c.account ≤ 2 ^ 62
   pub some_queue : 1 ≤ length c.queues
   pub few_queues : length c.queues ≤ 64
   pub queues : All (IsWithin c.pages) c.queues

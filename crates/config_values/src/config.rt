@@ -22,7 +22,7 @@ pub struct Config {
     pages: u32,
     page_size: u32,
     max_jobs: u32,
-    account: u32,
+    account: u64,
     queues: Vec<Queue>,
 }
 
@@ -66,7 +66,7 @@ impl Config {
         pages: u32,
         page_size: u32,
         max_jobs: u32,
-        account: u32,
+        account: u64,
         queues: Vec<Queue>,
     ) -> Config
         requires { IsConfig (record {
@@ -137,11 +137,19 @@ impl Config {
     }
 
     /// How many entries the account may have.
-    pub fn account(&self) -> u32
+    pub fn account(&self) -> u64
         ensures value { result ≡ self.now.account }
         ensures ranges { IsConfig self.now }
     {
         self.account
+    }
+
+    /// Lets the account have so many entries.
+    pub fn set_account(&mut self, entries: u64)
+        requires { (1 ≤ entries) × (entries ≤ 2 ^ 62) }
+        ensures { self.new ≡ record self.old { account = entries } }
+    {
+        self.account = entries;
     }
 
     /// The queues, in the order of their numbers.

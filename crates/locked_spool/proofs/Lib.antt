@@ -1,6 +1,7 @@
 mod Beginning
 mod Marked
 mod Removed
+pub mod Gives
 mod Rotated
 mod Segments
 pub mod Starting

@@ -109,9 +109,9 @@ by_core d b h k q l =
     ap (count_by (λ (p : Printer). (p.queue == q) && p.stopped)) l.kept.printers
     ∙ sum_map (λ (p : Printer). cond {A = ℕ} ((p.queue == q) && p.stopped) 1 0) (kept_printer d) (before d b h k).printers
 
-module _ {config : Config} {h : Held} {room : ℕ} {totals : Sums} where
+module _ {config : Config} {h : Held} {kept : List (Event Outline)} {room : ℕ} {totals : Sums} where
   -- where nothing is marked no printer is stopped
-  pub none_stopped : {marked : Bool} {now : Kept} → IsHeld config h room totals marked → marked ≡ false → h.core ≡ now → IsRight now (λ d b events. HasStopped d b events now → ⊥)
+  pub none_stopped : {marked : Bool} {now : Kept} → IsHeld config h kept room totals marked → marked ≡ false → h.core ≡ now → IsRight now (λ d b events. HasStopped d b events now → ⊥)
   none_stopped {marked = marked} {now = now} is unmarked same =
       subst (λ (z : Kept). IsRight z (λ d b events. HasStopped d b events z → ⊥)) same
       (λ d b events l has.
@@ -124,7 +124,7 @@ module _ {config : Config} {h : Held} {room : ℕ} {totals : Sums} where
       absurd (let e : false ≡ true = sym unmarked ∙ is_marked in cc))
 
   -- a mark may be what was found
-  pub marked_anew : {marked : Bool} {now : Kept} (found : Bool) → IsHeld config h room totals marked → h.core ≡ now → IsRight now (λ d b events. IsTrue found ↔ HasStopped d b events now) → IsHeld config h room totals found
+  pub marked_anew : {marked : Bool} {now : Kept} (found : Bool) → IsHeld config h kept room totals marked → h.core ≡ now → IsRight now (λ d b events. IsTrue found ↔ HasStopped d b events now) → IsHeld config h kept room totals found
   marked_anew {now = now} found is same right =
       let here = subst (λ (z : Kept). IsRight z (λ d b events. IsTrue found ↔ HasStopped d b events z)) (sym same) right Outlines h.base h.events is.left in
       let stops : AreMarked config h.base h.events found = λ q is_queue some.
@@ -132,8 +132,11 @@ module _ {config : Config} {h : Held} {room : ℕ} {totals : Sums} where
       record {
         config_is = is.config_is;
         ranges = is.ranges;
+        core_ranges = is.core_ranges;
         left = is.left;
         counts = is.counts;
+        kept_is = is.kept_is;
+        freed_is = is.freed_is;
         room_is = is.room_is;
         entries = is.entries;
         kinds = is.kinds;
@@ -141,5 +144,6 @@ module _ {config : Config} {h : Held} {room : ℕ} {totals : Sums} where
         few = is.few;
         few_kinds = is.few_kinds;
         few_handed = is.few_handed;
+        few_since = is.few_since;
         stops = stops;
       }

@@ -33,7 +33,7 @@ empty : (n : ℕ) (xs : List ℕ) → (n == 0) ≡ true → length xs ≡ n → 
 empty n [] e l = refl
 empty n (x ∷ xs) e l = absurd (grind (arith, nat_tests))
 
-not_empty : (n : ℕ) (xs : List ℕ) → (n == 0) ≡ false → length xs ≡ n → xs ≢ []
+pub not_empty : (n : ℕ) (xs : List ℕ) → (n == 0) ≡ false → length xs ≡ n → xs ≢ []
 not_empty n xs e l z = absurd (let m : length xs ≡ 0 = ap length z in grind (arith, nat_tests))
 
 -- no job was found

@@ -31,6 +31,8 @@ use Rattle.spool_calls.specs.Looks.Detail.{Outlines}
 use Rattle.spool_calls.specs.Kept.{Kept}
 use Rattle.spool_calls.specs.Calls as calls
 use Rattle.spool_calls.specs.Calls.{is_whole}
+use Rattle.spool_core.specs.Removal as removal
+use Rattle.spool_core.specs.declared.removing.Unremoved.{Unremoved}
 use Rattle.locked_spool.specs.Held.{Held}
 
 module _ (old new : Held) where
@@ -118,6 +120,11 @@ module _ (old new : Held) where
       ⊎ ((chosen (queue name) agent list ≢ []) × Writes (Removed (queue name) (chosen (queue name) agent list)))
   WritesRemoved name agent list (Err refusal) = new ≡ old
 
+  -- one entry with these jobs, and none where there are none
+  abbrev pub WritesTheseRemoved : List ℕ → Result ℕ Unremoved → Type 0
+  WritesTheseRemoved numbers (Ok q) = ((numbers ≡ []) × (new ≡ old)) ⊎ ((numbers ≢ []) × Writes (Removed q numbers))
+  WritesTheseRemoved numbers (Err e) = new ≡ old
+
   -- one entry for the first close, and none for a later one
   abbrev pub WritesClosed : Type 0
   WritesClosed = ((here.closed ≡ false) × Writes E.Event.Closed) ⊎ ((here.closed ≡ true) × (new ≡ old))
@@ -129,3 +136,10 @@ Controls old job control new (Err back) =
     calls.IsRight old (λ d b h.
     OrMemory (MayControl (calls.before d b h old) job) (RefusesControl (calls.before d b h old) job) back.refusal
     × (new ≡ old) × (contents back.control ≡ control))
+
+-- jobs were removed by their numbers; memory may be refused for the account's copy of these where nothing else is the cause
+abbrev pub RemovesThese : (old : Kept) → List ℕ → List ℕ → (new : Kept) → Result ℕ Unremoved → Type 0
+RemovesThese old name numbers new (Ok q) =
+    calls.IsRight old (λ d b h. removal.RemovesThese d b h old name numbers new (Ok q))
+RemovesThese old name numbers new (Err e) =
+    calls.IsRight old (λ d b h. removal.FindsOrMemory d b h old name numbers e × (new ≡ old))

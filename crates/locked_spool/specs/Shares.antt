@@ -1,5 +1,5 @@
 -- How an answer moves the share of whoever called: by one entry of the call's kind where the answer is one that writes an entry.
-use Rattle.std.specs.Prelude.{◌≡◌, ◌⊎◌, ℕ, ◌++◌, ◌==◌, [], ◌∷◌, List, Result, Ok, Err, if◌then◌else◌, codes, vec_len}
+use Rattle.std.specs.Prelude.{◌≡◌, ◌⊎◌, ℕ, ◌++◌, ◌==◌, [], ◌∷◌, List, Result, Ok, Err, if◌then◌else◌, codes, length, vec_len}
 use Rattle.std.specs.Str.{bytes_eq}
 use Rattle.lpd_values.specs.declared.refusal.Refusal.{Refusal}
 use Rattle.account.specs.declared.kind.Kind.{Kind}
@@ -10,6 +10,7 @@ use Rattle.spool_calls.specs.declared.answers.Next.{Next}
 use Rattle.spool_calls.specs.declared.answers.Next.TheVariants as next
 use Rattle.spool_core.specs.declared.closing.Started.{Started}
 use Rattle.spool_core.specs.declared.telling.Removal.{Removal}
+use Rattle.spool_core.specs.declared.removing.Unremoved.{Unremoved}
 use Rattle.spool_ledgers.specs.Sums.{Sums, with_entry}
 
 -- a call that did what it was to do writes an entry of this kind
@@ -41,6 +42,11 @@ when_removed (Err refusal) s = s
 abbrev pub when_taken : Result Removal Refusal → Sums → Sums
 when_taken (Ok removal) s = if vec_len removal.numbers == 0 then s else with_entry kind.Removed s
 when_taken (Err refusal) s = s
+
+-- a removal of jobs by their numbers, if there are any
+abbrev pub when_listed : List ℕ → Result ℕ Unremoved → Sums → Sums
+when_listed numbers (Ok q) s = if length numbers == 0 then s else with_entry kind.Removed s
+when_listed numbers (Err e) s = s
 
 -- a start that started a printer, as its answer tells
 abbrev pub when_started : Result Started Refusal → Sums → Sums

@@ -1,8 +1,9 @@
 -- Which printers are stopped, and which have to wait.
-use Rattle.std.specs.Prelude.{◌≡◌, ◌<◌, ◌⊎◌, ℕ, List, length}
+use Rattle.std.specs.Prelude.{◌≡◌, ◌<◌, ◌⊎◌, ℕ, true, List, length}
 use Rattle.config_values.specs.Config.{Config, IsPrinter, IsQueue}
 use Rattle.spool_history.specs.Base.{Base}
 use Rattle.spool_history.specs.Events.{Event}
+use Rattle.spool_history.specs.Next.{printer_at}
 use Rattle.spool_calls.specs.declared.answers.Next.{Next}
 use Rattle.spool_calls.specs.declared.answers.Next.TheVariants as next
 use Rattle.spool_calls.specs.Looks.{Detail, What}
@@ -29,6 +30,10 @@ module _ (d : Detail) (b : Base) (h : List (Event (What d))) (k : Kept) where
 -- a printer of this configuration has to wait
 abbrev pub Waits : Config → Held → (printer : ℕ) → Type 0
 Waits c h p = IsPrinter c p × MustWait Outlines h.base h.events h.core p
+
+-- a printer of this configuration is stopped
+abbrev pub Stands : Config → Held → (printer : ℕ) → Type 0
+Stands c h p = IsPrinter c p × ((printer_at (before Outlines h.base h.events h.core) p).stopped ≡ true)
 
 -- a job would begin at a printer of this configuration
 abbrev pub Begins : Config → Held → (printer : ℕ) → Type 0

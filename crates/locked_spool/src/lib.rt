@@ -24,7 +24,7 @@ pub use receiving::Accepted;
 pub use rotating::RotateError;
 pub use spool_core::{
     Asked, Config, Foreign, HandedPage, Next, Pages, Progress, Receipt, Removal, ReturnedControl,
-    ReturnedPage, ReturnedTicket, SeenJob, Snapshot, Started,
+    ReturnedPage, ReturnedTicket, SeenJob, Snapshot, Started, Unremoved, Vacancy,
 };
 pub use spool_ledgers::{Blanks, Shares, SpoolLedger};
 pub use unopened::Unopened;

@@ -24,6 +24,9 @@ pub struct Locked<E: SpoolLedger, K: Ledger, H: Ledger> {
     pub(crate) core: Core,
     pub(crate) base: Base,
     pub(crate) account: Account,
+    // How many entries since the base were handed out by trims, and how much of the counted reserve was given back.
+    pub(crate) since: u64,
+    pub(crate) freed: u64,
     pub(crate) number: u64,
     pub(crate) before: u64,
     pub(crate) kinds_before: u64,
@@ -43,6 +46,8 @@ impl<E: SpoolLedger, K: Ledger, H: Ledger> Model for Locked<E, K, H> {
       core = s.core;
       base = base_seen s.base;
       events = s.account.events;
+      since = s.since;
+      freed = s.freed;
       number = s.number;
       before = s.before;
       kinds_before = s.kinds_before;
@@ -53,11 +58,13 @@ impl<E: SpoolLedger, K: Ledger, H: Ledger> Model for Locked<E, K, H> {
       core = s.core;
       base = base_seen s.base;
       events = s.account.events;
+      since = s.since;
+      freed = s.freed;
       number = s.number;
       before = s.before;
       kinds_before = s.kinds_before;
       handed_before = s.handed_before;
-    }) s.account.room s.books s.may_be_stopped };
+    }) s.account.kept s.account.room s.books s.may_be_stopped };
 }
 
 /// Writes an entry into the account, and counts it.
@@ -68,8 +75,9 @@ pub(crate) fn write<E: Ledger, K: Ledger, H: Ledger>(
     entry: Entry,
 )
     requires part { 0 < mine.old.parts }
-    requires room { length account.old.events < account.old.room }
+    requires room { length account.old.kept < account.old.room }
     ensures events { account.new.events ≡ event_seen entry ∷ account.old.events }
+    ensures kept { account.new.kept ≡ event_seen entry ∷ account.old.kept }
     ensures room { account.new.room ≡ account.old.room }
     ensures books { books.new ≡ with_entry (kind_of (event_seen entry)) books.old }
     ensures shares { mine.new ≡ with_entry (kind_of (event_seen entry)) mine.old }
@@ -91,7 +99,7 @@ impl<E: SpoolLedger, K: Ledger, H: Ledger> Locked<E, K, H> {
             (mark H.name H.parts) }
         requires config { config ≡ E.config }
         ensures first { IfOk result (λ made. let s = made.0 in
-            (s.base ≡ first_base) × (s.events ≡ []) × (s.number ≡ 1) × (s.before ≡ 0)
+            (s.base ≡ first_base) × (s.events ≡ []) × (s.since ≡ 0) × (s.freed ≡ 0) × (s.number ≡ 1) × (s.before ≡ 0)
             × (s.kinds_before ≡ 0) × (s.handed_before ≡ 0)) }
         ensures shares { IfOk result (λ made. made.1 ≡ no_sums E.parts) }
         ensures back { IfErr result (λ u. (u.blanks ≡ blanks) × (u.config ≡ config)) }
@@ -110,6 +118,8 @@ impl<E: SpoolLedger, K: Ledger, H: Ledger> Locked<E, K, H> {
             core,
             base: Base::first(alloc),
             account,
+            since: 0,
+            freed: 0,
             number: 1,
             before: 0,
             kinds_before: 0,
@@ -143,6 +153,8 @@ impl<E: SpoolLedger, K: Ledger, H: Ledger> Locked<E, K, H> {
             core,
             base,
             account,
+            since,
+            freed,
             number,
             before,
             kinds_before,
@@ -158,6 +170,8 @@ impl<E: SpoolLedger, K: Ledger, H: Ledger> Locked<E, K, H> {
             kinds_before,
             handed_before,
             base,
+            since,
+            freed,
             entries: account.into_entries(),
         }
     }

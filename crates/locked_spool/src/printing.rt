@@ -48,6 +48,7 @@ impl<E: SpoolLedger, K: Ledger, H: Ledger> Locked<E, K, H> {
         ensures bound { mine.old.handed < 2 ^ 64 }
     {
         self.books.bound(mine);
+        // Its contract bounds how many entries there are.
         let _entries = self.account.len();
     }
 
@@ -99,6 +100,7 @@ impl<E: SpoolLedger, K: Ledger, H: Ledger> Locked<E, K, H> {
             return Err(Foreign { page });
         };
         let said = self.core.printed(printer, page)?;
+        // The entry names the page that was out by the core's own word: file and number of the one that is brought aren't compared.
         let entry = Entry::AtPrinter(printer, sheet, Turn::Printed(said));
         write(&mut self.account, &mut self.books, mine, entry);
         Ok(said)
@@ -128,6 +130,7 @@ impl<E: SpoolLedger, K: Ledger, H: Ledger> Locked<E, K, H> {
             return Err(Foreign { page });
         };
         self.core.failed(printer, page)?;
+        // So a spool in which no page failed never looks at its printers to know whether it is idle.
         self.may_be_stopped = true;
         let entry = Entry::AtPrinter(printer, sheet, Turn::Failed);
         write(&mut self.account, &mut self.books, mine, entry);

@@ -4,14 +4,14 @@ ghost use Rattle.std.specs.Prelude.{◌≡◌, ◌<◌};
 ghost use Rattle.account.specs.declared.kind.Kind.TheVariants as kind;
 ghost use Rattle.spool_calls.specs.Calls.{IsRight, Closes, Removes, Starts, Tells};
 ghost use Rattle.spool_core.specs.Halves.{FindsRemoval, FindsStart};
-ghost use Rattle.locked_spool.specs.Entries.{WritesClosed, WritesRemoved, WritesStarted};
-ghost use Rattle.locked_spool.specs.Shares.{OneOrNone, WhenStarted, when_removed, when_started, when_taken};
+ghost use Rattle.locked_spool.specs.Entries.{RemovesThese, WritesClosed, WritesRemoved, WritesStarted, WritesTheseRemoved};
+ghost use Rattle.locked_spool.specs.Shares.{OneOrNone, when_listed, when_removed, when_started, when_taken};
 ghost use Rattle.locked_spool.specs.Telling.{done_of, text_of};
 
 use crate::locked::{Locked, write};
 use account::Entry;
 use lpd_values::{Octets, Refusal};
-use spool_core::{Removal, Started};
+use spool_core::{Removal, Started, Unremoved};
 use spool_ledgers::{Shares, SpoolLedger};
 use std::sync::ledger::Ledger;
 
@@ -36,9 +36,10 @@ impl<E: SpoolLedger, K: Ledger, H: Ledger> Locked<E, K, H> {
         Ok(found)
     }
 
-    /// Starts the stopped printers of a queue, and answers the number of the queue and how many of its printers it started.
+    /// Starts the stopped printers of a queue, and answers the number of the queue and how many of its printers it started. Where
+    /// none is stopped nothing changes.
     ///
-    /// Refused as `start` is.
+    /// Closed once the spool is closed; UnknownQueue where no queue has this name.
     pub fn start_telling(
         &mut self,
         mine: &mut Shares<E, K, H>,
@@ -59,24 +60,10 @@ impl<E: SpoolLedger, K: Ledger, H: Ledger> Locked<E, K, H> {
         Ok(found)
     }
 
-    /// Starts the stopped printers of a queue. Where none is stopped nothing changes.
-    ///
-    /// Closed once the spool is closed; UnknownQueue where no queue has this name.
-    pub fn start(&mut self, mine: &mut Shares<E, K, H>, queue: &[u8]) -> Result<(), Refusal>
-        requires { 0 < mine.old.parts }
-        ensures answer { IsRight self.old.core (λ d b h.
-            Starts d b h self.old.core queue.now self.new.core result) }
-        ensures account { WritesStarted self.old self.new queue.now result }
-        ensures shares { WhenStarted result mine.old mine.new }
-    {
-        self.start_telling(mine, queue)?;
-        Ok(())
-    }
-
     /// Removes the jobs of a queue that an agent removes by a list, or its active job alone where the list is empty, and
     /// answers the number of the queue, the numbers of these jobs, and the text that tells of them.
     ///
-    /// Refused as `remove` is.
+    /// Closed; UnknownQueue; Memory where memory for the text or for the numbers of the jobs is refused.
     pub fn remove_telling(
         &mut self,
         mine: &mut Shares<E, K, H>,
@@ -99,32 +86,43 @@ impl<E: SpoolLedger, K: Ledger, H: Ledger> Locked<E, K, H> {
         if removal.numbers.is_empty() {
             return Ok(removal);
         }
+        // The answer keeps the numbers, so that who calls knows which jobs ended; the entry has a copy, asked for before one ends.
         let jobs = Vec::from_slice(self.alloc, removal.numbers.as_slice())?;
-        self.core.remove_chosen(&removal);
+        self.core
+            .remove_chosen(removal.queue, removal.numbers.as_slice());
         let entry = Entry::Removed(removal.queue, jobs);
         write(&mut self.account, &mut self.books, mine, entry);
         Ok(removal)
     }
 
-    /// Removes the jobs of a queue that an agent removes by a list, or its active job alone where the list is empty, and
-    /// answers the text that tells of them.
+    /// Removes these jobs of a queue, all or none, and answers the number of the queue. No agent is asked: who calls it has the
+    /// right. Where there are none nothing changes.
     ///
-    /// Closed; UnknownQueue; Memory where memory for the text or for the numbers of the jobs is refused.
-    pub fn remove(
+    /// Refused with Closed or UnknownQueue; Stays with the first number that isn't above the one before it, or that no received
+    /// job of the queue has which hasn't ended; else Refused with Memory, where memory for the numbers of the entry is refused.
+    pub fn remove_jobs(
         &mut self,
         mine: &mut Shares<E, K, H>,
         queue: &[u8],
-        agent: &[u8],
-        list: &[Octets],
-    ) -> Result<Octets, Refusal>
+        numbers: &[u64],
+    ) -> Result<u32, Unremoved>
         requires { 0 < mine.old.parts }
-        ensures answer { IsRight self.old.core (λ d b h.
-            Removes d b h self.old.core queue.now agent.now list.now self.new.core result) }
-        ensures account { WritesRemoved self.old self.new queue.now agent.now list.now result }
-        ensures shares { mine.new ≡ when_removed result mine.old }
+        ensures answer { RemovesThese self.old.core queue.now numbers.now self.new.core result }
+        ensures account { WritesTheseRemoved self.old self.new numbers.now result }
+        ensures shares { mine.new ≡ when_listed numbers.now result mine.old }
     {
-        let removal = self.remove_telling(mine, queue, agent, list)?;
-        Ok(removal.text)
+        let found = self.core.removable(queue, numbers)?;
+        if numbers.is_empty() {
+            return Ok(found);
+        }
+        // Memory is asked for before a job ends.
+        let Ok(jobs) = Vec::from_slice(self.alloc, numbers) else {
+            return Err(Unremoved::Refused(Refusal::Memory));
+        };
+        self.core.remove_chosen(found, numbers);
+        let entry = Entry::Removed(found, jobs);
+        write(&mut self.account, &mut self.books, mine, entry);
+        Ok(found)
     }
 
     /// The text that answers a question for the state of a queue. A closed spool answers too.

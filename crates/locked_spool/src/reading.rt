@@ -1,15 +1,20 @@
 //! What a locked spool tells of itself. No reader changes anything, and none but `snapshot` takes memory.
 
-ghost use Rattle.std.specs.Prelude.{◌≡◌, ◌+◌, ◌↔◌, ◌<◌, IfOk, IsTrue, MatchOption, length};
+ghost use Rattle.std.specs.Prelude.{◌≡◌, ◌==◌, ◌+◌, ◌-◌, ◌↔◌, ◌<◌, IfOk, IsTrue, MatchOption, count_by, length};
 ghost use Rattle.config_values.specs.Config.{IsPrinter, IsQueue, queue_named, queue_of};
+ghost use Rattle.spool_history.specs.Now.{Job, free_pages};
+ghost use Rattle.spool_history.specs.Legal.{HasJob};
+ghost use Rattle.spool_calls.specs.Looks.{What};
 ghost use Rattle.spool_calls.specs.Calls.{IsRight, before};
 ghost use Rattle.spool_calls.specs.Readers.{ArePlaced, placed};
 ghost use Rattle.spool_core.specs.Printers.{MustWait};
-ghost use Rattle.locked_spool.specs.Waiting.{Begins, HasStopped, IsIdle, Waits};
+ghost use Rattle.spool_core.specs.Wanted.{GoesOn};
+ghost use Rattle.locked_spool.specs.Rotation.{MayKeep};
+ghost use Rattle.locked_spool.specs.Waiting.{Begins, HasStopped, IsIdle, Stands, Waits};
 ghost use Rattle.spool_snapshot.specs.Shows.{Shows};
 
 use crate::locked::Locked;
-use spool_core::{Pages, Snapshot};
+use spool_core::{Pages, Snapshot, Vacancy};
 use spool_ledgers::SpoolLedger;
 use std::alloc::AllocError;
 use std::sync::ledger::Ledger;
@@ -23,12 +28,58 @@ impl<E: SpoolLedger, K: Ledger, H: Ledger> Locked<E, K, H> {
         self.core.held()
     }
 
-    /// How many entries of the account are counted for the jobs that were accepted and for the starts that may come.
-    pub fn counted_reserve(&self) -> u64
-        ensures { IsRight self.now.core (λ d b h.
-            result ≡ (before d b h self.now.core).reserved) }
+    /// How many entries of the account are counted for the jobs that were accepted and for the starts that may come, but for what
+    /// trims gave back.
+    pub fn counted(&self) -> u64
+        ensures value { result ≡ self.now.core.reserved - self.now.freed }
+        ensures reserved { IsRight self.now.core (λ d b h.
+            result + self.now.freed ≡ (before d b h self.now.core).reserved) }
     {
-        self.core.counted_reserve()
+        self.core.counted_reserve() - self.freed
+    }
+
+    /// Whether the account may be kept: at least so many entries are counted, and no job is held, or a trim gives so many back.
+    pub fn may_keep(&self, least: u64) -> bool
+        ensures { IsTrue result ↔ MayKeep self.now least }
+    {
+        least <= self.counted() && (self.core.held() == 0 || least <= self.gives_back())
+    }
+
+    /// What there is room for, at this moment, with what trims gave back.
+    pub fn vacancy(&self) -> Vacancy
+        ensures held { IsRight self.now.core (λ d b h.
+            result.held ≡ length (before d b h self.now.core).jobs) }
+        ensures rows { IsRight self.now.core (λ d b h.
+            result.rows ≡ E.config.max_jobs - length (before d b h self.now.core).jobs) }
+        ensures pages { IsRight self.now.core (λ d b h.
+            result.pages ≡ free_pages (before d b h self.now.core)) }
+        ensures entries { IsRight self.now.core (λ d b h. result.entries
+            ≡ self.now.freed + E.config.account - (before d b h self.now.core).reserved) }
+    {
+        self.core.vacancy()
+    }
+
+    /// Whether a job is held and hasn't ended.
+    pub fn is_wanted(&self, job: u64) -> bool
+        ensures { IsRight self.now.core (λ d b h.
+            IsTrue result ↔ HasJob (before d b h self.now.core).jobs job GoesOn) }
+    {
+        self.core.is_wanted(job)
+    }
+
+    /// How many jobs of a queue are held.
+    pub fn held_in(&self, queue: u32) -> usize
+        ensures { IsRight self.now.core (λ d b h. result
+            ≡ count_by (λ (v : Job (What d)). v.queue == queue) (before d b h self.now.core).jobs) }
+    {
+        self.core.held_in(queue)
+    }
+
+    /// Whether a printer has this number and is stopped.
+    pub fn is_stopped(&self, printer: u32) -> bool
+        ensures { IsTrue result ↔ Stands E.config self.now printer }
+    {
+        self.core.config().is_printer(printer) && self.core.is_stopped(printer)
     }
 
     /// The pages by where they are. All together are the pages of the spool.

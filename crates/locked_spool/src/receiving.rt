@@ -41,9 +41,10 @@ impl<E: SpoolLedger, K: Ledger, H: Ledger> Locked<E, K, H> {
         self.core.admits(queue)
     }
 
-    /// Accepts a job from a sender for a queue, and answers its number and that of the queue.
+    /// Accepts a job from a sender for a queue, and answers its number, 1, 2, 3 and so on over all queues, and that of the queue.
     ///
-    /// Refused as `open` is.
+    /// Closed; UnknownQueue; TableFull where as many jobs are held as may be; AccountFull where the account has no room for all
+    /// entries of one more job, or no number is left; Memory where memory for the job or for its entries is refused.
     pub fn open_telling(
         &mut self,
         mine: &mut Shares<E, K, H>,
@@ -60,8 +61,8 @@ impl<E: SpoolLedger, K: Ledger, H: Ledger> Locked<E, K, H> {
         let number = self.core.admission(queue)?;
         let reserve = self.core.config().reserve_of(number);
         // No entry that is to come may be refused for want of memory.
-        self.account
-            .reserve(self.core.counted_reserve() + reserve + 1)?;
+        let counted = self.core.counted_reserve() - self.freed;
+        self.account.reserve(counted + reserve + 1)?;
         let job = self.core.accept(sender, number)?;
         let entry = Entry::Opened {
             job,
@@ -70,26 +71,6 @@ impl<E: SpoolLedger, K: Ledger, H: Ledger> Locked<E, K, H> {
         };
         write(&mut self.account, &mut self.books, mine, entry);
         Ok(Accepted { job, queue: number })
-    }
-
-    /// Accepts a job from a sender for a queue, and answers its number: 1, 2, 3 and so on, over all queues.
-    ///
-    /// Closed; UnknownQueue; TableFull where as many jobs are held as may be; AccountFull where the account has no room for all
-    /// entries of one more job, or no number is left; Memory where memory for the job or for its entries is refused.
-    pub fn open(
-        &mut self,
-        mine: &mut Shares<E, K, H>,
-        sender: u32,
-        queue: &[u8],
-    ) -> Result<u64, Refusal>
-        requires { 0 < mine.old.parts }
-        ensures answer { IsRight self.old.core (λ d b h.
-            Opens d b h self.old.core sender queue.now self.new.core result) }
-        ensures account { WritesOpened self.old self.new sender queue.now result }
-        ensures shares { mine.new ≡ when_done kind.Opened result mine.old }
-    {
-        let accepted = self.open_telling(mine, sender, queue)?;
-        Ok(accepted.job)
     }
 
     /// Lends a page to a job, which has to come back by `put` or `abort`; or answers Later, where no page is free or the state
@@ -155,6 +136,7 @@ impl<E: SpoolLedger, K: Ledger, H: Ledger> Locked<E, K, H> {
         ensures account { WritesPut self.old self.new job page result }
         ensures shares { mine.new ≡ when_done kind.Put result mine.old }
     {
+        // An entry has room for lengths below 2^32; `put_sized` doesn't test the size again.
         if page.page_size() != self.core.config().page_size() as usize {
             return Err(ReturnedPage { page });
         }
@@ -206,6 +188,7 @@ impl<E: SpoolLedger, K: Ledger, H: Ledger> Locked<E, K, H> {
         if let Some(refusal) = self.core.control_refusal(job) {
             return Err(ReturnedControl { control, refusal });
         }
+        // The account's copy is made behind all other refusals, and before the core takes the file: whatever is refused comes back.
         let Ok(copy) = control.copy(self.alloc) else {
             let refusal = Refusal::Memory;
             return Err(ReturnedControl { control, refusal });

@@ -23,15 +23,15 @@ use std::sync::ledger::Ledger;
 use std::thread;
 use std::thread::{JoinHandle, Scope, SpawnError, Threads};
 
-/// Threads that were started, each of which gives its seat back.
+/// Threads that were started, most of which give their seats back.
 #[derive(Drop)]
 struct Crew<E: SpoolLedger, K: Ledger, H: Ledger> {
     answering: Vec<JoinHandle<SessionSeat<E, K, H>>>,
     looking: Vec<JoinHandle<SessionSeat<E, K, H>>>,
     printing: Vec<JoinHandle<PrinterSeat<E, K, H>>>,
     steward: Option<JoinHandle<(SessionSeat<E, K, H>, Counter)>>,
-    // Who shows the status, where it is shown.
-    showing: Vec<JoinHandle<()>>,
+    // Who needs no seat: the account's keeper, and who shows the status, where it is shown.
+    seatless: Vec<JoinHandle<()>>,
     // Who writes the account's segments, where they become files.
     archiving: Vec<JoinHandle<()>>,
     // All were started.
@@ -98,7 +98,6 @@ impl<E: SpoolLedger + Send + Sync, K: Ledger + Send + Sync, H: Ledger + Send + S
         let Roles {
             porter,
             watcher,
-            keeper,
             steward,
             feeder,
             sessions,
@@ -110,7 +109,7 @@ impl<E: SpoolLedger + Send + Sync, K: Ledger + Send + Sync, H: Ledger + Send + S
             looking: Vec::new(alloc),
             printing: Vec::new(alloc),
             steward: None,
-            showing: Vec::new(alloc),
+            seatless: Vec::new(alloc),
             archiving: Vec::new(alloc),
             is_whole: true,
         };
@@ -127,14 +126,14 @@ impl<E: SpoolLedger + Send + Sync, K: Ledger + Send + Sync, H: Ledger + Send + S
         crew.is_whole &= keep(&mut crew.looking, thread);
         let thread = scope.spawn(move || watch(house, watcher));
         crew.is_whole &= keep(&mut crew.looking, thread);
-        let thread = scope.spawn(move || house.keep_rotating(keeper));
-        crew.is_whole &= keep(&mut crew.looking, thread);
+        let thread = scope.spawn(move || house.keep_account());
+        crew.is_whole &= keep(&mut crew.seatless, thread);
         let thread = scope.spawn(move || Care { house }.look_after(steward, counter));
         crew.steward = thread.ok();
         crew.is_whole &= crew.steward.is_some();
         if let Some(board) = board {
             let thread = scope.spawn(move || Care { house }.show_all(board));
-            crew.is_whole &= keep(&mut crew.showing, thread);
+            crew.is_whole &= keep(&mut crew.seatless, thread);
         }
         if house.archive.is_some() {
             let thread = scope.spawn(move || house.archive_all());
@@ -156,7 +155,7 @@ impl<E: SpoolLedger + Send + Sync, K: Ledger + Send + Sync, H: Ledger + Send + S
             looking,
             printing,
             steward,
-            showing,
+            seatless,
             archiving,
             ..
         } = self;
@@ -172,7 +171,7 @@ impl<E: SpoolLedger + Send + Sync, K: Ledger + Send + Sync, H: Ledger + Send + S
         house.oversight.wake_steward();
         house.close_shelf();
         care.end_showing();
-        for thread in showing {
+        for thread in seatless {
             thread.join(rt);
         }
         join_all(rt, looking, &mut sessions);

@@ -71,20 +71,17 @@ impl<R: Files<File = File> + Clock + Log + Wait, E: SpoolLedger, K: Ledger, H: L
     K,
     H,
 > {
-    /// Whether the spool has room for a job of this owner whose file has N octets: free pages for all of them, a place among the
-    /// jobs, and its reserve in the account; or has no job at all. False where memory to look is refused.
+    /// Whether the spool has room for a job of this owner whose file has N octets: free pages for all of them, a row of the table,
+    /// and its reserve in the account, beside one entry for the close; or has no job at all.
     fn has_room(&self, owner: &Owner, octets: u64) -> bool {
-        let Ok(sight) = self.house.spool.sight(self.house.rt, self.house.alloc) else {
-            return false;
-        };
         let config = &self.house.oversight.config;
-        let free = (sight.spool.pages.free as u64).saturating_mul(u64::from(config.page_size()));
+        let vacancy = self.house.spool.vacancy(self.house.rt);
+        let free = (vacancy.pages as u64).saturating_mul(u64::from(config.page_size()));
         let reserve = config
             .queue_named(owner.queue.as_slice())
             .map_or(0, |queue| config.reserve_of(queue));
-        let left = u64::from(config.account()).saturating_sub(sight.spool.reserved);
-        let has_place = sight.spool.jobs.len() < config.max_jobs() as usize;
-        sight.spool.jobs.is_empty() || (octets <= free && has_place && reserve <= left)
+        let has_row = 0 < vacancy.rows;
+        vacancy.held == 0 || (octets <= free && has_row && reserve < vacancy.entries)
     }
 
     /// Feeds the job that waits first. False where it is to wait on.

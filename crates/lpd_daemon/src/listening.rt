@@ -141,7 +141,7 @@ impl<'a, R: Clock + Log + Wait, E: SpoolLedger, K: Ledger, H: Ledger> Porter<'a,
     fn lets_jobs_in(&mut self) -> bool {
         match &mut self.gate.room {
             Some(room) if self.gate.lobby.has_job() => {
-                room.lets_jobs_in(self.house.rt, &self.house.spool, &mut self.seat)
+                room.lets_jobs_in(self.house.rt, &self.house.spool)
             }
             _ => true,
         }

@@ -110,11 +110,11 @@ impl<'a, R: Clock + Log + Wait, E: SpoolLedger, K: Ledger, H: Ledger> Watcher<'a
     fn look(&mut self, buffer: &mut [u8]) -> Result<(), AllocError> {
         let house = self.house;
         let waiting = house.spool.waiting(house.rt, house.alloc)?;
-        let pages = house.spool.pages_by_place(house.rt, &mut self.seat);
+        let pages = house.spool.pages(house.rt);
         let sample = Sample {
             waiting,
             pages: [pages.free, pages.chained, pages.lent, pages.out],
-            counted: house.spool.counted_reserve(house.rt, &mut self.seat),
+            counted: house.spool.counted_reserve(house.rt),
         };
         for waiting in sample.waiting.iter() {
             self.judge(*waiting, buffer);

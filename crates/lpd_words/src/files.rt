@@ -86,7 +86,7 @@ fn few_text(jobs: u64) -> &'static str
 fn size_line(alloc: Global, config: &Config, queue: u32) -> Result<Vec<u8>, AllocError>
     ensures { IfOk result (λ line. line.items ≡ size_line config.now queue) }
 {
-    let jobs = u64::from(config.account()).saturating_sub(1) / config.reserve_of(queue);
+    let jobs = config.account().saturating_sub(1) / config.reserve_of(queue);
     let few = few_text(jobs);
     let mut line = Vec::from_slice(alloc, b"queue ")?;
     line.extend_from_slice(config.name_of(queue))?;

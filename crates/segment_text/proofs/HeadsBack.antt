@@ -178,15 +178,15 @@ page_size_fits c h = let p : 65536 < 2 ^ 32 = lit< tt in omega (arith, h.page_si
 max_jobs_fit : (c : Config) → IsConfig c → IsU32 c.max_jobs
 max_jobs_fit c h = let p : 1024 < 2 ^ 32 = lit< tt in omega (arith, h.max_jobs_high)
 
-account_fits : (c : Config) → IsConfig c → IsU32 c.account
-account_fits c h = let p : 16000000 < 2 ^ 32 = lit< tt in omega (arith, h.account_high)
+account_fits : (c : Config) → IsConfig c → IsU64 c.account
+account_fits c h = let p : 2 ^ 62 < 2 ^ 64 = lit< tt in omega (arith, h.account_high)
 
 pub config_are : (c : Config) → IsConfig c → AreWords (config_words c)
 config_are c h = (
   (lit< tt, refl),
   (
     short_word c.pages (pages_fit c h),
-    (short_word c.page_size (page_size_fits c h), (short_word c.max_jobs (max_jobs_fit c h), (short_word c.account (account_fits c h), queues_are c.pages c.queues h.pages_high h.queues))),
+    (short_word c.page_size (page_size_fits c h), (short_word c.max_jobs (max_jobs_fit c h), (long_word c.account (account_fits c h), queues_are c.pages c.queues h.pages_high h.queues))),
   ),
 )
 
@@ -195,7 +195,7 @@ config_back v h =
     let a = short_read v.pages (pages_fit v h) in
     let b = short_read v.page_size (page_size_fits v h) in
     let c = short_read v.max_jobs (max_jobs_fit v h) in
-    let d = short_read v.account (account_fits v h) in
+    let d = long_read v.account (account_fits v h) in
     let e = queues_read v.pages [] v.queues h.pages_high h.queues in
     ap R.config_of (config_joined v)
     ∙ (ap (behind (codes "config") R.config_in) (words_of-joined (config_words v) (config_are v h)) ∙ rw (a, b, c, d, e) refl)

@@ -1,5 +1,5 @@
 -- Which numbers, names and queues a configuration may have, part by part.
-use Rattle.std.specs.Prelude.{◌≡◌, ◌≢◌, ◌≤◌, ◌&&◌, ℕ, Bool, true, List, [], ◌∷◌, nat_le, length}
+use Rattle.std.specs.Prelude.{◌≡◌, ◌≢◌, ◌≤◌, ◌^◌, ◌&&◌, ℕ, Bool, true, List, [], ◌∷◌, nat_le, length}
 use Rattle.std.specs.List.{list_all, AllByRecursion}
 use Rattle.config_values.specs.Config.{Queue}
 use Rattle.control_lines.specs.Escapes.{is_shown}
@@ -14,7 +14,7 @@ is_queue_name name = is_name_len (length name) && list_all is_shown name
 abbrev pub AreNumbers : (pages page_size max_jobs account : ℕ) → Type 0
 AreNumbers pages page_size max_jobs account =
     ((1 ≤ pages) × (pages ≤ 65536)) × ((1 ≤ page_size) × (page_size ≤ 65536))
-    × ((1 ≤ max_jobs) × (max_jobs ≤ 1024)) × ((1 ≤ account) × (account ≤ 16000000))
+    × ((1 ≤ max_jobs) × (max_jobs ≤ 1024)) × ((1 ≤ account) × (account ≤ 2 ^ 62))
 
 -- a queue is in its ranges, and its limit within the pages
 abbrev pub FitsPages : (pages : ℕ) → Queue → Type 0

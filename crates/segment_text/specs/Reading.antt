@@ -56,7 +56,7 @@ config_with _ _ _ _ _ = None
 
 abbrev pub config_in : List (List ℕ) → Option Config
 config_in (pages ∷ page_size ∷ max_jobs ∷ account ∷ words) =
-    config_with (short_of pages) (short_of page_size) (short_of max_jobs) (short_of account) (queues_onto [] words)
+    config_with (short_of pages) (short_of page_size) (short_of max_jobs) (number_of account) (queues_onto [] words)
 config_in _ = None
 
 -- a length, or a dash where there is none

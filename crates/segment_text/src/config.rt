@@ -12,7 +12,7 @@ ghost use Rattle.segment_text.specs.Meant as M;
 ghost use Rattle.segment_text.specs.Reading as R;
 
 use crate::write::write_config;
-use account_text::{LineFault, next_word, short};
+use account_text::{LineFault, next_word, number, short};
 use config_values::{Config, Queue};
 use std::alloc::Global;
 
@@ -79,7 +79,7 @@ fn have_own_names(queues: &[Queue]) -> bool
 }
 
 /// Whether there may be these numbers of pages, of octets of a page, of held jobs and of entries.
-fn are_numbers(pages: u32, page_size: u32, max_jobs: u32, account: u32) -> bool
+fn are_numbers(pages: u32, page_size: u32, max_jobs: u32, account: u64) -> bool
     ensures { IsTrue result ↔ AreNumbers pages page_size max_jobs account }
 {
     1 <= pages
@@ -89,7 +89,7 @@ fn are_numbers(pages: u32, page_size: u32, max_jobs: u32, account: u32) -> bool
         && 1 <= max_jobs
         && max_jobs <= 1_024
         && 1 <= account
-        && account <= 16_000_000
+        && account <= 1 << 62
 }
 
 /// Whether there may be these queues.
@@ -138,7 +138,7 @@ fn queues(alloc: Global, text: &[u8]) -> Result<Vec<Queue>, LineFault>
 
 /// What a configuration is made of, as it stands in its line: the pages, the octets of a page, the held jobs, the entries, and the
 /// queues.
-type Parts = (u32, u32, u32, u32, Vec<Queue>);
+type Parts = (u32, u32, u32, u64, Vec<Queue>);
 
 /// What the words of a text tell of a configuration.
 fn parts(alloc: Global, text: &[u8]) -> Result<Parts, LineFault>
@@ -160,7 +160,7 @@ fn parts(alloc: Global, text: &[u8]) -> Result<Parts, LineFault>
     let pages = short(pages).ok_or(LineFault::Bad)?;
     let page_size = short(page_size).ok_or(LineFault::Bad)?;
     let max_jobs = short(max_jobs).ok_or(LineFault::Bad)?;
-    let account = short(account).ok_or(LineFault::Bad)?;
+    let account = number(account).ok_or(LineFault::Bad)?;
     let queues = queues(alloc, rest)?;
     Ok((pages, page_size, max_jobs, account, queues))
 }
@@ -190,7 +190,7 @@ fn whole(
     pages: u32,
     page_size: u32,
     max_jobs: u32,
-    account: u32,
+    account: u64,
     queues: Vec<Queue>,
 ) -> Option<Config>
     ensures { MatchOption result (IsConfig (record {

@@ -68,7 +68,7 @@ pub fn write_config(alloc: Global, config: &Config) -> Result<Vec<u8>, AllocErro
     put_number(&mut line, alloc, u64::from(config.pages()))?;
     put_number(&mut line, alloc, u64::from(config.page_size()))?;
     put_number(&mut line, alloc, u64::from(config.max_jobs()))?;
-    put_number(&mut line, alloc, u64::from(config.account()))?;
+    put_number(&mut line, alloc, config.account())?;
     put_queues(&mut line, alloc, config.queues())?;
     Ok(line)
 }

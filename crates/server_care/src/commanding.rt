@@ -4,8 +4,7 @@ use crate::care::Care;
 use control_lines::{AnswerEnd, Command};
 use log::Log;
 use server_house::{PrintedLine, rotation_of};
-use shared_spool::{Octets, SessionSeat, Sight, SpoolLedger};
-use spool_calls::Printer;
+use shared_spool::{Octets, SessionSeat, SpoolLedger};
 use std::alloc::{AllocError, Global};
 use std::fmt::Display;
 use std::fs::{File, Files};
@@ -64,18 +63,6 @@ impl Answer {
     }
 }
 
-/// Tells which printers of a queue stood still before they were started. An error where memory is refused.
-fn tell_started(answer: &mut Answer, printers: &[Printer], queue: u32) -> Result<(), AllocError> {
-    for (at, printer) in printers.iter().enumerate() {
-        if printer.queue == queue && printer.stopped {
-            let number = at + 1;
-            let line = format!(in answer.alloc; "started {number}")?;
-            answer.line(&line)?;
-        }
-    }
-    Ok(())
-}
-
 impl<R: Files<File = File> + Clock + Log + Wait, E: SpoolLedger, K: Ledger, H: Ledger> Care<
     '_,
     '_,
@@ -84,10 +71,22 @@ impl<R: Files<File = File> + Clock + Log + Wait, E: SpoolLedger, K: Ledger, H: L
     K,
     H,
 > {
-    /// The printers as they stand now. An error where memory is refused.
-    fn printers(&self) -> Result<Vec<Printer>, AllocError> {
-        let Sight { spool, .. } = self.house.spool.sight(self.house.rt, self.house.alloc)?;
-        Ok(spool.printers)
+    /// The numbers of the printers of a queue that stand still now. An error where memory is refused.
+    fn stopped_of(&self, queue: &[u8]) -> Result<Vec<u32>, AllocError> {
+        let config = &self.house.oversight.config;
+        let mut stopped = Vec::new(self.house.alloc);
+        let Some(queue) = config.queue_named(queue) else {
+            return Ok(stopped);
+        };
+        for before in 0..config.printer_count() {
+            let printer = before + 1;
+            if config.queue_of(printer) == queue
+                && self.house.spool.is_stopped(self.house.rt, printer)
+            {
+                stopped.push(printer)?;
+            }
+        }
+        Ok(stopped)
     }
 
     /// Starts the stopped printers of a queue, and tells which.
@@ -97,12 +96,15 @@ impl<R: Files<File = File> + Clock + Log + Wait, E: SpoolLedger, K: Ledger, H: L
         queue: &[u8],
     ) -> Result<Vec<u8>, AllocError> {
         let mut answer = Answer::new(self.house.alloc);
-        let printers = self.printers()?;
+        let stopped = self.stopped_of(queue)?;
         let started = match self.house.spool.start_telling(self.house.rt, seat, queue) {
             Ok(started) => started,
             Err(refusal) => return answer.end_by(Some(refusal)),
         };
-        tell_started(&mut answer, printers.as_slice(), started.queue)?;
+        for printer in stopped.iter() {
+            let line = format!(in answer.alloc; "started {printer}")?;
+            answer.line(&line)?;
+        }
         if started.stopped == 0 {
             answer.line(&"started none")?;
         }
@@ -112,14 +114,13 @@ impl<R: Files<File = File> + Clock + Log + Wait, E: SpoolLedger, K: Ledger, H: L
     /// Holds a queue, or releases it.
     fn hold_queue(
         &self,
-        seat: &mut SessionSeat<E, K, H>,
         queue: &[u8],
         held: bool,
     ) -> Result<Vec<u8>, AllocError> {
         let done = if held {
-            self.house.spool.hold(self.house.rt, seat, queue)
+            self.house.spool.hold(self.house.rt, queue)
         } else {
-            self.house.spool.release(self.house.rt, seat, queue)
+            self.house.spool.release(self.house.rt, queue)
         };
         Answer::new(self.house.alloc).end_by(done.err())
     }
@@ -194,8 +195,8 @@ impl<R: Files<File = File> + Clock + Log + Wait, E: SpoolLedger, K: Ledger, H: L
         match command {
             Command::Status => self.tell_status(),
             Command::Start { queue } => self.start_queue(seat, queue.as_slice()),
-            Command::Hold { queue } => self.hold_queue(seat, queue.as_slice(), true),
-            Command::Release { queue } => self.hold_queue(seat, queue.as_slice(), false),
+            Command::Hold { queue } => self.hold_queue(queue.as_slice(), true),
+            Command::Release { queue } => self.hold_queue(queue.as_slice(), false),
             Command::Remove { queue, whom } => {
                 self.remove_jobs(seat, queue.as_slice(), whom.as_slice())
             }

@@ -88,11 +88,8 @@ impl<R: Files<File = File> + Clock + Log + Wait, E: SpoolLedger, K: Ledger, H: L
             return;
         }
         board.due = second.saturating_add(LOOK_SECONDS);
-        if let Ok(sight) = self.house.spool.sight(self.house.rt, self.house.alloc) {
-            let _ = board
-                .hour
-                .note(look_of(second, sight.spool.pages, &self.counts()));
-        }
+        let pages = self.house.spool.pages(self.house.rt);
+        let _ = board.hour.note(look_of(second, pages, &self.counts()));
     }
 
     /// The response with a resource of the server as it is now, and by GET with its body. The spool's lock isn't held while it is drawn. AllocError where memory for it is refused.

@@ -7,8 +7,7 @@ use control_lines::{AnswerEnd, Command, LineFault};
 use control_socket::{Asked, Pending};
 use log::{Log, warn};
 use server_notes::Standstill;
-use shared_spool::{SeenJob, SessionSeat, SpoolLedger};
-use spool_calls::Printer;
+use shared_spool::{SessionSeat, SpoolLedger};
 use std::alloc::AllocError;
 use std::fs::{File, Files};
 use std::rt::Clock;
@@ -32,17 +31,6 @@ fn earlier(first: Option<Instant>, second: Option<Instant>) -> Option<Instant> {
         (Some(first), Some(second)) => Some(first.min(second)),
         (first, second) => first.or(second),
     }
-}
-
-/// Whether the printer of this number, from 1, stands still.
-fn is_stopped(printers: &[Printer], printer: u32) -> bool {
-    let at = (printer as usize).saturating_sub(1);
-    printers.get(at).is_some_and(|printer| printer.stopped)
-}
-
-/// How many of these jobs are in this queue.
-fn jobs_of(jobs: &[SeenJob], queue: u32) -> usize {
-    jobs.iter().filter(|job| job.queue == queue).count()
 }
 
 impl<R: Files<File = File> + Clock + Log + Wait, E: SpoolLedger, K: Ledger, H: Ledger> Steward<
@@ -91,15 +79,14 @@ impl<R: Files<File = File> + Clock + Log + Wait, E: SpoolLedger, K: Ledger, H: L
     }
 
     /// How many jobs of its queue wait behind a printer, where it stands still. None where it runs, of which it is kept that it doesn't
-    /// stand still any more, or memory to look is refused.
+    /// stand still any more.
     fn jobs_behind(&self, printer: u32, queue: u32) -> Option<usize> {
         let house = self.care.house;
-        let sight = house.spool.sight(house.rt, house.alloc).ok()?;
-        if !is_stopped(sight.spool.printers.as_slice(), printer) {
+        if !house.spool.is_stopped(house.rt, printer) {
             house.oversight.standstills.end(house.rt, printer);
             return None;
         }
-        Some(jobs_of(sight.spool.jobs.as_slice(), queue))
+        Some(house.spool.held_in(house.rt, queue))
     }
 
     /// Tells that a printer stands still.

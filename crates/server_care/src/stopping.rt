@@ -73,12 +73,6 @@ fn awaits_one(sight: &Sight) -> bool
         .any(|job| is_awaited(printers, held, job))
 }
 
-/// Whether a server that isn't stopped waits for nothing more once its last connection was served: no job is held, or a printer is
-/// stopped.
-fn is_idle(sight: &Sight) -> bool {
-    sight.spool.jobs.is_empty() || sight.spool.printers.iter().any(|printer| printer.stopped)
-}
-
 impl<R: Clock + Log + Wait, E: SpoolLedger, K: Ledger, H: Ledger> Care<'_, '_, R, E, K, H> {
     /// Whether the pipe of a printer that runs has octets that its reader hasn't taken.
     fn has_full_pipe(&self, sight: &Sight) -> bool {
@@ -91,14 +85,13 @@ impl<R: Clock + Log + Wait, E: SpoolLedger, K: Ledger, H: Ledger> Care<'_, '_, R
 
     /// Whether nothing is left to do.
     fn is_done(&self) -> bool {
+        if !self.house.ending.stops() {
+            return self.house.spool.is_idle(self.house.rt);
+        }
         let Ok(sight) = self.house.spool.sight(self.house.rt, self.house.alloc) else {
             return false;
         };
-        if self.house.ending.stops() {
-            !awaits_one(&sight) && !self.has_full_pipe(&sight)
-        } else {
-            is_idle(&sight)
-        }
+        !awaits_one(&sight) && !self.has_full_pipe(&sight)
     }
 
     /// Waits until nothing is left to do, once no session brings more; or until nothing is waited for any more.

@@ -1,7 +1,6 @@
 //! What printers ask a house that wait.
 
 use crate::house::House;
-use held_jobs::Phase;
 use log::{Log, warn};
 use shared_spool::SpoolLedger;
 use sink_devices::Errand;
@@ -11,15 +10,7 @@ use std::sync::ledger::Ledger;
 
 impl<R: Clock + Log + Wait, E: SpoolLedger, K: Ledger, H: Ledger> Errand for House<'_, R, E, K, H> {
     fn is_wanted(&self, job: u64) -> bool {
-        if self.ending.is_over() {
-            return false;
-        }
-        // Without memory to look, the printer is waited for.
-        let Ok(sight) = self.spool.sight(self.rt, self.alloc) else {
-            return true;
-        };
-        let mut jobs = sight.spool.jobs.iter();
-        jobs.any(|held| held.number == job && held.phase != Phase::Ended)
+        !self.ending.is_over() && self.spool.is_wanted(self.rt, job)
     }
 
     fn is_cut_off(&self) -> bool {
@@ -27,14 +18,11 @@ impl<R: Clock + Log + Wait, E: SpoolLedger, K: Ledger, H: Ledger> Errand for Hou
     }
 
     fn tell_unreached(&self, printer: u32, job: u64, seconds: u64) {
-        let Ok(sight) = self.spool.sight(self.rt, self.alloc) else {
-            warn!(self.rt; "printer {printer} hasn't been reached for {seconds} s: job {job} waits for it");
-            return;
-        };
-        let config = &self.oversight.config;
-        let queue = config.queue_of(printer);
-        let free = u64::from(config.account()).saturating_sub(sight.spool.reserved);
-        let (more, name) = (free / config.reserve_of(queue), self.queue_name(queue));
+        let queue = self.oversight.config.queue_of(printer);
+        // One entry stays for the close.
+        let left = self.spool.vacancy(self.rt).entries.saturating_sub(1);
+        let more = left / self.oversight.config.reserve_of(queue);
+        let name = self.queue_name(queue);
         warn!(self.rt; "printer {printer} hasn't been reached for {seconds} s: job {job} waits for it, and the account has room for {more} more jobs of {name}");
     }
 }

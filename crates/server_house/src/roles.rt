@@ -12,9 +12,9 @@ use std::sync::ledger::Ledger;
 /// How many sessions serve connections that bring no job, and those alone.
 pub const NO_JOB_SESSIONS: u32 = 2;
 
-/// How many sessions' seats are for others than sessions: the porter, the watcher, the keeper, the
-/// steward and the feeder.
-pub const OTHERS: u32 = 5;
+/// How many sessions' seats are for others than sessions: the porter, the watcher, the steward and
+/// the feeder.
+pub const OTHERS: u32 = 4;
 
 /// Seats at a spool.
 #[derive(Drop)]
@@ -30,8 +30,6 @@ pub struct Roles<E: SpoolLedger, K: Ledger, H: Ledger> {
     pub porter: SessionSeat<E, K, H>,
     /// Who looks for peers that are gone.
     pub watcher: SessionSeat<E, K, H>,
-    /// Who rotates the account.
-    pub keeper: SessionSeat<E, K, H>,
     /// Who does what is asked at the control socket and by signals.
     pub steward: SessionSeat<E, K, H>,
     /// Who has the spool take what a folder has kept.
@@ -52,9 +50,6 @@ impl<E: SpoolLedger, K: Ledger, H: Ledger> Roles<E, K, H> {
         let Some(porter) = sessions.pop() else {
             return Err(Fault::Memory);
         };
-        let Some(keeper) = sessions.pop() else {
-            return Err(Fault::Memory);
-        };
         let Some(watcher) = sessions.pop() else {
             return Err(Fault::Memory);
         };
@@ -67,7 +62,6 @@ impl<E: SpoolLedger, K: Ledger, H: Ledger> Roles<E, K, H> {
         Ok(Roles {
             porter,
             watcher,
-            keeper,
             steward,
             feeder,
             sessions,

@@ -7,7 +7,7 @@ ghost use Rattle.server_house.specs.Rotating.{next_hold};
 use config_values::Config;
 use log::{Log, warn};
 use server_notes::milliseconds_since;
-use shared_spool::{SessionSeat, SharedSpool, SpoolLedger};
+use shared_spool::{SharedSpool, SpoolLedger};
 use std::rt::Clock;
 use std::sync::Wait;
 use std::sync::ledger::Ledger;
@@ -95,7 +95,7 @@ impl AccountRoom {
         // Each connection that is served, or waits for that, may bring a job that isn't counted
         // yet.
         let jobs = u64::from(sessions).saturating_mul(2);
-        let account = u64::from(config.account());
+        let account = config.account();
         let least = (account / 4).max(1);
         let most = account.saturating_sub((largest + 1).saturating_mul(jobs));
         AccountRoom {
@@ -132,15 +132,14 @@ impl AccountRoom {
         &mut self,
         rt: &R,
         spool: &SharedSpool<E, K, H>,
-        seat: &mut SessionSeat<E, K, H>,
     ) -> bool {
-        let counted = spool.counted_reserve(rt, seat);
+        let counted = spool.counted_reserve(rt);
         self.tell_full(rt, counted);
         if counted <= self.most {
             self.hold = Hold::No;
             return true;
         }
-        let held = spool.held(rt, seat);
+        let held = spool.vacancy(rt).held;
         let Ok(now) = Instant::now(rt) else {
             return true;
         };

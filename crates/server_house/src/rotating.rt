@@ -1,4 +1,4 @@
-//! When the account is rotated.
+//! When the account is rotated or trimmed.
 
 ghost use Rattle.std.specs.Int.NonZero.{non_zero_u64_get};
 ghost use Rattle.std.specs.Prelude.{◌≡◌, ◌↔◌, IsTrue, length, option_map};
@@ -7,7 +7,7 @@ ghost use Rattle.server_house.specs.Rotating.{HasTurn};
 use crate::house::House;
 use log::{Log, error};
 use server_notes::Rotation;
-use shared_spool::{RotateError, Segment, SessionSeat, SpoolLedger};
+use shared_spool::{RotateError, Segment, SpoolLedger};
 use std::num::NonZeroU64;
 use std::rt::Clock;
 use std::sync::Wait;
@@ -53,29 +53,38 @@ impl<R: Clock + Wait + Log, E: SpoolLedger, K: Ledger, H: Ledger> House<'_, R, E
         }
     }
 
-    /// Rotates the account as soon as no job is held and `least` entries are counted, again and again
-    /// until the spool is closed; never where no room is kept. Answers the seat.
-    pub fn keep_rotating(&self, seat: SessionSeat<E, K, H>) -> SessionSeat<E, K, H> {
+    /// The account's next segment, once `least` entries are counted and no job is held, or a trim gives
+    /// as many back; where the account is kept in files, once no job is held alone. None once the spool
+    /// is closed.
+    fn next_segment(&self, least: u64) -> Option<Result<Segment, RotateError>> {
+        if self.archive.is_some() {
+            self.spool.rotate_wait(self.rt, least)
+        } else {
+            self.spool.keep_wait(self.rt, least)
+        }
+    }
+
+    /// Rotates or trims the account as soon as it may, again and again until the spool is closed; never
+    /// where no room is kept.
+    pub fn keep_account(&self) {
         let Some(least) = self.least else {
-            return seat;
+            return;
         };
-        let (rt, mut seat) = (self.rt, seat);
-        for _ in rt.forever() {
+        for _ in self.rt.forever() {
             if !self.wait_for_place() {
-                break;
+                return;
             }
-            let Some(rotated) = self.spool.rotate_wait(rt, &mut seat, least) else {
+            let Some(segment) = self.next_segment(least) else {
                 self.give_place_back();
-                break;
+                return;
             };
-            let is_refused = rotated.is_err();
-            self.note_rotated(rotated);
+            let is_refused = segment.is_err();
+            self.note_rotated(segment);
             if is_refused {
-                thread::sleep(rt, Duration::from_secs(PAUSE_SECONDS));
+                thread::sleep(self.rt, Duration::from_secs(PAUSE_SECONDS));
             } else {
                 let _ = self.waker.wake();
             }
         }
-        seat
     }
 }

@@ -10,7 +10,8 @@ mod session;
 
 pub use lpd_values::Refusal;
 pub use request_session::{
-    BUFFER_SIZE, Input, MOST_READS, OctetFault, OctetRead, OctetWrite, SessionEnd, serve_with,
+    BUFFER_SIZE, Input, MOST_READS, OctetFault, OctetRead, OctetWrite, Requests, SessionEnd,
+    serve_with,
 };
 pub use seated::Seated;
 pub use session::serve;

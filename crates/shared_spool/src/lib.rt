@@ -7,6 +7,7 @@
 mod bells;
 mod line;
 mod printers;
+mod questions;
 mod queue_calls;
 mod seats;
 mod sessions;
@@ -20,7 +21,7 @@ pub use line::{AbortError, Waiting};
 pub use locked_spool::{
     Account, Asked, Base, Config, Entry, Foreign, HandedPage, Kind, Next, Pages, Progress, Receipt,
     Removal, ReturnedControl, ReturnedPage, ReturnedTicket, RotateError, SeenJob, Segment,
-    Snapshot, Started, Unopened,
+    Snapshot, Started, Unopened, Unremoved, Vacancy,
 };
 pub use lpd_values::{FileName, Octets, Refusal};
 pub use page_pool::{FilledPage, PageTicket};

@@ -47,6 +47,15 @@ pub(crate) struct Waiter {
     asked: u64,
 }
 
+/// For what waits who keeps the account.
+#[derive(Clone, Copy)]
+pub(crate) struct Keeper {
+    /// At least so many entries have to be counted, or come back by a trim.
+    pub(crate) least: u64,
+    /// Whether a trim is as good as a rotation.
+    pub(crate) trims: bool,
+}
+
 /// The printers and the sessions that wait. Each has its place from the first on: to enter takes no memory.
 #[derive(Drop)]
 pub(crate) struct Line {
@@ -62,8 +71,8 @@ pub(crate) struct Line {
     round: u64,
     // The session that was called and didn't ask since.
     called: Option<u32>,
-    // For how many counted entries the one waits who rotates the account, where one waits.
-    rotates_from: Option<u64>,
+    // For what the one waits who keeps the account, where one waits.
+    keeper: Option<Keeper>,
     // Whether a queue is held, by its number. None has the number 0.
     pub(crate) held: Vec<bool>,
     // The spool was closed.
@@ -96,7 +105,7 @@ impl Line {
             events: 0,
             round: 0,
             called: None,
-            rotates_from: None,
+            keeper: None,
             held: (0..=queues).map(|_| false).collect(alloc)?,
             closed: false,
         })
@@ -354,23 +363,28 @@ impl<E: SpoolLedger, K: Ledger, H: Ledger> Room<E, K, H> {
         }
     }
 
-    /// Whether no job is held and at least so many entries are counted.
-    fn is_at_rest(&self, least: u64) -> bool {
-        self.locked.held() == 0 && least <= self.locked.counted_reserve()
+    /// Whether what who keeps the account waits for is so: no job is held and at least so many entries are counted, or a trim may
+    /// give so many back.
+    fn may_keep(&self, keeper: Keeper) -> bool {
+        if keeper.trims {
+            self.locked.may_keep(keeper.least)
+        } else {
+            self.locked.held() == 0 && keeper.least <= self.locked.counted()
+        }
     }
 
-    /// Whether who rotates the account waits, and need not any more.
+    /// Whether who keeps the account waits, and need not any more.
     pub(crate) fn may_rotate(&self) -> bool {
-        let least = self.line.rotates_from;
-        least.is_some_and(|least| self.line.closed || self.is_at_rest(least))
+        let keeper = self.line.keeper;
+        keeper.is_some_and(|keeper| self.line.closed || self.may_keep(keeper))
     }
 
-    /// Whether who rotates the account has to wait. It is called while it has to.
-    pub(crate) fn must_keep(&mut self, least: u64) -> bool
+    /// Whether who keeps the account has to wait. It is called while it has to.
+    pub(crate) fn must_keep(&mut self, keeper: Keeper) -> bool
         ensures { self.new.locked ≡ self.old.locked }
     {
-        let waits = !self.line.closed && !self.is_at_rest(least);
-        self.line.rotates_from = if waits { Some(least) } else { None };
+        let waits = !self.line.closed && !self.may_keep(keeper);
+        self.line.keeper = if waits { Some(keeper) } else { None };
         waits
     }
 

@@ -5,21 +5,22 @@ ghost use Rattle.account.specs.declared.kind.Kind.TheVariants as kind;
 ghost use Rattle.config_values.specs.Config.{queue_named};
 ghost use Rattle.lpd_values.specs.declared.refusal.Refusal.TheVariants.{UnknownQueue};
 ghost use Rattle.locked_spool.specs.Segments.{HasHeadline, IsLegalSegment};
-ghost use Rattle.locked_spool.specs.Shares.{OneOrNone, WhenStarted, when_removed, when_started, when_taken};
+ghost use Rattle.locked_spool.specs.Shares.{OneOrNone, WhenStarted, when_listed, when_removed, when_started, when_taken};
 ghost use Rattle.locked_spool.specs.Telling.{text_of};
 
 use crate::seats::SessionSeat;
 use crate::spool::SharedSpool;
-use locked_spool::{Pages, Removal, RotateError, Segment, Started};
+use locked_spool::{Pages, Removal, RotateError, Segment, Started, Unremoved};
 use lpd_values::{Octets, Refusal};
 use spool_ledgers::SpoolLedger;
 use std::sync::Wait;
 use std::sync::ledger::Ledger;
 
 impl<E: SpoolLedger, K: Ledger, H: Ledger> SharedSpool<E, K, H> {
-    /// Starts the stopped printers of a queue, and answers the number of the queue and how many of its printers it started.
+    /// Starts the stopped printers of a queue, and answers the number of the queue and how many of its printers it started. Where
+    /// none is stopped nothing changes.
     ///
-    /// Refused as `start` is.
+    /// Closed once the spool is closed; UnknownQueue where no queue has this name.
     pub fn start_telling<R: Wait>(
         &self,
         rt: &R,
@@ -57,13 +58,7 @@ impl<E: SpoolLedger, K: Ledger, H: Ledger> SharedSpool<E, K, H> {
     /// that has begun goes on, and new ones are accepted. The account has no entry of it, and no other call answers otherwise.
     ///
     /// UnknownQueue where no queue has this name.
-    pub fn hold<R: Wait>(
-        &self,
-        rt: &R,
-        _seat: &mut SessionSeat<E, K, H>,
-        queue: &[u8],
-    ) -> Result<(), Refusal>
-        ensures seat { _seat.new ≡ _seat.old }
+    pub fn hold<R: Wait>(&self, rt: &R, queue: &[u8]) -> Result<(), Refusal>
         ensures unknown { IfErr result (λ e. e ≡ UnknownQueue) }
         ensures named { IsErr result ↔ (queue_named E.config queue.now ≡ 0) }
     {
@@ -74,13 +69,7 @@ impl<E: SpoolLedger, K: Ledger, H: Ledger> SharedSpool<E, K, H> {
     /// Releases a queue that was held: its printers go on.
     ///
     /// UnknownQueue where no queue has this name.
-    pub fn release<R: Wait>(
-        &self,
-        rt: &R,
-        _seat: &mut SessionSeat<E, K, H>,
-        queue: &[u8],
-    ) -> Result<(), Refusal>
-        ensures seat { _seat.new ≡ _seat.old }
+    pub fn release<R: Wait>(&self, rt: &R, queue: &[u8]) -> Result<(), Refusal>
         ensures unknown { IfErr result (λ e. e ≡ UnknownQueue) }
         ensures named { IsErr result ↔ (queue_named E.config queue.now ≡ 0) }
     {
@@ -111,6 +100,30 @@ impl<E: SpoolLedger, K: Ledger, H: Ledger> SharedSpool<E, K, H> {
             .remove_telling(&mut seat.shares, queue, agent, list);
         if let Ok(removal) = &answer {
             self.ring_all(&mut *room, self.bells.row_of(removal.queue));
+            drop(room);
+            self.changed.notify_all();
+        }
+        answer
+    }
+
+    /// Removes these jobs of a queue, all or none, and answers the number of the queue. No agent is asked: who calls it has the
+    /// right. A job may have begun; who needs that none has holds the queue first. Where there are none nothing changes.
+    ///
+    /// Refused with Closed or UnknownQueue; Stays with the first number that isn't above the one before it, or that no received
+    /// job of the queue has which hasn't ended; Refused with Memory where memory for the numbers of the entry is refused.
+    pub fn remove_jobs<R: Wait>(
+        &self,
+        rt: &R,
+        seat: &mut SessionSeat<E, K, H>,
+        queue: &[u8],
+        numbers: &[u64],
+    ) -> Result<u32, Unremoved>
+        ensures { seat.new ≡ when_listed numbers.now result seat.old }
+    {
+        let mut room = self.state.lock(rt);
+        let answer = room.locked.remove_jobs(&mut seat.shares, queue, numbers);
+        if let Ok(number) = &answer {
+            self.ring_all(&mut *room, self.bells.row_of(*number));
             drop(room);
             self.changed.notify_all();
         }
@@ -180,6 +193,17 @@ impl<E: SpoolLedger, K: Ledger, H: Ledger> SharedSpool<E, K, H> {
         self.state.lock(rt).locked.rotate()
     }
 
+    /// Hands out the entries that are there, also where jobs are held, and gives back what is counted for jobs that are gone.
+    ///
+    /// AccountFull where the sums over all segments, or the entries that the account may have, would pass what a number holds;
+    /// Memory where memory for the next entries is refused.
+    pub fn trim<R: Wait>(&self, rt: &R) -> Result<Segment, RotateError>
+        ensures legal { IfOk result (IsLegalSegment E.config) }
+        ensures headline { IfOk result (HasHeadline E.config) }
+    {
+        self.state.lock(rt).locked.trim()
+    }
+
     /// How many jobs are held.
     pub fn held<R: Wait>(&self, rt: &R, _seat: &mut SessionSeat<E, K, H>) -> usize
         ensures { _seat.new ≡ _seat.old }
@@ -187,12 +211,6 @@ impl<E: SpoolLedger, K: Ledger, H: Ledger> SharedSpool<E, K, H> {
         self.state.lock(rt).locked.held()
     }
 
-    /// How many entries of the account are counted for the jobs that were accepted and for the starts that may come.
-    pub fn counted_reserve<R: Wait>(&self, rt: &R, _seat: &mut SessionSeat<E, K, H>) -> u64
-        ensures { _seat.new ≡ _seat.old }
-    {
-        self.state.lock(rt).locked.counted_reserve()
-    }
 
     /// The pages by where they are. All together are the pages of the spool.
     pub fn pages_by_place<R: Wait>(&self, rt: &R, _seat: &mut SessionSeat<E, K, H>) -> Pages

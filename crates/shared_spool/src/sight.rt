@@ -11,13 +11,13 @@ use std::sync::ledger::Ledger;
 /// A spool as it was at one moment, with who waits for it.
 #[derive(Drop)]
 pub struct Sight {
-    /// Its jobs, claims, pages and printers.
+    /// Its jobs, claims, pages and printers. What is reserved of its account is without what trims gave back.
     pub spool: Snapshot,
     /// The sessions that wait for a page, by the numbers of their seats.
     pub waiting: Vec<Waiting>,
     /// Whether a queue is held, by its number. None has the number 0.
     pub held: Vec<bool>,
-    /// The number of the account's segment: one more than how often it was rotated.
+    /// The number of the account's segment: one more than how often it was rotated or trimmed.
     pub segment: u64,
 }
 
@@ -26,13 +26,16 @@ impl<E: SpoolLedger, K: Ledger, H: Ledger> SharedSpool<E, K, H> {
     /// looked at for as long as anybody likes; it changes nothing.
     ///
     /// AllocError where memory for it is refused.
-    pub fn sight<R: Wait>(&self, rt: &R, alloc: Global) -> Result<Sight, AllocError> {
+    pub fn sight<R: Wait>(&self, rt: &R, alloc: Global) -> Result<Box<Sight>, AllocError> {
         let room = self.state.lock(rt);
-        Ok(Sight {
-            spool: room.locked.snapshot()?,
+        let mut spool = room.locked.snapshot()?;
+        spool.reserved = room.locked.counted();
+        let sight = Sight {
+            spool,
             waiting: room.line.all_waiting(alloc)?,
             held: Vec::from_slice(alloc, room.line.held.as_slice())?,
             segment: room.locked.segment(),
-        })
+        };
+        Ok(Box::new(alloc, sight)?)
     }
 }

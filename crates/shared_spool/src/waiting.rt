@@ -12,7 +12,7 @@ ghost use Rattle.locked_spool.specs.Shares.{when_done, when_lent};
 ghost use Rattle.locked_spool.specs.Waiting.{IsIdle};
 ghost use Rattle.shared_spool.specs.Seats.{next_desk};
 
-use crate::line::{AbortError, Room, Waiting};
+use crate::line::{AbortError, Keeper, Room, Waiting};
 use crate::seats::{PrinterSeat, SessionSeat};
 use crate::spool::SharedSpool;
 use locked_spool::{Asked, Next, RotateError, Segment};
@@ -106,30 +106,48 @@ impl<E: SpoolLedger, K: Ledger, H: Ledger> SharedSpool<E, K, H> {
         drop(self.idle_room(rt));
     }
 
-    /// Waits until no job is held and at least so many entries are counted, and rotates the account then, before another job can
-    /// come. None once the spool is closed. One at a time may wait so.
-    ///
-    /// AccountFull where the sums over all segments would pass what a number holds; Memory where memory for the new account is
-    /// refused.
-    pub fn rotate_wait<R: Wait>(
+    /// What the lock keeps, once who keeps the account need not wait any more; None once the spool is closed.
+    fn room_to_keep<R: Wait>(
         &self,
         rt: &R,
-        _seat: &mut SessionSeat<E, K, H>,
-        least: u64,
-    ) -> Option<Result<Segment, RotateError>>
-        ensures shares { _seat.new ≡ _seat.old }
-        ensures legal { IfSome result (λ r. IfOk r (IsLegalSegment E.config)) }
-        ensures headline { IfSome result (λ r. IfOk r (HasHeadline E.config)) }
-    {
+        keeper: Keeper,
+    ) -> Option<MutexGuard<'_, Room<E, K, H>>> {
         let room = self.state.lock(rt);
-        let mut room = self
+        let room = self
             .bells
             .rotates
-            .wait_while(rt, room, |r| r.must_keep(least));
+            .wait_while(rt, room, |r| r.must_keep(keeper));
         if room.is_closed() {
             return None;
         }
+        Some(room)
+    }
+
+    /// Waits until no job is held and at least so many entries are counted, and rotates the account then, before another job can
+    /// come. None once the spool is closed. One at a time may wait so, or by `keep_wait`.
+    ///
+    /// AccountFull where the sums over all segments would pass what a number holds; Memory where memory for the new account is
+    /// refused.
+    pub fn rotate_wait<R: Wait>(&self, rt: &R, least: u64) -> Option<Result<Segment, RotateError>>
+        ensures legal { IfSome result (λ r. IfOk r (IsLegalSegment E.config)) }
+        ensures headline { IfSome result (λ r. IfOk r (HasHeadline E.config)) }
+    {
+        let mut room = self.room_to_keep(rt, Keeper { least, trims: false })?;
         Some(room.locked.rotate())
+    }
+
+    /// Waits until at least so many entries are counted, and no job is held or a trim gives so many back: it rotates the account
+    /// then, or trims it, before another job can come. None once the spool is closed. One at a time may wait so, or by
+    /// `rotate_wait`.
+    ///
+    /// AccountFull where the sums over all segments, or the entries that the account may have, would pass what a number holds;
+    /// Memory where memory for the next entries is refused.
+    pub fn keep_wait<R: Wait>(&self, rt: &R, least: u64) -> Option<Result<Segment, RotateError>>
+        ensures legal { IfSome result (λ r. IfOk r (IsLegalSegment E.config)) }
+        ensures headline { IfSome result (λ r. IfOk r (HasHeadline E.config)) }
+    {
+        let mut room = self.room_to_keep(rt, Keeper { least, trims: true })?;
+        Some(room.locked.keep())
     }
 
     /// Ends the job of a session that waits for exactly this: for the same page of the same job, with nothing put since. So

@@ -127,14 +127,14 @@ document_found d none =
       max_jobs_low = max_jobs.2;
       max_jobs_high = max_jobs.3;
       account_low = account.2;
-      account_high = account.3;
+      account_high = (let most = account.3 in omega arith);
       some_queue = rows.2;
       few_queues = rows.3;
       queues = within;
       names = own_names rows.0 (not_passed _ SameName own);
     } in (
       record { pages = pages.0; page_size = page_size.0; max_jobs = max_jobs.0; account = account.0; queues = rows.0 },
-      record { pages = pages.1; page_size = page_size.1; max_jobs = max_jobs.1; account = account.1; queues = rows.1; ranges = ranges },
+      record { pages = pages.1; page_size = page_size.1; max_jobs = max_jobs.1; account = account.1; queues = rows.1; ranges = ranges; account_most = account.3 },
     )
 
 text_found : (text : List ℕ) (document : Option Members) → document_of text ≡ document → first_fault document ≡ None → (c : C.Config) × GivesConfig text c

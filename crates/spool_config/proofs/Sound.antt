@@ -25,7 +25,7 @@ told_has_no_fault d c tells =
       pages = number_fit Pages d c.pages tells.pages r.pages_low r.pages_high;
       page_size = number_fit PageSize d c.page_size tells.page_size r.page_size_low r.page_size_high;
       max_jobs = number_fit MaxJobs d c.max_jobs tells.max_jobs r.max_jobs_low r.max_jobs_high;
-      account = number_fit Account d c.account tells.account r.account_low r.account_high;
+      account = number_fit Account d c.account tells.account r.account_low tells.account_most;
     } in
     let within = All-weaker (IsWithin c.pages) (IsWithin 65536) (λ q w. within_more 65536 q w (omega (arith, w.limit_high, r.pages_high))) c.queues r.queues in
     let fit = list_all-from_AllPass (λ (q : C.Queue). nat_le q.limit c.pages) c.queues (λ k d lt. le-leb (get_or c.queues k d).limit c.pages (r.queues k d lt).limit_high) in

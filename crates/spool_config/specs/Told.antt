@@ -1,5 +1,5 @@
 -- Which configuration a document tells: each field is the value at its own key.
-use Rattle.std.specs.Prelude.{◌≡◌, ℕ, List, [], ◌∷◌, Option, Some, pos}
+use Rattle.std.specs.Prelude.{◌≡◌, ◌≤◌, ℕ, List, [], ◌∷◌, Option, Some, pos}
 use Rattle.toml.specs.Data.{Data, string, integer, array, table, Items, no_items, item, Members}
 use Rattle.config_values.specs.Config as C
 use Rattle.config_values.specs.Ranges.{IsConfig}
@@ -42,3 +42,5 @@ pub record TellsConfig (document : Members) (c : C.Config) : Type 0 where
   pub account : HasNumber document Account c.account
   pub queues : TellsQueues (value_at Queue document) c.queues
   pub ranges : IsConfig c
+  -- a text asks for no larger account than this
+  pub account_most : c.account ≤ 16000000

@@ -63,6 +63,7 @@ fn config(alloc: Global, document: &Table) -> Result<Config, ConfigFault>
     if !are_within(pages, queues.as_slice()) {
         return Err(ConfigFault::LimitOverPool);
     }
+    let account = u64::from(account);
     Ok(Config::new(pages, page_size, max_jobs, account, queues))
 }
 

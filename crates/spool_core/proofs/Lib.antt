@@ -4,6 +4,9 @@ pub mod Packs
 pub mod Beginning
 pub mod Outs
 pub mod Standing
+pub mod Widened
 pub mod Halves
 pub mod Seen
 pub mod Begins
+pub mod Wanted
+pub mod Removable

@@ -5,3 +5,5 @@ pub mod Places
 pub mod Halves
 pub mod Tickets
 pub mod Headline
+pub mod Wanted
+pub mod Removal

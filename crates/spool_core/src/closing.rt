@@ -58,6 +58,7 @@ fn end_job(book: &mut Book, pool: &mut Pool, table: &mut Table, i: usize)
         book.remove(i);
         return;
     }
+    // A page of it is out: its row stays until that is back, with no need left, so that what is free is told truly.
     table.need_ends(i, PAGES);
     table.need_ends(i, queue);
     table.give_back(i, PAGES, pages as u32);
@@ -69,6 +70,7 @@ fn end_all(book: &mut Book, pool: &mut Pool, table: &mut Table)
     ensures { EndsTo all_end (stock book.old pool.old table.old)
         (stock book.new pool.new table.new) }
 {
+    // From the last one on: where a job goes, the places of those before it stay.
     let mut i = book.len();
     while i > 0 {
         i -= 1;
@@ -92,14 +94,14 @@ pub(crate) fn end_listed(book: &mut Book, pool: &mut Pool, table: &mut Table, nu
 }
 
 /// How many printers are stopped.
-fn count_stopped(printers: &[Printer]) -> usize
+pub(crate) fn count_stopped(printers: &[Printer]) -> usize
     ensures { result ≡ stopped_among printers.now }
 {
     printers.iter().filter(|printer| printer.stopped).count()
 }
 
 /// Forgets which job each printer began last.
-fn forget_jobs(printers: &mut [Printer])
+pub(crate) fn forget_jobs(printers: &mut [Printer])
     ensures { printers.new ≡ map with_none printers.old }
 {
     for printer in printers.iter_mut() {
@@ -134,10 +136,10 @@ impl Core {
         }
     }
 
-    /// The number of the queue of a name, whose printers may be started.
+    /// The number of the queue of a name, of which requests are taken.
     ///
     /// Closed once the spool is closed; UnknownQueue where no queue has this name.
-    fn open_queue(&self, queue: &[u8]) -> Result<u32, Refusal>
+    pub(crate) fn open_queue(&self, queue: &[u8]) -> Result<u32, Refusal>
         ensures answer { IsRight self.now (λ d b h. FindsQueue d b h self.now queue.now result) }
         ensures takes { IfOk result (λ q. Takes self.now q) }
     {

@@ -4,6 +4,7 @@
 mod closing;
 mod core_state;
 mod due;
+mod freeing;
 mod kinds;
 mod laws;
 mod opening;
@@ -11,6 +12,7 @@ mod printers;
 mod printing;
 mod reading;
 mod receiving;
+mod removing;
 mod snapshot;
 mod telling;
 mod unmade;
@@ -22,7 +24,9 @@ pub use core_state::Core;
 pub use laws::headline_stands;
 pub use lpd_values::{FileName, Octets, Refusal};
 pub use page_pool::{FilledPage, PageTicket};
+pub use reading::Vacancy;
 pub use receiving::{EndedFile, FilePage};
+pub use removing::Unremoved;
 pub use spool_calls::{
     Asked, Foreign, HandedPage, Next, Progress, Receipt, ReturnedControl, ReturnedPage,
     ReturnedTicket, Sheet,

@@ -115,6 +115,7 @@ impl Core {
         };
         add_job(self.alloc, &self.config, book, table, job)?;
         self.accepted = number;
+        // Counted until the base changes, also when the job is gone: what a trim gives back makes the account larger instead.
         self.reserved += self.config.reserve_of(queue);
         Ok(number)
     }

@@ -95,6 +95,7 @@ impl Core {
         let job = found.number();
         let queue = found.queue();
         let handed = found.handed();
+        // A claim has a printer beside its pages: a job holds one of its queue's from its first page on.
         lend_printer(&mut self.table, i, queue as usize, handed);
         let page = HandedPage {
             job,
@@ -154,6 +155,7 @@ impl Core {
             let_go(&mut self.book, &mut self.pool, &mut self.table, i, page);
             return Ok(said);
         }
+        // A later place prints the same page again: it goes back to the job, which holds it on.
         if self.book.comes_again(i) {
             self.book.come_again(i, page.into_page());
             return Ok(said);
@@ -184,6 +186,7 @@ impl Core {
         self.printers[p] = Printer {
             queue: at.queue,
             out: None,
+            // The job has ended, so a start has the printer go on with the next one.
             began: at.began,
             stopped: true,
         };

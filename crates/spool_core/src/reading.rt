@@ -1,18 +1,21 @@
 //! What a core tells of itself. No reader takes memory, and none changes anything.
 
-ghost use Rattle.std.specs.Prelude.{◌≡◌, ◌+◌, ◌-◌, List, MatchOption, length, slice_index_or};
+ghost use Rattle.std.specs.Prelude.{◌≡◌, ◌==◌, ◌↔◌, ◌+◌, ◌-◌, IsTrue, List, MatchOption, count_by, length, slice_index_or};
 ghost use Rattle.account.specs.declared.entry.Outline.{Outline};
 ghost use Rattle.config_values.specs.Config.{IsPrinter, IsQueue, queue_named};
 ghost use Rattle.spool_history.specs.Base.{Base};
 ghost use Rattle.spool_history.specs.Events.{Event};
-ghost use Rattle.spool_history.specs.Now.{free_pages};
-ghost use Rattle.spool_history.specs.Legal.{MayOpen};
+ghost use Rattle.held_jobs.specs.Jobs.{HeldJob};
+ghost use Rattle.spool_history.specs.Now.{Job, free_pages};
+ghost use Rattle.spool_history.specs.Legal.{HasJob, MayOpen};
 ghost use Rattle.spool_history.specs.Next.{printer_at};
 ghost use Rattle.spool_history.specs.Refusals.{MayControl, RefusesControl, RefusesJob};
+ghost use Rattle.spool_calls.specs.Looks.{What};
 ghost use Rattle.spool_calls.specs.Looks.Detail.{Outlines};
 ghost use Rattle.spool_calls.specs.Kept.{Leaves, kept_out};
 ghost use Rattle.spool_calls.specs.Calls.{IsRight, before};
 ghost use Rattle.spool_calls.specs.Readers.{ArePlaced, HasOpenFile, IsOpenFile, placed, stopped_for};
+ghost use Rattle.spool_core.specs.Wanted.{GoesOn, IsGoing};
 ghost use Rattle.spool_calls.specs.Printers.{no_kept, out_among};
 ghost use Rattle.spool_calls.specs.Stocks.{lent_among};
 
@@ -21,10 +24,25 @@ use crate::printers::count_stopped_in;
 use crate::receiving::{FilePage, is_receiving, next_page};
 use account::Sheet;
 use config_values::Config;
+use held_jobs::Phase;
 use lpd_values::Refusal;
 use queues::Book;
 use spool_calls::Printer;
 use spool_snapshot::Pages;
+
+/// What a spool has room for.
+#[derive(Clone, Copy, Debug, PartialEq, Eq)]
+pub struct Vacancy {
+    /// How many jobs are held.
+    pub held: usize,
+    /// How many more the table has room for.
+    pub rows: usize,
+    /// How many pages are free.
+    pub pages: usize,
+    /// How many entries more the account may have counted. A job of a queue is accepted where its reserve and one more are no
+    /// more than these.
+    pub entries: u64,
+}
 
 /// How many of these printers have a page out.
 fn count_out(printers: &[Printer]) -> usize
@@ -47,6 +65,29 @@ fn count_lent(book: &Book) -> usize
         }
     }
     lent
+}
+
+/// How many of the held jobs are in a queue.
+fn count_in(book: &Book, queue: u32) -> usize
+    ensures { result ≡ count_by (λ (j : HeldJob). j.facts.queue == queue) book.now.jobs }
+{
+    let mut jobs = 0;
+    for i in 0..book.len() {
+        if book.job(i).queue() == queue {
+            jobs += 1;
+        }
+    }
+    jobs
+}
+
+/// Whether a job of this number is there that hasn't ended.
+fn is_going(book: &Book, number: u64) -> bool
+    ensures { IsGoing book.now number result }
+{
+    let Some(i) = book.find(number) else {
+        return false;
+    };
+    book.job(i).phase() != Phase::Ended
 }
 
 impl Core {
@@ -88,6 +129,52 @@ impl Core {
         ensures free { IsRight self.now (λ d b h. result ≡ free_pages (before d b h self.now)) }
     {
         self.pool.free()
+    }
+
+    /// What there is room for, at this moment.
+    pub fn vacancy(&self) -> Vacancy
+        ensures held { IsRight self.now (λ d b h.
+            result.held ≡ length (before d b h self.now).jobs) }
+        ensures rows { IsRight self.now (λ d b h.
+            result.rows ≡ self.now.config.max_jobs - length (before d b h self.now).jobs) }
+        ensures pages { IsRight self.now (λ d b h.
+            result.pages ≡ free_pages (before d b h self.now)) }
+        ensures entries { IsRight self.now (λ d b h.
+            result.entries ≡ self.now.config.account - (before d b h self.now).reserved) }
+    {
+        let held = self.held();
+        Vacancy {
+            held,
+            rows: (self.config.max_jobs() as usize).saturating_sub(held),
+            pages: self.free(),
+            entries: self.config.account().saturating_sub(self.counted_reserve()),
+        }
+    }
+
+    /// Whether a job is held and hasn't ended.
+    pub fn is_wanted(&self, job: u64) -> bool
+        ensures { IsRight self.now (λ d b h.
+            IsTrue result ↔ HasJob (before d b h self.now).jobs job GoesOn) }
+    {
+        is_going(&self.book, job)
+    }
+
+    /// How many jobs of a queue are held.
+    pub fn held_in(&self, queue: u32) -> usize
+        ensures { IsRight self.now (λ d b h. result
+            ≡ count_by (λ (v : Job (What d)). v.queue == queue) (before d b h self.now).jobs) }
+    {
+        count_in(&self.book, queue)
+    }
+
+    /// Whether a printer is stopped.
+    pub fn is_stopped(&self, printer: u32) -> bool
+        requires { IsPrinter self.now.config printer }
+        ensures { IsRight self.now (λ d b h.
+            result ≡ (printer_at (before d b h self.now) printer).stopped) }
+    {
+        let at = self.printers[printer as usize - 1];
+        at.stopped
     }
 
     /// How many printers of a queue are stopped.

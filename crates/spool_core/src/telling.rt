@@ -117,18 +117,16 @@ impl Core {
         })
     }
 
-    /// Removes the jobs that `removal_of` answered. Where there are none nothing changes.
-    pub fn remove_chosen(&mut self, removal: &Removal)
-        requires { IsRight self.old (λ d b h.
-            MayRemove d b h self.old removal.now.queue removal.now.numbers.items) }
+    /// Removes the jobs that `removal_of` or `removable` answered. Where there are none nothing changes.
+    pub fn remove_chosen(&mut self, queue: u32, numbers: &[u64])
+        requires { IsRight self.old (λ d b h. MayRemove d b h self.old queue numbers.now) }
         ensures config { self.new.config ≡ self.old.config }
         ensures answer { IsRight self.old (λ d b h.
-            RemovesJobs d b h self.old removal.now.queue removal.now.numbers.items self.new) }
+            RemovesJobs d b h self.old queue numbers.now self.new) }
     {
-        if removal.numbers.is_empty() {
+        if numbers.is_empty() {
             return;
         }
-        let numbers = removal.numbers.as_slice();
         end_listed(&mut self.book, &mut self.pool, &mut self.table, numbers);
     }
 
@@ -142,7 +140,7 @@ impl Core {
             Removes d b h self.old queue.now agent.now list.now self.new result) }
     {
         let removal = self.removal_of(queue, agent, list)?;
-        self.remove_chosen(&removal);
+        self.remove_chosen(removal.queue, removal.numbers.as_slice());
         Ok(removal.text)
     }
 }

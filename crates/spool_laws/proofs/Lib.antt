@@ -11,6 +11,7 @@ pub mod Whole
 pub mod Counts
 pub mod Told
 pub mod Reserve
+pub mod Freeing
 pub mod Leaves
 pub mod Outlined
 pub mod OutlinedNext

@@ -81,16 +81,16 @@ any_first k j ks e = elim (test k j) [ inl s ↦ rw s.1 refl | inr s ↦ absurd 
 
 -- how many printers are stopped
 
-abbrev stop : {C : Type 0} → Config → Base → List (Event C) → ℕ → ℕ
+abbrev pub stop : {C : Type 0} → Config → Base → List (Event C) → ℕ → ℕ
 stop c base h p = one_if (is_stopped_at base h (queue_of c p) p)
 
-abbrev stops : {C : Type 0} → Config → Base → List (Event C) → ℕ
+abbrev pub stops : {C : Type 0} → Config → Base → List (Event C) → ℕ
 stops c base h = sum_by (stop c base h) (up_to (printer_count c))
 
-abbrev used_by : {C : Type 0} → List (Event C) → Opening → ℕ
+abbrev pub used_by : {C : Type 0} → List (Event C) → Opening → ℕ
 used_by h o = used h o.job
 
-abbrev all_used : {C : Type 0} → List (Event C) → List Opening → ℕ
+abbrev pub all_used : {C : Type 0} → List (Event C) → List Opening → ℕ
 all_used h os = sum_by (used_by h) os
 
 stop_same : {C : Type 0} (c : Config) (base : Base) (h : List (Event C)) (r : ℕ) (sheet : Sheet C) (turn : Turn) (p : ℕ) → is_failed turn ≡ false → stop c base (AtPrinter r sheet turn ∷ h) p ≤ stop c base h p
@@ -105,80 +105,80 @@ stop_started c base h q p = elim (test q (queue_of c p)) [ inl s ↦ rw s.1 (ome
 starts_one : {C : Type 0} (c : Config) (base : Base) (h : List (Event C)) (q p : ℕ) → queue_of c p ≡ q → is_stopped_at base h (queue_of c p) p ≡ true → stop c base (Started q ∷ h) p + 1 ≤ stop c base h p
 starts_one c base h q p e is = elim (test q (queue_of c p)) [ inl s ↦ rw (s.1, is) (omega arith) | inr s ↦ absurd (s.0 (sym e)) ]
 
--- the entries and the stopped printers are among what is told of the jobs, and the close
-abbrev Told' : {C : Type 0} → Config → Base → List (Event C) → Type 0
-Told' c base h = length h + stops c base h ≤ base.reserved + all_used h (openings h) + one_if (is_closed base h)
+-- so many entries and the stopped printers are among what is told of the jobs, the close, and so many more
+abbrev pub Told' : {C : Type 0} → ℕ → ℕ → Config → Base → List (Event C) → Type 0
+Told' len w c base h = len + stops c base h ≤ w + all_used h (openings h) + one_if (is_closed base h)
 
-act_told : {C : Type 0} (c : Config) (base : Base) (h : List (Event C)) (k : ℕ) (act : Act C) (P : Job C → Type 0) → At h k P → Told' c base h → Told' c base (OfJob k act ∷ h)
-act_told c base h k act P a t =
+act_told : {C : Type 0} (len w : ℕ) (c : Config) (base : Base) (h : List (Event C)) (k : ℕ) (act : Act C) (P : Job C → Type 0) → At h k P → Told' len w c base h → Told' (len + 1) w c base (OfJob k act ∷ h)
+act_told len w c base h k act P a t =
     omega (arith, sum_more (used_by h) (used_by (OfJob k act ∷ h)) 1 (record { job = k; sender = a.sender; queue = a.queue }) (openings h) a.there (λ o. more_act h k act o.job) (one_act h k act))
 
-opened_told : {C : Type 0} (c : Config) (base : Base) (h : List (Event C)) (k s q : ℕ) → Told' c base h → Told' c base (Opened k s q ∷ h)
-opened_told {C} c base h k s q t =
+opened_told : {C : Type 0} (len w : ℕ) (c : Config) (base : Base) (h : List (Event C)) (k s q : ℕ) → Told' len w c base h → Told' (len + 1) w c base (Opened k s q ∷ h)
+opened_told {C} len w c base h k s q t =
     let e : Event C = Opened k s q in
     let x : Opening = record { job = k; sender = s; queue = q } in
     omega (arith, sum_by_push (used_by (e ∷ h)) (openings h) x, sum_less (used_by h) (used_by (e ∷ h)) (openings h) (λ o has. omega arith))
 
-turn_told : {C : Type 0} (c : Config) (base : Base) (h : List (Event C)) (p : ℕ) (sheet : Sheet C) (turn : Turn) (o : Opening) → Has o (openings h) → sheet.job ≡ o.job → is_failed turn ≡ false
-    → Told' c base h → Told' c base (AtPrinter p sheet turn ∷ h)
-turn_told c base h p sheet turn o has same is t =
+turn_told : {C : Type 0} (len w : ℕ) (c : Config) (base : Base) (h : List (Event C)) (p : ℕ) (sheet : Sheet C) (turn : Turn) (o : Opening) → Has o (openings h) → sheet.job ≡ o.job → is_failed turn ≡ false
+    → Told' len w c base h → Told' (len + 1) w c base (AtPrinter p sheet turn ∷ h)
+turn_told len w c base h p sheet turn o has same is t =
     let s = sum_more (used_by h) (used_by (AtPrinter p sheet turn ∷ h)) 1 o (openings h) has (λ x. (turn_used h p sheet turn x.job).0) ((turn_used h p sheet turn o.job).1 same) in
     omega (arith, up_less (stop c base h) (stop c base (AtPrinter p sheet turn ∷ h)) (printer_count c) (λ q. stop_same c base h p sheet turn q is))
 
-failed_told : {C : Type 0} (c : Config) (base : Base) (h : List (Event C)) (p : ℕ) (sheet : Sheet C) (o : Opening) → Has o (openings h) → sheet.job ≡ o.job → Told' c base h → Told' c base (AtPrinter p sheet Failed ∷ h)
-failed_told c base h p sheet o has same t =
+failed_told : {C : Type 0} (len w : ℕ) (c : Config) (base : Base) (h : List (Event C)) (p : ℕ) (sheet : Sheet C) (o : Opening) → Has o (openings h) → sheet.job ≡ o.job → Told' len w c base h → Told' (len + 1) w c base (AtPrinter p sheet Failed ∷ h)
+failed_told len w c base h p sheet o has same t =
     let s = sum_more (used_by h) (used_by (AtPrinter p sheet Failed ∷ h)) 2 o (openings h) has (λ x. (turn_used h p sheet Failed x.job).0) (two_failed h p sheet o.job same) in
     let one = one_le (is_stopped_at base (AtPrinter p sheet Failed ∷ h) (queue_of c p) p) in
     omega (arith, up_one (stop c base h) (stop c base (AtPrinter p sheet Failed ∷ h)) p (printer_count c) (λ q ne. stop_other c base h p sheet Failed q ne) (omega arith))
 
-removed_told : {C : Type 0} (c : Config) (base : Base) (h : List (Event C)) (P : Job C → Type 0) (q : ℕ) (jobs : List ℕ) → 0 < length jobs → AllByRecursion (λ k. HasJob (now c base h).jobs k P) jobs → Told' c base h → Told' c base (Removed q jobs ∷ h)
-removed_told c base h P q [] pos all t = absurd (omega arith)
-removed_told {C} c base h P q (k ∷ ks) pos all t =
+removed_told : {C : Type 0} (len w : ℕ) (c : Config) (base : Base) (h : List (Event C)) (P : Job C → Type 0) (q : ℕ) (jobs : List ℕ) → 0 < length jobs → AllByRecursion (λ k. HasJob (now c base h).jobs k P) jobs → Told' len w c base h → Told' (len + 1) w c base (Removed q jobs ∷ h)
+removed_told len w c base h P q [] pos all t = absurd (omega arith)
+removed_told {C} len w c base h P q (k ∷ ks) pos all t =
     let a = has_at c base h k P all.0 in
     let le : (o : Opening) → used h o.job ≤ used (Removed q (k ∷ ks) ∷ h) o.job = λ o. (let m = more_removed h q (k ∷ ks) o.job (list_any (λ (i : ℕ). i == o.job) (k ∷ ks)) refl in omega arith) in
     let one : used h k + 1 ≤ used (Removed q (k ∷ ks) ∷ h) k = more_removed h q (k ∷ ks) k true (any_first k k ks refl) in
     omega (arith, sum_more (used_by h) (used_by (Removed q (k ∷ ks) ∷ h)) 1 (record { job = k; sender = a.sender; queue = a.queue }) (openings h) a.there le one)
 
-started_told : {C : Type 0} (c : Config) (base : Base) (h : List (Event C)) (q p : ℕ) → 1 ≤ p → p ≤ printer_count c → queue_of c p ≡ q → is_stopped_at base h (queue_of c p) p ≡ true → Told' c base h → Told' c base (Started q ∷ h)
-started_told c base h q p one le e is t =
+started_told : {C : Type 0} (len w : ℕ) (c : Config) (base : Base) (h : List (Event C)) (q p : ℕ) → 1 ≤ p → p ≤ printer_count c → queue_of c p ≡ q → is_stopped_at base h (queue_of c p) p ≡ true → Told' len w c base h → Told' (len + 1) w c base (Started q ∷ h)
+started_told len w c base h q p one le e is t =
     let s = sum_more (stop c base (Started q ∷ h)) (stop c base h) 1 p (up_to (printer_count c)) (has_up_to p (printer_count c) one le) (λ r. stop_started c base h q r) (starts_one c base h q p e is) in
     omega (arith, sum_less (used_by h) (used_by (Started q ∷ h)) (openings h) (λ o has. omega arith))
 
-closed_told : {C : Type 0} (c : Config) (base : Base) (h : List (Event C)) → is_closed base h ≡ false → Told' c base h → Told' c base (Closed ∷ h)
-closed_told c base h e t =
+closed_told : {C : Type 0} (len w : ℕ) (c : Config) (base : Base) (h : List (Event C)) → is_closed base h ≡ false → Told' len w c base h → Told' (len + 1) w c base (Closed ∷ h)
+closed_told len w c base h e t =
     let z : one_if (is_closed base h) ≡ 0 = ap one_if e in
     omega (arith, sum_less (used_by h) (used_by (Closed ∷ h)) (openings h) (λ o has. omega arith))
 
 abbrev pub no_events : (C : Type 0) → List (Event C)
 no_events C = []
 
-told_step : {C : Type 0} (size : C → ℕ) (c : Config) (base : Base) (h : List (Event C)) (e : Event C) → IsLegal size c base h → May size (now c base h) e → Told' c base h → Told' c base (e ∷ h)
-told_step size c base h (Opened k s q) l m t = opened_told c base h k s q t
-told_step size c base h (OfJob k act) l m t = act_told c base h k act _ (has_at c base h k _ m.0) t
-told_step size c base h (AtPrinter p sheet Handed) l m t =
+pub told_step : {C : Type 0} (len w : ℕ) (size : C → ℕ) (c : Config) (base : Base) (h : List (Event C)) (e : Event C) → IsLegal size c base h → May size (now c base h) e → Told' len w c base h → Told' (len + 1) w c base (e ∷ h)
+told_step len w size c base h (Opened k s q) l m t = opened_told len w c base h k s q t
+told_step len w size c base h (OfJob k act) l m t = act_told len w c base h k act _ (has_at c base h k _ m.0) t
+told_step len w size c base h (AtPrinter p sheet Handed) l m t =
     let a = (turn_of_page c base h p sheet m.0.0 m.0.1 m.1).at in
-    turn_told c base h p sheet Handed (record { job = sheet.job; sender = a.sender; queue = a.queue }) a.there refl refl t
-told_step size c base h (AtPrinter p sheet (Printed x)) l m t =
+    turn_told len w c base h p sheet Handed (record { job = sheet.job; sender = a.sender; queue = a.queue }) a.there refl refl t
+told_step len w size c base h (AtPrinter p sheet (Printed x)) l m t =
     let n = ((facts size c base h l).out p sheet (is_out c base h p sheet m.0 m.1.0)).1 in
     let o = accepted size c base h l sheet.job (omega arith) in
-    turn_told c base h p sheet (Printed x) o.0 o.1 (sym o.2) refl t
-told_step size c base h (AtPrinter p sheet Failed) l m t =
+    turn_told len w c base h p sheet (Printed x) o.0 o.1 (sym o.2) refl t
+told_step len w size c base h (AtPrinter p sheet Failed) l m t =
     let n = ((facts size c base h l).out p sheet (is_out c base h p sheet m.0 m.1)).1 in
     let o = accepted size c base h l sheet.job (omega arith) in
-    failed_told c base h p sheet o.0 o.1 (sym o.2) t
-told_step size c base h (Removed q jobs) l m t = removed_told c base h _ q jobs m.2 m.4 t
-told_step {C} size c base h (Started q) l m t =
+    failed_told len w c base h p sheet o.0 o.1 (sym o.2) t
+told_step len w size c base h (Removed q jobs) l m t = removed_told len w c base h _ q jobs m.2 m.4 t
+told_step {C} len w size c base h (Started q) l m t =
     let here = at_printer c base h m.2 m.3.0 m.3.1 in
-    started_told c base h q m.2 m.3.0 m.3.1 (sym (ap (λ (x : Printer C). x.queue) here) ∙ m.4.0) (sym (ap (λ (x : Printer C). x.stopped) here) ∙ m.4.1) t
-told_step size c base h Closed l m t = closed_told c base h m t
+    started_told len w c base h q m.2 m.3.0 m.3.1 (sym (ap (λ (x : Printer C). x.queue) here) ∙ m.4.0) (sym (ap (λ (x : Printer C). x.stopped) here) ∙ m.4.1) t
+told_step len w size c base h Closed l m t = closed_told len w c base h m t
 
-told_of : {C : Type 0} (size : C → ℕ) (c : Config) (base : Base) (h : List (Event C)) → CountsStops c base → IsLegal size c base h → Told' c base h
+told_of : {C : Type 0} (size : C → ℕ) (c : Config) (base : Base) (h : List (Event C)) → CountsStops c base → IsLegal size c base h → Told' (length h) base.reserved c base h
 told_of {C} size c base [] k l = (let z = sum_same (stop c base (no_events C)) (λ (p : ℕ). cond (was_stopped base p) 1 0) (up_to (printer_count c)) (λ p. one_is (was_stopped base p)) in omega arith)
   where
     one_is : (b : Bool) → one_if b ≡ cond b 1 0
     one_is true = refl
     one_is false = refl
-told_of size c base (e ∷ h) k l = told_step size c base h e l.1 l.0 (told_of size c base h k l.1)
+told_of size c base (e ∷ h) k l = (let t = told_step (length h) base.reserved size c base h e l.1 l.0 (told_of size c base h k l.1) in omega arith)
 
 pub reserve_is_enough : {C : Type 0} (size : C → ℕ) (c : Config) (base : Base) (h : List (Event C)) → CountsStops c base → IsLegal size c base h → length h ≤ (now c base h).reserved + 1
 reserve_is_enough size c base h k l =

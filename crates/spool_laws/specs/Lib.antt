@@ -7,3 +7,4 @@ pub mod Safety
 pub mod Rotating
 pub mod PutOff
 pub mod Served
+pub mod Freeing

@@ -12,7 +12,7 @@ mod safe;
 mod stepping;
 mod waiting;
 
-pub use entries::reserve_is_enough;
+pub use entries::{held_reserve_is_enough, reserve_is_enough, wider_is_legal};
 pub use leaving::{
     done_for_the_last_place, leave_in_order, leave_joined, nothing_after_the_close,
     nothing_after_the_end,

@@ -5,5 +5,8 @@ mod job;
 mod order;
 mod snapshot;
 
+pub use claims::Table;
+pub use held_jobs::Phase;
 pub use job::{SeenJob, seen_job};
 pub use snapshot::{Pages, Snapshot};
+pub use spool_calls::Printer;

@@ -123,7 +123,7 @@ pub enum StatusLine<'a> {
     /// How many entries of the account are counted, how many there may be, and the number of the account's segment.
     Entries {
         counted: u64,
-        most: u32,
+        most: u64,
         segment: u64,
     },
     /// How many connections wait in the lobby.

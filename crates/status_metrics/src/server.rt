@@ -200,7 +200,7 @@ pub(crate) fn push_account(text: &mut String, scene: &Scene<'_>) -> Result<(), A
         text,
         "hurgwaye_account_limit_entries",
         "Entries that the account may have.",
-        u64::from(scene.config.account()),
+        scene.config.account(),
     )?;
     push_counter(
         text,

@@ -49,7 +49,7 @@ fn totals(alloc: Global, page: &mut Page, scene: &Scene<'_>) {
 
 /// How full the account is, who is connected, and what is kept in the folder.
 fn edge(alloc: Global, page: &mut Page, scene: &Scene<'_>) {
-    let (part, whole) = (scene.spool.reserved, u64::from(scene.config.account()));
+    let (part, whole) = (scene.spool.reserved, scene.config.account());
     let share = page.text(format!(in alloc; "{}", Share { part, whole }));
     tile(page, "of the account", share.as_str(), "%");
     let sessions = page.text(format!(in alloc; "{}", Grouped(scene.outside.sessions.len() as u64)));

@@ -16,7 +16,8 @@
 //! | `printed P`, `failed P` | `going`, `done`, `ended`; `foreign`; `no page` |
 //! | `print P`: the next page, printed at once | both answers, with a comma |
 //! | `swap P Q`, `switch J K`: the kept pages of two printers or jobs | `yes` |
-//! | `free`, `held`, `pages` | the numbers |
+//! | `cancel QUEUE J..`: a removal of jobs by their numbers | `queue Q`, `stays J` |
+//! | `free`, `held`, `pages`, `vacancy` | the numbers |
 //! | `state QUEUE WORD..`, `long QUEUE WORD..`, `remove QUEUE AGENT WORD..` | the text, with escapes |
 //!
 //! Each may be `refused N`. A call that a spool may not be asked is a `bad row`.

@@ -4,7 +4,8 @@
 //!
 //! | Call | Answers |
 //! |---|---|
-//! | `reserve`, `stopped QUEUE` | the numbers |
+//! | `reserve`, `still`, `stopped QUEUE`, `queued QUEUE` | the numbers: entries that are counted, and of these the ones that may still come; printers, and jobs |
+//! | `wanted J`: whether a job goes on | `yes`, `no` |
 //! | `opens QUEUE`, `controls J`: whether a job, a control file would be refused | `yes` |
 //! | `file J` | `file F page N`, `no file` |
 //! | `chosen QUEUE AGENT WORD..` | `jobs J..` |
@@ -107,14 +108,21 @@ fn is_told(told: &mut String, alloc: Global, core: &mut Core, call: &str) -> Res
             Some(page) => push_numbers(told, &[("file", page.file), ("page", page.number)])?,
             None => told.push_str("no file")?,
         },
-        "stopped" => {
+        "stopped" | "queued" => {
             let Some(queue) = core.queue_number(rest.as_bytes()) else {
                 return Err(Refusal::UnknownQueue);
             };
-            push_numbers(told, &[("stopped", u64::from(core.stopped_in(queue)))])?;
+            let count = if call == "stopped" {
+                u64::from(core.stopped_in(queue))
+            } else {
+                core.held_in(queue) as u64
+            };
+            push_numbers(told, &[(call, count)])?;
         }
+        "wanted" => told.push_str(if core.is_wanted(number(rest)) { "yes" } else { "no" })?,
         "free" => push_numbers(told, &[("free", core.free() as u64)])?,
         "reserve" => push_numbers(told, &[("reserve", core.counted_reserve())])?,
+        "still" => write!(told, "still {}", core.still_reserved())?,
         "snapshot" => push_snapshot(told, core)?,
         "chosen" | "removal" => push_removal(told, alloc, core, call == "removal", rest)?,
         "starts" => {

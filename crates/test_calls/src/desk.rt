@@ -10,7 +10,7 @@ use lpd_commands::{FileName, Refusal};
 use page_pool::PageTicket;
 use receiver::Need;
 use request_calls::{Answer, Outcome, ReturnedTicket};
-use spool_core::{Asked, Foreign, HandedPage, Next, Progress};
+use spool_core::{Asked, Foreign, HandedPage, Next, Progress, Unremoved};
 use std::alloc::{AllocError, Global};
 use std::mem;
 use test_kit::rows::{number, octets, push_numbers, short_number, word};
@@ -189,12 +189,33 @@ impl<S: Spool> Desk<S> {
         Ok(calls::push_answer(told, &answer)?)
     }
 
+    /// Removes jobs of a queue by their numbers, and appends the number of the queue, or that of the first job that stays.
+    fn cancel(&mut self, told: &mut String, rest: &str) -> Result<(), Refusal> {
+        let (queue, jobs) = word(rest);
+        let jobs: Vec<u64> = jobs.split_whitespace().map(|job| number(job)).collect(self.alloc)?;
+        let named = match self.spool.remove_jobs(queue.as_bytes(), jobs.as_slice()) {
+            Ok(queue) => ("queue", u64::from(queue)),
+            Err(Unremoved::Stays(job)) => ("stays", job),
+            Err(Unremoved::Refused(refusal)) => return Err(refusal),
+        };
+        Ok(push_numbers(told, &[named])?)
+    }
+
     /// Appends the counts of a spool that a call asks for.
     fn push_counts(&mut self, told: &mut String, call: &str) -> Result<(), AllocError> {
-        let (held, pages) = self.spool.counts();
+        let (held, pages, vacancy) = self.spool.counts();
         match call {
             "held" => push_numbers(told, &[("held", held as u64)]),
             "free" => push_numbers(told, &[("free", pages.free as u64)]),
+            "vacancy" => {
+                let numbers = [
+                    ("held", vacancy.held as u64),
+                    ("rows", vacancy.rows as u64),
+                    ("pages", vacancy.pages as u64),
+                    ("entries", vacancy.entries),
+                ];
+                push_numbers(told, &numbers)
+            }
             _ => {
                 let numbers = [
                     ("pages free", pages.free as u64),
@@ -243,7 +264,8 @@ impl<S: Spool> Desk<S> {
                 self.spool.close();
                 told.push_str("yes")?;
             }
-            "free" | "held" | "pages" => self.push_counts(told, call)?,
+            "cancel" => self.cancel(told, rest)?,
+            "free" | "held" | "pages" | "vacancy" => self.push_counts(told, call)?,
             _ => self.push_request(told, call, rest)?,
         }
         Ok(())

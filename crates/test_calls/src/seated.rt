@@ -7,7 +7,7 @@ use receiver::Need;
 use request_calls::{Outcome, Requests, ReturnedTicket, carry_out};
 use session::{Seated, SessionSeat, SharedSpool};
 use shared_spool::{PrinterSeat, SpoolLedger};
-use spool_core::{Asked, Foreign, HandedPage, Next, Pages, Progress};
+use spool_core::{Asked, Foreign, HandedPage, Next, Pages, Progress, Unremoved, Vacancy};
 use std::sync::Wait;
 use std::sync::ledger::Ledger;
 
@@ -65,12 +65,16 @@ impl<'a, R: Wait, E: SpoolLedger, K: Ledger, H: Ledger> Spool for Seats<'a, R, E
         Ok(Progress::Ended)
     }
 
+    fn remove_jobs(&mut self, queue: &[u8], numbers: &[u64]) -> Result<u32, Unremoved> {
+        self.spool.remove_jobs(self.rt, &mut self.operator, queue, numbers)
+    }
+
     fn close(&mut self) {
         self.spool.close(self.rt, &mut self.operator)
     }
 
-    fn counts(&mut self) -> (usize, Pages) {
+    fn counts(&mut self) -> (usize, Pages, Vacancy) {
         let held = self.spool.held(self.rt, &mut self.operator);
-        (held, self.spool.pages_by_place(self.rt, &mut self.operator))
+        (held, self.spool.pages(self.rt), self.spool.vacancy(self.rt))
     }
 }

@@ -1,14 +1,16 @@
 //! Calls of a spool that threads share, through its seats, and of a core beside it: both have to answer what is written.
 //!
-//! A block's lines are those of `calls`, and these two, which the seats alone are asked:
+//! A block's lines are those of `calls`, and these, which the seats alone are asked:
 //!
 //! | Call | Answers |
 //! |---|---|
-//! | `rotate` | `segment K entries N before B`: its number, how many entries it has and how many the earlier ones have |
+//! | `rotate`, `trim` | `segment K entries N before B`: its number, how many entries it has and how many the earlier ones have |
 //! | `finish`, which is a block's last call | the same, or `13 SeatsMissing` |
 //!
 //! Below a segment stand its entries, each in a line behind two spaces, in order of writing and in the words of `entries`, and
-//! then `legal`, where the plain reader finds that each of them met its conditions from the segment's base on.
+//! then `legal`, where the plain reader finds that each of them met its conditions from the segment's base on. Of one that goes on behind a
+//! trim stands there how many entries came since the base, and how many more the account might have for them. The core beside has no trims: it
+//! has no more room by them.
 
 use crate::calls::{SPOOL, config_of};
 use crate::cores::desk_of;
@@ -33,7 +35,7 @@ const SEATS: u32 = 2;
 /// What is answered where a block has no configuration that can be read.
 const NO_CONFIG: &str = "no configuration\n";
 
-/// Appends a segment of the account, its entries, and whether they are legal.
+/// Appends a segment of the account, its entries, and whether they are legal, or that they go on behind a trim.
 fn push_segment(
     told: &mut String,
     alloc: Global,
@@ -52,6 +54,10 @@ fn push_segment(
     for entry in entries.iter() {
         told.push_str("\n  ")?;
         push_entry(told, entry)?;
+    }
+    if segment.since != 0 {
+        told.push_str("\n  ")?;
+        return push_numbers(told, &[("since", segment.since), ("freed", segment.freed)]);
     }
     entries.reverse();
     let legal = is_legal(alloc, config, &segment.base, entries.as_slice())?;
@@ -78,17 +84,27 @@ fn push_call<S: Spool>(
     Ok(())
 }
 
-/// Appends the segment that a rotation hands out, or its refusal. Where there is one the core puts its history away.
+/// Appends the segment that a rotation or a trim hands out, or its refusal. Where the account was rotated the core puts its history away.
 fn push_rotation<R: Wait, E: SpoolLedger, K: Ledger, H: Ledger>(
     told: &mut String,
     alloc: Global,
     seats: &mut Seats<'_, R, E, K, H>,
     core: &mut Core,
+    call: &str,
 ) -> Result<(), AllocError> {
-    told.push_str("rotate => ")?;
-    match seats.spool.rotate(seats.rt, &mut seats.operator) {
+    write!(told, "{call} => ")?;
+    let rotates = call == "rotate";
+    let segment = if rotates {
+        seats.spool.rotate(seats.rt, &mut seats.operator)
+    } else {
+        seats.spool.trim(seats.rt)
+    };
+    match segment {
         Ok(segment) => push_segment(told, alloc, core.config(), segment)?,
         Err(error) => return write!(told, "refused {}", error.number()),
+    }
+    if !rotates {
+        return Ok(());
     }
     if core.held() != 0 {
         return told.push_str(", and of a core: a job is held");
@@ -113,8 +129,8 @@ fn push_lines<R: Wait, E: SpoolLedger, K: Ledger, H: Ledger>(
         }
         if line.starts_with("# ") || line.starts_with("spool ") {
             told.push_str(line)?;
-        } else if call == "rotate" {
-            push_rotation(told, alloc, &mut seats.spool, &mut core.spool)?;
+        } else if call == "rotate" || call == "trim" {
+            push_rotation(told, alloc, &mut seats.spool, &mut core.spool, call)?;
         } else {
             push_call(told, alloc, seats, core, call)?;
         }

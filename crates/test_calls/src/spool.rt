@@ -7,7 +7,7 @@ use lpd_commands::Refusal;
 use page_pool::PageTicket;
 use receiver::Need;
 use request_calls::{Outcome, Requests, ReturnedTicket, carry_out};
-use spool_core::{Asked, Core, Foreign, HandedPage, Next, Pages, Progress};
+use spool_core::{Asked, Core, Foreign, HandedPage, Next, Pages, Progress, Unremoved, Vacancy};
 
 /// What carries out the requests of sessions, and answers the other calls of a spool.
 pub trait Spool: Drop {
@@ -34,11 +34,14 @@ pub trait Spool: Drop {
         is_printed: bool,
     ) -> Result<Progress, Foreign>;
 
+    /// Removes these jobs of a queue, all or none.
+    fn remove_jobs(&mut self, queue: &[u8], numbers: &[u64]) -> Result<u32, Unremoved>;
+
     /// Closes the spool.
     fn close(&mut self);
 
-    /// How many jobs are held, and the pages by where they are.
-    fn counts(&mut self) -> (usize, Pages);
+    /// How many jobs are held, the pages by where they are, and what there is room for.
+    fn counts(&mut self) -> (usize, Pages, Vacancy);
 }
 
 impl Spool for Core {
@@ -77,11 +80,15 @@ impl Spool for Core {
         Ok(Progress::Ended)
     }
 
+    fn remove_jobs(&mut self, queue: &[u8], numbers: &[u64]) -> Result<u32, Unremoved> {
+        Core::remove_jobs(self, queue, numbers)
+    }
+
     fn close(&mut self) {
         Core::close(self)
     }
 
-    fn counts(&mut self) -> (usize, Pages) {
-        (self.held(), self.pages_by_place())
+    fn counts(&mut self) -> (usize, Pages, Vacancy) {
+        (self.held(), self.pages_by_place(), self.vacancy())
     }
 }

@@ -76,8 +76,8 @@ new-requires c =
       page_size_high = c.in_ok-page_size.ensures.high;
       max_jobs_low = c.in_ok-max_jobs.ensures.low;
       max_jobs_high = c.in_ok-max_jobs.ensures.high;
-      account_low = c.in_ok-account.ensures.low;
-      account_high = c.in_ok-account.ensures.high;
+      account_low = (let low = c.in_ok-account.ensures.low in let e = c.from-account.ensures in omega arith);
+      account_high = (let most = c.in_ok-account.ensures.high in let e = c.from-account.ensures in omega arith);
       some_queue = read.some;
       few_queues = read.few;
       queues = rw (← c.as_slice-2.ensures.value) (c.are_within.ensures.within c.if-not-are_within.false);
@@ -91,7 +91,8 @@ returns-clause-config c =
       pages = c.in_ok-pages.ensures.stands;
       page_size = c.in_ok-page_size.ensures.stands;
       max_jobs = c.in_ok-max_jobs.ensures.stands;
-      account = c.in_ok-account.ensures.stands;
+      account = rw c.from-account.ensures c.in_ok-account.ensures.stands;
       queues = (queues_read s.In_ok-queues (keys s.In_ok-account)).told;
       ranges = search rules;
+      account_most = rw c.from-account.ensures c.in_ok-account.ensures.high;
     }

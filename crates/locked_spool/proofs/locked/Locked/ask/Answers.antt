@@ -1,4 +1,4 @@
-use Rattle.std.proofs.Common.{◌≡◌, ℕ, List, ◌∷◌, refl, ap, subst, rules}
+use Rattle.std.proofs.Common.{◌≡◌, ℕ, List, ◌∷◌, refl, ap, subst}
 use Rattle.std.specs.Prelude.{Ok}
 use Rattle.page_pool.specs.Page.{Page}
 use Rattle.account.specs.Seen.{base_seen}
@@ -13,7 +13,7 @@ use Rattle.spool_calls.specs.Looks.Detail.{Outlines}
 use Rattle.spool_calls.specs.Kept.{Kept, Leaves}
 use Rattle.spool_calls.specs.Calls.{Asks, IsRight}
 use Rattle.locked_spool.specs.Held.{Held}
-use Rattle.locked_spool.proofs.Written.{room_here, calm_at}
+use Rattle.locked_spool.proofs.Written.{room_here, written_here}
 use Rattle.locked_spool.proofs.locked.Locked.ask.Goals as goal
 
 -- where a page was lent
@@ -43,17 +43,9 @@ returns-in-Later-clause-answer g c =
     right c.self.inside.core c.args.self.now.core c.ask.new.self c.args.job c.in_ok-ticket.field-0 asked.Later (ap (λ (z : Held). z.core) c.self.view_is) c.in-Later.is c.in_ok-ticket.ensures.answer
 
 pub invariant_of-self-in-Page : goal.invariant_of-self-in-Page
-invariant_of-self-in-Page g c = record {
-  config_is = search rules;
-  ranges = search rules;
-  left = search rules;
-  counts = search rules;
-  room_is = search rules;
-  entries = search rules;
-  kinds = search rules;
-  handed = search rules;
-  few = search rules;
-  few_kinds = search rules;
-  few_handed = search rules;
-  stops = calm_at c.self.invariant c.write.new.account.events c.write.ensures.events refl;
-}
+invariant_of-self-in-Page g c =
+    let i = c.self.invariant in
+    let a = c.self.inside in
+    let w = c.write.ensures in
+    let s = c.in_ok-ticket.ensures in
+    written_here i c.write.new.account.events c.write.new.account.kept c.write.new.account.room c.write.new.books (lent (base_seen a.base) a.account.events a.core c.ask.new.self c.args.job c.in_ok-ticket.field-0 c.in-Page.ticket c.in-Page.is (s.answer _ _ _ i.left)) s.config refl refl w.events w.kept w.room w.books

@@ -1,5 +1,5 @@
-use Rattle.std.proofs.Common.{refl, rules}
-use Rattle.locked_spool.proofs.Written.{room_here, calm_at}
+use Rattle.std.proofs.Common.{refl}
+use Rattle.locked_spool.proofs.Written.{room_here, written_here}
 use Rattle.locked_spool.proofs.locked.Locked.begin_file.Goals as goal
 
 pub write-requires-clause-room : goal.write-requires-clause-room
@@ -8,17 +8,9 @@ write-requires-clause-room g c =
     room_here c.self.invariant (s.answer _ _ _ c.self.invariant.left).1 s.config refl
 
 pub invariant_of-self-2 : goal.invariant_of-self-2
-invariant_of-self-2 g c = record {
-  config_is = search rules;
-  ranges = search rules;
-  left = search rules;
-  counts = search rules;
-  room_is = search rules;
-  entries = search rules;
-  kinds = search rules;
-  handed = search rules;
-  few = search rules;
-  few_kinds = search rules;
-  few_handed = search rules;
-  stops = calm_at c.self.invariant c.write.new.account.events c.write.ensures.events refl;
-}
+invariant_of-self-2 g c =
+    let i = c.self.invariant in
+    let a = c.self.inside in
+    let w = c.write.ensures in
+    let s = c.in_ok-begin_file.ensures in
+    written_here i c.write.new.account.events c.write.new.account.kept c.write.new.account.room c.write.new.books ((s.answer _ _ _ i.left).1) s.config refl refl w.events w.kept w.room w.books

@@ -1,4 +1,4 @@
-use Rattle.std.proofs.Common.{◌≡◌, List, ◌∷◌, true, false, refl, ◌∙◌, inl, inr, rules}
+use Rattle.std.proofs.Common.{◌≡◌, List, ◌∷◌, true, false, refl, ◌∙◌, inl, inr}
 use Rattle.account.specs.declared.entry.Outline.{Outline}
 use Rattle.spool_history.specs.Base.{Base}
 use Rattle.spool_history.specs.Events as E
@@ -6,7 +6,7 @@ use Rattle.spool_history.specs.Events.{Event}
 use Rattle.spool_calls.specs.Looks.Detail.{Outlines}
 use Rattle.spool_calls.specs.Kept.{Kept, Leaves}
 use Rattle.spool_calls.specs.Calls.{Closes, before}
-use Rattle.locked_spool.proofs.Written.{room_here, calm_at}
+use Rattle.locked_spool.proofs.Written.{room_here, written_here}
 use Rattle.locked_spool.proofs.locked.Locked.close.Goals as goal
 
 -- an open spool is closed by this
@@ -20,17 +20,9 @@ write-requires-clause-room g c =
     room_here i (closed _ _ _ _ (c.if-is_closed.ensures.closed _ _ _ i.left) (s.answer _ _ _ i.left)) s.config refl
 
 pub invariant_of-self : goal.invariant_of-self
-invariant_of-self g c = record {
-  config_is = search rules;
-  ranges = search rules;
-  left = search rules;
-  counts = search rules;
-  room_is = search rules;
-  entries = search rules;
-  kinds = search rules;
-  handed = search rules;
-  few = search rules;
-  few_kinds = search rules;
-  few_handed = search rules;
-  stops = calm_at c.self.invariant c.write.new.account.events c.write.ensures.events refl;
-}
+invariant_of-self g c =
+    let i = c.self.invariant in
+    let a = c.self.inside in
+    let w = c.write.ensures in
+    let s = c.close.ensures in
+    written_here i c.write.new.account.events c.write.new.account.kept c.write.new.account.room c.write.new.books (closed _ _ _ _ (c.if-is_closed.ensures.closed _ _ _ i.left) (s.answer _ _ _ i.left)) s.config refl refl w.events w.kept w.room w.books

@@ -48,6 +48,6 @@ invariant_of-self-2 g c =
     let b = base_seen a.base in
     let h = a.account.events in
     let got = c.in_ok-receipt.receipt in
-    written_here i c.write.new.account.events c.write.new.account.room c.write.new.books
+    written_here i c.write.new.account.events c.write.new.account.kept c.write.new.account.room c.write.new.books
     (there b h a.core c.control.new.self c.args.job (contents c.args.control) (contents c.in-Ok.copy) got c.eq-is_whole.result c.in-Ok.ensures
-    (c.eq-is_whole.ensures ∙ whole_is got) (s.answer _ _ _ i.left)) s.config refl refl w.events w.room w.books
+    (c.eq-is_whole.ensures ∙ whole_is got) (s.answer _ _ _ i.left)) s.config refl refl w.events w.kept w.room w.books

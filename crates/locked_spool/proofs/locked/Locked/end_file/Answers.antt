@@ -20,7 +20,7 @@ use Rattle.locked_spool.proofs.locked.Locked.end_file.Goals as goal
 module _ (g : Over) (c : After-eq-is_whole g) where
   -- what the lock held before
   abbrev h : Held
-  h = let a = c.self.inside in record { core = a.core; base = base_seen a.base; events = a.account.events; number = a.number; before = a.before; kinds_before = a.kinds_before; handed_before = a.handed_before }
+  h = let a = c.self.inside in record { core = a.core; base = base_seen a.base; events = a.account.events; since = a.since; freed = a.freed; number = a.number; before = a.before; kinds_before = a.kinds_before; handed_before = a.handed_before }
 
   abbrev k : Kept
   k = c.end_last.new.self
@@ -57,7 +57,7 @@ write-requires-clause-room g c = room_here c.self.invariant (ended g (goal.at.wr
 pub invariant_of-self-2 : goal.invariant_of-self-2
 invariant_of-self-2 g c =
     let w = c.write.ensures in
-    written_here c.self.invariant c.write.new.account.events c.write.new.account.room c.write.new.books (ended g (goal.at.invariant_of-self-2 g c).After-eq-is_whole) c.in_ok-file.ensures.config refl refl w.events w.room w.books
+    written_here c.self.invariant c.write.new.account.events c.write.new.account.kept c.write.new.account.room c.write.new.books (ended g (goal.at.invariant_of-self-2 g c).After-eq-is_whole) c.in_ok-file.ensures.config refl refl w.events w.kept w.room w.books
 
 pub returns-clause-account : goal.returns-clause-account
 returns-clause-account g c =

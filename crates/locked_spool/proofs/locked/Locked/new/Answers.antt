@@ -9,5 +9,5 @@ pub invariant_of-locked : goal.invariant_of-locked
 invariant_of-locked g c =
     let s = c.in-Ok-new.ensures in
     let r = c.in-Ok.ensures in
-    begun g.E.SpoolLedger.config c.in-Ok-new.core (base_seen c.first.result) c.reserve.new.self.events c.reserve.new.self.room c.open-books.result.0 (s.config ∙ c.requires.config) (subst IsConfig (s.config ∙ c.requires.config) s.ranges) (s.left Outlines)
-    c.first.ensures (r.events ∙ c.new-account.ensures.events) r.room c.open-books.ensures.books
+    begun g.E.SpoolLedger.config c.in-Ok-new.core (base_seen c.first.result) c.reserve.new.self.events c.reserve.new.self.kept c.reserve.new.self.room c.open-books.result.0 (s.config ∙ c.requires.config) (subst IsConfig (s.config ∙ c.requires.config) s.ranges) (s.left Outlines)
+    c.first.ensures (r.events ∙ c.new-account.ensures.events) (r.kept ∙ c.new-account.ensures.kept) r.room c.open-books.ensures.books

@@ -12,7 +12,7 @@ use Rattle.spool_calls.specs.Looks.Detail.{Outlines}
 use Rattle.spool_calls.specs.Kept.{Kept, Leaves}
 use Rattle.spool_calls.specs.Calls.{IsRight, Prints}
 use Rattle.locked_spool.specs.Held.{Held}
-use Rattle.locked_spool.proofs.Written.{room_here, calm_at}
+use Rattle.locked_spool.proofs.Written.{calm_at, counted, room_here, written_left}
 use Rattle.locked_spool.proofs.locked.Locked.printed.Goals as goal
 
 -- what came back is what was handed, by its length and digest
@@ -36,17 +36,10 @@ returns-clause-answer g c _ =
     right c.self.inside.core c.args.self.now.core c.printed.new.self c.args.printer c.args.page c.in_ok-said.said (ap (λ (z : Held). z.core) c.self.view_is) c.in_ok-said.ensures.answer
 
 pub invariant_of-self-2 : goal.invariant_of-self-2
-invariant_of-self-2 g c = record {
-  config_is = search rules;
-  ranges = search rules;
-  left = search rules;
-  counts = search rules;
-  room_is = search rules;
-  entries = search rules;
-  kinds = search rules;
-  handed = search rules;
-  few = search rules;
-  few_kinds = search rules;
-  few_handed = search rules;
-  stops = calm_at c.self.invariant c.write.new.account.events c.write.ensures.events refl;
-}
+invariant_of-self-2 g c =
+    let i = c.self.invariant in
+    let a = c.self.inside in
+    let w = c.write.ensures in
+    let s = c.in_ok-said.ensures in
+    let n = counted i (came (base_seen a.base) a.account.events a.core c.printed.new.self c.args.printer c.args.page c.in_ok-said.said (s.answer _ _ _ i.left)) s.config refl in
+    written_left i {k = c.printed.new.self} c.write.new.account.events c.write.new.account.kept c.write.new.account.room c.write.new.books (search rules) n s.config w.events w.kept w.room w.books (calm_at i c.write.new.account.events w.events refl)

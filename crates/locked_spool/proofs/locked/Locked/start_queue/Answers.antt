@@ -21,7 +21,7 @@ use Rattle.locked_spool.proofs.locked.Locked.start_queue.Goals as goal
 module _ (g : Over) (c : After-start_printers g) where
   -- what the lock held before
   abbrev h : Held
-  h = let a = c.self.inside in record { core = a.core; base = base_seen a.base; events = a.account.events; number = a.number; before = a.before; kinds_before = a.kinds_before; handed_before = a.handed_before }
+  h = let a = c.self.inside in record { core = a.core; base = base_seen a.base; events = a.account.events; since = a.since; freed = a.freed; number = a.number; before = a.before; kinds_before = a.kinds_before; handed_before = a.handed_before }
 
   abbrev k : Kept
   k = c.start_printers.new.self
@@ -64,7 +64,7 @@ write-requires-clause-room g c =
 pub invariant_of-self : goal.invariant_of-self
 invariant_of-self g c =
     let w = c.write.ensures in
-    written_here c.self.invariant c.write.new.account.events c.write.new.account.room c.write.new.books (started g (goal.at.invariant_of-self g c).After-start_printers) c.start_printers.ensures.config refl refl w.events w.room w.books
+    written_here c.self.invariant c.write.new.account.events c.write.new.account.kept c.write.new.account.room c.write.new.books (started g (goal.at.invariant_of-self g c).After-start_printers) c.start_printers.ensures.config refl refl w.events w.kept w.room w.books
 
 pub returns-clause-account : goal.returns-clause-account
 returns-clause-account g c =

@@ -1,5 +1,5 @@
 use Rattle.std.proofs.Common.{◌≡◌, ℕ, ◌+◌, ◌-◌, ◌<◌, ◌≤◌, List, length, refl, ap, subst, sym, ◌∙◌}
-use Rattle.std.specs.Prelude.{Result, Ok, Err, true, false}
+use Rattle.std.specs.Prelude.{Result, Err, true, false}
 use Rattle.counts.specs.Amounts.{amount}
 use Rattle.claims.specs.Claims.{row_at}
 use Rattle.held_jobs.specs.Jobs.{HeldJob}

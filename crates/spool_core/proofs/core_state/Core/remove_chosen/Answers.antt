@@ -1,4 +1,4 @@
-use Rattle.std.proofs.Common.{◌≡◌, ◌≢◌, ◌==◌, ℕ, Bool, true, false, List, [], ◌∷◌, length, vec_len, refl, ap, subst, sym, inl, inr, arith}
+use Rattle.std.proofs.Common.{◌≡◌, ◌≢◌, ◌==◌, ℕ, Bool, true, false, List, [], ◌∷◌, length, refl, ap, subst, sym, inl, inr, arith}
 use Rattle.std.proofs.lemmas.Bool.Decides.{nat_tests}
 use Rattle.spool_history.specs.Base.{Base}
 use Rattle.spool_history.specs.Events.{Event}
@@ -30,13 +30,13 @@ empty : (n : ℕ) (numbers : List ℕ) (t : Bool) → t ≡ (n == 0) → t ≡ t
 empty n [] t e is l = refl
 empty n (k ∷ ks) t e is l = absurd (grind (arith, nat_tests))
 
-some : (n : ℕ) (numbers : List ℕ) (t : Bool) → t ≡ (n == 0) → t ≡ false → n ≡ length numbers → numbers ≢ []
-some n numbers t e is l z = absurd (let m : length numbers ≡ 0 = ap length z in grind (arith, nat_tests))
+some' : (n : ℕ) (numbers : List ℕ) (t : Bool) → t ≡ (n == 0) → t ≡ false → n ≡ length numbers → numbers ≢ []
+some' n numbers t e is l z = absurd (let m : length numbers ≡ 0 = ap length z in grind (arith, nat_tests))
 
 pub returns-then-is_empty-clause-answer : goal.returns-then-is_empty-clause-answer
 returns-then-is_empty-clause-answer c d b h l =
-    let v = c.args.removal.now.numbers in
-    inl (empty (vec_len v) v.items c.is_empty.result c.is_empty.ensures c.if-is_empty.true (let o = v.ok in omega arith), refl)
+    let numbers = c.args.numbers.now in
+    inl (empty (length numbers) numbers c.is_empty.result c.is_empty.ensures c.if-is_empty.true refl, refl)
 
 -- the core without the jobs of these numbers
 module _ (c : After-end_listed) where
@@ -44,16 +44,16 @@ module _ (c : After-end_listed) where
   k = core_view c.self.inside
 
   abbrev q : ℕ
-  q = c.args.removal.now.queue
+  q = c.args.queue
 
   abbrev numbers : List ℕ
-  numbers = c.args.removal.now.numbers.items
+  numbers = c.args.numbers.now
 
   some_chosen : numbers ≢ []
-  some_chosen = let v = c.args.removal.now.numbers in some (vec_len v) v.items c.is_empty.result c.is_empty.ensures c.if-is_empty.false (let o = v.ok in omega arith)
+  some_chosen = some' (length numbers) numbers c.is_empty.result c.is_empty.ensures c.if-is_empty.false refl
 
   ends : EndsTo (listed numbers) (stock k.book k.pool k.table) (stock c.end_listed.new.book c.end_listed.new.pool c.end_listed.new.table)
-  ends = subst (λ (m : List ℕ). EndsTo (listed m) (stock k.book k.pool k.table) (stock c.end_listed.new.book c.end_listed.new.pool c.end_listed.new.table)) c.as_slice-numbers.ensures.value c.end_listed.ensures
+  ends = c.end_listed.ensures
 
   abbrev new : Kept
   new = record k { pool = c.end_listed.new.pool; book = c.end_listed.new.book; table = c.end_listed.new.table }
