@@ -3,6 +3,6 @@
 # own, since what one asks of memory would change what the next one finds.
 set -eu
 tools=$(cd "$(dirname "${BASH_SOURCE[0]}")/../tools" && pwd)
-for word in audit banker chains core shared session world; do
+for word in audit banker chains core shared session trims world; do
     bash "$tools/beside.sh" bench run -- "$word"
 done
