@@ -70,7 +70,8 @@ pub(crate) fn serve<'a>(alloc: Global) -> Result<Command<'a>, AllocError>
     let silence = "Ends a session whose peer sends nothing, or reads nothing, for SECONDS";
     let per_host = "Serves at most N connections of one address at once";
     let slowest = "Ends a session whose peer sends fewer than OCTETS a second for a minute";
-    let keep_room = "Rotates the account as soon as no job is held, or trims it, and has new jobs wait for that";
+    let keep_room =
+        "Rotates the account as soon as no job is held, or trims it, and has new jobs wait for that";
     let allow = "Lets in this network alone, and each other that is named so, as 10.0.0.0/8";
     let proxied =
         "Has a proxy's header (PROXY protocol) say whose each connection of this network is, and of each other that is named so";

@@ -112,11 +112,7 @@ impl<R: Files<File = File> + Clock + Log + Wait, E: SpoolLedger, K: Ledger, H: L
     }
 
     /// Holds a queue, or releases it.
-    fn hold_queue(
-        &self,
-        queue: &[u8],
-        held: bool,
-    ) -> Result<Vec<u8>, AllocError> {
+    fn hold_queue(&self, queue: &[u8], held: bool) -> Result<Vec<u8>, AllocError> {
         let done = if held {
             self.house.spool.hold(self.house.rt, queue)
         } else {

@@ -211,7 +211,6 @@ impl<E: SpoolLedger, K: Ledger, H: Ledger> SharedSpool<E, K, H> {
         self.state.lock(rt).locked.held()
     }
 
-
     /// The pages by where they are. All together are the pages of the spool.
     pub fn pages_by_place<R: Wait>(&self, rt: &R, _seat: &mut SessionSeat<E, K, H>) -> Pages
         ensures seat { _seat.new ≡ _seat.old }

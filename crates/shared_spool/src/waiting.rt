@@ -132,7 +132,13 @@ impl<E: SpoolLedger, K: Ledger, H: Ledger> SharedSpool<E, K, H> {
         ensures legal { IfSome result (λ r. IfOk r (IsLegalSegment E.config)) }
         ensures headline { IfSome result (λ r. IfOk r (HasHeadline E.config)) }
     {
-        let mut room = self.room_to_keep(rt, Keeper { least, trims: false })?;
+        let mut room = self.room_to_keep(
+            rt,
+            Keeper {
+                least,
+                trims: false,
+            },
+        )?;
         Some(room.locked.rotate())
     }
 

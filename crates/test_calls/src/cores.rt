@@ -119,7 +119,11 @@ fn is_told(told: &mut String, alloc: Global, core: &mut Core, call: &str) -> Res
             };
             push_numbers(told, &[(call, count)])?;
         }
-        "wanted" => told.push_str(if core.is_wanted(number(rest)) { "yes" } else { "no" })?,
+        "wanted" => told.push_str(if core.is_wanted(number(rest)) {
+            "yes"
+        } else {
+            "no"
+        })?,
         "free" => push_numbers(told, &[("free", core.free() as u64)])?,
         "reserve" => push_numbers(told, &[("reserve", core.counted_reserve())])?,
         "still" => write!(told, "still {}", core.still_reserved())?,

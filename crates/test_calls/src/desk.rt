@@ -192,7 +192,10 @@ impl<S: Spool> Desk<S> {
     /// Removes jobs of a queue by their numbers, and appends the number of the queue, or that of the first job that stays.
     fn cancel(&mut self, told: &mut String, rest: &str) -> Result<(), Refusal> {
         let (queue, jobs) = word(rest);
-        let jobs: Vec<u64> = jobs.split_whitespace().map(|job| number(job)).collect(self.alloc)?;
+        let jobs: Vec<u64> = jobs
+            .split_whitespace()
+            .map(|job| number(job))
+            .collect(self.alloc)?;
         let named = match self.spool.remove_jobs(queue.as_bytes(), jobs.as_slice()) {
             Ok(queue) => ("queue", u64::from(queue)),
             Err(Unremoved::Stays(job)) => ("stays", job),

@@ -66,7 +66,8 @@ impl<'a, R: Wait, E: SpoolLedger, K: Ledger, H: Ledger> Spool for Seats<'a, R, E
     }
 
     fn remove_jobs(&mut self, queue: &[u8], numbers: &[u64]) -> Result<u32, Unremoved> {
-        self.spool.remove_jobs(self.rt, &mut self.operator, queue, numbers)
+        self.spool
+            .remove_jobs(self.rt, &mut self.operator, queue, numbers)
     }
 
     fn close(&mut self) {

@@ -35,8 +35,8 @@ returns-in-Some-clause-answer c =
     let queue = subst (Queue name q) (sym c.self.view_is) c.in_ok-number.ensures.answer in
     stays k c.args.self.now (Finds name numbers (Err (Stays n))) c.self.view_is
     (λ d b h l.
-        let f = queue d b h l in
-        subst (λ (m : ℕ). TakesJobs (left_by d b h k) m × IsFirstLeft (IsRemovable d b h k m) numbers n) (sym f.0) (f.1, first d b h k l q numbers n c.in-Some.ensures))
+    let f = queue d b h l in
+    subst (λ (m : ℕ). TakesJobs (left_by d b h k) m × IsFirstLeft (IsRemovable d b h k m) numbers n) (sym f.0) (f.1, first d b h k l q numbers n c.in-Some.ensures))
 
 pub returns-in-None-clause-answer : goal.returns-in-None-clause-answer
 returns-in-None-clause-answer c =
@@ -47,8 +47,8 @@ returns-in-None-clause-answer c =
     let queue = subst (Queue name q) (sym c.self.view_is) c.in_ok-number.ensures.answer in
     stays k c.args.self.now (Finds name numbers (Ok q)) c.self.view_is
     (λ d b h l.
-        let f = queue d b h l in
-        (f.0, f.1, runs d b h k l q numbers _ c.in-None.ensures))
+    let f = queue d b h l in
+    (f.0, f.1, runs d b h k l q numbers _ c.in-None.ensures))
 
 pub returns-in-None-clause-takes : goal.returns-in-None-clause-takes
 returns-in-None-clause-takes c =
