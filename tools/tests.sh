@@ -2,7 +2,7 @@
 # Runs all rows and tests by `rt try`, and each program on its stored run: what is compiled is run, and nothing is proved. It says
 # where `rt version` is none of the kits that the README names, and on standard error which crate has ended; then comes what failed, and
 # a line for each crate. The last line is 'N passed, M failed', where a stored run counts as one, and so do docs/TRUSTED.md, which must
-# not be stale, the names and options that documents and comments tell of, which must be there, and the commands of the first page;
+# not be stale, the names and options that documents and comments tell of, which must be there, the rooms of crates.txt, and the commands of the first page;
 # the exit status is 0 only where none failed. As many crates are tried at a time as there are processors, or as RT_JOBS says; each
 # takes up to 2 GB of memory.
 set -u
@@ -19,7 +19,7 @@ passed=0
 failed=0
 lanes=${RT_JOBS:-$(nproc)}
 running=0
-for check in "tools/trusted.py --check" tools/documents.py; do
+for check in "tools/trusted.py --check" tools/documents.py tools/rooms.py; do
     # shellcheck disable=SC2086
     if python3 $check; then
         passed=$((passed + 1))

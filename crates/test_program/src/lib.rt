@@ -2,11 +2,19 @@
 #![tactic(auto)]
 
 #[cfg(test)]
-mod client;
-#[cfg(test)]
 mod faults;
 #[cfg(test)]
 mod kit;
+#[cfg(test)]
+mod log_queue;
+#[cfg(test)]
+mod network;
+#[cfg(test)]
+mod scene_rows;
+#[cfg(test)]
+mod scenes;
+#[cfg(test)]
+mod servers;
 #[cfg(test)]
 mod values;
 #[cfg(test)]

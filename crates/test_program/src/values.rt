@@ -1,17 +1,15 @@
-//! Values through their public items: texts of faults, lists, copies, a page, and a job that is accepted.
+//! Values through their public items: texts of faults, a page, and a job that is accepted.
 
 use crate::kit::expect;
 use claims::OpenError;
-use control_file::{Control, FileNames};
 use counts::TooLarge;
-use lpd_commands::{Command, FileName, Octets, Refusal, Words, write_command};
+use lpd_commands::Refusal;
 use lpd_words::Fault;
 use lpr_client::SendFault;
 use page_chain::ChainError;
 use page_pool::Pool;
 use queues::Book;
 use std::test::Fail;
-use test_kit::rows::words;
 
 /// Refusals as they are printed, with their numbers and the octets that are sent.
 const REFUSALS: &str = "\
@@ -72,59 +70,6 @@ fn texts_of_faults(rt: HostRuntime) {
         let text = fault.to_string(alloc).expect(&rt, "memory");
         expect(&rt, b"a fault", text.as_bytes(), wanted);
     }
-}
-
-/// Lists of words and of names, their copies, and octets that are taken out.
-#[test]
-fn lists(rt: HostRuntime) {
-    let alloc = rt.alloc();
-    let state = Command::State {
-        queue: Octets::copy_of(alloc, b"lp").expect(&rt, "memory"),
-        list: words(alloc, "ann 12").expect(&rt, "memory"),
-        long: true,
-    };
-    let line = write_command(alloc, &state).expect(&rt, "memory");
-    expect(&rt, b"state", line.as_slice(), b"\x04lp ann 12\n");
-    let host = Octets::from_vec(Vec::from_slice(alloc, b"h1").expect(&rt, "memory")).into_vec();
-    assert_eq!(rt; host.len(), 2);
-    let mut names = FileNames::new(alloc);
-    assert!(rt; names.is_empty());
-    names
-        .push(FileName::read(b"dfA001").expect(&rt, "a name"))
-        .expect(&rt, "memory");
-    names
-        .push(FileName::read(b"dfB001").expect(&rt, "a name"))
-        .expect(&rt, "memory");
-    assert!(rt; names.contains(&FileName::read(b"dfB001").expect(&rt, "a name")));
-    assert!(rt; !names.contains(&FileName::read(b"dfB002").expect(&rt, "a name")));
-    assert_eq!(rt;
-        (
-            names.as_slice().len(),
-            names.copy(alloc).expect(&rt, "memory").len()
-        ),
-        (2, 2)
-    );
-}
-
-/// The fields of a control file, and a copy as it is written.
-#[test]
-fn read_and_written(rt: HostRuntime) {
-    let alloc = rt.alloc();
-    let name = FileName::read(b"cfA042h1").expect(&rt, "memory");
-    let control = Control::parse(alloc, &name, b"Hh1\nPann\nfdfA001h1\n").expect(&rt, "memory");
-    assert_eq!(rt; (control.number, control.prints.len()), (42, 1));
-    assert!(rt; !control.prints.is_empty());
-    expect(&rt, b"the host", control.host.as_slice(), b"h1");
-    expect(&rt, b"the user", control.user.as_slice(), b"ann");
-    let copy = control.copy(alloc).expect(&rt, "memory");
-    assert_eq!(rt; copy.number, 42);
-    let written = copy.write(alloc).expect(&rt, "memory");
-    expect(
-        &rt,
-        b"a copy",
-        written.as_slice(),
-        b"Hh1\nPann\nfdfA001h1\n",
-    );
 }
 
 /// SHA-256 of `abc` (FIPS 180-4).

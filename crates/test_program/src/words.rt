@@ -1,7 +1,9 @@
 //! The program's words, with files and a socket on loopback.
 
 use crate::kit::{CONFIG, expect, listen, path_of, told, words_of};
-use log::Log;
+use crate::network::all_lines;
+use log::{Level, Log, Logged};
+use log_lines::{LineLog, LineQueue, LogForm};
 use lpr_client::{Control, DataFile, FileName, Octets, is_sendable, job_bytes};
 use std::alloc::Global;
 use std::fs::{File, Files};
@@ -9,9 +11,10 @@ use std::io::{Read, Write};
 use std::net::{Net, TcpListener, TcpStream};
 use std::process::Abort;
 use std::rt::Env;
+use std::sync::Wait;
 use std::test::Fail;
 use std::thread::Threads;
-use std::time::{Duration, Instant};
+use std::time::{Clock, Duration, Instant};
 use std::{fs, io, thread};
 
 /// The same and a script behind it.
@@ -523,6 +526,66 @@ fn words_are_answered(rt: HostRuntime) {
         let answer = told_of_row(&rt, line, b"");
         assert!(rt; answer.as_slice().starts_with(b"error: "), "{line}");
         assert!(rt; answer.as_slice().ends_with(b"\nstatus 1\n"), "{line}");
+    }
+}
+
+/// Words that end with a fault of a file or an address, the octets of `FILE`, and how the line of the log ends that says why.
+const CAUSES: [(&str, &[u8], &str); 5] = [
+    (
+        "check,/there/is/no/such/file",
+        b"",
+        "/there/is/no/such/file: No such file or directory (os error 2)\n",
+    ),
+    (
+        "replay,FILE,/there/is/no/such/script",
+        CONFIG,
+        "/there/is/no/such/script: No such file or directory (os error 2)\n",
+    ),
+    (
+        "send,515,lp,1,h1,ann,/there/is/nothing",
+        b"",
+        "/there/is/nothing: No such file or directory (os error 2)\n",
+    ),
+    (
+        "send,515,lp,1,h1,ann,FILE",
+        b"",
+        ": it has no octets, or no end\n",
+    ),
+    (
+        "send,1,lp,1,h1,ann,FILE",
+        b"hello",
+        "127.0.0.1:1: Connection refused (os error 111)\n",
+    ),
+];
+
+/// What the log has at this level once the words of a row have ended with a fault.
+fn logged_of_row<
+    R: Abort
+        + AllocGlobal
+        + Clock
+        + Env
+        + Files<File = File>
+        + Log
+        + Net<Listener = TcpListener, Stream = TcpStream>
+        + Wait,
+>(rt: &R, level: Level, line: &str, octets: &[u8]) -> String {
+    let alloc = rt.alloc();
+    let queue = LineQueue::new(alloc, 64, LogForm::Plain);
+    let logged = Logged::new(rt, level, LineLog::new(rt, alloc, &queue));
+    let told = told_of_row(&logged, line, octets);
+    assert!(rt; told.as_slice().ends_with(b"status 4\n"), "{line}");
+    all_lines(rt, alloc, &queue)
+}
+
+/// Before the fault of a file or an address the log is told at INFO which it is, and why. At WARN, as where standard error isn't a terminal,
+/// it isn't.
+#[test]
+fn causes_are_told(rt: HostRuntime) {
+    for (line, octets, wanted) in CAUSES {
+        let logged = logged_of_row(&rt, Level::Info, line, octets);
+        assert!(rt; logged.as_str().starts_with("[INFO  "), "{line}: {logged}");
+        assert!(rt; logged.as_str().ends_with(wanted), "{line}: {logged}");
+        assert_eq!(rt; logged_of_row(&rt, Level::Warn, line, octets).as_str(), "");
     }
 }
 

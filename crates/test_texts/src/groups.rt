@@ -1,6 +1,6 @@
 //! The groups of rows.
 
-use crate::{lines, sessions, status, tables, trials};
+use crate::{lines, sessions, status, tables};
 use std::alloc::AllocError;
 use std::sync::Wait;
 use test_kit::{Form, Group};
@@ -32,8 +32,6 @@ pub enum Texts {
     Sums,
     /// Tables of claims as they change, and what each change answers.
     Changes,
-    /// How many tables of how many rows are held against a trial of all orders, and whether they agree.
-    Trials,
     /// Octets that a receiver reads, what it asks, and what is written.
     Sessions,
     /// Requests for the status of a server, and what they ask for.
@@ -48,7 +46,7 @@ pub enum Texts {
 
 impl Texts {
     /// All groups.
-    pub const ALL: [Texts; 18] = [
+    pub const ALL: [Texts; 17] = [
         Texts::Commands,
         Texts::Subcommands,
         Texts::Names,
@@ -61,7 +59,6 @@ impl Texts {
         Texts::Pages,
         Texts::Sums,
         Texts::Changes,
-        Texts::Trials,
         Texts::Sessions,
         Texts::Requests,
         Texts::Marked,
@@ -85,7 +82,6 @@ impl Group for Texts {
             Texts::Pages => ("pages", Form::Line),
             Texts::Sums => ("sums", Form::Line),
             Texts::Changes => ("changes", Form::Line),
-            Texts::Trials => ("trials", Form::Line),
             Texts::Sessions => ("sessions", Form::Octets),
             Texts::Requests => ("requests", Form::Octets),
             Texts::Marked => ("marked", Form::Line),
@@ -114,7 +110,6 @@ impl Group for Texts {
             Texts::Pages => tables::page(told, alloc, asked),
             Texts::Sums => tables::sum(told, alloc, asked),
             Texts::Changes => tables::changes(told, alloc, asked),
-            Texts::Trials => trials::trial(told, alloc, asked),
             Texts::Sessions => sessions::sessions(told, alloc, asked),
             Texts::Requests => status::request(told, alloc, asked),
             Texts::Marked => status::marked(told, alloc, asked),

@@ -8,7 +8,6 @@ mod lines;
 mod sessions;
 mod status;
 mod tables;
-mod trials;
 
 use groups::Texts;
 use std::io;

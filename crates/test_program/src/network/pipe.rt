@@ -1,6 +1,6 @@
 //! A pipe in the place of a printer's file.
 
-use crate::kit::place::path;
+use crate::network::place::path;
 use libc::{O_CLOEXEC, pipe2};
 use os::FromRawFd;
 use std::alloc::Global;

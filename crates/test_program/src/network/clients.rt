@@ -15,6 +15,9 @@ use std::net::{Ipv4Addr, Net, SocketAddr, TcpStream};
 use std::process::Abort;
 use std::time::{Clock, Duration, Instant};
 
+/// What a client's only job has.
+pub const HELLO: &[u8] = b"hello world";
+
 /// How many seconds a client waits for an octet.
 pub const LIMIT_SECONDS: u64 = 30;
 
