@@ -213,6 +213,8 @@ class Build:
             self.idle.append(lane)
             if status:
                 self.failed = self.failed or name
+                others = f", once these have ended: {' '.join(self.running)}" if self.running else ""
+                print(f"{name} failed: out/logs/{name}.log has why. The build ends{others}", flush=True)
             else:
                 self.left.discard(name)
                 self.done += 1
