@@ -1,8 +1,8 @@
 //! A server, from its start to its end.
 
-ghost use Rattle.std.specs.Prelude.{◌≡◌, ◌≤◌, ◌+◌, ◌*◌, ◌⊎◌, ℕ, Ok, OnOk};
-ghost use Rattle.std.specs.Prelude.{IfErr, IfOk, false, if◌then◌else◌, true};
-ghost use Rattle.server_house.specs.Faults.{IsListeningFault, IsOpeningFault, IsRunningFault, write_faults};
+ghost use Rattle.std.specs.Prelude.{◌≡◌, ◌≤◌, ◌+◌, ◌*◌, ℕ, Ok, OnOk};
+ghost use Rattle.std.specs.Prelude.{IfErr, false, if◌then◌else◌, true};
+ghost use Rattle.server_house.specs.Faults.{IsOpeningFault, IsRunningFault, write_faults};
 ghost use Rattle.server_house.specs.Lines.{IsQuiet, WritesAll, line_octets};
 ghost use Rattle.server_house.specs.declared.faults.Fault.TheVariants.{Memory};
 ghost use Rattle.server_house.specs.declared.lines.PrintedLine.TheVariants.{Closed};
@@ -239,62 +239,41 @@ where
     let Plan {
         config,
         mut settings,
-        counter,
+        mut counter,
     } = plan;
-    let server = Server::open(rt, alloc, &mut settings, &config, counter)?;
-    let blanks = Blanks::new(&config, server.sessions + OTHERS);
+    let places = opened(open_places(rt, alloc, &settings, config.printer_count()))?;
+    let kept = open_kept(rt, alloc, &settings, &config)?;
+    let archive = opened(open_archive(rt, alloc, &settings, &config, &places))?;
+    let board = open_board(rt, alloc, &settings)?;
+    let (has_steward, waker) = (counter.is_open(), counter.take_waker());
+    let furniture = Furniture::make(rt, alloc, &settings, &config, &places, waker, has_steward)?;
+    let sessions = sessions_of(&settings);
+    let descriptors = kept_descriptors(config.printer_count(), sessions, has_steward);
+    let descriptors = descriptors.saturating_add(folder_descriptors(sessions, kept.is_some()));
+    let descriptors = descriptors.saturating_add(board_descriptors(board.is_some()));
+    let (lobby, waker, port) = listen(rt, alloc, &mut settings, descriptors)?;
+    let blanks = Blanks::new(&config, sessions + OTHERS);
+    let limits = settings.limits;
+    let room = AccountRoom::new(&config, sessions, limits.room_ms);
+    let server = Server {
+        rt,
+        alloc,
+        sessions,
+        limits,
+        printer_limits: settings.printer_limits,
+        rotate: settings.rotate,
+        room: settings.keep_room.then_some(room),
+        lobby,
+        waker,
+        port,
+        places,
+        kept,
+        archive,
+        counter,
+        board,
+        furniture,
+    };
     server.run::<Brand, Brand, Brand, W>(config, blanks, output)
-}
-
-impl<
-    'a,
-    R: Files<File = File> + Net<Listener = TcpListener, Stream = TcpStream> + Clock + Log + Wait,
-> Server<'a, R> {
-    /// A server that listens. What the settings say of who may come goes to its lobby.
-    ///
-    /// PrinterFile where what a printer prints to can't be opened; Network where it can't listen; Memory.
-    fn open(
-        rt: &'a R,
-        alloc: Global,
-        settings: &mut Settings<'a>,
-        config: &Config,
-        mut counter: Counter,
-    ) -> Result<Server<'a, R>, Fault>
-        ensures few { IfOk result (λ server. server.sessions ≤ 66) }
-        ensures fault { IfErr result (λ fault. IsOpeningFault fault ⊎ IsListeningFault fault) }
-    {
-        let places = opened(open_places(rt, alloc, settings, config.printer_count()))?;
-        let kept = open_kept(rt, alloc, settings, config)?;
-        let archive = opened(open_archive(rt, alloc, settings, config, &places))?;
-        let board = open_board(rt, alloc, settings)?;
-        let (has_steward, waker) = (counter.is_open(), counter.take_waker());
-        let furniture = Furniture::make(rt, alloc, settings, config, &places, waker, has_steward)?;
-        let sessions = sessions_of(settings);
-        let descriptors = kept_descriptors(config.printer_count(), sessions, has_steward);
-        let descriptors = descriptors.saturating_add(folder_descriptors(sessions, kept.is_some()));
-        let descriptors = descriptors.saturating_add(board_descriptors(board.is_some()));
-        let (lobby, waker, port) = listen(rt, alloc, settings, descriptors)?;
-        let limits = settings.limits;
-        let room = AccountRoom::new(config, sessions, limits.room_ms);
-        Ok(Server {
-            rt,
-            alloc,
-            sessions,
-            limits,
-            printer_limits: settings.printer_limits,
-            rotate: settings.rotate,
-            room: settings.keep_room.then_some(room),
-            lobby,
-            waker,
-            port,
-            places,
-            kept,
-            archive,
-            counter,
-            board,
-            furniture,
-        })
-    }
 }
 
 impl<'a, R> Server<'a, R> {
