@@ -19,11 +19,11 @@ import threading
 import time
 
 from client import connect, free_port, send, spool
-from keeping import check, main, small_disk
+from keeping import small_disk
+from scene import PROGRAM, check, main, size
 
-PROGRAM = os.path.abspath(sys.argv[1]) if len(sys.argv) > 1 else ""
 CLIENTS = 8
-JOBS = int(os.environ.get("JOBS", "40"))
+JOBS = size("JOBS", 40, 20)
 
 
 class Books:
@@ -275,7 +275,7 @@ def hostile_files():
             "a head alone": good.encode(),
             "nothing": b"",
             "a number past 64 bits": good.encode() + b"opened 18446744073709551616 1 1\n",
-            "a million entries": good.encode() + b"started 1\n" * int(os.environ.get("ENTRIES", "1000000")),
+            "a million entries": good.encode() + b"started 1\n" * size("ENTRIES", 1_000_000, 50_000),
             "octets 00": b"\0" * 1_000_000,
             "line feeds": b"\n" * 1_000_000,
         }
@@ -295,7 +295,7 @@ def hostile_files():
 
 def a_long_account():
     """An account of a million entries, with eight jobs held at a time, over several segments: how long an audit takes."""
-    entries = int(os.environ.get("ENTRIES", "1000000"))
+    entries = size("ENTRIES", 1_000_000, 50_000)
     with tempfile.TemporaryDirectory() as folder:
         total, digest, run = 0, None, 0
         while entries - total > 1_000:

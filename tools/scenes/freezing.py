@@ -8,19 +8,12 @@ import os
 import signal
 import socket
 import struct
-import subprocess
 import sys
 import threading
 import time
 
 from client import Server, answer, ask, begin, connect, control, send, spool, state, together
-
-PROGRAM = os.path.abspath(sys.argv[1]) if len(sys.argv) > 1 else ""
-
-
-def check(holds, text):
-    if not holds:
-        raise AssertionError(text)
+from scene import PROGRAM, check, main
 
 
 def a_printer_that_takes_no_page():
@@ -87,6 +80,8 @@ def sessions_that_all_wait():
     config = spool(pages=64, size=512, jobs=512, limit=64, queues=("lp", "other"), account=10_000_000)
     with Server(PROGRAM, config, "--sessions", "64", printers=2, device="fifo") as server:
         first = begin(server.port, 1, 64 * 512, b"z" * 512, host="127.0.1.1")
+        # (its page has to be lent before another job asks for one: each of them may need all)
+        time.sleep(0.3)
         waiting = [begin(server.port, number, 64 * 512, b"z" * 2048, host=f"127.0.2.{number}") for number in range(2, 65)]
         time.sleep(1.5)
         took = {}
@@ -442,29 +437,11 @@ def room_under_load():
     return f"{rates[0]:.0f} jobs a second, {rates[0] / rates[1]:.2f} of the rate with an account that is never full"
 
 
-SCENES = [value for value in list(globals().values()) if callable(value) and getattr(value, "__module__", "") == "__main__" and value not in (check, fill, a_whole_job_beside_a_peer_that_leaves)]
-
-
-def main():
-    wanted = sys.argv[2:]
-    passed = failed = 0
-    for scene in SCENES:
-        if scene is main or (wanted and scene.__name__ not in wanted):
-            continue
-        start = time.monotonic()
-        try:
-            told = scene()
-            passed += 1
-            print(f"{scene.__name__}: {told} ({time.monotonic() - start:.0f} s)", flush=True)
-        except Exception as error:
-            failed += 1
-            print(f"{scene.__name__}: FAILED: {type(error).__name__} {error}", flush=True)
-    print(f"{passed} passed, {failed} failed")
-    return 1 if failed else 0
+SCENES = [value for value in list(globals().values()) if callable(value) and getattr(value, "__module__", "") == "__main__" and value not in (fill, a_whole_job_beside_a_peer_that_leaves)]
+# Those that the short form leaves out.
+LONG = [whole_jobs_beside_peers_that_leave, idle_connections, a_peer_that_drips, few_pages_and_a_printer_that_fails, room_under_load]
 
 
 if __name__ == "__main__":
-    if not PROGRAM:
-        sys.exit(__doc__)
     signal.signal(signal.SIGPIPE, signal.SIG_IGN)
-    sys.exit(main())
+    sys.exit(main(SCENES, __doc__, LONG))

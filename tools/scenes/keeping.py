@@ -17,9 +17,9 @@ import threading
 import time
 
 from client import control, free_port, connect, answer, send
+from scene import PROGRAM, check, main, size
 
-PROGRAM = os.path.abspath(sys.argv[1]) if len(sys.argv) > 1 else ""
-KILLS = int(os.environ.get("KILLS", "200"))
+KILLS = size("KILLS", 200, 20)
 PAUSE = float(os.environ.get("PAUSE", "0.5"))
 CLIENTS = 8
 CONFIG = """pages = 256
@@ -32,11 +32,6 @@ name = "{name}"
 limit = 128
 printers = 1
 """ for name in ("lp", "plotter", "bad"))
-
-
-def check(holds, text):
-    if not holds:
-        raise AssertionError(text)
 
 
 class Room:
@@ -449,23 +444,6 @@ def stopped_now_amid_a_job():
 
 SCENES = [killed_once, a_second_server, a_failed_job_is_sent_again, a_job_is_removed, files_that_are_no_jobs, a_full_disk,
           a_read_only_disk, a_folder_that_goes_away, stopped_now_amid_a_job, many_kept_jobs, killed_at_random]
-
-
-def main(scenes, doc):
-    if not os.path.isfile(PROGRAM):
-        raise SystemExit(doc)
-    chosen = [it for it in scenes if not sys.argv[2:] or it.__name__ in sys.argv[2:]]
-    passed = 0
-    for scene in chosen:
-        try:
-            print(f"{scene.__name__}: {scene()}", flush=True)
-            passed += 1
-        except subprocess.CalledProcessError as error:
-            print(f"{scene.__name__}: left out, since {error.cmd[0]} isn't allowed", flush=True)
-        except Exception as error:
-            print(f"{scene.__name__}: FAILED: {type(error).__name__} {error}", flush=True)
-    print(f"{passed} passed, {len(chosen) - passed} failed")
-    return 0 if passed == len(chosen) else 1
 
 
 if __name__ == "__main__":

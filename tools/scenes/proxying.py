@@ -4,7 +4,6 @@
 The proxy's headers (the PROXY protocol, versions 1 and 2) come whole, cut, late, bad or not at all, from 127.0.0.2. Each scene is
 bounded in time and runs on loopback alone. A line says what was seen; the last line is 'N passed, M failed'."""
 import contextlib
-import os
 import re
 import resource
 import socket
@@ -13,17 +12,12 @@ import threading
 import time
 
 from client import Server, answer, connect, spool, together
+from scene import PROGRAM, check, main
 
-PROGRAM = os.path.abspath(sys.argv[1]) if len(sys.argv) > 1 else ""
 PROXY = "127.0.0.2"
 WORDS = ("--proxied", PROXY, "--allow", "10.0.0.0/8", "--per-host", "2", "--keep-room", "--log", "time")
 SIGNATURE = b"\r\n\r\n\0\r\nQUIT\n"
 LOCAL = SIGNATURE + b"\x20\0\0\0"
-
-
-def check(holds, text):
-    if not holds:
-        raise AssertionError(text)
 
 
 def line_header(host, port=5):
@@ -252,25 +246,5 @@ def three_thousand_silent():
 SCENES = [cut_anywhere, the_proxy_itself, headers_that_dont_count, from_elsewhere, late_ones, hosts_behind_one_proxy, three_thousand_silent]
 
 
-def main():
-    wanted = sys.argv[2:]
-    passed = failed = 0
-    for scene in SCENES:
-        if wanted and scene.__name__ not in wanted:
-            continue
-        start = time.monotonic()
-        try:
-            told = scene()
-            passed += 1
-            print(f"{scene.__name__}: {told} ({time.monotonic() - start:.0f} s)", flush=True)
-        except Exception as error:
-            failed += 1
-            print(f"{scene.__name__}: FAILED: {type(error).__name__} {error}", flush=True)
-    print(f"{passed} passed, {failed} failed")
-    return 1 if failed else 0
-
-
 if __name__ == "__main__":
-    if not PROGRAM:
-        sys.exit(__doc__)
-    sys.exit(main())
+    sys.exit(main(SCENES, __doc__))

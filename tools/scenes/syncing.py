@@ -14,7 +14,8 @@ import time
 
 from auditing import Books
 from client import send
-from keeping import Room, check, main
+from keeping import Room
+from scene import check, main
 
 
 class Watched(Room):

@@ -14,9 +14,9 @@ import threading
 import time
 
 from client import Server, send, spool, state
+from scene import PROGRAM, check, main, size
 
-PROGRAM = os.path.abspath(sys.argv[1]) if len(sys.argv) > 1 else ""
-JOBS = int(os.environ.get("JOBS", "20000"))
+JOBS = size("JOBS", 20_000, 2_000)
 CLIENTS = 8
 OCTETS = b"hello world"
 # How many seconds the jobs may take.
@@ -26,11 +26,6 @@ ROOM = 92
 MOST = 8 * ROOM
 # How much more memory of the server may be resident at most until the end than until a quarter of the jobs were sent, in KiB, beside a fifth of that.
 MORE = 8192
-
-
-def check(holds, text):
-    if not holds:
-        raise AssertionError(text)
 
 
 def until(limit, holds):
@@ -140,26 +135,6 @@ def an_account_that_is_never_trimmed():
 SCENES = [a_printer_that_is_off, an_account_that_is_never_trimmed]
 
 
-def main():
-    wanted = sys.argv[2:]
-    passed = failed = 0
-    for scene in SCENES:
-        if wanted and scene.__name__ not in wanted:
-            continue
-        start = time.monotonic()
-        try:
-            told = scene()
-            passed += 1
-            print(f"{scene.__name__}: {told} ({time.monotonic() - start:.0f} s)", flush=True)
-        except Exception as error:
-            failed += 1
-            print(f"{scene.__name__}: FAILED: {type(error).__name__} {error}", flush=True)
-    print(f"{passed} passed, {failed} failed")
-    return 1 if failed else 0
-
-
 if __name__ == "__main__":
-    if not PROGRAM:
-        sys.exit(__doc__)
     signal.signal(signal.SIGPIPE, signal.SIG_IGN)
-    sys.exit(main())
+    sys.exit(main(SCENES, __doc__))

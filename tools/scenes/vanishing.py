@@ -12,8 +12,8 @@ import tempfile
 import time
 
 from client import Server, ask, send, spool, state
+from scene import PROGRAM, check, main
 
-PROGRAM = os.path.abspath(sys.argv[1]) if len(sys.argv) > 1 else ""
 NAME = "hurgwaye-vanishing"
 OURS, PRINTERS = "10.213.77.1", "10.213.77.2"
 
@@ -35,11 +35,6 @@ while True:
     peer.close()
     print("took", count, flush=True)
 """
-
-
-def check(holds, text):
-    if not holds:
-        raise AssertionError(text)
 
 
 def ip(*words):
@@ -152,25 +147,5 @@ def a_printer_is_gone_before_a_job():
 SCENES = [a_printer_is_gone_amid_a_job, a_printer_that_is_gone_holds_up_no_stop, a_printer_is_gone_before_a_job]
 
 
-def main():
-    wanted = sys.argv[2:]
-    passed = failed = 0
-    for scene in SCENES:
-        if wanted and scene.__name__ not in wanted:
-            continue
-        start = time.monotonic()
-        try:
-            told = scene()
-            passed += 1
-            print(f"{scene.__name__}: {told} ({time.monotonic() - start:.0f} s)", flush=True)
-        except Exception as error:
-            failed += 1
-            print(f"{scene.__name__}: FAILED: {type(error).__name__} {error}", flush=True)
-    print(f"{passed} passed, {failed} failed")
-    return 1 if failed else 0
-
-
 if __name__ == "__main__":
-    if not PROGRAM:
-        sys.exit(__doc__)
-    sys.exit(main())
+    sys.exit(main(SCENES, __doc__))
