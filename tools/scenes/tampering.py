@@ -200,7 +200,7 @@ WAYS = {
     "a segment left out": (lambda it: os.remove(it.middle()), FOLLOW),
     "the last left out": (lambda it: os.remove(it.last()), FOLLOW),
     "two segments exchanged": (exchanged, FOLLOW),
-    "two segments in one file": (joined, None),
+    "two segments in one file": (joined, LINE),
     "a segment cut off": (lambda it: cut(it.last()), LINE),
     "no last line feed": (lambda it: cut(it.middle(), 1), LINE),
     "an empty file": (lambda it: open(it.middle(), "w").close(), ANY),

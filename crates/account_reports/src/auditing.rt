@@ -39,6 +39,10 @@ impl<'a, O: OctetWrite> TakeLines<'a> for Auditing<'a, '_, O> {
         path: &'a str,
         number: u64,
     ) -> Result<(), ReportFault<'a>> {
+        // (a file has one segment, and nothing behind its last line)
+        if number != 1 && self.is_between() {
+            return Err(ReportFault::Line(path, number));
+        }
         let Some(audit) = self.audit.take() else {
             return Err(ReportFault::Line(path, number));
         };
@@ -58,9 +62,19 @@ impl<'a, O: OctetWrite> TakeLines<'a> for Auditing<'a, '_, O> {
     }
 
     fn end_file(&mut self, path: &'a str, number: u64) -> Result<(), ReportFault<'a>> {
+        if number != 1 && self.is_between() {
+            return Ok(());
+        }
+        Err(ReportFault::Line(path, number))
+    }
+}
+
+impl<O> Auditing<'_, '_, O> {
+    /// Whether what was read ends with the last line of a segment.
+    fn is_between(&self) -> bool {
         match &self.audit {
-            Some(audit) if number != 1 && audit.is_between() => Ok(()),
-            _ => Err(ReportFault::Line(path, number)),
+            Some(audit) => audit.is_between(),
+            None => false,
         }
     }
 }

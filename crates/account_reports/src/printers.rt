@@ -1,6 +1,6 @@
 //! Where a printer's octets are read again.
 
-ghost use Rattle.std.specs.Prelude.{◌≡◌, ◌≤◌, IfSome, length};
+ghost use Rattle.std.specs.Prelude.{◌≡◌, ◌≤◌, IfSome, None, length};
 
 use printed_pages::PrintedOctets;
 use std::alloc::Global;
@@ -34,6 +34,10 @@ impl PrintedFile {
 }
 
 impl PrintedOctets for PrintedFile {
+    ghost octets = { λ _. None };
+
+    ghost rest = { λ _. None };
+
     fn go_to(&mut self, at: u64) -> bool {
         if self.at == Some(at) {
             return true;

@@ -1,3 +1,4 @@
 pub mod Folders
 pub mod Pages
+pub mod Sources
 pub mod Trails

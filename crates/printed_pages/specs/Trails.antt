@@ -1,16 +1,16 @@
 -- How a printer's file goes on, by what the account says.
-use Rattle.std.specs.Prelude.{◌≡◌, ◌<◌, ◌≤◌, ◌+◌, ◌-◌, ◌==◌, ◌^◌, ℕ, Option, Some, None, if◌then◌else◌, min}
-use Rattle.spool_history.specs.Events.{Event, Sheet, Turn}
+use Rattle.std.specs.Prelude.{◌≡◌, ◌<◌, ◌≤◌, ◌+◌, ◌-◌, ◌==◌, ◌^◌, ℕ, List, Option, Some, None, if◌then◌else◌, min}
+use Rattle.spool_history.specs.Events.{Event, Sheet}
 use Rattle.spool_history.specs.Events.Event.{AtPrinter}
-use Rattle.spool_history.specs.Events.Turn.{Handed, Printed, Failed}
+use Rattle.spool_history.specs.Events.Turn.{Printed, Failed}
 use Rattle.account.specs.declared.entry.Outline.{Outline}
 use Rattle.account.specs.Seen.{octets}
-use Rattle.printed_pages.specs.declared.page.Differs.{Differs}
 use Rattle.printed_pages.specs.declared.source.TrailFault.{TrailFault}
 use Rattle.printed_pages.specs.declared.source.TrailFault.TheVariants as fault
 use Rattle.printed_pages.specs.declared.trail.PrinterTrail.{PrinterTrail}
 use Rattle.printed_pages.specs.declared.trail.RunBegins.{RunBegins}
 use Rattle.printed_pages.specs.declared.trail.RunBegins.TheVariants as run
+use Rattle.printed_pages.specs.Sources.{IsThere}
 
 -- what an entry says of a printer's file: nothing, or that a page was printed, or that one failed
 pub data Fate : Type 0 where
@@ -37,6 +37,11 @@ abbrev pub behind : Fate → PrinterTrail → PrinterTrail
 behind Nothing t = t
 behind (Prints sheet) t = printed_at t.position (octets sheet.page) t
 behind Fails t = record t { position = None }
+
+-- where an entry says that a page was printed, and it is known where that begins, the file has it there
+abbrev pub IsRead : Fate → (position : Option ℕ) → (file : Option (List ℕ)) → Type 0
+IsRead (Prints sheet) (Some at) file = IsThere at file sheet.page
+IsRead _ _ file = Unit {0}
 
 -- what is told where a run begins: the pages before ended in one place, and the file had this length
 abbrev pub IsSaid : (before length : Option ℕ) → RunBegins → Type 0

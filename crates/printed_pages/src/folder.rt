@@ -3,6 +3,7 @@
 ghost use Rattle.std.specs.Prelude.{◌≡◌, ℕ, [], IfErr, IfOk, List, MatchOption, None, OnErr, OnOk, Some, sum_by};
 ghost use Rattle.account.specs.declared.entry.Sheet.{Sheet};
 ghost use Rattle.printed_pages.specs.Folders as F;
+ghost use Rattle.printed_pages.specs.Sources.{IsJob};
 
 use crate::page::Differs;
 use crate::source::{PrintedOctets, TrailFault, read_at};
@@ -80,7 +81,8 @@ pub fn judge_job<P: PrintedOctets>(
     source: &mut P,
     sheets: &[Sheet],
 ) -> Result<u64, TrailFault>
-    ensures { IfOk result (λ n. n ≡ sum_by (λ (s : Sheet). s.page.length) sheets.now) }
+    ensures sum { IfOk result (λ n. n ≡ sum_by (λ (s : Sheet). s.page.length) sheets.now) }
+    ensures there { OnOk result (IsJob (P.octets source.old) sheets.now) }
 {
     let Some(last) = sheets.last() else {
         return Ok(0);

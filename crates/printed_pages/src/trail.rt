@@ -2,6 +2,7 @@
 
 ghost use Rattle.std.specs.Prelude.{◌≡◌, ◌≤◌, ◌<◌, ◌+◌, ◌-◌, ◌^◌, IfErr, MatchOption, MatchResult, OnErr, OnOk, None, Some, Option};
 ghost use Rattle.account.specs.Seen.{event_seen, sheet_seen};
+ghost use Rattle.printed_pages.specs.Sources.{IsThere};
 ghost use Rattle.printed_pages.specs.Trails as T;
 
 use crate::page::judge;
@@ -48,8 +49,10 @@ pub(crate) fn find<P: PrintedOctets>(
     at: u64,
     sheet: &Sheet,
 ) -> Result<u64, TrailFault>
-    ensures { MatchResult result (λ next. next ≡ at + sheet.now.page.length)
+    ensures next { MatchResult result (λ next. next ≡ at + sheet.now.page.length)
         (T.IsIn printer at (sheet_seen sheet.now)) }
+    ensures there { OnOk result (IsThere at (P.octets source.old) sheet.now.page) }
+    ensures octets { P.octets source.new ≡ P.octets source.old }
 {
     let Some(next) = at.checked_add(u64::from(sheet.page.length)) else {
         return Err(TrailFault::Unread);
@@ -107,6 +110,9 @@ impl PrinterTrail {
     ) -> Result<(), TrailFault>
         ensures ok { OnOk result (self.new
             ≡ T.behind (T.fate_at self.old.printer (event_seen entry.now)) self.old) }
+        ensures read { OnOk result (T.IsRead (T.fate_at self.old.printer (event_seen entry.now))
+            self.old.position (P.octets source.old)) }
+        ensures octets { P.octets source.new ≡ P.octets source.old }
         ensures unchanged { OnErr result (self.new ≡ self.old) }
         ensures err { IfErr result (T.IsOfPage self.old (event_seen entry.now)) }
     {
