@@ -12,10 +12,15 @@
 # 700 would take some eight hours of one processor, as reckoned from those that were tried: name the crates that changed. Several
 # runs may stand beside each other, with other names each.
 #
+# `tools/more-edits.sh --types [NAME..]` looks at their types alone, as tools/edit_types.py says: a crate in a minute or two.
+#
 # Most edits are refused by the check of their own crate. One with a line `check: OTHER` turns a definition that its own
 # crate proves nothing about: it is refused where the check of the crate OTHER fails.
 set -u
 top=$(cd "$(dirname "${BASH_SOURCE[0]}")/.." && pwd)
+if [ "${1:-}" = --types ]; then
+    exec python3 "$top/tools/edit_types.py" "${@:2}"
+fi
 kept=${EDITS_KEPT:-$HOME/.cache/hurgwaye/more-edits}
 mkdir -p "$(dirname "$kept")" && touch "$kept" || exit 2
 copy=$(mktemp -d)
