@@ -4,7 +4,8 @@
 An edit whose new text isn't well typed is refused by the compiler, which shows nothing of a contract. All edits of a crate that stand in
 different functions are put in at once, in a copy of the repository, and `rt try --test` reads that; where it finds an error they are halved, until it is
 known which edit has it. Without names those of all crates are looked at. A line for each edit that can't be read, and one for each crate;
-the exit status is 0 only where all can. An edit of a definition or a proof isn't looked at: those are read by the prover alone.
+the exit status is 0 only where all can. An edit of a definition or a proof isn't looked at: those are read by the prover alone. One that has a line which nobody reads, or that
+changes nothing, is told too: its texts are one line each.
 """
 import glob
 import os
@@ -23,7 +24,7 @@ class Edit:
     """An edit: its name, and the texts that it exchanges in each file."""
 
     def __init__(self, path):
-        self.path, self.changes = path, []
+        self.path, self.changes, self.fault = path, [], None
         file = old = None
         with open(path, encoding="utf-8") as lines:
             for line in lines.read().split("\n"):
@@ -33,6 +34,10 @@ class Edit:
                     old = line[len("old: "):]
                 elif line.startswith("new:"):
                     self.changes.append((file, old, line[len("new: "):]))
+                elif line and not line.startswith("check: "):
+                    self.fault = "a line of it is read by nobody: each text is one line"
+        if any(old == new for _, old, new in self.changes):
+            self.fault = self.fault or "its new text is its old one"
 
     def places(self, crate):
         """The functions that it changes, or lines where it changes none; None where an old text doesn't stand once."""
@@ -94,8 +99,12 @@ class Crate:
 def look_at(copy, name):
     """Looks at the edits of a crate. How many can't be read."""
     edits, skipped, bad = [], 0, []
-    for path in sorted(glob.glob(f"{copy}/crates/{name}/m*-*/*.edit")):
+    paths = sorted(glob.glob(f"{copy}/crates/{name}/m*-*/*.edit"))
+    for path in paths:
         edit = Edit(path)
+        if edit.fault:
+            bad.append((edit, edit.fault))
+            continue
         if any(not file.endswith(".rt") for file, _, _ in edit.changes):
             skipped += 1
             continue
@@ -118,7 +127,7 @@ def look_at(copy, name):
     shutil.rmtree(crate.kept)
     for edit, error in bad:
         print(f"can't be read: {os.path.relpath(edit.path, copy + '/crates')}: {error}", flush=True)
-    print(f"{name}: {len(edits) + skipped} edits, of which {skipped} aren't looked at, in {len(groups)} looks; {len(bad)} can't be read", flush=True)
+    print(f"{name}: {len(paths)} edits, of which {skipped} aren't looked at, in {len(groups)} looks; {len(bad)} can't be read", flush=True)
     return len(bad)
 
 
