@@ -30,7 +30,7 @@ fn is_hand_out(kind: Kind) -> bool
 /// how many they are, the sum of the numbers of their kinds, and how many are hand-outs.
 #[derive(Drop)]
 pub struct Audit {
-    state: State,
+    pub(crate) state: State,
     entries: u64,
     kinds: u128,
     handed: u128,

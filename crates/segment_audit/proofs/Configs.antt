@@ -9,9 +9,8 @@ use Rattle.segment_text.specs.Items.{Item, Suits, stage_after, stage_of}
 use Rattle.segment_text.specs.Items.Item.{OfOrigin, OfConfig, OfPrinter, OfStart, OfEvent, OfLast}
 use Rattle.segment_audit.specs.declared.part.Part.{Part}
 use Rattle.segment_audit.specs.declared.part.Part.TheVariants as part
-use Rattle.segment_audit.specs.declared.part.Place.{Place}
 use Rattle.segment_audit.specs.Audited.{AreAudited, Past, present, past_of, head_of, last_config, last_digest, past_config, past_digest, with_line}
-use Rattle.segment_audit.specs.Read.{IsAtPrinters, IsBegun, IsHeaded, HasEntries, IsPart, IsPlace}
+use Rattle.segment_audit.specs.Read.{IsAtPrinters, IsBegun, IsHeaded, HasEntries, IsPart}
 
 -- before its line it is that of the segment before, and behind it that of its own
 abbrev Known : Stage → H.Head → Option Past → Option Config → Type 0
@@ -71,26 +70,26 @@ of_printers stage.Entries h p c a k = absurd a
 of_printers stage.Over h p c a k = absurd a
 
 -- at each part
-pub of_headed : (place : Place) (after : Option (List ℕ)) (is : List Item) (o : _) (c : Config) (ps : _) → AreAudited after is → IsPlace place is → place.part ≡ part.Headed o c ps → last_config is ≡ Some c
-of_headed place after is o c ps a w e =
-    let h : IsHeaded o c ps.items (present is) = subst (λ (t : Part). IsPart t (present is)) e w.0 in
+pub of_headed : (p : Part) (after : Option (List ℕ)) (is : List Item) (b : _) (o : _) (c : Config) (ps : _) → AreAudited after is → IsPart p is → p ≡ part.Headed b o c ps → last_config is ≡ Some c
+of_headed p after is b o c ps a w e =
+    let h : IsHeaded o c ps.items (present is) = (subst (λ (t : Part). IsPart t is) e w).0 in
     of_printers (stage_of (present is)) (head_of (present is)) (past_of is) (last_config is) h.stage (known after is a) ∙ ap Some (sym h.config)
 
-pub of_entries : (place : Place) (after : Option (List ℕ)) (is : List Item) (d : _) (u : _) → AreAudited after is → IsPlace place is → place.part ≡ part.Entries d u → last_config is ≡ Some d.config
-of_entries place after is d u a w e =
-    let h : HasEntries d u (present is) = subst (λ (t : Part). IsPart t (present is)) e w.0 in
-    let k : last_config is ≡ Some (head_of (present is)).config =
+pub of_entries : (p : Part) (after : Option (List ℕ)) (is : List Item) (g : _) (d : _) (k : _) → AreAudited after is → IsPart p is → p ≡ part.Entries g d k → last_config is ≡ Some d.config
+of_entries p after is g d k a w e =
+    let h : HasEntries d (present is) = (subst (λ (t : Part). IsPart t is) e w).0 in
+    let s : last_config is ≡ Some (head_of (present is)).config =
     subst (λ (s : Stage). Known s (head_of (present is)) (past_of is) (last_config is)) h.stage (known after is a) in
-    k ∙ ap (λ (x : H.Head). Some x.config) (sym h.head)
+    s ∙ ap (λ (x : H.Head). Some x.config) (sym h.head)
 
-pub of_between : (place : Place) (after : Option (List ℕ)) (is : List Item) → AreAudited after is → IsPlace place is → place.part ≡ part.Between → last_config is ≡ past_config (past_of is)
-of_between place after is a w e =
-    let z : present is ≡ [] = subst (λ (t : Part). IsPart t (present is)) e w.0 in
+pub of_between : (p : Part) (after : Option (List ℕ)) (is : List Item) (b : _) → AreAudited after is → IsPart p is → p ≡ part.Between b → last_config is ≡ past_config (past_of is)
+of_between p after is b a w e =
+    let z : present is ≡ [] = (subst (λ (t : Part). IsPart t is) e w).0 in
     subst (λ (s : Stage). Known s (head_of (present is)) (past_of is) (last_config is)) (ap stage_of z) (known after is a)
 
-pub of_begun : (place : Place) (after : Option (List ℕ)) (is : List Item) (o : _) → AreAudited after is → IsPlace place is → place.part ≡ part.Begun o → last_config is ≡ past_config (past_of is)
-of_begun place after is o a w e =
-    let h : IsBegun o (present is) = subst (λ (t : Part). IsPart t (present is)) e w.0 in
+pub of_begun : (p : Part) (after : Option (List ℕ)) (is : List Item) (b : _) (o : _) → AreAudited after is → IsPart p is → p ≡ part.Begun b o → last_config is ≡ past_config (past_of is)
+of_begun p after is b o a w e =
+    let h : IsBegun o (present is) = (subst (λ (t : Part). IsPart t is) e w).0 in
     subst (λ (s : Stage). Known s (head_of (present is)) (past_of is) (last_config is)) h.stage (known after is a)
 
 -- what is told of the segment that was over last

@@ -2,4 +2,5 @@ pub mod Arms
 pub mod Configs
 pub mod Counts
 pub mod Lawful
+pub mod Matched
 pub mod Steps

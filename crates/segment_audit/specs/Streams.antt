@@ -7,7 +7,7 @@ use Rattle.segment_audit.specs.declared.audit.SegmentAudit.{SegmentAudit}
 use Rattle.segment_audit.specs.declared.fault.AuditFault.{AuditFault}
 use Rattle.segment_audit.specs.declared.fault.AuditFault.TheVariants as fault
 use Rattle.segment_audit.specs.Audited.{AreAudited, MayCome, present}
-use Rattle.segment_audit.specs.Read.{IsPlace}
+use Rattle.segment_audit.specs.Read.{IsPart}
 use Rattle.segment_audit.specs.Told.{IsTallyOf}
 
 -- these lines were read, and are audited
@@ -16,7 +16,7 @@ pub record HasAudited (audit : SegmentAudit) (after : Option (List ℕ)) (is : L
   pub audited : AreAudited after is
   pub lines : audit.lines ≡ length is
   pub reader : HasRead audit.reader (present is)
-  pub place : IsPlace audit.place is
+  pub part : IsPart audit.part is
   pub tally : IsTallyOf audit.tally is
 
 -- a line is that of one that may stand behind those of its segment, and may not come

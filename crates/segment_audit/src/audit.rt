@@ -8,7 +8,7 @@ ghost use Rattle.segment_audit.specs.Read.{entries_in};
 ghost use Rattle.segment_audit.specs.Told.{IsAtMost};
 
 use crate::fault::AuditFault;
-use crate::part::{Part, Place, past_config, past_digest};
+use crate::part::{Part, config_before, digest_before};
 use crate::tally::Tally;
 use account_text::LineFault;
 use config_values::Config;
@@ -22,11 +22,11 @@ const MAX_LINES: u64 = 1 << 62;
 #[derive(Drop)]
 pub struct SegmentAudit {
     after: Option<[u8; 32]>,
-    place: Place,
+    part: Part,
     reader: SegmentReader,
     lines: u64,
     tally: Tally,
-    ghost few: { (lines ≤ 2 ^ 62) × HasReadAtMost reader lines × (entries_in place.part ≤ lines)
+    ghost few: { (lines ≤ 2 ^ 62) × HasReadAtMost reader lines × (entries_in part ≤ lines)
         × IsAtMost lines tally },
 }
 
@@ -46,13 +46,13 @@ impl SegmentAudit {
     ghost use Rattle.segment_audit.specs.Streams.{HasAudited, IsRefused};
     ghost use Rattle.segment_audit.specs.Told.{IsTallyOf};
 
-    /// An audit that has read no line. The first segment may be any one, or else has to name the digest `after`.
+    /// An audit that has read no line. The first segment begins from a base, and has to name the digest `after`, if there is one.
     pub fn begin(after: Option<[u8; 32]>) -> SegmentAudit
         ensures { HasAudited result after [] }
     {
         SegmentAudit {
             after,
-            place: Place::begin(),
+            part: Part::begin(),
             reader: SegmentReader::begin(),
             lines: 0,
             tally: Tally::none(),
@@ -63,9 +63,9 @@ impl SegmentAudit {
     /// that has refused a line is gone.
     ///
     /// `Line` where it is no line that can be told and may stand behind those of its segment, or 2^62 lines were read; `Entry` where
-    /// it is an entry that may not come in a legal account, or a last line where a job is held; `Follow` where it is the last
-    /// line of a head (`base ..`) that doesn't follow on the segment before, or isn't the one that is asked for; `Memory` where
-    /// memory is refused.
+    /// it is an entry that may not come in a legal account, or by version 1 a last line where a job is held; `Follow` where it is the
+    /// last line of a head (`base ..` or `part ..`) that doesn't follow on the segment before, or isn't the one that is asked for, or
+    /// is of no segment that can be the first; `Memory` where memory is refused.
     #[tactic(auto, using(crate::proofs::Steps::refused))]
     pub fn read(self, alloc: Global, line: &[u8]) -> Result<(SegmentAudit, SegmentLine), AuditFault>
         ensures { (after : Option (List ℕ)) (is : List Item) → HasAudited self after is
@@ -77,7 +77,7 @@ impl SegmentAudit {
     {
         let SegmentAudit {
             after,
-            place,
+            part,
             mut reader,
             lines,
             tally,
@@ -90,14 +90,14 @@ impl SegmentAudit {
             Err(LineFault::Bad) => return Err(AuditFault::Line),
             Err(LineFault::Memory) => return Err(AuditFault::Memory),
         };
-        let place = match place.read(&after, alloc, &got) {
-            Ok(place) => place,
+        let part = match part.read(&after, alloc, &got) {
+            Ok(part) => part,
             Err(fault) => return Err(fault),
         };
         let tally = tally.with(&got, lines);
         let audit = SegmentAudit {
             after,
-            place,
+            part,
             reader: reader_behind(reader, &got),
             lines: lines + 1,
             tally,
@@ -110,7 +110,7 @@ impl SegmentAudit {
         ensures { (after : Option (List ℕ)) (is : List Item) → HasAudited self.now after is
             → (IsTrue result ↔ (A.present is ≡ [])) }
     {
-        matches!(self.place.part, Part::Between)
+        matches!(self.part, Part::Between(_))
     }
 
     /// The digest that the last segment ends in that is over. None before one is.
@@ -118,7 +118,12 @@ impl SegmentAudit {
         ensures { (after : Option (List ℕ)) (is : List Item) → HasAudited self.now after is
             → result ≡ A.last_digest is }
     {
-        past_digest(&self.place.past)
+        match &self.part {
+            Part::Between(before) => digest_before(before),
+            Part::Begun(before, _) => digest_before(before),
+            Part::Headed(before, _, _, _) => digest_before(before),
+            Part::Entries(digest, _, _) => *digest,
+        }
     }
 
     /// What the lines that were read say, in numbers.
@@ -135,11 +140,11 @@ impl SegmentAudit {
             → MatchOption result (A.last_config is ≡ None)
             (λ c. A.last_config is ≡ Some c.now) }
     {
-        match &self.place.part {
-            Part::Headed(_, config, _) => Some(config),
-            Part::Entries(head, _) => Some(&head.config),
-            Part::Between => past_config(&self.place.past),
-            Part::Begun(_) => past_config(&self.place.past),
+        match &self.part {
+            Part::Headed(_, _, config, _) => Some(config),
+            Part::Entries(_, head, _) => Some(&head.config),
+            Part::Between(before) => config_before(before),
+            Part::Begun(before, _) => config_before(before),
         }
     }
 }

@@ -2,11 +2,11 @@
 
 ghost use Rattle.std.specs.Prelude.{◌≡◌, IfOk};
 ghost use Rattle.account.specs.Seen.{base_seen};
-ghost use Rattle.segment_text.specs.Seen.{origin_seen, printer_seen, start_seen};
+ghost use Rattle.segment_text.specs.Seen.{begin_seen, origin_seen, printer_seen, start_seen};
 
 use account::Base;
 use lpd_values::Octets;
-use segment_text::{Origin, PrinterPlace, Start};
+use segment_text::{Begin, Origin, PrinterPlace, Start};
 use std::alloc::{AllocError, Global};
 
 /// Where a segment stands, once more.
@@ -16,6 +16,7 @@ pub(crate) fn copy_origin(alloc: Global, origin: &Origin) -> Result<Origin, Allo
     ensures { IfOk result (λ copy. origin_seen copy ≡ origin_seen origin.now) }
 {
     Ok(Origin {
+        version: origin.version,
         run: origin.run,
         segment: origin.segment,
         first: Octets::copy_of(alloc, origin.first.as_slice())?,
@@ -35,7 +36,7 @@ pub(crate) fn copy_printer(
 {
     Ok(PrinterPlace {
         place: Octets::copy_of(alloc, printer.place.as_slice())?,
-        length: printer.length,
+        begins: printer.begins,
     })
 }
 
@@ -51,6 +52,22 @@ fn copy_base(alloc: Global, base: &Base) -> Result<Base, AllocError>
     })
 }
 
+/// What entries begin from, once more.
+fn copy_begin(alloc: Global, begin: &Begin) -> Result<Begin, AllocError>
+    ensures { IfOk result (λ copy. begin_seen copy ≡ begin_seen begin.now) }
+{
+    match begin {
+        Begin::Base(base) => {
+            let base = copy_base(alloc, base)?;
+            Ok(Begin::Base(base))
+        }
+        Begin::Amid { since, freed } => Ok(Begin::Amid {
+            since: *since,
+            freed: *freed,
+        }),
+    }
+}
+
 /// What is before a segment, once more.
 ///
 /// AllocError where memory is refused.
@@ -61,6 +78,6 @@ pub(crate) fn copy_start(alloc: Global, start: &Start) -> Result<Start, AllocErr
         entries: start.entries,
         kinds: start.kinds,
         handed: start.handed,
-        base: copy_base(alloc, &start.base)?,
+        begin: copy_begin(alloc, &start.begin)?,
     })
 }

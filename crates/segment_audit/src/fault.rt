@@ -7,7 +7,7 @@ use std::alloc::{AllocError, AllocFailed};
 pub enum AuditFault {
     /// It is no line of a segment, or none that may stand there.
     Line,
-    /// It is an entry that may not come there in a legal account, or a last line where a job is held.
+    /// It is an entry that may not come there in a legal account, or by version 1 a last line where a job is held.
     Entry,
     /// The head of a segment that doesn't follow on the one before it, or isn't the one that is asked for.
     Follow,

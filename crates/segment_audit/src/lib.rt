@@ -4,13 +4,15 @@
 
 mod audit;
 mod copies;
+mod course;
 mod fault;
+mod follow;
 mod laws;
 mod part;
 mod tally;
 
 pub use audit::SegmentAudit;
 pub use fault::AuditFault;
-pub use laws::audited_segments_are_legal;
+pub use laws::{audited_runs_are_legal, audited_segments_are_legal};
 pub use segment_text::SegmentLine;
 pub use tally::Tally;

@@ -1,187 +1,169 @@
-//! How far a segment is read, and what the one before it left.
+//! How far a segment is read, and what is before it.
 
 ghost use Rattle.std.specs.Prelude.{◌≡◌, ◌<◌, ◌≤◌, ◌+◌, ◌^◌, ◌↔◌, ◌⊎◌, ◌∷◌, [], ℕ, IfOk, IsTrue, List, MatchOption, MatchResult, None, Option, Some};
-ghost use Rattle.account.specs.Seen.{event_seen, octets};
-ghost use Rattle.spool_history.specs.Legal.{May};
-ghost use Rattle.segment_text.specs.Items as I;
 ghost use Rattle.segment_text.specs.Items.{item_seen, Item};
 ghost use Rattle.segment_text.specs.Seen.{head_seen};
 ghost use Rattle.segment_audit.specs.Audited as A;
-ghost use Rattle.segment_audit.specs.Read.{ComesNext, entries_in, GoesOn, HasEntries, IsBegun, IsHeaded, IsLeft, IsPart, IsPast, IsPlace, Refuses, start_behind};
+ghost use Rattle.segment_audit.specs.Read.{ComesNext, entries_before, entries_in, IsBefore, IsBegun, IsBehind, IsCourse, IsHeaded, IsPart, HasEntries, Refuses};
 
 use crate::copies::{copy_origin, copy_printer, copy_start};
+use crate::course::Course;
 use crate::fault::AuditFault;
-use account::{Base, Entry};
-use account_audit::Audit;
+use crate::follow::{begin_first, go_on};
 use config_values::Config;
-use segment_text::{
-    Head, Last, Origin, PrinterPlace, SegmentLine, Stage, Start, follows, names_digest,
-};
-use std::alloc::Global;
+use segment_text::{Head, Last, Origin, PrinterPlace, SegmentLine, Version};
+use std::alloc::{AllocError, Global};
 
-/// A segment that is over.
+/// What is before a segment.
 #[derive(Drop)]
-pub(crate) struct Past {
-    /// What stands at its head.
+pub(crate) struct Before {
+    /// What stands at the head of the segment that was over last.
     pub(crate) head: Head,
     /// The digest that it ends in.
     pub(crate) digest: [u8; 32],
-    /// What it leaves for the next one, where its numbers have no more than 64 bits.
-    pub(crate) left: Option<Start>,
+    /// What its run has come to.
+    pub(crate) course: Course,
 }
 
-/// How far a segment is read.
+/// How far a segment is read. Before its entries what is before it is kept, if anything is.
 #[derive(Drop)]
 pub(crate) enum Part {
     /// No line of it was.
-    Between,
+    Between(Option<Before>),
     /// Its first line.
-    Begun(Origin),
+    Begun(Option<Before>, Origin),
     /// Its configuration, and these of its printers.
-    Headed(Origin, Config, Vec<PrinterPlace>),
-    /// Its head, and these entries.
-    Entries(Head, Audit),
-}
-
-/// Where an audit stands.
-#[derive(Drop)]
-pub(crate) struct Place {
-    /// The segment that was over last.
-    pub(crate) past: Option<Past>,
-    /// The one that is read now.
-    pub(crate) part: Part,
+    Headed(Option<Before>, Origin, Config, Vec<PrinterPlace>),
+    /// Its head, and what its run has come to with its entries so far; and the digest that the segment before it ends in.
+    Entries(Option<[u8; 32]>, Head, Course),
 }
 
 /// The configuration of the segment that was over last.
-pub(crate) fn past_config(past: &Option<Past>) -> Option<&Config>
-    ensures { (was : Option A.Past) → IsPast past.now was → MatchOption result
-        (A.past_config was ≡ None) (λ c. A.past_config was ≡ Some c.now) }
+pub(crate) fn config_before(before: &Option<Before>) -> Option<&Config>
+    ensures { (was : Option A.Past) (c : A.Course) → IsBefore before.now was c → MatchOption result
+        (A.past_config was ≡ None) (λ config. A.past_config was ≡ Some config.now) }
 {
-    match past {
-        Some(past) => Some(&past.head.config),
+    match before {
+        Some(before) => Some(&before.head.config),
         None => None,
     }
 }
 
 /// The digest that the segment ends in that was over last.
-pub(crate) fn past_digest(past: &Option<Past>) -> Option<[u8; 32]>
-    ensures { (was : Option A.Past) → IsPast past.now was → result ≡ A.past_digest was }
+pub(crate) fn digest_before(before: &Option<Before>) -> Option<[u8; 32]>
+    ensures { (was : Option A.Past) (c : A.Course) → IsBefore before.now was c
+        → result ≡ A.past_digest was }
 {
-    match past {
-        Some(past) => Some(past.digest),
+    match before {
+        Some(before) => Some(before.digest),
         None => None,
     }
 }
 
-/// Whether a segment may come.
-fn may_follow(after: &Option<[u8; 32]>, past: &Option<Past>, next: &Head) -> bool
-    ensures { (was : Option A.Past) → IsPast past.now was
-        → (IsTrue result ↔ A.MayFollow after.now was (head_seen next.now)) }
-{
-    let Some(past) = past else {
-        return match after {
-            Some(digest) => names_digest(&next.origin, digest),
-            None => true,
-        };
-    };
-    match &past.left {
-        Some(left) => follows(&past.head, &past.digest, left, next),
-        None => false,
-    }
-}
-
-/// What a segment leaves, of this head, these entries and this base. None where its numbers have more than 64 bits.
-fn left_by(head: &Head, audit: &Audit, base: Base) -> Option<Start>
-    ensures { IsLeft result (start_behind head.now audit.now base) }
-{
-    let own = audit.entries();
-    let entries = head.start.entries.checked_add(own)?;
-    let kinds = u128::from(head.start.kinds) + audit.kinds();
-    let handed = u64::try_from(audit.handed()).ok()?;
-    Some(Start {
-        entries,
-        kinds: u64::try_from(kinds).ok()?,
-        handed: head.start.handed.checked_add(handed)?,
-        base,
-    })
-}
-
-/// Begins the entries of a segment of this head.
-fn begin_entries(
-    head: Head,
-    after: &Option<[u8; 32]>,
-    past: &Option<Past>,
-    alloc: Global,
-) -> Result<Part, AuditFault>
-    ensures read { (was : Option A.Past) → IsPast past.now was → MatchResult result
-        (λ part. A.MayFollow after.now was (head_seen head)
-        × ((is : List Item) → I.stage_of is ≡ Stage.Entries → head_seen head ≡ A.head_of is
-        → A.events_of is ≡ [] → IsPart part is))
-        (λ f. (f ≡ AuditFault.Memory)
-        ⊎ ((f ≡ AuditFault.Follow) × (A.MayFollow after.now was (head_seen head) → ⊥))) }
-    ensures few { IfOk result (λ part. entries_in part ≡ 0) }
-{
-    if !may_follow(after, past, &head) {
-        return Err(AuditFault::Follow);
-    }
-    let audit = Audit::begin(alloc, &head.config, &head.start.base)?;
-    Ok(Part::Entries(head, audit))
-}
-
 /// The first line of a segment.
-fn begin(alloc: Global, got: &SegmentLine) -> Result<Part, AuditFault>
+fn begin(before: Option<Before>, alloc: Global, got: &SegmentLine) -> Result<Part, AuditFault>
     ensures read { (after : Option (List ℕ)) (is : List Item) → A.present is ≡ []
+        → IsBefore before (A.past_of is) (A.course_of is)
         → ComesNext is (item_seen got.now) → MatchResult result
-        (λ part. GoesOn part after is (item_seen got.now))
+        (λ part. A.Meets after is (item_seen got.now) × IsPart part (item_seen got.now ∷ is))
         (λ f. Refuses f after is (item_seen got.now)) }
-    ensures few { IfOk result (λ part. entries_in part ≡ 0) }
+    ensures few { IfOk result (λ part. entries_in part ≡ entries_before before) }
 {
     match got {
         SegmentLine::Origin(origin) => {
             let origin = copy_origin(alloc, origin)?;
-            Ok(Part::Begun(origin))
+            Ok(Part::Begun(before, origin))
         }
         _ => Err(AuditFault::Line),
     }
 }
 
 /// The line behind the first one.
-fn add_config(origin: Origin, alloc: Global, got: &SegmentLine) -> Result<Part, AuditFault>
+fn add_config(
+    before: Option<Before>,
+    origin: Origin,
+    alloc: Global,
+    got: &SegmentLine,
+) -> Result<Part, AuditFault>
     ensures read { (after : Option (List ℕ)) (is : List Item) → IsBegun origin (A.present is)
+        → IsBefore before (A.past_of is) (A.course_of is)
         → ComesNext is (item_seen got.now) → MatchResult result
-        (λ part. GoesOn part after is (item_seen got.now))
+        (λ part. A.Meets after is (item_seen got.now) × IsPart part (item_seen got.now ∷ is))
         (λ f. Refuses f after is (item_seen got.now)) }
-    ensures few { IfOk result (λ part. entries_in part ≡ 0) }
+    ensures few { IfOk result (λ part. entries_in part ≡ entries_before before) }
 {
     match got {
         SegmentLine::Config(config) => {
             let config = Config::copy_of(alloc, config)?;
-            Ok(Part::Headed(origin, config, Vec::new(alloc)))
+            Ok(Part::Headed(before, origin, config, Vec::new(alloc)))
         }
         _ => Err(AuditFault::Line),
     }
 }
 
+/// What a run has come to where a segment of this head begins.
+fn follow(
+    before: Option<Before>,
+    after: &Option<[u8; 32]>,
+    next: &Head,
+    alloc: Global,
+) -> Result<Course, AuditFault>
+    ensures read { (was : Option A.Past) (c : A.Course) → IsBefore before was c → MatchResult result
+        (λ k. A.MayFollow after.now was c (head_seen next.now)
+        × IsCourse k (A.course_from (head_seen next.now).start.begin next.now.config
+        (head_seen next.now).start c))
+        (λ f. (f ≡ AuditFault.Memory) ⊎ ((f ≡ AuditFault.Follow)
+        × (A.MayFollow after.now was c (head_seen next.now) → ⊥))) }
+    ensures few { IfOk result (λ k. k.audit.entries ≤ entries_before before) }
+{
+    match before {
+        Some(before) => go_on(before, next, alloc),
+        None => begin_first(after, next, alloc),
+    }
+}
+
+/// The line behind those of the printers.
+fn begin_entries(
+    before: Option<Before>,
+    after: &Option<[u8; 32]>,
+    head: Head,
+    alloc: Global,
+) -> Result<Part, AuditFault>
+    ensures read { (was : Option A.Past) (c : A.Course) → IsBefore before was c → MatchResult result
+        (λ part. A.MayFollow after.now was c (head_seen head)
+        × ((is : List Item) → HasEntries head (A.present is)
+        → A.course_from (head_seen head).start.begin head.config (head_seen head).start c ≡ A.course_of is
+        → A.past_of is ≡ was → IsPart part is))
+        (λ f. (f ≡ AuditFault.Memory) ⊎ ((f ≡ AuditFault.Follow)
+        × (A.MayFollow after.now was c (head_seen head) → ⊥))) }
+    ensures few { IfOk result (λ part. entries_in part ≤ entries_before before) }
+{
+    let digest = digest_before(&before);
+    let course = follow(before, after, &head, alloc)?;
+    Ok(Part::Entries(digest, head, course))
+}
+
 /// A printer's line, or the one behind those.
 fn add_to_head(
+    before: Option<Before>,
     headed: (Origin, Config, Vec<PrinterPlace>),
     after: &Option<[u8; 32]>,
-    past: &Option<Past>,
     alloc: Global,
     got: &SegmentLine,
 ) -> Result<Part, AuditFault>
     ensures read { (is : List Item) → IsHeaded headed.0 headed.1 headed.2.items (A.present is)
-        → IsPast past.now (A.past_of is) → ComesNext is (item_seen got.now) → MatchResult result
-        (λ part. GoesOn part after.now is (item_seen got.now))
+        → IsBefore before (A.past_of is) (A.course_of is)
+        → ComesNext is (item_seen got.now) → MatchResult result
+        (λ part. A.Meets after.now is (item_seen got.now) × IsPart part (item_seen got.now ∷ is))
         (λ f. Refuses f after.now is (item_seen got.now)) }
-    ensures few { IfOk result (λ part. entries_in part ≡ 0) }
+    ensures few { IfOk result (λ part. entries_in part ≤ entries_before before) }
 {
     let (origin, config, mut printers) = headed;
     match got {
         SegmentLine::Printer(printer) => {
             let printer = copy_printer(alloc, printer)?;
             printers.push(printer)?;
-            Ok(Part::Headed(origin, config, printers))
+            Ok(Part::Headed(before, origin, config, printers))
         }
         SegmentLine::Start(start) => {
             let start = copy_start(alloc, start)?;
@@ -191,98 +173,80 @@ fn add_to_head(
                 printers,
                 start,
             };
-            begin_entries(head, after, past, alloc)
+            begin_entries(before, after, head, alloc)
         }
         _ => Err(AuditFault::Line),
     }
 }
 
-/// Reads one entry more.
-fn step(head: Head, audit: Audit, alloc: Global, entry: &Entry) -> Result<Part, AuditFault>
-    requires { audit.entries < 2 ^ 63 }
-    ensures read { (is : List Item) → HasEntries head audit is → MatchResult result
-        (λ part. May octets (A.state_of is) (event_seen entry.now)
-        × IsPart part (I.Item.OfEvent (event_seen entry.now) ∷ is))
-        (λ f. (f ≡ AuditFault.Memory)
-        ⊎ ((f ≡ AuditFault.Entry) × (May octets (A.state_of is) (event_seen entry.now) → ⊥))) }
-    ensures few { IfOk result (λ part. entries_in part ≡ audit.entries + 1) }
+/// Whether a segment of a version may end where its run has come to this.
+///
+/// AllocError where memory is refused.
+fn may_end(version: Version, course: &Course, alloc: Global) -> Result<bool, AllocError>
+    ensures { IfOk result (λ b. (c : A.Course) → IsCourse course.now c
+        → (IsTrue b ↔ A.MayEnd version (A.state_at c))) }
 {
-    match audit.step(alloc, &head.config, entry)? {
-        Some(audit) => Ok(Part::Entries(head, audit)),
-        None => Err(AuditFault::Entry),
+    match version {
+        Version::One => course.is_at_rest(alloc),
+        Version::Two => Ok(true),
     }
 }
 
-/// The last acceptance number of a base has 64 bits.
-fn has_range(base: &Base)
-    ensures { base.now.accepted < 2 ^ 64 }
-{
-    let _accepted = base.accepted;
-}
-
 /// Ends a segment.
-fn end(head: Head, audit: Audit, alloc: Global, last: &Last) -> Result<Place, AuditFault>
-    ensures read { (is : List Item) → HasEntries head audit is → MatchResult result
-        (λ place. A.MayEnd (A.state_of is) × IsPart place.part []
-        × IsPast place.past (Some (record {
-          head = A.head_of is;
-          digest = last.now.digest;
-          left = A.left_by is;
-        })))
-        (λ f. (f ≡ AuditFault.Memory)
-        ⊎ ((f ≡ AuditFault.Entry) × (A.MayEnd (A.state_of is) → ⊥))) }
-    ensures few { IfOk result (λ place. entries_in place.part ≡ 0) }
+fn end(head: Head, course: Course, alloc: Global, last: &Last) -> Result<Part, AuditFault>
+    ensures read { (is : List Item) (c : A.Course) → HasEntries head is → IsCourse course c
+        → MatchResult result
+        (λ part. A.MayEnd (A.head_of is).origin.version (A.state_at c)
+        × ((js : List Item) → A.present js ≡ [] → A.course_of js ≡ c
+        → A.past_of js ≡ Some (record { head = A.head_of is; digest = last.now.digest })
+        → IsPart part js))
+        (λ f. (f ≡ AuditFault.Memory) ⊎ ((f ≡ AuditFault.Entry)
+        × (A.MayEnd (A.head_of is).origin.version (A.state_at c) → ⊥))) }
+    ensures few { IfOk result (λ part. entries_in part ≡ course.audit.entries) }
 {
-    let Some(base) = audit.end(alloc)? else {
+    if !may_end(head.origin.version, &course, alloc)? {
         return Err(AuditFault::Entry);
-    };
-    has_range(&base);
-    let left = left_by(&head, &audit, base);
-    Ok(Place {
-        past: Some(Past {
-            head,
-            digest: last.digest,
-            left,
-        }),
-        part: Part::Between,
-    })
+    }
+    Ok(Part::Between(Some(Before {
+        head,
+        digest: last.digest,
+        course,
+    })))
 }
 
 /// A line where an entry may stand.
 fn read_body(
+    digest: Option<[u8; 32]>,
     head: Head,
-    audit: Audit,
-    past: Option<Past>,
+    course: Course,
     alloc: Global,
     got: &SegmentLine,
-) -> Result<Place, AuditFault>
-    requires { audit.entries < 2 ^ 63 }
-    ensures read { (after : Option (List ℕ)) (is : List Item) → HasEntries head audit (A.present is)
-        → IsPast past (A.past_of is) → ComesNext is (item_seen got.now) → MatchResult result
-        (λ place. A.Meets after is (item_seen got.now) × IsPlace place (item_seen got.now ∷ is))
+) -> Result<Part, AuditFault>
+    requires { course.audit.entries < 2 ^ 63 }
+    ensures read { (after : Option (List ℕ)) (is : List Item)
+        → IsPart (Part.Entries digest head course) is
+        → ComesNext is (item_seen got.now) → MatchResult result
+        (λ part. A.Meets after is (item_seen got.now) × IsPart part (item_seen got.now ∷ is))
         (λ f. Refuses f after is (item_seen got.now)) }
-    ensures few { IfOk result (λ place. entries_in place.part ≤ audit.entries + 1) }
+    ensures few { IfOk result (λ part. entries_in part ≤ course.audit.entries + 1) }
 {
     match got {
-        SegmentLine::Entry(entry) => {
-            let part = step(head, audit, alloc, entry)?;
-            Ok(Place { past, part })
-        }
-        SegmentLine::Last(last) => end(head, audit, alloc, last),
+        SegmentLine::Entry(entry) => match course.step(alloc, entry)? {
+            Some(course) => Ok(Part::Entries(digest, head, course)),
+            None => Err(AuditFault::Entry),
+        },
+        SegmentLine::Last(last) => end(head, course, alloc, last),
         _ => Err(AuditFault::Line),
     }
 }
 
-impl Place {
+impl Part {
     /// Where no line was read.
-    pub(crate) fn begin() -> Place
-        ensures place { IsPlace result [] }
-        ensures few { entries_in result.part ≡ 0 }
+    pub(crate) fn begin() -> Part
+        ensures part { IsPart result [] }
+        ensures few { entries_in result ≡ 0 }
     {
-        Place {
-            past: None,
-            part: Part::Between,
-        }
+        Part::Between(None)
     }
 
     /// Reads one line more, which comes next in its segment.
@@ -291,24 +255,22 @@ impl Place {
         after: &Option<[u8; 32]>,
         alloc: Global,
         got: &SegmentLine,
-    ) -> Result<Place, AuditFault>
-        requires { entries_in self.part < 2 ^ 63 }
-        ensures read { (is : List Item) → IsPlace self is
+    ) -> Result<Part, AuditFault>
+        requires { entries_in self < 2 ^ 63 }
+        ensures read { (is : List Item) → IsPart self is
             → ComesNext is (item_seen got.now) → MatchResult result
-            (λ place. A.Meets after.now is (item_seen got.now)
-            × IsPlace place (item_seen got.now ∷ is))
+            (λ part. A.Meets after.now is (item_seen got.now)
+            × IsPart part (item_seen got.now ∷ is))
             (λ f. Refuses f after.now is (item_seen got.now)) }
-        ensures few { IfOk result (λ place. entries_in place.part ≤ entries_in self.part + 1) }
+        ensures few { IfOk result (λ part. entries_in part ≤ entries_in self + 1) }
     {
-        let Place { past, part } = self;
-        let part = match part {
-            Part::Between => begin(alloc, got)?,
-            Part::Begun(origin) => add_config(origin, alloc, got)?,
-            Part::Headed(origin, config, printers) => {
-                add_to_head((origin, config, printers), after, &past, alloc, got)?
+        match self {
+            Part::Between(before) => begin(before, alloc, got),
+            Part::Begun(before, origin) => add_config(before, origin, alloc, got),
+            Part::Headed(before, origin, config, printers) => {
+                add_to_head(before, (origin, config, printers), after, alloc, got)
             }
-            Part::Entries(head, audit) => return read_body(head, audit, past, alloc, got),
-        };
-        Ok(Place { past, part })
+            Part::Entries(digest, head, course) => read_body(digest, head, course, alloc, got),
+        }
     }
 }

@@ -26,11 +26,16 @@ use Rattle.account_text.proofs.WordLaws.{IsWord, AreWords, joined, is_some_if, s
 use Rattle.account_text.proofs.ReadBack.{long_word, short_word, long_read, short_read, digest_word}
 use Rattle.segment_text.specs.Configs.{is_queue_name}
 use Rattle.segment_text.specs.Heads as H
-use Rattle.segment_text.specs.Heads.{Origin, Printer, Start, Last}
+use Rattle.segment_text.specs.declared.head.Version.{Version}
+use Rattle.segment_text.specs.declared.head.Version.TheVariants as version
+use Rattle.segment_text.specs.declared.read.StartWord.{StartWord}
+use Rattle.segment_text.specs.declared.read.StartWord.TheVariants as first
+use Rattle.segment_text.specs.Heads.{Begin, Origin, Printer, Start, Last}
+use Rattle.segment_text.specs.Heads.Begin.{AtBase, Amid}
 use Rattle.segment_text.specs.Meant.{OriginIsReadBack, ConfigIsReadBack, PrinterIsReadBack, StartIsReadBack, LastIsReadBack}
 use Rattle.segment_text.specs.Reading as R
-use Rattle.segment_text.specs.Reading.{behind, fits_shape, stamp_of, queues_onto, stopped_onto, is_u32}
-use Rattle.segment_text.specs.Seen.{IsOrigin, IsPrinter, IsPrevious, IsLength, IsStart, IsLast}
+use Rattle.segment_text.specs.Reading.{are_ordered, behind, fits_shape, is_time, stamp_of, queues_onto, stopped_onto, is_u32}
+use Rattle.segment_text.specs.Seen.{IsBegin, IsOrigin, IsPrinter, IsPrevious, IsBeginning, IsStart, IsLast}
 
 -- times are words
 fits_octets : (w t : List ℕ) → list_all is_word_octet t ≡ true → fits_shape w t ≡ true → list_all is_word_octet w ≡ true
@@ -50,7 +55,7 @@ stamp_word : (w : List ℕ) → stamp_of w ≡ Some w → IsWord w
 stamp_word w e = (some w fits, fits_octets w (codes "0000-00-00T00:00:00Z") refl fits)
   where
     fits : fits_shape w (codes "0000-00-00T00:00:00Z") ≡ true
-    fits = stamp_fits (fits_shape w (codes "0000-00-00T00:00:00Z")) w e
+    fits = (and_parts _ _ (stamp_fits (is_time w) w e)).0
 
     some : (v : List ℕ) → fits_shape v (codes "0000-00-00T00:00:00Z") ≡ true → 0 < length v
     some [] f = cc f
@@ -61,8 +66,24 @@ abbrev pub previous_list : Option (List ℕ) → List (List ℕ)
 previous_list None = codes "first" ∷ []
 previous_list (Some d) = codes "after" ∷ encode_lower d ∷ []
 
+abbrev pub version_list : Version → List ℕ
+version_list version.One = codes "1"
+version_list version.Two = codes "2"
+
+version_spaced : (v : Version) → H.version_word v ≡ 32 ∷ version_list v
+version_spaced version.One = refl
+version_spaced version.Two = refl
+
+version_is_word : (v : Version) → IsWord (version_list v)
+version_is_word version.One = (lit< tt, refl)
+version_is_word version.Two = (lit< tt, refl)
+
+version_read : (v : Version) → R.version_of (version_list v) ≡ Some v
+version_read version.One = refl
+version_read version.Two = refl
+
 abbrev pub origin_words : Origin → List (List ℕ)
-origin_words o = codes "account" ∷ codes "1" ∷ decimal o.run ∷ decimal o.segment ∷ o.first ∷ o.last ∷ previous_list o.previous
+origin_words o = codes "account" ∷ version_list o.version ∷ decimal o.run ∷ decimal o.segment ∷ o.first ∷ o.last ∷ previous_list o.previous
 
 previous_spaced : (p : Option (List ℕ)) → H.previous_words p ≡ spaced (previous_list p)
 previous_spaced None = refl
@@ -78,13 +99,14 @@ previous_read (Some d) h = let e = digest_read d h.0 h.1 in rw e refl
 
 pub origin_joined : (o : Origin) → H.origin_line o ≡ joined (origin_words o)
 origin_joined o =
-    ap (λ (l : List ℕ). codes "account 1" ++ (32 ∷ (decimal o.run ++ (32 ∷ (decimal o.segment ++ (32 ∷ (o.first ++ l)))))))
+    ap (λ (l : List ℕ). codes "account" ++ (l ++ (32 ∷ (decimal o.run ++ (32 ∷ (decimal o.segment ++ (32 ∷ (o.first ++ (32 ∷ (o.last ++ H.previous_words o.previous)))))))))) (version_spaced o.version)
+    ∙ ap (λ (l : List ℕ). codes "account" ++ (32 ∷ (version_list o.version ++ (32 ∷ (decimal o.run ++ (32 ∷ (decimal o.segment ++ (32 ∷ (o.first ++ l)))))))))
     (ap (λ (l : List ℕ). 32 ∷ (o.last ++ l)) (previous_spaced o.previous) ∙ spaced-cons o.last (previous_list o.previous))
 
 pub origin_are : (o : Origin) → IsOrigin o → AreWords (origin_words o)
 origin_are o h = (
   (lit< tt, refl),
-  ((lit< tt, refl), (long_word o.run h.0, (long_word o.segment h.1, (stamp_word o.first h.2, (stamp_word o.last h.3, previous_are o.previous h.4))))),
+  (version_is_word o.version, (long_word o.run h.0, (long_word o.segment h.1, (stamp_word o.first h.2, (stamp_word o.last h.3, previous_are o.previous h.4))))),
 )
 
 pub origin_back : OriginIsReadBack
@@ -94,8 +116,10 @@ origin_back o h =
     let c : stamp_of o.first ≡ Some o.first = h.2 in
     let d : stamp_of o.last ≡ Some o.last = h.3 in
     let e = previous_read o.previous h.4 in
+    let f = version_read o.version in
+    let g : are_ordered o.version o.first o.last ≡ true = h.5 in
     ap R.origin_of (origin_joined o)
-    ∙ (ap (behind (codes "account") R.origin_in) (words_of-joined (origin_words o) (origin_are o h)) ∙ rw (a, b, c, d, e) refl)
+    ∙ (ap (behind (codes "account") R.origin_in) (words_of-joined (origin_words o) (origin_are o h)) ∙ rw (a, b, c, d, e, f, g) refl)
 
 -- a configuration
 abbrev pub queue_list : List Queue → List (List ℕ)
@@ -201,20 +225,20 @@ config_back v h =
     ∙ (ap (behind (codes "config") R.config_in) (words_of-joined (config_words v) (config_are v h)) ∙ rw (a, b, c, d, e) refl)
 
 -- a printer
-abbrev pub length_list : Option ℕ → List ℕ
-length_list None = codes "-"
-length_list (Some n) = decimal n
+abbrev pub begins_list : Option ℕ → List ℕ
+begins_list None = codes "-"
+begins_list (Some n) = decimal n
 
 abbrev pub printer_words : Printer → List (List ℕ)
-printer_words p = codes "printer" ∷ shown_as p.place ∷ length_list p.length ∷ []
+printer_words p = codes "printer" ∷ shown_as p.place ∷ begins_list p.begins ∷ []
 
-length_spaced : (n : Option ℕ) → H.length_word n ≡ 32 ∷ length_list n
-length_spaced None = refl
-length_spaced (Some n) = refl
+begins_spaced : (n : Option ℕ) → H.begins_word n ≡ 32 ∷ begins_list n
+begins_spaced None = refl
+begins_spaced (Some n) = refl
 
-length_is_word : (n : Option ℕ) → IsLength n → IsWord (length_list n)
-length_is_word None h = (lit< tt, refl)
-length_is_word (Some n) h = long_word n h
+begins_is_word : (n : Option ℕ) → IsBeginning n → IsWord (begins_list n)
+begins_is_word None h = (lit< tt, refl)
+begins_is_word (Some n) h = long_word n h
 
 -- no number is written as a dash
 not_dash : (n : ℕ) → IsU64 n → bytes_eq (decimal n) (codes "-") ≡ false
@@ -228,20 +252,20 @@ not_dash n h =
       | inr other ↦ other
     ]
 
-length_read : (n : Option ℕ) → IsLength n → R.length_of (length_list n) ≡ Some n
-length_read None h = refl
-length_read (Some n) h = let a = not_dash n h in let b = long_read n h in rw (a, b) refl
+begins_read : (n : Option ℕ) → IsBeginning n → R.begins_of (begins_list n) ≡ Some n
+begins_read None h = refl
+begins_read (Some n) h = let a = not_dash n h in let b = long_read n h in rw (a, b) refl
 
 pub printer_joined : (p : Printer) → H.printer_line p ≡ joined (printer_words p)
-printer_joined p = ap (λ (l : List ℕ). codes "printer" ++ (32 ∷ (shown_as p.place ++ l))) (length_spaced p.length)
+printer_joined p = ap (λ (l : List ℕ). codes "printer" ++ (32 ∷ (shown_as p.place ++ l))) (begins_spaced p.begins)
 
 pub printer_are : (p : Printer) → IsPrinter p → AreWords (printer_words p)
-printer_are p h = ((lit< tt, refl), (shown_word p.place h.0, (length_is_word p.length h.2, tt)))
+printer_are p h = ((lit< tt, refl), (shown_word p.place h.0, (begins_is_word p.begins h.2, tt)))
 
 pub printer_back : PrinterIsReadBack
 printer_back p h =
     let a = shown_read p.place h.1 in
-    let b = length_read p.length h.2 in
+    let b = begins_read p.begins h.2 in
     ap R.printer_of (printer_joined p)
     ∙ (ap (behind (codes "printer") R.printer_in) (words_of-joined (printer_words p) (printer_are p h)) ∙ rw (a, b) refl)
 
@@ -281,39 +305,66 @@ closed_spaced : (b : Bool) (l : List ℕ) → H.closed_word b ++ l ≡ 32 ∷ (c
 closed_spaced true l = refl
 closed_spaced false l = refl
 
+-- what entries begin from
+abbrev begin_list : Begin → List (List ℕ)
+begin_list (AtBase b) = decimal b.accepted ∷ decimal b.reserved ∷ close_word b.closed ∷ map stop_word b.stopped
+begin_list (Amid since freed) = decimal since ∷ decimal freed ∷ []
+
+begin_spaced : (g : Begin) → H.begin_words g ≡ spaced (begin_list g)
+begin_spaced (AtBase b) =
+    ap (λ (l : List ℕ). 32 ∷ (decimal b.accepted ++ (32 ∷ (decimal b.reserved ++ l))))
+    (closed_spaced b.closed (H.stopped_words b.stopped)
+    ∙ (ap (λ (l : List ℕ). 32 ∷ (close_word b.closed ++ l)) (stopped_spaced b.stopped) ∙ spaced-cons (close_word b.closed) (map stop_word b.stopped)))
+begin_spaced (Amid since freed) = refl
+
+begin_are : (g : Begin) → IsBegin g → AreWords (begin_list g)
+begin_are (AtBase b) h = (long_word b.accepted h.0, (long_word b.reserved h.1, (close_is_word b.closed, stopped_are b.stopped)))
+begin_are (Amid since freed) h = (long_word since h.0, (long_word freed h.1, tt))
+
+-- the first word of the line
+abbrev first_of : Begin → StartWord
+first_of (AtBase b) = first.Base
+first_of (Amid since freed) = first.Part
+
+first_is_word : (g : Begin) → IsWord (H.start_word g)
+first_is_word (AtBase b) = (lit< tt, refl)
+first_is_word (Amid since freed) = (lit< tt, refl)
+
+first_read : (g : Begin) → R.start_word_of (H.start_word g) ≡ Some (first_of g)
+first_read (AtBase b) = refl
+first_read (Amid since freed) = refl
+
+begin_read : (g : Begin) → IsBegin g → R.begin_in (first_of g) (begin_list g) ≡ Some g
+begin_read (AtBase b) h =
+    let d = long_read b.accepted h.0 in
+    let e = long_read b.reserved h.1 in
+    let f = close_read b.closed in
+    let g = stopped_read [] b.stopped in
+    rw (d, e, f, g) refl
+begin_read (Amid since freed) h =
+    let d = long_read since h.0 in
+    let e = long_read freed h.1 in
+    rw (d, e) refl
+
 abbrev pub start_words : Start → List (List ℕ)
-start_words s =
-    codes "base" ∷ decimal s.entries ∷ decimal s.kinds ∷ decimal s.handed ∷ decimal s.base.accepted ∷ decimal s.base.reserved ∷ close_word s.base.closed ∷ map stop_word s.base.stopped
+start_words s = H.start_word s.begin ∷ decimal s.entries ∷ decimal s.kinds ∷ decimal s.handed ∷ begin_list s.begin
 
 pub start_joined : (s : Start) → H.start_line s ≡ joined (start_words s)
 start_joined s =
-    ap (λ (l : List ℕ). codes "base" ++ (32 ∷ (decimal s.entries ++ (32 ∷ (decimal s.kinds ++ (32 ∷ (decimal s.handed ++ (32 ∷ (decimal s.base.accepted ++ (32 ∷ (decimal s.base.reserved ++ l)))))))))))
-    (closed_spaced s.base.closed (H.stopped_words s.base.stopped)
-    ∙ (ap (λ (l : List ℕ). 32 ∷ (close_word s.base.closed ++ l)) (stopped_spaced s.base.stopped) ∙ spaced-cons (close_word s.base.closed) (map stop_word s.base.stopped)))
+    ap (λ (l : List ℕ). H.start_word s.begin ++ (32 ∷ (decimal s.entries ++ (32 ∷ (decimal s.kinds ++ l)))))
+    (ap (λ (l : List ℕ). 32 ∷ (decimal s.handed ++ l)) (begin_spaced s.begin) ∙ spaced-cons (decimal s.handed) (begin_list s.begin))
 
 pub start_are : (s : Start) → IsStart s → AreWords (start_words s)
-start_are s h = (
-  (lit< tt, refl),
-  (
-    long_word s.entries h.0,
-    (
-      long_word s.kinds h.1,
-      (long_word s.handed h.2, (long_word s.base.accepted h.3, (long_word s.base.reserved h.4, (close_is_word s.base.closed, stopped_are s.base.stopped)))),
-    ),
-  ),
-)
+start_are s h = (first_is_word s.begin, (long_word s.entries h.0, (long_word s.kinds h.1, (long_word s.handed h.2, begin_are s.begin h.3))))
 
 pub start_back : StartIsReadBack
 start_back s h =
     let a = long_read s.entries h.0 in
     let b = long_read s.kinds h.1 in
     let c = long_read s.handed h.2 in
-    let d = long_read s.base.accepted h.3 in
-    let e = long_read s.base.reserved h.4 in
-    let f = close_read s.base.closed in
-    let g = stopped_read [] s.base.stopped in
-    ap R.start_of (start_joined s)
-    ∙ (ap (behind (codes "base") R.start_in) (words_of-joined (start_words s) (start_are s h)) ∙ rw (a, b, c, d, e, f, g) refl)
+    let d = first_read s.begin in
+    let e = begin_read s.begin h.3 in
+    ap R.start_of (start_joined s) ∙ (ap R.start_at (words_of-joined (start_words s) (start_are s h)) ∙ rw (d, a, b, c, e) refl)
 
 -- the end
 abbrev pub last_words : Last → List (List ℕ)

@@ -3,7 +3,7 @@ use Rattle.std.proofs.Common.{◌≡◌, ℕ, Bool, List, ◌∙◌, ap}
 use Rattle.std.specs.Prelude.{Option}
 use Rattle.config_values.specs.Config.{Config, Queue}
 use Rattle.spool_history.specs.Base.{Base}
-use Rattle.segment_text.specs.Heads.{Printer, Start}
+use Rattle.segment_text.specs.Heads.{Printer}
 
 pub queue_same : (a b : Queue) → a.name ≡ b.name → a.limit ≡ b.limit → a.printers ≡ b.printers → a ≡ b
 queue_same a b name limit printers =
@@ -19,9 +19,9 @@ config_same a b pages page_size max_jobs account queues =
     ∙ (ap (λ (x : ℕ). record a { pages = b.pages; page_size = b.page_size; max_jobs = b.max_jobs; account = x }) account
     ∙ ap (λ (x : List Queue). record a { pages = b.pages; page_size = b.page_size; max_jobs = b.max_jobs; account = b.account; queues = x }) queues)))
 
-pub printer_same : (a b : Printer) → a.place ≡ b.place → a.length ≡ b.length → a ≡ b
-printer_same a b place length =
-    ap (λ (x : List ℕ). record a { place = x }) place ∙ ap (λ (x : Option ℕ). record a { place = b.place; length = x }) length
+pub printer_same : (a b : Printer) → a.place ≡ b.place → a.begins ≡ b.begins → a ≡ b
+printer_same a b place begins =
+    ap (λ (x : List ℕ). record a { place = x }) place ∙ ap (λ (x : Option ℕ). record a { place = b.place; begins = x }) begins
 
 pub base_same : (a b : Base) → a.accepted ≡ b.accepted → a.reserved ≡ b.reserved → a.closed ≡ b.closed → a.stopped ≡ b.stopped → a ≡ b
 base_same a b accepted reserved closed stopped =
@@ -29,10 +29,3 @@ base_same a b accepted reserved closed stopped =
     ∙ (ap (λ (x : ℕ). record a { accepted = b.accepted; reserved = x }) reserved
     ∙ (ap (λ (x : Bool). record a { accepted = b.accepted; reserved = b.reserved; closed = x }) closed
     ∙ ap (λ (x : List Bool). record a { accepted = b.accepted; reserved = b.reserved; closed = b.closed; stopped = x }) stopped))
-
-pub start_same : (a b : Start) → a.entries ≡ b.entries → a.kinds ≡ b.kinds → a.handed ≡ b.handed → a.base ≡ b.base → a ≡ b
-start_same a b entries kinds handed base =
-    ap (λ (x : ℕ). record a { entries = x }) entries
-    ∙ (ap (λ (x : ℕ). record a { entries = b.entries; kinds = x }) kinds
-    ∙ (ap (λ (x : ℕ). record a { entries = b.entries; kinds = b.kinds; handed = x }) handed
-    ∙ ap (λ (x : Base). record a { entries = b.entries; kinds = b.kinds; handed = b.handed; base = x }) base))

@@ -6,3 +6,4 @@ pub mod Meant
 pub mod Reading
 pub mod Seen
 pub mod Streams
+pub mod Times

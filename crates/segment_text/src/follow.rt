@@ -3,10 +3,10 @@
 ghost use Rattle.std.specs.Prelude.{◌≡◌, ◌↔◌, ◌+◌, Some, IsTrue, map, not};
 ghost use Rattle.std.specs.List.{list_all};
 ghost use Rattle.account.specs.Seen.{base_seen};
-ghost use Rattle.segment_text.specs.Follow.{BeginsRun, Follows, GoesOn, IsFirstBase};
-ghost use Rattle.segment_text.specs.Seen.{head_seen, origin_seen, printer_seen, start_seen};
+ghost use Rattle.segment_text.specs.Follow.{BeginsFirst, BeginsRun, FitsConfig, GoesOn, IsFirstBase, RunFollows};
+ghost use Rattle.segment_text.specs.Seen.{begin_seen, head_seen, origin_seen, printer_seen, start_seen};
 
-use crate::head::{Head, Origin, PrinterPlace, Start};
+use crate::head::{Begin, Head, Origin, PrinterPlace, Start};
 use account::Base;
 use config_values::{Config, Queue};
 
@@ -59,7 +59,7 @@ fn same_config(one: &Config, other: &Config) -> bool
 fn same_printer(one: &PrinterPlace, other: &PrinterPlace) -> bool
     ensures { IsTrue result ↔ (printer_seen one.now ≡ printer_seen other.now) }
 {
-    one.place.as_slice() == other.place.as_slice() && one.length == other.length
+    one.place.as_slice() == other.place.as_slice() && one.begins == other.begins
 }
 
 /// Whether these printers are the same.
@@ -77,24 +77,13 @@ fn same_printers(some: &[PrinterPlace], others: &[PrinterPlace]) -> bool
 
 /// Whether two bases are the same.
 #[tactic(auto, using(crate::proofs::Same::base_same))]
-fn same_base(one: &Base, other: &Base) -> bool
+pub fn same_base(one: &Base, other: &Base) -> bool
     ensures { IsTrue result ↔ (base_seen one.now ≡ base_seen other.now) }
 {
     one.accepted == other.accepted
         && one.reserved == other.reserved
         && one.closed == other.closed
         && same_flags(one.stopped.as_slice(), other.stopped.as_slice())
-}
-
-/// Whether two starts are the same.
-#[tactic(auto, using(crate::proofs::Same::start_same))]
-fn same_start(one: &Start, other: &Start) -> bool
-    ensures { IsTrue result ↔ (start_seen one.now ≡ start_seen other.now) }
-{
-    one.entries == other.entries
-        && one.kinds == other.kinds
-        && one.handed == other.handed
-        && same_base(&one.base, &other.base)
 }
 
 /// Whether no flag is set.
@@ -114,6 +103,16 @@ fn is_first_base(base: &Base) -> bool
         && is_all_running(base.stopped.as_slice())
 }
 
+/// Whether entries begin from nothing: from the base of a spool in which nothing has happened.
+fn begins_first(begin: &Begin) -> bool
+    ensures { IsTrue result ↔ BeginsFirst (begin_seen begin.now) }
+{
+    match begin {
+        Begin::Base(base) => is_first_base(base),
+        Begin::Amid { .. } => false,
+    }
+}
+
 /// Whether a segment begins a run: its number is 1, nothing is before it, and nothing has happened.
 pub fn begins_run(origin: &Origin, start: &Start) -> bool
     ensures { IsTrue result ↔ BeginsRun (origin_seen origin.now) (start_seen start.now) }
@@ -122,7 +121,16 @@ pub fn begins_run(origin: &Origin, start: &Start) -> bool
         && start.entries == 0
         && start.kinds == 0
         && start.handed == 0
-        && is_first_base(&start.base)
+        && begins_first(&start.begin)
+}
+
+/// Whether a base can be one of a spool of this configuration: it tells of no more printers than there are, and counts one entry for
+/// each stopped one.
+pub fn fits_config(config: &Config, base: &Base) -> bool
+    ensures { IsTrue result ↔ FitsConfig config.now (base_seen base.now) }
+{
+    let stopped = base.stopped.iter().filter(|stopped| **stopped);
+    base.stopped.len() <= config.printer_count() as usize && base.reserved == stopped.count() as u64
 }
 
 /// Whether a number is one more than another.
@@ -132,16 +140,23 @@ fn is_next(number: u64, next: u64) -> bool
     u128::from(next) == u128::from(number) + 1
 }
 
-/// Whether a run goes on: with the next number, the same configuration and printers, and what the segment before left.
-fn goes_on(head: &Head, left: &Start, next: &Head) -> bool
-    ensures { IsTrue result ↔ GoesOn (head_seen head.now) (start_seen left.now)
-        (head_seen next.now) }
+/// Whether a segment stands in a run behind one of this head: it has the next number, and the same version, configuration and
+/// printers.
+pub fn goes_on(head: &Head, next: &Head) -> bool
+    ensures { IsTrue result ↔ GoesOn (head_seen head.now) (head_seen next.now) }
 {
     next.origin.run == head.origin.run
         && is_next(head.origin.segment, next.origin.segment)
+        && next.origin.version == head.origin.version
         && same_config(&next.config, &head.config)
         && same_printers(next.printers.as_slice(), head.printers.as_slice())
-        && same_start(&next.start, left)
+}
+
+/// Whether a segment begins the run behind that of one of this head.
+pub fn run_follows(head: &Head, next: &Head) -> bool
+    ensures { IsTrue result ↔ RunFollows (head_seen head.now) (head_seen next.now) }
+{
+    is_next(head.origin.run, next.origin.run) && begins_run(&next.origin, &next.start)
 }
 
 /// Whether a segment names this digest as that of the segment before it.
@@ -152,17 +167,4 @@ pub fn names_digest(origin: &Origin, digest: &[u8; 32]) -> bool
         Some(previous) => previous.as_slice() == digest.as_slice(),
         None => false,
     }
-}
-
-/// Whether a segment follows on one that has this head, ends in this digest and left this for the next one: it names the digest,
-/// and either goes on with the run or begins the next one.
-pub fn follows(head: &Head, digest: &[u8; 32], left: &Start, next: &Head) -> bool
-    ensures { IsTrue result ↔ Follows (head_seen head.now) digest.now (start_seen left.now)
-        (head_seen next.now) }
-{
-    if !names_digest(&next.origin, digest) {
-        return false;
-    }
-    goes_on(head, left, next)
-        || (is_next(head.origin.run, next.origin.run) && begins_run(&next.origin, &next.start))
 }

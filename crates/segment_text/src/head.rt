@@ -4,16 +4,27 @@ use account::Base;
 use config_values::Config;
 use lpd_values::Octets;
 
+/// The version of the text that a segment is written in.
+#[derive(Clone, Copy, Debug, PartialEq, Eq)]
+pub enum Version {
+    /// A segment begins from a base, and ends where no job is held.
+    One,
+    /// A segment may begin and end amid held jobs.
+    Two,
+}
+
 /// Where a segment stands.
 #[derive(Drop)]
 pub struct Origin {
+    /// The version of its text.
+    pub version: Version,
     /// The number of its run, from 1.
     pub run: u64,
     /// Its number in the run, from 1.
     pub segment: u64,
     /// When its first entry was written: RFC 3339 in UTC, to the second.
     pub first: Octets,
-    /// When its last entry was written.
+    /// When its last entry was written: by version 2 not before the first.
     pub last: Octets,
     /// The digest that the segment before it ends in, if there is one.
     pub previous: Option<[u8; 32]>,
@@ -24,8 +35,23 @@ pub struct Origin {
 pub struct PrinterPlace {
     /// Its place, as the words of the server tell it.
     pub place: Octets,
-    /// Where that is a regular file, its length in octets when the run began.
-    pub length: Option<u64>,
+    /// Where it was when the run began: of a regular file its length in octets, of a folder by version 2 the number of the file that
+    /// the first job becomes there.
+    pub begins: Option<u64>,
+}
+
+/// What the entries of a segment begin from.
+#[derive(Drop)]
+pub enum Begin {
+    /// From a base, with no job held.
+    Base(Base),
+    /// Amid jobs that are held: from where the segment before it left the spool.
+    Amid {
+        /// How many entries came in the run since its last base.
+        since: u64,
+        /// How many entries more than configured the account may have, as so much of what was counted for them was given back.
+        freed: u64,
+    },
 }
 
 /// What is before a segment in its run, and what its entries begin from.
@@ -38,7 +64,7 @@ pub struct Start {
     /// How many of these are hand-outs.
     pub handed: u64,
     /// What the entries begin from.
-    pub base: Base,
+    pub begin: Begin,
 }
 
 /// What stands before the entries of a segment.

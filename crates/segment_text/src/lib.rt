@@ -14,12 +14,12 @@ mod writer;
 
 pub use account_text::LineFault;
 pub use config::parse_config;
-pub use follow::{begins_run, follows, names_digest};
-pub use head::{Head, Last, Origin, PrinterPlace, Start};
+pub use follow::{begins_run, fits_config, goes_on, names_digest, run_follows, same_base};
+pub use head::{Begin, Head, Last, Origin, PrinterPlace, Start, Version};
 pub use items::{SegmentLine, Stage, parse_line};
 pub use laws::{lines_are_read_back, lines_have_no_feed, segments_are_in_turn};
 pub use read::{parse_last, parse_origin, parse_printer, parse_start};
 pub use reader::SegmentReader;
-pub use stamp::is_time;
+pub use stamp::{is_before, is_time};
 pub use write::{write_config, write_last, write_origin, write_printer, write_start};
 pub use writer::SegmentWriter;

@@ -7,10 +7,10 @@ ghost use Rattle.account_text.specs.Reading.{words_of};
 ghost use Rattle.segment_text.specs.Heads as H;
 ghost use Rattle.segment_text.specs.Meant as M;
 ghost use Rattle.segment_text.specs.Reading as R;
-ghost use Rattle.segment_text.specs.Seen.{last_seen, origin_seen, printer_seen, start_seen};
+ghost use Rattle.segment_text.specs.Seen.{begin_seen, last_seen, origin_seen, printer_seen, start_seen};
 
-use crate::head::{Last, Origin, PrinterPlace, Start};
-use crate::stamp::stamp;
+use crate::head::{Begin, Last, Origin, PrinterPlace, Start, Version};
+use crate::stamp::{is_before, stamp};
 use crate::write::{write_last, write_origin, write_printer, write_start};
 use account::Base;
 use account_text::{LineFault, digest, hidden, next_word, number};
@@ -35,6 +35,30 @@ fn previous(text: &[u8]) -> Option<Option<[u8; 32]>>
     Some(Some(digest))
 }
 
+/// The version of the text.
+fn version(word: &[u8]) -> Option<Version>
+    ensures { MatchOption result (R.version_of word.now ≡ None)
+        (λ v. R.version_of word.now ≡ Some v) }
+{
+    if word == b"1".as_slice() {
+        Some(Version::One)
+    } else if word == b"2".as_slice() {
+        Some(Version::Two)
+    } else {
+        None
+    }
+}
+
+/// Whether these may be the times of the first and of the last entry, by a version.
+fn are_ordered(version: Version, first: &[u8], last: &[u8]) -> bool
+    ensures { result ≡ R.are_ordered version first.now last.now }
+{
+    match version {
+        Version::One => true,
+        Version::Two => !is_before(last, first),
+    }
+}
+
 /// Where a segment stands.
 fn origin(alloc: Global, text: &[u8]) -> Result<Origin, LineFault>
     ensures { MatchResult result
@@ -42,20 +66,22 @@ fn origin(alloc: Global, text: &[u8]) -> Result<Origin, LineFault>
         (λ f. (f ≡ LineFault.Memory)
         ⊎ ((f ≡ LineFault.Bad) × (R.origin_in (words_of text.now) ≡ None))) }
 {
-    let (version, rest) = next_word(text).ok_or(LineFault::Bad)?;
+    let (word, rest) = next_word(text).ok_or(LineFault::Bad)?;
     let (run, rest) = next_word(rest).ok_or(LineFault::Bad)?;
     let (segment, rest) = next_word(rest).ok_or(LineFault::Bad)?;
     let (first, rest) = next_word(rest).ok_or(LineFault::Bad)?;
     let (last, rest) = next_word(rest).ok_or(LineFault::Bad)?;
-    if version != b"1".as_slice() {
-        return Err(LineFault::Bad);
-    }
+    let version = version(word).ok_or(LineFault::Bad)?;
     let run = number(run).ok_or(LineFault::Bad)?;
     let segment = number(segment).ok_or(LineFault::Bad)?;
     let first = stamp(alloc, first)?;
     let last = stamp(alloc, last)?;
     let previous = previous(rest).ok_or(LineFault::Bad)?;
+    if !are_ordered(version, first.as_slice(), last.as_slice()) {
+        return Err(LineFault::Bad);
+    }
     Ok(Origin {
+        version,
         run,
         segment,
         first,
@@ -64,16 +90,16 @@ fn origin(alloc: Global, text: &[u8]) -> Result<Origin, LineFault>
     })
 }
 
-/// The length of a file, or none where the word is a dash.
-fn length(word: &[u8]) -> Option<Option<u64>>
-    ensures { MatchOption result (R.length_of word.now ≡ None)
-        (λ n. R.length_of word.now ≡ Some n) }
+/// Where what is printed begins, or none where the word is a dash.
+fn begins(word: &[u8]) -> Option<Option<u64>>
+    ensures { MatchOption result (R.begins_of word.now ≡ None)
+        (λ n. R.begins_of word.now ≡ Some n) }
 {
     if word == b"-".as_slice() {
         return Some(None);
     }
-    let length = number(word)?;
-    Some(Some(length))
+    let number = number(word)?;
+    Some(Some(number))
 }
 
 /// What a printer prints to.
@@ -88,9 +114,9 @@ fn printer(alloc: Global, text: &[u8]) -> Result<PrinterPlace, LineFault>
     if next_word(rest).is_some() {
         return Err(LineFault::Bad);
     }
-    let length = length(word).ok_or(LineFault::Bad)?;
+    let begins = begins(word).ok_or(LineFault::Bad)?;
     let place = hidden(alloc, place)?;
-    Ok(PrinterPlace { place, length })
+    Ok(PrinterPlace { place, begins })
 }
 
 /// Whether a spool is closed.
@@ -151,12 +177,43 @@ fn base(alloc: Global, text: &[u8]) -> Result<Base, LineFault>
     })
 }
 
-/// What is before a segment.
-fn start(alloc: Global, text: &[u8]) -> Result<Start, LineFault>
+/// What the entries of a segment begin from that begins amid jobs.
+fn amid(text: &[u8]) -> Option<Begin>
+    ensures { MatchOption result (R.amid_in (words_of text.now) ≡ None)
+        (λ b. R.amid_in (words_of text.now) ≡ Some (begin_seen b)) }
+{
+    let (since, rest) = next_word(text)?;
+    let (freed, rest) = next_word(rest)?;
+    if next_word(rest).is_some() {
+        return None;
+    }
+    let since = number(since)?;
+    let freed = number(freed)?;
+    Some(Begin::Amid { since, freed })
+}
+
+/// What the entries of a segment begin from, as the words of a text say behind this word.
+fn begin(alloc: Global, word: StartWord, text: &[u8]) -> Result<Begin, LineFault>
     ensures { MatchResult result
-        (λ s. R.start_in (words_of text.now) ≡ Some (start_seen s))
+        (λ b. R.begin_in word (words_of text.now) ≡ Some (begin_seen b))
         (λ f. (f ≡ LineFault.Memory)
-        ⊎ ((f ≡ LineFault.Bad) × (R.start_in (words_of text.now) ≡ None))) }
+        ⊎ ((f ≡ LineFault.Bad) × (R.begin_in word (words_of text.now) ≡ None))) }
+{
+    match word {
+        StartWord::Base => {
+            let base = base(alloc, text)?;
+            Ok(Begin::Base(base))
+        }
+        StartWord::Part => amid(text).ok_or(LineFault::Bad),
+    }
+}
+
+/// What is before a segment, as the words of a text say behind this word.
+fn start(alloc: Global, word: StartWord, text: &[u8]) -> Result<Start, LineFault>
+    ensures { MatchResult result
+        (λ s. R.start_in word (words_of text.now) ≡ Some (start_seen s))
+        (λ f. (f ≡ LineFault.Memory)
+        ⊎ ((f ≡ LineFault.Bad) × (R.start_in word (words_of text.now) ≡ None))) }
 {
     let (entries, rest) = next_word(text).ok_or(LineFault::Bad)?;
     let (kinds, rest) = next_word(rest).ok_or(LineFault::Bad)?;
@@ -164,12 +221,12 @@ fn start(alloc: Global, text: &[u8]) -> Result<Start, LineFault>
     let entries = number(entries).ok_or(LineFault::Bad)?;
     let kinds = number(kinds).ok_or(LineFault::Bad)?;
     let handed = number(handed).ok_or(LineFault::Bad)?;
-    let base = base(alloc, rest)?;
+    let begin = begin(alloc, word, rest)?;
     Ok(Start {
         entries,
         kinds,
         handed,
-        base,
+        begin,
     })
 }
 
@@ -245,16 +302,37 @@ pub fn parse_printer(alloc: Global, line: &[u8]) -> Result<PrinterPlace, LineFau
     }
 }
 
+/// The first word of a line that tells what is before a segment.
+#[derive(Clone, Copy, Debug, PartialEq, Eq)]
+enum StartWord {
+    /// It begins from a base.
+    Base,
+    /// It begins amid jobs.
+    Part,
+}
+
+/// Which first word this is of a line that tells what is before a segment.
+fn start_word(word: &[u8]) -> Option<StartWord>
+    ensures { MatchOption result (R.start_word_of word.now ≡ None)
+        (λ w. R.start_word_of word.now ≡ Some w) }
+{
+    if word == b"base".as_slice() {
+        Some(StartWord::Base)
+    } else if word == b"part".as_slice() {
+        Some(StartWord::Part)
+    } else {
+        None
+    }
+}
+
 /// What the words of a line tell: what is before a segment.
 fn read_start(alloc: Global, line: &[u8]) -> Result<Start, LineFault>
     ensures { MatchResult result (λ v. R.start_of line.now ≡ Some (start_seen v))
         (λ f. (f ≡ LineFault.Memory) ⊎ ((f ≡ LineFault.Bad) × (R.start_of line.now ≡ None))) }
 {
     let (word, rest) = next_word(line).ok_or(LineFault::Bad)?;
-    if word != b"base".as_slice() {
-        return Err(LineFault::Bad);
-    }
-    start(alloc, rest)
+    let word = start_word(word).ok_or(LineFault::Bad)?;
+    start(alloc, word, rest)
 }
 
 /// What a line (without its LF) means: what is before a segment.

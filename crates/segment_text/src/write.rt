@@ -3,9 +3,9 @@
 ghost use Rattle.std.specs.Prelude.{◌≡◌, ◌++◌, IfOk, OnOk};
 ghost use Rattle.account.specs.Seen.{base_seen};
 ghost use Rattle.segment_text.specs.Heads as H;
-ghost use Rattle.segment_text.specs.Seen.{last_seen, origin_seen, printer_seen, start_seen};
+ghost use Rattle.segment_text.specs.Seen.{begin_seen, last_seen, origin_seen, printer_seen, start_seen};
 
-use crate::head::{Last, Origin, PrinterPlace, Start};
+use crate::head::{Begin, Last, Origin, PrinterPlace, Start, Version};
 use account::Base;
 use account_text::{put_hexed, put_number, put_plain, put_shown};
 use config_values::{Config, Queue};
@@ -28,6 +28,16 @@ fn put_previous(
     }
 }
 
+/// Puts a version.
+fn put_version(line: &mut Vec<u8>, version: Version) -> Result<(), AllocError>
+    ensures { OnOk result (line.new.items ≡ line.old.items ++ H.version_word version) }
+{
+    match version {
+        Version::One => line.extend_from_slice(b" 1"),
+        Version::Two => line.extend_from_slice(b" 2"),
+    }
+}
+
 /// The line that says where a segment stands, without its LF.
 ///
 /// AllocError where memory is refused.
@@ -35,7 +45,8 @@ pub fn write_origin(alloc: Global, origin: &Origin) -> Result<Vec<u8>, AllocErro
     ensures { IfOk result (λ line. line.items ≡ H.origin_line (origin_seen origin.now)) }
 {
     let mut line = Vec::new(alloc);
-    line.extend_from_slice(b"account 1")?;
+    line.extend_from_slice(b"account")?;
+    put_version(&mut line, origin.version)?;
     put_number(&mut line, alloc, origin.run)?;
     put_number(&mut line, alloc, origin.segment)?;
     put_plain(&mut line, origin.first.as_slice())?;
@@ -73,13 +84,13 @@ pub fn write_config(alloc: Global, config: &Config) -> Result<Vec<u8>, AllocErro
     Ok(line)
 }
 
-/// Puts the length of a file, or a dash.
-fn put_length(line: &mut Vec<u8>, alloc: Global, length: Option<u64>) -> Result<(), AllocError>
-    ensures { OnOk result (line.new.items ≡ line.old.items ++ H.length_word length) }
+/// Puts where what is printed begins, or a dash.
+fn put_begins(line: &mut Vec<u8>, alloc: Global, begins: Option<u64>) -> Result<(), AllocError>
+    ensures { OnOk result (line.new.items ≡ line.old.items ++ H.begins_word begins) }
 {
-    match length {
+    match begins {
         None => line.extend_from_slice(b" -"),
-        Some(length) => put_number(line, alloc, length),
+        Some(number) => put_number(line, alloc, number),
     }
 }
 
@@ -92,7 +103,7 @@ pub fn write_printer(alloc: Global, printer: &PrinterPlace) -> Result<Vec<u8>, A
     let mut line = Vec::new(alloc);
     line.extend_from_slice(b"printer")?;
     put_shown(&mut line, alloc, printer.place.as_slice())?;
-    put_length(&mut line, alloc, printer.length)?;
+    put_begins(&mut line, alloc, printer.begins)?;
     Ok(line)
 }
 
@@ -132,6 +143,31 @@ fn put_base(line: &mut Vec<u8>, alloc: Global, base: &Base) -> Result<(), AllocE
     put_stopped(line, base.stopped.as_slice())
 }
 
+/// The first word of the line of what is before a segment.
+fn put_start_word(line: &mut Vec<u8>, begin: &Begin) -> Result<(), AllocError>
+    ensures { OnOk result (line.new.items
+        ≡ line.old.items ++ H.start_word (begin_seen begin.now)) }
+{
+    match begin {
+        Begin::Base(_) => line.extend_from_slice(b"base"),
+        Begin::Amid { .. } => line.extend_from_slice(b"part"),
+    }
+}
+
+/// Puts what entries begin from.
+fn put_begin(line: &mut Vec<u8>, alloc: Global, begin: &Begin) -> Result<(), AllocError>
+    ensures { OnOk result (line.new.items
+        ≡ line.old.items ++ H.begin_words (begin_seen begin.now)) }
+{
+    match begin {
+        Begin::Base(base) => put_base(line, alloc, base),
+        Begin::Amid { since, freed } => {
+            put_number(line, alloc, *since)?;
+            put_number(line, alloc, *freed)
+        }
+    }
+}
+
 /// The line of what is before a segment, without its LF.
 ///
 /// AllocError where memory is refused.
@@ -139,11 +175,11 @@ pub fn write_start(alloc: Global, start: &Start) -> Result<Vec<u8>, AllocError>
     ensures { IfOk result (λ line. line.items ≡ H.start_line (start_seen start.now)) }
 {
     let mut line = Vec::new(alloc);
-    line.extend_from_slice(b"base")?;
+    put_start_word(&mut line, &start.begin)?;
     put_number(&mut line, alloc, start.entries)?;
     put_number(&mut line, alloc, start.kinds)?;
     put_number(&mut line, alloc, start.handed)?;
-    put_base(&mut line, alloc, &start.base)?;
+    put_begin(&mut line, alloc, &start.begin)?;
     Ok(line)
 }
 

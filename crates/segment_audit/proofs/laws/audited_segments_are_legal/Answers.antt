@@ -1,5 +1,5 @@
-use Rattle.segment_audit.proofs.Lawful.{legal}
+use Rattle.segment_audit.proofs.Lawful.{audited}
 use Rattle.segment_audit.proofs.laws.audited_segments_are_legal.Goals as goal
 
 pub returns : goal.returns
-returns c = legal
+returns c = audited c.wider_is_legal.ensures
