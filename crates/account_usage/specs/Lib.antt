@@ -1,4 +1,3 @@
 pub mod Rows
 pub mod Sums
 pub mod Tables
-pub mod Times

@@ -1,6 +1,6 @@
 -- What lines say was sent and printed, in octets.
 use Rattle.std.specs.Prelude.{ℕ, ◌+◌}
-use Rattle.spool_history.specs.Events.{Act, Turn, Event}
+use Rattle.spool_history.specs.Events.{Act, Sheet, Turn, Event}
 use Rattle.spool_history.specs.Events.Act.{Put}
 use Rattle.spool_history.specs.Events.Turn.{Printed}
 use Rattle.spool_history.specs.Events.Event.{OfJob, AtPrinter}
@@ -15,8 +15,12 @@ sent_by (OfJob j (Put file number page)) = octets page
 sent_by _ = 0
 
 -- a page was printed
+abbrev pub printed_at : Sheet Outline → Turn → ℕ
+printed_at sheet (Printed progress) = octets sheet.page
+printed_at sheet _ = 0
+
 abbrev pub printed_by : Event Outline → ℕ
-printed_by (AtPrinter p sheet (Printed progress)) = octets sheet.page
+printed_by (AtPrinter p sheet turn) = printed_at sheet turn
 printed_by _ = 0
 
 abbrev pub sent_in : Item → ℕ

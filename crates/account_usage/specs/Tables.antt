@@ -1,5 +1,5 @@
 -- What a table has counted.
-use Rattle.std.specs.Prelude.{◌≡◌, ◌<◌, ◌+◌, ◌^◌, ℕ, List}
+use Rattle.std.specs.Prelude.{◌≡◌, ◌<◌, ◌+◌, ◌^◌, ℕ, Bool, List, if◌then◌else◌}
 use Rattle.lpd_values.specs.Contents.{Contents}
 use Rattle.account_usage.specs.declared.grouping.Grouping.{Grouping}
 use Rattle.account_usage.specs.declared.grouping.Grouping.TheVariants as grouping
@@ -12,6 +12,10 @@ all_sent t = rows_sent t.rows.items + held_sent t.held.items
 
 abbrev pub all_printed : UsageTable → ℕ
 all_printed t = rows_printed t.rows.items + held_printed t.held.items
+
+-- what counts of so many octets, in a segment that counts or not
+abbrev pub counted : Bool → ℕ → ℕ
+counted counts n = if counts then n else 0
 
 -- so many were sent more, as long as all have 64 bits
 abbrev pub HasSent : ℕ → UsageTable → UsageTable → Type 0

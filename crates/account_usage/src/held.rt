@@ -16,6 +16,10 @@ pub(crate) struct HeldJob {
     pub(crate) sent: u64,
     /// The octets of its pages that were printed, up to 2^64 - 1.
     pub(crate) printed: u64,
+    /// How many of its pages are at printers.
+    pub(crate) out: u64,
+    /// Whether nothing comes of it any more but these.
+    pub(crate) is_over: bool,
 }
 
 /// At which place the job of a number stands, if it does.
@@ -23,6 +27,23 @@ pub(crate) fn place_of(held: &[HeldJob], number: u64) -> Option<usize>
     ensures { IfSome result (λ at. at < length held.now) }
 {
     held.iter().position(|job| job.number == number)
+}
+
+/// So many pages of the job at a place are at printers, and nothing else comes of it, or something may.
+pub(crate) fn set_out(held: &mut [HeldJob], at: usize, out: u64, is_over: bool)
+    requires { at < length held.old }
+    ensures sent { held_sent held.new ≡ held_sent held.old }
+    ensures printed { held_printed held.new ≡ held_printed held.old }
+{
+    let Some((first, rest)) = held.split_first_mut() else {
+        return;
+    };
+    if at == 0 {
+        first.out = out;
+        first.is_over = is_over;
+        return;
+    }
+    set_out(rest, at - 1, out, is_over);
 }
 
 /// Adds octets to the job at a place.

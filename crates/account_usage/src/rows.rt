@@ -13,7 +13,7 @@ use std::alloc::{AllocError, Global};
 pub struct UsageRow {
     /// Its name, or `-` for jobs whose control file didn't come, where users or hosts are told.
     pub name: Octets,
-    /// How many jobs ended.
+    /// How many jobs ended in segments that count.
     pub jobs: u64,
     /// The octets of the pages that were put into their files, up to 2^64 - 1.
     pub sent: u64,
@@ -90,13 +90,14 @@ pub(crate) fn add_to_row(
     Ok(())
 }
 
-/// Adds these jobs to their rows.
+/// Adds these jobs to their rows, each as so many.
 ///
 /// AllocError where memory for a row is refused.
 pub(crate) fn settle(
     rows: &mut Vec<UsageRow>,
     alloc: Global,
     held: &[HeldJob],
+    jobs: u64,
 ) -> Result<(), AllocError>
     ensures sent { OnOk result (rows_sent rows.old.items
         + held_sent held.now < 2 ^ 64
@@ -111,7 +112,7 @@ pub(crate) fn settle(
         return Ok(());
     };
     let name = first.name.as_slice();
-    add_to_row(rows, alloc, name, 1, first.sent, first.printed)?;
-    settle(rows, alloc, rest)?;
+    add_to_row(rows, alloc, name, jobs, first.sent, first.printed)?;
+    settle(rows, alloc, rest, jobs)?;
     Ok(())
 }

@@ -1,19 +1,19 @@
 //! A table of usage.
 
 ghost use Rattle.std.specs.Prelude.{◌≡◌, ◌<◌, ◌+◌, ◌^◌, [], IfOk, OnOk};
-ghost use Rattle.account.specs.Seen.{event_seen};
+ghost use Rattle.account.specs.Seen.{event_seen, sheet_seen, turn_seen};
 ghost use Rattle.control_file.specs.View.{contents};
 ghost use Rattle.segment_text.specs.Items.{item_seen};
 ghost use Rattle.account_usage.specs.Sums as S;
-ghost use Rattle.account_usage.specs.Tables.{HasPrinted, HasSent, name_by};
+ghost use Rattle.account_usage.specs.Tables.{HasPrinted, HasSent, counted, name_by};
 
 use crate::grouping::Grouping;
-use crate::held::{HeldJob, add_octets, place_of};
+use crate::held::{HeldJob, add_octets, place_of, set_out};
 use crate::rows::{UsageRow, add_to_row, settle};
-use account::{Act, Control, Entry, Progress, Turn};
+use account::{Act, Control, Entry, Progress, Sheet, Turn};
 use config_values::Config;
 use lpd_values::Octets;
-use segment_text::SegmentLine;
+use segment_text::{Begin, SegmentLine};
 use std::alloc::{AllocError, Global};
 
 /// The name of the row of what no other counts.
@@ -28,6 +28,8 @@ pub struct UsageTable {
     /// Jobs that haven't ended.
     held: Vec<HeldJob>,
     rows: Vec<UsageRow>,
+    /// Whether the segment counts whose head was read last.
+    counts: bool,
 }
 
 /// The names of a configuration's queues.
@@ -67,6 +69,7 @@ impl UsageTable {
             queues: Vec::new(alloc),
             held: Vec::new(alloc),
             rows: Vec::new(alloc),
+            counts: false,
         }
     }
 
@@ -92,6 +95,8 @@ impl UsageTable {
             name,
             sent: 0,
             printed: 0,
+            out: 0,
+            is_over: false,
         })?;
         Ok(())
     }
@@ -127,8 +132,8 @@ impl UsageTable {
         Ok(())
     }
 
-    /// A job has ended.
-    fn end(&mut self, alloc: Global, number: u64) -> Result<(), AllocError>
+    /// A job has ended, in a segment that counts or not.
+    fn end(&mut self, alloc: Global, number: u64, counts: bool) -> Result<(), AllocError>
         ensures sent { OnOk result (HasSent 0 self.old self.new) }
         ensures printed { OnOk result (HasPrinted 0 self.old self.new) }
     {
@@ -137,66 +142,156 @@ impl UsageTable {
         };
         let job = &self.held[at];
         let name = job.name.as_slice();
-        add_to_row(&mut self.rows, alloc, name, 1, job.sent, job.printed)?;
+        let jobs = u64::from(counts);
+        add_to_row(&mut self.rows, alloc, name, jobs, job.sent, job.printed)?;
         let _job = self.held.remove(at);
         Ok(())
     }
 
-    /// A segment has ended, and with it all jobs.
+    /// So many pages of a job go to printers, so many come back, and it may be that nothing else comes of it. Once nothing does and no
+    /// page of it is out it has ended.
+    fn turn(
+        &mut self,
+        alloc: Global,
+        number: u64,
+        pages: (u64, u64),
+        is_over: bool,
+        counts: bool,
+    ) -> Result<(), AllocError>
+        ensures sent { OnOk result (HasSent 0 self.old self.new) }
+        ensures printed { OnOk result (HasPrinted 0 self.old self.new) }
+    {
+        let Some(at) = place_of(self.held.as_slice(), number) else {
+            return Ok(());
+        };
+        let (goes, comes) = pages;
+        let job = &self.held[at];
+        let out = job.out.saturating_add(goes).saturating_sub(comes);
+        let is_over = is_over || job.is_over;
+        set_out(self.held.as_mut_slice(), at, out, is_over);
+        if is_over && out == 0 {
+            self.end(alloc, number, counts)?;
+        }
+        Ok(())
+    }
+
+    /// These jobs were removed.
+    fn remove(&mut self, alloc: Global, jobs: &[u64], counts: bool) -> Result<(), AllocError>
+        ensures sent { OnOk result (HasSent 0 self.old self.new) }
+        ensures printed { OnOk result (HasPrinted 0 self.old self.new) }
+    {
+        let Some((first, rest)) = jobs.split_first() else {
+            return Ok(());
+        };
+        self.turn(alloc, *first, (0, 0), true, counts)?;
+        self.remove(alloc, rest, counts)
+    }
+
+    /// All jobs have ended: the run begins anew, or nothing more is read.
     fn end_all(&mut self, alloc: Global) -> Result<(), AllocError>
         ensures sent { OnOk result (HasSent 0 self.old self.new) }
         ensures printed { OnOk result (HasPrinted 0 self.old self.new) }
     {
-        settle(&mut self.rows, alloc, self.held.as_slice())?;
+        let jobs = u64::from(self.counts);
+        settle(&mut self.rows, alloc, self.held.as_slice(), jobs)?;
         self.held.clear();
         Ok(())
     }
 
-    /// Reads an entry.
-    fn enter(&mut self, alloc: Global, entry: &Entry) -> Result<(), AllocError>
-        ensures sent { OnOk result (HasSent (S.sent_by (event_seen entry.now)) self.old self.new) }
+    /// A page is at a printer, or comes back from it.
+    fn print(
+        &mut self,
+        alloc: Global,
+        sheet: &Sheet,
+        turn: Turn,
+        counts: bool,
+    ) -> Result<(), AllocError>
+        ensures sent { OnOk result (HasSent 0 self.old self.new) }
         ensures printed { OnOk result
-            (HasPrinted (S.printed_by (event_seen entry.now)) self.old self.new) }
+            (HasPrinted (counted counts (S.printed_at (sheet_seen sheet.now) (turn_seen turn))) self.old self.new) }
+    {
+        match turn {
+            Turn::Handed => self.turn(alloc, sheet.job, (1, 0), false, counts),
+            Turn::Printed(progress) => {
+                let printed = if counts {
+                    u64::from(sheet.page.length)
+                } else {
+                    0
+                };
+                self.count(alloc, sheet.job, 0, printed)?;
+                let is_over = progress == Progress::Done;
+                self.turn(alloc, sheet.job, (0, 1), is_over, counts)
+            }
+            Turn::Failed => self.turn(alloc, sheet.job, (0, 1), true, counts),
+        }
+    }
+
+    /// Reads an entry of a segment that counts or not.
+    fn enter(&mut self, alloc: Global, entry: &Entry, counts: bool) -> Result<(), AllocError>
+        ensures sent { OnOk result
+            (HasSent (counted counts (S.sent_by (event_seen entry.now))) self.old self.new) }
+        ensures printed { OnOk result
+            (HasPrinted (counted counts (S.printed_by (event_seen entry.now))) self.old self.new) }
     {
         match entry {
             Entry::Opened { job, queue, .. } => self.open(alloc, *job, *queue),
             Entry::OfJob(job, Act::Put { page, .. }) => {
-                self.count(alloc, *job, u64::from(page.length), 0)
+                let sent = if counts { u64::from(page.length) } else { 0 };
+                self.count(alloc, *job, sent, 0)
             }
             Entry::OfJob(job, Act::Controlled { control, .. }) => self.name(alloc, *job, control),
-            Entry::OfJob(job, Act::Aborted) => self.end(alloc, *job),
-            Entry::AtPrinter(_, sheet, Turn::Printed(progress)) => {
-                self.count(alloc, sheet.job, 0, u64::from(sheet.page.length))?;
-                if *progress == Progress::Done {
-                    self.end(alloc, sheet.job)?;
-                }
-                Ok(())
-            }
+            Entry::OfJob(job, Act::Aborted) => self.turn(alloc, *job, (0, 0), true, counts),
+            Entry::AtPrinter(_, sheet, turn) => self.print(alloc, sheet, *turn, counts),
+            Entry::Removed(_, jobs) => self.remove(alloc, jobs.as_slice(), counts),
             _ => Ok(()),
         }
     }
 
-    /// Takes a line that an audit or a reader has taken, in order of writing. A job counts once it has ended: by its last page, by an
-    /// abort, or at the latest with its segment.
+    /// Takes a line that an audit or a reader has taken, in order of writing, of a segment that counts or not. A job counts once it has
+    /// ended: by its last page, by an abort, by a removal once no page of it is out, or at the latest where its run begins anew from a
+    /// base or nothing more is read (`finish`). Of a segment that doesn't count nothing is added: its jobs are followed, so that what
+    /// comes of them in one that does has their names.
     ///
     /// AllocError where memory is refused; then the line may be counted in part.
-    pub fn read(&mut self, alloc: Global, line: &SegmentLine) -> Result<(), AllocError>
-        ensures sent { OnOk result (HasSent (S.sent_in (item_seen line.now)) self.old self.new) }
+    pub fn read(
+        &mut self,
+        alloc: Global,
+        line: &SegmentLine,
+        counts: bool,
+    ) -> Result<(), AllocError>
+        ensures sent { OnOk result
+            (HasSent (counted counts (S.sent_in (item_seen line.now))) self.old self.new) }
         ensures printed { OnOk result
-            (HasPrinted (S.printed_in (item_seen line.now)) self.old self.new) }
+            (HasPrinted (counted counts (S.printed_in (item_seen line.now))) self.old self.new) }
     {
         match line {
             SegmentLine::Config(config) => {
                 self.queues = queue_names(alloc, config)?;
                 Ok(())
             }
-            SegmentLine::Entry(entry) => self.enter(alloc, entry),
-            SegmentLine::Last(_) => self.end_all(alloc),
+            SegmentLine::Start(start) => {
+                if let Begin::Base(_) = &start.begin {
+                    self.end_all(alloc)?;
+                }
+                self.counts = counts;
+                Ok(())
+            }
+            SegmentLine::Entry(entry) => self.enter(alloc, entry, counts),
             _ => Ok(()),
         }
     }
 
-    /// The rows, in the order in which the first job of each ended.
+    /// Nothing more is read: all jobs have ended.
+    ///
+    /// AllocError where memory is refused.
+    pub fn finish(&mut self, alloc: Global) -> Result<(), AllocError>
+        ensures sent { OnOk result (HasSent 0 self.old self.new) }
+        ensures printed { OnOk result (HasPrinted 0 self.old self.new) }
+    {
+        self.end_all(alloc)
+    }
+
+    /// The rows, in the order in which the first job of each ended. One in which nothing counts may be among them.
     pub fn rows(&self) -> &[UsageRow]
         ensures { result.now ≡ self.now.rows.items }
     {

@@ -1,22 +1,9 @@
 //! Which segments lie within two times.
 
 ghost use Rattle.std.specs.Prelude.{◌≡◌, ◌↔◌, false, IsTrue, MatchOption};
-ghost use Rattle.account_usage.specs.Times as T;
+ghost use Rattle.segment_text.specs.Times as T;
 
-use segment_text::Origin;
-
-/// Whether octets come before others: octet by octet, and a beginning before what goes on.
-fn is_before(some: &[u8], others: &[u8]) -> bool
-    ensures { result ≡ T.is_before some.now others.now }
-{
-    match (some.split_first(), others.split_first()) {
-        (None, Some(_)) => true,
-        (Some((one, some)), Some((other, others))) => {
-            one < other || (one == other && is_before(some, others))
-        }
-        _ => false,
-    }
-}
+use segment_text::{Origin, is_before};
 
 /// Whether a segment lies within two times: its last entry is not before `since`, and its first not after `until`. Entries have no
 /// times, so a segment counts whole. Times are in UTC, as `2026-11-26T22:00:00Z`.
