@@ -1,7 +1,14 @@
 -- What a folder has in hand, and what is told of it once it is a file.
-use Rattle.std.specs.Prelude.{◌≡◌, Some, length}
+use Rattle.std.specs.Prelude.{◌≡◌, ◌==◌, ℕ, Some, if◌then◌else◌, length}
+use Rattle.spool_history.specs.Base.{Base}
+use Rattle.segment_text.specs.Heads.{Begin}
+use Rattle.segment_text.specs.Heads.Begin.{AtBase, Amid}
 use Rattle.account_folder.specs.declared.folder.AccountFolder.{AccountFolder}
 use Rattle.account_folder.specs.declared.folder.PutAway.{PutAway}
+
+-- what a segment's entries begin from: its base, where none came in the run since that
+abbrev pub begin_as : Base → ℕ → ℕ → Begin
+begin_as base since freed = if since == 0 then AtBase base else Amid since freed
 
 -- the same segment is in hand, for the same file, run and place in the chain
 pub record IsInHandStill (before now : AccountFolder) : Type 0 where

@@ -2,8 +2,8 @@
 
 ghost use Rattle.std.specs.Prelude.{◌≡◌, IfOk, IfSome, None, OnErr, Some, false, true};
 ghost use Rattle.account.specs.Seen.{base_seen};
-ghost use Rattle.account_folder.specs.Hands.{IsInHandStill, Names};
-ghost use Rattle.segment_text.specs.Seen.{start_seen};
+ghost use Rattle.account_folder.specs.Hands.{IsInHandStill, Names, begin_as};
+ghost use Rattle.segment_text.specs.Seen.{begin_seen, start_seen};
 
 use crate::fault::WriteFault;
 use crate::listing::list;
@@ -16,7 +16,7 @@ use account::{Base, Entry, Segment};
 use config_values::Config;
 use lpd_values::Octets;
 use program_edge::StreamWriter;
-use segment_text::{Head, Origin, PrinterPlace, Start};
+use segment_text::{Begin, Head, Origin, PrinterPlace, Start, Version, is_before};
 use server_folder::FILE_MODE;
 use std::alloc::Global;
 use std::fmt::{Display, Formatter, Write};
@@ -87,6 +87,7 @@ fn head_of(
     printers: Vec<PrinterPlace>,
 ) -> Head {
     let origin = Origin {
+        version: Version::Two,
         run,
         segment: 0,
         first: Octets::from_vec(Vec::new(alloc)),
@@ -97,13 +98,24 @@ fn head_of(
         entries: 0,
         kinds: 0,
         handed: 0,
-        base: Base::first(alloc),
+        begin: Begin::Base(Base::first(alloc)),
     };
     Head {
         origin,
         config,
         printers,
         start,
+    }
+}
+
+/// What a segment's entries begin from: a base, or what the segment before it left amid its jobs.
+fn begin_of(base: Base, since: u64, freed: u64) -> Begin
+    ensures { begin_seen result ≡ begin_as (base_seen base) since freed }
+{
+    if since == 0 {
+        Begin::Base(base)
+    } else {
+        Begin::Amid { since, freed }
     }
 }
 
@@ -151,7 +163,7 @@ impl AccountFolder {
           entries = segment.before;
           kinds = segment.kinds_before;
           handed = segment.handed_before;
-          base = base_seen segment.base;
+          begin = begin_as (base_seen segment.base) segment.since segment.freed;
         } }
         ensures entries { self.new.entries.items ≡ segment.entries.items }
         ensures times { (self.new.begun ≡ self.old.closed) × (self.new.closed ≡ closed) }
@@ -167,8 +179,8 @@ impl AccountFolder {
             handed_before,
             base,
             entries,
-            since: _,
-            freed: _,
+            since,
+            freed,
         } = segment;
         self.begun = mem::replace(&mut self.closed, closed);
         self.head.origin.segment = number;
@@ -176,7 +188,7 @@ impl AccountFolder {
             entries: before,
             kinds: kinds_before,
             handed: handed_before,
-            base,
+            begin: begin_of(base, since, freed),
         };
         self.entries = entries;
         self.is_in_hand = true;
@@ -186,8 +198,15 @@ impl AccountFolder {
     fn write<R: Files<File = File>>(&mut self, rt: &R, path: &str) -> io::Result<[u8; 32]>
         ensures { IsInHandStill self.old self.new }
     {
-        self.head.origin.first = stamp(self.alloc, self.begun)?;
-        self.head.origin.last = stamp(self.alloc, self.closed)?;
+        let first = stamp(self.alloc, self.begun)?;
+        let last = stamp(self.alloc, self.closed)?;
+        // (a clock that was set back)
+        self.head.origin.last = if is_before(last.as_slice(), first.as_slice()) {
+            Octets::copy_of(self.alloc, first.as_slice())?
+        } else {
+            last
+        };
+        self.head.origin.first = first;
         let mut options = OpenOptions::new();
         options
             .write(true)

@@ -24,7 +24,7 @@ pub use program_edge::{
     Limits, LogForm, MOST_SESSIONS, Place, PrinterLimits, PrinterPlace, Settings, StatusPlace,
 };
 pub use server_care::Counter;
-pub use server_folders::ACCOUNT_LINES;
+pub use server_folders::{ACCOUNT_LINES, FOLDER_CAUSES};
 pub use server_house::Fault;
 pub use server_notes::JOB_LINES;
 pub use serving::{Plan, serve};

@@ -208,8 +208,8 @@ struct Server<'a, R> {
 /// After each `rotate` connections it waits until no job is held or a printer is stopped, rotates
 /// the account, and prints `rotated K entries E` with the number and the entries of the segment.
 /// With `keep_room` it does so too as soon as no job is held, once a quarter of the account is
-/// counted; and where the account isn't kept it trims it as soon as a quarter is counted for jobs that
-/// are gone. A rotation or trim that is refused is logged.
+/// counted; and it trims it as soon as a quarter is counted for jobs that are gone. A rotation or trim
+/// that is refused is logged.
 ///
 /// After `connections` connections it waits until their sessions have ended and no job is held or a
 /// printer is stopped, closes the spool, and prints `closed entries E` with the entries of all

@@ -10,7 +10,7 @@ use log::filter::{Builder, Filter, FilteredLog};
 use log::sink::Console;
 use log::{Level, LevelFilter, Log, Logged, error, info};
 use log_lines::{LineLog, LineQueue, LogForm};
-use lpd_daemon::{ACCOUNT_LINES, Counter, JOB_LINES, OpenFault, Plan};
+use lpd_daemon::{ACCOUNT_LINES, Counter, FOLDER_CAUSES, JOB_LINES, OpenFault, Plan};
 use lpd_words::{AuditRequest, ControlRequest, Outcome, PROGRESS, Unread, UsageRequest};
 use program_edge::{
     FaultName, Settings, StreamReader, StreamWriter, fill_standard_descriptors, tell, tell_cause,
@@ -41,9 +41,9 @@ fn most_told(informs: bool) -> Level {
 /// Which parts of a server log for information where standard error is no terminal.
 fn informing(settings: &Settings) -> &'static [&'static str] {
     match (settings.log_jobs, settings.account) {
-        (true, Some(_)) => &[JOB_LINES, ACCOUNT_LINES],
+        (true, Some(_)) => &[JOB_LINES, ACCOUNT_LINES, FOLDER_CAUSES],
         (true, None) => &[JOB_LINES],
-        (false, Some(_)) => &[ACCOUNT_LINES],
+        (false, Some(_)) => &[ACCOUNT_LINES, FOLDER_CAUSES],
         (false, None) => &[],
     }
 }

@@ -6,8 +6,10 @@ mod device;
 mod faults;
 mod outlet;
 mod places;
+mod sharing;
 
 pub use device::{Device, PrinterFile};
 pub use faults::{DeviceFault, PlaceFault};
 pub use outlet::{Outlet, has_unread};
 pub use places::{Opened, open_places, pipes_of, place_of};
+pub use sharing::shared_folder;

@@ -6,6 +6,7 @@ ghost use Rattle.program_edge.specs.declared.places.PrinterPlace.{PrinterPlace};
 
 use crate::faults::PlaceFault;
 use crate::outlet::Outlet;
+use crate::sharing::shared_folder;
 use log::{Log, warn};
 use program_edge::{Place, Settings, tell_cause};
 use sink_devices::names_of;
@@ -34,11 +35,13 @@ impl Opened {
         }
     }
 
-    /// How many octets the file has, where it is one of a disk.
-    pub fn length(&self) -> Option<u64> {
+    /// Where what is printed begins: of a file of a disk how many octets it has, of a folder the number of the file that the first job
+    /// becomes.
+    pub fn begins(&self) -> Option<u64> {
         match self {
             Opened::File(outlet) => outlet.length(),
-            Opened::Socket(_) | Opened::Folder { .. } => None,
+            Opened::Folder { next, .. } => Some(*next),
+            Opened::Socket(_) => None,
         }
     }
 }
@@ -90,13 +93,16 @@ pub fn place_of<'a>(settings: &Settings<'a>, printer: u32) -> Option<Place<'a>>
 
 /// Opens what N printers print to: what the settings say of each, or else the file `printer-K` in their directory, at its end.
 ///
-/// Path with the path of the first that can't be opened, of which the log is told why; Memory.
+/// Path with the path of a folder that two of them have, or of the first that can't be opened, of which the log is told why; Memory.
 pub fn open_places<R: Files<File = File> + Log>(
     rt: &R,
     alloc: Global,
     settings: &Settings<'_>,
     printers: u32,
 ) -> Result<Vec<Opened>, PlaceFault> {
+    if let Some(path) = shared_folder(rt, settings.printers.as_slice()) {
+        return Err(PlaceFault::Path(String::from_str(alloc, path)?));
+    }
     let mut places = Vec::new(alloc);
     for at in 0..printers {
         let printer = at + 1;

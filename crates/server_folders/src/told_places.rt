@@ -6,8 +6,8 @@ use program_edge::Settings;
 use segment_text::PrinterPlace;
 use std::alloc::{AllocError, Global};
 
-/// What printers print to, as their places are written, and how long the files among these are now: what the heads of the account's
-/// segments tell.
+/// What printers print to, as their places are written, and where what they print begins: what the heads of the account's segments
+/// tell.
 pub(crate) fn told_places(
     alloc: Global,
     settings: &Settings<'_>,
@@ -23,7 +23,7 @@ pub(crate) fn told_places(
         };
         told.push(PrinterPlace {
             place: Octets::from_vec(place.into_bytes()),
-            length: opened.length(),
+            begins: opened.begins(),
         })?;
     }
     Ok(told)

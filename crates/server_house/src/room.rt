@@ -124,7 +124,7 @@ impl AccountRoom {
         }
         self.full_since = Some((since, now));
         let seconds = milliseconds_since(rt, since) / 1_000;
-        warn!(rt; "the account has had no room for {seconds} s: jobs are refused until no job is held");
+        warn!(rt; "the account has had no room for {seconds} s: jobs are refused until held ones have gone");
     }
 
     /// Whether new jobs are let in.

@@ -5,7 +5,8 @@ ghost use Rattle.std.specs.Prelude.{◌≡◌, ◌↔◌, IsTrue, length, option
 ghost use Rattle.server_house.specs.Rotating.{HasTurn};
 
 use crate::house::House;
-use log::{Log, error};
+use log::{Log, error, info};
+use server_folders::ACCOUNT_LINES;
 use server_notes::Rotation;
 use shared_spool::{RotateError, Segment, SpoolLedger};
 use std::num::NonZeroU64;
@@ -44,6 +45,7 @@ impl<R: Clock + Wait + Log, E: SpoolLedger, K: Ledger, H: Ledger> House<'_, R, E
         match rotated {
             Ok(segment) => {
                 self.rotations.add(self.rt, rotation_of(&segment));
+                self.log_amid(&segment);
                 self.shelve(segment);
             }
             Err(error) => {
@@ -53,19 +55,16 @@ impl<R: Clock + Wait + Log, E: SpoolLedger, K: Ledger, H: Ledger> House<'_, R, E
         }
     }
 
-    /// The account's next segment, once `least` entries are counted and no job is held, or a trim gives
-    /// as many back; where the account is kept in files, once no job is held alone. None once the spool
-    /// is closed.
-    fn next_segment(&self, least: u64) -> Option<Result<Segment, RotateError>> {
-        if self.archive.is_some() {
-            self.spool.rotate_wait(self.rt, least)
-        } else {
-            self.spool.keep_wait(self.rt, least)
+    /// Where a segment began amid jobs the log is told so: the account was trimmed before it, since they are held for long.
+    fn log_amid(&self, segment: &Segment) {
+        if segment.since != 0 {
+            let (number, since) = (segment.number, segment.since);
+            info!(self.rt; target: ACCOUNT_LINES, "segment {number} of the account began amid held jobs, {since} entries behind the last rotation");
         }
     }
 
-    /// Rotates or trims the account as soon as it may, again and again until the spool is closed; never
-    /// where no room is kept.
+    /// Rotates the account, or trims it where jobs are held, as soon as `least` entries are counted and no job is held, or a trim
+    /// gives as many back; again and again until the spool is closed, and never where no room is kept.
     pub fn keep_account(&self) {
         let Some(least) = self.least else {
             return;
@@ -74,7 +73,7 @@ impl<R: Clock + Wait + Log, E: SpoolLedger, K: Ledger, H: Ledger> House<'_, R, E
             if !self.wait_for_place() {
                 return;
             }
-            let Some(segment) = self.next_segment(least) else {
+            let Some(segment) = self.spool.keep_wait(self.rt, least) else {
                 self.give_place_back();
                 return;
             };

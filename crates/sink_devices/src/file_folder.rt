@@ -33,8 +33,7 @@ pub struct FileFolder<'a, R: Files<File = File> + Log> {
 }
 
 impl<'a, R: Files<File = File> + Log> FileFolder<'a, R> {
-    /// The folder at this path, for the printer of this number, whose next file gets the number `next`, or the first one behind
-    /// it that is free.
+    /// The folder at this path, for the printer of this number, whose next file gets the number `next`.
     pub fn new(rt: &'a R, alloc: Global, printer: u32, path: String, next: u64) -> FileFolder<'a, R>
         ensures cause { result.cause ≡ None }
         ensures is_kept { result.is_kept ≡ false }
@@ -88,21 +87,24 @@ impl<'a, R: Files<File = File> + Log> FileFolder<'a, R> {
         ))
     }
 
-    /// Gives the hidden file the next number that no file has, and answers it. AlreadyExists where each of the numbers that are
-    /// tried is taken.
+    /// The number of the next job's file. It is spent, whatever becomes of the job: so the account says of each job that was printed
+    /// here which file it is.
+    fn take_number(&mut self) -> u64
+        ensures cause { self.new.cause ≡ self.old.cause }
+        ensures is_kept { self.new.is_kept ≡ self.old.is_kept }
+    {
+        let number = self.next;
+        self.next = number.saturating_add(1);
+        number
+    }
+
+    /// Gives the hidden file the next number, and answers it. AlreadyExists where a file has that.
     fn link(&mut self) -> io::Result<u64> {
-        for _tried in 0..TRIES {
-            let number = self.next;
-            self.next = number.saturating_add(1);
-            let path = format!(in self.alloc; "{}/job-{number:010}", self.path)?;
-            // A link, since a rename would write over a file that has the name.
-            match fs::hard_link(self.rt, self.hidden.as_str(), path.as_str()) {
-                Ok(()) => return Ok(number),
-                Err(error) if error.kind() == ErrorKind::AlreadyExists => {}
-                Err(error) => return Err(error),
-            }
-        }
-        Err(Error::new(ErrorKind::AlreadyExists, "all numbers for a file are taken"))
+        let number = self.take_number();
+        let path = format!(in self.alloc; "{}/job-{number:010}", self.path)?;
+        // A link, since a rename would write over a file that has the name.
+        fs::hard_link(self.rt, self.hidden.as_str(), path.as_str())?;
+        Ok(number)
     }
 
     /// Removes the hidden file's name.
@@ -191,6 +193,7 @@ impl<'a, R: Files<File = File> + Log> Folder for FileFolder<'a, R> {
                 Ok(())
             }
             Err(error) => {
+                self.take_number();
                 self.tell_left();
                 Err(self.fail(error))
             }

@@ -1,0 +1,44 @@
+//! Folders that two printers would print to.
+
+use log::{Log, info};
+use program_edge::{Place, PrinterPlace};
+use std::fs;
+use std::fs::Files;
+use std::os::unix::fs::MetadataExt;
+
+/// Which folder of the system a printer prints to: its device and its number there. None where it prints to no folder, or to one that
+/// isn't there.
+fn identity<R: Files>(rt: &R, place: Place<'_>) -> Option<(u64, u64)> {
+    let Place::Folder(path) = place else {
+        return None;
+    };
+    let metadata = fs::metadata(rt, path).ok()?;
+    Some((metadata.dev(), metadata.ino()))
+}
+
+/// The printer among these that prints to the same folder as this one does, if there is one.
+fn sharer<R: Files>(rt: &R, printers: &[PrinterPlace], said: &PrinterPlace) -> Option<u32> {
+    let own = identity(rt, said.place)?;
+    let one = printers
+        .iter()
+        .find(|one| identity(rt, one.place) == Some(own))?;
+    Some(one.printer)
+}
+
+/// The path of the first folder that a printer has of one before it, by whatever path. The log is told which two these are.
+///
+/// A folder is one printer's: else nobody could tell which of its files is whose, and the account says of each job which file it is.
+pub fn shared_folder<'a, R: Files + Log>(rt: &R, printers: &[PrinterPlace<'a>]) -> Option<&'a str> {
+    for at in 0..printers.len() {
+        let said = &printers[at];
+        if let (Place::Folder(path), Some(other)) = (
+            said.place,
+            sharer(rt, &printers[..at], said),
+        ) {
+            let printer = said.printer;
+            info!(rt; "{path}: printer {other} prints to this folder, and a folder is one printer's: printer {printer} needs another one");
+            return Some(path);
+        }
+    }
+    None
+}
