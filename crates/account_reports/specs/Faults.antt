@@ -10,6 +10,7 @@ fault_status (fault.Entry path line) = 6
 fault_status (fault.Follow path line) = 6
 fault_status (fault.Ends path digest) = 6
 fault_status (fault.Printed path line differs file) = 6
+fault_status (fault.Missing path line lacks) = 6
 fault_status (fault.ReadFile path) = 4
 fault_status fault.Memory = 4
 fault_status fault.WriteFile = 4

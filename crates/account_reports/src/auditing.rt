@@ -27,6 +27,8 @@ struct Auditing<'a, 'o, O> {
     /// What was read. None once a line was refused.
     audit: Option<SegmentAudit>,
     rereading: Rereading<'a>,
+    /// Whether nothing was read that could be told to begin amid an account, and nothing was asked of what is before it.
+    is_open: bool,
     output: &'o mut O,
 }
 
@@ -53,6 +55,7 @@ impl<'a, O: OctetWrite> TakeLines<'a> for Auditing<'a, '_, O> {
             }
             Err(fault) => return Err(ReportFault::of_line(fault, path, number)),
         };
+        self.tell_beginning(alloc, &got)?;
         self.rereading
             .take(rt, alloc, self.output, &got, path, number)?;
         if number % STEP == 0 {
@@ -66,6 +69,27 @@ impl<'a, O: OctetWrite> TakeLines<'a> for Auditing<'a, '_, O> {
             return Ok(());
         }
         Err(ReportFault::Line(path, number))
+    }
+}
+
+impl<O: OctetWrite> Auditing<'_, '_, O> {
+    /// Tells where the account begins that is read, where its first segment has another one before it and nobody said which.
+    fn tell_beginning<'a>(
+        &mut self,
+        alloc: Global,
+        got: &SegmentLine,
+    ) -> Result<(), ReportFault<'a>> {
+        let SegmentLine::Origin(origin) = got else {
+            return Ok(());
+        };
+        let is_told = self.is_open && origin.previous.is_some();
+        self.is_open = false;
+        if !is_told {
+            return Ok(());
+        }
+        let number = origin.segment;
+        let line = format!(in alloc; "begins at segment {number}: what came before isn't here\n")?;
+        write_text(self.output, line.as_bytes())
     }
 }
 
@@ -125,10 +149,12 @@ fn audit_files<'a, R: Files<File = File> + Log, O: OctetWrite>(
     request: &AuditRequest<'a>,
     output: &mut O,
 ) -> Result<(), ReportFault<'a>> {
-    let rereading = Rereading::new(alloc, request.printed.as_slice())?;
+    let (printed, taken) = (request.printed.as_slice(), request.taken.as_slice());
+    let rereading = Rereading::new(alloc, printed, taken)?;
     let mut auditing = Auditing {
         audit: Some(SegmentAudit::begin(request.after)),
         rereading,
+        is_open: request.after.is_none(),
         output,
     };
     take_files(&mut auditing, rt, alloc, request.files.as_slice())?;

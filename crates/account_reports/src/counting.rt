@@ -92,9 +92,7 @@ impl<'a> TakeLines<'a> for Counting<'a> {
         if let SegmentLine::Origin(origin) = &got {
             self.counts = is_within(origin, octets_of(self.since), octets_of(self.until));
         }
-        if self.counts {
-            self.table.read(alloc, &got)?;
-        }
+        self.table.read(alloc, &got, self.counts)?;
         Ok(())
     }
 
@@ -107,6 +105,11 @@ impl<'a> TakeLines<'a> for Counting<'a> {
         self.counts = false;
         Ok(())
     }
+}
+
+/// Whether anything counts in a row.
+fn tells(row: &UsageRow) -> bool {
+    row.jobs != 0 || row.sent != 0 || row.printed != 0
 }
 
 /// Puts a row of a table as a line behind a text, its name shown as one word.
@@ -171,7 +174,9 @@ fn write_records(
 fn records_of(alloc: Global, by: Grouping, rows: &[UsageRow]) -> Result<Vec<u8>, AllocError> {
     let mut fields = Vec::new(alloc);
     for row in rows {
-        fields.push(fields_of(alloc, row)?)?;
+        if tells(row) {
+            fields.push(fields_of(alloc, row)?)?;
+        }
     }
     let mut records = csv::WriterBuilder::new()
         .terminator(csv::Terminator::Any(b'\n'))
@@ -186,7 +191,9 @@ fn records_of(alloc: Global, by: Grouping, rows: &[UsageRow]) -> Result<Vec<u8>,
 fn lines_of(alloc: Global, rows: &[UsageRow]) -> Result<Vec<u8>, AllocError> {
     let mut text = Vec::new(alloc);
     for row in rows {
-        put_row(&mut text, alloc, row)?;
+        if tells(row) {
+            put_row(&mut text, alloc, row)?;
+        }
     }
     Ok(text)
 }
@@ -206,6 +213,7 @@ fn tell_usage<'a, R: Files<File = File> + Log, O: OctetWrite>(
         counts: false,
     };
     take_files(&mut counting, rt, alloc, request.files.as_slice())?;
+    counting.table.finish(alloc)?;
     let rows = counting.table.rows();
     if request.csv {
         let text = records_of(alloc, request.by, rows)?;

@@ -11,6 +11,24 @@ use segment_audit::AuditFault;
 use std::alloc::{AllocError, AllocFailed};
 use std::fmt;
 
+/// A job that a printer finished, of which the file isn't there.
+#[derive(Debug, Drop)]
+pub(crate) struct Lacks {
+    /// The printer's number.
+    pub(crate) printer: u32,
+    /// The job's number.
+    pub(crate) job: u64,
+    /// The file that it became; or the folder, where it isn't known which.
+    pub(crate) file: String,
+}
+
+impl fmt::Display for Lacks {
+    fn fmt<W: fmt::Write>(&self, f: &mut fmt::Formatter<W>) -> fmt::Result {
+        let Lacks { printer, job, file } = self;
+        write!(f, "printer {printer} job {job} isn't in {file}")
+    }
+}
+
 /// Why an account isn't told as legal, or isn't told.
 #[derive(Debug, Drop)]
 pub(crate) enum ReportFault<'a> {
@@ -24,6 +42,8 @@ pub(crate) enum ReportFault<'a> {
     Ends(&'a str, String),
     /// By the entry in the line of this number a page was printed that isn't in this file.
     Printed(&'a str, u64, Differs, String),
+    /// By the entry in the line of this number a printer finished a job, of which the file isn't there.
+    Missing(&'a str, u64, Lacks),
     /// The file at this path can't be read.
     ReadFile(&'a str),
     /// Memory was refused.
@@ -60,7 +80,8 @@ impl<'a> ReportFault<'a> {
             | ReportFault::Entry(..)
             | ReportFault::Follow(..)
             | ReportFault::Ends(..)
-            | ReportFault::Printed(..) => 6,
+            | ReportFault::Printed(..)
+            | ReportFault::Missing(..) => 6,
             ReportFault::ReadFile(_) | ReportFault::Memory | ReportFault::WriteFile => 4,
         }
     }
@@ -102,6 +123,9 @@ impl fmt::Display for ReportFault<'_> {
                     f,
                     "fault 83 Printed {path}:{line} printer {printer} job {job} place {place} octet {octet} of {file}"
                 )
+            }
+            ReportFault::Missing(path, line, lacks) => {
+                write!(f, "fault 83 Printed {path}:{line} {lacks}")
             }
             ReportFault::ReadFile(path) => write!(f, "{} {path}", FaultName::ReadFile),
             ReportFault::Memory => write!(f, "{}", FaultName::Memory),

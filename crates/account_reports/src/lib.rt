@@ -5,6 +5,7 @@ mod auditing;
 mod counting;
 mod fault;
 mod files;
+mod folders;
 mod line_reader;
 mod notes;
 mod printers;

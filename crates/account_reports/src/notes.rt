@@ -24,6 +24,8 @@ pub(crate) enum Told {
     Unplaced(u64),
     /// No file of its folder has the pages of the job of this number.
     Missing(u64),
+    /// The file of this number in its folder is that of no job.
+    Stray(u64),
 }
 
 /// A line about a printer.
@@ -61,6 +63,10 @@ impl fmt::Display for Note {
             Told::Missing(job) => {
                 writeln!(f, "not judged {printer}: job {job}, which no file has")
             }
+            Told::Stray(number) => writeln!(
+                f,
+                "not judged {printer}: file job-{number:010}, which no job has"
+            ),
         }
     }
 }

@@ -13,6 +13,8 @@ pub struct AuditRequest<'a> {
     pub ends: Option<[u8; 32]>,
     /// Where printers wrote: each a directory, or a printer's number, an equals sign and its path.
     pub printed: Vec<&'a str>,
+    /// The numbers of the printers from whose folders somebody takes files away, each as decimal digits.
+    pub taken: Vec<&'a str>,
     /// Whether it is asked to tell how far the audit is.
     pub progress: bool,
 }

@@ -1,15 +1,17 @@
 //! What printers wrote, read again beside their account.
 
-use crate::fault::ReportFault;
+use crate::fault::{Lacks, ReportFault};
+use crate::folders::{FolderReread, JobFile};
 use crate::notes::{Told, put_note};
 use crate::printers::{PrintedFile, job_numbers};
-use account::{Entry, Sheet};
+use account::Entry;
 use lpd_commands::OctetWrite;
-use printed_pages::{FolderTrail, PrinterTrail, RunBegins, TrailFault, judge_job};
+use printed_pages::{PrinterTrail, RunBegins, TrailFault};
 use segment_audit::SegmentLine;
 use segment_text::PrinterPlace;
 use std::alloc::{AllocError, Global};
 use std::fs::{File, Files};
+use std::mem;
 
 /// A printer whose file is read again.
 #[derive(Drop)]
@@ -17,19 +19,6 @@ struct FileReread {
     trail: PrinterTrail,
     octets: PrintedFile,
     path: String,
-}
-
-/// A printer whose folder is read again.
-#[derive(Drop)]
-struct FolderReread {
-    trail: FolderTrail,
-    path: String,
-    /// The numbers of the jobs' files that haven't been judged, rising, behind those that have.
-    numbers: Vec<u64>,
-    judged: usize,
-    octets: u64,
-    /// Files may be passed over until one has a job's pages: the run has just begun, and what lies in the folder from before isn't told.
-    may_skip: bool,
 }
 
 /// How a printer is read again.
@@ -41,11 +30,26 @@ enum Reread {
     Folder(FolderReread),
 }
 
+/// A job's file that has other octets, in a folder from which somebody takes files away: it may be that of a later run's job.
+#[derive(Drop)]
+struct Doubt<'r> {
+    printer: u32,
+    job: u64,
+    file: JobFile,
+    fault: ReportFault<'r>,
+}
+
 /// The printers of an account, of which some are read again.
 #[derive(Drop)]
 pub(crate) struct Rereading<'r> {
     /// Each a directory, or a printer's number, an equals sign and a path.
     places: Vec<&'r str>,
+    /// The numbers of the printers from whose folders somebody takes files away.
+    taken: Vec<&'r str>,
+    /// The first job that a printer finished and of which no file is there, where nobody is said to take any away.
+    lacks: Option<ReportFault<'r>>,
+    /// Those of which it is known at the end alone whether they are the files of later jobs.
+    doubts: Vec<Doubt<'r>>,
     /// By the printers' numbers, from 1.
     rereads: Vec<Reread>,
     /// How many lines of printers the head had until now.
@@ -78,52 +82,6 @@ fn path_of(alloc: Global, places: &[&str], printer: u32) -> Result<Option<String
     }
 }
 
-impl FolderReread {
-    /// Judges the file of this number against the pages of a job.
-    fn judge<R: Files<File = File>>(
-        &self,
-        rt: &R,
-        alloc: Global,
-        printer: u32,
-        number: u64,
-        sheets: &[Sheet],
-    ) -> Result<u64, TrailFault> {
-        let path = format!(in alloc; "{}/job-{number:010}", self.path)?;
-        let Ok(mut octets) = PrintedFile::open(rt, path.as_str()) else {
-            return Err(TrailFault::Unread);
-        };
-        judge_job(printer, alloc, &mut octets, sheets)
-    }
-
-    /// Judges the next file against the pages of a job, or where a run has just begun the next one that has them.
-    fn judge_next<R: Files<File = File>>(
-        &mut self,
-        rt: &R,
-        alloc: Global,
-        printer: u32,
-        sheets: &[Sheet],
-    ) -> Result<(), TrailFault> {
-        let mut last = Err(TrailFault::Unread);
-        for at in self.judged..self.numbers.len() {
-            last = self.judge(rt, alloc, printer, self.numbers[at], sheets);
-            if let Ok(octets) = last {
-                self.judged = at + 1;
-                self.octets = self.octets.saturating_add(octets);
-                self.may_skip = false;
-                return Ok(());
-            }
-            if !self.may_skip {
-                break;
-            }
-        }
-        match last {
-            Err(TrailFault::Differs(_)) if self.may_skip => Err(TrailFault::Unread),
-            Ok(_) => Ok(()),
-            Err(fault) => Err(fault),
-        }
-    }
-}
-
 impl Reread {
     /// How the printer of a number and a place is read again, from this path.
     fn open<R: Files<File = File>>(
@@ -137,16 +95,10 @@ impl Reread {
             let Ok(numbers) = job_numbers(rt, alloc, path.as_str()) else {
                 return Ok(Reread::Nowhere);
             };
-            return Ok(Reread::Folder(FolderReread {
-                trail: FolderTrail::new(alloc, printer),
-                path,
-                numbers,
-                judged: 0,
-                octets: 0,
-                may_skip: true,
-            }));
+            let folder = FolderReread::new(alloc, printer, path, numbers);
+            return Ok(Reread::Folder(folder));
         }
-        if place.length.is_none() {
+        if place.begins.is_none() {
             return Ok(Reread::Nowhere);
         }
         match PrintedFile::open(rt, path.as_str()) {
@@ -159,21 +111,21 @@ impl Reread {
         }
     }
 
-    /// A run begins in which the printer's file has this length. What lies before is told.
+    /// A run begins, in which what is printed begins there. What lies before in a file is told.
     fn begin_run<'a, O: OctetWrite>(
         &mut self,
         alloc: Global,
         output: &mut O,
         printer: u32,
-        length: Option<u64>,
+        begins: Option<u64>,
     ) -> Result<(), ReportFault<'a>> {
         match self {
             Reread::Nowhere => Ok(()),
             Reread::Folder(folder) => {
-                folder.may_skip = true;
+                folder.begin_run(begins)?;
                 Ok(())
             }
-            Reread::File(file) => match file.trail.begin_run(length) {
+            Reread::File(file) => match file.trail.begin_run(begins) {
                 RunBegins::There => Ok(()),
                 RunBegins::Behind(octets) => put_note(
                     alloc,
@@ -191,16 +143,20 @@ impl Reread {
         &mut self,
         rt: &R,
         alloc: Global,
-        printer: u32,
         entry: &Entry,
     ) -> Result<(), TrailFault> {
         match self {
             Reread::Nowhere => Ok(()),
             Reread::File(file) => file.trail.take(alloc, &mut file.octets, entry),
-            Reread::Folder(folder) => match folder.trail.take(alloc, entry)? {
-                Some(sheets) => folder.judge_next(rt, alloc, printer, sheets.as_slice()),
-                None => Ok(()),
-            },
+            Reread::Folder(folder) => folder.take(rt, alloc, entry),
+        }
+    }
+
+    /// Which file the last job became, where it is a folder and that is told.
+    fn last_file(&self) -> Option<JobFile> {
+        match self {
+            Reread::Folder(folder) => folder.last_file(),
+            Reread::Nowhere | Reread::File(_) => None,
         }
     }
 
@@ -209,7 +165,7 @@ impl Reread {
         match self {
             Reread::Nowhere => "",
             Reread::File(file) => file.path.as_str(),
-            Reread::Folder(folder) => folder.path.as_str(),
+            Reread::Folder(folder) => folder.path(),
         }
     }
 
@@ -222,7 +178,13 @@ impl Reread {
     ) -> Result<(), ReportFault<'a>> {
         match self {
             Reread::Nowhere => Ok(()),
-            Reread::Folder(folder) => put_note(alloc, output, printer, Told::Judged(folder.octets)),
+            Reread::Folder(folder) => {
+                put_note(alloc, output, printer, Told::Judged(folder.octets()))?;
+                for number in &folder.strays(alloc)? {
+                    put_note(alloc, output, printer, Told::Stray(*number))?;
+                }
+                Ok(())
+            }
             Reread::File(file) => {
                 put_note(alloc, output, printer, Told::Judged(file.trail.judged()))?;
                 let unplaced = file.trail.unjudged();
@@ -245,12 +207,20 @@ impl Reread {
 }
 
 impl<'r> Rereading<'r> {
-    /// The printers at these places: each a directory, or a printer's number, an equals sign and a path.
+    /// The printers at these places: each a directory, or a printer's number, an equals sign and a path; and those from whose folders
+    /// somebody takes files away, by their numbers.
     ///
     /// AllocError where memory is refused.
-    pub(crate) fn new(alloc: Global, places: &[&'r str]) -> Result<Rereading<'r>, AllocError> {
+    pub(crate) fn new(
+        alloc: Global,
+        places: &[&'r str],
+        taken: &[&'r str],
+    ) -> Result<Rereading<'r>, AllocError> {
         Ok(Rereading {
             places: Vec::from_slice(alloc, places)?,
+            taken: Vec::from_slice(alloc, taken)?,
+            lacks: None,
+            doubts: Vec::new(alloc),
             rereads: Vec::new(alloc),
             heads: 0,
             begins_run: false,
@@ -283,22 +253,22 @@ impl<'r> Rereading<'r> {
         }
         match self.rereads.get_mut(at) {
             Some(reread) if self.begins_run => {
-                reread.begin_run(alloc, output, printer, place.length)
+                reread.begin_run(alloc, output, printer, place.begins)
             }
             _ => Ok(()),
         }
     }
 
     /// Reads an entry, in the line of this number of the file at a path.
-    fn take_entry<'a, R: Files<File = File>, O: OctetWrite>(
+    fn take_entry<R: Files<File = File>, O: OctetWrite>(
         &mut self,
         rt: &R,
         alloc: Global,
         output: &mut O,
         entry: &Entry,
-        path: &'a str,
+        path: &'r str,
         line: u64,
-    ) -> Result<(), ReportFault<'a>> {
+    ) -> Result<(), ReportFault<'r>> {
         let Entry::AtPrinter(printer, sheet, _) = entry else {
             return Ok(());
         };
@@ -308,16 +278,21 @@ impl<'r> Rereading<'r> {
         let Some(reread) = self.rereads.get_mut(at as usize) else {
             return Ok(());
         };
-        match reread.take(rt, alloc, *printer, entry) {
+        match reread.take(rt, alloc, entry) {
             Ok(()) => Ok(()),
             Err(TrailFault::Memory) => Err(ReportFault::Memory),
             Err(TrailFault::Differs(differs)) => {
-                let file = String::from_str(alloc, reread.path())?;
-                Err(ReportFault::Printed(path, line, differs, file))
+                let text = String::from_str(alloc, reread.path())?;
+                let (job, file) = (differs.job, reread.last_file());
+                let fault = ReportFault::Printed(path, line, differs, text);
+                self.doubt(*printer, job, file, fault)
             }
             Err(TrailFault::Unread) => {
-                if let Reread::Folder(_) = reread {
-                    return put_note(alloc, output, *printer, Told::Missing(sheet.job));
+                if let Reread::Folder(folder) = reread {
+                    let file = folder.wanted(alloc)?;
+                    put_note(alloc, output, *printer, Told::Missing(sheet.job))?;
+                    let (printer, job) = (*printer, sheet.job);
+                    return self.miss(path, line, Lacks { printer, job, file });
                 }
                 *reread = Reread::Nowhere;
                 put_note(alloc, output, *printer, Told::Unread)
@@ -325,18 +300,81 @@ impl<'r> Rereading<'r> {
         }
     }
 
+    /// A job's file has other octets: that is a fault, or where somebody takes files away from that folder it may be another job's.
+    fn doubt(
+        &mut self,
+        printer: u32,
+        job: u64,
+        file: Option<JobFile>,
+        fault: ReportFault<'r>,
+    ) -> Result<(), ReportFault<'r>> {
+        let Some(file) = file else {
+            return Err(fault);
+        };
+        if !self.is_taken(printer) {
+            return Err(fault);
+        }
+        self.doubts.push(Doubt {
+            printer,
+            job,
+            file,
+            fault,
+        })?;
+        Ok(())
+    }
+
+    /// Whether it is said that somebody takes files away from this printer's folder.
+    fn is_taken(&self, printer: u32) -> bool {
+        self.taken.iter().any(|taken| taken.parse() == Ok(printer))
+    }
+
+    /// Whether a later job of a printer became the same file.
+    fn is_later(&self, printer: u32, file: JobFile) -> bool {
+        let Some(at) = printer.checked_sub(1) else {
+            return false;
+        };
+        match self.rereads.get(at as usize) {
+            Some(Reread::Folder(folder)) => folder.is_later(file),
+            _ => false,
+        }
+    }
+
+    /// Settles the files of which nothing was known before the end: each is a later job's, which is told, or else that is a fault.
+    fn settle_doubts<O: OctetWrite>(
+        &mut self,
+        alloc: Global,
+        output: &mut O,
+    ) -> Result<(), ReportFault<'r>> {
+        let doubts = mem::replace(&mut self.doubts, Vec::new(alloc));
+        for doubt in doubts {
+            if !self.is_later(doubt.printer, doubt.file) {
+                return Err(doubt.fault);
+            }
+            put_note(alloc, output, doubt.printer, Told::Missing(doubt.job))?;
+        }
+        Ok(())
+    }
+
+    /// A job has no file. Where nobody is said to take files away from that folder that is a fault, which is told at the end.
+    fn miss(&mut self, path: &'r str, line: u64, lacks: Lacks) -> Result<(), ReportFault<'r>> {
+        if !self.is_taken(lacks.printer) && self.lacks.is_none() {
+            self.lacks = Some(ReportFault::Missing(path, line, lacks));
+        }
+        Ok(())
+    }
+
     /// Reads a line that an audit has taken, of this number of the file at a path. What isn't judged is told.
     ///
     /// `Printed` where what was printed isn't what the account says, `WriteFile` where a line can't be written, `Memory`.
-    pub(crate) fn take<'a, R: Files<File = File>, O: OctetWrite>(
+    pub(crate) fn take<R: Files<File = File>, O: OctetWrite>(
         &mut self,
         rt: &R,
         alloc: Global,
         output: &mut O,
         got: &SegmentLine,
-        path: &'a str,
+        path: &'r str,
         line: u64,
-    ) -> Result<(), ReportFault<'a>> {
+    ) -> Result<(), ReportFault<'r>> {
         if self.places.is_empty() {
             return Ok(());
         }
@@ -353,16 +391,22 @@ impl<'r> Rereading<'r> {
     }
 
     /// The account has ended: for each printer that was read again is told what was judged, and what wasn't.
-    pub(crate) fn end<'a, O: OctetWrite>(
+    ///
+    /// `Missing` with the first job of which no file is there, once all that is told.
+    pub(crate) fn end<O: OctetWrite>(
         &mut self,
         alloc: Global,
         output: &mut O,
-    ) -> Result<(), ReportFault<'a>> {
+    ) -> Result<(), ReportFault<'r>> {
         let mut printer = 0;
         for reread in self.rereads.iter_mut() {
             printer = u32::saturating_add(printer, 1);
             reread.end(alloc, output, printer)?;
         }
-        Ok(())
+        self.settle_doubts(alloc, output)?;
+        match self.lacks.take() {
+            Some(lacks) => Err(lacks),
+            None => Ok(()),
+        }
     }
 }
