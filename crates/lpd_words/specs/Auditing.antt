@@ -2,13 +2,13 @@
 use Rattle.std.specs.Prelude.{◌≡◌, ◌∷◌, ℕ, List, None, Option, Some, codes, map, option_map, true, [], unwrap_or}
 use Rattle.account_text.specs.Reading.{digest_of}
 use Rattle.clap.specs.Words.{App, Row, Rule, Text, all_of, first_of, new_app}
-use Rattle.lpd_words.specs.Rules.{flag, option, repeated, with_rules, word}
+use Rattle.lpd_words.specs.Rules.{counts, flag, option, repeated, with_rules, word}
 use Rattle.lpd_words.specs.Values.{IsFlag}
 use Rattle.account_reports.specs.declared.request.AuditRequest.{AuditRequest}
 use Rattle.account_usage.specs.declared.grouping.Grouping.{Grouping}
 use Rattle.account_usage.specs.declared.grouping.Grouping.TheVariants.{Host, Queue, User}
 use Rattle.account_reports.specs.declared.request.UsageRequest.{UsageRequest}
-use Rattle.segment_text.specs.Reading.{fits_shape}
+use Rattle.segment_text.specs.Reading.{is_time}
 
 -- the files of segments: 1 to 65,536
 abbrev pub segment_files : Rule
@@ -19,7 +19,7 @@ segment_files =
 abbrev pub audit_words : List Rule
 audit_words =
     segment_files ∷ option (codes "after") ∷ option (codes "ends") ∷ repeated (codes "printed")
-    ∷ flag (codes "progress") ∷ []
+    ∷ counts (codes "taken") ∷ flag (codes "progress") ∷ []
 
 abbrev pub audit_app : App
 audit_app = with_rules (new_app (codes "audit")) audit_words
@@ -46,7 +46,7 @@ IsDigest id rows (Some digest) =
 abbrev pub IsTime : Text → List Row → Option Text → Type 0
 IsTime id rows None = first_of id rows ≡ None
 IsTime id rows (Some time) =
-    (first_of id rows ≡ Some time) × (fits_shape time (codes "0000-00-00T00:00:00Z") ≡ true)
+    (first_of id rows ≡ Some time) × (is_time time ≡ true)
 
 -- the name of what usage is told by
 abbrev pub grouping_name : Grouping → Text
@@ -64,6 +64,7 @@ pub record IsAuditRequest (rows : List Row) (request : AuditRequest) : Type 0 wh
   pub after : IsDigest (codes "after") rows request.after
   pub ends : IsDigest (codes "ends") rows request.ends
   pub printed : map (λ place. place.now) request.printed.items ≡ unwrap_or (all_of (codes "printed") rows) []
+  pub taken : map (λ printer. printer.now) request.taken.items ≡ unwrap_or (all_of (codes "taken") rows) []
   pub progress : IsFlag rows (codes "progress") request.progress
 
 -- what was used is asked for by these rows

@@ -20,7 +20,7 @@ use Rattle.lpd_words.specs.Asked.{ChecksPrinters, IsAsked}
 use Rattle.lpd_words.specs.Auditing.{grouping_name}
 use Rattle.lpd_words.specs.Checking.{IsChecking}
 use Rattle.account_usage.specs.declared.grouping.Grouping.{Grouping}
-use Rattle.segment_text.specs.Reading.{fits_shape}
+use Rattle.segment_text.specs.Reading.{is_time}
 use Rattle.lpd_words.specs.declared.checking.Checking.{Checking}
 use Rattle.lpd_words.specs.Serving.{AreLimits, AreNetworks, AreOfDifferentPrinters, ArePrinterLimits, IsLog}
 use Rattle.program_edge.specs.declared.settings.TheConstants.{MOST_CONTROL_PATH}
@@ -296,7 +296,7 @@ HasNoDigest id rows fault = ⊥
 abbrev pub HasNoTime : Text → List Row → WordFault → Type 0
 HasNoTime id rows (envelope.Time text) =
     (first_of id rows ≡ Some (string_bytes text))
-    × (fits_shape (string_bytes text) (codes "0000-00-00T00:00:00Z") ≡ false)
+    × (is_time (string_bytes text) ≡ false)
 HasNoTime id rows envelope.Memory = Unit {0}
 HasNoTime id rows fault = ⊥
 

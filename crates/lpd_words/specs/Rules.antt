@@ -56,6 +56,10 @@ number_option id range = record (option id) { parser = Some range }
 abbrev pub count : Text → Rule
 count id = number_option id (parser.Signed (pos 1) (pos 4294967295))
 
+-- an option whose value counts something, that may stand several times
+abbrev pub counts : Text → Rule
+counts id = record (count id) { action = Some Append }
+
 -- an option without a value, --id
 abbrev pub flag : Text → Rule
 flag id = record (new_rule id) { long = Some id; action = Some SetTrue }

@@ -17,7 +17,15 @@ size_line c queue =
     codes "queue " ++ (C.queue_at c queue).name ++ codes " jobs " ++ decimal (jobs_that_fit c queue)
     ++ few_text (jobs_that_fit c queue) ++ 10 ∷ []
 
--- a line for each of the first so many queues
+-- how many jobs of a queue may be held at once, each as large as the queue allows, where the account is trimmed: that is done once a
+-- quarter of it is counted for jobs that are gone
+abbrev pub jobs_held : C.Config → ℕ → ℕ
+jobs_held c queue = (c.account - c.account / 4 - 1) / C.reserve_of c queue
+
+abbrev pub held_line : C.Config → ℕ → List ℕ
+held_line c queue = codes "queue " ++ (C.queue_at c queue).name ++ codes " held " ++ decimal (jobs_held c queue) ++ 10 ∷ []
+
+-- two lines for each of the first so many queues
 abbrev pub size_lines : C.Config → ℕ → List ℕ
 size_lines c zero = []
-size_lines c (suc n) = size_lines c n ++ size_line c (suc n)
+size_lines c (suc n) = (size_lines c n ++ size_line c (suc n)) ++ held_line c (suc n)

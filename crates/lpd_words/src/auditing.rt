@@ -8,7 +8,7 @@ ghost use Rattle.lpd_words.specs.Refused.{HasNoDigest, HasNoGrouping, HasNoTime,
 ghost use Rattle.lpd_words.specs.Rules.{IsCommand, IsWord};
 
 use crate::envelope::WordFault;
-use crate::rules::{flag, option, plain, repeated, with_words, word};
+use crate::rules::{counts, flag, option, plain, repeated, with_words, word};
 use crate::values::{flag_of, text_if, text_or, texts_of};
 use account_reports::{AuditRequest, UsageRequest};
 use account_usage::Grouping;
@@ -24,16 +24,19 @@ Each FILE is a segment of an account, as `serve --account DIR` writes it; they a
 that it can be read, that a legal account may have it there, and that each segment follows on the one before it. Prints
   legal segments 2 entries 26 jobs 2 done 2 removed 0 failed 0 aborted 0
   ends DIGEST
-The first segment is taken as it is, or with --after only where it names DIGEST, in which an earlier one ended.
+The first segment begins from a moment without held jobs; where others came before it that is told, but with --after it is taken
+only where it names DIGEST, in which the one before it ended.
 With --printed what printers wrote is compared with the pages that the account says they printed, by length and SHA-256.
 PLACE is the DIR of `serve --out`, for each printer that prints to a file there, or K=PATH, the file or folder of printer K.
 Then a line for each of these printers, and one for each part of a file that nothing is said of:
   printed 1 octets 40961
   not judged 1: 2047 octets between two runs
+In a folder each job that was printed has its file, by its number. One that isn't there is a fault, but with --taken K a line.
 Whoever can write the account can write all of it anew: compare its end with a digest that was kept elsewhere (--ends).
 
 Faults, each with the file and its line, exit status 6: 80 Line, one that can't be read; 81 Entry, one that may not come there;
-82 Follow, a segment that doesn't follow, or an end that isn't DIGEST; 83 Printed, octets that aren't those of a page.
+82 Follow, a segment that doesn't follow, or an end that isn't DIGEST; 83 Printed, octets that aren't those of a page, or a file
+that isn't there.
 
 Examples:
   lpd_server audit /var/lib/hurgwaye/account/segment-*
@@ -68,12 +71,14 @@ pub(crate) fn audit<'a>(alloc: Global) -> Result<Command<'a>, AllocError>
     let after = "Takes the first segment only where it follows on the one that ends in DIGEST";
     let ends = "Asks whether the last segment ends in DIGEST, which was kept elsewhere";
     let printed = "Compares what printers wrote with it: PLACE is a directory, or K=PATH";
+    let taken = "Says that somebody takes files away from the folder of printer K";
     let progress = "Tells on standard error how far it is, where that is no terminal too";
     let words = vec![in alloc;
         segment_files(alloc),
         option(alloc, "after", "DIGEST", after),
         option(alloc, "ends", "DIGEST", ends),
         repeated(alloc, "printed", "PLACE", printed),
+        counts(alloc, "taken", "K", taken),
         flag(alloc, "progress", progress),
     ]?;
     with_words(plain(alloc, "audit", about, MORE_OF_AUDIT), words)
@@ -156,6 +161,17 @@ fn printed_of<'a>(alloc: Global, matches: &ArgMatches<'a>) -> Result<Vec<&'a str
     }
 }
 
+/// From which printers' folders files are taken away, as the words tell it. AllocError where memory is refused.
+fn taken_of<'a>(alloc: Global, matches: &ArgMatches<'a>) -> Result<Vec<&'a str>, AllocError>
+    ensures { IfOk result (λ taken. map (λ printer. printer.now) taken.items
+        ≡ unwrap_or (all_of (codes "taken") (rows_of (found_of matches.now))) []) }
+{
+    match texts_of(matches, "taken") {
+        Ok(taken) => Vec::from_slice(alloc, taken),
+        Err(_) => Ok(Vec::new(alloc)),
+    }
+}
+
 /// What words say of an audit.
 pub(crate) fn audit_of<'a>(
     alloc: Global,
@@ -170,6 +186,7 @@ pub(crate) fn audit_of<'a>(
         after: digest_of(alloc, matches, "after")?,
         ends: digest_of(alloc, matches, "ends")?,
         printed: printed_of(alloc, matches)?,
+        taken: taken_of(alloc, matches)?,
         progress: flag_of(matches, "progress"),
     })
 }

@@ -18,8 +18,9 @@ use std::alloc::{AllocError, Global};
 
 const MORE_OF_CHECK: &str = "\
 Prints one line, as: ok pages 1024 page_size 4096 queues 2 printers 3
-With --sizes a line more for each queue, as: queue lp jobs 622
-So many jobs fit into the account, each as large as the queue allows, between two moments without held jobs.
+With --sizes two lines more for each queue, as: queue lp jobs 85, queue lp held 64
+So many jobs fit into the account, each as large as the queue allows, between two moments without held jobs; and so many of them
+may be held at once by a server with --keep-room, which takes any number one after another.
 With --printer, whose PLACE `serve --help` tells, a line more for each printer, as: printer 1 socket://10.0.0.9:9100
 A printer without a PLACE prints to a file of the directory that `serve --out DIR` names: printer 2 DIR/printer-2
 With --out, --control, --spool and --account at last a line for each, in this order, as:

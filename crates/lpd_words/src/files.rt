@@ -9,7 +9,7 @@ ghost use Rattle.lpd_words.specs.Causes.{IsRunFault};
 ghost use Rattle.lpd_words.specs.Order.{Checked, IsConfigFault, IsMissed, IsSpoolFault, ReadsConfig};
 ghost use Rattle.lpd_words.specs.Order.{StopsAt, write_faults};
 ghost use Rattle.lpd_words.specs.Places.{AreThere};
-ghost use Rattle.lpd_words.specs.Sizes.{few_text, size_line, size_lines};
+ghost use Rattle.lpd_words.specs.Sizes.{few_text, held_line, size_line, size_lines};
 ghost use Rattle.lpd_words.specs.Summary.{check_text, spool_text, summary_line};
 ghost use Rattle.spool_config.specs.Answers.{fault_of};
 ghost use Rattle.spool_config.specs.declared.settings.ConfigFault.{ConfigFault};
@@ -94,7 +94,20 @@ fn size_line(alloc: Global, config: &Config, queue: u32) -> Result<Vec<u8>, Allo
     Ok(line)
 }
 
-/// A line for each queue: how many jobs of it fit into the account.
+/// The line of a queue: how many jobs of it may be held at once, each as large as the queue allows, where the account is trimmed. That
+/// is done once a quarter of it is counted for jobs that are gone.
+fn held_line(alloc: Global, config: &Config, queue: u32) -> Result<Vec<u8>, AllocError>
+    ensures { IfOk result (λ line. line.items ≡ held_line config.now queue) }
+{
+    let account = config.account();
+    let jobs = (account - account / 4).saturating_sub(1) / config.reserve_of(queue);
+    let mut line = Vec::from_slice(alloc, b"queue ")?;
+    line.extend_from_slice(config.name_of(queue))?;
+    line.extend_from_slice(format!(in alloc; " held {jobs}\n")?.as_bytes())?;
+    Ok(line)
+}
+
+/// Two lines for each queue: how many jobs of it fit into the account, and how many may be held at once.
 fn size_lines(alloc: Global, config: &Config) -> Result<Vec<u8>, AllocError>
     ensures { IfOk result (λ text.
         text.items ≡ size_lines config.now (length config.now.queues)) }
@@ -102,6 +115,7 @@ fn size_lines(alloc: Global, config: &Config) -> Result<Vec<u8>, AllocError>
     let mut text = Vec::new(alloc);
     for place in 0..config.queues().len() {
         text.extend_from_slice(size_line(alloc, config, place as u32 + 1)?.as_slice())?;
+        text.extend_from_slice(held_line(alloc, config, place as u32 + 1)?.as_slice())?;
     }
     Ok(text)
 }
@@ -154,7 +168,7 @@ fn check_text(
 }
 
 /// Reads a configuration to its end, and prints what spool it is for; where sizes are asked for, also
-/// how many jobs of each queue fit into the account; and where anything is said of printers, what
+/// how many jobs of each queue fit into the account, and may be held at once; and where anything is said of printers, what
 /// each of them prints to. Answers the first fault: `ReadFile`, a fault of the configuration,
 /// `Printer` where one isn't there, `WriteFile`, and `Memory`.
 pub fn check<I: OctetRead, W: OctetWrite>(

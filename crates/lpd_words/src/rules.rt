@@ -3,7 +3,7 @@
 ghost use Rattle.std.specs.Prelude.{◌≡◌, IfOk, false, map};
 ghost use Rattle.clap.specs.Words.{app_of, new_app, rule_of};
 ghost use Rattle.clap.specs.declared.builder.command.Command.TheViews.{out-Command as fields_of};
-ghost use Rattle.lpd_words.specs.Rules.{AreLocal, IsCommand, IsWord, count, flag, number};
+ghost use Rattle.lpd_words.specs.Rules.{AreLocal, IsCommand, IsWord, count, counts, flag, number};
 ghost use Rattle.lpd_words.specs.Rules.{number_option, option, optional_words, repeated, with_rules};
 ghost use Rattle.lpd_words.specs.Rules.{word, words};
 
@@ -88,6 +88,13 @@ pub(crate) fn count<'a>(alloc: Global, id: &'a str, name: &'a str, help: &'a str
     ensures { IsWord result (count id.now) }
 {
     number_option(alloc, id, name, help, ValueParser::signed(1, 4_294_967_295))
+}
+
+/// An option whose value counts something, that may stand several times.
+pub(crate) fn counts<'a>(alloc: Global, id: &'a str, name: &'a str, help: &'a str) -> Arg<'a>
+    ensures { IsWord result (counts id.now) }
+{
+    count(alloc, id, name, help).action(ArgAction::Append)
 }
 
 /// An option without a value, `--ID`.

@@ -42,6 +42,7 @@ use log::Log;
 use lpd_commands::{OctetRead, OctetWrite, write_all};
 use lpd_script::{read_all, run_input};
 use lpr_client::{DataFile, FileName, Octets, SendFault, job_length, send_job};
+use printer_devices::shared_folder;
 use program_edge::{PrinterPlace, Settings, StreamReader, StreamWriter, tell, tell_cause};
 use std::alloc::{AllocError, Global};
 use std::fs::{File, Files};
@@ -244,6 +245,9 @@ fn check_places<R: Files<File = File> + Log, N: Net, W: OctetWrite>(
     ensures write_fault { W.faults output.new ≡ write_faults (W.faults output.old) result }
     ensures fault { IfErr result (λ fault. status_of fault ≢ 1) }
 {
+    if let Some(path) = shared_folder(rt, checking.printers.as_slice()) {
+        return Err(Fault::Folder(String::from_str(alloc, path)?));
+    }
     if let Some(path) = checking.out {
         check_out(alloc, rt, path, output)?;
     }

@@ -26,14 +26,14 @@ const EXAMPLE: &[u8] = b"\
 pages = 1024
 page_size = 65536
 max_jobs = 64
-account = 16000000
+account = 2600000
 [[queue]]
 name = \"lp\"
 limit = 128
 printers = 1
 [[queue]]
 name = \"plotter\"
-limit = 512
+limit = 256
 printers = 2
 ";
 
@@ -49,7 +49,7 @@ const FEW: &[u8] = b"pages = 2600\npage_size = 8\nmax_jobs = 8\naccount = 515600
 ///
 /// A configuration is a script of bad lines, and a script is no configuration. A file that can't be read comes before a fault of the
 /// configuration.
-const TOLD: [(&str, &[u8], &[u8]); 52] = [
+const TOLD: [(&str, &[u8], &[u8]); 53] = [
     ("", SCRIPT, b"free 4\nstatus 0\n"),
     ("", CONFIG, b"status 0\n"),
     (
@@ -65,15 +65,15 @@ const TOLD: [(&str, &[u8], &[u8]); 52] = [
     (
         "check,FILE,--sizes",
         EXAMPLE,
-        b"ok pages 1024 page_size 65536 queues 2 printers 3\nqueue lp jobs 622\nqueue plotter jobs 156\nstatus 0\n",
+        b"ok pages 1024 page_size 65536 queues 2 printers 3\nqueue lp jobs 101\nqueue lp held 75\nqueue plotter jobs 50\nqueue plotter held 38\nstatus 0\n",
     ),
     (
         "check,--sizes,FILE",
         FEW,
         b"ok pages 2600 page_size 8 queues 3 printers 3\n\
-          queue fifty jobs 50\n\
-          queue few jobs 49, too few: a larger account or larger pages make room\n\
-          queue none jobs 0, too few: a larger account or larger pages make room\nstatus 0\n",
+          queue fifty jobs 50\nqueue fifty held 38\n\
+          queue few jobs 49, too few: a larger account or larger pages make room\nqueue few held 37\n\
+          queue none jobs 0, too few: a larger account or larger pages make room\nqueue none held 0\nstatus 0\n",
     ),
     (
         "check,FILE,--printer,2=socket://10.0.0.9:65535,--printer,1=folder:jobs",
@@ -84,13 +84,19 @@ const TOLD: [(&str, &[u8], &[u8]); 52] = [
     (
         "check,FILE,--sizes,--printer,3=file:/dev/usb/lp0",
         EXAMPLE,
-        b"ok pages 1024 page_size 65536 queues 2 printers 3\nqueue lp jobs 622\nqueue plotter jobs 156\n\
+        b"ok pages 1024 page_size 65536 queues 2 printers 3\nqueue lp jobs 101\nqueue lp held 75\nqueue plotter jobs 50\nqueue plotter held 38\n\
           printer 1 DIR/printer-1\nprinter 2 DIR/printer-2\nprinter 3 file:/dev/usb/lp0\nstatus 0\n",
     ),
     (
         "check,FILE,--printer,1=file:x,--printer,9=socket://10.0.0.9:0515,--printer,8=file:x",
         EXAMPLE,
         b"printer 9 isn't there: 9=socket://10.0.0.9:515\nstatus 1\n",
+    ),
+    (
+        "check,FILE,--printer,1=folder:/tmp,--printer,3=folder:/tmp/",
+        EXAMPLE,
+        b"ok pages 1024 page_size 65536 queues 2 printers 3\n\
+          printer 1 folder:/tmp\nprinter 2 DIR/printer-2\nprinter 3 folder:/tmp/\nfault 73 WriteFile /tmp/\nstatus 4\n",
     ),
     (
         "check,FILE,--printer,9=file:x",
@@ -105,7 +111,7 @@ const TOLD: [(&str, &[u8], &[u8]); 52] = [
     (
         "check,FILE,--sizes,--spool=no-folder-is-here//,--printer,1=file:x",
         CONFIG,
-        b"ok pages 4 page_size 8 queues 1 printers 1\nqueue lp jobs 140\nprinter 1 file:x\n\
+        b"ok pages 4 page_size 8 queues 1 printers 1\nqueue lp jobs 140\nqueue lp held 105\nprinter 1 file:x\n\
           spool no-folder-is-here// will be made\nstatus 0\n",
     ),
     (
@@ -296,12 +302,12 @@ const TOLD: [(&str, &[u8], &[u8]); 52] = [
     (
         "audit,segment-1,segment-2",
         b"",
-        b"audits AuditRequest { files: [\"segment-1\", \"segment-2\"], after: None, ends: None, printed: [], progress: false }\n",
+        b"audits AuditRequest { files: [\"segment-1\", \"segment-2\"], after: None, ends: None, printed: [], taken: [], progress: false }\n",
     ),
     (
-        "audit,--printed,pages,a,--printed=3=/srv/x,--after,0000000000000000000000000000000000000000000000000000000000000001,--progress,--ends=FF00000000000000000000000000000000000000000000000000000000000000",
+        "audit,--printed,pages,a,--printed=3=/srv/x,--taken,3,--taken=2,--after,0000000000000000000000000000000000000000000000000000000000000001,--progress,--ends=FF00000000000000000000000000000000000000000000000000000000000000",
         b"",
-        b"audits AuditRequest { files: [\"a\"], after: Some([0, 0, 0, 0, 0, 0, 0, 0, 0, 0, 0, 0, 0, 0, 0, 0, 0, 0, 0, 0, 0, 0, 0, 0, 0, 0, 0, 0, 0, 0, 0, 1]), ends: Some([255, 0, 0, 0, 0, 0, 0, 0, 0, 0, 0, 0, 0, 0, 0, 0, 0, 0, 0, 0, 0, 0, 0, 0, 0, 0, 0, 0, 0, 0, 0, 0]), printed: [\"pages\", \"3=/srv/x\"], progress: true }\n",
+        b"audits AuditRequest { files: [\"a\"], after: Some([0, 0, 0, 0, 0, 0, 0, 0, 0, 0, 0, 0, 0, 0, 0, 0, 0, 0, 0, 0, 0, 0, 0, 0, 0, 0, 0, 0, 0, 0, 0, 1]), ends: Some([255, 0, 0, 0, 0, 0, 0, 0, 0, 0, 0, 0, 0, 0, 0, 0, 0, 0, 0, 0, 0, 0, 0, 0, 0, 0, 0, 0, 0, 0, 0, 0]), printed: [\"pages\", \"3=/srv/x\"], taken: [\"3\", \"2\"], progress: true }\n",
     ),
     (
         "usage,a",
@@ -484,7 +490,10 @@ audit
 audit,a,--ends,12
 audit,a,--after,x00000000000000000000000000000000000000000000000000000000000000f
 usage,a,--by,printer
+audit,a,--taken,0
+audit,a,--taken,x
 usage,a,--since,yesterday
+usage,a,--since,2026-02-30T22:00:00Z
 usage,a,--until,2026-11-26 22:00:00
 ";
 
