@@ -40,7 +40,7 @@ def files():
 
 # -- options
 
-MADE = re.compile(r'\b(option|count|repeated|number_option|flag)\(\s*alloc,\s*"([a-z-]+)"(?:,\s*"([^"]+)")?')
+MADE = re.compile(r'\b(option|counts|count|repeated|number_option|flag)\(\s*alloc,\s*"([a-z-]+)"(?:,\s*"([^"]+)")?')
 COMMAND = re.compile(r'\bplain\(alloc, "([a-z]+)"')
 
 

@@ -2,8 +2,8 @@
 # Runs all rows and tests by `rt try`, and each program on its stored run: what is compiled is run, and nothing is proved. It says
 # where `rt version` is none of the kits that the README names, and on standard error which crate has ended; then comes what failed, and
 # a line for each crate. The last line is 'N passed, M failed', where a stored run counts as one, and so do docs/TRUSTED.md, which must
-# not be stale, the names and options that documents and comments tell of, which must be there, the rooms of crates.txt, and the commands of the first page;
-# the exit status is 0 only where none failed. As many crates are tried at a time as there are processors, or as RT_JOBS says; each
+# not be stale, the names and options that documents and comments tell of, which must be there, the rooms of crates.txt, the commands of the first page, and
+# each scene of tools/scenes in its short form, but for those that measure time or memory; the exit status is 0 only where none failed. As many crates are tried at a time as there are processors, or as RT_JOBS says; each
 # takes up to 2 GB of memory.
 set -u
 cd "$(dirname "${BASH_SOURCE[0]}")/.." || exit 2
@@ -64,7 +64,7 @@ add() {
 with_tests=$(grep -rl '^ *#\[test\]' crates/*/src beside/*/src | cut -d/ -f2 | sort -u)
 programs=$(for file in crates/*/stdout beside/*/stdout; do basename "$(dirname "$file")"; done)
 all=$(echo $with_tests $programs | wc -w)
-echo "$all crates, $lanes at a time, in some five minutes where four processors are idle; then the first page" >&2
+echo "$all crates, $lanes at a time, in some five minutes where four processors are idle; then the first page and the scenes, in ten more" >&2
 for crate in $with_tests; do
     start "$crate tests" "$crate" --test
 done
@@ -101,9 +101,15 @@ for crate in $programs; do
         add "$crate" 0 1
     fi
 done
-# The commands of the first page, by the program.
+# The commands of the first page, by the program, and the scenes in their short form.
 if bash tools/program.sh "$folder/lpd_server" && bash tools/first-page.sh "$folder/lpd_server"; then
     passed=$((passed + 1))
+    CHECKED=1 bash tools/scenes.sh --short "$folder/lpd_server" > "$folder/scenes"
+    grep ': FAILED: ' "$folder/scenes"
+    read -r good bad < <(sed -n '$s/^\([0-9]*\) passed, \([0-9]*\) failed$/\1 \2/p' "$folder/scenes") || true
+    echo "scenes: ${good:-0} passed, ${bad:-1} failed"
+    passed=$((passed + ${good:-0}))
+    failed=$((failed + ${bad:-1}))
 else
     failed=$((failed + 1))
 fi

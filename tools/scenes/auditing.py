@@ -262,6 +262,149 @@ def measured(*line):
         return process.returncode, why.read(), used.ru_maxrss
 
 
+def folders():
+    """Each job that was printed in a folder has its file there, by its number: one that is changed, taken away, or added is told, and with --taken
+    files may be gone; a name that is taken is a job without a file; a second printer of the folder is refused."""
+    with Books("--keep-room") as room:
+        jobs = f"{room.folder}/jobs"
+        os.mkdir(jobs)
+        room.words = ("--keep-room", "--printer", f"1=folder:{jobs}")
+        names = lambda: sorted(name for name in os.listdir(jobs) if name.startswith("job-"))
+        place = ("--printed", f"1={jobs}")
+
+        def run(*texts):
+            room.start()
+            for number, text in enumerate(texts):
+                check(send(room.port, number, text) == 0, "a job isn't taken")
+            room.stop()
+
+        def told(label, status, out, why, *words):
+            got = room.audit(*place, *words)
+            check(got[0] == status and re.search(out, got[1]) and re.match(why, got[2]), f"{label}: {got}")
+
+        run(b"one", b"two" * 2000, b"three")
+        check(names() == ["job-0000000001", "job-0000000002", "job-0000000003"], names())
+        told("as it is", 0, "printed 1 octets 6008\n$", "$")
+        run(b"four", b"five")
+        told("two runs", 0, "printed 1 octets 6016\n$", "$")
+        # a file changed, exchanged, taken, added
+        kept = f"{room.folder}/kept"
+        shutil.copytree(jobs, kept)
+
+        def again():
+            shutil.rmtree(jobs)
+            shutil.copytree(kept, jobs)
+
+        with open(f"{jobs}/job-0000000003", "wb") as file:
+            file.write(b"thref")
+        told("changed", 6, "", r"fault 83 Printed \S+ printer 1 job 3 place 0 octet 0 of ")
+        told("changed, and others are taken", 6, "", r"fault 83 Printed \S+ printer 1 job 3 ", "--taken", "1")
+        again()
+        os.rename(f"{jobs}/job-0000000001", f"{jobs}/job-0000000009")
+        told("renamed", 6, "not judged 1: job 1, which no file has\n(.*\n)*not judged 1: file job-0000000009, which no job has\n",
+             r"fault 83 Printed \S+ printer 1 job 1 isn't in \S+/job-0000000001\n")
+        told("renamed, and taken", 0, "not judged 1: job 1, which no file has\n", "$", "--taken", "1")
+        told("another printer's are taken", 6, "", "fault 83 ", "--taken", "2")
+        again()
+        shutil.copy(f"{jobs}/job-0000000001", f"{jobs}/job-0000000010")
+        told("added", 0, "not judged 1: file job-0000000010, which no job has\n", "$")
+        again()
+        # a name that is taken while a server runs
+        room.start()
+        with open(f"{jobs}/job-0000000006", "wb") as file:
+            file.write(b"somebody's")
+        check(send(room.port, 1, b"six") == 0 and send(room.port, 2, b"seven") == 0, "a job isn't taken")
+        for _ in range(100):
+            if "job-0000000007" in names():
+                break
+            time.sleep(0.05)
+        room.stop()
+        check(open(f"{jobs}/job-0000000007", "rb").read() == b"seven", names())
+        check(open(f"{jobs}/job-0000000006", "rb").read() == b"somebody's", names())
+        told("a name that was taken", 6, "", r"fault 83 Printed \S+ printer 1 job 1 place 0 octet 0 of ")
+        # all files are taken away: the next run begins with 1 again, and an audit that is told so goes by its files
+        for name in names():
+            os.remove(f"{jobs}/{name}")
+        run(b"eight")
+        check(names() == ["job-0000000001"], names())
+        told("taken and begun again", 0, "not judged 1: job 1, which no file has\n(.*\n)*printed 1 octets 5\n", "$", "--taken", "1")
+        told("nobody said so", 6, "", "fault 83 ")
+        # a second printer of the folder, by another path
+        os.symlink(jobs, f"{room.folder}/link")
+        two = ("--printer", f"1=folder:{jobs}", "--printer", f"2=folder:{room.folder}/link")
+        for words in (("check", f"{room.folder}/spool.toml"), ("serve", f"{room.folder}/spool.toml", "--port", str(room.port), "--account", room.account)):
+            ran = subprocess.run([PROGRAM, *words, *two], capture_output=True, text=True, timeout=30)
+            check(ran.returncode == 4 and f"fault 73 WriteFile {room.folder}/link" in ran.stderr, f"{ran.returncode} {ran.stdout}{ran.stderr}")
+        return "all told"
+
+
+def segment(path, head, entries):
+    """Writes a segment of these lines, and answers the digest that it ends in."""
+    rewrite(path, [*head, *entries, f"end {len(entries)} -"])
+    return digests(open(path).read().splitlines()[-1])[-1]
+
+
+def made_by_hand(folder):
+    """Two runs: of the first two segments, over whose end a job goes, and of the second one with two jobs that were aborted."""
+    full, rest = (hashlib.sha256(text).hexdigest() for text in (b"hello wo", b"rld"))
+    config = ["config 4 8 8 100000 lp 3 1", "printer file:a.out 0"]
+    paths = [f"{folder}/{name}" for name in ("one", "two", "three")]
+    end = segment(paths[0], ["account 2 1 1 2026-11-26T22:00:00Z 2026-11-26T22:00:09Z first", *config, "base 0 0 0 0 0 open running"], [
+        "opened 1 0 1", "began 1 dfA001h1 11", "granted 1", f"put 1 0 0 8 {full}", "granted 1", f"put 1 0 1 3 {rest}", "ended 1 0 part",
+        "controlled 1 whole 1 h1 ann%20lee dfA001h1", f"handed 1 1 0 0 0 8 {full}", f"printed going 1 1 0 0 0 8 {full}",
+        f"handed 1 1 1 0 1 3 {rest}", f"printed done 1 1 1 0 1 3 {rest}", "opened 2 2 1", "began 2 dfA001h1 3"])
+    end = segment(paths[1], [f"account 2 1 2 2026-11-26T22:00:09Z 2026-11-26T23:00:00Z after {end}", *config, "part 14 65 2 14 712"], [
+        "granted 2", f"put 2 0 0 3 {rest}", "ended 2 0 part", "controlled 2 whole 1 h2 bob dfA001h1",
+        f"handed 1 2 0 0 0 3 {rest}", f"printed done 1 2 0 0 0 3 {rest}"])
+    segment(paths[2], [f"account 2 2 1 2026-11-27T22:00:00Z 2026-11-27T22:00:09Z after {end}", *config, "base 0 0 0 0 0 open running"], [
+        "opened 1 0 1", "controlled 1 part 1 h3 eve dfA001h1", "began 1 dfA001h1 11", "granted 1", f"put 1 0 0 8 {full}", "aborted 1",
+        "opened 2 0 1", "aborted 2"])
+    return paths
+
+
+def what_was_used():
+    """Each column of `usage`, by each grouping, within times, and as a table with commas."""
+    with tempfile.TemporaryDirectory() as folder:
+        files = made_by_hand(folder)
+
+        def told(words, *lines):
+            ran = subprocess.run([PROGRAM, "usage", *files, *words.split()], capture_output=True, text=True, timeout=60)
+            check((ran.returncode, ran.stdout) == (0, "".join(f"{line}\n" for line in lines)), f"{words}: {ran.returncode} {ran.stdout}{ran.stderr}")
+
+        ran = subprocess.run([PROGRAM, "audit", *files], capture_output=True, text=True, timeout=60)
+        check(ran.returncode == 0 and ran.stdout.startswith("legal segments 3 entries 28 jobs 4 done 2 removed 0 failed 0 aborted 2\n"), ran.stdout + ran.stderr)
+        ann, bob, eve, none = ("ann%20lee jobs 1 sent 11 printed 11", "bob jobs 1 sent 3 printed 3", "eve jobs 1 sent 8 printed 0", "- jobs 1 sent 0 printed 0")
+        told("", ann, bob, eve, none)
+        told("--by user", ann, bob, eve, none)
+        told("--by host", "h1 jobs 1 sent 11 printed 11", "h2 jobs 1 sent 3 printed 3", "h3 jobs 1 sent 8 printed 0", none)
+        told("--by queue", "lp jobs 4 sent 22 printed 14")
+        told("--csv", "user,jobs,sent,printed", "ann lee,1,11,11", "bob,1,3,3", "eve,1,8,0", "-,1,0,0")
+        told("--by host --csv --since 2026-11-27T00:00:00Z", "host,jobs,sent,printed", "h3,1,8,0", "-,1,0,0")
+        # a job that goes over the end of a segment counts where it ends, and its octets where they came
+        told("--until 2026-11-26T22:00:05Z", ann)
+        told("--since 2026-11-26T22:00:10Z", bob, eve, none)
+        told("--since 2026-11-26T22:00:10Z --until 2026-11-26T23:00:00Z", bob)
+        told("--since 2026-11-27T22:00:10Z")
+        return "all columns"
+
+
+def a_last_segment_that_goes_on():
+    """A server doesn't go on behind a last segment with octets behind its last line, nor behind one that is cut off or empty: it says which file it is."""
+    with Books("--keep-room") as room:
+        room.start()
+        check(send(room.port, 1, b"a page") == 0, "a job isn't taken")
+        room.stop()
+        last = room.segments()[-1]
+        text = open(last, "rb").read()
+        for wrong in (text + b"x", text + b"x\n", text + b"\n", text[:-1], text[:-2], text[:len(text) // 2], b""):
+            with open(last, "wb") as file:
+                file.write(wrong)
+            ran = subprocess.run([PROGRAM, "serve", f"{room.folder}/spool.toml", "--port", str(room.port), "--account", room.account],
+                                 capture_output=True, text=True, timeout=30)
+            check(ran.returncode == 4 and "segment-0000000001 isn't a whole segment" in ran.stderr, f"{wrong[-9:]}: {ran.returncode} {ran.stderr}")
+        return "seven ways"
+
+
 def hostile_files():
     """Files that are no segments end in a fault line, in bounded memory."""
     with tempfile.TemporaryDirectory() as folder:
@@ -335,7 +478,7 @@ def write_segment(path, run, previous, entries):
     return count
 
 
-SCENES = [written_and_audited, changed_files_are_told, a_full_disk, hostile_files, a_long_account]
+SCENES = [written_and_audited, changed_files_are_told, folders, what_was_used, a_last_segment_that_goes_on, a_full_disk, hostile_files, a_long_account]
 
 if __name__ == "__main__":
     sys.exit(main(SCENES, __doc__))

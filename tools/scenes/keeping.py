@@ -447,4 +447,4 @@ SCENES = [killed_once, a_second_server, a_failed_job_is_sent_again, a_job_is_rem
 
 
 if __name__ == "__main__":
-    sys.exit(main(SCENES, __doc__))
+    sys.exit(main(SCENES, __doc__, measured=[many_kept_jobs]))

@@ -11,6 +11,7 @@ import shutil
 import sys
 
 from auditing import Books, digests, rewrite
+from client import send
 from scene import check, main
 
 
@@ -162,7 +163,17 @@ def exchange_files(it):
     os.rename(f"{one}.x", two)
 
 
-# Each way: what is done, and which fault tells it; None where no audit can see it.
+def take_file(it):
+    os.remove(it.files()[1])
+
+
+def add_file(it):
+    """One more file behind the last, by the next number."""
+    last = it.files()[-1]
+    shutil.copy(last, f"{last[:-10]}{int(last[-10:]) + 1:010}")
+
+
+# Each way: what is done, and which fault tells it, or which line where that is a pair; None where no audit can see it.
 LINE, ENTRY, FOLLOW, PRINTED = r"fault 80 Line ", r"fault 81 Entry ", r"fault 82 Follow ", r"fault 83 Printed "
 ANY = r"fault 8[0123] "
 WAYS = {
@@ -187,7 +198,10 @@ WAYS = {
     "the number of the run": (edit("middle", "account ", lambda line: word(line, 2, more)), FOLLOW),
     "the number of the segment": (edit("middle", "account ", lambda line: word(line, 3, more)), FOLLOW),
     "a time": (edit("middle", "account ", lambda line: word(line, 4, lambda time: "2001" + time[4:])), FOLLOW),
+    "a day that there isn't": (edit("middle", "account ", lambda line: word(line, 4, lambda time: time[:5] + "02-30" + time[10:])), LINE),
+    "it ends before it begins": (edit("middle", "account ", lambda line: word(line, 5, lambda time: "2001" + time[4:])), LINE),
     "another version": (edit("middle", "account ", lambda line: word(line, 1, "9")), LINE),
+    "version 1": (edit("middle", "account ", lambda line: word(line, 1, "1")), FOLLOW),
     "it is the first": (edit("middle", "account ", lambda line: line[:line.index(" after ")] + " first"), FOLLOW),
     "it comes after another": (edit("middle", "account ", lambda line: word(line, 7, other)), FOLLOW),
     "the pages of the pool": (edit("middle", "config ", lambda line: word(line, 1, more)), FOLLOW),
@@ -210,6 +224,21 @@ WAYS = {
     "an octet of a job's file": (lambda it: flip(it.files()[0], 0), PRINTED),
     "a job's file cut off": (lambda it: cut(it.files()[-1], 1), PRINTED),
     "two files of jobs exchanged": (exchange_files, PRINTED),
+    "a job's file taken away": (take_file, PRINTED),
+    "a file added": (add_file, ("line", r"not judged 2: file job-\d+, which no job has\n")),
+}
+# What may be done to segments that begin amid held jobs.
+PARTS = {
+    "the entries since the last base": (edit("middle", "part ", lambda line: word(line, 4, more)), FOLLOW),
+    "more is given back": (edit("middle", "part ", lambda line: word(line, 5, more)), FOLLOW),
+    "less is given back": (edit("middle", "part ", lambda line: word(line, 5, lambda n: str(int(n) - 1))), FOLLOW),
+    "the entries before": (edit("middle", "part ", lambda line: word(line, 1, more)), FOLLOW),
+    "a part is a base": (edit("middle", "part ", lambda line: " ".join(["base", *line.split(" ")[1:4], "1 0 open running running"])), FOLLOW),
+    "a part of version 1": (edit("middle", "account ", lambda line: word(line, 1, "1")), FOLLOW),
+    "a part is the first": (edit("middle", "account ", lambda line: line[:line.index(" after ")] + " first"), FOLLOW),
+    "a part left out": (lambda it: os.remove(it.middle()), FOLLOW),
+    "a job is done that is held": (edit("middle", "opened ", lambda line: [f"aborted {int(line.split(' ')[1]) - 1}", line]), ENTRY),
+    "what came before isn't there": (lambda it: os.remove(it.segments()[0]), FOLLOW),
 }
 
 
@@ -235,20 +264,47 @@ def each_way_is_told():
         end = digests(room.audit(files=it.segments())[1])[-1]
         status, told, why = audit(it, end)
         check(status == 0, f"nothing is changed: {status} {told}{why}")
-        wrong = []
-        for number, (label, (change, fault)) in enumerate(WAYS.items(), 1):
-            it = Evidence(kept, f"{room.folder}/{number}")
-            change(it)
-            status, told, why = audit(it, end)
-            if not (status == 0 if fault is None else status == 6 and re.match(fault, why)):
-                wrong.append(f"{label}: {status} {why.strip() or told.strip().splitlines()[-1]}")
-            shutil.rmtree(it.at)
-        check(not wrong, "; ".join(wrong))
-        unseen = [label for label, (_, fault) in WAYS.items() if fault is None]
-        return f"{len(WAYS)} ways, of which {len(WAYS) - len(unseen)} were told{', and not: ' if unseen else ''}{', '.join(unseen)}"
+        return tried(WAYS, kept, room.folder, lambda it: audit(it, end))
 
 
-SCENES = [each_way_is_told]
+def tried(ways, kept, folder, audit):
+    """Tries each way on a copy of its own, and says how many were told."""
+    wrong = []
+    for number, (label, (change, fault)) in enumerate(ways.items(), 1):
+        it = Evidence(kept, f"{folder}/{number}")
+        change(it)
+        status, told, why = audit(it)
+        if isinstance(fault, tuple):
+            is_told = status == 0 and re.search(fault[1], told)
+        else:
+            is_told = status == 0 if fault is None else status == 6 and re.match(fault, why)
+        if not is_told:
+            wrong.append(f"{label}: {status} {why.strip() or told.strip().splitlines()[-1]}")
+        shutil.rmtree(it.at)
+    check(not wrong, "; ".join(wrong))
+    unseen = [label for label, (_, fault) in ways.items() if fault is None]
+    return f"{len(ways)} ways, of which {len(ways) - len(unseen)} were told{', and not: ' if unseen else ''}{', '.join(unseen)}"
+
+
+def each_way_with_parts_is_told():
+    with Books("--keep-room", "--printer", "2=socket://127.0.0.97:9") as room:
+        room.start()
+        check(send(room.port, 1, b"held", queue="plotter") == 0, "a job isn't taken")
+        for number in range(100):
+            check(send(room.port, number, b"a page" * 9) == 0, "a job isn't taken")
+        room.await_segments(4)
+        room.tell("stop", "1")
+        room.server.wait(60)
+        kept = f"{room.folder}/kept"
+        os.mkdir(kept)
+        shutil.copytree(room.account, f"{kept}/account")
+        check(sum("\npart " in open(path).read() for path in room.segments()) >= 3, "no parts")
+        end = digests(room.audit()[1])[-1]
+        check(room.audit("--ends", end)[0] == 0, "nothing is changed")
+        return tried(PARTS, kept, room.folder, lambda it: room.audit("--ends", end, files=it.segments()))
+
+
+SCENES = [each_way_is_told, each_way_with_parts_is_told]
 
 if __name__ == "__main__":
     sys.exit(main(SCENES, __doc__))
