@@ -8,6 +8,7 @@ mod files;
 mod folders;
 mod line_reader;
 mod notes;
+mod places;
 mod printers;
 mod request;
 mod rereading;

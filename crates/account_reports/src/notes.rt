@@ -3,6 +3,7 @@
 ghost use Rattle.std.specs.Prelude.{◌≡◌};
 
 use crate::fault::ReportFault;
+use account_text::put_shown;
 use lpd_commands::{OctetWrite, write_all};
 use std::alloc::Global;
 use std::fmt;
@@ -88,4 +89,20 @@ pub(crate) fn put_note<'a, O: OctetWrite>(
 ) -> Result<(), ReportFault<'a>> {
     let line = format!(in alloc; "{}", Note { printer, told })?;
     write_text(output, line.as_bytes())
+}
+
+/// Writes that a run printed to this place, of which it isn't said where it is read again. `WriteFile` where it can't be written, `Memory`
+/// where memory for it is refused.
+pub(crate) fn put_elsewhere<'a, O: OctetWrite>(
+    alloc: Global,
+    output: &mut O,
+    printer: u32,
+    run: u64,
+    place: &[u8],
+) -> Result<(), ReportFault<'a>> {
+    let text = format!(in alloc; "not judged {printer}: run {run} printed to")?;
+    let mut line = Vec::from_slice(alloc, text.as_bytes())?;
+    put_shown(&mut line, alloc, place)?;
+    line.push(b'\n')?;
+    write_text(output, line.as_slice())
 }

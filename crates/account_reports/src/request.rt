@@ -11,7 +11,7 @@ pub struct AuditRequest<'a> {
     pub after: Option<[u8; 32]>,
     /// The digest that the last one has to end in.
     pub ends: Option<[u8; 32]>,
-    /// Where printers wrote: each a directory, or a printer's number, an equals sign and its path.
+    /// Where printers wrote: each a directory, or a printer's number, an equals sign and its path, or a place between them.
     pub printed: Vec<&'a str>,
     /// The numbers of the printers from whose folders somebody takes files away, each as decimal digits.
     pub taken: Vec<&'a str>,

@@ -1,11 +1,15 @@
 //! What printers wrote, read again beside their account.
 
+ghost use Rattle.std.specs.Prelude.{◌<◌, IfSome, length};
+
 use crate::fault::{Lacks, ReportFault};
 use crate::folders::{FolderReread, JobFile};
-use crate::notes::{Told, put_note};
+use crate::notes::{Told, put_elsewhere, put_note};
+use crate::places::{is_asked, path_at, path_of};
 use crate::printers::{PrintedFile, job_numbers};
 use account::Entry;
 use lpd_commands::OctetWrite;
+use lpd_values::Octets;
 use printed_pages::{PrinterTrail, RunBegins, TrailFault};
 use segment_audit::SegmentLine;
 use segment_text::PrinterPlace;
@@ -34,15 +38,32 @@ enum Reread {
 #[derive(Drop)]
 struct Doubt<'r> {
     printer: u32,
+    place: Octets,
     job: u64,
     file: JobFile,
     fault: ReportFault<'r>,
 }
 
+/// A printer at one of its places.
+#[derive(Drop)]
+struct Printed {
+    /// The place, as the heads tell it.
+    place: Octets,
+    reread: Reread,
+}
+
+/// One at a place that the run which is read doesn't print to.
+#[derive(Drop)]
+struct Resting {
+    /// At which place in the heads the printer stands.
+    at: usize,
+    printed: Printed,
+}
+
 /// The printers of an account, of which some are read again.
 #[derive(Drop)]
 pub(crate) struct Rereading<'r> {
-    /// Each a directory, or a printer's number, an equals sign and a path.
+    /// Each a directory, or a printer's number, an equals sign and a path, with or without a place between.
     places: Vec<&'r str>,
     /// The numbers of the printers from whose folders somebody takes files away.
     taken: Vec<&'r str>,
@@ -51,35 +72,13 @@ pub(crate) struct Rereading<'r> {
     /// Those of which it is known at the end alone whether they are the files of later jobs.
     doubts: Vec<Doubt<'r>>,
     /// By the printers' numbers, from 1.
-    rereads: Vec<Reread>,
+    rereads: Vec<Printed>,
+    /// Those at the places of other runs.
+    resting: Vec<Resting>,
     /// How many lines of printers the head had until now.
     heads: usize,
+    run: u64,
     begins_run: bool,
-}
-
-/// The number before an equals sign and the path behind it. None where a text has no number there.
-fn numbered(text: &str) -> Option<(u32, &str)> {
-    let (number, path) = text.split_once('=')?;
-    let number = number.parse().ok()?;
-    Some((number, path))
-}
-
-/// The path at which the printer of a number is to be read again, by what is said of it or else of a directory.
-fn path_of(alloc: Global, places: &[&str], printer: u32) -> Result<Option<String>, AllocError> {
-    let mut directory = None;
-    for place in places {
-        match numbered(place) {
-            Some((number, path)) if number == printer => {
-                return Ok(Some(String::from_str(alloc, path)?));
-            }
-            Some(_) => {}
-            None => directory = Some(*place),
-        }
-    }
-    match directory {
-        Some(directory) => Ok(Some(format!(in alloc; "{directory}/printer-{printer}")?)),
-        None => Ok(None),
-    }
 }
 
 impl Reread {
@@ -206,6 +205,15 @@ impl Reread {
     }
 }
 
+/// Which of these is the printer at this place in the heads, at a place of it, if one is.
+fn resting_at(resting: &[Resting], at: usize, place: &[u8]) -> Option<usize>
+    ensures { IfSome result (λ index. index < length resting.now) }
+{
+    resting
+        .iter()
+        .position(|it| it.at == at && it.printed.place.as_slice() == place)
+}
+
 impl<'r> Rereading<'r> {
     /// The printers at these places: each a directory, or a printer's number, an equals sign and a path; and those from whose folders
     /// somebody takes files away, by their numbers.
@@ -222,9 +230,75 @@ impl<'r> Rereading<'r> {
             lacks: None,
             doubts: Vec::new(alloc),
             rereads: Vec::new(alloc),
+            resting: Vec::new(alloc),
+            run: 0,
             heads: 0,
             begins_run: false,
         })
+    }
+
+    /// The printer of a number at a place, where it is read again from this path.
+    fn open<'a, R: Files<File = File>, O: OctetWrite>(
+        rt: &R,
+        alloc: Global,
+        output: &mut O,
+        printer: u32,
+        place: &PrinterPlace,
+        path: Option<String>,
+    ) -> Result<Printed, ReportFault<'a>> {
+        let reread = match path {
+            None => Reread::Nowhere,
+            Some(path) => {
+                let reread = Reread::open(rt, alloc, printer, place, path)?;
+                if let Reread::Nowhere = reread {
+                    put_note(alloc, output, printer, Told::Unread)?;
+                }
+                reread
+            }
+        };
+        let place = Octets::copy_of(alloc, place.place.as_slice())?;
+        Ok(Printed { place, reread })
+    }
+
+    /// The printer at this place in the heads at the place that a run tells: one that was read before, or another.
+    fn move_to<'a, R: Files<File = File>, O: OctetWrite>(
+        &mut self,
+        rt: &R,
+        alloc: Global,
+        output: &mut O,
+        at: usize,
+        place: &PrinterPlace,
+    ) -> Result<(), ReportFault<'a>> {
+        let printer = u32::try_from(at).unwrap_or(u32::MAX).saturating_add(1);
+        let known = resting_at(self.resting.as_slice(), at, place.place.as_slice());
+        let next = match known {
+            Some(index) => self.resting.remove(index).printed,
+            None => {
+                let path = path_at(
+                    alloc,
+                    self.places.as_slice(),
+                    printer,
+                    place.place.as_slice(),
+                )?;
+                if path.is_none() && is_asked(self.places.as_slice(), printer) {
+                    put_elsewhere(alloc, output, printer, self.run, place.place.as_slice())?;
+                }
+                Rereading::open(rt, alloc, output, printer, place, path)?
+            }
+        };
+        if let Some(current) = self.rereads.get_mut(at) {
+            let printed = mem::replace(current, next);
+            self.resting.push(Resting { at, printed })?;
+        }
+        Ok(())
+    }
+
+    /// Whether the printer at this place in the heads was at another place until now.
+    fn has_moved(&self, at: usize, place: &PrinterPlace) -> bool {
+        match self.rereads.get(at) {
+            Some(printed) => printed.place.as_slice() != place.place.as_slice(),
+            None => false,
+        }
     }
 
     /// Reads the line of a head that tells a printer's place.
@@ -239,20 +313,23 @@ impl<'r> Rereading<'r> {
         self.heads = at.saturating_add(1);
         let printer = u32::try_from(self.heads).unwrap_or(u32::MAX);
         if at >= self.rereads.len() {
-            let reread = match path_of(alloc, self.places.as_slice(), printer)? {
-                None => Reread::Nowhere,
-                Some(path) => {
-                    let reread = Reread::open(rt, alloc, printer, place, path)?;
-                    if let Reread::Nowhere = reread {
-                        put_note(alloc, output, printer, Told::Unread)?;
-                    }
-                    reread
-                }
-            };
-            self.rereads.push(reread)?;
+            let path = path_of(
+                alloc,
+                self.places.as_slice(),
+                printer,
+                place.place.as_slice(),
+            )?;
+            if path.is_none() && is_asked(self.places.as_slice(), printer) {
+                put_elsewhere(alloc, output, printer, self.run, place.place.as_slice())?;
+            }
+            let printed = Rereading::open(rt, alloc, output, printer, place, path)?;
+            self.rereads.push(printed)?;
+        } else if self.begins_run && self.has_moved(at, place) {
+            self.move_to(rt, alloc, output, at, place)?;
         }
         match self.rereads.get_mut(at) {
-            Some(reread) if self.begins_run => {
+            Some(printed) if self.begins_run => {
+                let reread = &mut printed.reread;
                 reread.begin_run(alloc, output, printer, place.begins)
             }
             _ => Ok(()),
@@ -275,17 +352,19 @@ impl<'r> Rereading<'r> {
         let Some(at) = printer.checked_sub(1) else {
             return Ok(());
         };
-        let Some(reread) = self.rereads.get_mut(at as usize) else {
+        let Some(printed) = self.rereads.get_mut(at as usize) else {
             return Ok(());
         };
+        let reread = &mut printed.reread;
         match reread.take(rt, alloc, entry) {
             Ok(()) => Ok(()),
             Err(TrailFault::Memory) => Err(ReportFault::Memory),
             Err(TrailFault::Differs(differs)) => {
                 let text = String::from_str(alloc, reread.path())?;
-                let (job, file) = (differs.job, reread.last_file());
+                let told = (differs.job, reread.last_file());
+                let place = Octets::copy_of(alloc, printed.place.as_slice())?;
                 let fault = ReportFault::Printed(path, line, differs, text);
-                self.doubt(*printer, job, file, fault)
+                self.doubt(*printer, place, told, fault)
             }
             Err(TrailFault::Unread) => {
                 if let Reread::Folder(folder) = reread {
@@ -304,11 +383,11 @@ impl<'r> Rereading<'r> {
     fn doubt(
         &mut self,
         printer: u32,
-        job: u64,
-        file: Option<JobFile>,
+        place: Octets,
+        told: (u64, Option<JobFile>),
         fault: ReportFault<'r>,
     ) -> Result<(), ReportFault<'r>> {
-        let Some(file) = file else {
+        let (job, Some(file)) = told else {
             return Err(fault);
         };
         if !self.is_taken(printer) {
@@ -316,6 +395,7 @@ impl<'r> Rereading<'r> {
         }
         self.doubts.push(Doubt {
             printer,
+            place,
             job,
             file,
             fault,
@@ -328,14 +408,25 @@ impl<'r> Rereading<'r> {
         self.taken.iter().any(|taken| taken.parse() == Ok(printer))
     }
 
+    /// The printer of a number at a place, if it is read again there.
+    fn printed_at(&self, printer: u32, place: &[u8]) -> Option<&Printed> {
+        let at = printer.checked_sub(1)? as usize;
+        match self.rereads.get(at) {
+            Some(printed) if printed.place.as_slice() == place => return Some(printed),
+            _ => {}
+        }
+        let index = resting_at(self.resting.as_slice(), at, place)?;
+        Some(&self.resting[index].printed)
+    }
+
     /// Whether a later job of a printer became the same file.
-    fn is_later(&self, printer: u32, file: JobFile) -> bool {
-        let Some(at) = printer.checked_sub(1) else {
-            return false;
-        };
-        match self.rereads.get(at as usize) {
-            Some(Reread::Folder(folder)) => folder.is_later(file),
-            _ => false,
+    fn is_later(&self, printer: u32, place: &[u8], file: JobFile) -> bool {
+        match self.printed_at(printer, place) {
+            Some(printed) => match &printed.reread {
+                Reread::Folder(folder) => folder.is_later(file),
+                Reread::Nowhere | Reread::File(_) => false,
+            },
+            None => false,
         }
     }
 
@@ -347,7 +438,7 @@ impl<'r> Rereading<'r> {
     ) -> Result<(), ReportFault<'r>> {
         let doubts = mem::replace(&mut self.doubts, Vec::new(alloc));
         for doubt in doubts {
-            if !self.is_later(doubt.printer, doubt.file) {
+            if !self.is_later(doubt.printer, doubt.place.as_slice(), doubt.file) {
                 return Err(doubt.fault);
             }
             put_note(alloc, output, doubt.printer, Told::Missing(doubt.job))?;
@@ -381,6 +472,7 @@ impl<'r> Rereading<'r> {
         match got {
             SegmentLine::Origin(origin) => {
                 self.begins_run = origin.segment == 1;
+                self.run = origin.run;
                 self.heads = 0;
                 Ok(())
             }
@@ -399,9 +491,14 @@ impl<'r> Rereading<'r> {
         output: &mut O,
     ) -> Result<(), ReportFault<'r>> {
         let mut printer = 0;
-        for reread in self.rereads.iter_mut() {
+        for printed in self.rereads.iter_mut() {
             printer = u32::saturating_add(printer, 1);
-            reread.end(alloc, output, printer)?;
+            printed.reread.end(alloc, output, printer)?;
+        }
+        for resting in self.resting.iter_mut() {
+            let printer = u32::try_from(resting.at).unwrap_or(u32::MAX);
+            let reread = &mut resting.printed.reread;
+            reread.end(alloc, output, printer.saturating_add(1))?;
         }
         self.settle_doubts(alloc, output)?;
         match self.lacks.take() {

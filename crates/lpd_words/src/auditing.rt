@@ -27,7 +27,8 @@ that it can be read, that a legal account may have it there, and that each segme
 The first segment begins from a moment without held jobs; where others came before it that is told, but with --after it is taken
 only where it names DIGEST, in which the one before it ended.
 With --printed what printers wrote is compared with the pages that the account says they printed, by length and SHA-256.
-PLACE is the DIR of `serve --out`, for each printer that prints to a file there, or K=PATH, the file or folder of printer K.
+PLACE is the DIR of `serve --out`, for each printer that prints to a file there, or K=PATH, the file or folder of printer K;
+or where it printed to several places, K@file:/srv/a=PATH, that of one of them.
 Then a line for each of these printers, and one for each part of a file that nothing is said of:
   printed 1 octets 40961
   not judged 1: 2047 octets between two runs
@@ -70,7 +71,7 @@ pub(crate) fn audit<'a>(alloc: Global) -> Result<Command<'a>, AllocError>
     let about = "Checks an account, entry by entry";
     let after = "Takes the first segment only where it follows on the one that ends in DIGEST";
     let ends = "Asks whether the last segment ends in DIGEST, which was kept elsewhere";
-    let printed = "Compares what printers wrote with it: PLACE is a directory, or K=PATH";
+    let printed = "Compares what printers wrote with it: PLACE is a directory, K=PATH or K@PLACE=PATH";
     let taken = "Says that somebody takes files away from the folder of printer K";
     let progress = "Tells on standard error how far it is, where that is no terminal too";
     let words = vec![in alloc;
