@@ -388,6 +388,31 @@ def what_was_used():
         return "all columns"
 
 
+def a_printer_that_moves():
+    """A printer that prints to another file in the second run and to the first one again in the third: each place has its path, and a run whose place
+    isn't told isn't judged."""
+    with Books("--keep-room") as room:
+        one, two = f"{room.folder}/one", f"{room.folder}/two"
+        for number, place in enumerate((one, two, one)):
+            room.words = ("--keep-room", "--printer", f"1=file:{place}")
+            room.start()
+            check(send(room.port, number, b"page %d" % number) == 0, "a job isn't taken")
+            room.stop()
+        both = ("--printed", f"1@file:{one}={one}", "--printed", f"1@file:{two}={two}")
+        status, out, why = room.audit(*both)
+        check(status == 0 and out.endswith("printed 1 octets 12\nprinted 1 octets 6\n"), f"{status} {out}{why}")
+        status, out, why = room.audit("--printed", f"1={one}")
+        check(status == 0 and f"not judged 1: run 2 printed to file:{two}\n" in out and out.endswith("printed 1 octets 12\n"), f"{status} {out}{why}")
+        status, out, why = room.audit("--printed", f"1@file:{two}={two}")
+        check(status == 0 and f"not judged 1: run 1 printed to file:{one}\n" in out and "printed 1 octets 6\n" in out, f"{status} {out}{why}")
+        with open(two, "wb") as file:
+            file.write(b"page x")
+        status, out, why = room.audit(*both)
+        check(status == 6 and f"printer 1 job 1 place 0 octet 0 of {two}\n" in why, f"{status} {out}{why}")
+        check(room.audit("--printed", f"1={one}")[0] == 0, "what isn't told is judged")
+        return "both places"
+
+
 def a_last_segment_that_goes_on():
     """A server doesn't go on behind a last segment with octets behind its last line, nor behind one that is cut off or empty: it says which file it is."""
     with Books("--keep-room") as room:
@@ -478,7 +503,7 @@ def write_segment(path, run, previous, entries):
     return count
 
 
-SCENES = [written_and_audited, changed_files_are_told, folders, what_was_used, a_last_segment_that_goes_on, a_full_disk, hostile_files, a_long_account]
+SCENES = [written_and_audited, changed_files_are_told, folders, what_was_used, a_printer_that_moves, a_last_segment_that_goes_on, a_full_disk, hostile_files, a_long_account]
 
 if __name__ == "__main__":
     sys.exit(main(SCENES, __doc__))

@@ -247,4 +247,4 @@ SCENES = [cut_anywhere, the_proxy_itself, headers_that_dont_count, from_elsewher
 
 
 if __name__ == "__main__":
-    sys.exit(main(SCENES, __doc__, measured=[three_thousand_silent]))
+    sys.exit(main(SCENES, __doc__, measured=[late_ones, three_thousand_silent]))
