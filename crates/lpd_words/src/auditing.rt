@@ -71,7 +71,8 @@ pub(crate) fn audit<'a>(alloc: Global) -> Result<Command<'a>, AllocError>
     let about = "Checks an account, entry by entry";
     let after = "Takes the first segment only where it follows on the one that ends in DIGEST";
     let ends = "Asks whether the last segment ends in DIGEST, which was kept elsewhere";
-    let printed = "Compares what printers wrote with it: PLACE is a directory, K=PATH or K@PLACE=PATH";
+    let printed =
+        "Compares what printers wrote with it: PLACE is a directory, K=PATH or K@PLACE=PATH";
     let taken = "Says that somebody takes files away from the folder of printer K";
     let progress = "Tells on standard error how far it is, where that is no terminal too";
     let words = vec![in alloc;
