@@ -7,10 +7,11 @@
 
 mod answering;
 mod crew;
+mod descriptors;
 mod device_sink;
 mod feeding;
 mod listening;
-mod opening;
+mod preparing;
 mod printing;
 mod served;
 mod serving;

@@ -1,6 +1,9 @@
 //! Where the account's segments become files, and those that wait for it.
 
-ghost use Rattle.std.specs.Prelude.{◌≡◌, ◌*◌, min};
+ghost use Rattle.std.specs.Prelude.{◌≡◌, ◌*◌, IfErr, min};
+ghost use Rattle.program_edge.specs.Openings.{IsUnopened};
+ghost use Rattle.program_edge.specs.declared.opening.StartPart.{StartPart};
+ghost use Rattle.program_edge.specs.declared.opening.StartPart.TheVariants.{Account};
 
 use crate::refusal::refused;
 use crate::told_places::told_places;
@@ -8,8 +11,8 @@ use account::Segment;
 use account_folder::{AccountFolder, WriteFault};
 use config_values::Config;
 use log::{Log, error, info, warn};
-use printer_devices::{Opened, PlaceFault};
-use program_edge::Settings;
+use printer_devices::Opened;
+use program_edge::{Settings, StartFault, StartPart};
 use std::alloc::{AllocError, Global};
 use std::fs::{File, Files};
 use std::rt::Clock;
@@ -99,14 +102,16 @@ fn time_of<R: Clock>(rt: &R) -> SystemTime {
 /// Opens the folder in which the account's segments become files, if the settings name one. Where the account is never rotated
 /// while the server runs, that is logged: then there is one file, at the end.
 ///
-/// Path with the path where it can't be used, or another server has it, of which the log is told why; Memory.
+/// Opening where it can't be used, or another server has it, of which the log is told why too; Memory.
 pub fn open_archive<'a, R: Files<File = File> + Clock + Log>(
     rt: &R,
     alloc: Global,
     settings: &Settings<'a>,
     config: &Config,
     places: &[Opened],
-) -> Result<Option<Archive<'a>>, PlaceFault> {
+) -> Result<Option<Archive<'a>>, StartFault>
+    ensures { IfErr result (IsUnopened (λ (part : StartPart). part ≡ Account)) }
+{
     let Some(path) = settings.account else {
         return Ok(None);
     };
@@ -120,7 +125,7 @@ pub fn open_archive<'a, R: Files<File = File> + Clock + Log>(
     let waiting = Vec::with_capacity(alloc, MOST_WAITING + 2)?;
     let folder = match AccountFolder::open(rt, alloc, path, config, printers, time_of(rt)) {
         Ok(folder) => folder,
-        Err(error) => return Err(refused(rt, alloc, path, &error)),
+        Err(error) => return Err(refused(rt, alloc, StartPart::Account, path, &error)),
     };
     let shelf = Shelf {
         waiting,
