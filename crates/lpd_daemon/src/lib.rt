@@ -22,7 +22,8 @@ mod watching;
 pub use control_socket::{OpenFault, SocketFile};
 pub use printer_worker::{PrintSink, SinkFault};
 pub use program_edge::{
-    Limits, LogForm, MOST_SESSIONS, Place, PrinterLimits, PrinterPlace, Settings, StatusPlace,
+    Limits, LogForm, MOST_SESSIONS, Opening, Place, PrinterLimits, PrinterPlace, Settings,
+    StartPart, StatusPlace,
 };
 pub use server_care::Counter;
 pub use server_folders::{ACCOUNT_LINES, FOLDER_CAUSES};
