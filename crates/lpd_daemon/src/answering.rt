@@ -13,27 +13,26 @@ use kept_requests::Keeping;
 use log::{Log, warn};
 use lpd_commands::{OctetRead, OctetWrite};
 use noted_requests::Noting;
-use program_edge::{Limits, StreamReader, StreamWriter};
+use program_edge::{Limits, StreamReader, StreamWriter, pass_over};
 use request_session::{Input, Requests, serve_with};
 use server_edge::{Serves, Visit, keep_asking, send_in_pieces};
 use server_folders::Kept;
 use server_house::{Hall, HouseLedger, HouseSeat, HouseSpool};
-use server_notes::{Ending, Outcome};
+use server_notes::{Ending, milliseconds_since};
 use session::{Seated, SessionEnd};
 use std::fmt::Display;
 use std::fs::{File, Files};
 use std::io;
-use std::io::Read;
 use std::net::{Shutdown, SocketAddr, TcpStream};
 use std::rt::Clock;
 use std::sync::Wait;
 use std::time::{Duration, Instant};
 
-/// How many octets that come after the end of a session are passed over at once, at most.
-const PIECE: usize = 4_096;
-
 /// How many octets that come after the end of a session are passed over, at most.
-const MOST_PASSED: usize = 1 << 20;
+const MOST_PASSED_OCTETS: usize = 1 << 20;
+
+/// By how many reads they are, at most.
+const MOST_READS: u32 = 1 << 20;
 
 /// The longest time that each of these reads waits for the peer, in seconds.
 const PATIENCE_SECONDS: u64 = 1;
@@ -58,17 +57,12 @@ fn take_leave<R: Clock>(
     stream.shutdown(Shutdown::Write)?;
     stream.set_read_timeout(Some(Duration::from_secs(PATIENCE_SECONDS)))?;
     let start = Instant::now(rt)?;
-    let mut passed_over = [0u8; PIECE];
     let mut stream = stream;
-    let mut passed = 0usize;
-    for _ in 0..MOST_PASSED {
-        let count = stream.read(&mut passed_over)?;
-        passed = passed.saturating_add(count);
-        let is_over = ending.cuts_off() || start.elapsed(rt)?.as_secs() >= seconds;
-        if count == 0 || passed >= MOST_PASSED || is_over {
-            break;
-        }
-    }
+    pass_over(&mut stream, MOST_READS, |passed| {
+        passed >= MOST_PASSED_OCTETS
+            || ending.cuts_off()
+            || milliseconds_since(rt, start) >= seconds.saturating_mul(1_000)
+    });
     Ok(())
 }
 

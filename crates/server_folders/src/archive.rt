@@ -27,10 +27,10 @@ pub const ACCOUNT_LINES: &str = "lpd_daemon::archiving";
 const MOST_WAITING: usize = 2;
 
 /// The first pause after a try that failed, in seconds. Each further one is twice as long as the one before.
-const FIRST_PAUSE: u64 = 1;
+const FIRST_PAUSE_SECONDS: u64 = 1;
 
 /// The longest pause, in seconds: also the time between two warnings.
-const LONGEST_PAUSE: u64 = 60;
+const LONGEST_PAUSE_SECONDS: u64 = 60;
 
 /// How often what is left is tried at a server's end.
 pub const LAST_TRIES: u32 = 3;
@@ -39,7 +39,7 @@ pub const LAST_TRIES: u32 = 3;
 fn next_pause(seconds: u64) -> u64
     ensures { result ≡ min (2 * seconds) 60 }
 {
-    seconds.saturating_mul(2).min(LONGEST_PAUSE)
+    seconds.saturating_mul(2).min(LONGEST_PAUSE_SECONDS)
 }
 
 /// A segment that waits.
@@ -239,7 +239,7 @@ impl Archive<'_> {
     /// Makes the segment in hand a file, again and again until that is done. Where it fails that is logged, once a minute at most.
     /// False where nothing is waited for any more: the segment is still in hand then.
     fn write<R: Files<File = File> + Clock + Log + Wait>(&self, rt: &R) -> bool {
-        let mut pause = FIRST_PAUSE;
+        let mut pause = FIRST_PAUSE_SECONDS;
         let mut told: Option<Instant> = None;
         for _ in rt.forever() {
             let Err(fault) = self.try_once(rt) else {
@@ -278,7 +278,7 @@ impl Archive<'_> {
         rt: &R,
         tries: u32,
     ) -> Result<(), WriteFault> {
-        let mut pause = FIRST_PAUSE;
+        let mut pause = FIRST_PAUSE_SECONDS;
         for _ in 1..tries {
             if self.try_once(rt).is_ok() {
                 return Ok(());
@@ -331,7 +331,7 @@ impl Archive<'_> {
 fn is_due(told: Option<Instant>, now: Option<Instant>) -> bool {
     match (told, now) {
         (Some(told), Some(now)) => {
-            now.saturating_duration_since(told) >= Duration::from_secs(LONGEST_PAUSE)
+            now.saturating_duration_since(told) >= Duration::from_secs(LONGEST_PAUSE_SECONDS)
         }
         _ => true,
     }
