@@ -4,15 +4,12 @@ ghost use Rattle.std.specs.Prelude.{◌≡◌};
 ghost use Rattle.std.specs.Thread.{IsSend};
 ghost use Rattle.server_house.specs.Lines.{TellsRotations};
 
-use crate::answering::Answering;
-use crate::feeding::Feeding;
-use crate::listening::{Gate, Porter, announce_all};
 use crate::printing::Printing;
-use crate::watching::watch;
 use log::Log;
 use lpd_commands::OctetWrite;
 use printer_devices::Opened;
 use server_care::{Board, Care, Counter};
+use server_clients::{Answering, Feeding, Gate, Porter, announce_all, watch};
 use server_house::{
     Fault, Host, House, HouseLedger, HouseSeat, PrintingSeat, Roles, Seats, serves_at,
 };

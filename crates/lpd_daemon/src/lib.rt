@@ -5,19 +5,13 @@
 //! it, and one writes its segments where they become files.
 #![tactic(auto)]
 
-mod answering;
 mod crew;
 mod descriptors;
 mod device_sink;
-mod feeding;
-mod listening;
 mod preparing;
 mod printing;
-mod served;
 mod serving;
-mod session_notes;
 mod sink;
-mod watching;
 
 pub use control_socket::{OpenFault, SocketFile};
 pub use printer_worker::{PrintSink, SinkFault};

@@ -7,17 +7,20 @@ ghost use Rattle.program_edge.specs.declared.opening.StartPart.TheVariants.{Spoo
 
 use crate::crew::Entrance;
 use crate::descriptors::{board_descriptors, folder_descriptors, kept_descriptors};
-use crate::listening::{Gate, listen};
 use config_values::Config;
 use log::{Log, warn};
 use printer_devices::{Opened, open_places, pipes_of};
 use program_edge::{Settings, StartFault};
 use server_care::{Counter, open_board};
+use server_clients::{Gate, listen};
 use server_folders::{Archive, Kept, open_archive};
 use server_house::{AccountRoom, Hall, Host, Showing, sessions_of};
 use std::alloc::Global;
 use std::fs::{File, Files};
 use std::sync::Wait;
+
+/// The part of the program that logs what happens here, as the log names it.
+const PART: &str = "lpd_daemon::serving";
 
 /// Opens the folder in which jobs are kept, if the settings name one. Where the account isn't rotated by itself that is logged: it
 /// ends all the sooner.
@@ -35,7 +38,7 @@ fn open_kept<'a, R: Files<File = File> + Log + Wait>(
         return Ok(None);
     };
     if !settings.keep_room && settings.rotate.is_none() {
-        warn!(rt; "{path}: jobs are kept, but the account is never rotated: without --keep-room or --rotate no job is taken once it is full");
+        warn!(rt; target: PART, "{path}: jobs are kept, but the account is never rotated: without --keep-room or --rotate no job is taken once it is full");
     }
     let kept = Kept::open(rt, alloc, path, config)?;
     Ok(Some(kept))

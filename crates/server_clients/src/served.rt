@@ -10,6 +10,9 @@ use std::fs::{File, Files};
 use std::net::SocketAddr;
 use std::sync::Wait;
 
+/// The part of the program that logs what happens here, as the log names it.
+const PART: &str = "lpd_daemon::served";
+
 /// A seat at a server's spool that carries requests out.
 pub(crate) type HouseSeated<'a, R, E> = Seated<'a, R, E, KindsOf<E>, HandedOf<E>>;
 
@@ -50,13 +53,13 @@ impl<Q: Served, R: Files<File = File> + Wait> Served for Keeping<Q, DiskFolder<'
         match (self.given_up.take(), self.hand.folder.take_fault()) {
             (None | Some(Cause::Refused), None) => {}
             (Some(Cause::Unfit), None) => {
-                warn!(rt; "{peer}: a job isn't kept: it couldn't be read back");
+                warn!(rt; target: PART, "{peer}: a job isn't kept: it couldn't be read back");
             }
             (Some(Cause::Folder(_)), None) => {
-                warn!(rt; "{peer}: a job isn't kept: memory was refused");
+                warn!(rt; target: PART, "{peer}: a job isn't kept: memory was refused");
             }
-            (None, Some(fault)) => warn!(rt; "{peer}: {fault}"),
-            (Some(_), Some(fault)) => warn!(rt; "{peer}: a job isn't kept: {fault}"),
+            (None, Some(fault)) => warn!(rt; target: PART, "{peer}: {fault}"),
+            (Some(_), Some(fault)) => warn!(rt; target: PART, "{peer}: a job isn't kept: {fault}"),
         }
     }
 }

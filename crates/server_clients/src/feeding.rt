@@ -16,6 +16,9 @@ use std::sync::Wait;
 use std::time::Duration;
 use std::{fmt, thread};
 
+/// The part of the program that logs what happens here, as the log names it.
+const PART: &str = "lpd_daemon::feeding";
+
 /// The time between two looks at whether there is room, in milliseconds.
 const LOOK_MS: u64 = 100;
 
@@ -58,9 +61,9 @@ type Feeder<'a, R, E> = Noting<
 
 /// Who feeds kept jobs to the spool of a server.
 #[derive(Drop)]
-pub(crate) struct Feeding<'h, 'a, R, E: HouseLedger> {
-    pub(crate) spool: &'h HouseSpool<E>,
-    pub(crate) hall: &'h Hall<'a, R>,
+pub struct Feeding<'h, 'a, R, E: HouseLedger> {
+    pub spool: &'h HouseSpool<E>,
+    pub hall: &'h Hall<'a, R>,
 }
 
 impl<R: Files<File = File> + Clock + Log + Wait, E: HouseLedger> Feeding<'_, '_, R, E> {
@@ -95,7 +98,7 @@ impl<R: Files<File = File> + Clock + Log + Wait, E: HouseLedger> Feeding<'_, '_,
         let is_passed = hand.folder.is_passed();
         hand.let_go();
         if let Some(fault) = hand.folder.take_fault() {
-            warn!(rt; "{fault}: the job is printed again after the next start");
+            warn!(rt; target: PART, "{fault}: the job is printed again after the next start");
         }
         if !is_passed && (waits_for_room(fed) || self.hall.ending.is_over()) {
             return false;
@@ -103,14 +106,14 @@ impl<R: Files<File = File> + Clock + Log + Wait, E: HouseLedger> Feeding<'_, '_,
         kept.leave(rt, &owner);
         if !is_passed {
             let why = Unfed(fed);
-            warn!(rt; "the job in file {number}.job isn't printed, and stays where it is: {why}");
+            warn!(rt; target: PART, "the job in file {number}.job isn't printed, and stays where it is: {why}");
         }
         true
     }
 
     /// Has the spool take the jobs that its folder has kept, in the order of their files, as there is room, until the server stops.
     /// Answers the seat; at once where no jobs are kept.
-    pub(crate) fn feed_all(&self, seat: HouseSeat<E>) -> HouseSeat<E> {
+    pub fn feed_all(&self, seat: HouseSeat<E>) -> HouseSeat<E> {
         let Some(kept) = &self.hall.kept else {
             return seat;
         };

@@ -2,7 +2,7 @@
 
 ghost use Rattle.std.specs.Int.NonZero.{non_zero_u64_get};
 ghost use Rattle.std.specs.Prelude.{◌≡◌, Some, max, option_map};
-ghost use Rattle.lpd_daemon.specs.Ends.{failure_text};
+ghost use Rattle.server_clients.specs.Ends.{failure_text};
 ghost use Rattle.server_edge.specs.declared.desk.Serves.TheVariants.{All, NoJobs};
 
 use crate::served::Served;
@@ -27,6 +27,9 @@ use std::net::{Shutdown, SocketAddr, TcpStream};
 use std::rt::Clock;
 use std::sync::Wait;
 use std::time::{Duration, Instant};
+
+/// The part of the program that logs what happens here, as the log names it.
+const PART: &str = "lpd_daemon::answering";
 
 /// How many octets that come after the end of a session are passed over, at most.
 const MOST_PASSED_OCTETS: usize = 1 << 20;
@@ -68,7 +71,7 @@ fn take_leave<R: Clock>(
 
 /// Logs what went wrong with a peer's connection.
 fn complain<R: Log, W: Display>(rt: &R, peer: SocketAddr, why: &W) {
-    warn!(rt; "{peer}: {why}");
+    warn!(rt; target: PART, "{peer}: {why}");
 }
 
 /// Why a session failed, if it did.
@@ -230,9 +233,9 @@ impl<R: Files<File = File> + Clock + Wait + Log> Attendant<'_, '_, R> {
 
 /// Who serves the connections of a server.
 #[derive(Drop)]
-pub(crate) struct Answering<'h, 'a, R, E: HouseLedger> {
-    pub(crate) spool: &'h HouseSpool<E>,
-    pub(crate) hall: &'h Hall<'a, R>,
+pub struct Answering<'h, 'a, R, E: HouseLedger> {
+    pub spool: &'h HouseSpool<E>,
+    pub hall: &'h Hall<'a, R>,
 }
 
 impl<R: Files<File = File> + Clock + Wait + Log, E: HouseLedger> Answering<'_, '_, R, E> {
@@ -261,7 +264,7 @@ impl<R: Files<File = File> + Clock + Wait + Log, E: HouseLedger> Answering<'_, '
 
     /// Serves connections through a seat, one after another, until no more can come. Answers the
     /// seat.
-    pub(crate) fn answer_all(&self, seat: HouseSeat<E>, serves: Serves) -> HouseSeat<E> {
+    pub fn answer_all(&self, seat: HouseSeat<E>, serves: Serves) -> HouseSeat<E> {
         let hall = self.hall;
         if let Some(kept) = &hall.kept {
             return self.answer_keeping(kept, seat, serves);

@@ -11,6 +11,9 @@ use std::sync::Wait;
 use std::thread;
 use std::time::Duration;
 
+/// The part of the program that logs what happens here, as the log names it.
+const PART: &str = "lpd_daemon::watching";
+
 /// The time between two looks at whether the server ends, in milliseconds.
 const STEP_MS: u64 = 250;
 
@@ -81,7 +84,7 @@ impl<R: Clock + Log + Wait, E: HouseLedger> Watcher<'_, '_, R, E> {
         let rt = hall.rt;
         match spool.abort_waiting(rt, &mut self.seat, waiting) {
             Ok(()) => {
-                warn!(rt; "job {}, which waits for a page, is ended: {why}", waiting.job);
+                warn!(rt; target: PART, "job {}, which waits for a page, is ended: {why}", waiting.job);
                 None
             }
             Err(AbortError::Moved(now)) => now,
@@ -140,13 +143,13 @@ impl<R: Clock + Log + Wait, E: HouseLedger> Watcher<'_, '_, R, E> {
 /// Ends jobs that wait for a page and whose peers are gone, until the server ends; and where
 /// nothing at all happens for as long as a peer may be silent, all that wait. Starts queues again
 /// where that is due. Answers the seat.
-pub(crate) fn watch<R: Clock + Log + Wait, E: HouseLedger>(
+pub fn watch<R: Clock + Log + Wait, E: HouseLedger>(
     house: House<'_, '_, R, E>,
     seat: HouseSeat<E>,
 ) -> HouseSeat<E> {
     let hall = house.hall;
     let Ok(mut buffer) = vec![in hall.alloc; 0u8; LOOKED_AT_OCTETS] else {
-        warn!(hall.rt; "memory was refused: peers that are gone aren't looked for");
+        warn!(hall.rt; target: PART, "memory was refused: peers that are gone aren't looked for");
         return seat;
     };
     let last = Sample {
@@ -170,7 +173,7 @@ pub(crate) fn watch<R: Clock + Log + Wait, E: HouseLedger>(
             continue;
         }
         if watcher.look(buffer.as_mut_slice()).is_err() {
-            warn!(hall.rt; "memory was refused to look for peers that are gone");
+            warn!(hall.rt; target: PART, "memory was refused to look for peers that are gone");
         }
         house.start_all_due(&mut watcher.seat);
     }

@@ -24,6 +24,9 @@ use std::sync::Wait;
 use std::time::Duration;
 use std::{mem, thread};
 
+/// The part of the program that logs what happens here, as the log names it.
+const PART: &str = "lpd_daemon::listening";
+
 /// The pause after the system didn't tell what happened, in milliseconds.
 const PAUSE_MS: u64 = 100;
 
@@ -36,7 +39,7 @@ const LOOK_MS: u64 = 10;
 
 /// A lobby at the address of the settings, what wakes its thread, and its port. `kept` descriptors
 /// are left for others. Opening where the system doesn't give what it takes, of which the log is told why too; Memory.
-pub(crate) fn listen<R: Log + Net<Listener = TcpListener, Stream = TcpStream>>(
+pub fn listen<R: Log + Net<Listener = TcpListener, Stream = TcpStream>>(
     rt: &R,
     alloc: Global,
     settings: &mut Settings<'_>,
@@ -64,7 +67,7 @@ pub(crate) fn listen<R: Log + Net<Listener = TcpListener, Stream = TcpStream>>(
 
 /// Prints all rotations that aren't printed yet, where all was printed until now. Where one can't
 /// be printed that is logged at once, and nothing more is printed.
-pub(crate) fn announce_all<R: Log + Wait, W: OctetWrite>(
+pub fn announce_all<R: Log + Wait, W: OctetWrite>(
     rt: &R,
     alloc: Global,
     output: &mut W,
@@ -81,7 +84,7 @@ pub(crate) fn announce_all<R: Log + Wait, W: OctetWrite>(
     for Rotation { number, entries } in rotated {
         let printed = print(alloc, output, PrintedLine::Rotated { number, entries });
         if let Err(fault) = &printed {
-            error!(rt; "{fault}: nothing more is printed, and the server goes on");
+            error!(rt; target: PART, "{fault}: nothing more is printed, and the server goes on");
             return printed;
         }
     }
@@ -90,18 +93,18 @@ pub(crate) fn announce_all<R: Log + Wait, W: OctetWrite>(
 
 /// What connections come by, and are handed on by.
 #[derive(Drop)]
-pub(crate) struct Gate {
-    pub(crate) lobby: Lobby,
-    pub(crate) doors: Doors,
+pub struct Gate {
+    pub lobby: Lobby,
+    pub doors: Doors,
     /// After how many connections the account is rotated.
-    pub(crate) every: Option<NonZeroU64>,
+    pub every: Option<NonZeroU64>,
     /// Room in the account, where it is kept.
-    pub(crate) room: Option<AccountRoom>,
+    pub room: Option<AccountRoom>,
 }
 
 /// The thread that holds connections and hands them on, and rotates the account in between.
 #[derive(Drop)]
-pub(crate) struct Porter<'h, 'a, R, E: HouseLedger> {
+pub struct Porter<'h, 'a, R, E: HouseLedger> {
     spool: &'h HouseSpool<E>,
     hall: &'h Hall<'a, R>,
     seat: HouseSeat<E>,
@@ -112,11 +115,7 @@ pub(crate) struct Porter<'h, 'a, R, E: HouseLedger> {
 
 impl<'h, 'a, R: Clock + Log + Wait, E: HouseLedger> Porter<'h, 'a, R, E> {
     /// A porter that hasn't handed on any connection.
-    pub(crate) fn new(
-        house: House<'h, 'a, R, E>,
-        seat: HouseSeat<E>,
-        gate: Gate,
-    ) -> Porter<'h, 'a, R, E> {
+    pub fn new(house: House<'h, 'a, R, E>, seat: HouseSeat<E>, gate: Gate) -> Porter<'h, 'a, R, E> {
         let House { spool, hall } = house;
         Porter {
             spool,
@@ -128,7 +127,7 @@ impl<'h, 'a, R: Clock + Log + Wait, E: HouseLedger> Porter<'h, 'a, R, E> {
     }
 
     /// Nothing more is handed on. The seat.
-    pub(crate) fn leave(self) -> HouseSeat<E> {
+    pub fn leave(self) -> HouseSeat<E> {
         let Porter { seat, gate, .. } = self;
         drop(gate);
         seat
@@ -158,7 +157,7 @@ impl<'h, 'a, R: Clock + Log + Wait, E: HouseLedger> Porter<'h, 'a, R, E> {
         let rt = self.hall.rt;
         let limit = if lets_jobs_in { None } else { Some(LOOK_MS) };
         if let Err(error) = self.gate.lobby.round(rt, limit) {
-            warn!(rt; "connections can't be looked at: {error}");
+            warn!(rt; target: PART, "connections can't be looked at: {error}");
             thread::sleep(rt, Duration::from_millis(PAUSE_MS));
         }
     }
@@ -192,7 +191,7 @@ impl<'h, 'a, R: Clock + Log + Wait, E: HouseLedger> Porter<'h, 'a, R, E> {
         let (hall, rt) = (self.hall, self.hall.rt);
         let peer = visit.peer;
         if !self.gate.doors.hand(rt, &hall.desk, visit) {
-            warn!(rt; "{peer}: memory was refused");
+            warn!(rt; target: PART, "{peer}: memory was refused");
         }
         self.handed_on = self.handed_on.saturating_add(1);
     }
@@ -203,11 +202,7 @@ impl<'h, 'a, R: Clock + Log + Wait, E: HouseLedger> Porter<'h, 'a, R, E> {
     ///
     /// Output where such a line couldn't be written, Memory where memory for it was refused: all
     /// have been handed on.
-    pub(crate) fn admit<W: OctetWrite>(
-        &mut self,
-        started: bool,
-        output: &mut W,
-    ) -> Result<(), Fault>
+    pub fn admit<W: OctetWrite>(&mut self, started: bool, output: &mut W) -> Result<(), Fault>
         ensures { TellsRotations (W.written output.old) (W.faults output.old)
             (W.written output.new) (W.faults output.new) result }
     {
