@@ -1,5 +1,5 @@
 use Rattle.program_edge.proofs.PlaceLemmas.{no_host, no_place}
-use Rattle.program_edge.proofs.places.place_of.Goals as goal
+use Rattle.program_edge.proofs.places.Place.read.Goals as goal
 
 pub returns-in_err-address-clause-none : goal.returns-in_err-address-clause-none
 returns-in_err-address-clause-none c =
