@@ -1,55 +1,30 @@
--- Commands with words and with commands more.
-use Rattle.std.proofs.Common.{◌≡◌, ◌∙◌, ◌∷◌, [], List, Result, IfOk, Ok, Err, false, map, refl, sym, ap}
-use Rattle.clap.specs.Words.{AddsArg, AddsInTurn, App, Rule, app_of, rule_of, with_subcommand}
+-- Commands with words and with commands more, one after another.
+use Rattle.std.proofs.Common.{◌≡◌, ◌∙◌, ◌∷◌, ◌++◌, [], List, false, refl, sym, ap}
+use Rattle.clap.specs.Words.{AddsArg, AddsSubcommand, App, Rule, app_of, rule_of, with_rule, with_subcommand}
 use Rattle.clap.specs.declared.builder.arg.Arg.{Arg}
 use Rattle.clap.specs.declared.builder.command.Command.{Command}
 use Rattle.clap.specs.declared.builder.command.Command.TheViews.{out-Command as fields_of}
-use Rattle.program_words.specs.Rules.{AreLocal, IsCommand, IsWord, with_rules}
+use Rattle.program_words.specs.Rules.{IsCommand, IsWord, with_commands, with_rules}
 
--- words that were added in turn
-pub words_added : (args : List Arg) (old new : Command) → AddsInTurn AddsArg old args new → AreLocal args → (fields_of old).has_globals ≡ false
-    → (app_of new ≡ with_rules (app_of old) (map rule_of args)) × ((fields_of new).has_globals ≡ false)
-words_added [] old new same local before = (rw same refl, rw (sym same) before)
-words_added (arg ∷ args) old new (between, step, more) (here, local) before =
-    let shape = step.shape here in
-    let globals = step.globals in
-    let none : (fields_of between).has_globals ≡ false = rw globals (rw before here) in
-    let (app, last) = words_added args between new more local none in
-    (app ∙ rw shape refl, last)
+with_rules-append : (app : App) (rules : List Rule) (rule : Rule) → with_rules app (rules ++ rule ∷ []) ≡ with_rule (with_rules app rules) rule
+with_rules-append app [] rule = refl
+with_rules-append app (first ∷ rules) rule = with_rules-append (with_rule app first) rules rule
 
--- words and their rules, one by one
-abbrev pub AreOf : List Arg → List Rule → Type 0
-AreOf [] [] = Unit {0}
-AreOf [] (rule ∷ rules) = ⊥
-AreOf (arg ∷ args) [] = ⊥
-AreOf (arg ∷ args) (rule ∷ rules) = IsWord arg rule × AreOf args rules
+with_commands-append : (app : App) (commands : List App) (command : App) → with_commands app (commands ++ command ∷ []) ≡ with_subcommand (with_commands app commands) command.top
+with_commands-append app [] command = refl
+with_commands-append app (first ∷ commands) command = with_commands-append (with_subcommand app first.top) commands command
 
-rules_of : (args : List Arg) (rules : List Rule) → AreOf args rules → map rule_of args ≡ rules
-rules_of [] [] all = refl
-rules_of [] (rule ∷ rules) all = elim all [ ]
-rules_of (arg ∷ args) [] all = elim all [ ]
-rules_of (arg ∷ args) (rule ∷ rules) (here, there) = rw here.0 (ap (λ xs. rule ∷ xs) (rules_of args rules there))
+-- one more word was added
+pub one_more_word : (old new : Command) (arg : Arg) (app : App) (rules more : List Rule) (rule : Rule) → IsCommand old (with_rules app rules) → IsWord arg rule → AddsArg old arg new
+    → more ≡ rules ++ rule ∷ [] → IsCommand new (with_rules app more)
+one_more_word old new arg app rules more rule was is added same =
+    let shape = added.shape is.1 in
+    let globals : (fields_of new).has_globals ≡ false = rw added.globals (rw was.1 is.1) in
+    (shape ∙ ap (λ it. with_rule it (rule_of arg)) was.0 ∙ ap (λ it. with_rule (with_rules app rules) it) is.0 ∙ sym (with_rules-append app rules rule) ∙ ap (with_rules app) (sym same), globals)
 
--- a command with these words, whose rules are known
-pub ok_rules : {E : Type 0} (r : Result Command E) (base app : App) (items args : List Arg) (rules : List Rule) → IfOk r (λ c. IsCommand c (with_rules base (map rule_of items))) → items ≡ args → base ≡ app
-    → AreOf args rules → IfOk r (λ c. IsCommand c (with_rules app rules))
-ok_rules (Ok c) base app items args rules h same from all = (h.0 ∙ ap (λ x. with_rules x (map rule_of items)) from ∙ ap (λ x. with_rules app (map rule_of x)) same ∙ ap (with_rules app) (rules_of args rules all), h.1)
-ok_rules (Err e) base app items args rules h same from all = tt
-
--- what holds of each command that words were added to holds of what comes
-pub ok_words : {E : Type 0} (r : Result Command E) (args : List Arg) (old : Command) (P : Command → Type 0)
-    → IfOk r (λ new. AddsInTurn AddsArg old args new) → AreLocal args → (fields_of old).has_globals ≡ false
-    → ((new : Command) → app_of new ≡ with_rules (app_of old) (map rule_of args) → (fields_of new).has_globals ≡ false → P new) → IfOk r P
-ok_words (Ok new) args old P added local before then =
-    let (app, last) = words_added args old new added local before in
-    then new app last
-ok_words (Err e) args old P added local before then = tt
-
--- a program that is known, with one command more
-pub then_with : (new old app sub : App) → new ≡ with_subcommand old sub.top → old ≡ app → new ≡ with_subcommand app sub.top
-then_with new old app sub added from = added ∙ ap (λ x. with_subcommand x sub.top) from
-
-pub ok_then_with : {E : Type 0} (r : Result Command E) (old app sub : App) → IfOk r (λ new. app_of new ≡ with_subcommand old sub.top) → old ≡ app
-    → IfOk r (λ new. app_of new ≡ with_subcommand app sub.top)
-ok_then_with (Ok new) old app sub added from = then_with (app_of new) old app sub added from
-ok_then_with (Err e) old app sub added from = tt
+-- one more command was added
+pub one_more_command : (old new sub : Command) (app command : App) (commands more : List App) → app_of old ≡ with_commands app commands → IsCommand sub command → AddsSubcommand old sub new
+    → more ≡ commands ++ command ∷ [] → app_of new ≡ with_commands app more
+one_more_command old new sub app command commands more was is added same =
+    added.shape is.1 ∙ ap (λ it. with_subcommand it (app_of sub).top) was ∙ ap (λ it. with_subcommand (with_commands app commands) it.top) is.0 ∙ sym (with_commands-append app commands command)
+    ∙ ap (with_commands app) (sym same)

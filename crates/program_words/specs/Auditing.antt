@@ -2,7 +2,7 @@
 use Rattle.std.specs.Prelude.{◌≡◌, ◌∷◌, ℕ, List, None, Option, Some, codes, map, option_map, true, [], unwrap_or}
 use Rattle.account_text.specs.Reading.{digest_of}
 use Rattle.clap.specs.Words.{App, Row, Rule, Text, all_of, first_of, new_app}
-use Rattle.program_words.specs.Rules.{counts, flag, option, repeated, with_rules, word}
+use Rattle.program_words.specs.Rules.{counts, flag, option, repeated, with_rules, words}
 use Rattle.program_words.specs.Values.{IsFlag}
 use Rattle.account_usage.specs.declared.request.AuditRequest.{AuditRequest}
 use Rattle.account_usage.specs.declared.grouping.Grouping.{Grouping}
@@ -12,8 +12,7 @@ use Rattle.segment_text.specs.Reading.{is_time}
 
 -- the files of segments: 1 to 65,536
 abbrev pub segment_files : Rule
-segment_files =
-    record (word (codes "file")) { range = Some (record { start_inclusive = 1; end_inclusive = 65536 }) }
+segment_files = words (codes "file") 65536
 
 -- the words and options of `audit`
 abbrev pub audit_words : List Rule

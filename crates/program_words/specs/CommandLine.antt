@@ -19,14 +19,14 @@ replay_app = with_rules (new_app (codes "replay")) replay_words
 abbrev pub send_words : List Rule
 send_words =
     server_port ∷ word (codes "queue") ∷ number (codes "number") (parser.Signed (pos 0) (pos 999))
-    ∷ word (codes "host") ∷ word (codes "user") ∷ words (codes "file") ∷ server_option ∷ flag (codes "progress") ∷ []
+    ∷ word (codes "host") ∷ word (codes "user") ∷ words (codes "file") 52 ∷ server_option ∷ flag (codes "progress") ∷ []
 
 abbrev pub send_app : App
 send_app = with_rules (new_app (codes "send")) send_words
 
 -- the words of `control`
 abbrev pub control_words : List Rule
-control_words = word (codes "path") ∷ words (codes "word") ∷ []
+control_words = word (codes "path") ∷ words (codes "word") 52 ∷ []
 
 abbrev pub control_app : App
 control_app = with_rules (new_app (codes "control")) control_words

@@ -20,7 +20,7 @@ server_option = option (codes "server")
 -- the words and options of `state`
 abbrev pub state_words : List Rule
 state_words =
-    server_port ∷ word (codes "queue") ∷ optional_words (codes "list") ∷ flag (codes "long") ∷ server_option ∷ []
+    server_port ∷ word (codes "queue") ∷ optional_words (codes "list") 510 ∷ flag (codes "long") ∷ server_option ∷ []
 
 abbrev pub state_app : App
 state_app = with_rules (new_app (codes "state")) state_words
@@ -28,7 +28,7 @@ state_app = with_rules (new_app (codes "state")) state_words
 -- the words and options of `remove`
 abbrev pub remove_words : List Rule
 remove_words =
-    server_port ∷ word (codes "queue") ∷ word (codes "agent") ∷ optional_words (codes "list") ∷ server_option ∷ []
+    server_port ∷ word (codes "queue") ∷ word (codes "agent") ∷ optional_words (codes "list") 510 ∷ server_option ∷ []
 
 abbrev pub remove_app : App
 remove_app = with_rules (new_app (codes "remove")) remove_words

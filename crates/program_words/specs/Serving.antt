@@ -4,7 +4,7 @@ use Rattle.std.specs.Int.NonZero.{non_zero_u64_get}
 use Rattle.std.specs.List.{AllPairs, AllZip}
 use Rattle.clap.specs.Words.{App, Row, Rule, Text, all_of, first_of, new_app}
 use Rattle.clap.specs.declared.builder.value_parser.ValueParser.TheVariants as parser
-use Rattle.program_words.specs.Rules.{count, flag, number_option, option, repeated, with_rules, word}
+use Rattle.program_words.specs.Rules.{count, flag, number_option, option, repeated, required_option, with_rules, word}
 use Rattle.program_words.specs.Values.{IsAddress, IsFlag, IsGiven, IsGivenOr, IsLimit, IsNumber}
 use Rattle.program_edge.specs.Networks.{NameNetworks}
 use Rattle.program_edge.specs.declared.networks.Network.{Network}
@@ -21,8 +21,7 @@ use Rattle.program_edge.specs.declared.status.StatusPlace.{StatusPlace}
 
 -- the port to listen on, which has to be there
 abbrev pub listening_port : Rule
-listening_port =
-    record (number_option (codes "port") (parser.Signed (pos 1) (pos 65535))) { required = true }
+listening_port = required_option (codes "port") (parser.Signed (pos 1) (pos 65535))
 
 abbrev pub sessions : Rule
 sessions = number_option (codes "sessions") (parser.Signed (pos 1) (pos 64))

@@ -3,15 +3,13 @@
 ghost use Rattle.std.specs.Prelude.{◌≡◌, [], IfErr, IfOk, codes, map, option_map, unwrap_or};
 ghost use Rattle.clap.specs.Words.{all_of, found_of, rows_of};
 ghost use Rattle.program_words.specs.Auditing.{IsAuditRequest, IsDigest, IsGrouping, IsTime, IsUsageRequest};
-ghost use Rattle.program_words.specs.Auditing.{audit_app, segment_files, usage_app};
 ghost use Rattle.program_words.specs.Refused.{HasNoDigest, HasNoGrouping, HasNoTime, LacksAudit, LacksUsage};
-ghost use Rattle.program_words.specs.Rules.{IsCommand, IsWord};
 
 use crate::word_fault::WordFault;
-use crate::rules::{counts, flag, option, plain, repeated, with_words, word};
+use crate::rules::{CommandTable, Shape, Word};
 use crate::values::{flag_of, text_if, text_or, texts_of};
 use account_usage::{AuditRequest, Grouping, UsageRequest};
-use clap::{Arg, ArgMatches, Command};
+use clap::ArgMatches;
 use segment_text::is_time;
 use std::alloc::{AllocError, Global};
 
@@ -57,52 +55,76 @@ Examples:
   lpd_server usage segment-* --by queue --since 2026-11-01T00:00:00Z --csv";
 
 /// The word for the files of segments.
-fn segment_files<'a>(alloc: Global) -> Arg<'a>
-    ensures { IsWord result segment_files }
-{
-    word(alloc, "file", "FILE", "The files of segments, in order").num_args(1..=65_536)
-}
+const SEGMENT_FILES: Word = Word {
+    id: "file",
+    shape: Shape::Words("FILE", 65_536),
+    help: "The files of segments, in order",
+};
 
 /// The command that checks an account.
-pub(crate) fn audit<'a>(alloc: Global) -> Result<Command<'a>, AllocError>
-    ensures { IfOk result (λ command. IsCommand command audit_app) }
-{
-    let about = "Checks an account, entry by entry";
-    let after = "Takes the first segment only where it follows on the one that ends in DIGEST";
-    let ends = "Asks whether the last segment ends in DIGEST, which was kept elsewhere";
-    let printed =
-        "Compares what printers wrote with it: PLACE is a directory, K=PATH or K@PLACE=PATH";
-    let taken = "Says that somebody takes files away from the folder of printer K";
-    let progress = "Tells on standard error how far it is, where that is no terminal too";
-    let words = vec![in alloc;
-        segment_files(alloc),
-        option(alloc, "after", "DIGEST", after),
-        option(alloc, "ends", "DIGEST", ends),
-        repeated(alloc, "printed", "PLACE", printed),
-        counts(alloc, "taken", "K", taken),
-        flag(alloc, "progress", progress),
-    ]?;
-    with_words(plain(alloc, "audit", about, MORE_OF_AUDIT), words)
-}
+pub(crate) const AUDIT: CommandTable = CommandTable {
+    name: "audit",
+    about: "Checks an account, entry by entry",
+    more: MORE_OF_AUDIT,
+    words: &[
+        SEGMENT_FILES,
+        Word {
+            id: "after",
+            shape: Shape::Option("DIGEST"),
+            help: "Takes the first segment only where it follows on the one that ends in DIGEST",
+        },
+        Word {
+            id: "ends",
+            shape: Shape::Option("DIGEST"),
+            help: "Asks whether the last segment ends in DIGEST, which was kept elsewhere",
+        },
+        Word {
+            id: "printed",
+            shape: Shape::Repeated("PLACE"),
+            help: "Compares what printers wrote with it: PLACE is a directory, K=PATH or K@PLACE=PATH",
+        },
+        Word {
+            id: "taken",
+            shape: Shape::Counts("K"),
+            help: "Says that somebody takes files away from the folder of printer K",
+        },
+        Word {
+            id: "progress",
+            shape: Shape::Flag,
+            help: "Tells on standard error how far it is, where that is no terminal too",
+        },
+    ],
+};
 
 /// The command that tells what was used.
-pub(crate) fn usage<'a>(alloc: Global) -> Result<Command<'a>, AllocError>
-    ensures { IfOk result (λ command. IsCommand command usage_app) }
-{
-    let about = "Tells of an account who sent and printed how much";
-    let by = "What it is told by: user, host or queue [default: user]";
-    let since = "Passes segments over that ended before TIME";
-    let until = "Passes segments over that began after TIME";
-    let csv = "Tells it with commas between, for other programs";
-    let words = vec![in alloc;
-        segment_files(alloc),
-        option(alloc, "by", "GROUPING", by),
-        option(alloc, "since", "TIME", since),
-        option(alloc, "until", "TIME", until),
-        flag(alloc, "csv", csv),
-    ]?;
-    with_words(plain(alloc, "usage", about, MORE_OF_USAGE), words)
-}
+pub(crate) const USAGE: CommandTable = CommandTable {
+    name: "usage",
+    about: "Tells of an account who sent and printed how much",
+    more: MORE_OF_USAGE,
+    words: &[
+        SEGMENT_FILES,
+        Word {
+            id: "by",
+            shape: Shape::Option("GROUPING"),
+            help: "What it is told by: user, host or queue [default: user]",
+        },
+        Word {
+            id: "since",
+            shape: Shape::Option("TIME"),
+            help: "Passes segments over that ended before TIME",
+        },
+        Word {
+            id: "until",
+            shape: Shape::Option("TIME"),
+            help: "Passes segments over that began after TIME",
+        },
+        Word {
+            id: "csv",
+            shape: Shape::Flag,
+            help: "Tells it with commas between, for other programs",
+        },
+    ],
+};
 
 /// The digest that an option gives, if it is there. `Digest` with a text that is none, and `Memory`.
 fn digest_of(alloc: Global, matches: &ArgMatches, id: &str) -> Result<Option<[u8; 32]>, WordFault>

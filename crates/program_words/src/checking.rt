@@ -2,19 +2,18 @@
 
 ghost use Rattle.std.specs.Prelude.{IfErr, IfOk};
 ghost use Rattle.clap.specs.Words.{found_of, rows_of};
-ghost use Rattle.program_words.specs.Checking.{IsChecking, check_app};
+ghost use Rattle.program_words.specs.Checking.{IsChecking};
 ghost use Rattle.program_words.specs.Refused.{LacksChecking};
-ghost use Rattle.program_words.specs.Rules.{IsCommand};
 
 use crate::command::CONFIG;
 use crate::word_fault::WordFault;
 use crate::printers::{PRINTER, printers_of};
-use crate::rules::{flag, option, plain, repeated, with_words, word};
+use crate::rules::{CommandTable, Shape, Word};
 use crate::serving::control_of;
 use crate::values::{flag_of, text_if, text_of};
-use clap::{ArgMatches, Command};
+use clap::ArgMatches;
 use program_edge::PrinterPlace;
-use std::alloc::{AllocError, Global};
+use std::alloc::Global;
 
 const MORE_OF_CHECK: &str = "\
 Prints one line, as: ok pages 1024 page_size 4096 queues 2 printers 3
@@ -60,26 +59,40 @@ pub struct Checking<'a> {
 }
 
 /// The command that reads a configuration.
-pub(crate) fn check<'a>(alloc: Global) -> Result<Command<'a>, AllocError>
-    ensures { IfOk result (λ command. IsCommand command check_app) }
-{
-    let about = "Reads a configuration, and says what spool it is for";
-    let sizes = "Says how many jobs fit into the account";
-    let out = "Says that the directory of the printers' files is there";
-    let control = "Says that a server could make its control socket at PATH";
-    let spool = "Says how many jobs wait in DIR, where a server keeps them, and how many failed";
-    let account = "Says how many segments of its account a server has written in DIR";
-    let words = vec![in alloc;
-        word(alloc, "config", "CONFIG", CONFIG),
-        flag(alloc, "sizes", sizes),
-        repeated(alloc, "printer", "K=PLACE", PRINTER),
-        option(alloc, "out", "DIR", out),
-        option(alloc, "control", "PATH", control),
-        option(alloc, "spool", "DIR", spool),
-        option(alloc, "account", "DIR", account),
-    ]?;
-    with_words(plain(alloc, "check", about, MORE_OF_CHECK), words)
-}
+pub(crate) const CHECK: CommandTable = CommandTable {
+    name: "check",
+    about: "Reads a configuration, and says what spool it is for",
+    more: MORE_OF_CHECK,
+    words: &[
+        CONFIG,
+        Word {
+            id: "sizes",
+            shape: Shape::Flag,
+            help: "Says how many jobs fit into the account",
+        },
+        PRINTER,
+        Word {
+            id: "out",
+            shape: Shape::Option("DIR"),
+            help: "Says that the directory of the printers' files is there",
+        },
+        Word {
+            id: "control",
+            shape: Shape::Option("PATH"),
+            help: "Says that a server could make its control socket at PATH",
+        },
+        Word {
+            id: "spool",
+            shape: Shape::Option("DIR"),
+            help: "Says how many jobs wait in DIR, where a server keeps them, and how many failed",
+        },
+        Word {
+            id: "account",
+            shape: Shape::Option("DIR"),
+            help: "Says how many segments of its account a server has written in DIR",
+        },
+    ],
+};
 
 /// What words say of a configuration that is to be checked. `Missing` where its path isn't there, `Printer` and
 /// `PrinterTwice` as `printers_of` answers, `Control` as `control_of` does, and `Memory`.

@@ -1,21 +1,24 @@
 //! The command line, as `clap` reads it.
 
-ghost use Rattle.std.specs.Prelude.{◌≡◌, IfOk};
-ghost use Rattle.clap.specs.Words.{App, app_of, with_subcommand};
-ghost use Rattle.program_words.specs.CommandLine.{command_line, control_app, program_app, replay_app, send_app};
-ghost use Rattle.program_words.specs.Rules.{IsCommand};
+ghost use Rattle.std.specs.Prelude.{◌≡◌, IfOk, map};
+ghost use Rattle.clap.specs.Words.{app_of};
+ghost use Rattle.program_words.specs.CommandLine.{command_line, program_app};
+ghost use Rattle.program_words.specs.Rules.{table_app, with_commands};
 
-use crate::auditing::{audit, usage};
-use crate::checking::check;
-use crate::questions::{QUEUE, remove, server_option, server_port, start, state};
-use crate::rules::{flag, number, plain, with_words, word, words};
-use crate::serving::serve;
+use crate::auditing::{AUDIT, USAGE};
+use crate::checking::CHECK;
+use crate::questions::{QUEUE, REMOVE, SERVER, SERVER_PORT, START, STATE};
+use crate::rules::{CommandTable, Shape, Word, command_of, plain};
+use crate::serving::SERVE;
 use clap::Command;
-use clap::builder::ValueParser;
 use std::alloc::{AllocError, Global};
 
-/// What a configuration's file is.
-pub(crate) const CONFIG: &str = "The file of the configuration, in TOML";
+/// The word for a configuration's file.
+pub(crate) const CONFIG: Word = Word {
+    id: "config",
+    shape: Shape::Word("CONFIG"),
+    help: "The file of the configuration, in TOML",
+};
 
 /// What `--help` says at its end.
 const MORE: &str = "\
@@ -87,53 +90,80 @@ Examples:
   lpd_server control spool.control stop 60";
 
 /// The command that runs a script.
-fn replay<'a>(alloc: Global) -> Result<Command<'a>, AllocError>
-    ensures { IfOk result (λ command. IsCommand command replay_app) }
-{
-    let about = "Runs the script of a file on the spool of a configuration";
-    let words = vec![in alloc;
-        word(alloc, "config", "CONFIG", CONFIG),
-        word(alloc, "script", "SCRIPT", "The file of the script"),
-    ]?;
-    with_words(plain(alloc, "replay", about, MORE_OF_REPLAY), words)
-}
+const REPLAY: CommandTable = CommandTable {
+    name: "replay",
+    about: "Runs the script of a file on the spool of a configuration",
+    more: MORE_OF_REPLAY,
+    words: &[
+        CONFIG,
+        Word {
+            id: "script",
+            shape: Shape::Word("SCRIPT"),
+            help: "The file of the script",
+        },
+    ],
+};
 
 /// The command that sends a job.
-fn send<'a>(alloc: Global) -> Result<Command<'a>, AllocError>
-    ensures { IfOk result (λ command. IsCommand command send_app) }
-{
-    let about = "Sends a job to a server";
-    let job = "The number of the job: 0 to 999";
-    let host = "The host that sends the job: 1 to 120 octets, no white space";
-    let user = "The user that sends the job: 1 to 255 octets in one line";
-    let files = "The files to print: 1 to 52, none of them empty";
-    let progress = "Tells on standard error how far the job is, where that is no terminal too";
-    let words = vec![in alloc;
-        server_port(alloc),
-        word(alloc, "queue", "QUEUE", QUEUE),
-        number(alloc, "number", "NUMBER", job, ValueParser::signed(0, 999)),
-        word(alloc, "host", "HOST", host),
-        word(alloc, "user", "USER", user),
-        words(alloc, "file", "FILE", files),
-        server_option(alloc),
-        flag(alloc, "progress", progress),
-    ]?;
-    with_words(plain(alloc, "send", about, MORE_OF_SEND), words)
-}
+const SEND: CommandTable = CommandTable {
+    name: "send",
+    about: "Sends a job to a server",
+    more: MORE_OF_SEND,
+    words: &[
+        SERVER_PORT,
+        QUEUE,
+        Word {
+            id: "number",
+            shape: Shape::Number("NUMBER", 0, 999),
+            help: "The number of the job: 0 to 999",
+        },
+        Word {
+            id: "host",
+            shape: Shape::Word("HOST"),
+            help: "The host that sends the job: 1 to 120 octets, no white space",
+        },
+        Word {
+            id: "user",
+            shape: Shape::Word("USER"),
+            help: "The user that sends the job: 1 to 255 octets in one line",
+        },
+        Word {
+            id: "file",
+            shape: Shape::Words("FILE", 52),
+            help: "The files to print: 1 to 52, none of them empty",
+        },
+        SERVER,
+        Word {
+            id: "progress",
+            shape: Shape::Flag,
+            help: "Tells on standard error how far the job is, where that is no terminal too",
+        },
+    ],
+};
 
 /// The command that sends a command to a server.
-fn control<'a>(alloc: Global) -> Result<Command<'a>, AllocError>
-    ensures { IfOk result (λ command. IsCommand command control_app) }
-{
-    let about = "Looks after a server, by a command to its control socket";
-    let path = "The path of the server's control socket: 1 to 107 octets";
-    let command = "The command, as status or remove lp ann: 1 to 52 words";
-    let words = vec![in alloc;
-        word(alloc, "path", "PATH", path),
-        words(alloc, "word", "WORD", command),
-    ]?;
-    with_words(plain(alloc, "control", about, MORE_OF_CONTROL), words)
-}
+const CONTROL: CommandTable = CommandTable {
+    name: "control",
+    about: "Looks after a server, by a command to its control socket",
+    more: MORE_OF_CONTROL,
+    words: &[
+        Word {
+            id: "path",
+            shape: Shape::Word("PATH"),
+            help: "The path of the server's control socket: 1 to 107 octets",
+        },
+        Word {
+            id: "word",
+            shape: Shape::Words("WORD", 52),
+            help: "The command, as status or remove lp ann: 1 to 52 words",
+        },
+    ],
+};
+
+/// The commands, in the order in which `--help` names them.
+const COMMANDS: [CommandTable; 10] = [
+    CHECK, REPLAY, SEND, STATE, REMOVE, START, SERVE, CONTROL, AUDIT, USAGE,
+];
 
 /// The program without its commands.
 fn program<'a>(alloc: Global) -> Command<'a>
@@ -145,29 +175,25 @@ fn program<'a>(alloc: Global) -> Command<'a>
         .disable_help_subcommand(true)
 }
 
-/// A program with one command more, where that was made.
-fn with_command<'a>(
+/// A program with the commands of these tables more, in order.
+fn with_commands<'a>(
+    alloc: Global,
     program: Command<'a>,
-    command: Result<Command<'a>, AllocError>,
+    tables: &[CommandTable],
 ) -> Result<Command<'a>, AllocError>
-    ensures { (app : App) → IfOk command.entry (λ command. IsCommand command app)
-        → IfOk result (λ r. app_of r ≡ with_subcommand (app_of program.entry) app.top) }
+    ensures { IfOk result (λ r.
+        app_of r ≡ with_commands (app_of program.entry) (map table_app tables.now)) }
 {
-    program.subcommand(command?)
+    let mut program = program;
+    for table in tables {
+        program = program.subcommand(command_of(alloc, table)?)?;
+    }
+    Ok(program)
 }
 
 /// The command line.
 pub(crate) fn command<'a>(alloc: Global) -> Result<Command<'a>, AllocError>
     ensures { IfOk result (λ command. app_of command ≡ command_line) }
 {
-    let spools = with_command(program(alloc), check(alloc))?;
-    let spools = with_command(spools, replay(alloc))?;
-    let clients = with_command(spools, send(alloc))?;
-    let clients = with_command(clients, state(alloc))?;
-    let clients = with_command(clients, remove(alloc))?;
-    let clients = with_command(clients, start(alloc))?;
-    let servers = with_command(clients, serve(alloc))?;
-    let servers = with_command(servers, control(alloc))?;
-    let accounts = with_command(servers, audit(alloc))?;
-    with_command(accounts, usage(alloc))
+    with_commands(alloc, program(alloc), &COMMANDS)
 }

@@ -9,14 +9,18 @@ ghost use Rattle.program_words.specs.declared.word_fault.WordFault.TheVariants.{
 ghost use Rattle.program_edge.specs.declared.places.PrinterPlace.{PrinterPlace};
 
 use crate::word_fault::WordFault;
+use crate::rules::{Shape, Word};
 use crate::values::{limit_of, texts_of};
 use clap::ArgMatches;
 use program_edge::{PrinterLimits, PrinterPlace};
 use std::alloc::Global;
 
-/// What the option for a printer is.
-pub(crate) const PRINTER: &str =
-    "What printer K, from 1, prints to: file:PATH, folder:PATH or socket://A.B.C.D[:PORT]";
+/// The option for a printer.
+pub(crate) const PRINTER: Word = Word {
+    id: "printer",
+    shape: Shape::Repeated("K=PLACE"),
+    help: "What printer K, from 1, prints to: file:PATH, folder:PATH or socket://A.B.C.D[:PORT]",
+};
 
 /// Whether one of these is for the printer of this number.
 fn has_printer(printers: &[PrinterPlace], number: u32) -> bool

@@ -3,26 +3,45 @@
 
 ghost use Rattle.std.specs.Prelude.{IfErr, IfOk};
 ghost use Rattle.clap.specs.Words.{found_of, rows_of};
-ghost use Rattle.program_words.specs.Questions.{IsList, IsQuery, IsQuestion, IsServer, remove_app};
-ghost use Rattle.program_words.specs.Questions.{server_option, server_port, start_app, state_app};
+ghost use Rattle.program_words.specs.Questions.{IsList, IsQuery, IsQuestion, IsServer};
 ghost use Rattle.program_words.specs.Refused.{LacksQuery, LacksQuestion, LacksServer};
-ghost use Rattle.program_words.specs.Rules.{IsCommand, IsWord};
 
 use crate::word_fault::WordFault;
 use crate::queue_question::{QueueQuestion, Server};
-use crate::rules::{flag, number, option, optional_words, plain, with_words, word};
+use crate::rules::{CommandTable, Shape, Word};
 use crate::values::{address_of, flag_of, number_of, text_of, texts_of};
-use clap::builder::ValueParser;
-use clap::{Arg, ArgMatches};
+use clap::ArgMatches;
 use lpd_commands::{Command, Octets, Words};
 use lpr_client::has_line;
 use std::alloc::{AllocError, Global};
 
-/// What a queue is.
-pub(crate) const QUEUE: &str = "The name of a queue: 1 to 1022 octets, no white space";
+/// The word for a queue.
+pub(crate) const QUEUE: Word = Word {
+    id: "queue",
+    shape: Shape::Word("QUEUE"),
+    help: "The name of a queue: 1 to 1022 octets, no white space",
+};
 
-const LIST: &str =
-    "A job's number or a user's name, no white space: 0 to 510, in a line of 1023 octets at most";
+/// The words for a list of jobs.
+const LIST: Word = Word {
+    id: "list",
+    shape: Shape::OptionalWords("LIST", 510),
+    help: "A job's number or a user's name, no white space: 0 to 510, in a line of 1023 octets at most",
+};
+
+/// The word that has to be there, the port of a server.
+pub(crate) const SERVER_PORT: Word = Word {
+    id: "port",
+    shape: Shape::Number("PORT", 1, 65_535),
+    help: "The port of the server: 1 to 65535",
+};
+
+/// The option that says where a server is.
+pub(crate) const SERVER: Word = Word {
+    id: "server",
+    shape: Shape::Option("A.B.C.D"),
+    help: "The IPv4 address of the server [default: 127.0.0.1]",
+};
 
 const MORE_OF_STATE: &str = "\
 Prints what the server answers, as it comes: of all jobs of the queue, or of those only that a LIST names. A word that
@@ -46,66 +65,53 @@ Starts the printers of the queue that stand still, and prints `started` once the
 Example:
   lpd_server start 515 lp";
 
-/// The word that has to be there, the port of a server.
-pub(crate) fn server_port<'a>(alloc: Global) -> Arg<'a>
-    ensures { IsWord result server_port }
-{
-    let help = "The port of the server: 1 to 65535";
-    number(alloc, "port", "PORT", help, ValueParser::signed(1, 65_535))
-}
-
-/// The option that says where a server is.
-pub(crate) fn server_option<'a>(alloc: Global) -> Arg<'a>
-    ensures { IsWord result server_option }
-{
-    let help = "The IPv4 address of the server [default: 127.0.0.1]";
-    option(alloc, "server", "A.B.C.D", help)
-}
-
 /// The command that asks for a queue's state.
-pub(crate) fn state<'a>(alloc: Global) -> Result<clap::Command<'a>, AllocError>
-    ensures { IfOk result (λ command. IsCommand command state_app) }
-{
-    let about = "Prints the state of a queue and its jobs";
-    let long = "Asks for the long form, with a line for each file";
-    let words = vec![in alloc;
-        server_port(alloc),
-        word(alloc, "queue", "QUEUE", QUEUE),
-        optional_words(alloc, "list", "LIST", LIST),
-        flag(alloc, "long", long),
-        server_option(alloc),
-    ]?;
-    with_words(plain(alloc, "state", about, MORE_OF_STATE), words)
-}
+pub(crate) const STATE: CommandTable = CommandTable {
+    name: "state",
+    about: "Prints the state of a queue and its jobs",
+    more: MORE_OF_STATE,
+    words: &[
+        SERVER_PORT,
+        QUEUE,
+        LIST,
+        Word {
+            id: "long",
+            shape: Shape::Flag,
+            help: "Asks for the long form, with a line for each file",
+        },
+        SERVER,
+    ],
+};
 
 /// The command that asks for a removal.
-pub(crate) fn remove<'a>(alloc: Global) -> Result<clap::Command<'a>, AllocError>
-    ensures { IfOk result (λ command. IsCommand command remove_app) }
-{
-    let about = "Removes jobs from a queue";
-    let agent = "The user who removes them, no white space";
-    let words = vec![in alloc;
-        server_port(alloc),
-        word(alloc, "queue", "QUEUE", QUEUE),
-        word(alloc, "agent", "AGENT", agent),
-        optional_words(alloc, "list", "LIST", LIST),
-        server_option(alloc),
-    ]?;
-    with_words(plain(alloc, "remove", about, MORE_OF_REMOVE), words)
-}
+pub(crate) const REMOVE: CommandTable = CommandTable {
+    name: "remove",
+    about: "Removes jobs from a queue",
+    more: MORE_OF_REMOVE,
+    words: &[
+        SERVER_PORT,
+        QUEUE,
+        Word {
+            id: "agent",
+            shape: Shape::Word("AGENT"),
+            help: "The user who removes them, no white space",
+        },
+        LIST,
+        SERVER,
+    ],
+};
 
 /// The command that asks to start printers.
-pub(crate) fn start<'a>(alloc: Global) -> Result<clap::Command<'a>, AllocError>
-    ensures { IfOk result (λ command. IsCommand command start_app) }
-{
-    let about = "Starts the printers of a queue that stand still";
-    let words = vec![in alloc;
-        server_port(alloc),
-        word(alloc, "queue", "QUEUE", QUEUE),
-        server_option(alloc),
-    ]?;
-    with_words(plain(alloc, "start", about, MORE_OF_START), words)
-}
+pub(crate) const START: CommandTable = CommandTable {
+    name: "start",
+    about: "Starts the printers of a queue that stand still",
+    more: MORE_OF_START,
+    words: &[
+        SERVER_PORT,
+        QUEUE,
+        SERVER,
+    ],
+};
 
 /// The server that words name. `Missing` where its port isn't there, `Server` where its address is none.
 pub(crate) fn server_of(matches: &ArgMatches) -> Result<Server, WordFault>

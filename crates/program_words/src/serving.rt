@@ -4,26 +4,23 @@ ghost use Rattle.std.specs.Prelude.{◌≡◌, IfOk, IfErr, codes, option_map};
 ghost use Rattle.clap.specs.Words.{found_of, rows_of};
 ghost use Rattle.program_words.specs.Refused.{HasNoAddress, HasNoControl, HasNoLimits, HasNoLog, HasNoNetworks, HasNoSessions, HasNoStatus, HasNoStatusHost};
 ghost use Rattle.program_words.specs.Refused.{LacksServing};
-ghost use Rattle.program_words.specs.Rules.{IsCommand, IsWord};
 ghost use Rattle.program_words.specs.Serving.{AreLimits, AreNetworks, IsControl, IsLog, IsServing, IsStatus, IsStatusHost};
-ghost use Rattle.program_words.specs.Serving.{listening_port, serve_app};
 ghost use Rattle.program_words.specs.Values.{IsAddress, IsGivenOr};
 ghost use Rattle.program_words.specs.declared.word_fault.WordFault.TheVariants.{Address, Missing};
 
 use crate::command::CONFIG;
 use crate::word_fault::WordFault;
 use crate::printers::{PRINTER, printer_limits_of, printers_of};
-use crate::rules::{count, flag, number_option, option, plain, repeated, with_words, word};
+use crate::rules::{CommandTable, Shape, Word};
 use crate::values::{
     address_of, count_of, flag_of, limit_of, number_of, text_if, text_or, texts_of,
 };
-use clap::builder::ValueParser;
-use clap::{Arg, ArgMatches, Command};
+use clap::ArgMatches;
 use program_edge::{
     LEAVE_SECONDS, Limits, LogForm, MOST_CONTROL_PATH, NO_JOB_SECONDS, Network, ROOM_MS, Settings,
     StatusPlace, is_host_name,
 };
-use std::alloc::{AllocError, Global};
+use std::alloc::Global;
 use std::net::Ipv4Addr;
 
 /// How many connections are served at once where the words don't say it.
@@ -49,74 +46,126 @@ Examples:
   lpd_server serve spool.toml --port 515 --keep-room --bind 0.0.0.0 --proxied 10.0.0.2 --allow 10.0.0.0/8
   lpd_server serve spool.toml --port 5150 --connections 1";
 
-/// The option that has to be there, the port to listen on.
-fn listening_port<'a>(alloc: Global) -> Arg<'a>
-    ensures { IsWord result listening_port }
-{
-    let help = "The port to listen on: 1 to 65535";
-    number_option(alloc, "port", "PORT", help, ValueParser::signed(1, 65_535)).required(true)
-}
-
 /// The command that serves.
-pub(crate) fn serve<'a>(alloc: Global) -> Result<Command<'a>, AllocError>
-    ensures { IfOk result (λ command. IsCommand command serve_app) }
-{
-    let about = "Serves the queues of a configuration to the network";
-    let bind = "The IPv4 address to listen on, 0.0.0.0 for all [default: 127.0.0.1]";
-    let out = "The directory of the printers' files [default: .]";
-    let sessions = "Serves at most N connections at once: 1 to 64 [default: 8]";
-    let connections = "Exits after N connections [default: never]";
-    let rotate = "Rotates the account after every N connections, for which all wait";
-    let silence = "Ends a session whose peer sends nothing, or reads nothing, for SECONDS";
-    let per_host = "Serves at most N connections of one address at once";
-    let slowest = "Ends a session whose peer sends fewer than OCTETS a second for a minute";
-    let keep_room =
-        "Rotates the account as soon as no job is held, or trims it, and has new jobs wait for that";
-    let allow = "Lets in this network alone, and each other that is named so, as 10.0.0.0/8";
-    let proxied =
-        "Has a proxy's header (PROXY protocol) say whose each connection of this network is, and of each other that is named so";
-    let control = "Makes a Unix socket at PATH where the server is looked after";
-    let patience = "Fails a job whose network printer isn't reached for MINUTES";
-    let silent = "Fails a job whose network printer takes nothing for SECONDS";
-    let spool =
-        "Keeps each job in a file of DIR until it is printed, so that it outlives the server";
-    let account =
-        "Writes each segment of the account into a file of DIR, as it is rotated and at the end";
-    let restart = "Starts a queue again SECONDS after a printer of it failed";
-    let log =
-        "Sets before each line of the log its time, or what systemd's journal reads: FORM is time or journal";
-    let log_jobs = "Logs each job that was received, done, failed, removed or aborted";
-    let status =
-        "Shows how all stands to browsers, and counts to Prometheus, at PORT of ADDRESS [default: 127.0.0.1]";
-    let status_host = "Lets browsers ask for that by the name NAME too";
-    let words = vec![in alloc;
-        word(alloc, "config", "CONFIG", CONFIG),
-        listening_port(alloc),
-        option(alloc, "bind", "ADDRESS", bind),
-        option(alloc, "out", "DIR", out),
-        number_option(alloc, "sessions", "N", sessions, ValueParser::signed(1, 64)),
-        count(alloc, "connections", "N", connections),
-        count(alloc, "rotate", "N", rotate),
-        count(alloc, "silence", "SECONDS", silence),
-        count(alloc, "per-host", "N", per_host),
-        count(alloc, "slowest", "OCTETS", slowest),
-        flag(alloc, "keep-room", keep_room),
-        repeated(alloc, "allow", "NETWORK", allow),
-        repeated(alloc, "proxied", "NETWORK", proxied),
-        option(alloc, "control", "PATH", control),
-        repeated(alloc, "printer", "K=PLACE", PRINTER),
-        count(alloc, "patience", "MINUTES", patience),
-        count(alloc, "printer-silence", "SECONDS", silent),
-        count(alloc, "restart", "SECONDS", restart),
-        option(alloc, "spool", "DIR", spool),
-        option(alloc, "account", "DIR", account),
-        option(alloc, "log", "FORM", log),
-        flag(alloc, "log-jobs", log_jobs),
-        option(alloc, "status", "[ADDRESS:]PORT", status),
-        option(alloc, "status-host", "NAME", status_host),
-    ]?;
-    with_words(plain(alloc, "serve", about, MORE_OF_SERVE), words)
-}
+pub(crate) const SERVE: CommandTable = CommandTable {
+    name: "serve",
+    about: "Serves the queues of a configuration to the network",
+    more: MORE_OF_SERVE,
+    words: &[
+        CONFIG,
+        Word {
+            id: "port",
+            shape: Shape::RequiredOption("PORT", 1, 65_535),
+            help: "The port to listen on: 1 to 65535",
+        },
+        Word {
+            id: "bind",
+            shape: Shape::Option("ADDRESS"),
+            help: "The IPv4 address to listen on, 0.0.0.0 for all [default: 127.0.0.1]",
+        },
+        Word {
+            id: "out",
+            shape: Shape::Option("DIR"),
+            help: "The directory of the printers' files [default: .]",
+        },
+        Word {
+            id: "sessions",
+            shape: Shape::NumberOption("N", 1, 64),
+            help: "Serves at most N connections at once: 1 to 64 [default: 8]",
+        },
+        Word {
+            id: "connections",
+            shape: Shape::Count("N"),
+            help: "Exits after N connections [default: never]",
+        },
+        Word {
+            id: "rotate",
+            shape: Shape::Count("N"),
+            help: "Rotates the account after every N connections, for which all wait",
+        },
+        Word {
+            id: "silence",
+            shape: Shape::Count("SECONDS"),
+            help: "Ends a session whose peer sends nothing, or reads nothing, for SECONDS",
+        },
+        Word {
+            id: "per-host",
+            shape: Shape::Count("N"),
+            help: "Serves at most N connections of one address at once",
+        },
+        Word {
+            id: "slowest",
+            shape: Shape::Count("OCTETS"),
+            help: "Ends a session whose peer sends fewer than OCTETS a second for a minute",
+        },
+        Word {
+            id: "keep-room",
+            shape: Shape::Flag,
+            help: "Rotates the account as soon as no job is held, or trims it, and has new jobs wait for that",
+        },
+        Word {
+            id: "allow",
+            shape: Shape::Repeated("NETWORK"),
+            help: "Lets in this network alone, and each other that is named so, as 10.0.0.0/8",
+        },
+        Word {
+            id: "proxied",
+            shape: Shape::Repeated("NETWORK"),
+            help: "Has a proxy's header (PROXY protocol) say whose each connection of this network is, and of each other that is named so",
+        },
+        Word {
+            id: "control",
+            shape: Shape::Option("PATH"),
+            help: "Makes a Unix socket at PATH where the server is looked after",
+        },
+        PRINTER,
+        Word {
+            id: "patience",
+            shape: Shape::Count("MINUTES"),
+            help: "Fails a job whose network printer isn't reached for MINUTES",
+        },
+        Word {
+            id: "printer-silence",
+            shape: Shape::Count("SECONDS"),
+            help: "Fails a job whose network printer takes nothing for SECONDS",
+        },
+        Word {
+            id: "restart",
+            shape: Shape::Count("SECONDS"),
+            help: "Starts a queue again SECONDS after a printer of it failed",
+        },
+        Word {
+            id: "spool",
+            shape: Shape::Option("DIR"),
+            help: "Keeps each job in a file of DIR until it is printed, so that it outlives the server",
+        },
+        Word {
+            id: "account",
+            shape: Shape::Option("DIR"),
+            help: "Writes each segment of the account into a file of DIR, as it is rotated and at the end",
+        },
+        Word {
+            id: "log",
+            shape: Shape::Option("FORM"),
+            help: "Sets before each line of the log its time, or what systemd's journal reads: FORM is time or journal",
+        },
+        Word {
+            id: "log-jobs",
+            shape: Shape::Flag,
+            help: "Logs each job that was received, done, failed, removed or aborted",
+        },
+        Word {
+            id: "status",
+            shape: Shape::Option("[ADDRESS:]PORT"),
+            help: "Shows how all stands to browsers, and counts to Prometheus, at PORT of ADDRESS [default: 127.0.0.1]",
+        },
+        Word {
+            id: "status-host",
+            shape: Shape::Option("NAME"),
+            help: "Lets browsers ask for that by the name NAME too",
+        },
+    ],
+};
 
 /// The address to listen on. `Address` where the text isn't one.
 fn bind_of(matches: &ArgMatches) -> Result<Ipv4Addr, WordFault>
