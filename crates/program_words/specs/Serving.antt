@@ -18,6 +18,9 @@ use Rattle.program_edge.specs.declared.settings.PrinterLimits.{PrinterLimits}
 use Rattle.program_edge.specs.declared.settings.Settings.{Settings}
 use Rattle.program_edge.specs.declared.settings.TheConstants.{MOST_CONTROL_PATH}
 use Rattle.program_edge.specs.declared.status.StatusPlace.{StatusPlace}
+use Rattle.program_words.specs.declared.serving.Listening.{Listening}
+use Rattle.program_words.specs.declared.serving.Printing.{Printing}
+use Rattle.program_words.specs.declared.serving.Telling.{Telling}
 
 -- the port to listen on, which has to be there
 abbrev pub listening_port : Rule
@@ -118,3 +121,24 @@ pub record IsServing (rows : List Row) (settings : Settings) : Type 0 where
   pub log_jobs : IsFlag rows (codes "log-jobs") settings.log_jobs
   pub status : IsStatus rows settings.status
   pub status_host : IsStatusHost rows (option_map (λ name. name.now) settings.status_host)
+
+-- the part of it that says where a server listens, and how many connections it serves
+pub record IsListening (rows : List Row) (listening : Listening) : Type 0 where
+  pub port : IsNumber rows (codes "port") listening.port
+  pub bind : IsAddress (codes "bind") rows listening.bind
+  pub sessions : IsGivenOr 8 rows (codes "sessions") listening.sessions
+  pub connections : IsGiven 64 rows (codes "connections") listening.connections
+  pub rotate : IsLimit rows (codes "rotate") (option_map non_zero_u64_get listening.rotate)
+  pub limits : AreLimits rows listening.limits
+
+-- the part of it that says what a server prints to
+pub record IsPrinting (rows : List Row) (printing : Printing) : Type 0 where
+  pub printers : ArePrinters rows printing.printers.items
+  pub limits : ArePrinterLimits rows printing.limits
+  pub restart : IsLimit rows (codes "restart") (option_map non_zero_u64_get printing.restart_seconds)
+
+-- the part of it that says what a server tells of itself
+pub record IsTelling (rows : List Row) (telling : Telling) : Type 0 where
+  pub log : IsLog rows telling.log
+  pub status : IsStatus rows telling.status
+  pub status_host : IsStatusHost rows (option_map (λ name. name.now) telling.status_host)

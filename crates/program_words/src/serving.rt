@@ -4,7 +4,8 @@ ghost use Rattle.std.specs.Prelude.{◌≡◌, IfOk, IfErr, codes, option_map};
 ghost use Rattle.clap.specs.Words.{found_of, rows_of};
 ghost use Rattle.program_words.specs.Refused.{HasNoAddress, HasNoControl, HasNoLimits, HasNoLog, HasNoNetworks, HasNoSessions, HasNoStatus, HasNoStatusHost};
 ghost use Rattle.program_words.specs.Refused.{LacksServing};
-ghost use Rattle.program_words.specs.Serving.{AreLimits, AreNetworks, IsControl, IsLog, IsServing, IsStatus, IsStatusHost};
+ghost use Rattle.program_words.specs.Serving.{AreLimits, AreNetworks, IsControl, IsListening, IsLog, IsPrinting};
+ghost use Rattle.program_words.specs.Serving.{IsServing, IsStatus, IsStatusHost, IsTelling};
 ghost use Rattle.program_words.specs.Values.{IsAddress, IsGivenOr};
 ghost use Rattle.program_words.specs.declared.word_fault.WordFault.TheVariants.{Address, Missing};
 
@@ -17,11 +18,12 @@ use crate::values::{
 };
 use clap::ArgMatches;
 use program_edge::{
-    LEAVE_SECONDS, Limits, LogForm, MOST_CONTROL_PATH, NO_JOB_SECONDS, Network, ROOM_MS, Settings,
-    StatusPlace, is_host_name,
+    LEAVE_SECONDS, Limits, LogForm, MOST_CONTROL_PATH, NO_JOB_SECONDS, Network, PrinterLimits,
+    PrinterPlace, ROOM_MS, Settings, StatusPlace, is_host_name,
 };
 use std::alloc::Global;
 use std::net::Ipv4Addr;
+use std::num::NonZeroU64;
 
 /// How many connections are served at once where the words don't say it.
 const SESSIONS: u32 = 8;
@@ -292,6 +294,72 @@ fn status_host_of<'a>(alloc: Global, matches: &ArgMatches<'a>) -> Result<Option<
     }
 }
 
+/// Where a server listens, and how many connections it serves.
+#[derive(Clone, Copy, Debug)]
+struct Listening {
+    port: u16,
+    bind: Ipv4Addr,
+    sessions: u32,
+    connections: Option<u64>,
+    rotate: Option<NonZeroU64>,
+    limits: Limits,
+}
+
+/// What words say of the connections that a server takes.
+fn listening_of(matches: &ArgMatches) -> Result<Listening, WordFault>
+    ensures read { IfOk result (IsListening (rows_of (found_of matches.now))) }
+    ensures fault { IfErr result (LacksServing (rows_of (found_of matches.now))) }
+{
+    Ok(Listening {
+        port: number_of(matches, "port")?,
+        bind: bind_of(matches)?,
+        sessions: sessions_of(matches)?,
+        connections: count_of(matches, "connections")?,
+        rotate: limit_of(matches, "rotate")?,
+        limits: limits_of(matches)?,
+    })
+}
+
+/// What a server prints to.
+#[derive(Debug, Drop)]
+struct Printing<'a> {
+    printers: Vec<PrinterPlace<'a>>,
+    limits: PrinterLimits,
+    restart_seconds: Option<NonZeroU64>,
+}
+
+/// What words say of the printers of a server.
+fn printing_of<'a>(alloc: Global, matches: &ArgMatches<'a>) -> Result<Printing<'a>, WordFault>
+    ensures read { IfOk result (IsPrinting (rows_of (found_of matches.now))) }
+    ensures fault { IfErr result (LacksServing (rows_of (found_of matches.now))) }
+{
+    Ok(Printing {
+        printers: printers_of(alloc, matches)?,
+        limits: printer_limits_of(matches)?,
+        restart_seconds: limit_of(matches, "restart")?,
+    })
+}
+
+/// What a server tells of itself.
+#[derive(Clone, Copy, Debug)]
+struct Telling<'a> {
+    log: LogForm,
+    status: Option<StatusPlace>,
+    status_host: Option<&'a str>,
+}
+
+/// What words say of what a server tells of itself.
+fn telling_of<'a>(alloc: Global, matches: &ArgMatches<'a>) -> Result<Telling<'a>, WordFault>
+    ensures read { IfOk result (IsTelling (rows_of (found_of matches.now))) }
+    ensures fault { IfErr result (LacksServing (rows_of (found_of matches.now))) }
+{
+    Ok(Telling {
+        log: log_of(alloc, matches)?,
+        status: status_of(alloc, matches)?,
+        status_host: status_host_of(alloc, matches)?,
+    })
+}
+
 /// What words say of a server that is to run.
 pub(crate) fn serving_of<'a>(
     alloc: Global,
@@ -300,26 +368,32 @@ pub(crate) fn serving_of<'a>(
     ensures read { IfOk result (IsServing (rows_of (found_of matches.now))) }
     ensures fault { IfErr result (LacksServing (rows_of (found_of matches.now))) }
 {
+    let listening = listening_of(matches)?;
+    let allowed = networks_of(alloc, matches, "allow")?;
+    let proxied = networks_of(alloc, matches, "proxied")?;
+    let control = control_of(alloc, matches)?;
+    let printing = printing_of(alloc, matches)?;
+    let telling = telling_of(alloc, matches)?;
     Ok(Settings {
-        port: number_of(matches, "port")?,
-        bind: bind_of(matches)?,
+        port: listening.port,
+        bind: listening.bind,
         out: text_or(matches, "out", OUT),
-        sessions: sessions_of(matches)?,
-        connections: count_of(matches, "connections")?,
-        rotate: limit_of(matches, "rotate")?,
+        sessions: listening.sessions,
+        connections: listening.connections,
+        rotate: listening.rotate,
         keep_room: flag_of(matches, "keep-room"),
-        limits: limits_of(matches)?,
-        allowed: networks_of(alloc, matches, "allow")?,
-        proxied: networks_of(alloc, matches, "proxied")?,
-        control: control_of(alloc, matches)?,
-        printers: printers_of(alloc, matches)?,
-        printer_limits: printer_limits_of(matches)?,
-        restart_seconds: limit_of(matches, "restart")?,
+        limits: listening.limits,
+        allowed,
+        proxied,
+        control,
+        printers: printing.printers,
+        printer_limits: printing.limits,
+        restart_seconds: printing.restart_seconds,
         spool: text_if(matches, "spool"),
         account: text_if(matches, "account"),
-        log: log_of(alloc, matches)?,
+        log: telling.log,
         log_jobs: flag_of(matches, "log-jobs"),
-        status: status_of(alloc, matches)?,
-        status_host: status_host_of(alloc, matches)?,
+        status: telling.status,
+        status_host: telling.status_host,
     })
 }

@@ -1,6 +1,6 @@
 //! What the words ask for.
 
-ghost use Rattle.std.specs.Prelude.{◌≡◌, [], IfOk, IfErr, Some, map, string_bytes};
+ghost use Rattle.std.specs.Prelude.{◌≡◌, [], IfOk, IfErr, Some, codes, map, string_bytes};
 ghost use Rattle.clap.specs.Words.{fault_of, found_of, kind_of, rows_of, subcommand_of, subcommand_rows_of};
 ghost use Rattle.program_words.specs.Asked.{IsAsked, IsAskedBy, IsSending};
 ghost use Rattle.program_words.specs.CommandLine.{command_line};
@@ -132,35 +132,89 @@ fn sending_of<'a>(alloc: Global, matches: &ArgMatches<'a>) -> Result<Sending<'a>
     })
 }
 
+/// What the words of `check` ask for.
+fn asked_to_check<'a>(alloc: Global, matches: &ArgMatches<'a>) -> Result<Ask<'a>, WordFault>
+    ensures asked { IfOk result (IsAskedBy (codes "check") (rows_of (found_of matches.now))) }
+    ensures fault { IfErr result
+        (AsksNothing (Some (codes "check", rows_of (found_of matches.now)))) }
+{
+    Ok(Ask::Check(checking_of(alloc, matches)?))
+}
+
+/// What the words of `replay` ask for.
+fn asked_to_replay<'a>(matches: &ArgMatches<'a>) -> Result<Ask<'a>, WordFault>
+    ensures asked { IfOk result (IsAskedBy (codes "replay") (rows_of (found_of matches.now))) }
+    ensures fault { IfErr result
+        (AsksNothing (Some (codes "replay", rows_of (found_of matches.now)))) }
+{
+    let config = text_of(matches, "config")?;
+    let script = text_of(matches, "script")?;
+    Ok(Ask::Replay { config, script })
+}
+
+/// What the words of `send` ask for.
+fn asked_to_send<'a>(alloc: Global, matches: &ArgMatches<'a>) -> Result<Ask<'a>, WordFault>
+    ensures asked { IfOk result (IsAskedBy (codes "send") (rows_of (found_of matches.now))) }
+    ensures fault { IfErr result
+        (AsksNothing (Some (codes "send", rows_of (found_of matches.now)))) }
+{
+    let sending = sending_of(alloc, matches)?;
+    let envelope = Envelope::new(alloc, &sending)?;
+    Ok(Ask::Send { sending, envelope })
+}
+
+/// What the words of `serve` ask for.
+fn asked_to_serve<'a>(alloc: Global, matches: &ArgMatches<'a>) -> Result<Ask<'a>, WordFault>
+    ensures asked { IfOk result (IsAskedBy (codes "serve") (rows_of (found_of matches.now))) }
+    ensures fault { IfErr result
+        (AsksNothing (Some (codes "serve", rows_of (found_of matches.now)))) }
+{
+    let config = text_of(matches, "config")?;
+    let settings = serving_of(alloc, matches)?;
+    Ok(Ask::Serve { config, settings })
+}
+
+/// What the words of `control` ask for.
+fn asked_to_control<'a>(alloc: Global, matches: &ArgMatches<'a>) -> Result<Ask<'a>, WordFault>
+    ensures asked { IfOk result (IsAskedBy (codes "control") (rows_of (found_of matches.now))) }
+    ensures fault { IfErr result
+        (AsksNothing (Some (codes "control", rows_of (found_of matches.now)))) }
+{
+    Ok(Ask::Control(request_of(alloc, matches)?))
+}
+
+/// What the words of `audit` ask for.
+fn asked_to_audit<'a>(alloc: Global, matches: &ArgMatches<'a>) -> Result<Ask<'a>, WordFault>
+    ensures asked { IfOk result (IsAskedBy (codes "audit") (rows_of (found_of matches.now))) }
+    ensures fault { IfErr result
+        (AsksNothing (Some (codes "audit", rows_of (found_of matches.now)))) }
+{
+    Ok(Ask::Audit(audit_of(alloc, matches)?))
+}
+
+/// What the words of `usage` ask for.
+fn asked_for_usage<'a>(alloc: Global, matches: &ArgMatches<'a>) -> Result<Ask<'a>, WordFault>
+    ensures asked { IfOk result (IsAskedBy (codes "usage") (rows_of (found_of matches.now))) }
+    ensures fault { IfErr result
+        (AsksNothing (Some (codes "usage", rows_of (found_of matches.now)))) }
+{
+    Ok(Ask::Usage(usage_of(alloc, matches)?))
+}
+
 /// What a command and its words ask for.
 fn asked_by<'a>(alloc: Global, name: &str, matches: &ArgMatches<'a>) -> Result<Ask<'a>, WordFault>
     ensures asked { IfOk result (IsAskedBy name.now (rows_of (found_of matches.now))) }
     ensures fault { IfErr result (AsksNothing (Some (name.now, rows_of (found_of matches.now)))) }
 {
     match name {
-        "check" => Ok(Ask::Check(checking_of(alloc, matches)?)),
-        "replay" => {
-            let config = text_of(matches, "config")?;
-            let script = text_of(matches, "script")?;
-            Ok(Ask::Replay { config, script })
-        }
-        "send" => {
-            let sending = sending_of(alloc, matches)?;
-            let envelope = Envelope::new(alloc, &sending)?;
-            Ok(Ask::Send { sending, envelope })
-        }
-        "serve" => {
-            let config = text_of(matches, "config")?;
-            let settings = serving_of(alloc, matches)?;
-            Ok(Ask::Serve { config, settings })
-        }
-        "control" => Ok(Ask::Control(request_of(alloc, matches)?)),
-        "audit" => Ok(Ask::Audit(audit_of(alloc, matches)?)),
-        "usage" => Ok(Ask::Usage(usage_of(alloc, matches)?)),
-        _ => {
-            let question = question_of(alloc, name, matches)?;
-            Ok(Ask::Question(question))
-        }
+        "check" => asked_to_check(alloc, matches),
+        "replay" => asked_to_replay(matches),
+        "send" => asked_to_send(alloc, matches),
+        "serve" => asked_to_serve(alloc, matches),
+        "control" => asked_to_control(alloc, matches),
+        "audit" => asked_to_audit(alloc, matches),
+        "usage" => asked_for_usage(alloc, matches),
+        _ => Ok(Ask::Question(question_of(alloc, name, matches)?)),
     }
 }
 

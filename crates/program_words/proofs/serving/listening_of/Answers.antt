@@ -1,5 +1,5 @@
 use Rattle.std.proofs.lemmas.Result.{err_from_is_err_and}
-use Rattle.program_words.proofs.serving.serving_of.Goals as goal
+use Rattle.program_words.proofs.serving.listening_of.Goals as goal
 
 pub returns-in_err-number_of-clause-fault : goal.returns-in_err-number_of-clause-fault
 returns-in_err-number_of-clause-fault c =
