@@ -5,9 +5,9 @@ ghost use Rattle.clap.specs.Words.{all_of, found_of, rows_of};
 ghost use Rattle.program_words.specs.Auditing.{IsAuditRequest, IsDigest, IsGrouping, IsTime, IsUsageRequest};
 ghost use Rattle.program_words.specs.Refused.{HasNoDigest, HasNoGrouping, HasNoTime, LacksAudit, LacksUsage};
 
-use crate::word_fault::WordFault;
 use crate::rules::{CommandTable, Shape, Word};
 use crate::values::{flag_of, text_if, text_or, texts_of};
+use crate::word_fault::WordFault;
 use account_usage::{AuditRequest, Grouping, UsageRequest};
 use clap::ArgMatches;
 use segment_text::is_time;

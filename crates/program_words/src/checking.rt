@@ -6,11 +6,11 @@ ghost use Rattle.program_words.specs.Checking.{IsChecking};
 ghost use Rattle.program_words.specs.Refused.{LacksChecking};
 
 use crate::command::CONFIG;
-use crate::word_fault::WordFault;
 use crate::printers::{PRINTER, printers_of};
 use crate::rules::{CommandTable, Shape, Word};
 use crate::serving::control_of;
 use crate::values::{flag_of, text_if, text_of};
+use crate::word_fault::WordFault;
 use clap::ArgMatches;
 use program_edge::PrinterPlace;
 use std::alloc::Global;

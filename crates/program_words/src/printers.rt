@@ -8,9 +8,9 @@ ghost use Rattle.program_words.specs.Serving.{ArePrinterLimits, ArePrinters};
 ghost use Rattle.program_words.specs.declared.word_fault.WordFault.TheVariants.{Missing};
 ghost use Rattle.program_edge.specs.declared.places.PrinterPlace.{PrinterPlace};
 
-use crate::word_fault::WordFault;
 use crate::rules::{Shape, Word};
 use crate::values::{limit_of, texts_of};
+use crate::word_fault::WordFault;
 use clap::ArgMatches;
 use program_edge::{PrinterLimits, PrinterPlace};
 use std::alloc::Global;

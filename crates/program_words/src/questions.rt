@@ -6,10 +6,10 @@ ghost use Rattle.clap.specs.Words.{found_of, rows_of};
 ghost use Rattle.program_words.specs.Questions.{IsList, IsQuery, IsQuestion, IsServer};
 ghost use Rattle.program_words.specs.Refused.{LacksQuery, LacksQuestion, LacksServer};
 
-use crate::word_fault::WordFault;
 use crate::queue_question::{QueueQuestion, Server};
 use crate::rules::{CommandTable, Shape, Word};
 use crate::values::{address_of, flag_of, number_of, text_of, texts_of};
+use crate::word_fault::WordFault;
 use clap::ArgMatches;
 use lpd_commands::{Command, Octets, Words};
 use lpr_client::has_line;
@@ -106,11 +106,7 @@ pub(crate) const START: CommandTable = CommandTable {
     name: "start",
     about: "Starts the printers of a queue that stand still",
     more: MORE_OF_START,
-    words: &[
-        SERVER_PORT,
-        QUEUE,
-        SERVER,
-    ],
+    words: &[SERVER_PORT, QUEUE, SERVER],
 };
 
 /// The server that words name. `Missing` where its port isn't there, `Server` where its address is none.

@@ -10,7 +10,7 @@ use clap::{Arg, ArgAction, Command};
 use std::alloc::{AllocError, Global};
 
 /// How a word may stand, each with the name of its value in `--help`.
-#[derive(Clone, Copy, Debug)]
+#[derive(Clone, Copy)]
 pub(crate) enum Shape {
     /// A word that has to be there.
     Word(&'static str),
@@ -37,7 +37,7 @@ pub(crate) enum Shape {
 }
 
 /// A word of a command.
-#[derive(Clone, Copy, Debug)]
+#[derive(Clone, Copy)]
 pub(crate) struct Word {
     /// What it is asked for by; of an option also how it is written.
     pub(crate) id: &'static str,
@@ -48,7 +48,7 @@ pub(crate) struct Word {
 }
 
 /// A command and its words.
-#[derive(Clone, Copy, Debug)]
+#[derive(Clone, Copy)]
 pub(crate) struct CommandTable {
     /// How it is written.
     pub(crate) name: &'static str,
@@ -178,10 +178,7 @@ pub(crate) fn plain<'a>(alloc: Global, name: &'a str, about: &'a str, more: &'a 
 }
 
 /// The command of a table, with its words in order.
-pub(crate) fn command_of<'a>(
-    alloc: Global,
-    table: &CommandTable,
-) -> Result<Command<'a>, AllocError>
+pub(crate) fn command_of<'a>(alloc: Global, table: &CommandTable) -> Result<Command<'a>, AllocError>
     ensures { IfOk result (λ command. IsCommand command (table_app table.now)) }
 {
     let mut command = plain(alloc, table.name, table.about, table.more);

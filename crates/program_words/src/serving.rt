@@ -10,12 +10,12 @@ ghost use Rattle.program_words.specs.Values.{IsAddress, IsGivenOr};
 ghost use Rattle.program_words.specs.declared.word_fault.WordFault.TheVariants.{Address, Missing};
 
 use crate::command::CONFIG;
-use crate::word_fault::WordFault;
 use crate::printers::{PRINTER, printer_limits_of, printers_of};
 use crate::rules::{CommandTable, Shape, Word};
 use crate::values::{
     address_of, count_of, flag_of, limit_of, number_of, text_if, text_or, texts_of,
 };
+use crate::word_fault::WordFault;
 use clap::ArgMatches;
 use program_edge::{
     LEAVE_SECONDS, Limits, LogForm, MOST_CONTROL_PATH, NO_JOB_SECONDS, Network, PrinterLimits,
@@ -295,7 +295,7 @@ fn status_host_of<'a>(alloc: Global, matches: &ArgMatches<'a>) -> Result<Option<
 }
 
 /// Where a server listens, and how many connections it serves.
-#[derive(Clone, Copy, Debug)]
+#[derive(Clone, Copy)]
 struct Listening {
     port: u16,
     bind: Ipv4Addr,
@@ -321,7 +321,7 @@ fn listening_of(matches: &ArgMatches) -> Result<Listening, WordFault>
 }
 
 /// What a server prints to.
-#[derive(Debug, Drop)]
+#[derive(Drop)]
 struct Printing<'a> {
     printers: Vec<PrinterPlace<'a>>,
     limits: PrinterLimits,
@@ -341,7 +341,7 @@ fn printing_of<'a>(alloc: Global, matches: &ArgMatches<'a>) -> Result<Printing<'
 }
 
 /// What a server tells of itself.
-#[derive(Clone, Copy, Debug)]
+#[derive(Clone, Copy)]
 struct Telling<'a> {
     log: LogForm,
     status: Option<StatusPlace>,

@@ -38,8 +38,8 @@ use lpr_client::{DataFile, FileName, Octets, SendFault, job_length, send_job};
 use printer_devices::shared_folder;
 use program_edge::{PrinterPlace, Settings, StreamReader, StreamWriter, tell, tell_cause};
 use program_words::{
-    Ask, AuditRequest, Checking, ControlRequest, Envelope, Sending, Server, Unread, UsageRequest, read_words,
-    three_digits,
+    Ask, AuditRequest, Checking, ControlRequest, Envelope, Sending, Server, Unread, UsageRequest,
+    read_words, three_digits,
 };
 use std::alloc::{AllocError, Global};
 use std::fs::{File, Files};
