@@ -242,8 +242,8 @@ fn check_places<R: Files<File = File> + Log, N: Net, W: OctetWrite>(
     ensures write_fault { W.faults output.new ≡ write_faults (W.faults output.old) result }
     ensures fault { IfErr result (λ fault. status_of fault ≢ 1) }
 {
-    if let Some(path) = shared_folder(rt, checking.printers.as_slice()) {
-        return Err(Fault::Folder(String::from_str(alloc, path)?));
+    if let Some(shared) = shared_folder(rt, checking.printers.as_slice()) {
+        return Err(Fault::Folder(String::from_str(alloc, shared.path)?));
     }
     if let Some(path) = checking.out {
         check_out(alloc, rt, path, output)?;

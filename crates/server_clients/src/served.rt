@@ -4,12 +4,17 @@ use job_disk::DiskFolder;
 use kept_requests::{Cause, Keeping};
 use log::{Log, warn};
 use noted_requests::Noting;
+use server_house::{HandedOf, HouseLedger, KindsOf};
 use session::Seated;
-use shared_spool::SpoolLedger;
 use std::fs::{File, Files};
 use std::net::SocketAddr;
 use std::sync::Wait;
-use std::sync::ledger::Ledger;
+
+/// The part of the program that logs what happens here, as the log names it.
+const PART: &str = "lpd_daemon::served";
+
+/// A seat at a server's spool that carries requests out.
+pub(crate) type HouseSeated<'a, R, E> = Seated<'a, R, E, KindsOf<E>, HandedOf<E>>;
 
 /// What carries out a session's requests, as the server sees it behind the session.
 pub(crate) trait Served {
@@ -20,7 +25,7 @@ pub(crate) trait Served {
     fn let_go<L: Log>(&mut self, rt: &L, peer: SocketAddr);
 }
 
-impl<R: Wait, E: SpoolLedger, K: Ledger, H: Ledger> Served for Seated<'_, R, E, K, H> {
+impl<R: Wait, E: HouseLedger> Served for HouseSeated<'_, R, E> {
     fn take_removed(&mut self) -> Option<Vec<u64>> {
         Seated::take_removed(self)
     }
@@ -48,13 +53,13 @@ impl<Q: Served, R: Files<File = File> + Wait> Served for Keeping<Q, DiskFolder<'
         match (self.given_up.take(), self.hand.folder.take_fault()) {
             (None | Some(Cause::Refused), None) => {}
             (Some(Cause::Unfit), None) => {
-                warn!(rt; "{peer}: a job isn't kept: it couldn't be read back");
+                warn!(rt; target: PART, "{peer}: a job isn't kept: it couldn't be read back");
             }
             (Some(Cause::Folder(_)), None) => {
-                warn!(rt; "{peer}: a job isn't kept: memory was refused");
+                warn!(rt; target: PART, "{peer}: a job isn't kept: memory was refused");
             }
-            (None, Some(fault)) => warn!(rt; "{peer}: {fault}"),
-            (Some(_), Some(fault)) => warn!(rt; "{peer}: a job isn't kept: {fault}"),
+            (None, Some(fault)) => warn!(rt; target: PART, "{peer}: {fault}"),
+            (Some(_), Some(fault)) => warn!(rt; target: PART, "{peer}: a job isn't kept: {fault}"),
         }
     }
 }

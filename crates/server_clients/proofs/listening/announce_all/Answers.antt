@@ -1,7 +1,7 @@
 use Rattle.std.proofs.Common.{Ok, refl, subst}
 use Rattle.server_house.specs.Lines.{TellsRotations}
 use Rattle.server_house.proofs.Rotations.{TellsRotations-then}
-use Rattle.lpd_daemon.proofs.listening.announce_all.Goals as goal
+use Rattle.server_clients.proofs.listening.announce_all.Goals as goal
 
 pub returns-in-Err-clause-tells : goal.returns-in-Err-clause-tells
 returns-in-Err-clause-tells g c was n before =

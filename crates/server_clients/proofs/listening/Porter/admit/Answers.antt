@@ -1,5 +1,5 @@
 use Rattle.server_house.proofs.Rotations.{TellsRotations-none}
-use Rattle.lpd_daemon.proofs.listening.Porter.admit.Goals as goal
+use Rattle.server_clients.proofs.listening.Porter.admit.Goals as goal
 
 pub rounds-init : goal.rounds-init
 rounds-init g c = TellsRotations-none _ _
