@@ -6,7 +6,6 @@ ghost use Rattle.account_reports.specs.Faults.{end_status};
 use crate::fault::ReportFault;
 use crate::files::{TakeLines, take_files};
 use crate::notes::write_text;
-use crate::request::AuditRequest;
 use crate::rereading::Rereading;
 use log::{Log, info};
 use lpd_commands::OctetWrite;

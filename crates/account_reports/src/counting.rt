@@ -7,7 +7,6 @@ use crate::auditing::ended;
 use crate::fault::ReportFault;
 use crate::files::{TakeLines, take_files};
 use crate::notes::write_text;
-use crate::request::UsageRequest;
 use account_text::put_shown;
 use account_usage::{Grouping, UsageRow, UsageTable, is_within};
 use log::Log;
