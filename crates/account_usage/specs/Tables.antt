@@ -8,10 +8,10 @@ use Rattle.account_usage.specs.Rows.{rows_sent, rows_printed, held_sent, held_pr
 
 -- all octets that were sent, and that were printed: of the rows, and of the jobs that haven't ended
 abbrev pub all_sent : UsageTable → ℕ
-all_sent t = rows_sent t.rows.items + held_sent t.held.items
+all_sent t = rows_sent t.rows.entries + held_sent t.held.items
 
 abbrev pub all_printed : UsageTable → ℕ
-all_printed t = rows_printed t.rows.items + held_printed t.held.items
+all_printed t = rows_printed t.rows.entries + held_printed t.held.items
 
 -- what counts of so many octets, in a segment that counts or not
 abbrev pub counted : Bool → ℕ → ℕ

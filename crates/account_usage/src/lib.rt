@@ -8,7 +8,7 @@ mod table;
 mod times;
 
 pub use grouping::Grouping;
-pub use rows::UsageRow;
+pub use rows::Totals;
 pub use segment_text::is_time;
 pub use table::UsageTable;
 pub use times::is_within;

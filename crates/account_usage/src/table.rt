@@ -9,12 +9,15 @@ ghost use Rattle.account_usage.specs.Tables.{HasPrinted, HasSent, counted, name_
 
 use crate::grouping::Grouping;
 use crate::held::{HeldJob, add_octets, place_of, set_out};
-use crate::rows::{UsageRow, add_to_row, settle};
+use crate::rows::{Rows, Totals, add_to_row, settle};
 use account::{Act, Control, Entry, Progress, Sheet, Turn};
 use config_values::Config;
+use indexmap::IndexMap;
+use indexmap::map::Iter;
 use lpd_values::Octets;
 use segment_text::{Begin, SegmentLine};
 use std::alloc::{AllocError, Global};
+use std::hash::RandomState;
 
 /// The name of the row of what no other counts.
 const NO_NAME: &[u8] = b"-";
@@ -27,7 +30,7 @@ pub struct UsageTable {
     queues: Vec<Octets>,
     /// Jobs that haven't ended.
     held: Vec<HeldJob>,
-    rows: Vec<UsageRow>,
+    rows: Rows,
     /// Whether the segment counts whose head was read last.
     counts: bool,
 }
@@ -58,9 +61,9 @@ fn named(
 }
 
 impl UsageTable {
-    /// A table of nothing, in which usage is told by this.
-    pub fn new(alloc: Global, grouping: Grouping) -> UsageTable
-        ensures rows { result.rows.items ≡ [] }
+    /// A table of nothing, in which usage is told by this. Names are found by a hash with random keys, since clients pick them.
+    pub fn new(alloc: Global, random: RandomState, grouping: Grouping) -> UsageTable
+        ensures rows { result.rows.entries ≡ [] }
         ensures held { result.held.items ≡ [] }
         ensures grouping { result.grouping ≡ grouping }
     {
@@ -68,7 +71,7 @@ impl UsageTable {
             grouping,
             queues: Vec::new(alloc),
             held: Vec::new(alloc),
-            rows: Vec::new(alloc),
+            rows: IndexMap::with_hasher(alloc, random),
             counts: false,
         }
     }
@@ -127,7 +130,14 @@ impl UsageTable {
     {
         match place_of(self.held.as_slice(), number) {
             Some(at) => add_octets(self.held.as_mut_slice(), at, sent, printed),
-            None => add_to_row(&mut self.rows, alloc, NO_NAME, 0, sent, printed)?,
+            None => {
+                let more = Totals {
+                    jobs: 0,
+                    sent,
+                    printed,
+                };
+                add_to_row(&mut self.rows, alloc, NO_NAME, more)?;
+            }
         }
         Ok(())
     }
@@ -140,12 +150,13 @@ impl UsageTable {
         let Some(at) = place_of(self.held.as_slice(), number) else {
             return Ok(());
         };
-        let job = &self.held[at];
-        let name = job.name.as_slice();
-        let jobs = u64::from(counts);
-        add_to_row(&mut self.rows, alloc, name, jobs, job.sent, job.printed)?;
-        let _job = self.held.remove(at);
-        Ok(())
+        let job = self.held.remove(at);
+        let more = Totals {
+            jobs: u64::from(counts),
+            sent: job.sent,
+            printed: job.printed,
+        };
+        add_to_row(&mut self.rows, alloc, job.name.as_slice(), more)
     }
 
     /// So many pages of a job go to printers, so many come back, and it may be that nothing else comes of it. Once nothing does and no
@@ -180,11 +191,10 @@ impl UsageTable {
         ensures sent { OnOk result (HasSent 0 self.old self.new) }
         ensures printed { OnOk result (HasPrinted 0 self.old self.new) }
     {
-        let Some((first, rest)) = jobs.split_first() else {
-            return Ok(());
-        };
-        self.turn(alloc, *first, (0, 0), true, counts)?;
-        self.remove(alloc, rest, counts)
+        for number in jobs {
+            self.turn(alloc, *number, (0, 0), true, counts)?;
+        }
+        Ok(())
     }
 
     /// All jobs have ended: the run begins anew, or nothing more is read.
@@ -291,10 +301,11 @@ impl UsageTable {
         self.end_all(alloc)
     }
 
-    /// The rows, in the order in which the first job of each ended. One in which nothing counts may be among them.
-    pub fn rows(&self) -> &[UsageRow]
-        ensures { result.now ≡ self.now.rows.items }
+    /// The names and what is told of each, in the order in which the first job of each ended. One in which nothing counts may be among
+    /// them. Jobs whose control file didn't come are told under `-`, where users or hosts are.
+    pub fn rows(&self) -> Iter<'_, Vec<u8>, Totals>
+        ensures { result ≡ self.now.rows.entries }
     {
-        self.rows.as_slice()
+        self.rows.iter()
     }
 }
