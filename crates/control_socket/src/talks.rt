@@ -13,6 +13,7 @@ use crate::answer::Answer;
 use crate::line::{PartialLine, Progress};
 use crate::partings::{Left, Parting, TalkNumber};
 use crate::stages::{Stage, Times, earlier};
+use program_edge::pass_over;
 use std::alloc::{AllocError, Global};
 use std::io::{ErrorKind, Read, Write};
 use std::os::unix::net::UnixStream;
@@ -25,7 +26,7 @@ pub(crate) const MOST_TALKS: usize = 64;
 const PIECE_OCTETS: usize = 4_096;
 
 /// How many pieces behind a line are passed over at once.
-const MOST_PIECES: usize = 16;
+const MOST_READS: u32 = 16;
 
 /// What comes of a connection that was looked at.
 #[derive(Clone, Copy, PartialEq, Eq)]
@@ -70,13 +71,8 @@ fn read_line(
 }
 
 /// Reads what stands behind a line: the end of a connection that has octets which nobody read is told to its peer as an error.
-fn pass_over(mut stream: &UnixStream) {
-    let mut octets = [0u8; PIECE_OCTETS];
-    for _ in 0..MOST_PIECES {
-        if !stream.read(&mut octets).is_ok_and(|count| count > 0) {
-            return;
-        }
-    }
+fn pass_behind(mut stream: &UnixStream) {
+    pass_over(&mut stream, MOST_READS, |_| false);
 }
 
 /// Writes what a peer takes of its answer.
@@ -115,16 +111,16 @@ impl Talk {
                 ..
             } => {
                 *was_gone = *was_gone || is_gone;
-                pass_over(&self.stream);
+                pass_behind(&self.stream);
                 Fate::Stays
             }
             Stage::Asked if is_gone => Fate::Leaves(Parting::Gone),
             Stage::Asked => {
-                pass_over(&self.stream);
+                pass_behind(&self.stream);
                 Fate::Stays
             }
             Stage::Answering { answer, .. } => {
-                pass_over(&self.stream);
+                pass_behind(&self.stream);
                 write_answer(&self.stream, answer)
             }
         }

@@ -13,29 +13,26 @@ use kept_requests::Keeping;
 use log::{Log, warn};
 use lpd_commands::{OctetRead, OctetWrite};
 use noted_requests::Noting;
-use program_edge::{Limits, StreamReader, StreamWriter};
+use program_edge::{Limits, StreamReader, StreamWriter, pass_over};
 use request_session::{Input, Requests, serve_with};
 use server_edge::{Serves, Visit, keep_asking, send_in_pieces};
 use server_folders::Kept;
-use server_house::House;
-use server_notes::{Ending, Outcome};
-use session::{Seated, SessionEnd, SessionSeat};
-use shared_spool::SpoolLedger;
+use server_house::{Hall, HouseLedger, HouseSeat, HouseSpool};
+use server_notes::{Ending, milliseconds_since};
+use session::{Seated, SessionEnd};
 use std::fmt::Display;
 use std::fs::{File, Files};
 use std::io;
-use std::io::Read;
 use std::net::{Shutdown, SocketAddr, TcpStream};
 use std::rt::Clock;
 use std::sync::Wait;
-use std::sync::ledger::Ledger;
 use std::time::{Duration, Instant};
 
-/// How many octets that come after the end of a session are passed over at once, at most.
-const PIECE: usize = 4_096;
-
 /// How many octets that come after the end of a session are passed over, at most.
-const MOST_PASSED: usize = 1 << 20;
+const MOST_PASSED_OCTETS: usize = 1 << 20;
+
+/// By how many reads they are, at most.
+const MOST_READS: u32 = 1 << 20;
 
 /// The longest time that each of these reads waits for the peer, in seconds.
 const PATIENCE_SECONDS: u64 = 1;
@@ -60,17 +57,12 @@ fn take_leave<R: Clock>(
     stream.shutdown(Shutdown::Write)?;
     stream.set_read_timeout(Some(Duration::from_secs(PATIENCE_SECONDS)))?;
     let start = Instant::now(rt)?;
-    let mut passed_over = [0u8; PIECE];
     let mut stream = stream;
-    let mut passed = 0usize;
-    for _ in 0..MOST_PASSED {
-        let count = stream.read(&mut passed_over)?;
-        passed = passed.saturating_add(count);
-        let is_over = ending.cuts_off() || start.elapsed(rt)?.as_secs() >= seconds;
-        if count == 0 || passed >= MOST_PASSED || is_over {
-            break;
-        }
-    }
+    pass_over(&mut stream, MOST_READS, |passed| {
+        passed >= MOST_PASSED_OCTETS
+            || ending.cuts_off()
+            || milliseconds_since(rt, start) >= seconds.saturating_mul(1_000)
+    });
     Ok(())
 }
 
@@ -105,29 +97,25 @@ fn patience_of(serves: Serves, limits: &Limits) -> Option<u64>
     }
 }
 
-/// Who serves connections in a house.
+/// Who serves connections at one post of a server.
 #[derive(Drop)]
-pub(crate) struct Answering<'h, 'a, R, E: SpoolLedger, K: Ledger, H: Ledger> {
-    pub(crate) house: &'h House<'a, R, E, K, H>,
+struct Attendant<'h, 'a, R> {
+    hall: &'h Hall<'a, R>,
+    /// The number of the post.
+    number: u32,
+    serves: Serves,
 }
 
-impl<R: Files<File = File> + Clock + Wait + Log, E: SpoolLedger, K: Ledger, H: Ledger> Answering<
-    '_,
-    '_,
-    R,
-    E,
-    K,
-    H,
-> {
+impl<R: Files<File = File> + Clock + Wait + Log> Attendant<'_, '_, R> {
     /// Has octets sent at once and peers asked whether they are there, and limits how long a peer
     /// may be silent or not read.
-    fn set_up(&self, stream: &TcpStream, serves: Serves) -> io::Result<()> {
+    fn set_up(&self, stream: &TcpStream) -> io::Result<()> {
         stream.set_nodelay(true)?;
         keep_asking(stream, KEEPALIVE_SECONDS);
-        if matches!(serves, Serves::NoJobs) {
+        if matches!(self.serves, Serves::NoJobs) {
             send_in_pieces(stream, UNREAD_OCTETS);
         }
-        let limit = patience_of(serves, &self.house.limits).map(|seconds| Duration::from_secs(
+        let limit = patience_of(self.serves, &self.hall.limits).map(|seconds| Duration::from_secs(
             seconds,
         ));
         stream.set_read_timeout(limit)?;
@@ -144,118 +132,128 @@ impl<R: Files<File = File> + Clock + Wait + Log, E: SpoolLedger, K: Ledger, H: L
         reader: &mut I,
         writer: &mut W,
     ) -> SessionEnd {
+        let (rt, alloc) = (self.hall.rt, self.hall.alloc);
         if input.is_none() {
-            *input = Input::new(self.house.alloc).ok();
+            *input = Input::new(alloc).ok();
         }
         match input {
-            Some(input) => serve_with(
-                self.house.rt,
-                self.house.alloc,
-                input,
-                requests,
-                sender,
-                reader,
-                writer,
-            ),
+            Some(input) => serve_with(rt, alloc, input, requests, sender, reader, writer),
             None => SessionEnd::Memory,
         }
     }
 
-    /// Has the files of the jobs taken away that a session has removed, and tells why a job of it wasn't kept.
-    fn settle<T: Served>(&self, requests: &mut T, peer: SocketAddr) {
-        requests.let_go(self.house.rt, peer);
-        if let Some(removed) = requests.take_removed() {
-            self.house.end_removed(removed);
-        }
-    }
-
-    /// Serves a connection at the post of this number; `requests` carries out what it asks for.
-    fn answer<T: Requests + Served>(
+    /// Serves a connection whose stream is set up. None where the server waits for nothing any more.
+    fn serve_visit<T: Requests>(
         &self,
         requests: &mut T,
         input: &mut Option<Input>,
-        number: u32,
         visit: &Visit,
-        serves: Serves,
-    ) {
-        let (rt, stream) = (self.house.rt, &visit.stream);
-        if let Err(error) = self.set_up(stream, serves) {
-            complain(rt, visit.peer, &error);
-            return;
-        }
-        let meter = self.house.posts.begin(
-            rt,
-            number,
-            visit,
-            self.house.limits.slowest,
-            self.house.oversight.start,
-        );
-        if self.house.ending.cuts_off() {
-            self.house.posts.end(rt, number);
-            return;
+    ) -> Option<SessionEnd> {
+        let (hall, rt) = (self.hall, self.hall.rt);
+        let (slowest, start) = (hall.limits.slowest, hall.oversight.start);
+        let meter = hall.posts.begin(rt, self.number, visit, slowest, start);
+        if hall.ending.cuts_off() {
+            hall.posts.end(rt, self.number);
+            return None;
         }
         let mut reader = StreamReader::new(meter);
-        let mut writer = StreamWriter::new(stream);
+        let mut writer = StreamWriter::new(&visit.stream);
         let sender = visit.host();
         let end = self.serve_session(requests, input, sender, &mut reader, &mut writer);
-        self.house.posts.end(rt, number);
-        self.settle(requests, visit.peer);
+        hall.posts.end(rt, self.number);
+        Some(end)
+    }
+
+    /// Has the files of the jobs taken away that a session has removed, and tells why a job of it wasn't kept.
+    fn settle<T: Served>(&self, requests: &mut T, peer: SocketAddr) {
+        requests.let_go(self.hall.rt, peer);
+        if let Some(removed) = requests.take_removed() {
+            self.hall.end_removed(removed);
+        }
+    }
+
+    /// Logs how a session ended, where that isn't well, and counts it where it was refused.
+    fn tell_end(&self, peer: SocketAddr, end: SessionEnd) {
+        let rt = self.hall.rt;
         if let SessionEnd::Refused(refusal) = end {
-            complain(rt, visit.peer, &refusal);
-            if let Some(book) = &self.house.job_book {
+            complain(rt, peer, &refusal);
+            if let Some(book) = &self.hall.job_book {
                 book.note_refusal(rt, refusal);
             }
         }
         if let Some(why) = failure_of(end) {
-            complain(rt, visit.peer, &why);
+            complain(rt, peer, &why);
         }
+    }
+
+    /// Serves a connection; `requests` carries out what it asks for.
+    fn answer<T: Requests + Served>(
+        &self,
+        requests: &mut T,
+        input: &mut Option<Input>,
+        visit: &Visit,
+    ) {
+        let (hall, rt) = (self.hall, self.hall.rt);
+        if let Err(error) = self.set_up(&visit.stream) {
+            complain(rt, visit.peer, &error);
+            return;
+        }
+        let Some(end) = self.serve_visit(requests, input, visit) else {
+            return;
+        };
+        self.settle(requests, visit.peer);
+        self.tell_end(visit.peer, end);
         if matches!(end, SessionEnd::Finished | SessionEnd::Refused(_)) {
             // A peer that is gone already has lost nothing.
-            let _ = take_leave(
-                rt,
-                stream,
-                self.house.limits.leave_seconds,
-                &self.house.ending,
-            );
+            let _ = take_leave(rt, &visit.stream, hall.limits.leave_seconds, &hall.ending);
         }
     }
 
     /// Serves connections, one after another, until no more can come. `requests` carries out what
     /// they ask for.
-    fn serve_all<T: Requests + Served>(&self, requests: &mut T, number: u32, serves: Serves) {
+    fn serve_all<T: Requests + Served>(&self, requests: &mut T) {
+        let (hall, rt) = (self.hall, self.hall.rt);
         // What the thread keeps from one connection to the next.
         let mut input = None;
-        for _ in self.house.rt.forever() {
-            let Some(visit) = self
-                .house
-                .desk
-                .take(self.house.rt, serves, &self.house.waker)
-            else {
+        for _ in rt.forever() {
+            let Some(visit) = hall.desk.take(rt, self.serves, &hall.waker) else {
                 break;
             };
-            if let Some(book) = &self.house.job_book {
-                book.note_connection(self.house.rt);
+            if let Some(book) = &hall.job_book {
+                book.note_connection(rt);
             }
-            self.answer(requests, &mut input, number, &visit, serves);
-            self.house.desk.leave(self.house.rt, serves, visit);
+            self.answer(requests, &mut input, &visit);
+            hall.desk.leave(rt, self.serves, visit);
         }
     }
+}
 
-    /// The same with a folder in which jobs are kept until they are printed.
+/// Who serves the connections of a server.
+#[derive(Drop)]
+pub(crate) struct Answering<'h, 'a, R, E: HouseLedger> {
+    pub(crate) spool: &'h HouseSpool<E>,
+    pub(crate) hall: &'h Hall<'a, R>,
+}
+
+impl<R: Files<File = File> + Clock + Wait + Log, E: HouseLedger> Answering<'_, '_, R, E> {
+    /// Serves connections through a seat, with a folder in which jobs are kept until they are printed.
     fn answer_keeping(
         &self,
         kept: &Kept<'_, R>,
-        seat: SessionSeat<E, K, H>,
+        seat: HouseSeat<E>,
         serves: Serves,
-    ) -> SessionSeat<E, K, H> {
+    ) -> HouseSeat<E> {
+        let hall = self.hall;
         let number = seat.number();
-        let seated = Seated::new(self.house.rt, &self.house.spool, seat);
-        let keeping = Keeping::new(self.house.alloc, seated, DiskFolder::new(&kept.disk));
-        let mut noting = Noting::new(
-            keeping,
-            SessionNotes::new(self.house.rt, &self.house.job_book),
-        );
-        self.serve_all(&mut noting, number, serves);
+        let seated = Seated::new(hall.rt, self.spool, seat);
+        let keeping = Keeping::new(hall.alloc, seated, DiskFolder::new(&kept.disk));
+        let mut noting = Noting::new(keeping, SessionNotes::new(hall.rt, &hall.job_book));
+        let attendant = Attendant {
+            hall,
+            number,
+            serves,
+        };
+        attendant.serve_all(&mut noting);
         let Noting { inner, .. } = noting;
         let Keeping { inner, .. } = inner;
         inner.into_seat()
@@ -263,21 +261,20 @@ impl<R: Files<File = File> + Clock + Wait + Log, E: SpoolLedger, K: Ledger, H: L
 
     /// Serves connections through a seat, one after another, until no more can come. Answers the
     /// seat.
-    pub(crate) fn answer_all(
-        &self,
-        seat: SessionSeat<E, K, H>,
-        serves: Serves,
-    ) -> SessionSeat<E, K, H> {
-        if let Some(kept) = &self.house.kept {
+    pub(crate) fn answer_all(&self, seat: HouseSeat<E>, serves: Serves) -> HouseSeat<E> {
+        let hall = self.hall;
+        if let Some(kept) = &hall.kept {
             return self.answer_keeping(kept, seat, serves);
         }
         let number = seat.number();
-        let seated = Seated::new(self.house.rt, &self.house.spool, seat);
-        let mut noting = Noting::new(
-            seated,
-            SessionNotes::new(self.house.rt, &self.house.job_book),
-        );
-        self.serve_all(&mut noting, number, serves);
+        let seated = Seated::new(hall.rt, self.spool, seat);
+        let mut noting = Noting::new(seated, SessionNotes::new(hall.rt, &hall.job_book));
+        let attendant = Attendant {
+            hall,
+            number,
+            serves,
+        };
+        attendant.serve_all(&mut noting);
         let Noting { inner, .. } = noting;
         inner.into_seat()
     }

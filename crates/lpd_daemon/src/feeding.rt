@@ -1,5 +1,6 @@
 //! The thread that has the spool take the jobs that its folder has kept.
 
+use crate::served::HouseSeated;
 use crate::session_notes::SessionNotes;
 use kept_recovery::{Fed, feed_one};
 use kept_requests::Keeping;
@@ -7,13 +8,11 @@ use log::{Log, warn};
 use lpd_values::Refusal;
 use noted_requests::Noting;
 use server_folders::{FedFolder, Kept, Owner, StoredJobs};
-use server_house::House;
-use session::{Seated, SessionEnd, SessionSeat};
-use shared_spool::SpoolLedger;
+use server_house::{Hall, HouseLedger, HouseSeat, HouseSpool};
+use session::{Seated, SessionEnd};
 use std::fs::{File, Files};
 use std::rt::Clock;
 use std::sync::Wait;
-use std::sync::ledger::Ledger;
 use std::time::Duration;
 use std::{fmt, thread};
 
@@ -52,30 +51,24 @@ fn waits_for_room(fed: Fed) -> bool {
 }
 
 /// The seat of whoever feeds, with the hand that has the file which is being fed, and what is told of its job.
-type Feeder<'a, R, E, K, H> = Noting<
-    Keeping<Seated<'a, R, E, K, H>, FedFolder<'a, R>>,
+type Feeder<'a, R, E> = Noting<
+    Keeping<HouseSeated<'a, R, E>, FedFolder<'a, R>>,
     SessionNotes<'a, R>,
 >;
 
-/// Who feeds kept jobs to the spool of a house.
+/// Who feeds kept jobs to the spool of a server.
 #[derive(Drop)]
-pub(crate) struct Feeding<'h, 'a, R, E: SpoolLedger, K: Ledger, H: Ledger> {
-    pub(crate) house: &'h House<'a, R, E, K, H>,
+pub(crate) struct Feeding<'h, 'a, R, E: HouseLedger> {
+    pub(crate) spool: &'h HouseSpool<E>,
+    pub(crate) hall: &'h Hall<'a, R>,
 }
 
-impl<R: Files<File = File> + Clock + Log + Wait, E: SpoolLedger, K: Ledger, H: Ledger> Feeding<
-    '_,
-    '_,
-    R,
-    E,
-    K,
-    H,
-> {
+impl<R: Files<File = File> + Clock + Log + Wait, E: HouseLedger> Feeding<'_, '_, R, E> {
     /// Whether the spool has room for a job of this owner whose file has N octets: free pages for all of them, a row of the table,
     /// and its reserve in the account, beside one entry for the close; or has no job at all.
     fn has_room(&self, owner: &Owner, octets: u64) -> bool {
-        let config = &self.house.oversight.config;
-        let vacancy = self.house.spool.vacancy(self.house.rt);
+        let config = &self.hall.oversight.config;
+        let vacancy = self.spool.vacancy(self.hall.rt);
         let free = (vacancy.pages as u64).saturating_mul(u64::from(config.page_size()));
         let reserve = config
             .queue_named(owner.queue.as_slice())
@@ -85,13 +78,8 @@ impl<R: Files<File = File> + Clock + Log + Wait, E: SpoolLedger, K: Ledger, H: L
     }
 
     /// Feeds the job that waits first. False where it is to wait on.
-    fn feed_first(
-        &self,
-        kept: &Kept<'_, R>,
-        feeder: &mut Feeder<'_, R, E, K, H>,
-        number: u64,
-    ) -> bool {
-        let (rt, alloc) = (self.house.rt, self.house.alloc);
+    fn feed_first(&self, kept: &Kept<'_, R>, feeder: &mut Feeder<'_, R, E>, number: u64) -> bool {
+        let (rt, alloc) = (self.hall.rt, self.hall.alloc);
         let Some(owner) = kept.owner(rt, alloc, number) else {
             kept.pass_over(rt);
             return true;
@@ -109,7 +97,7 @@ impl<R: Files<File = File> + Clock + Log + Wait, E: SpoolLedger, K: Ledger, H: L
         if let Some(fault) = hand.folder.take_fault() {
             warn!(rt; "{fault}: the job is printed again after the next start");
         }
-        if !is_passed && (waits_for_room(fed) || self.house.ending.is_over()) {
+        if !is_passed && (waits_for_room(fed) || self.hall.ending.is_over()) {
             return false;
         }
         kept.leave(rt, &owner);
@@ -122,30 +110,30 @@ impl<R: Files<File = File> + Clock + Log + Wait, E: SpoolLedger, K: Ledger, H: L
 
     /// Has the spool take the jobs that its folder has kept, in the order of their files, as there is room, until the server stops.
     /// Answers the seat; at once where no jobs are kept.
-    pub(crate) fn feed_all(&self, seat: SessionSeat<E, K, H>) -> SessionSeat<E, K, H> {
-        let Some(kept) = &self.house.kept else {
+    pub(crate) fn feed_all(&self, seat: HouseSeat<E>) -> HouseSeat<E> {
+        let Some(kept) = &self.hall.kept else {
             return seat;
         };
-        let seated = Seated::new(self.house.rt, &self.house.spool, seat);
-        let keeping = Keeping::new(self.house.alloc, seated, FedFolder::new(&kept.disk));
+        let seated = Seated::new(self.hall.rt, self.spool, seat);
+        let keeping = Keeping::new(self.hall.alloc, seated, FedFolder::new(&kept.disk));
         let mut feeder = Noting::new(
             keeping,
-            SessionNotes::new(self.house.rt, &self.house.job_book),
+            SessionNotes::new(self.hall.rt, &self.hall.job_book),
         );
-        for _ in self.house.rt.forever() {
-            if self.house.ending.stops() || self.house.ending.is_over() {
+        for _ in self.hall.rt.forever() {
+            if self.hall.ending.stops() || self.hall.ending.is_over() {
                 break;
             }
-            let has_fed = match kept.first(self.house.rt) {
+            let has_fed = match kept.first(self.hall.rt) {
                 Some(number) => self.feed_first(kept, &mut feeder, number),
                 None => false,
             };
             if !has_fed {
-                kept.settle(self.house.rt);
-                thread::sleep(self.house.rt, Duration::from_millis(LOOK_MS));
+                kept.settle(self.hall.rt);
+                thread::sleep(self.hall.rt, Duration::from_millis(LOOK_MS));
             }
         }
-        kept.settle(self.house.rt);
+        kept.settle(self.hall.rt);
         let Noting { inner, .. } = feeder;
         let Keeping { inner, .. } = inner;
         inner.into_seat()

@@ -2,22 +2,25 @@
 
 ghost use Rattle.std.specs.Prelude.{◌≡◌, ℕ, List, Option, OnOk, IfErr, Ok};
 ghost use Rattle.server_house.specs.Lines.{TellsRotations};
-ghost use Rattle.server_house.specs.declared.faults.Fault.TheVariants.{Network};
+ghost use Rattle.program_edge.specs.Openings.{IsUnopened};
+ghost use Rattle.program_edge.specs.declared.opening.StartPart.{StartPart};
+ghost use Rattle.program_edge.specs.declared.opening.StartPart.TheVariants.{Listener};
 
 use log::{Log, error, warn};
 use lpd_commands::OctetWrite;
 use mio::Waker;
-use program_edge::{Settings, descriptor_limit, tell_cause};
+use program_edge::{Settings, StartFault, StartPart, descriptor_limit, tell_cause};
 use server_edge::{Doors, Doorway, Listening, Lobby, Visit, places};
-use server_house::{AccountRoom, Fault, House, PrintedLine, has_turn, print};
+use server_house::{
+    AccountRoom, Fault, Hall, House, HouseLedger, HouseSeat, HouseSpool, PrintedLine, has_turn,
+    print,
+};
 use server_notes::{Rotation, Rotations};
-use shared_spool::{SessionSeat, SpoolLedger};
 use std::alloc::Global;
 use std::net::{Net, SocketAddr, TcpListener, TcpStream};
 use std::num::NonZeroU64;
 use std::rt::Clock;
 use std::sync::Wait;
-use std::sync::ledger::Ledger;
 use std::time::Duration;
 use std::{mem, thread};
 
@@ -32,14 +35,14 @@ const FEED_MS: u64 = 100;
 const LOOK_MS: u64 = 10;
 
 /// A lobby at the address of the settings, what wakes its thread, and its port. `kept` descriptors
-/// are left for others. Network where the system doesn't give what it takes; the log is told why.
+/// are left for others. Opening where the system doesn't give what it takes, of which the log is told why too; Memory.
 pub(crate) fn listen<R: Log + Net<Listener = TcpListener, Stream = TcpStream>>(
     rt: &R,
     alloc: Global,
     settings: &mut Settings<'_>,
     kept: u64,
-) -> Result<(Lobby, Waker, u16), Fault>
-    ensures { IfErr result (λ fault. fault ≡ Network) }
+) -> Result<(Lobby, Waker, u16), StartFault>
+    ensures { IfErr result (IsUnopened (λ (part : StartPart). part ≡ Listener)) }
 {
     let address = SocketAddr::from((settings.bind, settings.port));
     let allowed = mem::replace(&mut settings.allowed, Vec::new(alloc));
@@ -54,7 +57,7 @@ pub(crate) fn listen<R: Log + Net<Listener = TcpListener, Stream = TcpStream>>(
         Ok(listening) => Ok(listening),
         Err(error) => {
             tell_cause(rt, &address, Some(error));
-            Err(Fault::Network)
+            Err(StartFault::of(alloc, StartPart::Listener, &address, &error))
         }
     }
 }
@@ -98,23 +101,26 @@ pub(crate) struct Gate {
 
 /// The thread that holds connections and hands them on, and rotates the account in between.
 #[derive(Drop)]
-pub(crate) struct Porter<'a, R, E: SpoolLedger, K: Ledger, H: Ledger> {
-    house: &'a House<'a, R, E, K, H>,
-    seat: SessionSeat<E, K, H>,
+pub(crate) struct Porter<'h, 'a, R, E: HouseLedger> {
+    spool: &'h HouseSpool<E>,
+    hall: &'h Hall<'a, R>,
+    seat: HouseSeat<E>,
     gate: Gate,
     // How many connections were handed on.
     handed_on: u64,
 }
 
-impl<'a, R: Clock + Log + Wait, E: SpoolLedger, K: Ledger, H: Ledger> Porter<'a, R, E, K, H> {
+impl<'h, 'a, R: Clock + Log + Wait, E: HouseLedger> Porter<'h, 'a, R, E> {
     /// A porter that hasn't handed on any connection.
     pub(crate) fn new(
-        house: &'a House<'a, R, E, K, H>,
-        seat: SessionSeat<E, K, H>,
+        house: House<'h, 'a, R, E>,
+        seat: HouseSeat<E>,
         gate: Gate,
-    ) -> Porter<'a, R, E, K, H> {
+    ) -> Porter<'h, 'a, R, E> {
+        let House { spool, hall } = house;
         Porter {
-            house,
+            spool,
+            hall,
             seat,
             gate,
             handed_on: 0,
@@ -122,7 +128,7 @@ impl<'a, R: Clock + Log + Wait, E: SpoolLedger, K: Ledger, H: Ledger> Porter<'a,
     }
 
     /// Nothing more is handed on. The seat.
-    pub(crate) fn leave(self) -> SessionSeat<E, K, H> {
+    pub(crate) fn leave(self) -> HouseSeat<E> {
         let Porter { seat, gate, .. } = self;
         drop(gate);
         seat
@@ -130,18 +136,18 @@ impl<'a, R: Clock + Log + Wait, E: SpoolLedger, K: Ledger, H: Ledger> Porter<'a,
 
     /// Nobody is let in any more where the server stops, and those that wait are closed.
     fn look_whether_it_stops(&mut self) {
-        if self.house.ending.stops() {
-            self.gate.lobby.close(self.house.alloc);
+        if self.hall.ending.stops() {
+            self.gate.lobby.close(self.hall.alloc);
         }
         let waiting = self.gate.lobby.waiting();
-        self.house.oversight.note_lobby(waiting);
+        self.hall.oversight.note_lobby(waiting);
     }
 
     /// Whether new jobs are let in.
     fn lets_jobs_in(&mut self) -> bool {
         match &mut self.gate.room {
             Some(room) if self.gate.lobby.has_job() => {
-                room.lets_jobs_in(self.house.rt, &self.house.spool)
+                room.lets_jobs_in(self.hall.rt, self.spool)
             }
             _ => true,
         }
@@ -149,7 +155,7 @@ impl<'a, R: Clock + Log + Wait, E: SpoolLedger, K: Ledger, H: Ledger> Porter<'a,
 
     /// Waits for something to happen, or for a moment where jobs have to wait.
     fn wait(&mut self, lets_jobs_in: bool) {
-        let rt = self.house.rt;
+        let rt = self.hall.rt;
         let limit = if lets_jobs_in { None } else { Some(LOOK_MS) };
         if let Err(error) = self.gate.lobby.round(rt, limit) {
             warn!(rt; "connections can't be looked at: {error}");
@@ -160,22 +166,22 @@ impl<'a, R: Clock + Log + Wait, E: SpoolLedger, K: Ledger, H: Ledger> Porter<'a,
     /// Where the account has its turn before the next connection, waits until no job is held or a
     /// printer is stopped, and rotates it. It isn't rotated while its segments wait to become files.
     fn take_turn(&mut self) {
-        let (house, rt) = (self.house, self.house.rt);
-        if has_turn(self.gate.every, self.handed_on) && house.takes_place() {
-            house.spool.idle_wait(rt);
-            let rotated = house.spool.rotate(rt, &mut self.seat);
-            house.note_rotated(rotated);
+        let (hall, rt) = (self.hall, self.hall.rt);
+        if has_turn(self.gate.every, self.handed_on) && hall.takes_place() {
+            self.spool.idle_wait(rt);
+            let rotated = self.spool.rotate(rt, &mut self.seat);
+            hall.note_rotated(rotated);
         }
     }
 
     /// Waits until each job that was kept, and has room now, is in the spool: they come before all that is to come.
     fn wait_until_fed(&self) {
-        let house = self.house;
-        let Some(kept) = &house.kept else {
+        let hall = self.hall;
+        let Some(kept) = &hall.kept else {
             return;
         };
-        for _ in house.rt.forever() {
-            if kept.is_settled(house.rt, FEED_MS) || house.ending.stops() {
+        for _ in hall.rt.forever() {
+            if kept.is_settled(hall.rt, FEED_MS) || hall.ending.stops() {
                 break;
             }
         }
@@ -183,9 +189,9 @@ impl<'a, R: Clock + Log + Wait, E: SpoolLedger, K: Ledger, H: Ledger> Porter<'a,
 
     /// Hands a connection on.
     fn hand_on(&mut self, visit: Visit) {
-        let (house, rt) = (self.house, self.house.rt);
+        let (hall, rt) = (self.hall, self.hall.rt);
         let peer = visit.peer;
-        if !self.gate.doors.hand(rt, &house.desk, visit) {
+        if !self.gate.doors.hand(rt, &hall.desk, visit) {
             warn!(rt; "{peer}: memory was refused");
         }
         self.handed_on = self.handed_on.saturating_add(1);
@@ -205,7 +211,7 @@ impl<'a, R: Clock + Log + Wait, E: SpoolLedger, K: Ledger, H: Ledger> Porter<'a,
         ensures { TellsRotations (W.written output.old) (W.faults output.old)
             (W.written output.new) (W.faults output.new) result }
     {
-        let (rt, alloc) = (self.house.rt, self.house.alloc);
+        let (rt, alloc) = (self.hall.rt, self.hall.alloc);
         let mut told = Ok(());
         if !started {
             return told;
@@ -214,11 +220,11 @@ impl<'a, R: Clock + Log + Wait, E: SpoolLedger, K: Ledger, H: Ledger> Porter<'a,
         'rounds: for _ in rt.forever() {
             self.look_whether_it_stops();
             let lets_jobs_in = self.lets_jobs_in();
-            let visit = self.gate.lobby.next(rt, &self.house.desk, lets_jobs_in);
+            let visit = self.gate.lobby.next(rt, &self.hall.desk, lets_jobs_in);
             if visit.is_some() {
                 self.take_turn();
             }
-            told = announce_all(rt, alloc, output, told, &self.house.rotations);
+            told = announce_all(rt, alloc, output, told, &self.hall.rotations);
             match visit {
                 Some(visit) => self.hand_on(visit),
                 None if self.gate.lobby.is_over() => break,

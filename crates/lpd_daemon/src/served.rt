@@ -4,12 +4,14 @@ use job_disk::DiskFolder;
 use kept_requests::{Cause, Keeping};
 use log::{Log, warn};
 use noted_requests::Noting;
+use server_house::{HandedOf, HouseLedger, KindsOf};
 use session::Seated;
-use shared_spool::SpoolLedger;
 use std::fs::{File, Files};
 use std::net::SocketAddr;
 use std::sync::Wait;
-use std::sync::ledger::Ledger;
+
+/// A seat at a server's spool that carries requests out.
+pub(crate) type HouseSeated<'a, R, E> = Seated<'a, R, E, KindsOf<E>, HandedOf<E>>;
 
 /// What carries out a session's requests, as the server sees it behind the session.
 pub(crate) trait Served {
@@ -20,7 +22,7 @@ pub(crate) trait Served {
     fn let_go<L: Log>(&mut self, rt: &L, peer: SocketAddr);
 }
 
-impl<R: Wait, E: SpoolLedger, K: Ledger, H: Ledger> Served for Seated<'_, R, E, K, H> {
+impl<R: Wait, E: HouseLedger> Served for HouseSeated<'_, R, E> {
     fn take_removed(&mut self) -> Option<Vec<u64>> {
         Seated::take_removed(self)
     }

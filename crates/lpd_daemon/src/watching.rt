@@ -3,12 +3,11 @@
 ghost use Rattle.std.specs.Prelude.{◌≡◌, ◌⊎◌, ◌+◌, ◌-◌, ◌^◌, false, min, true};
 
 use log::{Log, warn};
-use server_house::House;
-use shared_spool::{AbortError, SessionSeat, SpoolLedger, Waiting};
+use server_house::{House, HouseLedger, HouseSeat};
+use shared_spool::{AbortError, Waiting};
 use std::alloc::AllocError;
 use std::rt::Clock;
 use std::sync::Wait;
-use std::sync::ledger::Ledger;
 use std::thread;
 use std::time::Duration;
 
@@ -68,17 +67,18 @@ impl Stillness {
 
 /// Who looks after the sessions that wait for pages.
 #[derive(Drop)]
-struct Watcher<'a, R, E: SpoolLedger, K: Ledger, H: Ledger> {
-    house: &'a House<'a, R, E, K, H>,
-    seat: SessionSeat<E, K, H>,
+struct Watcher<'h, 'a, R, E: HouseLedger> {
+    house: House<'h, 'a, R, E>,
+    seat: HouseSeat<E>,
     still: Stillness,
 }
 
-impl<'a, R: Clock + Log + Wait, E: SpoolLedger, K: Ledger, H: Ledger> Watcher<'a, R, E, K, H> {
+impl<R: Clock + Log + Wait, E: HouseLedger> Watcher<'_, '_, R, E> {
     /// Ends the job of a session that waits for exactly this: the session is answered that it isn't
     /// open any more. Answers what the session waits for now where it went on and waits again.
     fn give_up(&mut self, waiting: Waiting, why: &str) -> Option<Waiting> {
-        let (rt, spool) = (self.house.rt, &self.house.spool);
+        let House { spool, hall } = self.house;
+        let rt = hall.rt;
         match spool.abort_waiting(rt, &mut self.seat, waiting) {
             Ok(()) => {
                 warn!(rt; "job {}, which waits for a page, is ended: {why}", waiting.job);
@@ -93,13 +93,13 @@ impl<'a, R: Clock + Log + Wait, E: SpoolLedger, K: Ledger, H: Ledger> Watcher<'a
     /// it was seen to wait, what was seen of its connection may be of another wait: so it is judged
     /// anew by what it waits for then.
     fn judge(&mut self, waiting: Waiting, buffer: &mut [u8]) {
-        let house = self.house;
+        let hall = self.house.hall;
         let mut now = Some(waiting);
         for _ in 0..MOST_JUDGED {
             let Some(waiting) = now else {
                 return;
             };
-            if !house.posts.is_gone(house.rt, waiting, buffer) {
+            if !hall.posts.is_gone(hall.rt, waiting, buffer) {
                 return;
             }
             now = self.give_up(waiting, "its peer is gone");
@@ -108,19 +108,19 @@ impl<'a, R: Clock + Log + Wait, E: SpoolLedger, K: Ledger, H: Ledger> Watcher<'a
 
     /// Looks at those that wait, once a second.
     fn look(&mut self, buffer: &mut [u8]) -> Result<(), AllocError> {
-        let house = self.house;
-        let waiting = house.spool.waiting(house.rt, house.alloc)?;
-        let pages = house.spool.pages(house.rt);
+        let House { spool, hall } = self.house;
+        let waiting = spool.waiting(hall.rt, hall.alloc)?;
+        let pages = spool.pages(hall.rt);
         let sample = Sample {
             waiting,
             pages: [pages.free, pages.chained, pages.lent, pages.out],
-            counted: house.spool.counted_reserve(house.rt),
+            counted: spool.counted_reserve(hall.rt),
         };
         for waiting in sample.waiting.iter() {
             self.judge(*waiting, buffer);
         }
         self.still.see(sample);
-        if house
+        if hall
             .limits
             .silence
             .is_some_and(|silence| silence.get() <= self.still.seconds)
@@ -140,16 +140,17 @@ impl<'a, R: Clock + Log + Wait, E: SpoolLedger, K: Ledger, H: Ledger> Watcher<'a
 /// Ends jobs that wait for a page and whose peers are gone, until the server ends; and where
 /// nothing at all happens for as long as a peer may be silent, all that wait. Starts queues again
 /// where that is due. Answers the seat.
-pub(crate) fn watch<R: Clock + Log + Wait, E: SpoolLedger, K: Ledger, H: Ledger>(
-    house: &House<'_, R, E, K, H>,
-    seat: SessionSeat<E, K, H>,
-) -> SessionSeat<E, K, H> {
-    let Ok(mut buffer) = vec![in house.alloc; 0u8; LOOKED_AT_OCTETS] else {
-        warn!(house.rt; "memory was refused: peers that are gone aren't looked for");
+pub(crate) fn watch<R: Clock + Log + Wait, E: HouseLedger>(
+    house: House<'_, '_, R, E>,
+    seat: HouseSeat<E>,
+) -> HouseSeat<E> {
+    let hall = house.hall;
+    let Ok(mut buffer) = vec![in hall.alloc; 0u8; LOOKED_AT_OCTETS] else {
+        warn!(hall.rt; "memory was refused: peers that are gone aren't looked for");
         return seat;
     };
     let last = Sample {
-        waiting: Vec::new(house.alloc),
+        waiting: Vec::new(hall.alloc),
         pages: [0; 4],
         counted: 0,
     };
@@ -159,17 +160,17 @@ pub(crate) fn watch<R: Clock + Log + Wait, E: SpoolLedger, K: Ledger, H: Ledger>
         still: Stillness { last, seconds: 0 },
     };
     let mut step = 0u64;
-    for _ in house.rt.forever() {
-        if house.ending.is_closed() {
+    for _ in hall.rt.forever() {
+        if hall.ending.is_closed() {
             break;
         }
-        thread::sleep(house.rt, Duration::from_millis(STEP_MS));
+        thread::sleep(hall.rt, Duration::from_millis(STEP_MS));
         step = step.saturating_add(1) % STEPS;
         if step != 0 {
             continue;
         }
         if watcher.look(buffer.as_mut_slice()).is_err() {
-            warn!(house.rt; "memory was refused to look for peers that are gone");
+            warn!(hall.rt; "memory was refused to look for peers that are gone");
         }
         house.start_all_due(&mut watcher.seat);
     }

@@ -3,6 +3,7 @@
 #![tactic(auto)]
 
 mod descriptors;
+mod leaving;
 mod names;
 mod networks;
 mod numerals;
@@ -14,6 +15,7 @@ mod streams;
 mod telling;
 
 pub use descriptors::{descriptor_limit, fill_standard_descriptors};
+pub use leaving::pass_over;
 pub use names::{DefaultFile, JOB_FILE, JobFileName};
 pub use networks::Network;
 pub use opening::{Opening, StartFault, StartPart};

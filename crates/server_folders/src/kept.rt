@@ -1,5 +1,10 @@
 //! The folder in which jobs are kept until they are printed, as a server's threads share it.
 
+ghost use Rattle.std.specs.Prelude.{◌≡◌, IfErr};
+ghost use Rattle.program_edge.specs.Openings.{IsUnopened};
+ghost use Rattle.program_edge.specs.declared.opening.StartPart.{StartPart};
+ghost use Rattle.program_edge.specs.declared.opening.StartPart.TheVariants.{Spool};
+
 use crate::owner::{Owner, owner_of};
 use crate::refusal::refused;
 use crate::stored::StoredJobs;
@@ -8,7 +13,7 @@ use job_disk::Disk;
 use job_files::JobEnd;
 use job_store::{Store, recover};
 use log::{Log, warn};
-use printer_devices::PlaceFault;
+use program_edge::{StartFault, StartPart};
 use status_lines::KeptJobs;
 use std::alloc::{AllocError, Global};
 use std::collections::VecDeque;
@@ -38,20 +43,25 @@ impl<'a, R: Files<File = File> + Log + Wait> Kept<'a, R> {
     /// Opens the folder at a path, which is made where nothing is there. What was coming when the server before ended is removed, and
     /// the whole jobs wait to be fed, by the numbers of their files.
     ///
-    /// Path with the path where it can't be used, or another server has it, of which the log is told why; Memory.
+    /// Opening where it can't be used, or another server has it, of which the log is told why too; Memory.
     pub fn open(
         rt: &'a R,
         alloc: Global,
         path: &'a str,
         config: &Config,
-    ) -> Result<Kept<'a, R>, PlaceFault> {
+    ) -> Result<Kept<'a, R>, StartFault>
+        ensures { IfErr result (IsUnopened (λ (part : StartPart). part ≡ Spool)) }
+    {
         let disk = match Disk::open(rt, alloc, path, config.max_jobs() as usize) {
             Ok(disk) => disk,
-            Err(error) => return Err(refused(rt, alloc, path, &error)),
+            Err(error) => return Err(refused(rt, alloc, StartPart::Spool, path, &error)),
         };
         let numbers = match recover(alloc, &mut StoredJobs::new(&disk)) {
             Ok(found) => found.jobs,
-            Err(_) => return Err(refused(rt, alloc, path, &"its jobs can't be found")),
+            Err(_) => {
+                let why = "its jobs can't be found";
+                return Err(refused(rt, alloc, StartPart::Spool, path, &why));
+            }
         };
         let line = Line {
             numbers: VecDeque::new(alloc),

@@ -4,7 +4,7 @@ use Rattle.std.specs.Fmt.{decimal}
 use Rattle.lpd_commands.specs.Ends.{Writes}
 use Rattle.server_house.specs.Faults.{IsRunningFault, write_faults}
 use Rattle.server_house.specs.declared.faults.Fault.{Fault}
-use Rattle.server_house.specs.declared.faults.Fault.TheVariants.{Network, PrinterFile}
+use Rattle.server_house.specs.declared.faults.Fault.TheVariants.{Opening}
 use Rattle.server_house.specs.declared.lines.PrintedLine.{PrintedLine}
 use Rattle.server_house.specs.declared.lines.PrintedLine.TheVariants.{Closed, Listening, Rotated}
 
@@ -34,8 +34,7 @@ TellsRotations was faults now now_faults told =
 abbrev pub WritesAll : Option (List ℕ) → Option (List ℕ) → Type 0
 WritesAll was now = (port : ℕ) × (segments : List (ℕ × ℕ)) × (entries : ℕ) × Writes was now (line_octets (Listening port) ++ (rotation_octets segments ++ line_octets (Closed entries)))
 
--- nothing was written where a printer's file can't be opened or the address can't be listened on
+-- nothing was written where something couldn't be opened at the start
 abbrev pub IsQuiet : Option (List ℕ) → Option (List ℕ) → Fault → Type 0
-IsQuiet was now (PrinterFile path) = now ≡ was
-IsQuiet was now Network = now ≡ was
+IsQuiet was now (Opening opening) = now ≡ was
 IsQuiet was now _ = Unit {0}

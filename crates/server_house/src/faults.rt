@@ -3,7 +3,7 @@
 ghost use Rattle.std.specs.Prelude.{◌≡◌, ◌↔◌, IsTrue};
 ghost use Rattle.server_house.specs.declared.faults.Fault.TheVariants.{Memory, Output};
 
-use program_edge::FaultName;
+use program_edge::{FaultName, Opening};
 use std::alloc::{AllocError, AllocFailed};
 use thiserror::Error;
 
@@ -13,12 +13,9 @@ pub enum Fault {
     /// Memory was refused, or a thread.
     #[error("{}", FaultName::Memory)]
     Memory,
-    /// The address can't be listened on.
-    #[error("{}", FaultName::Network)]
-    Network,
-    /// The printer's file at this path can't be opened for writing.
-    #[error("{name} {0}", name = FaultName::WriteFile)]
-    PrinterFile(String),
+    /// Something couldn't be opened at its start.
+    #[error("{0}")]
+    Opening(Opening),
     /// The output can't be written.
     #[error("{}", FaultName::WriteFile)]
     Output,
