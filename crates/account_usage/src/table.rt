@@ -5,7 +5,7 @@ ghost use Rattle.account.specs.Seen.{event_seen, sheet_seen, turn_seen};
 ghost use Rattle.control_file.specs.View.{contents};
 ghost use Rattle.segment_text.specs.Items.{item_seen};
 ghost use Rattle.account_usage.specs.Sums as S;
-ghost use Rattle.account_usage.specs.Tables.{HasPrinted, HasSent, counted, name_by};
+ghost use Rattle.account_usage.specs.Tables.{HasPrinted, HasSent, Keeps, counted, counts_after, name_by};
 
 use crate::grouping::Grouping;
 use crate::held::{HeldJob, add_octets, place_of, set_out};
@@ -91,6 +91,7 @@ impl UsageTable {
     fn open(&mut self, alloc: Global, number: u64, queue: u32) -> Result<(), AllocError>
         ensures sent { OnOk result (HasSent 0 self.old self.new) }
         ensures printed { OnOk result (HasPrinted 0 self.old self.new) }
+        ensures kept { OnOk result (Keeps self.old self.new) }
     {
         let name = self.first_name(alloc, queue)?;
         self.held.push(HeldJob {
@@ -108,6 +109,7 @@ impl UsageTable {
     fn name(&mut self, alloc: Global, number: u64, control: &Control) -> Result<(), AllocError>
         ensures sent { OnOk result (HasSent 0 self.old self.new) }
         ensures printed { OnOk result (HasPrinted 0 self.old self.new) }
+        ensures kept { OnOk result (Keeps self.old self.new) }
     {
         let Some(at) = place_of(self.held.as_slice(), number) else {
             return Ok(());
@@ -127,6 +129,7 @@ impl UsageTable {
     ) -> Result<(), AllocError>
         ensures sent { OnOk result (HasSent sent self.old self.new) }
         ensures printed { OnOk result (HasPrinted printed self.old self.new) }
+        ensures kept { OnOk result (Keeps self.old self.new) }
     {
         match place_of(self.held.as_slice(), number) {
             Some(at) => add_octets(self.held.as_mut_slice(), at, sent, printed),
@@ -146,6 +149,7 @@ impl UsageTable {
     fn end(&mut self, alloc: Global, number: u64, counts: bool) -> Result<(), AllocError>
         ensures sent { OnOk result (HasSent 0 self.old self.new) }
         ensures printed { OnOk result (HasPrinted 0 self.old self.new) }
+        ensures kept { OnOk result (Keeps self.old self.new) }
     {
         let Some(at) = place_of(self.held.as_slice(), number) else {
             return Ok(());
@@ -171,6 +175,7 @@ impl UsageTable {
     ) -> Result<(), AllocError>
         ensures sent { OnOk result (HasSent 0 self.old self.new) }
         ensures printed { OnOk result (HasPrinted 0 self.old self.new) }
+        ensures kept { OnOk result (Keeps self.old self.new) }
     {
         let Some(at) = place_of(self.held.as_slice(), number) else {
             return Ok(());
@@ -190,6 +195,7 @@ impl UsageTable {
     fn remove(&mut self, alloc: Global, jobs: &[u64], counts: bool) -> Result<(), AllocError>
         ensures sent { OnOk result (HasSent 0 self.old self.new) }
         ensures printed { OnOk result (HasPrinted 0 self.old self.new) }
+        ensures kept { OnOk result (Keeps self.old self.new) }
     {
         for number in jobs {
             self.turn(alloc, *number, (0, 0), true, counts)?;
@@ -201,6 +207,8 @@ impl UsageTable {
     fn end_all(&mut self, alloc: Global) -> Result<(), AllocError>
         ensures sent { OnOk result (HasSent 0 self.old self.new) }
         ensures printed { OnOk result (HasPrinted 0 self.old self.new) }
+        ensures kept { OnOk result (Keeps self.old self.new) }
+        ensures ended { OnOk result (self.new.held.items ≡ []) }
     {
         let jobs = u64::from(self.counts);
         settle(&mut self.rows, alloc, self.held.as_slice(), jobs)?;
@@ -219,6 +227,7 @@ impl UsageTable {
         ensures sent { OnOk result (HasSent 0 self.old self.new) }
         ensures printed { OnOk result
             (HasPrinted (counted counts (S.printed_at (sheet_seen sheet.now) (turn_seen turn))) self.old self.new) }
+        ensures kept { OnOk result (Keeps self.old self.new) }
     {
         match turn {
             Turn::Handed => self.turn(alloc, sheet.job, (1, 0), false, counts),
@@ -242,6 +251,7 @@ impl UsageTable {
             (HasSent (counted counts (S.sent_by (event_seen entry.now))) self.old self.new) }
         ensures printed { OnOk result
             (HasPrinted (counted counts (S.printed_by (event_seen entry.now))) self.old self.new) }
+        ensures kept { OnOk result (Keeps self.old self.new) }
     {
         match entry {
             Entry::Opened { job, queue, .. } => self.open(alloc, *job, *queue),
@@ -273,6 +283,9 @@ impl UsageTable {
             (HasSent (counted counts (S.sent_in (item_seen line.now))) self.old self.new) }
         ensures printed { OnOk result
             (HasPrinted (counted counts (S.printed_in (item_seen line.now))) self.old self.new) }
+        ensures grouping { OnOk result (self.new.grouping ≡ self.old.grouping) }
+        ensures counts { OnOk result
+            (self.new.counts ≡ counts_after (item_seen line.now) counts self.old.counts) }
     {
         match line {
             SegmentLine::Config(config) => {
@@ -297,6 +310,8 @@ impl UsageTable {
     pub fn finish(&mut self, alloc: Global) -> Result<(), AllocError>
         ensures sent { OnOk result (HasSent 0 self.old self.new) }
         ensures printed { OnOk result (HasPrinted 0 self.old self.new) }
+        ensures kept { OnOk result (Keeps self.old self.new) }
+        ensures ended { OnOk result (self.new.held.items ≡ []) }
     {
         self.end_all(alloc)
     }
