@@ -8,7 +8,7 @@ use crate::fault::ReportFault;
 use crate::files::{TakeLines, take_files};
 use crate::notes::write_text;
 use account_text::put_shown;
-use account_usage::{Grouping, Totals, UsageTable, is_within};
+use account_usage::{Grouping, Totals, UsageRequest, UsageTable, is_within};
 use log::Log;
 use lpd_commands::OctetWrite;
 use lpd_values::Octets;
