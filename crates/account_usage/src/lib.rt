@@ -3,11 +3,13 @@
 
 mod grouping;
 mod held;
+mod request;
 mod rows;
 mod table;
 mod times;
 
 pub use grouping::Grouping;
+pub use request::{AuditRequest, UsageRequest};
 pub use rows::Totals;
 pub use segment_text::is_time;
 pub use table::UsageTable;

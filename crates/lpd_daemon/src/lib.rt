@@ -5,19 +5,13 @@
 //! it, and one writes its segments where they become files.
 #![tactic(auto)]
 
-mod answering;
 mod crew;
 mod descriptors;
 mod device_sink;
-mod feeding;
-mod listening;
 mod preparing;
 mod printing;
-mod served;
 mod serving;
-mod session_notes;
 mod sink;
-mod watching;
 
 pub use control_socket::{OpenFault, SocketFile};
 pub use printer_worker::{PrintSink, SinkFault};
@@ -27,6 +21,6 @@ pub use program_edge::{
 };
 pub use server_care::Counter;
 pub use server_folders::{ACCOUNT_LINES, FOLDER_CAUSES};
-pub use server_house::Fault;
+pub use server_house::ServerFault;
 pub use server_notes::JOB_LINES;
 pub use serving::{Plan, serve};

@@ -7,17 +7,20 @@ ghost use Rattle.program_edge.specs.declared.opening.StartPart.TheVariants.{Spoo
 
 use crate::crew::Entrance;
 use crate::descriptors::{board_descriptors, folder_descriptors, kept_descriptors};
-use crate::listening::{Gate, listen};
 use config_values::Config;
 use log::{Log, warn};
-use printer_devices::{Opened, open_places, pipes_of};
+use printer_devices::{OpenedPlace, open_places, pipes_of};
 use program_edge::{Settings, StartFault};
 use server_care::{Counter, open_board};
-use server_folders::{Archive, Kept, open_archive};
+use server_clients::{Gate, listen};
+use server_folders::{Archive, JobFolder, open_archive};
 use server_house::{AccountRoom, Hall, Host, Showing, sessions_of};
 use std::alloc::Global;
 use std::fs::{File, Files};
 use std::sync::Wait;
+
+/// The part of the program that logs what happens here, as the log names it.
+const PART: &str = "lpd_daemon::serving";
 
 /// Opens the folder in which jobs are kept, if the settings name one. Where the account isn't rotated by itself that is logged: it
 /// ends all the sooner.
@@ -28,16 +31,16 @@ fn open_kept<'a, R: Files<File = File> + Log + Wait>(
     alloc: Global,
     settings: &Settings<'a>,
     config: &Config,
-) -> Result<Option<Kept<'a, R>>, StartFault>
+) -> Result<Option<JobFolder<'a, R>>, StartFault>
     ensures { IfErr result (IsUnopened (λ (part : StartPart). part ≡ Spool)) }
 {
     let Some(path) = settings.spool else {
         return Ok(None);
     };
     if !settings.keep_room && settings.rotate.is_none() {
-        warn!(rt; "{path}: jobs are kept, but the account is never rotated: without --keep-room or --rotate no job is taken once it is full");
+        warn!(rt; target: PART, "{path}: jobs are kept, but the account is never rotated: without --keep-room or --rotate no job is taken once it is full");
     }
-    let kept = Kept::open(rt, alloc, path, config)?;
+    let kept = JobFolder::open(rt, alloc, path, config)?;
     Ok(Some(kept))
 }
 
@@ -45,9 +48,9 @@ fn open_kept<'a, R: Files<File = File> + Log + Wait>(
 #[derive(Drop)]
 struct Stores<'a, R> {
     /// What the printers print to, by their numbers, from 1.
-    places: Vec<Opened>,
+    places: Vec<OpenedPlace>,
     /// Where jobs are kept until they are printed, if they are.
-    kept: Option<Kept<'a, R>>,
+    kept: Option<JobFolder<'a, R>>,
     /// Where the account's segments become files, if they do.
     archive: Option<Archive<'a>>,
 }
