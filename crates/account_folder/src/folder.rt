@@ -17,7 +17,7 @@ use config_values::Config;
 use lpd_values::Octets;
 use program_edge::StreamWriter;
 use segment_text::{Begin, Head, Origin, PrinterPlace, Start, Version, is_before};
-use server_folder::FILE_MODE;
+use server_folder::{FILE_MODE, FolderUse};
 use std::alloc::Global;
 use std::fmt::{Display, Formatter, Write};
 use std::fs::{File, Files, OpenOptions};
@@ -125,8 +125,8 @@ impl AccountFolder {
     ///
     /// # Errors
     ///
-    /// `InUse` where another server has it; `Broken` where its last segment isn't whole; `Full` where no number is left; `Failed`
-    /// where it can't be made, opened or read, or memory is refused.
+    /// `Broken` where its last segment isn't whole; `Full` where no number is left; `Folder`, by `InUse` where another server has it,
+    /// and by `Failed` where it can't be made, opened or read, or memory is refused.
     pub fn open<R: Files<File = File>>(
         rt: &R,
         alloc: Global,
@@ -135,7 +135,7 @@ impl AccountFolder {
         printers: Vec<PrinterPlace>,
         begun: SystemTime,
     ) -> Result<AccountFolder, OpenError> {
-        let lock = server_folder::take(rt, alloc, path)?;
+        let lock = server_folder::take(rt, alloc, FolderUse::Account, path)?;
         let listing = list(rt, alloc, path)?;
         for name in &listing.left {
             let path = format!(in alloc; "{path}/{name}.tmp").map_err(io::Error::from)?;

@@ -3,6 +3,7 @@
 use crate::listing::Listing;
 use crate::opening::OpenError;
 use crate::reading::next_in;
+use server_folder::FolderUse;
 use std::alloc::Global;
 use std::fs::{File, Files};
 use std::io;
@@ -23,16 +24,16 @@ pub enum AccountState {
 ///
 /// # Errors
 ///
-/// As a server would have them: `InUse` where one has the folder; `Broken` where the last segment isn't whole; `Full` where no
-/// number is left; and `Failed` where the path is no folder, the folder, its lock or its last segment can't be read, or nothing is
-/// there and neither is the folder above; or where memory is refused. Whether a folder that isn't there can be made isn't tried,
+/// As a server would have them: `Broken` where the last segment isn't whole; `Full` where no number is left; and `Folder`, by
+/// `InUse` where a server has the folder, and by `Failed` where the path is no folder, the folder, its lock or its last segment can't
+/// be read, or nothing is there and neither is the folder above; or where memory is refused. Whether a folder that isn't there can be made isn't tried,
 /// nor whether a file can be made in one that is.
 pub fn look<R: Files<File = File>>(
     rt: &R,
     alloc: Global,
     path: &str,
 ) -> Result<AccountState, OpenError> {
-    let Some(octets) = server_folder::look(rt, alloc, path)? else {
+    let Some(octets) = server_folder::look(rt, alloc, FolderUse::Account, path)? else {
         return Ok(AccountState::Absent);
     };
     let listing = Listing::of(alloc, octets.as_slice()).map_err(io::Error::from)?;

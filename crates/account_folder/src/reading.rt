@@ -159,7 +159,7 @@ fn read_named<R: Files<File = File>>(
     match read_segment(alloc, &mut file) {
         Ok(last) => Ok(last),
         Err(ReadFault::Broken) => Err(OpenError::Broken(name)),
-        Err(ReadFault::Failed(cause)) => Err(OpenError::Failed(cause)),
+        Err(ReadFault::Failed(cause)) => Err(OpenError::from(cause)),
     }
 }
 
@@ -178,8 +178,8 @@ pub(crate) struct NextSegment {
 ///
 /// # Errors
 ///
-/// `Broken` where that isn't a whole segment; `Full` where no number is left; `Failed` where it can't be read, or memory is
-/// refused.
+/// `Broken` where that isn't a whole segment; `Full` where no number is left; `Folder`, by `Failed`, where it can't be read, or memory
+/// is refused.
 pub(crate) fn next_in<R: Files<File = File>>(
     rt: &R,
     alloc: Global,

@@ -12,6 +12,7 @@ use account_usage::{Grouping, Totals, UsageRequest, UsageTable, is_within};
 use log::Log;
 use lpd_commands::OctetWrite;
 use lpd_values::Octets;
+use program_edge::tell_cause;
 use segment_text::{LineFault, SegmentLine, SegmentReader};
 use std::alloc::{AllocError, Global};
 use std::fs::{File, Files};
@@ -21,7 +22,7 @@ use std::random::RandomSource;
 /// How many lines of one segment are read at most.
 const MOST_LINES: u64 = 1 << 62;
 
-/// What is told to be unread where the system gives no random octets.
+/// What is told as the file that can't be read where the system gives no random octets.
 const RANDOM: &str = "/dev/urandom";
 
 /// A segment that is read, line by line.
@@ -213,8 +214,12 @@ fn tell_usage<'a, R: Files<File = File> + Log + RandomSource, O: OctetWrite>(
     request: &UsageRequest<'a>,
     output: &mut O,
 ) -> Result<(), ReportFault<'a>> {
-    let Ok(random) = RandomState::new(rt) else {
-        return Err(ReportFault::ReadFile(RANDOM));
+    let random = match RandomState::new(rt) {
+        Ok(random) => random,
+        Err(cause) => {
+            tell_cause(rt, &RANDOM, Some(cause));
+            return Err(ReportFault::ReadFile(RANDOM));
+        }
     };
     let mut counting = Counting {
         table: UsageTable::new(alloc, random, request.by),

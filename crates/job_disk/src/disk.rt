@@ -3,10 +3,9 @@
 use crate::fault::DiskFault;
 use crate::listing::names_in;
 use crate::numbers::FileNumbers;
-use crate::opening::OpenError;
 use crate::syncs::{SyncTold, Syncs};
 use job_files::{FileStage, JobEnd, JobFiles, KeptFileName, WaitingJobs};
-use server_folder::FILE_MODE;
+use server_folder::{FILE_MODE, FolderError, FolderUse};
 use std::alloc::{AllocError, Global};
 use std::fs::{File, Files, OpenOptions};
 use std::os::unix::fs::OpenOptionsExt;
@@ -48,8 +47,8 @@ impl<'a, R: Files<File = File> + Wait> Disk<'a, R> {
         alloc: Global,
         path: &'a str,
         jobs: usize,
-    ) -> Result<Disk<'a, R>, OpenError> {
-        let lock = server_folder::take(rt, alloc, path)?;
+    ) -> Result<Disk<'a, R>, FolderError> {
+        let lock = server_folder::take(rt, alloc, FolderUse::Jobs, path)?;
         let names = names_in(rt, alloc, path)?;
         let standing = FolderJobs {
             numbers: FileNumbers::behind(names.as_slice()),

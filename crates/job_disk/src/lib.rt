@@ -7,7 +7,6 @@ mod folder;
 mod listing;
 mod looking;
 mod numbers;
-mod opening;
 mod store;
 mod syncs;
 
@@ -15,5 +14,5 @@ pub use disk::Disk;
 pub use fault::DiskFault;
 pub use folder::DiskFolder;
 pub use looking::{FolderState, look};
-pub use opening::OpenError;
+pub use server_folder::{FolderError, FolderUse};
 pub use store::DiskStore;

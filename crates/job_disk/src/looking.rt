@@ -1,8 +1,8 @@
 //! Looking at a folder of jobs without taking it.
 
 use crate::listing::names_of;
-use crate::opening::OpenError;
 use job_files::{FileStage, KeptFileName};
+use server_folder::{FolderError, FolderUse};
 use std::alloc::Global;
 use std::fs::{File, Files};
 use std::io;
@@ -37,8 +37,8 @@ pub fn look<R: Files<File = File>>(
     rt: &R,
     alloc: Global,
     path: &str,
-) -> Result<FolderState, OpenError> {
-    let Some(octets) = server_folder::look(rt, alloc, path)? else {
+) -> Result<FolderState, FolderError> {
+    let Some(octets) = server_folder::look(rt, alloc, FolderUse::Jobs, path)? else {
         return Ok(FolderState::Absent);
     };
     let names = names_of(alloc, octets.as_slice()).map_err(io::Error::from)?;

@@ -7,7 +7,7 @@ mod lock;
 mod looking;
 mod making;
 
-pub use fault::FolderError;
+pub use fault::{FolderError, FolderUse};
 pub use listing::names;
 pub use looking::look;
 pub use making::{FILE_MODE, take};

@@ -1,7 +1,7 @@
 //! The lock of a folder: the file `lock` in it, locked by `flock` as long as a server has the folder. That the file exists says
 //! nothing.
 
-use crate::fault::FolderError;
+use crate::fault::{FolderError, FolderUse};
 use crate::making::FILE_MODE;
 use std::alloc::{AllocError, Global};
 use std::fs::{File, Files, OpenOptions, TryLockError};
@@ -13,11 +13,11 @@ fn path_in(alloc: Global, folder: &str) -> Result<String, AllocError> {
     format!(in alloc; "{folder}/lock")
 }
 
-/// What a lock that was tried says of the folder.
-fn answer_of(tried: Result<(), TryLockError>) -> Result<(), FolderError> {
+/// What a lock that was tried says of a folder that a server has for this.
+fn answer_of(tried: Result<(), TryLockError>, purpose: FolderUse) -> Result<(), FolderError> {
     match tried {
         Ok(()) => Ok(()),
-        Err(TryLockError::WouldBlock) => Err(FolderError::InUse),
+        Err(TryLockError::WouldBlock) => Err(FolderError::InUse(purpose)),
         Err(TryLockError::Error(cause)) => Err(FolderError::Failed(cause)),
     }
 }
@@ -26,13 +26,14 @@ fn answer_of(tried: Result<(), TryLockError>) -> Result<(), FolderError> {
 pub(crate) fn take_lock<R: Files<File = File>>(
     rt: &R,
     alloc: Global,
+    purpose: FolderUse,
     folder: &str,
 ) -> Result<File, FolderError> {
     let path = path_in(alloc, folder).map_err(io::Error::from)?;
     let mut options = OpenOptions::new();
     options.write(true).create(true).mode(FILE_MODE);
     let file = options.open(rt, path.as_str())?;
-    answer_of(file.try_lock())?;
+    answer_of(file.try_lock(), purpose)?;
     Ok(file)
 }
 
@@ -40,11 +41,12 @@ pub(crate) fn take_lock<R: Files<File = File>>(
 pub(crate) fn check_lock<R: Files<File = File>>(
     rt: &R,
     alloc: Global,
+    purpose: FolderUse,
     folder: &str,
 ) -> Result<(), FolderError> {
     let path = path_in(alloc, folder).map_err(io::Error::from)?;
     match OpenOptions::new().write(true).open(rt, path.as_str()) {
-        Ok(file) => answer_of(file.try_lock_shared()),
+        Ok(file) => answer_of(file.try_lock_shared(), purpose),
         Err(cause) if cause.kind() == io::ErrorKind::NotFound => Ok(()),
         Err(cause) => Err(FolderError::Failed(cause)),
     }

@@ -1,6 +1,6 @@
 //! Looking at a folder without taking it.
 
-use crate::fault::FolderError;
+use crate::fault::{FolderError, FolderUse};
 use crate::listing::names;
 use crate::lock::check_lock;
 use std::alloc::Global;
@@ -16,8 +16,8 @@ fn folder_above(path: &str) -> &str {
     }
 }
 
-/// The names in the folder at this path, as `names` has them; None where nothing is there and a server would make the folder. Nothing
-/// is made or changed.
+/// The names in the folder at this path, which a server has for this, as `names` has them; None where nothing is there and a server
+/// would make the folder. Nothing is made or changed.
 ///
 /// # Errors
 ///
@@ -27,11 +27,12 @@ fn folder_above(path: &str) -> &str {
 pub fn look<R: Files<File = File>>(
     rt: &R,
     alloc: Global,
+    purpose: FolderUse,
     path: &str,
 ) -> Result<Option<Vec<u8>>, FolderError> {
     match names(rt, alloc, path) {
         Ok(names) => {
-            check_lock(rt, alloc, path)?;
+            check_lock(rt, alloc, purpose, path)?;
             Ok(Some(names))
         }
         Err(cause) if cause.kind() == io::ErrorKind::NotFound => {
