@@ -119,7 +119,9 @@ impl<R: Files<File = File> + Clock + Log + Wait, E: HouseLedger> Care<'_, '_, R,
     /// The response to a connection.
     fn response_to(&self, board: &Board, visit: &Visit) -> Result<String, AllocError> {
         match read_request(self.hall.rt, &visit.stream, board.name.as_bytes()) {
-            RequestReading::Wanted { method, resource } => match self.draw(board, method, resource) {
+            RequestReading::Wanted { method, resource } => match self.draw(
+                board, method, resource,
+            ) {
                 Ok(response) => Ok(response),
                 Err(AllocError) => unavailable_response(self.hall.alloc),
             },
