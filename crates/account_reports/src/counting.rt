@@ -238,8 +238,9 @@ fn tell_usage<'a, R: Files<File = File> + Log + RandomSource, O: OctetWrite>(
     write_text(output, text.as_slice())
 }
 
-/// Tells `output` who used how much, as the segments of these files say: each line of them has to be one that may stand there, and nothing
-/// else is checked. The log is told at INFO why a file can't be read, and `faults` in a line what is wrong.
+/// Tells `output` who used how much, as the segments of these files say: each line of them has to be one that may stand there, and
+/// nothing else is checked, since that is for accounts that were audited, or for who trusts the server. The log is told at INFO why a
+/// file can't be read, and `faults` in a line what is wrong.
 ///
 /// Answers the exit status: 0 where it was told, 6 where a line can't be read, 4 for memory and files.
 pub fn usage<R: Files<File = File> + Log + RandomSource, O: OctetWrite, E: OctetWrite>(

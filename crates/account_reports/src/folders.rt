@@ -1,4 +1,8 @@
 //! A printer whose folder is read again: each job that it finished is a file there.
+//!
+//! A job's file is the one that its head's number and the jobs before it say: it is there with the job's pages, or that is fault 83,
+//! unless `--taken K` says that somebody takes files away. The head of version 1 tells no number. There files are taken in order from the
+//! first one on that has a job's pages, in each run anew, and within a run no file may be passed over.
 
 use crate::printers::PrintedFile;
 use account::{Entry, Sheet};

@@ -1,4 +1,7 @@
 //! A control socket: one thread owns it, and goes round.
+//!
+//! Each command is one line of one spelling, and each answer ends with a line that says how, so an answer that was cut off is told apart.
+//! Whoever may enter the socket's folder may use it, and `nc -U` can.
 
 ghost use Rattle.std.specs.Prelude.{◌≡◌, [], false, IfOk, IsNone};
 ghost use Rattle.std.specs.List.{list_any, position};

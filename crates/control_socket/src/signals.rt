@@ -1,6 +1,7 @@
 //! The signals that are pending for the process, and those that it blocks, by the text of /proc/self/status.
 //!
-//! A program that can't catch a signal is started with it blocked, and looks from time to time whether it is pending.
+//! A program of this toolchain has no signal handler. So it is started with SIGTERM or SIGINT blocked, and looks from time to time which
+//! are pending. The system keeps one of a sort, and a second SIGTERM can't be seen: it is both sorts together that say `stop now`.
 
 ghost use Rattle.std.specs.Prelude.{◌≡◌, ◌≤◌, codes, option_copied};
 ghost use Rattle.control_socket.specs.Signals.{first_line_named, is_in_line, is_in_mask, mask_written};

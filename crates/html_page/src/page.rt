@@ -1,4 +1,7 @@
 //! A page of HTML: tags, texts, and nothing else.
+//!
+//! A page is written by calls that open and close elements, and not of pieces of text that happen to fit: which elements are open is
+//! kept, so that a page without balanced tags, quotes or escapes can't be made.
 
 ghost use Rattle.std.specs.Prelude.{◌≡◌, ◌∷◌, [], ◌++◌, IfErr, IfOk, map, string_bytes};
 ghost use Rattle.std.specs.Fmt.{decimal};

@@ -150,7 +150,8 @@ impl<'a, R: Files<File = File> + Wait> Disk<'a, R> {
         Err(io::Error::from(io::ErrorKind::Other))
     }
 
-    /// Does with the file of a job what its end asks for.
+    /// Does with the file of a job what its end asks for. The folder isn't synced for it: after a crash the job may be printed again,
+    /// which loses nothing.
     fn act(&self, number: u64, end: JobEnd) -> Result<(), DiskFault<'a>> {
         let stage = FileStage::Whole;
         let name = KeptFileName { number, stage };

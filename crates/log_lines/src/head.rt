@@ -1,4 +1,7 @@
 //! What stands before a line of the log.
+//!
+//! It stands before every line, a fault's too: whoever asks for times asks for them everywhere. Scripts that read faults don't ask for
+//! it.
 
 ghost use Rattle.std.specs.Prelude.{◌≡◌};
 ghost use Rattle.log_lines.specs.Grades.{grade_of};

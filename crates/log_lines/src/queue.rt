@@ -1,4 +1,8 @@
 //! Lines that wait for the thread which writes them.
+//!
+//! Nothing holds up a session but its peer and its spool: so one thread writes the log, and the one that hands connections on writes
+//! standard output. A warning for each session that fails is written only while somebody reads standard error: lines that find no room
+//! are dropped, and their number is told. At the end the program waits a moment until the log is written, the line of the last fault too.
 
 use crate::head::LineHead;
 use crate::repeats::{Repeats, peer_of};

@@ -1,4 +1,7 @@
 //! Warnings that are told again and again of one peer.
+//!
+//! They are counted only with `--log`, by the peer's address and the text behind it, whatever the port: without the option each line is
+//! what it was. How often one came is told when its minute is over, and at the end.
 
 use std::alloc::Global;
 use std::fmt;

@@ -1,4 +1,10 @@
 //! The threads of a server.
+//!
+//! Threads beside the sessions keep their seats until the spool is closed: the one that looks for peers that are gone gives its back a
+//! quarter of a second after that at most, the others at once. They don't leave at the end of accepting, since sessions go on then: one
+//! may wait for a page while its peer is gone, and would do so for ever with nobody to look; another may bring one job more over its
+//! connection, for which room is kept. A session's seat comes back where its connection ends and no other is handed on. So all seats are
+//! there a second after the close, and `finish` comes.
 
 ghost use Rattle.std.specs.Prelude.{◌≡◌};
 ghost use Rattle.std.specs.Thread.{IsSend};
@@ -101,7 +107,8 @@ impl<E: HouseLedger + Send + Sync> Crew<E> {
         }
     }
 
-    /// Starts a thread for each printer, which has what that prints to.
+    /// Starts a thread for each printer, which has what that prints to. The thread opens connections and, in a folder, files by name:
+    /// hence the condition on `R::Dir`, without which the borrow checker doesn't know that files' names may be shared.
     fn start_printers<
         's,
         R: Files<File = File>

@@ -47,7 +47,8 @@ struct Watched<'h, 'a, R, E: HouseLedger, S> {
 }
 
 impl<R: Clock + Log + Wait, E: HouseLedger, S: PrintSink + Explains> Watched<'_, '_, R, E, S> {
-    /// Tells of a page that wasn't written: the printer will stand still.
+    /// Tells of a page that wasn't written, once, with its printer, its job, its place and the cause. The printer will stand still, so
+    /// the number of these warnings needs no bound.
     fn tell_fault(&self, page: &HandedPage) {
         let (hall, printer) = (self.house.hall, self.printer);
         let (job, place) = (page.job, page.place);
@@ -59,8 +60,9 @@ impl<R: Clock + Log + Wait, E: HouseLedger, S: PrintSink + Explains> Watched<'_,
         }
     }
 
-    /// How a job is left of which that is told. Where a page of it wasn't written and it was to be printed no more, it didn't fail:
-    /// it had ended before, or the server ends.
+    /// How a job is left of which that is told. Where a page of it wasn't written and it was to be printed no more, it didn't fail: it
+    /// had ended before, or the server ends. A removal that comes between the question whether the job is wanted and the page's return is
+    /// told as a failure all the same: what the spool says is alike in both cases.
     fn how_left(&self, told: Leaving, was_given_up: bool) -> Leaving {
         match told {
             Leaving::Failed if was_given_up && self.house.hall.ending.is_over() => Leaving::Closed,

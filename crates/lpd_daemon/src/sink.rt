@@ -5,7 +5,7 @@ ghost use Rattle.std.specs.declared.io.Error.{Error};
 
 use std::io::Error;
 
-/// What keeps why a page wasn't written.
+/// What keeps why a page wasn't written. `PrintSink` says what is counted and no more, so this is a trait beside it.
 pub(crate) trait Explains {
     ghost why: { Self → Option Error };
 

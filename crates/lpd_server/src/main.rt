@@ -1,4 +1,7 @@
 //! The program: what its words ask for is done with the standard streams, files and the network.
+//!
+//! It runs the server itself, by what `word_actions` answers: threads are lent to `main` alone, and what holds a runtime with them can't
+//! be handed on behind a trait.
 #![tactic(auto)]
 
 ghost use Rattle.std.specs.Prelude.{◌≡◌, ◌≤◌};

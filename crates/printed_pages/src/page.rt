@@ -1,4 +1,7 @@
 //! One page.
+//!
+//! A printer's octets are compared page by page, by length and SHA-256, since that is what the account has. So a fault names the octet at
+//! which the page begins, or that at which the file ends.
 
 ghost use Rattle.std.specs.Prelude.{◌≡◌, ◌<◌, ◌+◌, ◌^◌, ◌↔◌, IsTrue, MatchResult, length};
 ghost use Rattle.printed_pages.specs.Pages.{DiffersAt, Matches};

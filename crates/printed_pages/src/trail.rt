@@ -1,4 +1,8 @@
 //! The trail of a printer whose octets are in one file.
+//!
+//! Behind a page that failed nothing is judged until the next run: how much of it was written nobody knows. What lies between the end of
+//! a run and the length that the next run's head tells is not judged either: a run that was killed has printed pages of which the account
+//! says nothing.
 
 ghost use Rattle.std.specs.Prelude.{◌≡◌, ◌≤◌, ◌<◌, ◌+◌, ◌-◌, ◌^◌, IfErr, MatchOption, MatchResult, OnErr, OnOk, None, Some, Option};
 ghost use Rattle.account.specs.Seen.{event_seen, sheet_seen};

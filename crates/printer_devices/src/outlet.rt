@@ -1,4 +1,7 @@
 //! A printer's file as the system has it: a file, a device or a pipe.
+//!
+//! It is opened once, at the server's start and before anything is listened on, and is made where it isn't there. What is in a pipe
+//! counts as printed. Nothing is written between jobs.
 
 use libc::net::{POLLIN, POLLOUT, poll};
 use libc::types::pollfd;

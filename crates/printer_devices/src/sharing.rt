@@ -49,7 +49,8 @@ impl fmt::Display for SharedFolder<'_> {
 
 /// The first folder that a printer has of one before it, by whatever path. The log is told which two these are.
 ///
-/// A folder is one printer's: else nobody could tell which of its files is whose, and the account says of each job which file it is.
+/// A folder is one printer's: else nobody could tell which of its files is whose, and the account says of each job which file it is. It
+/// is the one place where something is refused that earlier servers took, without an option that asks for it.
 pub fn shared_folder<'a, R: Files + Log>(
     rt: &R,
     printers: &[PrinterPlace<'a>],

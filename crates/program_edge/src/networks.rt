@@ -58,9 +58,8 @@ impl Network {
     ghost use Rattle.program_edge.specs.Networks.{IsNetworkText, has_in};
     ghost use Rattle.program_edge.specs.declared.networks.Network.{Network};
 
-    /// The network that a text names: an address alone, or the addresses that begin with the same
-    /// bits as one, as many as are named behind a slash, 0 to 32; no bit of the address is set
-    /// behind these. None where it names none.
+    /// The network that a text names: an address alone, or the addresses that begin with the same bits as one, as many as are named
+    /// behind a slash, 0 to 32; no bit of the address is set behind these, since such a bit may be a slip. None where it names none.
     pub fn read(text: &str) -> Option<Network>
         ensures network { IfSome result (IsNetworkText text.now) }
         ensures none { IfNone result ((network : Network) → IsNetworkText text.now network → ⊥) }

@@ -1,4 +1,7 @@
 //! How a server is to run.
+//!
+//! It is one struct, which the words are read into and the server goes by, and stands below both: so the one knows no threads and the
+//! other no words. A limit that isn't given is None, and 0 is none: below the words a limit is a `NonZeroU64`.
 
 ghost use Rattle.std.specs.Prelude.{◌≡◌, [], None, IfNone, IfSome, codes, false};
 ghost use Rattle.std.specs.declared.net.ipv4_addr.TheConstants.Ipv4Addr.{LOCALHOST};
@@ -60,7 +63,7 @@ impl LogForm {
 pub struct Settings<'a> {
     /// The address to listen on.
     pub bind: Ipv4Addr,
-    /// The port to listen on. At 0, which no words give, the system picks a free one.
+    /// The port to listen on. At 0 the system picks a free one: tests want that, and no words give it.
     pub port: u16,
     /// The path of the directory where the printers' files are.
     pub out: &'a str,

@@ -1,5 +1,7 @@
 //! Streams and files as ends that octets are read from and written to. They count their failures, and
 //! keep the cause of the last one.
+//!
+//! No clause says that this cause is the system's.
 
 ghost use Rattle.std.specs.Prelude.{◌≡◌, None};
 

@@ -1,4 +1,8 @@
 //! How faults are told: in a line of their own.
+//!
+//! The cause of a fault is no part of that line, which scripts and units read, and which stays as it is to the letter. Which file or
+//! address it is about, and the system's reason, is a line of the log before it, at INFO. The program logs at INFO only where standard
+//! error is a terminal, and at WARN elsewhere, so nothing more stands in a journal or a file.
 
 ghost use Rattle.std.specs.Prelude.{◌≡◌, ◌++◌, ◌∷◌, [], OnOk, OnErr, Some};
 ghost use Rattle.lpd_commands.specs.Ends.{Writes, one_more};
@@ -10,9 +14,8 @@ use std::alloc::{AllocError, Global};
 use std::fmt;
 use std::io::Error;
 
-/// What stops the program, as it is printed: the word `fault`, a number and a name. A
-/// configuration's faults and those of a job that isn't taken have their own, `ConfigFault` and
-/// `SendFault`.
+/// What stops the program, as it is printed: the word `fault`, a number and a name. The names stand here once, but for those of a
+/// configuration and of a job that isn't taken, whose crates stand below: `ConfigFault` and `SendFault`.
 #[derive(Clone, Copy, Debug, PartialEq, Eq)]
 pub enum FaultName {
     /// Memory was refused.

@@ -1,4 +1,6 @@
 //! The command line, as `clap` reads it.
+//!
+//! `help` is no word, only `--help` and `-h` are. Both print the same text but for `clap`'s own lines.
 
 ghost use Rattle.std.specs.Prelude.{◌≡◌, IfOk, map};
 ghost use Rattle.clap.specs.Words.{app_of};

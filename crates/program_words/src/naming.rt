@@ -1,4 +1,7 @@
 //! How the files of a job are named.
+//!
+//! A job's words are judged whole before a file is read, so what can't be sent of them is a mistake in the words and no fault. A host is
+//! one too that a file's name can't end with: one of over 120 octets, or with white space.
 
 ghost use Rattle.std.specs.Prelude.{◌≡◌, ◌<◌, ◌≤◌, ◌∷◌, ◌++◌, [], IsTrue, IfOk, IfErr, length, map};
 ghost use Rattle.std.specs.List.{list_all};

@@ -265,8 +265,8 @@ pub fn read_words<'a>(alloc: Global, words: &'a [String]) -> Result<Ask<'a>, Unr
     }
 }
 
-/// The words that the program was started with, of which the first is its name. Answers `Refused`
-/// where one isn't UTF-8, and `Memory`.
+/// The words that the program was started with, of which the first is its name. Answers `Refused` where one isn't UTF-8, since `clap`'s
+/// words are text, and so are paths, and `Memory`.
 pub fn words_of<R: Env + Alloc<A = Global>>(rt: &R) -> Result<Vec<String>, Unread>
     ensures { IfErr result HasNoWords }
 {

@@ -1,4 +1,8 @@
 //! Which segment may come.
+//!
+//! An audit may begin at any segment, whose base and numbers are taken as they are, unless the digest is named that it has to follow:
+//! accounts are put away, and older segments may be on tape. One that says that it is the first of all has to begin as a run begins. One
+//! that begins amid held jobs (`part`) says nothing of these, so no audit begins there.
 
 ghost use Rattle.std.specs.Prelude.{◌≡◌, ◌≤◌, ◌⊎◌, ◌↔◌, IfOk, IsTrue, MatchResult, None, Option};
 ghost use Rattle.segment_text.specs.Follow as F;

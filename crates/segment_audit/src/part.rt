@@ -179,7 +179,8 @@ fn add_to_head(
     }
 }
 
-/// Whether a segment of a version may end where its run has come to this.
+/// Whether a segment of a version may end where its run has come to this. By version 1 no job may be held there, since such servers ended
+/// segments only where none was. By version 2 the audit goes on with what it knows of the held jobs.
 ///
 /// AllocError where memory is refused.
 fn may_end(version: Version, course: &Course, alloc: Global) -> Result<bool, AllocError>

@@ -1,5 +1,8 @@
 //! The thread that shows the status of the server to browsers and to what monitors it: one request and one response a connection, one
 //! after another.
+//!
+//! Each has bounded time, and the others wait in a lobby as the jobs' connections do, so that those that ask nothing take no thread. Two
+//! peers that halt delay the next by four seconds.
 
 use crate::board::Board;
 use crate::care::Care;
@@ -84,7 +87,8 @@ impl<R: Files<File = File> + Clock + Log + Wait, E: HouseLedger> Care<'_, '_, R,
         let _ = board.hour.note(look_of(second, pages, &self.counts()));
     }
 
-    /// The response with a resource of the server as it is now, and by GET with its body. The spool's lock isn't held while it is drawn. AllocError where memory for it is refused.
+    /// The response with a resource of the server as it is now, and by GET with its body. The spool's lock isn't held while it is drawn.
+    /// AllocError where memory for it is refused.
     fn draw(
         &self,
         board: &Board,

@@ -1,4 +1,11 @@
 //! The end of a server that is stopped: what it still waits for, and what it tells of what is lost.
+//!
+//! A stop waits for what goes on by itself. A job is waited for where its queue has a printer that isn't stopped, and it has begun, or is
+//! whole in a queue that isn't held, or has ended with a page out; and a pipe until its reader has taken what is in it. What waits for
+//! somebody, in the queue of a stopped printer or in one that is held, is passed over and told job by job. Whether anything is left is
+//! asked by a snapshot, and not by the wait for an idle spool, which one stopped printer ends.
+//!
+//! `stop now` ends the sessions first and tells what is lost then: so no job is acknowledged after it was told.
 
 ghost use Rattle.std.specs.Prelude.{◌≡◌};
 ghost use Rattle.std.specs.List.{list_any};

@@ -110,8 +110,9 @@ struct Attendant<'h, 'a, R> {
 }
 
 impl<R: Files<File = File> + Clock + Wait + Log> Attendant<'_, '_, R> {
-    /// Has octets sent at once and peers asked whether they are there, and limits how long a peer
-    /// may be silent or not read.
+    /// Has octets sent at once and peers asked whether they are there, and limits how long a peer may be silent or not read. That limit
+    /// is the socket's own, of each read and each write: a session that meets it ends as where reading or writing fails, and one that
+    /// waits for a page isn't silent.
     fn set_up(&self, stream: &TcpStream) -> io::Result<()> {
         stream.set_nodelay(true)?;
         keep_asking(stream, KEEPALIVE_SECONDS);
@@ -212,8 +213,9 @@ impl<R: Files<File = File> + Clock + Wait + Log> Attendant<'_, '_, R> {
         }
     }
 
-    /// Serves connections, one after another, until no more can come. `requests` carries out what
-    /// they ask for.
+    /// Serves connections, one after another, until no more can come. `requests` carries out what they ask for: it is of any type with
+    /// `Requests`, and is made once for the thread, so a type that keeps jobs can stand between a session and the spool. `session::serve`
+    /// is for those who have one connection to serve, and makes a `Seated` for that.
     fn serve_all<T: Requests + Served>(&self, requests: &mut T) {
         let (hall, rt) = (self.hall, self.hall.rt);
         // What the thread keeps from one connection to the next.

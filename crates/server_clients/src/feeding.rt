@@ -1,4 +1,11 @@
 //! The thread that has the spool take the jobs that its folder has kept.
+//!
+//! It has a seat of its own, so that a start never waits for pages. Connections are taken only once all that has room was fed, and a new
+//! job of a sender whose earlier one for that queue still waits is refused for now (`TableFull`, octet 02): so one sender's jobs in a
+//! queue keep their order across a start. A kept job gets a new number of acceptance; the number of its file stays.
+//!
+//! What can't be fed stays, with a warning: nothing that was acknowledged is taken away by anything but its end. A failed job becomes
+//! `N.failed` for the same reason.
 
 use crate::served::HouseSeated;
 use crate::session_notes::SessionNotes;

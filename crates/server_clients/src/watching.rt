@@ -77,8 +77,12 @@ struct Watcher<'h, 'a, R, E: HouseLedger> {
 }
 
 impl<R: Clock + Log + Wait, E: HouseLedger> Watcher<'_, '_, R, E> {
-    /// Ends the job of a session that waits for exactly this: the session is answered that it isn't
-    /// open any more. Answers what the session waits for now where it went on and waits again.
+    /// Ends the job of a session that waits for exactly this: the session is answered that it isn't open any more. Answers what the
+    /// session waits for now where it went on and waits again.
+    ///
+    /// It is ended at the spool, through the watcher's own seat, and not through the `Requests` of the session: that session is inside
+    /// one of their calls, and has them for itself until it is answered. The answer goes through them, so whoever stands between learns
+    /// of the end there, as of any refusal.
     fn give_up(&mut self, waiting: Waiting, why: &str) -> Option<Waiting> {
         let House { spool, hall } = self.house;
         let rt = hall.rt;

@@ -1,4 +1,8 @@
 //! Handing connections on to sessions that are free.
+//!
+//! Accepted sockets go to the threads that serve them by channels, one for each sort of session, without a bound, by `send` and `recv`.
+//! How many sessions are free is counted under the desk's lock, and only the thread that hands on takes from that number; so nothing
+//! rests on what a channel answers about how full it is. The end is that the senders are dropped.
 
 ghost use Rattle.std.specs.Prelude.{◌≡◌, ◌≢◌, ◌↔◌, ◌<◌, ◌+◌, ◌-◌, ◌^◌, ◌++◌, ◌∷◌, [], ℕ};
 ghost use Rattle.std.specs.Prelude.{IfSome, IsSome, IsTrue, None, Some, false, length, min, slice_get};

@@ -1,4 +1,10 @@
 //! Who may come in.
+//!
+//! Who may come is asked where a connection is accepted, before it takes a place: so others neither fill the lobby nor are waited for.
+//! They count for `--connections`, which says how many are accepted, and not for `--rotate`, which counts those that are handed on.
+//!
+//! Who speaks for others is said by networks too, and nobody else's header is believed: a header from elsewhere is a line that no request
+//! has. A proxy's own checks (`LOCAL`, `UNKNOWN`) are let in whatever `--allow` says, since it would else count every spool as down.
 
 ghost use Rattle.std.specs.Prelude.{◌≡◌};
 ghost use Rattle.std.specs.Net.Socket.{socket_ip};

@@ -12,7 +12,8 @@ use std::fmt::Display;
 /// The most octets that a header has: those in front of what has a length, and these.
 pub(crate) const MOST_HEADER: usize = 16 + MOST_LENGTH;
 
-/// For how many seconds the header of a connection is waited for.
+/// For how many seconds the header of a connection is waited for. It is a time of its own, since `--silence` is of sessions, and is off
+/// unless it is asked for. While the header is waited for, the connection counts as silent, and leaves first where there is no room.
 pub(crate) const HEADER_SECONDS: u64 = 3;
 
 /// Why a connection that a proxy has brought is closed.

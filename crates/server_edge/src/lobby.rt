@@ -9,6 +9,10 @@
 //!
 //! One thread holds them, with no octet read: what came is looked at, and left for the session. Of a connection that a proxy has
 //! brought its header alone is read, before all else is looked at: from then on it is a connection of whom the header names.
+//!
+//! All that a sender is for the server hangs on the connection before a session is asked for: its share of the sessions, its turn at the
+//! desk, who is let in, and what it comes for by its first octet. So the header is taken off here, and from then on nothing in the server
+//! knows that there was a proxy. It is peeked at until it is whole; then just its octets are read.
 
 ghost use Rattle.std.specs.Prelude.{◌≡◌, ◌<◌, ◌-◌, ◌↔◌, ◌++◌, [], IsTrue, None, Some, codes, length};
 ghost use Rattle.std.specs.Fmt.{decimal};

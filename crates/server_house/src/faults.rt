@@ -38,8 +38,8 @@ impl<T: Drop> From<AllocFailed<T>> for ServerFault {
 }
 
 impl ServerFault {
-    /// Whether the server has logged it by itself when it ends: a line of the output that can't be
-    /// written is told at once, and once.
+    /// Whether the server has logged it by itself when it ends: a line of the output that can't be written is told where it comes, and
+    /// once. The server goes on to its end then, and the program ends with the status of that fault and no second line.
     pub fn is_told(&self) -> bool
         ensures { IsTrue result ↔ self.now ≡ Output }
     {

@@ -1,4 +1,9 @@
 //! What sessions are at, for the thread that looks whether their peers are gone.
+//!
+//! Of a peer that closed and of one that only ended its sending the system tells the same until octets are written to it. So both are
+//! judged by one rule: a job that waits for a page is ended only where what came and isn't used can't end its open file; that counts what
+//! is in the socket, and of the last read what no page has. A broken connection ends it at once. The waiting session is answered that its
+//! job isn't open, and ends as it would by any such answer: no contract of a session speaks of it.
 
 ghost use Rattle.std.specs.Int.NonZero.{non_zero_u64_get};
 ghost use Rattle.std.specs.Prelude.{◌≡◌, ◌↔◌, ◌<◌, ◌*◌, ◌-◌, ◌^◌, IsTrue, min, unwrap_or};

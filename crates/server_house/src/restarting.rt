@@ -1,4 +1,8 @@
 //! Queues that are started again by themselves once a printer of theirs has failed.
+//!
+//! `--restart` starts whole queues, by the same event as command 01, so it needs no other room in the account. The watcher does it, which
+//! looks once a second in any case: it needs no thread and no seat of its own. A server that is being stopped starts none, since a stop
+//! passes over printers that stand still.
 
 use crate::house::House;
 use crate::ledgers::{HouseLedger, HouseSeat};

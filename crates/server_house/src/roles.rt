@@ -1,4 +1,6 @@
 //! Who gets which seat.
+//!
+//! That is said in this one place and by name, so that a thread more shifts no other's seat.
 
 ghost use Rattle.std.specs.Prelude.{◌≡◌, ◌↔◌, ◌<◌, IfErr};
 ghost use Rattle.server_house.specs.declared.faults.ServerFault.TheVariants.{Memory};

@@ -6,6 +6,13 @@
 //!       |                                                                       ^
 //!       +------------------- its session has given it up -----------------------+
 //! ```
+//!
+//! Jobs are noted where a session carries requests out, where a printer leaves a job and at removals, and refusals where a session ends
+//! by one: no call of the core tells it. Without `--status` and `--log-jobs` there is no book and nothing is counted. What is counted
+//! begins at 0 with the server, and jobs that the close ends are counted as nothing.
+//!
+//! A printer may be through with a job before its session has told that it came whole: then whoever tells the end tells `received` first.
+//! `octets` are those of the pages that came, not what a peer announced.
 
 use crate::job_lines::{JobOutcome, tell_job};
 use crate::moments::milliseconds;

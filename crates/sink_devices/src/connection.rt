@@ -9,7 +9,8 @@ use std::io;
 use std::io::{Error, ErrorKind, Read, Write};
 use std::net::{Net, Shutdown, SocketAddr, TcpStream};
 
-/// About how many octets the system may keep that the printer hasn't taken: what counts as sent, and may be lost.
+/// About how many octets the system may keep that the printer hasn't taken: what counts as sent, and may be lost. By the system's own
+/// choice megabytes of a job would count as printed at a printer that takes nothing.
 const KEPT_OCTETS: u32 = 65_536;
 
 /// After how many seconds of silence the system asks a printer whether it is there.

@@ -1,4 +1,8 @@
 //! A folder of files.
+//!
+//! The files have numbers of their own, since the numbers of jobs begin at 1 at each start. The head of an account's segment tells the
+//! first number of its run, and each job that is done spends one, also where its file can't be made: so an audit knows which file is
+//! whose. That is why a folder is one printer's alone.
 
 ghost use Rattle.std.specs.Prelude.{◌≡◌, None, Some, false};
 

@@ -1,4 +1,8 @@
 //! A printer at an address of the network.
+//!
+//! The printer gets one connection a job, and nothing twice: once an octet of a job was sent, nothing is dialled for it any more. What
+//! the printer says is read all the time, since octets that it said and nobody read would cut off, at the close, what it still has to
+//! take. The printer's end of the connection is waited for, but not after it stayed away three times in a row.
 
 ghost use Rattle.std.specs.Prelude.{◌≡◌, ◌≤◌, None, Some, length, IfOk};
 

@@ -1,4 +1,7 @@
 //! A wait that a server can end.
+//!
+//! Who waits for a printer asks once a second whether its job is still wanted, by a call of the spool that copies nothing. A removal ends
+//! the wait, and the page is given back as one that wasn't written, so the printer stands still.
 
 use crate::errand::Errand;
 use crate::moments::{milliseconds_since, now};

@@ -1,4 +1,7 @@
 //! Which server a request is for: its fields Host.
+//!
+//! Such a field has to name an address, `localhost` or the name of `--status-host`: a name that somebody else's page points here is none
+//! of these.
 
 ghost use Rattle.std.specs.Prelude.{◌≡◌, ◌↔◌, ◌≤◌, All, IsTrue, length, map};
 ghost use Rattle.httparse.specs.Spans.{IsHeaderWithin, header_bytes};

@@ -1,4 +1,9 @@
 //! Where the data files of a job are read from.
+//!
+//! They are read from what opens readers by paths, and not from the system's files alone: these don't tell their octets, so a contract
+//! over them can't say that the octets which are sent are those of the file at each path. A file that can't be opened is one of which
+//! each read fails: so a contract over readers says in which order faults are told, and the system's call to open a file, of which no
+//! contract can speak, stands outside it.
 
 ghost use Rattle.std.specs.Prelude.{◌≡◌, ℕ, List, None, Option};
 

@@ -77,8 +77,8 @@ fn sent_line(alloc: Global, number: u16) -> Result<Vec<u8>, AllocError>
     Ok(line)
 }
 
-/// Reads a data file of this name to its end. Answers `ReadFile` where it can't be read or has no
-/// octets, and `Memory`.
+/// Reads a data file of this name to its end. Answers `ReadFile` where it can't be read or has no octets, since a server refuses a count
+/// of 0, and `Memory`.
 pub fn data_file<F: OctetRead>(
     alloc: Global,
     name: FileName,
@@ -191,7 +191,8 @@ pub fn send<R: Net + Log>(
     sent.map_err(Fault::Send)
 }
 
-/// Reads a job's files, sends it, and says so.
+/// Reads a job's files, sends it, and says so. All files are read before the server is called, so a job is never left half sent for want
+/// of a file.
 fn send_files<R: Files + Net + Log, W: OctetWrite>(
     alloc: Global,
     rt: &R,
