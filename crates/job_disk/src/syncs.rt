@@ -1,6 +1,6 @@
 //! Syncs that several sessions share, one at a time: which of them serves which session.
 //!
-//! One log for all jobs would need fewer syncs. It was left out, since taking single jobs away from a log is another program.
+//! One log for all jobs would be faster. It was left out, since taking single jobs away from a log is another program.
 
 ghost use Rattle.std.specs.Prelude.{◌≡◌, ◌↔◌, ◌<◌, ◌≤◌, ◌+◌, ◌-◌, ◌^◌, min, None, Some, true, false};
 ghost use Rattle.std.specs.Prelude.{IfErr, OnErr, OnOk};

@@ -18,8 +18,8 @@ use std::rt::Clock;
 use std::str;
 use std::sync::Wait;
 
-/// What all threads of a server share beside its spool. It is made once, of the settings, and the scope lends it to each thread. What one
-/// thread alone needs is moved into that, as what a printer prints to is.
+/// What all threads of a server share beside its spool. It is made once, of the settings, and the scope lends it to each thread, whose
+/// life is one call that is given it. What one thread alone needs is moved into that, as what a printer prints to is.
 #[derive(Drop)]
 pub struct Hall<'a, R> {
     pub rt: &'a R,
