@@ -8,7 +8,7 @@ ghost use Rattle.memory_folder.specs.Memory.{MayLeave, left_by};
 pub enum Crash {
     /// All of it: octets and names.
     Loses,
-    /// Octets alone: each name is there. Of a file it leaves the first octets, so many, and all that are synced.
+    /// Octets alone: each name is there. Of a file it leaves this many of the first octets, and all that are synced.
     Keeps(usize),
 }
 
