@@ -9,9 +9,10 @@ use crate::crew::Entrance;
 use crate::descriptors::{board_descriptors, folder_descriptors, kept_descriptors};
 use config_values::Config;
 use log::{Log, warn};
+use mio::Waker;
 use printer_devices::{OpenedPlace, open_places, pipes_of};
 use program_edge::{Settings, StartFault};
-use server_care::{Counter, open_board};
+use server_care::{Board, Counter, open_board};
 use server_clients::{Gate, listen};
 use server_folders::{Archive, JobFolder, open_archive};
 use server_house::{AccountRoom, Hall, Host, Showing, sessions_of};
@@ -72,6 +73,28 @@ fn open_stores<'a, R: Host>(
     })
 }
 
+impl<'a, R> Stores<'a, R> {
+    /// Puts them into a hall, but for what the printers print to.
+    fn put_into(self, hall: &mut Hall<'a, R>) -> Vec<OpenedPlace> {
+        let Stores {
+            places,
+            kept,
+            archive,
+        } = self;
+        hall.kept = kept;
+        hall.archive = archive;
+        places
+    }
+}
+
+/// A board, and what others know of its thread, where there is one.
+fn shown_at(board: Option<(Board, Waker)>) -> (Option<Board>, Option<Showing>) {
+    match board {
+        Some((board, waker)) => (Some(board), Some(Showing::new(waker))),
+        None => (None, None),
+    }
+}
+
 /// Opens all that a server of these settings and this configuration has, and listens: what its threads share beside its spool, and what
 /// single ones own. `counter` is what reaches it beside its clients.
 ///
@@ -94,31 +117,21 @@ pub(crate) fn prepare<'a, R: Host>(
         .saturating_add(board_descriptors(board.is_some()));
     let (lobby, waker, port) = listen(rt, alloc, &mut settings, kept)?;
     let (mut hall, doors) = Hall::new(rt, alloc, &settings, config, waker)?;
-    let Stores {
-        places,
-        kept,
-        archive,
-    } = stores;
-    let (board, showing) = match board {
-        Some((board, waker)) => (Some(board), Some(Showing::new(waker))),
-        None => (None, None),
-    };
+    let places = stores.put_into(&mut hall);
+    let (board, showing) = shown_at(board);
     if has_steward || board.is_some() {
         hall.oversight.watch(rt);
     }
     hall.oversight.pipes = pipes;
     hall.oversight.waker = counter.take_waker();
-    hall.kept = kept;
-    hall.archive = archive;
     hall.showing = showing;
     let room = AccountRoom::new(config, sessions, settings.limits.room_ms);
     let room = settings.keep_room.then_some(room);
     hall.least = room.map(|room| room.least);
-    let every = settings.rotate;
     let gate = Gate {
         lobby,
         doors,
-        every,
+        every: settings.rotate,
         room,
     };
     let entrance = Entrance {
