@@ -7,6 +7,7 @@ use crate::fault::ReportFault;
 use crate::files::{TakeLines, take_files};
 use crate::notes::write_text;
 use crate::rereading::Rereading;
+use account_usage::AuditRequest;
 use log::{Log, info};
 use lpd_commands::OctetWrite;
 use program_edge::tell;

@@ -10,7 +10,7 @@ mod times;
 
 pub use grouping::Grouping;
 pub use request::{AuditRequest, UsageRequest};
-pub use rows::UsageRow;
+pub use rows::Totals;
 pub use segment_text::is_time;
 pub use table::UsageTable;
 pub use times::is_within;

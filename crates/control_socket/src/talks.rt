@@ -9,10 +9,10 @@ ghost use Rattle.control_socket.specs.Talks.{why_late, IsAccepted, IsNearest};
 ghost use Rattle.control_socket.specs.Stages.{after};
 ghost use Rattle.control_socket.specs.declared.partings.Parting.TheVariants.{PlaceTaken};
 
-use crate::answer::Answer;
-use crate::line::{PartialLine, Progress};
+use crate::answer::AnswerRest;
+use crate::line::{LineProgress, PartialLine};
 use crate::partings::{Left, Parting, TalkNumber};
-use crate::stages::{Stage, Times, earlier};
+use crate::stages::{TalkStage, Times, earlier};
 use program_edge::pass_over;
 use std::alloc::{AllocError, Global};
 use std::io::{ErrorKind, Read, Write};
@@ -41,9 +41,9 @@ pub(crate) enum Fate {
 
 /// A connection.
 #[derive(Drop)]
-pub(crate) struct Talk {
+pub(crate) struct ControlTalk {
     number: TalkNumber,
-    stage: Stage,
+    stage: TalkStage,
     stream: UnixStream,
 }
 
@@ -51,18 +51,20 @@ pub(crate) struct Talk {
 fn read_line(
     mut stream: &UnixStream,
     line: &mut PartialLine,
-) -> Result<Option<Progress>, AllocError> {
+) -> Result<Option<LineProgress>, AllocError> {
     let mut octets = [0u8; PIECE_OCTETS];
     for _ in 0..u64::MAX {
         match stream.read(&mut octets) {
             Ok(0) => return Ok(None),
             Ok(count) => {
                 let progress = line.add(&octets[..count])?;
-                if progress != Progress::More {
+                if progress != LineProgress::More {
                     return Ok(Some(progress));
                 }
             }
-            Err(error) if error.kind() == ErrorKind::WouldBlock => return Ok(Some(Progress::More)),
+            Err(error) if error.kind() == ErrorKind::WouldBlock => return Ok(Some(
+                LineProgress::More,
+            )),
             Err(error) if error.kind() == ErrorKind::Interrupted => {}
             Err(_) => return Ok(None),
         }
@@ -76,7 +78,7 @@ fn pass_behind(mut stream: &UnixStream) {
 }
 
 /// Writes what a peer takes of its answer.
-fn write_answer(mut stream: &UnixStream, answer: &mut Answer) -> Fate {
+fn write_answer(mut stream: &UnixStream, answer: &mut AnswerRest) -> Fate {
     for _ in 0..u64::MAX {
         if answer.rest().is_empty() {
             return Fate::Done;
@@ -92,21 +94,21 @@ fn write_answer(mut stream: &UnixStream, answer: &mut Answer) -> Fate {
     Fate::Stays
 }
 
-impl Talk {
+impl ControlTalk {
     /// Looks at what its peer did: reads or writes, without waiting.
     fn look(&mut self, is_gone: bool) -> Fate {
         match &mut self.stage {
-            Stage::Asking { line, .. } => match read_line(&self.stream, line) {
-                Ok(Some(Progress::More)) if !is_gone => Fate::Stays,
-                Ok(Some(Progress::More) | None) => Fate::Leaves(Parting::Gone),
-                Ok(Some(Progress::TooLong)) => Fate::Leaves(Parting::LineTooLong),
-                Ok(Some(Progress::Whole)) => {
-                    self.stage = mem::replace(&mut self.stage, Stage::Asked).heard(is_gone);
+            TalkStage::Asking { line, .. } => match read_line(&self.stream, line) {
+                Ok(Some(LineProgress::More)) if !is_gone => Fate::Stays,
+                Ok(Some(LineProgress::More) | None) => Fate::Leaves(Parting::Gone),
+                Ok(Some(LineProgress::TooLong)) => Fate::Leaves(Parting::LineTooLong),
+                Ok(Some(LineProgress::Whole)) => {
+                    self.stage = mem::replace(&mut self.stage, TalkStage::Asked).heard(is_gone);
                     Fate::Stays
                 }
                 Err(AllocError) => Fate::Leaves(Parting::NoMemory),
             },
-            Stage::Ready {
+            TalkStage::Ready {
                 is_gone: was_gone,
                 ..
             } => {
@@ -114,12 +116,12 @@ impl Talk {
                 pass_behind(&self.stream);
                 Fate::Stays
             }
-            Stage::Asked if is_gone => Fate::Leaves(Parting::Gone),
-            Stage::Asked => {
+            TalkStage::Asked if is_gone => Fate::Leaves(Parting::Gone),
+            TalkStage::Asked => {
                 pass_behind(&self.stream);
                 Fate::Stays
             }
-            Stage::Answering { answer, .. } => {
+            TalkStage::Answering { answer, .. } => {
                 pass_behind(&self.stream);
                 write_answer(&self.stream, answer)
             }
@@ -142,7 +144,7 @@ impl Talk {
 #[derive(Drop)]
 pub(crate) struct Talks {
     alloc: Global,
-    list: Vec<Talk>,
+    list: Vec<ControlTalk>,
     accepted: u64,
     most_line: usize,
     times: Times,
@@ -265,11 +267,11 @@ impl Talks {
         stream: UnixStream,
         now: u64,
     ) -> Result<(), AllocError>
-        ensures { OnOk result ((talk : Talk) × (self.new.list.items ≡ self.old.list.items ++ talk ∷ [])
+        ensures { OnOk result ((talk : ControlTalk) × (self.new.list.items ≡ self.old.list.items ++ talk ∷ [])
             × IsAccepted number (after now self.old.times.line_ms) talk) }
     {
-        let stage = Stage::accepted(self.alloc, self.most_line, now, &self.times);
-        self.list.push(Talk {
+        let stage = TalkStage::accepted(self.alloc, self.most_line, now, &self.times);
+        self.list.push(ControlTalk {
             number,
             stage,
             stream,
@@ -342,7 +344,8 @@ impl Talks {
         let at = self.oldest_ready()?;
         let talk = &mut self.list[at];
         let number = talk.number;
-        let Stage::Ready { line, is_gone } = mem::replace(&mut talk.stage, Stage::Asked) else {
+        let TalkStage::Ready { line, is_gone } = mem::replace(&mut talk.stage, TalkStage::Asked)
+        else {
             return None;
         };
         if is_gone {
@@ -355,7 +358,7 @@ impl Talks {
     fn answer_at(&mut self, at: usize, octets: Vec<u8>)
         requires { at < vec_len self.old.list }
     {
-        self.list[at].stage = Stage::answered(octets);
+        self.list[at].stage = TalkStage::answered(octets);
         self.look_at(at, false);
     }
 

@@ -1,10 +1,10 @@
--- Numbers that no file has had.
+-- FileNumbers that no file has had.
 use Rattle.std.specs.Prelude.{ℕ, List, Option, None, Some, nat_lt, if◌then◌else◌, ◌+◌, ◌-◌, ◌^◌, fold, max}
-use Rattle.job_files.specs.declared.names.FileName.{FileName}
+use Rattle.job_files.specs.declared.names.KeptFileName.{KeptFileName}
 
 -- the greatest number of these files, 0 where there is none
-abbrev pub greatest : List FileName → ℕ
-greatest names = fold (λ so_far (name : FileName). max so_far name.number) 0 names
+abbrev pub greatest : List KeptFileName → ℕ
+greatest names = fold (λ so_far (name : KeptFileName). max so_far name.number) 0 names
 
 -- the number behind this one, where 64 bits have room for it
 abbrev pub behind : ℕ → Option ℕ

@@ -7,11 +7,11 @@ ghost use Rattle.server_house.specs.Lines.{TellsRotations};
 use crate::printing::Printing;
 use log::Log;
 use lpd_commands::OctetWrite;
-use printer_devices::Opened;
+use printer_devices::OpenedPlace;
 use server_care::{Board, Care, Counter};
 use server_clients::{Answering, Feeding, Gate, Porter, announce_all, watch};
 use server_house::{
-    Fault, Host, House, HouseLedger, HouseSeat, PrintingSeat, Roles, Seats, serves_at,
+    Host, House, HouseLedger, HouseSeat, PrintingSeat, Roles, Seats, ServerFault, serves_at,
 };
 use std::alloc::Global;
 use std::fs::{File, Files};
@@ -43,7 +43,7 @@ pub(crate) struct Entrance {
     pub(crate) port: u16,
     pub(crate) gate: Gate,
     /// What the printers print to, by their numbers, from 1.
-    pub(crate) places: Vec<Opened>,
+    pub(crate) places: Vec<OpenedPlace>,
     pub(crate) counter: Counter,
     /// Where the status is asked for, if it is shown.
     pub(crate) board: Option<Board>,
@@ -116,7 +116,7 @@ impl<E: HouseLedger + Send + Sync> Crew<E> {
         scope: &Scope<'s, N>,
         house: House<'s, '_, R, E>,
         seats: Vec<PrintingSeat<E>>,
-        places: Vec<Opened>,
+        places: Vec<OpenedPlace>,
     )
     where
         R::Dir: Send + Sync,
@@ -255,7 +255,7 @@ fn work_in<
     roles: Roles<E>,
     entrance: Entrance,
     output: &mut W,
-) -> (Result<(), Fault>, Returned<E>)
+) -> (Result<(), ServerFault>, Returned<E>)
 where
     R::Dir: Send + Sync,
     ensures { TellsRotations (W.written output.old) (W.faults output.old)
@@ -301,7 +301,7 @@ pub(crate) fn work<R: Host, E: HouseLedger + Send + Sync, W: OctetWrite>(
     roles: Roles<E>,
     entrance: Entrance,
     output: &mut W,
-) -> (Result<(), Fault>, Returned<E>)
+) -> (Result<(), ServerFault>, Returned<E>)
 where
     R::Dir: Send + Sync,
     ensures { TellsRotations (W.written output.old) (W.faults output.old)
@@ -311,7 +311,7 @@ where
     let (told, returned, _output) = thread::scope(
         thread::scope_env(),
         house.hall.rt,
-        |scope| -> (Result<(), Fault>, Returned<E>, &mut W)
+        |scope| -> (Result<(), ServerFault>, Returned<E>, &mut W)
             requires { IsSend E.row }
             ensures same { result.2.ghost_name ≡ output.entry.ghost_name }
             ensures tells { TellsRotations (W.written output.entry.now)

@@ -21,6 +21,6 @@ pub use program_edge::{
 };
 pub use server_care::Counter;
 pub use server_folders::{ACCOUNT_LINES, FOLDER_CAUSES};
-pub use server_house::Fault;
+pub use server_house::ServerFault;
 pub use server_notes::JOB_LINES;
 pub use serving::{Plan, serve};

@@ -9,11 +9,11 @@ use crate::crew::Entrance;
 use crate::descriptors::{board_descriptors, folder_descriptors, kept_descriptors};
 use config_values::Config;
 use log::{Log, warn};
-use printer_devices::{Opened, open_places, pipes_of};
+use printer_devices::{OpenedPlace, open_places, pipes_of};
 use program_edge::{Settings, StartFault};
 use server_care::{Counter, open_board};
 use server_clients::{Gate, listen};
-use server_folders::{Archive, Kept, open_archive};
+use server_folders::{Archive, JobFolder, open_archive};
 use server_house::{AccountRoom, Hall, Host, Showing, sessions_of};
 use std::alloc::Global;
 use std::fs::{File, Files};
@@ -31,7 +31,7 @@ fn open_kept<'a, R: Files<File = File> + Log + Wait>(
     alloc: Global,
     settings: &Settings<'a>,
     config: &Config,
-) -> Result<Option<Kept<'a, R>>, StartFault>
+) -> Result<Option<JobFolder<'a, R>>, StartFault>
     ensures { IfErr result (IsUnopened (λ (part : StartPart). part ≡ Spool)) }
 {
     let Some(path) = settings.spool else {
@@ -40,7 +40,7 @@ fn open_kept<'a, R: Files<File = File> + Log + Wait>(
     if !settings.keep_room && settings.rotate.is_none() {
         warn!(rt; target: PART, "{path}: jobs are kept, but the account is never rotated: without --keep-room or --rotate no job is taken once it is full");
     }
-    let kept = Kept::open(rt, alloc, path, config)?;
+    let kept = JobFolder::open(rt, alloc, path, config)?;
     Ok(Some(kept))
 }
 
@@ -48,9 +48,9 @@ fn open_kept<'a, R: Files<File = File> + Log + Wait>(
 #[derive(Drop)]
 struct Stores<'a, R> {
     /// What the printers print to, by their numbers, from 1.
-    places: Vec<Opened>,
+    places: Vec<OpenedPlace>,
     /// Where jobs are kept until they are printed, if they are.
-    kept: Option<Kept<'a, R>>,
+    kept: Option<JobFolder<'a, R>>,
     /// Where the account's segments become files, if they do.
     archive: Option<Archive<'a>>,
 }

@@ -8,11 +8,11 @@ use crate::sink::Explains;
 use held_jobs::Phase;
 use job_files::JobEnd;
 use log::{Log, warn};
-use printer_devices::{Device, Opened, PrinterFile};
-use printer_sinks::{Dial, Folder, FolderSink, Pause, SocketSink};
+use printer_devices::{Device, OpenedPlace, PrinterFile};
+use printer_sinks::{Dial, FolderSink, Pause, PrinterFolder, SocketSink};
 use printer_worker::{HandedPage, Leaving, PrintSink, SinkFault, work};
 use server_house::{House, HouseLedger, PrintingSeat};
-use server_notes::Outcome;
+use server_notes::JobOutcome;
 use sink_devices::{Causes, Errand, FileFolder, Pauses, TcpDial};
 use std::fs::{File, Files};
 use std::net::{Net, TcpListener, TcpStream};
@@ -105,7 +105,7 @@ impl<R: Files<File = File> + Clock + Log + Wait, E: HouseLedger, S: PrintSink + 
             if let Some(kept) = &hall.kept {
                 kept.end(hall.rt, job, end);
             }
-            hall.note_end(job, Outcome::from(end));
+            hall.note_end(job, JobOutcome::from(end));
         }
         left
     }
@@ -122,7 +122,7 @@ impl<
     E: HouseLedger,
 > Printing<'_, '_, R, E> {
     /// Has a printer's pages written to this device, until the spool is closed. Answers the seat.
-    fn print_to<D: Dial + Causes + Drop, P: Pause + Drop, F: Folder + Causes + Drop>(
+    fn print_to<D: Dial + Causes + Drop, P: Pause + Drop, F: PrinterFolder + Causes + Drop>(
         &self,
         seat: PrintingSeat<E>,
         device: Device<'_, House<'_, '_, R, E>, D, P, F>,
@@ -142,20 +142,20 @@ impl<
     }
 
     /// Has a printer's pages written to what it prints to, until the spool is closed. Answers the seat.
-    pub(crate) fn print_all(&self, seat: PrintingSeat<E>, opened: Opened) -> PrintingSeat<E> {
+    pub(crate) fn print_all(&self, seat: PrintingSeat<E>, opened: OpenedPlace) -> PrintingSeat<E> {
         let hall = self.house.hall;
         let (printer, limits) = (seat.printer(), hall.printer_limits);
         let device = match opened {
-            Opened::File(outlet) => {
+            OpenedPlace::File(outlet) => {
                 Device::File(PrinterFile::new(outlet, &self.house, hall.kept.is_some()))
             }
-            Opened::Socket(address) => {
+            OpenedPlace::Socket(address) => {
                 let silence = limits.silence_seconds;
                 let dial = TcpDial::new(hall.rt, printer, address.into(), silence, &self.house);
                 let pauses = Pauses::new(hall.rt, limits.patience_minutes, &self.house);
                 Device::Socket(SocketSink::new(dial, pauses, u64::MAX))
             }
-            Opened::Folder { path, next } => {
+            OpenedPlace::Folder { path, next } => {
                 let folder = FileFolder::new(hall.rt, hall.alloc, printer, path, next);
                 Device::Folder(FolderSink::new(folder))
             }

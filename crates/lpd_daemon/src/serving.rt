@@ -3,7 +3,7 @@
 ghost use Rattle.std.specs.Prelude.{◌≡◌, ◌≤◌, ◌+◌, ℕ, Ok, OnOk, IfErr};
 ghost use Rattle.server_house.specs.Faults.{IsRunningFault, write_faults};
 ghost use Rattle.server_house.specs.Lines.{IsQuiet, WritesAll, line_octets};
-ghost use Rattle.server_house.specs.declared.faults.Fault.TheVariants.{Memory};
+ghost use Rattle.server_house.specs.declared.faults.ServerFault.TheVariants.{Memory};
 ghost use Rattle.server_house.specs.declared.lines.PrintedLine.TheVariants.{Closed};
 ghost use Rattle.lpd_commands.specs.Ends.{Writes};
 ghost use Rattle.spool_ledgers.specs.Blanks.{AreFor, mark};
@@ -16,7 +16,7 @@ use lpd_commands::OctetWrite;
 use program_edge::{Settings, StartFault};
 use server_care::Counter;
 use server_house::{
-    Fault, Hall, Host, House, HouseLedger, HouseSpool, OTHERS, PrintedLine, Roles, Seats,
+    Hall, Host, House, HouseLedger, HouseSpool, OTHERS, PrintedLine, Roles, Seats, ServerFault,
     print_or_tell, sessions_of,
 };
 use shared_spool::{Blanks, Segment};
@@ -41,9 +41,9 @@ fn finish<R: Files<File = File> + Clock + Log + Wait, E: HouseLedger, W: OctetWr
     hall: &Hall<'_, R>,
     spool: HouseSpool<E>,
     seats: Seats<E>,
-    told: Result<(), Fault>,
+    told: Result<(), ServerFault>,
     output: &mut W,
-) -> Result<(), Fault>
+) -> Result<(), ServerFault>
     ensures before { OnOk result (told ≡ Ok tt) }
     ensures written { OnOk result ((entries : ℕ)
         × Writes (W.written output.old) (W.written output.new) (line_octets (Closed entries))) }
@@ -58,7 +58,7 @@ fn finish<R: Files<File = File> + Clock + Log + Wait, E: HouseLedger, W: OctetWr
     }
     told?;
     let Some(entries) = entries else {
-        return Err(Fault::Memory);
+        return Err(ServerFault::Memory);
     };
     print_or_tell(hall.rt, hall.alloc, output, PrintedLine::Closed { entries })
 }
@@ -76,7 +76,7 @@ struct Stock {
 fn open_spool<E: HouseLedger>(
     alloc: Global,
     stock: Stock,
-) -> Result<(HouseSpool<E>, Roles<E>), Fault>
+) -> Result<(HouseSpool<E>, Roles<E>), ServerFault>
     requires { AreFor stock.blanks stock.config stock.seats E.config (mark E.name E.parts)
         (mark E.kinds E.parts) (mark E.handed E.parts) }
     ensures { IfErr result (λ fault. fault ≡ Memory) }
@@ -128,7 +128,7 @@ pub fn serve<R: Host, W: OctetWrite>(
     alloc: Global,
     plan: Plan<'_>,
     output: &mut W,
-) -> Result<(), Fault>
+) -> Result<(), ServerFault>
 where
     R::Dir: Send + Sync,
     ensures printed { OnOk result (WritesAll (W.written output.old) (W.written output.new)) }
@@ -143,8 +143,8 @@ where
     let seats = sessions_of(&settings) + OTHERS;
     let (hall, entrance) = match prepare(rt, alloc, settings, &config, counter) {
         Ok(prepared) => prepared,
-        Err(StartFault::Memory) => return Err(Fault::Memory),
-        Err(StartFault::Opening(opening)) => return Err(Fault::Opening(opening)),
+        Err(StartFault::Memory) => return Err(ServerFault::Memory),
+        Err(StartFault::Opening(opening)) => return Err(ServerFault::Opening(opening)),
     };
     let blanks = Blanks::new(&config, seats);
     let stock = Stock {
@@ -163,7 +163,7 @@ fn run<R: Host, E: HouseLedger + Send + Sync, W: OctetWrite>(
     entrance: Entrance,
     stock: Stock,
     output: &mut W,
-) -> Result<(), Fault>
+) -> Result<(), ServerFault>
 where
     R::Dir: Send + Sync,
     requires blanks { AreFor stock.blanks stock.config stock.seats E.config (mark E.name E.parts)
@@ -187,7 +187,7 @@ fn run_house<R: Host, E: HouseLedger + Send + Sync, W: OctetWrite>(
     roles: Roles<E>,
     entrance: Entrance,
     output: &mut W,
-) -> Result<(), Fault>
+) -> Result<(), ServerFault>
 where
     R::Dir: Send + Sync,
     ensures printed { OnOk result

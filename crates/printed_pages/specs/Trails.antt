@@ -1,10 +1,11 @@
 -- How a printer's file goes on, by what the account says.
-use Rattle.std.specs.Prelude.{◌≡◌, ◌<◌, ◌≤◌, ◌+◌, ◌-◌, ◌==◌, ◌^◌, ℕ, List, Option, Some, None, if◌then◌else◌, min}
+use Rattle.std.specs.Prelude.{◌≡◌, ◌<◌, ◌≤◌, ◌+◌, ◌-◌, ◌==◌, ◌^◌, ◌⊎◌, ℕ, List, [], ◌∷◌, Option, Some, None, if◌then◌else◌, min}
 use Rattle.spool_history.specs.Events.{Event, Sheet}
 use Rattle.spool_history.specs.Events.Event.{AtPrinter}
 use Rattle.spool_history.specs.Events.Turn.{Printed, Failed}
 use Rattle.account.specs.declared.entry.Outline.{Outline}
-use Rattle.account.specs.Seen.{octets}
+use Rattle.account.specs.declared.entry.Sheet as D
+use Rattle.account.specs.Seen.{octets, sheet_seen}
 use Rattle.printed_pages.specs.declared.source.TrailFault.{TrailFault}
 use Rattle.printed_pages.specs.declared.source.TrailFault.TheVariants as fault
 use Rattle.printed_pages.specs.declared.trail.PrinterTrail.{PrinterTrail}
@@ -61,6 +62,11 @@ IsIn printer at sheet _ = Unit {0}
 abbrev pub IsOfPage : PrinterTrail → Event Outline → TrailFault → Type 0
 IsOfPage t e f =
     (sheet : Sheet Outline) × (at : ℕ) × (fate_at t.printer e ≡ Prints sheet) × (t.position ≡ Some at) × IsIn t.printer at sheet f
+
+-- a fault is of one of the pages that lie one after the other from here on; what lies behind the last one is told of that
+abbrev pub IsOfOne : (printer : ℕ) → (at : ℕ) → List D.Sheet → TrailFault → Type 0
+IsOfOne printer at [] f = ⊥
+IsOfOne printer at (s ∷ ss) f = IsIn printer at (sheet_seen s) f ⊎ IsOfOne printer (at + s.page.length) ss f
 
 -- nothing is told of what lies behind the last page: it isn't known where that ended, or the file ends before
 abbrev pub IsNoTail : Option ℕ → ℕ → Type 0

@@ -4,6 +4,7 @@ ghost use Rattle.std.specs.Prelude.{◌≡◌, ℕ, [], IfErr, IfOk, List, Match
 ghost use Rattle.account.specs.declared.entry.Sheet.{Sheet};
 ghost use Rattle.printed_pages.specs.Folders as F;
 ghost use Rattle.printed_pages.specs.Sources.{IsJob};
+ghost use Rattle.printed_pages.specs.Trails.{IsOfOne};
 
 use crate::page::Differs;
 use crate::source::{PrintedOctets, TrailFault, read_at};
@@ -83,6 +84,7 @@ pub fn judge_job<P: PrintedOctets>(
 ) -> Result<u64, TrailFault>
     ensures sum { IfOk result (λ n. n ≡ sum_by (λ (s : Sheet). s.page.length) sheets.now) }
     ensures there { OnOk result (IsJob (P.octets source.old) sheets.now) }
+    ensures fault { IfErr result (IsOfOne printer 0 sheets.now) }
 {
     let Some(last) = sheets.last() else {
         return Ok(0);

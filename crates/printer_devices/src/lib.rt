@@ -11,5 +11,5 @@ mod sharing;
 pub use device::{Device, PrinterFile};
 pub use faults::DeviceFault;
 pub use outlet::{Outlet, has_unread};
-pub use places::{Opened, default_file, open_places, pipes_of, place_of};
+pub use places::{OpenedPlace, default_file, open_places, pipes_of, place_of};
 pub use sharing::{SharedFolder, shared_folder};

@@ -17,7 +17,7 @@ use std::net::SocketAddrV4;
 
 /// What a printer prints to, as it was found.
 #[derive(Drop)]
-pub enum Opened {
+pub enum OpenedPlace {
     /// A file, a device or a pipe, open at its end.
     File(Outlet),
     /// A printer on the network, to which no connection was opened yet.
@@ -26,12 +26,12 @@ pub enum Opened {
     Folder { path: String, next: u64 },
 }
 
-impl Opened {
+impl OpenedPlace {
     /// The pipe, where it is one: whether its reader has taken what was written can be asked.
     pub fn pipe(&self) -> Option<File> {
         match self {
-            Opened::File(outlet) => outlet.pipe(),
-            Opened::Socket(_) | Opened::Folder { .. } => None,
+            OpenedPlace::File(outlet) => outlet.pipe(),
+            OpenedPlace::Socket(_) | OpenedPlace::Folder { .. } => None,
         }
     }
 
@@ -39,22 +39,22 @@ impl Opened {
     /// becomes.
     pub fn begins(&self) -> Option<u64> {
         match self {
-            Opened::File(outlet) => outlet.length(),
-            Opened::Folder { next, .. } => Some(*next),
-            Opened::Socket(_) => None,
+            OpenedPlace::File(outlet) => outlet.length(),
+            OpenedPlace::Folder { next, .. } => Some(*next),
+            OpenedPlace::Socket(_) => None,
         }
     }
 }
 
 /// Looks into a folder. What a server that was killed has left there is told.
-fn open_folder<R: Files<File = File> + Log>(rt: &R, path: String) -> io::Result<Opened> {
+fn open_folder<R: Files<File = File> + Log>(rt: &R, path: String) -> io::Result<OpenedPlace> {
     let names = names_of(rt, path.as_str())?;
     if names.left > 0 {
         let left = names.left;
         warn!(rt; "{path}: {left} hidden files of jobs were left there, which were not printed to their ends");
     }
     let next = names.next;
-    Ok(Opened::Folder { path, next })
+    Ok(OpenedPlace::Folder { path, next })
 }
 
 /// Opens what the printer of a number prints to. A socket isn't dialled yet.
@@ -65,12 +65,12 @@ fn open_at<R: Files<File = File> + Log>(
     alloc: Global,
     printer: u32,
     place: Place<'_>,
-) -> Result<Opened, StartFault>
+) -> Result<OpenedPlace, StartFault>
     ensures { IfErr result (IsUnopened IsPrinter) }
 {
     let (path, opened) = match place {
-        Place::Socket(address) => return Ok(Opened::Socket(address)),
-        Place::File(path) => (path, Outlet::open(rt, path).map(Opened::File)),
+        Place::Socket(address) => return Ok(OpenedPlace::Socket(address)),
+        Place::File(path) => (path, Outlet::open(rt, path).map(OpenedPlace::File)),
         Place::Folder(path) => (path, open_folder(rt, String::from_str(alloc, path)?)),
     };
     match opened {
@@ -114,7 +114,7 @@ pub fn open_places<R: Files<File = File> + Log>(
     alloc: Global,
     settings: &Settings<'_>,
     printers: u32,
-) -> Result<Vec<Opened>, StartFault>
+) -> Result<Vec<OpenedPlace>, StartFault>
     ensures { IfErr result (IsUnopened IsPrinter) }
 {
     if let Some(shared) = shared_folder(rt, settings.printers.as_slice()) {
@@ -137,7 +137,7 @@ pub fn open_places<R: Files<File = File> + Log>(
 }
 
 /// The pipes among these, by the printers' numbers, from 1.
-pub fn pipes_of(alloc: Global, places: &[Opened]) -> Result<Vec<Option<File>>, AllocError> {
+pub fn pipes_of(alloc: Global, places: &[OpenedPlace]) -> Result<Vec<Option<File>>, AllocError> {
     let mut pipes = Vec::new(alloc);
     for opened in places {
         pipes.push(opened.pipe())?;

@@ -1,6 +1,7 @@
 -- What one line more makes of what is held of a run.
-use Rattle.std.proofs.Common.{◌≡◌, ◌+◌, ◌<◌, ◌≤◌, ◌^◌, ℕ, List, [], ◌∷◌, length, map, add-one, refl, sym, ◌∙◌, ap, subst, arith}
-use Rattle.std.specs.Prelude.{Some, if◌then◌else◌}
+use Rattle.std.proofs.Common.{◌≡◌, ◌+◌, ◌<◌, ◌≤◌, ◌^◌, ◌↔◌, ℕ, List, [], ◌∷◌, false, length, map, add-one, refl, sym, ◌∙◌, ap, subst, arith}
+use Rattle.std.proofs.lemmas.Bool.{false≢true}
+use Rattle.std.specs.Prelude.{IsTrue, Some, if◌then◌else◌}
 use Rattle.config_values.specs.Config.{Config}
 use Rattle.spool_history.specs.Events.{Event}
 use Rattle.spool_history.specs.Legal.{IsLeftBy, May}
@@ -17,8 +18,11 @@ use Rattle.history_reader.specs.declared.state.Job.{Job}
 use Rattle.history_reader.specs.Seen.{state_seen, job_seen}
 use Rattle.account_audit.specs.Audited as U
 use Rattle.account_audit.specs.Giving.{given_back}
+use Rattle.segment_text.specs.declared.head.Begin as G
+use Rattle.segment_text.specs.declared.head.Begin.TheVariants as begin
 use Rattle.segment_text.specs.Heads as H
 use Rattle.segment_text.specs.Heads.Begin.{AtBase, Amid}
+use Rattle.segment_text.specs.Seen.{begin_seen}
 use Rattle.segment_audit.specs.declared.course.Course as K
 use Rattle.segment_audit.specs.Audited.{Course, IsAtRest, Rests, amid, given, rested, state_at, widened}
 use Rattle.segment_audit.specs.Read.{IsCourse}
@@ -67,6 +71,10 @@ not_at_rest k c x n m =
     let own = subst IsAtRest (sym (at_state k c x)) m in
     n (none_seen k.audit.state.jobs.items own.0) own.1
 
+-- what doesn't hold is answered by `false`
+pub denied : (P : Type 0) → (P → ⊥) → IsTrue false ↔ P
+denied P n = (λ t. absurd (false≢true t), λ p. absurd (n p))
+
 -- a segment tells of as many entries before it
 abbrev pub HasCounted : K.Course → H.Start → Type 0
 HasCounted k s =
@@ -111,6 +119,9 @@ rests_same k b s own c x r e does = (
   r ∙ (ap rotated (at_state k c x) ∙ sym (ap (base_in own) (sym e ∙ ap (λ (t : H.Start). t.begin) does.1))),
 )
 
+pub rested_counts : (k : K.Course) (s : H.Start) (c : Course) → IsCourse k c → Rests c s → HasCounted k s
+rested_counts k s c x does = told_counts k c s (AtBase (rotated (state_at c))) x does.1
+
 -- one that begins amid the jobs
 pub given_is : (k : K.Course) (c : Course) → IsCourse k c → given_back (state_seen k.config k.audit.state) k.freed ≡ given c
 given_is k c x = ap (λ (v : State Outline). given_back v k.freed) (at_state k c x) ∙ ap (given_back (state_at c)) x.freed
@@ -140,15 +151,23 @@ amid_freed k s since freed more c x e m goes =
     ap freed_in (sym e ∙ ap (λ (t : H.Start). t.begin) goes) ∙ sym (plus more (given c) k.freed c.freed (m ∙ given_is k c x) x.freed)
 
 -- no base is amid jobs
-pub not_amid : (s : H.Start) (own : S.Base) (c : Course) → s.begin ≡ AtBase own → s ≡ amid c → ⊥
+not_amid : (s : H.Start) (own : S.Base) (c : Course) → s.begin ≡ AtBase own → s ≡ amid c → ⊥
 not_amid s own c e goes =
     let same : AtBase own ≡ Amid (length c.events) (given c + c.freed) = sym e ∙ ap (λ (t : H.Start). t.begin) goes in
     cc same
 
-pub not_rests : (s : H.Start) (since freed : ℕ) (c : Course) → s.begin ≡ Amid since freed → Rests c s → ⊥
+not_rests : (s : H.Start) (since freed : ℕ) (c : Course) → s.begin ≡ Amid since freed → Rests c s → ⊥
 not_rests s since freed c e does =
     let same : Amid since freed ≡ AtBase (rotated (state_at c)) = sym e ∙ ap (λ (t : H.Start). t.begin) does.1 in
     cc same
+
+pub only_amid : (g : G.Begin) (s : H.Start) (c : Course) → s.begin ≡ begin_seen g → ((since freed : ℕ) → g ≡ begin.Amid since freed → ⊥) → s ≡ amid c → ⊥
+only_amid (begin.Base b) s c e n goes = not_amid s (base_seen b) c e goes
+only_amid (begin.Amid since freed) s c e n goes = n since freed refl
+
+pub only_rests : (g : G.Begin) (s : H.Start) (c : Course) → s.begin ≡ begin_seen g → ((b : Base) → g ≡ begin.Base b → ⊥) → Rests c s → ⊥
+only_rests (begin.Base b) s c e n does = n b refl
+only_rests (begin.Amid since freed) s c e n does = not_rests s since freed c e does
 
 -- the room of the account is the same
 pub room_is : (k : K.Course) (more : ℕ) (c : Course) → IsCourse k c → more ≡ given_back (state_seen k.config k.audit.state) k.freed → more + k.config.account ≡ given c + c.config.account

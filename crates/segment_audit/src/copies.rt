@@ -9,6 +9,13 @@ use lpd_values::Octets;
 use segment_text::{Begin, Origin, PrinterPlace, Start};
 use std::alloc::{AllocError, Global};
 
+/// The same octets once more.
+fn copy_octets(alloc: Global, octets: &Octets) -> Result<Octets, AllocError>
+    ensures { IfOk result (λ copy. copy ≡ octets.now) }
+{
+    Octets::copy_of(alloc, octets.as_slice())
+}
+
 /// Where a segment stands, once more.
 ///
 /// AllocError where memory is refused.
@@ -19,8 +26,8 @@ pub(crate) fn copy_origin(alloc: Global, origin: &Origin) -> Result<Origin, Allo
         version: origin.version,
         run: origin.run,
         segment: origin.segment,
-        first: Octets::copy_of(alloc, origin.first.as_slice())?,
-        last: Octets::copy_of(alloc, origin.last.as_slice())?,
+        first: copy_octets(alloc, &origin.first)?,
+        last: copy_octets(alloc, &origin.last)?,
         previous: origin.previous,
     })
 }
@@ -35,7 +42,7 @@ pub(crate) fn copy_printer(
     ensures { IfOk result (λ copy. printer_seen copy ≡ printer_seen printer.now) }
 {
     Ok(PrinterPlace {
-        place: Octets::copy_of(alloc, printer.place.as_slice())?,
+        place: copy_octets(alloc, &printer.place)?,
         begins: printer.begins,
     })
 }

@@ -16,23 +16,23 @@ const AGENT: &[u8] = b"root";
 
 /// The lines of an answer.
 #[derive(Drop)]
-pub struct Answer {
+pub struct AnswerLines {
     alloc: Global,
     text: String,
 }
 
-impl Answer {
+impl AnswerLines {
     /// No line.
-    pub fn new(alloc: Global) -> Answer {
-        Answer {
+    pub fn new(alloc: Global) -> AnswerLines {
+        AnswerLines {
             alloc,
             text: String::new(alloc),
         }
     }
 
     /// These lines.
-    pub fn of_lines(alloc: Global, text: String) -> Answer {
-        Answer { alloc, text }
+    pub fn of_lines(alloc: Global, text: String) -> AnswerLines {
+        AnswerLines { alloc, text }
     }
 
     /// One line more. An error where memory is refused.
@@ -46,7 +46,7 @@ impl Answer {
     pub fn end(self, end: AnswerEnd<'_>) -> Result<Vec<u8>, AllocError> {
         let mut answer = self;
         answer.line(&end)?;
-        let Answer { text, .. } = answer;
+        let AnswerLines { text, .. } = answer;
         Ok(text.into_bytes())
     }
 
@@ -81,7 +81,7 @@ impl<R: Files<File = File> + Clock + Log + Wait, E: HouseLedger> Care<'_, '_, R,
 
     /// Starts the stopped printers of a queue, and tells which.
     fn start_queue(&self, seat: &mut HouseSeat<E>, queue: &[u8]) -> Result<Vec<u8>, AllocError> {
-        let mut answer = Answer::new(self.hall.alloc);
+        let mut answer = AnswerLines::new(self.hall.alloc);
         let stopped = self.stopped_of(queue)?;
         let started = match self.spool.start_telling(self.hall.rt, seat, queue) {
             Ok(started) => started,
@@ -104,7 +104,7 @@ impl<R: Files<File = File> + Clock + Log + Wait, E: HouseLedger> Care<'_, '_, R,
         } else {
             self.spool.release(self.hall.rt, queue)
         };
-        Answer::new(self.hall.alloc).end_by(done.err())
+        AnswerLines::new(self.hall.alloc).end_by(done.err())
     }
 
     /// Removes a job or a user's jobs of a queue, and tells which.
@@ -122,17 +122,17 @@ impl<R: Files<File = File> + Clock + Log + Wait, E: HouseLedger> Care<'_, '_, R,
             Ok(removal) => {
                 self.hall.end_removed(removal.numbers);
                 let mut octets = removal.text.into_vec();
-                let end = Answer::new(self.hall.alloc).end(AnswerEnd::Done)?;
+                let end = AnswerLines::new(self.hall.alloc).end(AnswerEnd::Done)?;
                 octets.extend_from_slice(end.as_slice())?;
                 Ok(octets)
             }
-            Err(refusal) => Answer::new(self.hall.alloc).end_by(Some(refusal)),
+            Err(refusal) => AnswerLines::new(self.hall.alloc).end_by(Some(refusal)),
         }
     }
 
     /// Has a job fed again that has failed, by the number of its file.
     fn resend_job(&self, number: u64) -> Result<Vec<u8>, AllocError> {
-        let answer = Answer::new(self.hall.alloc);
+        let answer = AnswerLines::new(self.hall.alloc);
         let Some(kept) = &self.hall.kept else {
             return answer.end_by(Some("no jobs are kept: the server has no --spool"));
         };
@@ -147,7 +147,7 @@ impl<R: Files<File = File> + Clock + Log + Wait, E: HouseLedger> Care<'_, '_, R,
 
     /// Rotates the account. The porter prints that.
     fn rotate_account(&self, seat: &mut HouseSeat<E>) -> Result<Vec<u8>, AllocError> {
-        let mut answer = Answer::new(self.hall.alloc);
+        let mut answer = AnswerLines::new(self.hall.alloc);
         if !self.hall.takes_place() {
             return answer.end_by(Some("segments of the account wait to be written"));
         }
@@ -183,7 +183,7 @@ impl<R: Files<File = File> + Clock + Log + Wait, E: HouseLedger> Care<'_, '_, R,
             }
             Command::Resend { number } => self.resend_job(*number),
             Command::Rotate => self.rotate_account(seat),
-            Command::Stop { .. } | Command::StopNow => Answer::new(self.hall.alloc).end(
+            Command::Stop { .. } | Command::StopNow => AnswerLines::new(self.hall.alloc).end(
                 AnswerEnd::Done,
             ),
         }

@@ -10,7 +10,7 @@ use server_house::{HouseLedger, Showing};
 use shared_spool::Sight;
 use spool_snapshot::Pages;
 use status_answers::{
-    Method, Reading, Resource, Scene, read_request, refusal_response, send_response,
+    Method, RequestReading, Resource, Scene, read_request, refusal_response, send_response,
     status_response, timeout_response, unavailable_response,
 };
 use std::alloc::{AllocError, Global};
@@ -119,12 +119,12 @@ impl<R: Files<File = File> + Clock + Log + Wait, E: HouseLedger> Care<'_, '_, R,
     /// The response to a connection.
     fn response_to(&self, board: &Board, visit: &Visit) -> Result<String, AllocError> {
         match read_request(self.hall.rt, &visit.stream, board.name.as_bytes()) {
-            Reading::Wanted { method, resource } => match self.draw(board, method, resource) {
+            RequestReading::Wanted { method, resource } => match self.draw(board, method, resource) {
                 Ok(response) => Ok(response),
                 Err(AllocError) => unavailable_response(self.hall.alloc),
             },
-            Reading::Refused(refusal) => refusal_response(self.hall.alloc, refusal),
-            Reading::More => timeout_response(self.hall.alloc),
+            RequestReading::Refused(refusal) => refusal_response(self.hall.alloc, refusal),
+            RequestReading::More => timeout_response(self.hall.alloc),
         }
     }
 

@@ -1,12 +1,12 @@
 //! How all of a server stands, as lines.
 
 use crate::care::Care;
-use crate::commanding::Answer;
+use crate::commanding::AnswerLines;
 use control_lines::AnswerEnd;
 use log::Log;
 use server_house::HouseLedger;
 use shared_spool::Sight;
-use status_lines::{KeptJobs, Outside, SeenSession, Standstill, status_text};
+use status_lines::{KeptJobs, Outside, SeenSession, SeenStandstill, status_text};
 use std::alloc::AllocError;
 use std::fs::{File, Files};
 use std::rt::Clock;
@@ -22,7 +22,7 @@ pub struct Survey {
     lobby: usize,
     kept: Option<KeptJobs>,
     sessions: Vec<SeenSession>,
-    standstills: Vec<Option<Standstill>>,
+    standstills: Vec<Option<SeenStandstill>>,
 }
 
 impl Survey {
@@ -64,7 +64,7 @@ impl<R: Files<File = File> + Clock + Log + Wait, E: HouseLedger> Care<'_, '_, R,
         &self,
         sight: &Sight,
         now: Instant,
-    ) -> Result<Vec<Option<Standstill>>, AllocError> {
+    ) -> Result<Vec<Option<SeenStandstill>>, AllocError> {
         let mut standstills = Vec::new(self.hall.alloc);
         for at in 0..self.hall.oversight.config.printer_count() {
             let mut seen = None;
@@ -77,7 +77,7 @@ impl<R: Files<File = File> + Clock + Log + Wait, E: HouseLedger> Care<'_, '_, R,
                     None => String::from_str(self.hall.alloc, "not written")?,
                 };
                 let seconds = now.saturating_duration_since(standstill.since).as_secs();
-                seen = Some(Standstill { seconds, cause });
+                seen = Some(SeenStandstill { seconds, cause });
             }
             standstills.push(seen)?;
         }
@@ -104,10 +104,10 @@ impl<R: Files<File = File> + Clock + Log + Wait, E: HouseLedger> Care<'_, '_, R,
     pub fn tell_status(&self) -> Result<Vec<u8>, AllocError> {
         let sight = self.spool.sight(self.hall.rt, self.hall.alloc)?;
         let Some(survey) = self.survey(&sight)? else {
-            return Answer::new(self.hall.alloc).end(AnswerEnd::Done);
+            return AnswerLines::new(self.hall.alloc).end(AnswerEnd::Done);
         };
         let (config, outside) = (&self.hall.oversight.config, survey.outside(&sight));
         let text = status_text(self.hall.alloc, config, &sight.spool, &outside)?;
-        Answer::of_lines(self.hall.alloc, text).end(AnswerEnd::Done)
+        AnswerLines::of_lines(self.hall.alloc, text).end(AnswerEnd::Done)
     }
 }

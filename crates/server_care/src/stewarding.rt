@@ -1,10 +1,10 @@
 //! The thread that does what is asked at the control socket and by signals, and tells again of printers that stand still.
 
 use crate::care::Care;
-use crate::commanding::Answer;
+use crate::commanding::AnswerLines;
 use crate::counter::Counter;
 use control_lines::{AnswerEnd, Command, LineFault};
-use control_socket::{Asked, Pending};
+use control_socket::{AskedLine, Pending};
 use log::{Log, warn};
 use server_house::{HouseLedger, HouseSeat};
 use server_notes::Standstill;
@@ -110,7 +110,7 @@ impl<R: Files<File = File> + Clock + Log + Wait, E: HouseLedger> Steward<'_, '_,
     }
 
     /// Does what was asked at the control socket.
-    fn answer(&mut self, asked: Asked) {
+    fn answer(&mut self, asked: AskedLine) {
         let alloc = self.care.hall.alloc;
         let answer = match Command::parse(alloc, asked.line.as_slice()) {
             Ok(Command::Stop { seconds }) => {
@@ -122,7 +122,7 @@ impl<R: Files<File = File> + Clock + Log + Wait, E: HouseLedger> Steward<'_, '_,
                 return;
             }
             Ok(command) => self.care.carry_out(&mut self.seat, &command),
-            Err(LineFault::Unknown) => Answer::new(alloc).end(AnswerEnd::Unknown),
+            Err(LineFault::Unknown) => AnswerLines::new(alloc).end(AnswerEnd::Unknown),
             Err(LineFault::Memory) => Err(AllocError),
         };
         // Without memory for the answer there is none.

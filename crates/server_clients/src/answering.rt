@@ -16,9 +16,9 @@ use noted_requests::Noting;
 use program_edge::{Limits, StreamReader, StreamWriter, pass_over};
 use request_session::{Input, Requests, serve_with};
 use server_edge::{Serves, Visit, keep_asking, send_in_pieces};
-use server_folders::Kept;
+use server_folders::JobFolder;
 use server_house::{Hall, HouseLedger, HouseSeat, HouseSpool};
-use server_notes::{Ending, milliseconds_since};
+use server_notes::{ServerEnding, milliseconds_since};
 use session::{Seated, SessionEnd};
 use std::fmt::Display;
 use std::fs::{File, Files};
@@ -55,7 +55,7 @@ fn take_leave<R: Clock>(
     rt: &R,
     stream: &TcpStream,
     seconds: u64,
-    ending: &Ending,
+    ending: &ServerEnding,
 ) -> io::Result<()> {
     stream.shutdown(Shutdown::Write)?;
     stream.set_read_timeout(Some(Duration::from_secs(PATIENCE_SECONDS)))?;
@@ -242,7 +242,7 @@ impl<R: Files<File = File> + Clock + Wait + Log, E: HouseLedger> Answering<'_, '
     /// Serves connections through a seat, with a folder in which jobs are kept until they are printed.
     fn answer_keeping(
         &self,
-        kept: &Kept<'_, R>,
+        kept: &JobFolder<'_, R>,
         seat: HouseSeat<E>,
         serves: Serves,
     ) -> HouseSeat<E> {

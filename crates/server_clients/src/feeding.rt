@@ -7,7 +7,7 @@ use kept_requests::Keeping;
 use log::{Log, warn};
 use lpd_values::Refusal;
 use noted_requests::Noting;
-use server_folders::{FedFolder, Kept, Owner, StoredJobs};
+use server_folders::{FedFolder, JobFolder, Owner, StoredJobs};
 use server_house::{Hall, HouseLedger, HouseSeat, HouseSpool};
 use session::{Seated, SessionEnd};
 use std::fs::{File, Files};
@@ -81,7 +81,12 @@ impl<R: Files<File = File> + Clock + Log + Wait, E: HouseLedger> Feeding<'_, '_,
     }
 
     /// Feeds the job that waits first. False where it is to wait on.
-    fn feed_first(&self, kept: &Kept<'_, R>, feeder: &mut Feeder<'_, R, E>, number: u64) -> bool {
+    fn feed_first(
+        &self,
+        kept: &JobFolder<'_, R>,
+        feeder: &mut Feeder<'_, R, E>,
+        number: u64,
+    ) -> bool {
         let (rt, alloc) = (self.hall.rt, self.hall.alloc);
         let Some(owner) = kept.owner(rt, alloc, number) else {
             kept.pass_over(rt);

@@ -12,8 +12,8 @@ use mio::Waker;
 use program_edge::{Settings, StartFault, StartPart, descriptor_limit, tell_cause};
 use server_edge::{Doors, Doorway, Listening, Lobby, Visit, places};
 use server_house::{
-    AccountRoom, Fault, Hall, House, HouseLedger, HouseSeat, HouseSpool, PrintedLine, has_turn,
-    print,
+    AccountRoom, Hall, House, HouseLedger, HouseSeat, HouseSpool, PrintedLine, ServerFault,
+    has_turn, print,
 };
 use server_notes::{Rotation, Rotations};
 use std::alloc::Global;
@@ -71,9 +71,9 @@ pub fn announce_all<R: Log + Wait, W: OctetWrite>(
     rt: &R,
     alloc: Global,
     output: &mut W,
-    told: Result<(), Fault>,
+    told: Result<(), ServerFault>,
     rotations: &Rotations,
-) -> Result<(), Fault>
+) -> Result<(), ServerFault>
     ensures tells { (was : Option (List ℕ)) (n : ℕ)
         → TellsRotations was n (W.written output.old) (W.faults output.old) told
         → TellsRotations was n (W.written output.new) (W.faults output.new) result }
@@ -202,7 +202,7 @@ impl<'h, 'a, R: Clock + Log + Wait, E: HouseLedger> Porter<'h, 'a, R, E> {
     ///
     /// Output where such a line couldn't be written, Memory where memory for it was refused: all
     /// have been handed on.
-    pub fn admit<W: OctetWrite>(&mut self, started: bool, output: &mut W) -> Result<(), Fault>
+    pub fn admit<W: OctetWrite>(&mut self, started: bool, output: &mut W) -> Result<(), ServerFault>
         ensures { TellsRotations (W.written output.old) (W.faults output.old)
             (W.written output.new) (W.faults output.new) result }
     {

@@ -15,7 +15,7 @@ ghost use Rattle.std.specs.Fmt.{decimal};
 
 use crate::desk::Desk;
 use crate::doorway::Doorway;
-use crate::headers::{HeaderFault, Word};
+use crate::headers::{HeaderFault, HeaderWord};
 use crate::waiting_room::{Caller, Ready, Visit, WaitingRoom};
 use log::{Log, warn};
 use mio::unix::SourceFd;
@@ -213,9 +213,9 @@ impl Lobby {
     /// proxy itself in any case. Whether what is behind it may be looked at; where the guest is closed, nothing is.
     fn is_named<R: Clock + Log>(&mut self, rt: &R, at: usize, is_ended: bool) -> Option<bool> {
         match self.room.read_header(at, is_ended) {
-            Word::Waits => return Some(false),
-            Word::Itself(_) => return Some(true),
-            Word::From(..) => {
+            HeaderWord::Waits => return Some(false),
+            HeaderWord::Itself(_) => return Some(true),
+            HeaderWord::From(..) => {
                 let peer = self.room.peer_at(at)?;
                 if self.doorway.lets_in(peer) {
                     return Some(true);
@@ -223,10 +223,10 @@ impl Lobby {
                 let caller = self.release(at)?;
                 self.turn_away(rt, caller);
             }
-            Word::Nothing => {
+            HeaderWord::Nothing => {
                 self.release(at);
             }
-            Word::Fault(fault) => self.close_for(rt, at, fault),
+            HeaderWord::Fault(fault) => self.close_for(rt, at, fault),
         }
         None
     }
@@ -350,9 +350,9 @@ impl Lobby {
                 ready = desk.is_free(rt, last).then_some(last);
             }
         }
-        let Ready { at, errand, .. } = ready?;
+        let Ready { at, purpose, .. } = ready?;
         let caller = self.release(at)?;
-        Some(caller.coming_for(errand))
+        Some(caller.coming_for(purpose))
     }
 
     /// The connection that has been ready for the longest time, whatever it comes for: where one thread serves them all. Its stream is
@@ -365,9 +365,9 @@ impl Lobby {
         if ready.is_none() {
             ready = self.room.jobs.pop_front();
         }
-        let Ready { at, errand, .. } = ready?;
+        let Ready { at, purpose, .. } = ready?;
         let caller = self.release(at)?;
-        Some(caller.coming_for(errand))
+        Some(caller.coming_for(purpose))
     }
 
     /// Whether a job waits for a session.

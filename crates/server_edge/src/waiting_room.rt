@@ -3,11 +3,11 @@
 ghost use Rattle.std.specs.Prelude.{◌≡◌, ◌≢◌, ◌++◌, ◌∷◌, [], IfSome, OnOk};
 ghost use Rattle.std.specs.Net.Socket.{socket_ip};
 ghost use Rattle.server_edge.specs.Hosts.{host_number};
-ghost use Rattle.server_edge.specs.declared.first_line.Errand.TheVariants.{Job};
+ghost use Rattle.server_edge.specs.declared.first_line.Purpose.TheVariants.{Job};
 
-use crate::first_line::{Errand, FIRST_LINE_OCTETS, errand_of, is_whole};
-use crate::guests::{Guest, Stage, who_leaves};
-use crate::headers::{HEADER_SECONDS, HeaderFault, MOST_HEADER, Word, read_word};
+use crate::first_line::{FIRST_LINE_OCTETS, Purpose, is_whole, purpose_of};
+use crate::guests::{Guest, GuestStage, who_leaves};
+use crate::headers::{HEADER_SECONDS, HeaderFault, HeaderWord, MOST_HEADER, read_word};
 use crate::peers::{take_octets, unread_octets};
 use std::alloc::{AllocError, Global};
 use std::collections::VecDeque;
@@ -33,7 +33,7 @@ pub struct Visit {
     /// Its peer: where a proxy has brought it, whom that names.
     pub peer: SocketAddr,
     /// What it comes for.
-    pub errand: Errand,
+    pub purpose: Purpose,
 }
 
 impl Visit {
@@ -61,16 +61,16 @@ impl Caller {
     }
 
     /// It comes for this, and is handed on.
-    pub(crate) fn coming_for(self, errand: Errand) -> Visit
+    pub(crate) fn coming_for(self, purpose: Purpose) -> Visit
         ensures stream { result.stream ≡ self.stream }
         ensures peer { result.peer ≡ self.peer }
-        ensures errand { result.errand ≡ errand }
+        ensures purpose { result.purpose ≡ purpose }
     {
         let Caller { stream, peer } = self;
         Visit {
             stream,
             peer,
-            errand,
+            purpose,
         }
     }
 }
@@ -79,7 +79,7 @@ impl Caller {
 #[derive(Clone, Copy)]
 pub(crate) struct Ready {
     pub(crate) at: usize,
-    pub(crate) errand: Errand,
+    pub(crate) purpose: Purpose,
     pub(crate) host: u32,
 }
 
@@ -98,17 +98,17 @@ pub(crate) struct WaitingRoom {
 }
 
 /// How far a connection has come by what it has sent, which is left unread, and what it comes for.
-fn stage_of(stream: &TcpStream, is_ended: bool) -> (Stage, Errand) {
+fn stage_of(stream: &TcpStream, is_ended: bool) -> (GuestStage, Purpose) {
     let mut octets = [0u8; FIRST_LINE_OCTETS];
     let came = unread_octets(stream, &mut octets);
     let count = came.unwrap_or(0);
     let octets = &octets[..count];
     let stage = match count {
-        _ if is_whole(octets, is_ended || came == Some(0)) => Stage::Ready,
-        0 => Stage::Silent,
-        _ => Stage::Begun,
+        _ if is_whole(octets, is_ended || came == Some(0)) => GuestStage::Ready,
+        0 => GuestStage::Silent,
+        _ => GuestStage::Begun,
     };
-    (stage, errand_of(octets.first().copied()))
+    (stage, purpose_of(octets.first().copied()))
 }
 
 impl WaitingRoom {
@@ -155,7 +155,7 @@ impl WaitingRoom {
     /// The first guest whose first line isn't whole, where nobody is ready, as one that brings a job. A session for all waits for
     /// its line as long as its peer may be silent. None while the header of a proxy is waited for.
     pub(crate) fn last_guest(&self) -> Option<Ready>
-        ensures { IfSome result (λ ready. ready.errand ≡ Job) }
+        ensures { IfSome result (λ ready. ready.purpose ≡ Job) }
     {
         if !self.jobs.is_empty() || !self.others.is_empty() {
             return None;
@@ -169,7 +169,7 @@ impl WaitingRoom {
         };
         Some(Ready {
             at,
-            errand: Errand::Job,
+            purpose: Purpose::Job,
             host: caller.host(),
         })
     }
@@ -187,7 +187,7 @@ impl WaitingRoom {
         if let Some(place) = self.callers.get_mut(at) {
             *place = Some(caller);
         }
-        let stage = Stage::Silent;
+        let stage = GuestStage::Silent;
         self.mark(at, Some(Guest { number, stage }));
         Some(at)
     }
@@ -240,16 +240,16 @@ impl WaitingRoom {
 
     /// Reads the header of the guest at a place, and nothing behind it, once it is whole: from then on the guest's peer is whom it
     /// names. What it says.
-    pub(crate) fn read_header(&mut self, at: usize, is_ended: bool) -> Word {
+    pub(crate) fn read_header(&mut self, at: usize, is_ended: bool) -> HeaderWord {
         let Some(Some(caller)) = self.callers.get_mut(at) else {
-            return Word::Nothing;
+            return HeaderWord::Nothing;
         };
         let mut octets = [0u8; MOST_HEADER];
         let came = unread_octets(&caller.stream, &mut octets);
         let count = came.unwrap_or(0);
         let word = read_word(&octets[..count], is_ended || came == Some(0));
         let length = match word {
-            Word::From(_, _, length) | Word::Itself(length) => length,
+            HeaderWord::From(_, _, length) | HeaderWord::Itself(length) => length,
             _ => return word,
         };
         let is_taken = match octets.get_mut(..length) {
@@ -257,9 +257,9 @@ impl WaitingRoom {
             None => false,
         };
         if !is_taken {
-            return Word::Fault(HeaderFault::Cut);
+            return HeaderWord::Fault(HeaderFault::Cut);
         }
-        if let Word::From(address, port, _) = word {
+        if let HeaderWord::From(address, port, _) = word {
             caller.peer = SocketAddr::from((Ipv4Addr::from(address), port));
         }
         self.await_header(at, None);
@@ -278,14 +278,14 @@ impl WaitingRoom {
 
     /// One more is ready, behind those that were before: jobs among jobs.
     fn line_up(&mut self, ready: Ready) -> Result<(), AllocError>
-        ensures job { ready.errand ≡ Job → OnOk result
+        ensures job { ready.purpose ≡ Job → OnOk result
             (self.new.jobs.items ≡ self.old.jobs.items ++ ready ∷ []) }
-        ensures other { ready.errand ≢ Job → OnOk result
+        ensures other { ready.purpose ≢ Job → OnOk result
             (self.new.others.items ≡ self.old.others.items ++ ready ∷ []) }
     {
-        match ready.errand {
-            Errand::Job => self.jobs.push_back(ready)?,
-            Errand::Short | Errand::Listing => self.others.push_back(ready)?,
+        match ready.purpose {
+            Purpose::Job => self.jobs.push_back(ready)?,
+            Purpose::Short | Purpose::Listing => self.others.push_back(ready)?,
         }
         Ok(())
     }
@@ -297,16 +297,16 @@ impl WaitingRoom {
             return Ok(true);
         };
         let Guest { number, stage } = *guest;
-        if matches!(stage, Stage::Ready) {
+        if matches!(stage, GuestStage::Ready) {
             return Ok(true);
         }
-        let (stage, errand) = stage_of(&caller.stream, is_ended);
+        let (stage, purpose) = stage_of(&caller.stream, is_ended);
         let host = caller.host();
         self.mark(at, Some(Guest { number, stage }));
-        if !matches!(stage, Stage::Ready) {
+        if !matches!(stage, GuestStage::Ready) {
             return Ok(false);
         }
-        self.line_up(Ready { at, errand, host })?;
+        self.line_up(Ready { at, purpose, host })?;
         Ok(true)
     }
 }

@@ -11,7 +11,7 @@ use account::Segment;
 use account_folder::{AccountFolder, WriteFault};
 use config_values::Config;
 use log::{Log, error, info, warn};
-use printer_devices::Opened;
+use printer_devices::OpenedPlace;
 use program_edge::{Settings, StartFault, StartPart};
 use std::alloc::{AllocError, Global};
 use std::fs::{File, Files};
@@ -108,7 +108,7 @@ pub fn open_archive<'a, R: Files<File = File> + Clock + Log>(
     alloc: Global,
     settings: &Settings<'a>,
     config: &Config,
-    places: &[Opened],
+    places: &[OpenedPlace],
 ) -> Result<Option<Archive<'a>>, StartFault>
     ensures { IfErr result (IsUnopened (λ (part : StartPart). part ≡ Account)) }
 {

@@ -24,7 +24,7 @@ use std::time::Duration;
 
 /// The jobs of the folder that wait for the spool to take them.
 #[derive(Drop)]
-struct Line {
+struct KeptLine {
     /// The numbers of their files, in order.
     numbers: VecDeque<u64>,
     /// Each that had room at the start was fed.
@@ -33,13 +33,13 @@ struct Line {
 
 /// The folder in which jobs are kept.
 #[derive(Drop)]
-pub struct Kept<'a, R> {
+pub struct JobFolder<'a, R> {
     pub disk: Disk<'a, R>,
-    line: Mutex<Line>,
+    line: Mutex<KeptLine>,
     settled: Condvar,
 }
 
-impl<'a, R: Files<File = File> + Log + Wait> Kept<'a, R> {
+impl<'a, R: Files<File = File> + Log + Wait> JobFolder<'a, R> {
     /// Opens the folder at a path, which is made where nothing is there. What was coming when the server before ended is removed, and
     /// the whole jobs wait to be fed, by the numbers of their files.
     ///
@@ -49,7 +49,7 @@ impl<'a, R: Files<File = File> + Log + Wait> Kept<'a, R> {
         alloc: Global,
         path: &'a str,
         config: &Config,
-    ) -> Result<Kept<'a, R>, StartFault>
+    ) -> Result<JobFolder<'a, R>, StartFault>
         ensures { IfErr result (IsUnopened (λ (part : StartPart). part ≡ Spool)) }
     {
         let disk = match Disk::open(rt, alloc, path, config.max_jobs() as usize) {
@@ -63,11 +63,11 @@ impl<'a, R: Files<File = File> + Log + Wait> Kept<'a, R> {
                 return Err(refused(rt, alloc, StartPart::Spool, path, &why));
             }
         };
-        let line = Line {
+        let line = KeptLine {
             numbers: VecDeque::new(alloc),
             is_settled: false,
         };
-        let kept = Kept {
+        let kept = JobFolder {
             disk,
             line: Mutex::new(line),
             settled: Condvar::new(),
@@ -145,7 +145,7 @@ impl<'a, R: Files<File = File> + Log + Wait> Kept<'a, R> {
     }
 }
 
-impl<R: Clock + Wait> Kept<'_, R> {
+impl<R: Clock + Wait> JobFolder<'_, R> {
     /// Whether each job that had room at the start has been fed. Waits for that for N milliseconds at most.
     pub fn is_settled(&self, rt: &R, limit_ms: u64) -> bool {
         let limit = Duration::from_millis(limit_ms);

@@ -1,7 +1,7 @@
 //! What is told of printers in the heads of the account's segments.
 
 use lpd_values::Octets;
-use printer_devices::{Opened, default_file, place_of};
+use printer_devices::{OpenedPlace, default_file, place_of};
 use program_edge::{Place, Settings};
 use segment_text::PrinterPlace;
 use std::alloc::{AllocError, Global};
@@ -11,7 +11,7 @@ use std::alloc::{AllocError, Global};
 pub(crate) fn told_places(
     alloc: Global,
     settings: &Settings<'_>,
-    places: &[Opened],
+    places: &[OpenedPlace],
 ) -> Result<Vec<PrinterPlace>, AllocError> {
     let mut told = Vec::new(alloc);
     let mut printer = 0;

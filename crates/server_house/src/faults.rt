@@ -1,7 +1,7 @@
 //! What stops a server.
 
 ghost use Rattle.std.specs.Prelude.{◌≡◌, ◌↔◌, IsTrue};
-ghost use Rattle.server_house.specs.declared.faults.Fault.TheVariants.{Memory, Output};
+ghost use Rattle.server_house.specs.declared.faults.ServerFault.TheVariants.{Memory, Output};
 
 use program_edge::{FaultName, Opening};
 use std::alloc::{AllocError, AllocFailed};
@@ -9,7 +9,7 @@ use thiserror::Error;
 
 /// Why a server stopped.
 #[derive(Debug, PartialEq, Eq, Drop, Error)]
-pub enum Fault {
+pub enum ServerFault {
     /// Memory was refused, or a thread.
     #[error("{}", FaultName::Memory)]
     Memory,
@@ -21,29 +21,29 @@ pub enum Fault {
     Output,
 }
 
-impl From<AllocError> for Fault {
+impl From<AllocError> for ServerFault {
     ghost from_gives = { λ _ fault. fault ≡ Memory };
 
-    fn from(_error: AllocError) -> Fault {
-        Fault::Memory
+    fn from(_error: AllocError) -> ServerFault {
+        ServerFault::Memory
     }
 }
 
-impl<T: Drop> From<AllocFailed<T>> for Fault {
+impl<T: Drop> From<AllocFailed<T>> for ServerFault {
     ghost from_gives = { λ _ fault. fault ≡ Memory };
 
-    fn from(_error: AllocFailed<T>) -> Fault {
-        Fault::Memory
+    fn from(_error: AllocFailed<T>) -> ServerFault {
+        ServerFault::Memory
     }
 }
 
-impl Fault {
+impl ServerFault {
     /// Whether the server has logged it by itself when it ends: a line of the output that can't be
     /// written is told at once, and once.
     pub fn is_told(&self) -> bool
         ensures { IsTrue result ↔ self.now ≡ Output }
     {
-        matches!(self, Fault::Output)
+        matches!(self, ServerFault::Output)
     }
 
     /// The exit status, 4 for each.

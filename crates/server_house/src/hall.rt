@@ -10,8 +10,8 @@ use log::Log;
 use mio::Waker;
 use program_edge::{Limits, PrinterLimits, Settings};
 use server_edge::{Desk, Doors};
-use server_folders::{Archive, Kept};
-use server_notes::{Ending, JobBook, Outcome, Restarts, Rotations};
+use server_folders::{Archive, JobFolder};
+use server_notes::{JobBook, JobOutcome, Restarts, Rotations, ServerEnding};
 use std::alloc::{AllocError, Global};
 use std::fs::{File, Files};
 use std::rt::Clock;
@@ -36,9 +36,9 @@ pub struct Hall<'a, R> {
     /// What wakes the porter.
     pub waker: Waker,
     pub oversight: Oversight,
-    pub ending: Ending,
+    pub ending: ServerEnding,
     /// Where jobs are kept until they are printed, if they are.
-    pub kept: Option<Kept<'a, R>>,
+    pub kept: Option<JobFolder<'a, R>>,
     /// Where the account's segments become files, if they do.
     pub archive: Option<Archive<'a>>,
     /// What is noted of each job, where the log has lines of them or the status is shown.
@@ -77,7 +77,7 @@ impl<'a, R> Hall<'a, R> {
             rotations: Rotations::new(alloc),
             waker,
             oversight,
-            ending: Ending::new(),
+            ending: ServerEnding::new(),
             kept: None,
             archive: None,
             job_book,
@@ -101,7 +101,7 @@ impl<R> Hall<'_, R> {
 
 impl<R: Clock + Log + Wait> Hall<'_, R> {
     /// Notes what has become of a job that isn't held any more.
-    pub fn note_end(&self, job: u64, outcome: Outcome) {
+    pub fn note_end(&self, job: u64, outcome: JobOutcome) {
         if let Some(book) = &self.job_book {
             book.end(self.rt, job, outcome);
         }
@@ -115,7 +115,7 @@ impl<R: Files<File = File> + Clock + Log + Wait> Hall<'_, R> {
             if let Some(kept) = &self.kept {
                 kept.end(self.rt, job, JobEnd::Removed);
             }
-            self.note_end(job, Outcome::Removed);
+            self.note_end(job, JobOutcome::Removed);
         }
     }
 }

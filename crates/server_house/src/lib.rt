@@ -18,7 +18,7 @@ mod rotating;
 mod sessions;
 mod showing;
 
-pub use faults::Fault;
+pub use faults::ServerFault;
 pub use hall::Hall;
 pub use host::Host;
 pub use house::House;

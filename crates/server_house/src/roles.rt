@@ -1,10 +1,10 @@
 //! Who gets which seat.
 
 ghost use Rattle.std.specs.Prelude.{◌≡◌, ◌↔◌, ◌<◌, IfErr};
-ghost use Rattle.server_house.specs.declared.faults.Fault.TheVariants.{Memory};
+ghost use Rattle.server_house.specs.declared.faults.ServerFault.TheVariants.{Memory};
 ghost use Rattle.server_edge.specs.declared.desk.Serves.TheVariants.{NoJobs};
 
-use crate::faults::Fault;
+use crate::faults::ServerFault;
 use crate::ledgers::{HouseLedger, HouseSeat, PrintingSeat};
 use server_edge::Serves;
 
@@ -42,21 +42,21 @@ impl<E: HouseLedger> Roles<E> {
     pub fn deal(
         sessions: Vec<HouseSeat<E>>,
         printers: Vec<PrintingSeat<E>>,
-    ) -> Result<Roles<E>, Fault>
+    ) -> Result<Roles<E>, ServerFault>
         ensures { IfErr result (λ fault. fault ≡ Memory) }
     {
         let mut sessions = sessions;
         let Some(porter) = sessions.pop() else {
-            return Err(Fault::Memory);
+            return Err(ServerFault::Memory);
         };
         let Some(watcher) = sessions.pop() else {
-            return Err(Fault::Memory);
+            return Err(ServerFault::Memory);
         };
         let Some(steward) = sessions.pop() else {
-            return Err(Fault::Memory);
+            return Err(ServerFault::Memory);
         };
         let Some(feeder) = sessions.pop() else {
-            return Err(Fault::Memory);
+            return Err(ServerFault::Memory);
         };
         Ok(Roles {
             porter,

@@ -23,7 +23,7 @@ const READS: u32 = 16;
 
 /// A connection to a printer.
 #[derive(Drop)]
-pub(crate) struct Connection {
+pub(crate) struct PrinterConnection {
     stream: TcpStream,
     // Whether the printer may still send something.
     hears: bool,
@@ -44,10 +44,10 @@ fn drop_input(stream: &mut TcpStream) -> io::Result<bool> {
     Ok(true)
 }
 
-impl Connection {
+impl PrinterConnection {
     /// Asks the system for a connection to this address, and doesn't wait for it.
-    pub(crate) fn begin<R: Net>(rt: &R, address: SocketAddr) -> io::Result<Connection> {
-        Ok(Connection {
+    pub(crate) fn begin<R: Net>(rt: &R, address: SocketAddr) -> io::Result<PrinterConnection> {
+        Ok(PrinterConnection {
             stream: TcpStream::from(mio::net::TcpStream::connect(rt, address)?),
             hears: true,
         })

@@ -4,7 +4,7 @@ ghost use Rattle.std.specs.Prelude.{◌≡◌, None, Some, false};
 
 use crate::causes::Causes;
 use log::{Log, warn};
-use printer_sinks::{Folder, FolderFault};
+use printer_sinks::{FolderFault, PrinterFolder};
 use program_edge::{JOB_FILE, JobFileName};
 use std::alloc::{AllocError, Global};
 use std::fs::{File, Files, OpenOptions};
@@ -154,7 +154,7 @@ impl<'a, R: Files<File = File> + Log> Causes for FileFolder<'a, R> {
     }
 }
 
-impl<'a, R: Files<File = File> + Log> Folder for FileFolder<'a, R> {
+impl<'a, R: Files<File = File> + Log> PrinterFolder for FileFolder<'a, R> {
     ghost files = { λ _. None };
 
     ghost draft = { λ _. None };

@@ -1,7 +1,7 @@
 //! A connection with one request and one response. Each has its time, however slowly a peer sends or reads.
 
 use program_edge::pass_over;
-use status_request::{Incoming, MOST_OCTETS, Reading};
+use status_request::{Incoming, MOST_OCTETS, RequestReading};
 use std::io;
 use std::io::Write;
 use std::net::{Shutdown, TcpStream};
@@ -27,7 +27,7 @@ fn time_left(rt: &impl Clock, start: Instant, most_ms: u64) -> io::Result<Option
 }
 
 /// Reads until it is known what is asked for of the server of this name, the time is up, or nothing more comes.
-fn read(rt: &impl Clock, stream: &TcpStream, name: &[u8]) -> io::Result<Reading> {
+fn read(rt: &impl Clock, stream: &TcpStream, name: &[u8]) -> io::Result<RequestReading> {
     let start = Instant::now(rt)?;
     let mut incoming = Incoming::new();
     let mut stream = stream;
@@ -40,16 +40,16 @@ fn read(rt: &impl Clock, stream: &TcpStream, name: &[u8]) -> io::Result<Reading>
             break;
         }
         let reading = incoming.reading(name);
-        if reading != Reading::More {
+        if reading != RequestReading::More {
             return Ok(reading);
         }
     }
-    Ok(Reading::More)
+    Ok(RequestReading::More)
 }
 
 /// What is asked for of the server of this name; More where that isn't known in time.
-pub fn read_request(rt: &impl Clock, stream: &TcpStream, name: &[u8]) -> Reading {
-    read(rt, stream, name).unwrap_or(Reading::More)
+pub fn read_request(rt: &impl Clock, stream: &TcpStream, name: &[u8]) -> RequestReading {
+    read(rt, stream, name).unwrap_or(RequestReading::More)
 }
 
 /// Writes all octets, unless the time is up. Each write has what is left of the time: a peer that reads slowly gets no more.

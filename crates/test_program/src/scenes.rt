@@ -38,7 +38,7 @@ use crate::network::{
 };
 use log::{Level, Log, Logged};
 use log_lines::{LineLog, LineQueue, LogForm};
-use lpd_daemon::{Counter, Fault, Plan, Settings};
+use lpd_daemon::{Counter, Plan, ServerFault, Settings};
 use lpr_client::SendFault;
 use program_edge::{StreamReader, StreamWriter};
 use std::fs::{File, Files};
@@ -402,7 +402,7 @@ fn plan_of<
 }
 
 /// The fault that a server ended with, or nothing.
-fn text_of<R: Abort + AllocGlobal>(rt: &R, ended: Result<(), Fault>) -> String {
+fn text_of<R: Abort + AllocGlobal>(rt: &R, ended: Result<(), ServerFault>) -> String {
     match ended {
         Ok(()) => String::new(rt.alloc()),
         Err(fault) => format!(in rt.alloc(); "{fault}").expect(rt, "memory"),

@@ -5,7 +5,8 @@ use Rattle.spool_history.specs.Rotated.{rotated}
 use Rattle.account.specs.declared.base.Base.{Base}
 use Rattle.account.specs.Seen.{base_seen}
 use Rattle.history_reader.specs.Seen.{state_seen}
-use Rattle.segment_audit.proofs.Arms.{at_rest, not_at_rest}
+use Rattle.segment_audit.specs.Audited.{IsAtRest, state_at}
+use Rattle.segment_audit.proofs.Arms.{at_rest, denied, not_at_rest}
 use Rattle.segment_audit.proofs.course.Course.is_at_rest.Goals as goal
 
 pub returns-in-Some : goal.returns-in-Some
@@ -22,4 +23,4 @@ returns-in-None c = λ v x.
     let k = c.args.self.now in
     let a = k.audit in
     let never = subst (λ (o : Option Base). MatchOption o (a.state.jobs.items ≡ [] → a.state.accepted < 2 ^ 64 → ⊥) (λ _. a.state.jobs.items ≡ [])) c.in-None.is c.in_ok-base.ensures.exact in
-    (λ t. absurd cc, λ m. absurd (not_at_rest k v x never m))
+    denied (IsAtRest (state_at v)) (not_at_rest k v x never)

@@ -1,7 +1,7 @@
 use Rattle.std.proofs.Common.{arith, rules}
 use Rattle.std.proofs.lemmas.Option.{slice_get_within}
 use Rattle.server_edge.proofs.HostLemmas.{no_other, one_less}
-use Rattle.server_edge.proofs.desk.Hall.leave.Goals as goal
+use Rattle.server_edge.proofs.desk.DeskState.leave.Goals as goal
 
 pub remove-requires : goal.remove-requires
 remove-requires c =
