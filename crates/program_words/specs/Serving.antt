@@ -1,5 +1,5 @@
 -- The words of `serve`: as clap sees them, and what they say.
-use Rattle.std.specs.Prelude.{◌≡◌, ◌≢◌, ◌≤◌, ◌∷◌, List, None, Option, Some, codes, length, option_map, pos, true, [], unwrap_or}
+use Rattle.std.specs.Prelude.{◌≡◌, ◌≢◌, ◌≤◌, ◌∷◌, List, None, Option, Some, codes, length, option_map, pos, [], unwrap_or}
 use Rattle.std.specs.Int.NonZero.{non_zero_u64_get}
 use Rattle.std.specs.List.{AllPairs, AllZip}
 use Rattle.clap.specs.Words.{App, Row, Rule, Text, all_of, first_of, new_app}

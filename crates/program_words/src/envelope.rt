@@ -1,6 +1,6 @@
 //! What is known of a job before its files are read.
 
-ghost use Rattle.std.specs.Prelude.{◌≡◌, ◌≤◌, [], IsTrue, length};
+ghost use Rattle.std.specs.Prelude.{◌≤◌, [], IsTrue, length};
 ghost use Rattle.lpd_values.specs.declared.limits.TheConstants.{MAX_FILES};
 ghost use Rattle.lpr_client.specs.Sendable.{is_sendable};
 

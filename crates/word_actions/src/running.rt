@@ -292,12 +292,12 @@ fn run_asked<R: Files<File = File> + Net + Log + Alloc<A = Global>, N: Net, W: O
     alloc: Global,
     rt: &R,
     host: &N,
-    ask: Ask,
+    ask: &Ask,
     output: &mut W,
 ) -> Result<(), Fault>
     ensures write_fault { W.faults output.new ≡ write_faults (W.faults output.old) result }
     ensures missing { IfErr result (λ fault. status_of fault ≡ 1 →
-        ChecksPrinters ask.entry × (W.written output.new ≡ W.written output.old)) }
+        ChecksPrinters ask.now × (W.written output.new ≡ W.written output.old)) }
 {
     match ask {
         Ask::Input | Ask::Serve { .. } | Ask::Control(_) => Ok(()),
@@ -305,11 +305,11 @@ fn run_asked<R: Files<File = File> + Net + Log + Alloc<A = Global>, N: Net, W: O
         Ask::Check(checking) => {
             let (config, printers) = (checking.config, checking.printers.as_slice());
             check_file(rt, config, checking.sizes, printers, output)?;
-            check_places(alloc, rt, host, &checking, output)
+            check_places(alloc, rt, host, checking, output)
         }
         Ask::Replay { config, script } => replay_files(alloc, rt, config, script, output),
-        Ask::Send { sending, envelope } => send_files(alloc, rt, &sending, &envelope, output),
-        Ask::Question(question) => ask_question(alloc, rt, &question, output),
+        Ask::Send { sending, envelope } => send_files(alloc, rt, sending, envelope, output),
+        Ask::Question(question) => ask_question(alloc, rt, question, output),
     }
 }
 
@@ -403,7 +403,7 @@ pub fn run<
         Ok(Ask::Audit(request)) => Outcome::Audit(request),
         Ok(Ask::Usage(request)) => Outcome::Usage(request),
         Ok(ask) => {
-            let end = run_asked(alloc, rt, host, ask, output);
+            let end = run_asked(alloc, rt, host, &ask, output);
             Outcome::Ended(ended(alloc, end, faults))
         }
         Err(unread) => Outcome::Ended(tell_unread(alloc, unread, output, faults)),
