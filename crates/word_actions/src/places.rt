@@ -6,7 +6,7 @@ ghost use Rattle.program_edge.specs.declared.places.Place.{Place};
 
 use crate::fault::Fault;
 use config_values::Config;
-use program_edge::{Place, PrinterPlace};
+use program_edge::{DefaultFile, Place, PrinterPlace};
 use std::alloc::{AllocError, Global};
 
 /// Whether each of these is for a printer of this configuration. Answers `Printer` with the first
@@ -43,7 +43,13 @@ fn printer_line(alloc: Global, printers: &[PrinterPlace], number: u32) -> Result
 {
     match place_of(printers, number) {
         Some(place) => format!(in alloc; "printer {number} {place}\n"),
-        None => format!(in alloc; "printer {number} DIR/printer-{number}\n"),
+        None => {
+            let file = DefaultFile {
+                directory: "DIR",
+                printer: number,
+            };
+            format!(in alloc; "printer {number} {file}\n")
+        }
     }
 }
 
