@@ -1,11 +1,11 @@
 -- One line more of an audit.
-use Rattle.std.proofs.Common.{◌≡◌, ℕ, List, [], ◌∷◌, refl, sym, subst, ap}
+use Rattle.std.proofs.Common.{◌≡◌, ℕ, List}
 use Rattle.std.specs.Prelude.{Option}
 use Rattle.segment_text.specs.Items.{Item, item_line, MayStand}
 use Rattle.segment_text.specs.Items.Item.{OfOrigin, OfConfig, OfPrinter, OfStart, OfEvent, OfLast}
 use Rattle.segment_audit.specs.declared.fault.AuditFault.{AuditFault}
 use Rattle.segment_audit.specs.declared.fault.AuditFault.TheVariants as fault
-use Rattle.segment_audit.specs.Audited.{present, MayCome}
+use Rattle.segment_audit.specs.Audited.{present}
 use Rattle.segment_audit.specs.Read.{Refuses}
 use Rattle.segment_audit.specs.Streams.{IsRefused, IsUnlawful}
 

@@ -1,4 +1,4 @@
-use Rattle.std.proofs.Common.{◌≡◌, ◌∙◌, ◌⊎◌, inl, inr, ap, subst, sym}
+use Rattle.std.proofs.Common.{◌∙◌, inl, inr, ap, subst, sym}
 use Rattle.std.specs.Prelude.{Some}
 use Rattle.segment_text.specs.Follow.{GoesOn, RunFollows}
 use Rattle.segment_text.specs.Heads as H
