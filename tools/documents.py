@@ -5,7 +5,7 @@
 
 It looks at two things:
 
-- The commands and options of the program stand alike in `--help` (the calls of `crates/lpd_words/src` that make it), in the manual page
+- The commands and options of the program stand alike in `--help` (the tables of `crates/program_words/src` that it is made of), in the manual page
   `docs/lpd_server.8` and in `docs/OPERATING.md`: each in all three, with one name for its value.
 - A name between back-ticks, in a document or in a comment, that can only be one of ours (a path, a file, or a name with `_`, `::` or a
   capital inside) is there: a path from the top or from the document's own folder, a file's name anywhere, a name as a word of some code,
@@ -40,18 +40,18 @@ def files():
 
 # -- options
 
-MADE = re.compile(r'\b(option|counts|count|repeated|number_option|flag)\(\s*alloc,\s*"([a-z-]+)"(?:,\s*"([^"]+)")?')
-COMMAND = re.compile(r'\bplain\(alloc, "([a-z]+)"')
+MADE = re.compile(r'\bid: "([a-z-]+)",\s*shape: Shape::(Option|Repeated|NumberOption|RequiredOption|Counts?|Flag)\b(?:\("([^"]+)")?')
+COMMAND = re.compile(r'\bCommandTable \{\s*name: "([a-z]+)"')
 
 
 def of_help():
-    """The options that the code makes, each with the name of its value, and the commands."""
+    """The options of the tables, each with the name of its value, and the commands."""
     options, commands = {}, set()
-    for name in os.listdir(os.path.join(TOP, "crates/lpd_words/src")):
-        text = read(f"crates/lpd_words/src/{name}")
+    for name in os.listdir(os.path.join(TOP, "crates/program_words/src")):
+        text = read(f"crates/program_words/src/{name}")
         commands.update(COMMAND.findall(text))
-        for kind, option, value in MADE.findall(text):
-            options.setdefault(option, set()).add("" if kind == "flag" else value)
+        for option, shape, value in MADE.findall(text):
+            options.setdefault(option, set()).add("" if shape == "Flag" else value)
     return options, commands
 
 
@@ -86,7 +86,7 @@ def options_differ():
         values = {name: {it for it in found if it} for name, found in said.items() if found is not None}
         if len({frozenset(it) for it in values.values()}) > 1:
             wrong.append(f"--{option} has a value of another name: " + ", ".join(f"{name} {'/'.join(sorted(it)) or 'none'}" for name, it in values.items()))
-    shown = lists["--help"][1] - {"lpd_server"}
+    shown = lists["--help"][1]
     for name in ("docs/lpd_server.8", "docs/OPERATING.md"):
         wrong += [f"{name}: the command {it} is missing" for it in sorted(shown - lists[name][1])]
     return wrong

@@ -7,18 +7,22 @@ use crate::auditing::ended;
 use crate::fault::ReportFault;
 use crate::files::{TakeLines, take_files};
 use crate::notes::write_text;
-use crate::request::UsageRequest;
 use account_text::put_shown;
-use account_usage::{Grouping, UsageRow, UsageTable, is_within};
+use account_usage::{Grouping, Totals, UsageRequest, UsageTable, is_within};
 use log::Log;
 use lpd_commands::OctetWrite;
 use lpd_values::Octets;
 use segment_text::{LineFault, SegmentLine, SegmentReader};
 use std::alloc::{AllocError, Global};
 use std::fs::{File, Files};
+use std::hash::RandomState;
+use std::random::RandomSource;
 
 /// How many lines of one segment are read at most.
 const MOST_LINES: u64 = 1 << 62;
+
+/// What is told to be unread where the system gives no random octets.
+const RANDOM: &str = "/dev/urandom";
 
 /// A segment that is read, line by line.
 #[derive(Drop)]
@@ -107,23 +111,27 @@ impl<'a> TakeLines<'a> for Counting<'a> {
     }
 }
 
-/// Whether anything counts in a row.
-fn tells(row: &UsageRow) -> bool {
-    row.jobs != 0 || row.sent != 0 || row.printed != 0
+/// Whether anything counts.
+fn tells(totals: &Totals) -> bool {
+    totals.jobs != 0 || totals.sent != 0 || totals.printed != 0
 }
 
 /// Puts a row of a table as a line behind a text, its name shown as one word.
-fn put_row(text: &mut Vec<u8>, alloc: Global, row: &UsageRow) -> Result<(), AllocError> {
-    let mut name = Vec::new(alloc);
-    put_shown(&mut name, alloc, row.name.as_slice())?;
+fn put_row(
+    text: &mut Vec<u8>,
+    alloc: Global,
+    name: &[u8],
+    totals: &Totals,
+) -> Result<(), AllocError> {
+    let mut shown = Vec::new(alloc);
+    put_shown(&mut shown, alloc, name)?;
     // The name stands behind a space there.
-    text.extend_from_slice(name.get(1..).unwrap_or(&[]))?;
-    let UsageRow {
+    text.extend_from_slice(shown.get(1..).unwrap_or(&[]))?;
+    let Totals {
         jobs,
         sent,
         printed,
-        ..
-    } = row;
+    } = totals;
     let numbers = format!(in alloc; " jobs {jobs} sent {sent} printed {printed}\n")?;
     text.extend_from_slice(numbers.as_bytes())
 }
@@ -138,12 +146,12 @@ fn heading(by: Grouping) -> &'static str {
 }
 
 /// The fields of a row: its name as it is, and its numbers.
-fn fields_of(alloc: Global, row: &UsageRow) -> Result<[Octets; 4], AllocError> {
-    let jobs = format!(in alloc; "{}", row.jobs)?;
-    let sent = format!(in alloc; "{}", row.sent)?;
-    let printed = format!(in alloc; "{}", row.printed)?;
+fn fields_of(alloc: Global, name: &[u8], totals: &Totals) -> Result<[Octets; 4], AllocError> {
+    let jobs = format!(in alloc; "{}", totals.jobs)?;
+    let sent = format!(in alloc; "{}", totals.sent)?;
+    let printed = format!(in alloc; "{}", totals.printed)?;
     Ok([
-        Octets::copy_of(alloc, row.name.as_slice())?,
+        Octets::copy_of(alloc, name)?,
         Octets::copy_of(alloc, jobs.as_bytes())?,
         Octets::copy_of(alloc, sent.as_bytes())?,
         Octets::copy_of(alloc, printed.as_bytes())?,
@@ -171,11 +179,11 @@ fn write_records(
 /// A table with commas between (RFC 4180).
 ///
 /// AllocError where memory is refused: nothing else can fail of a table in memory.
-fn records_of(alloc: Global, by: Grouping, rows: &[UsageRow]) -> Result<Vec<u8>, AllocError> {
+fn records_of(alloc: Global, by: Grouping, table: &UsageTable) -> Result<Vec<u8>, AllocError> {
     let mut fields = Vec::new(alloc);
-    for row in rows {
-        if tells(row) {
-            fields.push(fields_of(alloc, row)?)?;
+    for (name, totals) in table.rows() {
+        if tells(totals) {
+            fields.push(fields_of(alloc, name.as_slice(), totals)?)?;
         }
     }
     let mut records = csv::WriterBuilder::new()
@@ -188,25 +196,28 @@ fn records_of(alloc: Global, by: Grouping, rows: &[UsageRow]) -> Result<Vec<u8>,
 }
 
 /// A table as lines.
-fn lines_of(alloc: Global, rows: &[UsageRow]) -> Result<Vec<u8>, AllocError> {
+fn lines_of(alloc: Global, table: &UsageTable) -> Result<Vec<u8>, AllocError> {
     let mut text = Vec::new(alloc);
-    for row in rows {
-        if tells(row) {
-            put_row(&mut text, alloc, row)?;
+    for (name, totals) in table.rows() {
+        if tells(totals) {
+            put_row(&mut text, alloc, name.as_slice(), totals)?;
         }
     }
     Ok(text)
 }
 
 /// Counts what the segments of these files tell, and writes it.
-fn tell_usage<'a, R: Files<File = File> + Log, O: OctetWrite>(
+fn tell_usage<'a, R: Files<File = File> + Log + RandomSource, O: OctetWrite>(
     rt: &R,
     alloc: Global,
     request: &UsageRequest<'a>,
     output: &mut O,
 ) -> Result<(), ReportFault<'a>> {
+    let Ok(random) = RandomState::new(rt) else {
+        return Err(ReportFault::ReadFile(RANDOM));
+    };
     let mut counting = Counting {
-        table: UsageTable::new(alloc, request.by),
+        table: UsageTable::new(alloc, random, request.by),
         reading: Some(Reading::begin()),
         since: request.since,
         until: request.until,
@@ -214,12 +225,11 @@ fn tell_usage<'a, R: Files<File = File> + Log, O: OctetWrite>(
     };
     take_files(&mut counting, rt, alloc, request.files.as_slice())?;
     counting.table.finish(alloc)?;
-    let rows = counting.table.rows();
     if request.csv {
-        let text = records_of(alloc, request.by, rows)?;
+        let text = records_of(alloc, request.by, &counting.table)?;
         return write_text(output, text.as_slice());
     }
-    let text = lines_of(alloc, rows)?;
+    let text = lines_of(alloc, &counting.table)?;
     write_text(output, text.as_slice())
 }
 
@@ -227,7 +237,7 @@ fn tell_usage<'a, R: Files<File = File> + Log, O: OctetWrite>(
 /// else is checked. The log is told at INFO why a file can't be read, and `faults` in a line what is wrong.
 ///
 /// Answers the exit status: 0 where it was told, 6 where a line can't be read, 4 for memory and files.
-pub fn usage<R: Files<File = File> + Log, O: OctetWrite, E: OctetWrite>(
+pub fn usage<R: Files<File = File> + Log + RandomSource, O: OctetWrite, E: OctetWrite>(
     rt: &R,
     alloc: Global,
     request: &UsageRequest,

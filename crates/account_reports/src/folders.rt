@@ -3,6 +3,7 @@
 use crate::printers::PrintedFile;
 use account::{Entry, Sheet};
 use printed_pages::{FolderTrail, TrailFault, judge_job};
+use program_edge::JobFileName;
 use std::alloc::{AllocError, Global};
 use std::fs::{File, Files};
 
@@ -126,7 +127,10 @@ impl FolderReread {
     pub(crate) fn wanted(&self, alloc: Global) -> Result<String, AllocError> {
         let path = &self.path;
         match self.last_file() {
-            Some(JobFile { number, .. }) => format!(in alloc; "{path}/job-{number:010}"),
+            Some(JobFile { number, .. }) => {
+                let name = JobFileName { number };
+                format!(in alloc; "{path}/{name}")
+            }
             None => String::from_str(alloc, path.as_str()),
         }
     }
@@ -161,7 +165,8 @@ impl FolderReread {
         number: u64,
         sheets: &[Sheet],
     ) -> Result<u64, TrailFault> {
-        let path = format!(in alloc; "{}/job-{number:010}", self.path)?;
+        let name = JobFileName { number };
+        let path = format!(in alloc; "{}/{name}", self.path)?;
         let Ok(mut octets) = PrintedFile::open(rt, path.as_str()) else {
             return Err(TrailFault::Unread);
         };

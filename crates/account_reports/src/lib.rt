@@ -10,10 +10,8 @@ mod line_reader;
 mod notes;
 mod places;
 mod printers;
-mod request;
 mod rereading;
 
-pub use account_usage::Grouping;
+pub use account_usage::{AuditRequest, Grouping, UsageRequest};
 pub use auditing::{AUDIT, audit};
 pub use counting::usage;
-pub use request::{AuditRequest, UsageRequest};

@@ -5,6 +5,7 @@ ghost use Rattle.std.specs.Prelude.{◌≡◌};
 use crate::fault::ReportFault;
 use account_text::put_shown;
 use lpd_commands::{OctetWrite, write_all};
+use program_edge::JobFileName;
 use std::alloc::Global;
 use std::fmt;
 
@@ -64,10 +65,10 @@ impl fmt::Display for Note {
             Told::Missing(job) => {
                 writeln!(f, "not judged {printer}: job {job}, which no file has")
             }
-            Told::Stray(number) => writeln!(
-                f,
-                "not judged {printer}: file job-{number:010}, which no job has"
-            ),
+            Told::Stray(number) => {
+                let name = JobFileName { number };
+                writeln!(f, "not judged {printer}: file {name}, which no job has")
+            }
         }
     }
 }

@@ -1,5 +1,6 @@
 //! Where printers wrote, as the words of an audit say it.
 
+use program_edge::DefaultFile;
 use std::alloc::{AllocError, Global};
 
 /// What one of these words says.
@@ -84,7 +85,7 @@ pub(crate) fn path_of(
     }
     match directory {
         Some(directory) if !is_asked(places, printer) => {
-            Ok(Some(format!(in alloc; "{directory}/printer-{printer}")?))
+            Ok(Some(DefaultFile { directory, printer }.to_string(alloc)?))
         }
         _ => Ok(None),
     }

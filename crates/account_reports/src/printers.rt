@@ -3,6 +3,7 @@
 ghost use Rattle.std.specs.Prelude.{◌≡◌, ◌≤◌, IfSome, None, length};
 
 use printed_pages::PrintedOctets;
+use program_edge::JOB_FILE;
 use std::alloc::Global;
 use std::fs::{File, Files, OpenOptions};
 use std::io::{ErrorKind, Read, Seek, SeekFrom};
@@ -64,7 +65,7 @@ impl PrintedOctets for PrintedFile {
 
 /// The number of a job's file of this name: `job-` and ten digits or more. None of any other name.
 fn job_number(name: &[u8]) -> Option<u64> {
-    let digits = name.strip_prefix(b"job-")?;
+    let digits = name.strip_prefix(JOB_FILE.as_bytes())?;
     if digits.len() < 10 || !digits.iter().all(|octet| octet.is_ascii_digit()) {
         return None;
     }

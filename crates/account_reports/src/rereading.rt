@@ -1,6 +1,7 @@
 //! What printers wrote, read again beside their account.
 
 ghost use Rattle.std.specs.Prelude.{◌<◌, IfSome, length};
+ghost use Rattle.program_edge.specs.Places.{IsPlaceText};
 
 use crate::fault::{Lacks, ReportFault};
 use crate::folders::{FolderReread, JobFile};
@@ -11,11 +12,12 @@ use account::Entry;
 use lpd_commands::OctetWrite;
 use lpd_values::Octets;
 use printed_pages::{PrinterTrail, RunBegins, TrailFault};
+use program_edge::Place;
 use segment_audit::SegmentLine;
 use segment_text::PrinterPlace;
 use std::alloc::{AllocError, Global};
 use std::fs::{File, Files};
-use std::mem;
+use std::{mem, str};
 
 /// A printer whose file is read again.
 #[derive(Drop)]
@@ -81,6 +83,13 @@ pub(crate) struct Rereading<'r> {
     begins_run: bool,
 }
 
+/// What a printer prints to, as the head of a segment tells it. None where that is nothing that a server writes.
+fn place_of(printer: &PrinterPlace) -> Option<Place<'_>>
+    ensures { IfSome result (IsPlaceText printer.now.place) }
+{
+    Place::read(str::from_utf8(printer.place.as_slice()).ok()?)
+}
+
 impl Reread {
     /// How the printer of a number and a place is read again, from this path.
     fn open<R: Files<File = File>>(
@@ -90,23 +99,26 @@ impl Reread {
         place: &PrinterPlace,
         path: String,
     ) -> Result<Reread, AllocError> {
-        if place.place.as_slice().starts_with(b"folder:") {
-            let Ok(numbers) = job_numbers(rt, alloc, path.as_str()) else {
-                return Ok(Reread::Nowhere);
-            };
-            let folder = FolderReread::new(alloc, printer, path, numbers);
-            return Ok(Reread::Folder(folder));
-        }
-        if place.begins.is_none() {
-            return Ok(Reread::Nowhere);
-        }
-        match PrintedFile::open(rt, path.as_str()) {
-            Ok(octets) => Ok(Reread::File(FileReread {
-                trail: PrinterTrail::new(printer),
-                octets,
-                path,
-            })),
-            Err(_) => Ok(Reread::Nowhere),
+        match place_of(place) {
+            Some(Place::Folder(_)) => match job_numbers(rt, alloc, path.as_str()) {
+                Ok(numbers) => {
+                    let folder = FolderReread::new(alloc, printer, path, numbers);
+                    Ok(Reread::Folder(folder))
+                }
+                Err(_) => Ok(Reread::Nowhere),
+            },
+            Some(Place::File(_)) if place.begins.is_some() => {
+                match PrintedFile::open(rt, path.as_str()) {
+                    Ok(octets) => Ok(Reread::File(FileReread {
+                        trail: PrinterTrail::new(printer),
+                        octets,
+                        path,
+                    })),
+                    Err(_) => Ok(Reread::Nowhere),
+                }
+            }
+            // What went over the network can't be read again, nor what isn't a regular file.
+            Some(Place::File(_) | Place::Socket(_)) | None => Ok(Reread::Nowhere),
         }
     }
 

@@ -1,6 +1,6 @@
 -- What lines say was sent and printed, in octets.
-use Rattle.std.specs.Prelude.{ℕ, ◌+◌}
-use Rattle.spool_history.specs.Events.{Act, Sheet, Turn, Event}
+use Rattle.std.specs.Prelude.{ℕ}
+use Rattle.spool_history.specs.Events.{Sheet, Turn, Event}
 use Rattle.spool_history.specs.Events.Act.{Put}
 use Rattle.spool_history.specs.Events.Turn.{Printed}
 use Rattle.spool_history.specs.Events.Event.{OfJob, AtPrinter}

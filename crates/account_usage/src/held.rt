@@ -35,15 +35,9 @@ pub(crate) fn set_out(held: &mut [HeldJob], at: usize, out: u64, is_over: bool)
     ensures sent { held_sent held.new ≡ held_sent held.old }
     ensures printed { held_printed held.new ≡ held_printed held.old }
 {
-    let Some((first, rest)) = held.split_first_mut() else {
-        return;
-    };
-    if at == 0 {
-        first.out = out;
-        first.is_over = is_over;
-        return;
-    }
-    set_out(rest, at - 1, out, is_over);
+    let job = &mut held[at];
+    job.out = out;
+    job.is_over = is_over;
 }
 
 /// Adds octets to the job at a place.
@@ -55,13 +49,7 @@ pub(crate) fn add_octets(held: &mut [HeldJob], at: usize, sent: u64, printed: u6
         → held_printed held.new
         ≡ held_printed held.old + printed }
 {
-    let Some((first, rest)) = held.split_first_mut() else {
-        return;
-    };
-    if at == 0 {
-        first.sent = first.sent.saturating_add(sent);
-        first.printed = first.printed.saturating_add(printed);
-        return;
-    }
-    add_octets(rest, at - 1, sent, printed);
+    let job = &mut held[at];
+    job.sent = job.sent.saturating_add(sent);
+    job.printed = job.printed.saturating_add(printed);
 }

@@ -3,12 +3,14 @@
 
 mod grouping;
 mod held;
+mod request;
 mod rows;
 mod table;
 mod times;
 
 pub use grouping::Grouping;
-pub use rows::UsageRow;
+pub use request::{AuditRequest, UsageRequest};
+pub use rows::Totals;
 pub use segment_text::is_time;
 pub use table::UsageTable;
 pub use times::is_within;

@@ -5,16 +5,19 @@ ghost use Rattle.account.specs.Seen.{event_seen, sheet_seen, turn_seen};
 ghost use Rattle.control_file.specs.View.{contents};
 ghost use Rattle.segment_text.specs.Items.{item_seen};
 ghost use Rattle.account_usage.specs.Sums as S;
-ghost use Rattle.account_usage.specs.Tables.{HasPrinted, HasSent, counted, name_by};
+ghost use Rattle.account_usage.specs.Tables.{HasPrinted, HasSent, Keeps, counted, counts_after, name_by};
 
 use crate::grouping::Grouping;
 use crate::held::{HeldJob, add_octets, place_of, set_out};
-use crate::rows::{UsageRow, add_to_row, settle};
+use crate::rows::{Rows, Totals, add_to_row, settle};
 use account::{Act, Control, Entry, Progress, Sheet, Turn};
 use config_values::Config;
+use indexmap::IndexMap;
+use indexmap::map::Iter;
 use lpd_values::Octets;
 use segment_text::{Begin, SegmentLine};
 use std::alloc::{AllocError, Global};
+use std::hash::RandomState;
 
 /// The name of the row of what no other counts.
 const NO_NAME: &[u8] = b"-";
@@ -27,7 +30,7 @@ pub struct UsageTable {
     queues: Vec<Octets>,
     /// Jobs that haven't ended.
     held: Vec<HeldJob>,
-    rows: Vec<UsageRow>,
+    rows: Rows,
     /// Whether the segment counts whose head was read last.
     counts: bool,
 }
@@ -58,9 +61,9 @@ fn named(
 }
 
 impl UsageTable {
-    /// A table of nothing, in which usage is told by this.
-    pub fn new(alloc: Global, grouping: Grouping) -> UsageTable
-        ensures rows { result.rows.items ≡ [] }
+    /// A table of nothing, in which usage is told by this. Names are found by a hash with random keys, since clients pick them.
+    pub fn new(alloc: Global, random: RandomState, grouping: Grouping) -> UsageTable
+        ensures rows { result.rows.entries ≡ [] }
         ensures held { result.held.items ≡ [] }
         ensures grouping { result.grouping ≡ grouping }
     {
@@ -68,7 +71,7 @@ impl UsageTable {
             grouping,
             queues: Vec::new(alloc),
             held: Vec::new(alloc),
-            rows: Vec::new(alloc),
+            rows: IndexMap::with_hasher(alloc, random),
             counts: false,
         }
     }
@@ -88,6 +91,7 @@ impl UsageTable {
     fn open(&mut self, alloc: Global, number: u64, queue: u32) -> Result<(), AllocError>
         ensures sent { OnOk result (HasSent 0 self.old self.new) }
         ensures printed { OnOk result (HasPrinted 0 self.old self.new) }
+        ensures kept { OnOk result (Keeps self.old self.new) }
     {
         let name = self.first_name(alloc, queue)?;
         self.held.push(HeldJob {
@@ -105,6 +109,7 @@ impl UsageTable {
     fn name(&mut self, alloc: Global, number: u64, control: &Control) -> Result<(), AllocError>
         ensures sent { OnOk result (HasSent 0 self.old self.new) }
         ensures printed { OnOk result (HasPrinted 0 self.old self.new) }
+        ensures kept { OnOk result (Keeps self.old self.new) }
     {
         let Some(at) = place_of(self.held.as_slice(), number) else {
             return Ok(());
@@ -124,10 +129,18 @@ impl UsageTable {
     ) -> Result<(), AllocError>
         ensures sent { OnOk result (HasSent sent self.old self.new) }
         ensures printed { OnOk result (HasPrinted printed self.old self.new) }
+        ensures kept { OnOk result (Keeps self.old self.new) }
     {
         match place_of(self.held.as_slice(), number) {
             Some(at) => add_octets(self.held.as_mut_slice(), at, sent, printed),
-            None => add_to_row(&mut self.rows, alloc, NO_NAME, 0, sent, printed)?,
+            None => {
+                let more = Totals {
+                    jobs: 0,
+                    sent,
+                    printed,
+                };
+                add_to_row(&mut self.rows, alloc, NO_NAME, more)?;
+            }
         }
         Ok(())
     }
@@ -136,16 +149,18 @@ impl UsageTable {
     fn end(&mut self, alloc: Global, number: u64, counts: bool) -> Result<(), AllocError>
         ensures sent { OnOk result (HasSent 0 self.old self.new) }
         ensures printed { OnOk result (HasPrinted 0 self.old self.new) }
+        ensures kept { OnOk result (Keeps self.old self.new) }
     {
         let Some(at) = place_of(self.held.as_slice(), number) else {
             return Ok(());
         };
-        let job = &self.held[at];
-        let name = job.name.as_slice();
-        let jobs = u64::from(counts);
-        add_to_row(&mut self.rows, alloc, name, jobs, job.sent, job.printed)?;
-        let _job = self.held.remove(at);
-        Ok(())
+        let job = self.held.remove(at);
+        let more = Totals {
+            jobs: u64::from(counts),
+            sent: job.sent,
+            printed: job.printed,
+        };
+        add_to_row(&mut self.rows, alloc, job.name.as_slice(), more)
     }
 
     /// So many pages of a job go to printers, so many come back, and it may be that nothing else comes of it. Once nothing does and no
@@ -160,6 +175,7 @@ impl UsageTable {
     ) -> Result<(), AllocError>
         ensures sent { OnOk result (HasSent 0 self.old self.new) }
         ensures printed { OnOk result (HasPrinted 0 self.old self.new) }
+        ensures kept { OnOk result (Keeps self.old self.new) }
     {
         let Some(at) = place_of(self.held.as_slice(), number) else {
             return Ok(());
@@ -179,18 +195,20 @@ impl UsageTable {
     fn remove(&mut self, alloc: Global, jobs: &[u64], counts: bool) -> Result<(), AllocError>
         ensures sent { OnOk result (HasSent 0 self.old self.new) }
         ensures printed { OnOk result (HasPrinted 0 self.old self.new) }
+        ensures kept { OnOk result (Keeps self.old self.new) }
     {
-        let Some((first, rest)) = jobs.split_first() else {
-            return Ok(());
-        };
-        self.turn(alloc, *first, (0, 0), true, counts)?;
-        self.remove(alloc, rest, counts)
+        for number in jobs {
+            self.turn(alloc, *number, (0, 0), true, counts)?;
+        }
+        Ok(())
     }
 
     /// All jobs have ended: the run begins anew, or nothing more is read.
     fn end_all(&mut self, alloc: Global) -> Result<(), AllocError>
         ensures sent { OnOk result (HasSent 0 self.old self.new) }
         ensures printed { OnOk result (HasPrinted 0 self.old self.new) }
+        ensures kept { OnOk result (Keeps self.old self.new) }
+        ensures ended { OnOk result (self.new.held.items ≡ []) }
     {
         let jobs = u64::from(self.counts);
         settle(&mut self.rows, alloc, self.held.as_slice(), jobs)?;
@@ -209,6 +227,7 @@ impl UsageTable {
         ensures sent { OnOk result (HasSent 0 self.old self.new) }
         ensures printed { OnOk result
             (HasPrinted (counted counts (S.printed_at (sheet_seen sheet.now) (turn_seen turn))) self.old self.new) }
+        ensures kept { OnOk result (Keeps self.old self.new) }
     {
         match turn {
             Turn::Handed => self.turn(alloc, sheet.job, (1, 0), false, counts),
@@ -232,6 +251,7 @@ impl UsageTable {
             (HasSent (counted counts (S.sent_by (event_seen entry.now))) self.old self.new) }
         ensures printed { OnOk result
             (HasPrinted (counted counts (S.printed_by (event_seen entry.now))) self.old self.new) }
+        ensures kept { OnOk result (Keeps self.old self.new) }
     {
         match entry {
             Entry::Opened { job, queue, .. } => self.open(alloc, *job, *queue),
@@ -263,6 +283,9 @@ impl UsageTable {
             (HasSent (counted counts (S.sent_in (item_seen line.now))) self.old self.new) }
         ensures printed { OnOk result
             (HasPrinted (counted counts (S.printed_in (item_seen line.now))) self.old self.new) }
+        ensures grouping { OnOk result (self.new.grouping ≡ self.old.grouping) }
+        ensures counts { OnOk result
+            (self.new.counts ≡ counts_after (item_seen line.now) counts self.old.counts) }
     {
         match line {
             SegmentLine::Config(config) => {
@@ -287,14 +310,17 @@ impl UsageTable {
     pub fn finish(&mut self, alloc: Global) -> Result<(), AllocError>
         ensures sent { OnOk result (HasSent 0 self.old self.new) }
         ensures printed { OnOk result (HasPrinted 0 self.old self.new) }
+        ensures kept { OnOk result (Keeps self.old self.new) }
+        ensures ended { OnOk result (self.new.held.items ≡ []) }
     {
         self.end_all(alloc)
     }
 
-    /// The rows, in the order in which the first job of each ended. One in which nothing counts may be among them.
-    pub fn rows(&self) -> &[UsageRow]
-        ensures { result.now ≡ self.now.rows.items }
+    /// The names and what is told of each, in the order in which the first job of each ended. One in which nothing counts may be among
+    /// them. Jobs whose control file didn't come are told under `-`, where users or hosts are.
+    pub fn rows(&self) -> Iter<'_, Vec<u8>, Totals>
+        ensures { result ≡ self.now.rows.entries }
     {
-        self.rows.as_slice()
+        self.rows.iter()
     }
 }

@@ -4,7 +4,7 @@ use Rattle.std.proofs.lemmas.Grind.{common_steps}
 use Rattle.std.proofs.lemmas.List.Folds.{list_any-append}
 use Rattle.std.specs.List.{list_any, position, position_or_len, before_first}
 use Rattle.control_socket.specs.Line.{is_line_feed, octets_before_line_feed, progress_of}
-use Rattle.control_socket.specs.declared.line.Progress.TheVariants.{More, Whole, TooLong}
+use Rattle.control_socket.specs.declared.line.LineProgress.TheVariants.{More, Whole, TooLong}
 
 -- the first that passes behind elements of which none does
 pub position_or_len-behind : {X : Type 0} (p : X → Bool) (xs ys : List X) → list_any p xs ≡ false → position_or_len p (xs ++ ys) ≡ length xs + position_or_len p ys

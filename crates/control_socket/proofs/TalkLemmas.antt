@@ -3,9 +3,9 @@ use Rattle.std.proofs.Common.{◌≡◌, ◌<◌, ◌+◌, ℕ, Bool, true, fals
 use Rattle.std.proofs.lemmas.Grind.{common_steps}
 use Rattle.std.proofs.lemmas.List.Sums.{passes_at_first}
 use Rattle.std.proofs.lemmas.Option.{slice_get-get_or}
-use Rattle.control_socket.specs.declared.talks.Talk.{Talk}
-use Rattle.control_socket.specs.declared.stages.Stage.{Stage}
-use Rattle.control_socket.specs.declared.stages.Stage.TheVariants.{Asking, Ready, Asked, Answering}
+use Rattle.control_socket.specs.declared.talks.ControlTalk.{ControlTalk}
+use Rattle.control_socket.specs.declared.stages.TalkStage.{TalkStage}
+use Rattle.control_socket.specs.declared.stages.TalkStage.TheVariants.{Asking, Ready, Asked, Answering}
 use Rattle.control_socket.specs.Stages.{is_ready, until_of, earlier_of}
 use Rattle.control_socket.specs.Talks.{number_at, IsNearest}
 
@@ -20,30 +20,30 @@ found_within : {X : Type 0} (p : X → Bool) (xs : List X) (at : ℕ) → Some a
 found_within p xs at found = grind (arith, common_steps, found)
 
 -- the number of the first that passes
-pub number_of_first : (p : Talk → Bool) (talks : List Talk) (at : ℕ) (talk : Talk) → Some at ≡ position p talks → talk ≡ get_or talks at talk → Some talk.number ≡ number_at talks at
+pub number_of_first : (p : ControlTalk → Bool) (talks : List ControlTalk) (at : ℕ) (talk : ControlTalk) → Some at ≡ position p talks → talk ≡ get_or talks at talk → Some talk.number ≡ number_at talks at
 number_of_first p talks at talk found is =
     let here = slice_get-get_or talks at talk (found_within p talks at found) in
     rw (here, ← is) refl
 
 -- a stage that is none of the ready ones isn't ready
-pub not_ready : (stage : Stage) → is_ready stage ≡ true → ((line : _) (is_gone : Bool) → stage ≡ Ready line is_gone → ⊥) → ⊥
+pub not_ready : (stage : TalkStage) → is_ready stage ≡ true → ((line : _) (is_gone : Bool) → stage ≡ Ready line is_gone → ⊥) → ⊥
 not_ready (Asking line until) is other = absurd cc
 not_ready (Ready line is_gone) is other = other line is_gone refl
 not_ready Asked is other = absurd cc
 not_ready (Answering answer until) is other = absurd cc
 
 -- the earlier one of two moments is one of them
-of_either : (talks : List Talk) (n : ℕ) (talk : Talk) (moment limit : ℕ) → slice_get talks n ≡ Some talk → until_of talk.stage ≡ Some limit
-    → (k : ℕ) × (other : Talk) × (slice_get talks k ≡ Some other) × (until_of other.stage ≡ Some moment)
-    → (k : ℕ) × (other : Talk) × (slice_get talks k ≡ Some other) × (until_of other.stage ≡ Some (min moment limit))
+of_either : (talks : List ControlTalk) (n : ℕ) (talk : ControlTalk) (moment limit : ℕ) → slice_get talks n ≡ Some talk → until_of talk.stage ≡ Some limit
+    → (k : ℕ) × (other : ControlTalk) × (slice_get talks k ≡ Some other) × (until_of other.stage ≡ Some moment)
+    → (k : ℕ) × (other : ControlTalk) × (slice_get talks k ≡ Some other) × (until_of other.stage ≡ Some (min moment limit))
 of_either talks n talk moment limit here is (k, other, there, of) = by (nat_le moment limit) refl
   where
-    by : (b : Bool) → nat_le moment limit ≡ b → (k : ℕ) × (other : Talk) × (slice_get talks k ≡ Some other) × (until_of other.stage ≡ Some (min moment limit))
+    by : (b : Bool) → nat_le moment limit ≡ b → (k : ℕ) × (other : ControlTalk) × (slice_get talks k ≡ Some other) × (until_of other.stage ≡ Some (min moment limit))
     by true le = (k, other, there, grind (arith, common_steps, le, of))
     by false gt = (n, talk, here, grind (arith, common_steps, gt, is))
 
 -- one more
-pub next_nearest : (talks : List Talk) (n : ℕ) (talk : Talk) (nearest limit : Option ℕ) → slice_get talks n ≡ Some talk → until_of talk.stage ≡ limit → IsNearest talks n nearest → IsNearest talks (n + 1) (earlier_of nearest limit)
+pub next_nearest : (talks : List ControlTalk) (n : ℕ) (talk : ControlTalk) (nearest limit : Option ℕ) → slice_get talks n ≡ Some talk → until_of talk.stage ≡ limit → IsNearest talks n nearest → IsNearest talks (n + 1) (earlier_of nearest limit)
 next_nearest talks n talk None None here is before = record {
   of_one = tt;
   earliest = λ k other until below found of. grind (arith, common_steps, before.earliest k other until);

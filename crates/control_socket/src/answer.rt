@@ -4,19 +4,19 @@ ghost use Rattle.std.specs.Prelude.{◌≡◌, ◌≤◌, ◌+◌, drop, vec_len
 
 /// What is left of an answer: its octets from `written` on.
 #[derive(Drop)]
-pub(crate) struct Answer {
+pub(crate) struct AnswerRest {
     octets: Vec<u8>,
     written: usize,
     ghost within: { written ≤ vec_len octets },
 }
 
-impl Answer {
+impl AnswerRest {
     /// An answer of which nothing is written.
-    pub(crate) fn new(octets: Vec<u8>) -> Answer
+    pub(crate) fn new(octets: Vec<u8>) -> AnswerRest
         ensures octets { result.octets ≡ octets }
         ensures written { result.written ≡ 0 }
     {
-        Answer { octets, written: 0 }
+        AnswerRest { octets, written: 0 }
     }
 
     /// The octets that are to be written yet.

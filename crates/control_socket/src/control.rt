@@ -36,7 +36,7 @@ const ACCEPT_PAUSE_MS: u64 = 100;
 
 /// A line that came, and its connection's number, under which it is answered.
 #[derive(Drop)]
-pub struct Asked {
+pub struct AskedLine {
     pub talk: TalkNumber,
     /// The line without its line feed.
     pub line: Vec<u8>,
@@ -45,9 +45,9 @@ pub struct Asked {
 
 /// What a part of a round brought.
 #[derive(Drop)]
-enum Turn {
+enum Brought {
     /// A line is whole.
-    Line(Asked),
+    Line(AskedLine),
     /// Somebody has woken the thread, or the round's time is over.
     Over,
     /// Neither.
@@ -63,7 +63,7 @@ fn wait(poll: &mut Poll, events: &mut Events, now: u64, until: Option<u64>) -> i
 
 /// A control socket as it was made.
 #[derive(Drop)]
-pub struct Opened {
+pub struct OpenedSocket {
     pub socket: ControlSocket,
     /// What wakes the socket's thread.
     pub waker: Waker,
@@ -98,7 +98,7 @@ impl ControlSocket {
         path: &str,
         most_line: usize,
         times: Times,
-    ) -> Result<Opened, OpenFault>
+    ) -> Result<OpenedSocket, OpenFault>
         ensures nobody { IfOk result (λ opened. opened.socket.talks.list.items ≡ []) }
         ensures most_line { IfOk result (λ opened. opened.socket.talks.most_line ≡ most_line) }
         ensures times { IfOk result (λ opened. opened.socket.talks.times ≡ times) }
@@ -120,7 +120,7 @@ impl ControlSocket {
             is_woken: false,
         };
         match socket.watch(socket.listener.as_raw_fd(), LISTENER, Interest::READABLE) {
-            Ok(()) => Ok(Opened {
+            Ok(()) => Ok(OpenedSocket {
                 socket,
                 waker,
                 file,
@@ -220,7 +220,7 @@ impl ControlSocket {
     }
 
     /// Looks at what came, accepts, and tells what that brought.
-    fn turn<R: Clock + Log>(&mut self, rt: &R, until: Option<u64>) -> io::Result<Turn> {
+    fn turn<R: Clock + Log>(&mut self, rt: &R, until: Option<u64>) -> io::Result<Brought> {
         let is_due = self.is_woken || self.talks.has_line();
         let now = self.look(rt, if is_due { Some(0) } else { until })?;
         if self.accepting.is_due(now) {
@@ -228,13 +228,13 @@ impl ControlSocket {
         }
         if let Some((talk, line)) = self.talks.next_line() {
             let line = line.into_octets();
-            return Ok(Turn::Line(Asked { talk, line }));
+            return Ok(Brought::Line(AskedLine { talk, line }));
         }
         if self.is_woken || until.is_some_and(|until| until <= now) {
             self.is_woken = false;
-            return Ok(Turn::Over);
+            return Ok(Brought::Over);
         }
-        Ok(Turn::Nothing)
+        Ok(Brought::Nothing)
     }
 
     /// One round: waits until a line is whole, somebody wakes the thread, or `limit_ms` milliseconds have passed, and answers the
@@ -247,14 +247,14 @@ impl ControlSocket {
         &mut self,
         rt: &R,
         limit_ms: Option<u64>,
-    ) -> io::Result<Option<Asked>> {
+    ) -> io::Result<Option<AskedLine>> {
         let now = self.now_ms(rt)?;
         let until = limit_ms.map(|limit| now.saturating_add(limit));
         for _ in 0..u64::MAX {
             match self.turn(rt, until)? {
-                Turn::Line(asked) => return Ok(Some(asked)),
-                Turn::Over => return Ok(None),
-                Turn::Nothing => {}
+                Brought::Line(asked) => return Ok(Some(asked)),
+                Brought::Over => return Ok(None),
+                Brought::Nothing => {}
             }
         }
         Ok(None)

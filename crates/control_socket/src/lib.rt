@@ -11,7 +11,7 @@ mod socket_file;
 mod stages;
 mod talks;
 
-pub use control::{Asked, ControlSocket, Opened};
+pub use control::{AskedLine, ControlSocket, OpenedSocket};
 pub use partings::TalkNumber;
 pub use signals::{Pending, Signals, is_blocked, is_pending};
 pub use socket_file::{OpenFault, SocketFile};

@@ -3,13 +3,13 @@
 ghost use Rattle.std.specs.Prelude.{◌≡◌, ◌≢◌, ◌++◌, ◌≤◌, ◌<◌, [], false, IfOk, IfSome, OnErr, length, vec_len};
 ghost use Rattle.std.specs.List.{list_any, position};
 ghost use Rattle.control_socket.specs.Line.{is_line_feed, progress_of, octets_before_line_feed};
-ghost use Rattle.control_socket.specs.declared.line.Progress.TheVariants.{TooLong};
+ghost use Rattle.control_socket.specs.declared.line.LineProgress.TheVariants.{TooLong};
 
 use std::alloc::{AllocError, Global};
 
 /// How far a line has come.
 #[derive(Clone, Copy, PartialEq, Eq)]
-pub(crate) enum Progress {
+pub(crate) enum LineProgress {
     /// It has no line feed yet.
     More,
     /// It has its line feed.
@@ -49,7 +49,7 @@ impl PartialLine {
 
     /// Adds the next octets that came. What stands behind a line feed is passed over. An error where memory is refused; nothing is
     /// added then.
-    pub(crate) fn add(&mut self, piece: &[u8]) -> Result<Progress, AllocError>
+    pub(crate) fn add(&mut self, piece: &[u8]) -> Result<LineProgress, AllocError>
         ensures progress { IfOk result (λ progress. progress
             ≡ progress_of self.old.most (self.old.octets.items ++ piece.now)) }
         ensures octets { IfOk result (λ progress. progress ≢ TooLong → self.new.octets.items
@@ -60,12 +60,12 @@ impl PartialLine {
         let end = line_feed_in(piece);
         let part = &piece[..end.unwrap_or(piece.len())];
         if part.len() > self.most - self.octets.len() {
-            return Ok(Progress::TooLong);
+            return Ok(LineProgress::TooLong);
         }
         self.octets.extend_from_slice(part)?;
         Ok(match end {
-            Some(_) => Progress::Whole,
-            None => Progress::More,
+            Some(_) => LineProgress::Whole,
+            None => LineProgress::More,
         })
     }
 

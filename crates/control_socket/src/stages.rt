@@ -11,7 +11,7 @@
 ghost use Rattle.std.specs.Prelude.{◌≡◌, Some, true};
 ghost use Rattle.control_socket.specs.Stages.{until_of, after, begun, heard, IsNewAnswer, earlier_of, is_late, is_asking, is_ready, is_asked};
 
-use crate::answer::Answer;
+use crate::answer::AnswerRest;
 use crate::line::PartialLine;
 use std::alloc::Global;
 
@@ -43,45 +43,54 @@ impl Default for Times {
 
 /// How far a connection has come.
 #[derive(Drop)]
-pub(crate) enum Stage {
+pub(crate) enum TalkStage {
     /// Its line is coming, until this millisecond at the latest.
-    Asking { line: PartialLine, until: u64 },
+    Asking {
+        line: PartialLine,
+        until: u64,
+    },
     /// Its line is whole, and is handed out next. Its peer may be gone: it has asked all the same.
-    Ready { line: PartialLine, is_gone: bool },
+    Ready {
+        line: PartialLine,
+        is_gone: bool,
+    },
     /// Its line was handed out, and is answered whenever that comes.
     Asked,
     /// Its answer is being written, until this millisecond at the latest. None until a round has begun since it was given.
-    Answering { answer: Answer, until: Option<u64> },
+    Answering {
+        answer: AnswerRest,
+        until: Option<u64>,
+    },
 }
 
-impl Stage {
+impl TalkStage {
     /// A connection that was just accepted.
-    pub(crate) fn accepted(alloc: Global, most_line: usize, now: u64, times: &Times) -> Stage
+    pub(crate) fn accepted(alloc: Global, most_line: usize, now: u64, times: &Times) -> TalkStage
         ensures asking { is_asking result ≡ true }
         ensures until { until_of result ≡ Some (after now times.now.line_ms) }
     {
-        Stage::Asking {
+        TalkStage::Asking {
             line: PartialLine::new(alloc, most_line),
             until: now.saturating_add(times.line_ms),
         }
     }
 
     /// Where its line was coming: that is whole. All else stays as it is.
-    pub(crate) fn heard(self, is_gone: bool) -> Stage
+    pub(crate) fn heard(self, is_gone: bool) -> TalkStage
         ensures { result ≡ heard self is_gone }
     {
         match self {
-            Stage::Asking { line, .. } => Stage::Ready { line, is_gone },
+            TalkStage::Asking { line, .. } => TalkStage::Ready { line, is_gone },
             other => other,
         }
     }
 
     /// An answer of which nothing is written.
-    pub(crate) fn answered(octets: Vec<u8>) -> Stage
+    pub(crate) fn answered(octets: Vec<u8>) -> TalkStage
         ensures { IsNewAnswer octets result }
     {
-        Stage::Answering {
-            answer: Answer::new(octets),
+        TalkStage::Answering {
+            answer: AnswerRest::new(octets),
             until: None,
         }
     }
@@ -91,9 +100,9 @@ impl Stage {
         ensures { result ≡ until_of self.now }
     {
         match self {
-            Stage::Asking { until, .. } => Some(*until),
-            Stage::Ready { .. } | Stage::Asked => None,
-            Stage::Answering { until, .. } => *until,
+            TalkStage::Asking { until, .. } => Some(*until),
+            TalkStage::Ready { .. } | TalkStage::Asked => None,
+            TalkStage::Answering { until, .. } => *until,
         }
     }
 
@@ -108,7 +117,7 @@ impl Stage {
     pub(crate) fn begin(&mut self, now: u64, times: &Times)
         ensures { self.new ≡ begun self.old now times.now.answer_ms }
     {
-        if let Stage::Answering { until, .. } = self {
+        if let TalkStage::Answering { until, .. } = self {
             if until.is_none() {
                 *until = Some(now.saturating_add(times.answer_ms));
             }
@@ -119,21 +128,21 @@ impl Stage {
     pub(crate) fn is_asking(&self) -> bool
         ensures { result ≡ is_asking self.now }
     {
-        matches!(self, Stage::Asking { .. })
+        matches!(self, TalkStage::Asking { .. })
     }
 
     /// Whether its line waits to be handed out.
     pub(crate) fn is_ready(&self) -> bool
         ensures { result ≡ is_ready self.now }
     {
-        matches!(self, Stage::Ready { .. })
+        matches!(self, TalkStage::Ready { .. })
     }
 
     /// Whether its line was handed out and not answered.
     pub(crate) fn is_asked(&self) -> bool
         ensures { result ≡ is_asked self.now }
     {
-        matches!(self, Stage::Asked)
+        matches!(self, TalkStage::Asked)
     }
 }
 

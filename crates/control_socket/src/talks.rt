@@ -9,10 +9,11 @@ ghost use Rattle.control_socket.specs.Talks.{why_late, IsAccepted, IsNearest};
 ghost use Rattle.control_socket.specs.Stages.{after};
 ghost use Rattle.control_socket.specs.declared.partings.Parting.TheVariants.{PlaceTaken};
 
-use crate::answer::Answer;
-use crate::line::{PartialLine, Progress};
+use crate::answer::AnswerRest;
+use crate::line::{LineProgress, PartialLine};
 use crate::partings::{Left, Parting, TalkNumber};
-use crate::stages::{Stage, Times, earlier};
+use crate::stages::{TalkStage, Times, earlier};
+use program_edge::pass_over;
 use std::alloc::{AllocError, Global};
 use std::io::{ErrorKind, Read, Write};
 use std::os::unix::net::UnixStream;
@@ -25,7 +26,7 @@ pub(crate) const MOST_TALKS: usize = 64;
 const PIECE_OCTETS: usize = 4_096;
 
 /// How many pieces behind a line are passed over at once.
-const MOST_PIECES: usize = 16;
+const MOST_READS: u32 = 16;
 
 /// What comes of a connection that was looked at.
 #[derive(Clone, Copy, PartialEq, Eq)]
@@ -40,9 +41,9 @@ pub(crate) enum Fate {
 
 /// A connection.
 #[derive(Drop)]
-pub(crate) struct Talk {
+pub(crate) struct ControlTalk {
     number: TalkNumber,
-    stage: Stage,
+    stage: TalkStage,
     stream: UnixStream,
 }
 
@@ -50,18 +51,20 @@ pub(crate) struct Talk {
 fn read_line(
     mut stream: &UnixStream,
     line: &mut PartialLine,
-) -> Result<Option<Progress>, AllocError> {
+) -> Result<Option<LineProgress>, AllocError> {
     let mut octets = [0u8; PIECE_OCTETS];
     for _ in 0..u64::MAX {
         match stream.read(&mut octets) {
             Ok(0) => return Ok(None),
             Ok(count) => {
                 let progress = line.add(&octets[..count])?;
-                if progress != Progress::More {
+                if progress != LineProgress::More {
                     return Ok(Some(progress));
                 }
             }
-            Err(error) if error.kind() == ErrorKind::WouldBlock => return Ok(Some(Progress::More)),
+            Err(error) if error.kind() == ErrorKind::WouldBlock => return Ok(Some(
+                LineProgress::More,
+            )),
             Err(error) if error.kind() == ErrorKind::Interrupted => {}
             Err(_) => return Ok(None),
         }
@@ -70,17 +73,12 @@ fn read_line(
 }
 
 /// Reads what stands behind a line: the end of a connection that has octets which nobody read is told to its peer as an error.
-fn pass_over(mut stream: &UnixStream) {
-    let mut octets = [0u8; PIECE_OCTETS];
-    for _ in 0..MOST_PIECES {
-        if !stream.read(&mut octets).is_ok_and(|count| count > 0) {
-            return;
-        }
-    }
+fn pass_behind(mut stream: &UnixStream) {
+    pass_over(&mut stream, MOST_READS, |_| false);
 }
 
 /// Writes what a peer takes of its answer.
-fn write_answer(mut stream: &UnixStream, answer: &mut Answer) -> Fate {
+fn write_answer(mut stream: &UnixStream, answer: &mut AnswerRest) -> Fate {
     for _ in 0..u64::MAX {
         if answer.rest().is_empty() {
             return Fate::Done;
@@ -96,35 +94,35 @@ fn write_answer(mut stream: &UnixStream, answer: &mut Answer) -> Fate {
     Fate::Stays
 }
 
-impl Talk {
+impl ControlTalk {
     /// Looks at what its peer did: reads or writes, without waiting.
     fn look(&mut self, is_gone: bool) -> Fate {
         match &mut self.stage {
-            Stage::Asking { line, .. } => match read_line(&self.stream, line) {
-                Ok(Some(Progress::More)) if !is_gone => Fate::Stays,
-                Ok(Some(Progress::More) | None) => Fate::Leaves(Parting::Gone),
-                Ok(Some(Progress::TooLong)) => Fate::Leaves(Parting::LineTooLong),
-                Ok(Some(Progress::Whole)) => {
-                    self.stage = mem::replace(&mut self.stage, Stage::Asked).heard(is_gone);
+            TalkStage::Asking { line, .. } => match read_line(&self.stream, line) {
+                Ok(Some(LineProgress::More)) if !is_gone => Fate::Stays,
+                Ok(Some(LineProgress::More) | None) => Fate::Leaves(Parting::Gone),
+                Ok(Some(LineProgress::TooLong)) => Fate::Leaves(Parting::LineTooLong),
+                Ok(Some(LineProgress::Whole)) => {
+                    self.stage = mem::replace(&mut self.stage, TalkStage::Asked).heard(is_gone);
                     Fate::Stays
                 }
                 Err(AllocError) => Fate::Leaves(Parting::NoMemory),
             },
-            Stage::Ready {
+            TalkStage::Ready {
                 is_gone: was_gone,
                 ..
             } => {
                 *was_gone = *was_gone || is_gone;
-                pass_over(&self.stream);
+                pass_behind(&self.stream);
                 Fate::Stays
             }
-            Stage::Asked if is_gone => Fate::Leaves(Parting::Gone),
-            Stage::Asked => {
-                pass_over(&self.stream);
+            TalkStage::Asked if is_gone => Fate::Leaves(Parting::Gone),
+            TalkStage::Asked => {
+                pass_behind(&self.stream);
                 Fate::Stays
             }
-            Stage::Answering { answer, .. } => {
-                pass_over(&self.stream);
+            TalkStage::Answering { answer, .. } => {
+                pass_behind(&self.stream);
                 write_answer(&self.stream, answer)
             }
         }
@@ -146,7 +144,7 @@ impl Talk {
 #[derive(Drop)]
 pub(crate) struct Talks {
     alloc: Global,
-    list: Vec<Talk>,
+    list: Vec<ControlTalk>,
     accepted: u64,
     most_line: usize,
     times: Times,
@@ -269,11 +267,11 @@ impl Talks {
         stream: UnixStream,
         now: u64,
     ) -> Result<(), AllocError>
-        ensures { OnOk result ((talk : Talk) × (self.new.list.items ≡ self.old.list.items ++ talk ∷ [])
+        ensures { OnOk result ((talk : ControlTalk) × (self.new.list.items ≡ self.old.list.items ++ talk ∷ [])
             × IsAccepted number (after now self.old.times.line_ms) talk) }
     {
-        let stage = Stage::accepted(self.alloc, self.most_line, now, &self.times);
-        self.list.push(Talk {
+        let stage = TalkStage::accepted(self.alloc, self.most_line, now, &self.times);
+        self.list.push(ControlTalk {
             number,
             stage,
             stream,
@@ -346,7 +344,8 @@ impl Talks {
         let at = self.oldest_ready()?;
         let talk = &mut self.list[at];
         let number = talk.number;
-        let Stage::Ready { line, is_gone } = mem::replace(&mut talk.stage, Stage::Asked) else {
+        let TalkStage::Ready { line, is_gone } = mem::replace(&mut talk.stage, TalkStage::Asked)
+        else {
             return None;
         };
         if is_gone {
@@ -359,7 +358,7 @@ impl Talks {
     fn answer_at(&mut self, at: usize, octets: Vec<u8>)
         requires { at < vec_len self.old.list }
     {
-        self.list[at].stage = Stage::answered(octets);
+        self.list[at].stage = TalkStage::answered(octets);
         self.look_at(at, false);
     }
 

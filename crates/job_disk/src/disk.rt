@@ -2,10 +2,10 @@
 
 use crate::fault::DiskFault;
 use crate::listing::names_in;
-use crate::numbers::Numbers;
+use crate::numbers::FileNumbers;
 use crate::opening::OpenError;
-use crate::syncs::{Syncs, Told};
-use job_files::{FileName, JobEnd, JobFiles, Stage, WaitingJobs};
+use crate::syncs::{SyncTold, Syncs};
+use job_files::{FileStage, JobEnd, JobFiles, KeptFileName, WaitingJobs};
 use server_folder::FILE_MODE;
 use std::alloc::{AllocError, Global};
 use std::fs::{File, Files, OpenOptions};
@@ -15,8 +15,8 @@ use std::{fs, io};
 
 /// What is known of the folder's jobs.
 #[derive(Drop)]
-struct Standing {
-    numbers: Numbers,
+struct FolderJobs {
+    numbers: FileNumbers,
     files: JobFiles,
     waiting: WaitingJobs,
     failed: usize,
@@ -31,7 +31,7 @@ pub struct Disk<'a, R> {
     folder: File,
     // Held while the server has the folder.
     _lock: File,
-    standing: Mutex<Standing>,
+    standing: Mutex<FolderJobs>,
     syncs: Mutex<Syncs>,
     ended: Condvar,
 }
@@ -51,13 +51,13 @@ impl<'a, R: Files<File = File> + Wait> Disk<'a, R> {
     ) -> Result<Disk<'a, R>, OpenError> {
         let lock = server_folder::take(rt, alloc, path)?;
         let names = names_in(rt, alloc, path)?;
-        let standing = Standing {
-            numbers: Numbers::behind(names.as_slice()),
+        let standing = FolderJobs {
+            numbers: FileNumbers::behind(names.as_slice()),
             files: JobFiles::with_room(alloc, jobs).map_err(io::Error::from)?,
             waiting: WaitingJobs::new(alloc),
             failed: names
                 .iter()
-                .filter(|name| name.stage == Stage::Failed)
+                .filter(|name| name.stage == FileStage::Failed)
                 .count(),
         };
         Ok(Disk {
@@ -73,7 +73,7 @@ impl<'a, R: Files<File = File> + Wait> Disk<'a, R> {
     }
 
     /// What a call at this file failed by.
-    pub(crate) fn fault_at(&self, name: FileName, cause: io::Error) -> DiskFault<'a> {
+    pub(crate) fn fault_at(&self, name: KeptFileName, cause: io::Error) -> DiskFault<'a> {
         DiskFault::new(self.path, Some(name), cause)
     }
 
@@ -88,13 +88,13 @@ impl<'a, R: Files<File = File> + Wait> Disk<'a, R> {
         number.ok_or(io::Error::new(io::ErrorKind::Other, "no number is left"))
     }
 
-    fn path_of(&self, name: FileName) -> Result<String, AllocError> {
+    fn path_of(&self, name: KeptFileName) -> Result<String, AllocError> {
         let path = self.path;
         format!(in self.alloc; "{path}/{name}")
     }
 
     /// Makes a file, to which octets are appended.
-    pub(crate) fn create(&self, name: FileName) -> io::Result<File> {
+    pub(crate) fn create(&self, name: KeptFileName) -> io::Result<File> {
         let path = self.path_of(name)?;
         let mut options = OpenOptions::new();
         options.append(true).create_new(true).mode(FILE_MODE);
@@ -102,29 +102,29 @@ impl<'a, R: Files<File = File> + Wait> Disk<'a, R> {
     }
 
     /// Opens a file to be read from its head on.
-    pub(crate) fn open_file(&self, name: FileName) -> io::Result<File> {
+    pub(crate) fn open_file(&self, name: KeptFileName) -> io::Result<File> {
         let path = self.path_of(name)?;
         File::open(self.rt, path.as_str())
     }
 
     /// Removes a file.
-    pub(crate) fn remove(&self, name: FileName) -> io::Result<()> {
+    pub(crate) fn remove(&self, name: KeptFileName) -> io::Result<()> {
         let path = self.path_of(name)?;
         fs::remove_file(self.rt, path.as_str())
     }
 
     /// Gives a file the name of another stage.
-    pub(crate) fn rename(&self, name: FileName, stage: Stage) -> io::Result<()> {
+    pub(crate) fn rename(&self, name: KeptFileName, stage: FileStage) -> io::Result<()> {
         let number = name.number;
         let (from, to) = (
             self.path_of(name)?,
-            self.path_of(FileName { number, stage })?,
+            self.path_of(KeptFileName { number, stage })?,
         );
         fs::rename(self.rt, from.as_str(), to.as_str())
     }
 
     /// The names of the jobs' files, in any order.
-    pub(crate) fn names(&self) -> io::Result<Vec<FileName>> {
+    pub(crate) fn names(&self) -> io::Result<Vec<KeptFileName>> {
         names_in(self.rt, self.alloc, self.path)
     }
 
@@ -135,10 +135,10 @@ impl<'a, R: Files<File = File> + Wait> Disk<'a, R> {
         let wanted = syncs.wanted();
         for _ in 0..u64::MAX {
             match syncs.told(wanted) {
-                Told::Ended => return Ok(()),
-                Told::Failed(cause) => return Err(cause),
-                Told::Wait => syncs = self.ended.wait(self.rt, syncs),
-                Told::Lead => {
+                SyncTold::Ended => return Ok(()),
+                SyncTold::Failed(cause) => return Err(cause),
+                SyncTold::Wait => syncs = self.ended.wait(self.rt, syncs),
+                SyncTold::Lead => {
                     let number = syncs.begin();
                     drop(syncs);
                     let answer = self.folder.sync_all();
@@ -153,11 +153,11 @@ impl<'a, R: Files<File = File> + Wait> Disk<'a, R> {
 
     /// Does with the file of a job what its end asks for.
     fn act(&self, number: u64, end: JobEnd) -> Result<(), DiskFault<'a>> {
-        let stage = Stage::Whole;
-        let name = FileName { number, stage };
+        let stage = FileStage::Whole;
+        let name = KeptFileName { number, stage };
         let done = match end {
             JobEnd::Done | JobEnd::Removed => self.remove(name),
-            JobEnd::Failed => self.rename(name, Stage::Failed),
+            JobEnd::Failed => self.rename(name, FileStage::Failed),
         };
         if let Err(cause) = done {
             return Err(self.fault_at(name, cause));
@@ -201,9 +201,9 @@ impl<'a, R: Files<File = File> + Wait> Disk<'a, R> {
     ///
     /// An error where there is no such file, or it can't be renamed, or the folder can't be synced.
     pub fn resend(&self, number: u64) -> Result<(), DiskFault<'a>> {
-        let stage = Stage::Failed;
-        let name = FileName { number, stage };
-        if let Err(cause) = self.rename(name, Stage::Whole) {
+        let stage = FileStage::Failed;
+        let name = KeptFileName { number, stage };
+        if let Err(cause) = self.rename(name, FileStage::Whole) {
             return Err(self.fault_at(name, cause));
         }
         {

@@ -1,6 +1,6 @@
 //! Why a call of the folder failed.
 
-use job_files::FileName;
+use job_files::KeptFileName;
 use std::error::Error;
 use std::fmt::{Debug, Display, Formatter, Write};
 use std::{fmt, io};
@@ -9,14 +9,18 @@ use std::{fmt, io};
 #[derive(Clone, Copy)]
 pub struct DiskFault<'a> {
     folder: &'a str,
-    name: Option<FileName>,
+    name: Option<KeptFileName>,
     /// What the system says of it.
     pub cause: io::Error,
 }
 
 impl<'a> DiskFault<'a> {
     /// It failed at a file of this folder, or where none is named at the folder.
-    pub(crate) fn new(folder: &'a str, name: Option<FileName>, cause: io::Error) -> DiskFault<'a> {
+    pub(crate) fn new(
+        folder: &'a str,
+        name: Option<KeptFileName>,
+        cause: io::Error,
+    ) -> DiskFault<'a> {
         DiskFault {
             folder,
             name,

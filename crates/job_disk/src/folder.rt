@@ -5,7 +5,7 @@ ghost use Rattle.kept_jobs.specs.Folder.{HasCause};
 
 use crate::disk::Disk;
 use crate::fault::DiskFault;
-use job_files::{FileName, Stage};
+use job_files::{FileStage, KeptFileName};
 use kept_jobs::{Folder, KeepError};
 use std::fs::{File, Files};
 use std::io;
@@ -52,13 +52,17 @@ impl<'a, R: Files<File = File> + Wait> DiskFolder<'a, R> {
         self.fault.take()
     }
 
-    fn name(&self, stage: Stage) -> FileName {
+    fn name(&self, stage: FileStage) -> KeptFileName {
         let number = self.number;
-        FileName { number, stage }
+        KeptFileName { number, stage }
     }
 
     /// Fails where the call did that is at this file, or at the folder, and keeps why.
-    fn checked(&mut self, name: Option<FileName>, answer: io::Result<()>) -> Result<(), KeepError>
+    fn checked(
+        &mut self,
+        name: Option<KeptFileName>,
+        answer: io::Result<()>,
+    ) -> Result<(), KeepError>
         ensures cause { HasCause self.old.faults self.new.faults result }
         ensures told { OnErr result (IsSome self.new.fault) }
         ensures untold { OnOk result (self.new.fault ≡ self.old.fault) }
@@ -84,7 +88,7 @@ impl<'a, R: Files<File = File> + Wait> DiskFolder<'a, R> {
     {
         self.in_hand = InHand::Nothing;
         self.number = self.disk.number()?;
-        let file = self.disk.create(self.name(Stage::Temporary))?;
+        let file = self.disk.create(self.name(FileStage::Temporary))?;
         self.in_hand = InHand::Temporary(file);
         Ok(())
     }
@@ -111,7 +115,8 @@ impl<'a, R: Files<File = File> + Wait> DiskFolder<'a, R> {
         let InHand::Temporary(_) = &self.in_hand else {
             return Err(io::ErrorKind::NotFound.into());
         };
-        self.disk.rename(self.name(Stage::Temporary), Stage::Whole)?;
+        self.disk
+            .rename(self.name(FileStage::Temporary), FileStage::Whole)?;
         self.in_hand = InHand::Whole;
         Ok(())
     }
@@ -136,22 +141,22 @@ impl<R: Files<File = File> + Wait> Folder for DiskFolder<'_, R> {
 
     fn create(&mut self) -> Result<(), KeepError> {
         let answer = self.create_file();
-        self.checked(Some(self.name(Stage::Temporary)), answer)
+        self.checked(Some(self.name(FileStage::Temporary)), answer)
     }
 
     fn append(&mut self, octets: &[u8]) -> Result<(), KeepError> {
         let answer = self.append_octets(octets);
-        self.checked(Some(self.name(Stage::Temporary)), answer)
+        self.checked(Some(self.name(FileStage::Temporary)), answer)
     }
 
     fn sync(&mut self) -> Result<(), KeepError> {
         let answer = self.sync_file();
-        self.checked(Some(self.name(Stage::Temporary)), answer)
+        self.checked(Some(self.name(FileStage::Temporary)), answer)
     }
 
     fn publish(&mut self) -> Result<(), KeepError> {
         let answer = self.rename();
-        self.checked(Some(self.name(Stage::Temporary)), answer)
+        self.checked(Some(self.name(FileStage::Temporary)), answer)
     }
 
     fn sync_names(&mut self) -> Result<(), KeepError> {
@@ -172,8 +177,8 @@ impl<R: Files<File = File> + Wait> Folder for DiskFolder<'_, R> {
     fn discard(&mut self) {
         let stage = match &self.in_hand {
             InHand::Nothing => return,
-            InHand::Temporary(_) => Stage::Temporary,
-            InHand::Whole => Stage::Whole,
+            InHand::Temporary(_) => FileStage::Temporary,
+            InHand::Whole => FileStage::Whole,
         };
         self.in_hand = InHand::Nothing;
         let name = self.name(stage);

@@ -2,7 +2,7 @@
 
 use crate::listing::names_of;
 use crate::opening::OpenError;
-use job_files::{FileName, Stage};
+use job_files::{FileStage, KeptFileName};
 use std::alloc::Global;
 use std::fs::{File, Files};
 use std::io;
@@ -22,7 +22,7 @@ pub enum FolderState {
 }
 
 /// How many of these files are at a stage.
-fn count_at(names: &[FileName], stage: Stage) -> usize {
+fn count_at(names: &[KeptFileName], stage: FileStage) -> usize {
     names.iter().filter(|name| name.stage == stage).count()
 }
 
@@ -43,7 +43,7 @@ pub fn look<R: Files<File = File>>(
     };
     let names = names_of(alloc, octets.as_slice()).map_err(io::Error::from)?;
     Ok(FolderState::Present {
-        waiting: count_at(names.as_slice(), Stage::Whole),
-        failed: count_at(names.as_slice(), Stage::Failed),
+        waiting: count_at(names.as_slice(), FileStage::Whole),
+        failed: count_at(names.as_slice(), FileStage::Failed),
     })
 }

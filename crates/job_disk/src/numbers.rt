@@ -1,25 +1,25 @@
 //! The numbers of files.
 
 ghost use Rattle.std.specs.Prelude.{◌≡◌};
-ghost use Rattle.job_disk.specs.Numbers.{behind, greatest, next_behind};
+ghost use Rattle.job_disk.specs.FileNumbers.{behind, greatest, next_behind};
 
-use job_files::FileName;
+use job_files::KeptFileName;
 
 /// The number of the next file; None where all that 64 bits have room for are used up.
 #[derive(Clone, Copy)]
-pub(crate) struct Numbers {
+pub(crate) struct FileNumbers {
     next: Option<u64>,
 }
 
-impl Numbers {
+impl FileNumbers {
     /// The first one behind those of these files is the next. 1 where there is none.
-    pub(crate) fn behind(names: &[FileName]) -> Numbers
+    pub(crate) fn behind(names: &[KeptFileName]) -> FileNumbers
         ensures { result.next ≡ behind (greatest names.now) }
     {
         let greatest = names
             .iter()
             .fold(0u64, |so_far, name| so_far.max(name.number));
-        Numbers {
+        FileNumbers {
             next: greatest.checked_add(1),
         }
     }

@@ -2,7 +2,7 @@
 
 use crate::disk::Disk;
 use crate::fault::DiskFault;
-use job_files::{FileName, Stage};
+use job_files::{FileStage, KeptFileName};
 use std::alloc::Global;
 use std::fs::{File, Files};
 use std::sync::Wait;
@@ -20,7 +20,7 @@ impl<'a, R: Files<File = File> + Wait> DiskStore<'a, R> {
     }
 
     /// The numbers of the files of a stage.
-    fn at_stage(&self, alloc: Global, stage: Stage) -> Result<Vec<u64>, DiskFault<'a>> {
+    fn at_stage(&self, alloc: Global, stage: FileStage) -> Result<Vec<u64>, DiskFault<'a>> {
         let names = self.disk.names().map_err(|cause| self.disk.fault(cause))?;
         let numbers = names
             .iter()
@@ -32,18 +32,18 @@ impl<'a, R: Files<File = File> + Wait> DiskStore<'a, R> {
 
     /// The numbers of the whole files, in any order. An error where the folder can't be read, or memory is refused.
     pub fn names(&self, alloc: Global) -> Result<Vec<u64>, DiskFault<'a>> {
-        self.at_stage(alloc, Stage::Whole)
+        self.at_stage(alloc, FileStage::Whole)
     }
 
     /// The numbers of the files of jobs that failed, in any order. An error as for `names`.
     pub fn failed(&self, alloc: Global) -> Result<Vec<u64>, DiskFault<'a>> {
-        self.at_stage(alloc, Stage::Failed)
+        self.at_stage(alloc, FileStage::Failed)
     }
 
     /// The whole file of this number, to be read from its head on. An error where it can't be opened.
     pub fn open_job(&self, number: u64) -> Result<File, DiskFault<'a>> {
-        let stage = Stage::Whole;
-        let name = FileName { number, stage };
+        let stage = FileStage::Whole;
+        let name = KeptFileName { number, stage };
         self.disk
             .open_file(name)
             .map_err(|cause| self.disk.fault_at(name, cause))
@@ -53,7 +53,7 @@ impl<'a, R: Files<File = File> + Wait> DiskStore<'a, R> {
     pub fn clear(&self) -> Result<(), DiskFault<'a>> {
         let names = self.disk.names().map_err(|cause| self.disk.fault(cause))?;
         for name in &names {
-            if name.stage == Stage::Temporary {
+            if name.stage == FileStage::Temporary {
                 self.disk
                     .remove(*name)
                     .map_err(|cause| self.disk.fault_at(*name, cause))?;

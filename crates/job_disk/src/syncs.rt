@@ -23,7 +23,7 @@ pub(crate) struct Syncs {
 
 /// What a session is told of the sync that it waits for.
 #[derive(Clone, Copy)]
-pub(crate) enum Told {
+pub(crate) enum SyncTold {
     /// Its names are on the disk.
     Ended,
     /// They may not be.
@@ -59,21 +59,25 @@ impl Syncs {
 
     /// What a session is told that waits for this sync or a later one. One that failed isn't made up for by a later one that went
     /// well: the system tells an error once.
-    pub(crate) fn told(&self, wanted: u64) -> Told
+    pub(crate) fn told(&self, wanted: u64) -> SyncTold
         ensures failed { IsFailed result ↔ (wanted ≤ self.now.failed) }
-        ensures ended { (result ≡ Told.Ended)
+        ensures ended { (result ≡ SyncTold.Ended)
             ↔ ((self.now.failed < wanted) × (wanted ≤ self.now.ended)) }
-        ensures lead { (result ≡ Told.Lead)
+        ensures lead { (result ≡ SyncTold.Lead)
             ↔ ((self.now.failed < wanted) × (self.now.ended < wanted) × (self.now.going ≡ false)) }
     {
         if self.failed >= wanted {
             let cause = self.cause.unwrap_or(io::Error::from(io::ErrorKind::Other));
-            return Told::Failed(cause);
+            return SyncTold::Failed(cause);
         }
         if self.ended >= wanted {
-            return Told::Ended;
+            return SyncTold::Ended;
         }
-        if self.going { Told::Wait } else { Told::Lead }
+        if self.going {
+            SyncTold::Wait
+        } else {
+            SyncTold::Lead
+        }
     }
 
     /// A sync begins. Answers its number.

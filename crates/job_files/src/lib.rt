@@ -6,6 +6,6 @@ mod names;
 mod table;
 mod waiting;
 
-pub use names::{FileName, Stage};
+pub use names::{FileStage, KeptFileName};
 pub use table::{JobEnd, JobFiles};
 pub use waiting::WaitingJobs;

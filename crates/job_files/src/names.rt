@@ -9,7 +9,7 @@ use std::fmt::{Display, Formatter, Write};
 
 /// How far the job of a file is.
 #[derive(Clone, Copy, Debug, PartialEq, Eq)]
-pub enum Stage {
+pub enum FileStage {
     /// It was coming when its session ended, or is coming still: nobody was told that it is here.
     Temporary,
     /// It is whole, and is to be printed.
@@ -20,27 +20,27 @@ pub enum Stage {
 
 /// The name of a job's file: `N.tmp`, `N.job` or `N.failed`, with N in decimal digits that begin with 0 only where that is all.
 #[derive(Clone, Copy, Debug, PartialEq, Eq)]
-pub struct FileName {
+pub struct KeptFileName {
     /// The folder's own number of the job.
     pub number: u64,
     /// How far the job is.
-    pub stage: Stage,
+    pub stage: FileStage,
 }
 
-impl Stage {
+impl FileStage {
     /// What a name ends with.
     fn word(self) -> &'static str
         ensures { result.now ≡ stage_word self }
     {
         match self {
-            Stage::Temporary => ".tmp",
-            Stage::Whole => ".job",
-            Stage::Failed => ".failed",
+            FileStage::Temporary => ".tmp",
+            FileStage::Whole => ".job",
+            FileStage::Failed => ".failed",
         }
     }
 }
 
-impl Display for FileName {
+impl Display for KeptFileName {
     ghost use Rattle.std.specs.Prelude.{Some};
 
     ghost output = { λ name. Some (written name) };
@@ -58,23 +58,23 @@ fn before<'a>(octets: &'a [u8], word: &[u8]) -> Option<&'a [u8]>
     octets.strip_suffix(word)
 }
 
-impl FileName {
+impl KeptFileName {
     /// The name of this stage that these octets are.
-    fn at_stage(octets: &[u8], stage: Stage) -> Option<FileName>
+    fn at_stage(octets: &[u8], stage: FileStage) -> Option<KeptFileName>
         ensures { MatchOption result (IsNoneOf stage octets.now)
             (λ name. octets.now ≡ written name) }
     {
         let digits = before(octets, stage.word().as_bytes())?;
         let number = read_decimal(digits)?;
-        Some(FileName { number, stage })
+        Some(KeptFileName { number, stage })
     }
 
     /// The name that these octets are. None where they are that of no job's file.
-    pub fn parse(octets: &[u8]) -> Option<FileName>
+    pub fn parse(octets: &[u8]) -> Option<KeptFileName>
         ensures { MatchOption result (IsNoName octets.now) (λ name. octets.now ≡ written name) }
     {
-        FileName::at_stage(octets, Stage::Whole)
-            .or(FileName::at_stage(octets, Stage::Temporary))
-            .or(FileName::at_stage(octets, Stage::Failed))
+        KeptFileName::at_stage(octets, FileStage::Whole)
+            .or(KeptFileName::at_stage(octets, FileStage::Temporary))
+            .or(KeptFileName::at_stage(octets, FileStage::Failed))
     }
 }

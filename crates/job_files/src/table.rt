@@ -19,7 +19,7 @@ pub enum JobEnd {
 
 /// What is known of a job.
 #[derive(Clone, Copy, Debug, PartialEq, Eq)]
-pub(crate) enum Entry {
+pub(crate) enum JobEntry {
     /// The number of its file. It hasn't ended.
     File(u64),
     /// How it ended. Its file isn't known yet.
@@ -32,7 +32,7 @@ pub(crate) enum Entry {
 /// comes second learns what to do with the file. Each job that is accepted whole is passed on once and ends once at most.
 #[derive(Drop)]
 pub struct JobFiles {
-    entries: HashMap<u64, Entry>,
+    entries: HashMap<u64, JobEntry>,
 }
 
 impl JobFiles {
@@ -58,11 +58,11 @@ impl JobFiles {
         ensures succeeds { 0 < room_of self.old → IsOk result }
         ensures room { room_of self.old ≤ room_of self.new + 1 }
     {
-        if let Some(Entry::Ended(end)) = self.entries.get(&job).copied() {
+        if let Some(JobEntry::Ended(end)) = self.entries.get(&job).copied() {
             self.entries.remove(&job);
             return Ok(Some(end));
         }
-        self.entries.insert(job, Entry::File(file))?;
+        self.entries.insert(job, JobEntry::File(file))?;
         Ok(None)
     }
 
@@ -78,11 +78,11 @@ impl JobFiles {
         ensures succeeds { 0 < room_of self.old → IsOk result }
         ensures room { room_of self.old ≤ room_of self.new + 1 }
     {
-        if let Some(Entry::File(file)) = self.entries.get(&job).copied() {
+        if let Some(JobEntry::File(file)) = self.entries.get(&job).copied() {
             self.entries.remove(&job);
             return Ok(Some(file));
         }
-        self.entries.insert(job, Entry::Ended(end))?;
+        self.entries.insert(job, JobEntry::Ended(end))?;
         Ok(None)
     }
 }

@@ -15,7 +15,7 @@ use Rattle.job_streams.proofs.Streams.{stream_control, stream_end, stream_file, 
 use Rattle.job_hand.specs.Known.{Knows}
 use Rattle.job_hand.specs.declared.hand.Hand.{Hand}
 use Rattle.job_hand.specs.declared.cause.Cause.{Cause}
-use Rattle.job_hand.specs.declared.hand.Stage.TheVariants as stage
+use Rattle.job_hand.specs.declared.hand.HandStage.TheVariants as stage
 use Rattle.job_hand.specs.Hand.{Telling, Leaving, Stands, Holds, Follows, FollowsAs, IsOfWhole, MayLeave}
 
 -- what is so at Ok is so where it is Ok

@@ -6,8 +6,8 @@ use Rattle.kept_jobs.specs.Folder.{IsSeen, SamePassed, Seen}
 use Rattle.kept_jobs.specs.Kept.{IsInHand, IsKept, Passes}
 use Rattle.job_streams.specs.Stream.{Coming, IsFit, is_whole, stream}
 use Rattle.job_hand.specs.Known.{Knows}
-use Rattle.job_hand.specs.declared.hand.Stage.{Stage}
-use Rattle.job_hand.specs.declared.hand.Stage.TheVariants as stage
+use Rattle.job_hand.specs.declared.hand.HandStage.{HandStage}
+use Rattle.job_hand.specs.declared.hand.HandStage.TheVariants as stage
 use Rattle.job_hand.specs.declared.hand.Hand.{Hand}
 use Rattle.job_hand.specs.declared.cause.Cause.{Cause}
 use Rattle.job_hand.specs.declared.cause.Cause.TheVariants as cause
@@ -35,7 +35,7 @@ module _ {F : Type 0} (seen : Telling F) (may_leave : Leaving F) where
     pub whole : is_whole job ≡ true
     pub kept : IsKept (seen hand.folder) (may_leave hand.folder) (stream job)
 
-  abbrev pub FollowsAs : Stage → Hand F → Option Coming → Type 0
+  abbrev pub FollowsAs : HandStage → Hand F → Option Coming → Type 0
   FollowsAs stage.Idle hand job = job ≡ None
   FollowsAs stage.Coming hand job = (j : Coming) × (job ≡ Some j) × Stands hand j
   FollowsAs stage.Kept hand job = (j : Coming) × (job ≡ Some j) × Holds hand j

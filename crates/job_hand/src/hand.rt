@@ -14,7 +14,7 @@ ghost use Rattle.job_streams.specs.Coming.{new_job, with_control, with_end, with
 ghost use Rattle.job_hand.specs.Known.{Knows};
 ghost use Rattle.job_hand.specs.Hand.{Blames, Follows, HasFailed, Holds, IsDecided, MayLeave, Settles, Stands, at_job, settled};
 ghost use Rattle.job_hand.specs.declared.cause.Cause.{Cause};
-ghost use Rattle.job_hand.specs.declared.hand.Stage.TheVariants as stage;
+ghost use Rattle.job_hand.specs.declared.hand.HandStage.TheVariants as stage;
 
 use crate::cause::Cause;
 use crate::known::Known;
@@ -39,7 +39,7 @@ use std::alloc::Global;
 /// From each stage `begin` leads to `Coming`, or to `Broken` where the new job can't be kept; `fail` leads to `Broken`, and
 /// `let_go` to `Idle`. From `Broken` only these three lead on.
 #[derive(Clone, Copy, Debug, PartialEq, Eq)]
-pub enum Stage {
+pub enum HandStage {
     /// None is in hand.
     Idle,
     /// Its octets so far are in the folder.
@@ -58,7 +58,7 @@ pub struct Hand<F: Folder> {
     /// The session's hand at the folder.
     pub folder: F,
     /// How far the job has come.
-    pub stage: Stage,
+    pub stage: HandStage,
     /// What is known of it.
     pub known: Known,
 }
@@ -113,7 +113,7 @@ impl<F: Folder> Hand<F> {
         Hand {
             alloc,
             folder,
-            stage: Stage::Idle,
+            stage: HandStage::Idle,
             known: Known::new(alloc),
         }
     }
@@ -147,8 +147,8 @@ impl<F: Folder> Hand<F> {
     {
         self.known = Known::new(self.alloc);
         self.stage = match self.start(sender, queue) {
-            Ok(()) => Stage::Coming,
-            Err(cause) => Stage::Broken(cause),
+            Ok(()) => HandStage::Coming,
+            Err(cause) => HandStage::Broken(cause),
         };
     }
 
@@ -178,14 +178,14 @@ impl<F: Folder> Hand<F> {
         ensures passed { SamePassed (F.seen self.old.folder) (F.seen self.new.folder) }
     {
         match self.stage {
-            Stage::Idle => {}
-            Stage::Coming => {
+            HandStage::Idle => {}
+            HandStage::Coming => {
                 if let Err(cause) = self.announce(name, count) {
-                    self.stage = Stage::Broken(cause);
+                    self.stage = HandStage::Broken(cause);
                 }
             }
-            Stage::Kept => self.stage = Stage::Broken(Cause::Unfit),
-            Stage::Broken(_) => {}
+            HandStage::Kept => self.stage = HandStage::Broken(Cause::Unfit),
+            HandStage::Broken(_) => {}
         }
     }
 
@@ -212,14 +212,14 @@ impl<F: Folder> Hand<F> {
         ensures passed { SamePassed (F.seen self.old.folder) (F.seen self.new.folder) }
     {
         match self.stage {
-            Stage::Idle => {}
-            Stage::Coming => {
+            HandStage::Idle => {}
+            HandStage::Coming => {
                 if let Err(cause) = self.put_octets(octets) {
-                    self.stage = Stage::Broken(cause);
+                    self.stage = HandStage::Broken(cause);
                 }
             }
-            Stage::Kept => self.stage = Stage::Broken(Cause::Unfit),
-            Stage::Broken(_) => {}
+            HandStage::Kept => self.stage = HandStage::Broken(Cause::Unfit),
+            HandStage::Broken(_) => {}
         }
     }
 
@@ -246,14 +246,14 @@ impl<F: Folder> Hand<F> {
         ensures passed { SamePassed (F.seen self.old.folder) (F.seen self.new.folder) }
     {
         match self.stage {
-            Stage::Idle => {}
-            Stage::Coming => {
+            HandStage::Idle => {}
+            HandStage::Coming => {
                 if let Err(cause) = self.close() {
-                    self.stage = Stage::Broken(cause);
+                    self.stage = HandStage::Broken(cause);
                 }
             }
-            Stage::Kept => self.stage = Stage::Broken(Cause::Unfit),
-            Stage::Broken(_) => {}
+            HandStage::Kept => self.stage = HandStage::Broken(Cause::Unfit),
+            HandStage::Broken(_) => {}
         }
     }
 
@@ -293,14 +293,14 @@ impl<F: Folder> Hand<F> {
         ensures passed { SamePassed (F.seen self.old.folder) (F.seen self.new.folder) }
     {
         match self.stage {
-            Stage::Idle => {}
-            Stage::Coming => {
+            HandStage::Idle => {}
+            HandStage::Coming => {
                 if let Err(cause) = self.put_control(control) {
-                    self.stage = Stage::Broken(cause);
+                    self.stage = HandStage::Broken(cause);
                 }
             }
-            Stage::Kept => self.stage = Stage::Broken(Cause::Unfit),
-            Stage::Broken(_) => {}
+            HandStage::Kept => self.stage = HandStage::Broken(Cause::Unfit),
+            HandStage::Broken(_) => {}
         }
     }
 
@@ -315,15 +315,15 @@ impl<F: Folder> Hand<F> {
             → MayLeave F.seen F.may_leave self.old.folder self.new.folder job }
         ensures passed { SamePassed (F.seen self.old.folder) (F.seen self.new.folder) }
     {
-        let Stage::Coming = self.stage else {
+        let HandStage::Coming = self.stage else {
             return;
         };
         if !self.known.is_whole() {
             return;
         }
         self.stage = match keep(&mut self.folder) {
-            Ok(()) => Stage::Kept,
-            Err(error) => Stage::Broken(Cause::Folder(error)),
+            Ok(()) => HandStage::Kept,
+            Err(error) => HandStage::Broken(Cause::Folder(error)),
         };
     }
 
@@ -336,7 +336,7 @@ impl<F: Folder> Hand<F> {
         ensures idle { self.new.stage ≡ stage.Idle }
     {
         self.folder.pass(number);
-        self.stage = Stage::Idle;
+        self.stage = HandStage::Idle;
     }
 
     /// Passes a job on that was kept. The number is that of the job.
@@ -350,7 +350,7 @@ impl<F: Folder> Hand<F> {
             → Settles number job (F.seen self.old.folder) (F.seen self.new.folder) }
         ensures crash { OrNone (F.may_leave self.old.folder) (F.may_leave self.new.folder) }
     {
-        if let Stage::Kept = self.stage {
+        if let HandStage::Kept = self.stage {
             self.pass(number);
         }
     }
@@ -362,7 +362,7 @@ impl<F: Folder> Hand<F> {
         ensures passed { SamePassed (F.seen self.old.folder) (F.seen self.new.folder) }
     {
         self.folder.discard();
-        self.stage = Stage::Broken(cause);
+        self.stage = HandStage::Broken(cause);
     }
 
     /// The job in hand has ended before it was whole.
@@ -372,6 +372,6 @@ impl<F: Folder> Hand<F> {
         ensures passed { SamePassed (F.seen self.old.folder) (F.seen self.new.folder) }
     {
         self.folder.discard();
-        self.stage = Stage::Idle;
+        self.stage = HandStage::Idle;
     }
 }

@@ -6,6 +6,6 @@ mod hand;
 mod known;
 
 pub use cause::Cause;
-pub use hand::{Hand, Stage};
+pub use hand::{Hand, HandStage};
 pub use kept_jobs::{Folder, KeepError};
 pub use known::{Known, KnownPart};

@@ -9,5 +9,5 @@ pub use heading::read_sender;
 pub use job_heads::HeadFault;
 pub use kept_jobs::KeepError;
 pub use lpd_commands::{OctetFault, OctetRead};
-pub use recovering::{Numbers, recover};
+pub use recovering::{FoundJobs, recover};
 pub use store::{Names, Store};

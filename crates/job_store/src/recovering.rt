@@ -12,7 +12,7 @@ use std::alloc::Global;
 
 /// The jobs that were found, and where new ones go on.
 #[derive(Drop)]
-pub struct Numbers {
+pub struct FoundJobs {
     /// The numbers of the whole files, by rising number.
     pub jobs: Vec<u64>,
     /// The numbers of the files of failed jobs, in any order.
@@ -23,7 +23,7 @@ pub struct Numbers {
 
 /// Finds the jobs of a folder that a crash may have left, takes the temporary files away, and answers a number above all that are there. It
 /// may crash too.
-pub fn recover<S: Store>(alloc: Global, store: &mut S) -> Result<Numbers, KeepError>
+pub fn recover<S: Store>(alloc: Global, store: &mut S) -> Result<FoundJobs, KeepError>
     // The octets of each whole file are on the disk. A name may still be missing there, where only the process ended.
     requires contents { ContentsAreThere S.files store.old (S.may_leave store.old) }
 
@@ -47,7 +47,7 @@ pub fn recover<S: Store>(alloc: Global, store: &mut S) -> Result<Numbers, KeepEr
     let Names { mut jobs, failed } = store.names(alloc)?;
     jobs.sort_unstable();
     let next = number_above_both(&jobs, &failed);
-    Ok(Numbers { jobs, failed, next })
+    Ok(FoundJobs { jobs, failed, next })
 }
 
 /// A number above all of these, not below the first. None where one of them is the greatest that there is.

@@ -8,7 +8,7 @@ ghost use Rattle.job_store.specs.Kept.{ContentsAreThere, LeavesNoMore};
 ghost use Rattle.kept_recovery.specs.Feeding.{Feeds, FeedsAll};
 
 use job_heads::HeadFault;
-use job_store::{Numbers, Store, read_sender, recover};
+use job_store::{FoundJobs, Store, read_sender, recover};
 use kept_jobs::KeepError;
 use request_session::{OctetFault, OctetWrite, Requests, SessionEnd, serve_by};
 use std::alloc::{AllocError, Global};
@@ -100,7 +100,7 @@ pub fn feed<S: Store, Q: Requests, R: Wait>(
 #[derive(Drop)]
 pub struct Recovered {
     /// The numbers that were found.
-    pub numbers: Numbers,
+    pub numbers: FoundJobs,
     /// What came of each job, in their order.
     pub fed: Vec<Fed>,
 }

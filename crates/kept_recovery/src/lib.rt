@@ -5,6 +5,6 @@ mod feeding;
 
 pub use feeding::{Fed, Recovered, feed, feed_one, recover_all};
 pub use job_heads::HeadFault;
-pub use job_store::{Numbers, Store};
+pub use job_store::{FoundJobs, Store};
 pub use kept_jobs::KeepError;
 pub use request_session::{Requests, SessionEnd};

@@ -16,7 +16,7 @@ use Rattle.kept_jobs.specs.Folder.{IsSeen, Leads, OrNone, SamePassed, Seen}
 use Rattle.job_streams.specs.Stream.{Coming, is_whole, stream}
 use Rattle.job_streams.specs.Coming.{with_control, with_end}
 use Rattle.job_hand.specs.declared.cause.Cause.{Cause}
-use Rattle.job_hand.specs.declared.hand.Stage.TheVariants as stage
+use Rattle.job_hand.specs.declared.hand.HandStage.TheVariants as stage
 use Rattle.job_hand.specs.Hand.{Follows, IsOfWhole, Leaving, MayLeave, Settles, SettlesAs, Telling, at_job, settled}
 use Rattle.job_hand.proofs.Standing.{follows_broken}
 use Rattle.kept_requests.specs.Work.{PassesOn, with_last, work_after}

@@ -4,7 +4,7 @@ ghost use Rattle.std.specs.Prelude.{◌≡◌, ℕ, None, Some};
 ghost use Rattle.receiver.specs.Script.{AbortJob};
 ghost use Rattle.spool_requests.specs.declared.answer.Answer.{Answer};
 ghost use Rattle.kept_jobs.specs.Folder.{OrNone, SamePassed};
-ghost use Rattle.job_hand.specs.declared.hand.Stage.TheVariants as stage;
+ghost use Rattle.job_hand.specs.declared.hand.HandStage.TheVariants as stage;
 ghost use Rattle.job_hand.specs.Hand.{Follows};
 
 use job_hand::{Cause, Folder, Hand};

@@ -6,6 +6,6 @@ mod keeping;
 mod requests;
 mod serving;
 
-pub use job_hand::{Cause, Folder, Hand, KeepError, Stage};
+pub use job_hand::{Cause, Folder, Hand, HandStage, KeepError};
 pub use keeping::Keeping;
 pub use serving::serve_kept;

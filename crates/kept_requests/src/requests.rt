@@ -2,7 +2,7 @@
 
 use crate::keeping::Keeping;
 use control_file::Control;
-use job_hand::{Cause, Folder, Stage};
+use job_hand::{Cause, Folder, HandStage};
 use lpd_values::{FileName, Octets, Refusal};
 use page_pool::{FilledPage, PageTicket};
 use request_calls::{Asked, Receipt, Requests, ReturnedControl, ReturnedPage, ReturnedTicket};
@@ -31,7 +31,7 @@ impl<Q: Requests, F: Folder> Requests for Keeping<Q, F> {
     }
 
     fn begin_file(&mut self, job: u64, name: FileName, count: u64) -> Result<(), Refusal> {
-        if let Stage::Broken(cause) = self.hand.stage {
+        if let HandStage::Broken(cause) = self.hand.stage {
             self.give_up(job, cause);
             return Err(Refusal::NotOpen);
         }
@@ -43,7 +43,7 @@ impl<Q: Requests, F: Folder> Requests for Keeping<Q, F> {
     }
 
     fn ask(&mut self, job: u64) -> Result<Asked, Refusal> {
-        if let Stage::Broken(cause) = self.hand.stage {
+        if let HandStage::Broken(cause) = self.hand.stage {
             self.give_up(job, cause);
             return Err(Refusal::NotOpen);
         }
@@ -63,7 +63,7 @@ impl<Q: Requests, F: Folder> Requests for Keeping<Q, F> {
         self.hand.end_file();
         // A printer may end the job as soon as the spool below is told.
         self.hand.keep_whole();
-        if let Stage::Broken(cause) = self.hand.stage {
+        if let HandStage::Broken(cause) = self.hand.stage {
             self.give_up(job, cause);
             return Err(Refusal::NotOpen);
         }
@@ -80,7 +80,7 @@ impl<Q: Requests, F: Folder> Requests for Keeping<Q, F> {
         self.hand.control(&control);
         // A printer may end the job as soon as the spool below is told.
         self.hand.keep_whole();
-        if let Stage::Broken(cause) = self.hand.stage {
+        if let HandStage::Broken(cause) = self.hand.stage {
             self.give_up(job, cause);
             return Err(ReturnedControl {
                 control,

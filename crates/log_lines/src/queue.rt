@@ -16,7 +16,7 @@ use std::{fmt, mem};
 const LOOK_MS: u64 = 1_000;
 
 #[derive(Drop)]
-struct Shelf {
+struct WaitingLines {
     lines: VecDeque<String>,
     repeats: Repeats,
     dropped: u64,
@@ -24,7 +24,7 @@ struct Shelf {
     ended: bool,
 }
 
-impl Shelf {
+impl WaitingLines {
     /// Nothing is to be written.
     fn is_idle(&self) -> bool {
         self.lines.is_empty() && self.dropped == 0 && !self.ended
@@ -56,7 +56,7 @@ fn since_start<R: Clock>(rt: &R) -> Duration {
 pub struct LineQueue {
     most: usize,
     form: LogForm,
-    shelf: Mutex<Shelf>,
+    shelf: Mutex<WaitingLines>,
     came: Condvar,
     left: Condvar,
 }
@@ -67,7 +67,7 @@ impl LineQueue {
         LineQueue {
             most,
             form,
-            shelf: Mutex::new(Shelf {
+            shelf: Mutex::new(WaitingLines {
                 lines: VecDeque::new(alloc),
                 repeats: Repeats::new(alloc),
                 dropped: 0,

@@ -13,7 +13,7 @@ const COUNT_SECONDS: u64 = 60;
 
 /// A warning of a peer that was told.
 #[derive(Drop)]
-struct Row {
+struct ToldWarning {
     address: Ipv4Addr,
     why: String,
     /// When it was told.
@@ -47,7 +47,7 @@ impl fmt::Display for Repeated {
 /// The warnings of peers that were told in the last minute.
 #[derive(Drop)]
 pub(crate) struct Repeats {
-    rows: Vec<Row>,
+    rows: Vec<ToldWarning>,
 }
 
 /// The address of the peer that a warning is about, `A.B.C.D:PORT: WHY`, and what it says.
@@ -86,7 +86,7 @@ impl Repeats {
         }
         if self.rows.len() < MOST_ROWS {
             if let Ok(why) = String::from_str(alloc, why) {
-                let row = Row {
+                let row = ToldWarning {
                     address,
                     why,
                     since: now,
@@ -105,7 +105,7 @@ impl Repeats {
         for _ in 0..MOST_ROWS {
             let mut rows = self.rows.iter();
             let place = rows.position(|row| tells_all || now.saturating_sub(row.since) >= minute)?;
-            let Row {
+            let ToldWarning {
                 address,
                 why,
                 since,

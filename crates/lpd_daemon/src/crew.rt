@@ -4,32 +4,30 @@ ghost use Rattle.std.specs.Prelude.{◌≡◌};
 ghost use Rattle.std.specs.Thread.{IsSend};
 ghost use Rattle.server_house.specs.Lines.{TellsRotations};
 
-use crate::answering::Answering;
-use crate::feeding::Feeding;
-use crate::listening::{Gate, Porter, announce_all};
 use crate::printing::Printing;
-use crate::watching::watch;
 use log::Log;
 use lpd_commands::OctetWrite;
-use printer_devices::Opened;
+use printer_devices::OpenedPlace;
 use server_care::{Board, Care, Counter};
-use server_house::{Fault, House, Roles, Seats, serves_at};
-use shared_spool::{PrinterSeat, SessionSeat, SpoolLedger};
+use server_clients::{Answering, Feeding, Gate, Porter, announce_all, watch};
+use server_house::{
+    Host, House, HouseLedger, HouseSeat, PrintingSeat, Roles, Seats, ServerFault, serves_at,
+};
+use std::alloc::Global;
 use std::fs::{File, Files};
 use std::net::{Net, TcpListener, TcpStream};
 use std::rt::Clock;
 use std::sync::Wait;
-use std::sync::ledger::Ledger;
 use std::thread;
 use std::thread::{JoinHandle, Scope, SpawnError, Threads};
 
 /// Threads that were started, most of which give their seats back.
 #[derive(Drop)]
-struct Crew<E: SpoolLedger, K: Ledger, H: Ledger> {
-    answering: Vec<JoinHandle<SessionSeat<E, K, H>>>,
-    looking: Vec<JoinHandle<SessionSeat<E, K, H>>>,
-    printing: Vec<JoinHandle<PrinterSeat<E, K, H>>>,
-    steward: Option<JoinHandle<(SessionSeat<E, K, H>, Counter)>>,
+struct Crew<E: HouseLedger> {
+    answering: Vec<JoinHandle<HouseSeat<E>>>,
+    looking: Vec<JoinHandle<HouseSeat<E>>>,
+    printing: Vec<JoinHandle<PrintingSeat<E>>>,
+    steward: Option<JoinHandle<(HouseSeat<E>, Counter)>>,
     // Who needs no seat: the account's keeper, and who shows the status, where it is shown.
     seatless: Vec<JoinHandle<()>>,
     // Who writes the account's segments, where they become files.
@@ -45,7 +43,7 @@ pub(crate) struct Entrance {
     pub(crate) port: u16,
     pub(crate) gate: Gate,
     /// What the printers print to, by their numbers, from 1.
-    pub(crate) places: Vec<Opened>,
+    pub(crate) places: Vec<OpenedPlace>,
     pub(crate) counter: Counter,
     /// Where the status is asked for, if it is shown.
     pub(crate) board: Option<Board>,
@@ -53,8 +51,8 @@ pub(crate) struct Entrance {
 
 /// What comes back once all threads have ended: the seats, and what waits for the server's end.
 #[derive(Drop)]
-pub(crate) struct Returned<E: SpoolLedger, K: Ledger, H: Ledger> {
-    pub(crate) seats: Seats<E, K, H>,
+pub(crate) struct Returned<E: HouseLedger> {
+    pub(crate) seats: Seats<E>,
     pub(crate) counter: Option<Counter>,
 }
 
@@ -73,9 +71,38 @@ fn keep<T: Drop, F: Drop>(
     started.is_ok_and(|thread| threads.push(thread).is_ok())
 }
 
-impl<E: SpoolLedger + Send + Sync, K: Ledger + Send + Sync, H: Ledger + Send + Sync> Crew<E, K, H> {
-    /// Starts a thread for each role but the porter's, whose seat is answered too.
-    fn start<
+/// Closes the spool once nothing is left to do, or nothing is waited for any more: who looks after it or at it ends.
+fn close_spool<R: Clock + Log + Wait, E: HouseLedger>(
+    house: House<'_, '_, R, E>,
+    seat: &mut HouseSeat<E>,
+) {
+    let House { spool, hall } = house;
+    let care = Care { spool, hall };
+    care.wait_until_done();
+    care.tell_all_lost();
+    spool.close(hall.rt, seat);
+    hall.ending.close();
+    hall.oversight.wake_steward();
+    hall.close_shelf();
+    care.end_showing();
+}
+
+impl<E: HouseLedger + Send + Sync> Crew<E> {
+    /// No thread was started.
+    fn new(alloc: Global) -> Crew<E> {
+        Crew {
+            answering: Vec::new(alloc),
+            looking: Vec::new(alloc),
+            printing: Vec::new(alloc),
+            steward: None,
+            seatless: Vec::new(alloc),
+            archiving: Vec::new(alloc),
+            is_whole: true,
+        }
+    }
+
+    /// Starts a thread for each printer, which has what that prints to.
+    fn start_printers<
         's,
         R: Files<File = File>
             + Net<Listener = TcpListener, Stream = TcpStream>
@@ -85,61 +112,83 @@ impl<E: SpoolLedger + Send + Sync, K: Ledger + Send + Sync, H: Ledger + Send + S
             + Sync,
         N,
     >(
+        &mut self,
         scope: &Scope<'s, N>,
-        house: &'s House<'_, R, E, K, H>,
-        roles: Roles<E, K, H>,
-        places: Vec<Opened>,
-        counter: Counter,
-        board: Option<Board>,
-    ) -> (Crew<E, K, H>, SessionSeat<E, K, H>)
+        house: House<'s, '_, R, E>,
+        seats: Vec<PrintingSeat<E>>,
+        places: Vec<OpenedPlace>,
+    )
     where
         R::Dir: Send + Sync,
     {
-        let Roles {
-            porter,
-            watcher,
-            steward,
-            feeder,
-            sessions,
-            printers,
-        } = roles;
-        let alloc = house.alloc;
-        let mut crew = Crew {
-            answering: Vec::new(alloc),
-            looking: Vec::new(alloc),
-            printing: Vec::new(alloc),
-            steward: None,
-            seatless: Vec::new(alloc),
-            archiving: Vec::new(alloc),
-            is_whole: true,
-        };
-        for (seat, opened) in printers.into_iter().zip(places) {
+        for (seat, opened) in seats.into_iter().zip(places) {
             let thread = scope.spawn(move || Printing { house }.print_all(seat, opened));
-            crew.is_whole &= keep(&mut crew.printing, thread);
+            self.is_whole &= keep(&mut self.printing, thread);
         }
-        for seat in sessions {
+    }
+
+    /// Starts a thread for each session.
+    fn start_sessions<'s, R: Files<File = File> + Clock + Log + Wait + Sync, N>(
+        &mut self,
+        scope: &Scope<'s, N>,
+        house: House<'s, '_, R, E>,
+        seats: Vec<HouseSeat<E>>,
+    )
+    where
+        R::Dir: Send + Sync,
+    {
+        let House { spool, hall } = house;
+        for seat in seats {
             let serves = serves_at(seat.number());
-            let thread = scope.spawn(move || Answering { house }.answer_all(seat, serves));
-            crew.is_whole &= keep(&mut crew.answering, thread);
+            let thread = scope.spawn(move || Answering { spool, hall }.answer_all(seat, serves));
+            self.is_whole &= keep(&mut self.answering, thread);
         }
-        let thread = scope.spawn(move || Feeding { house }.feed_all(feeder));
-        crew.is_whole &= keep(&mut crew.looking, thread);
+    }
+
+    /// Starts the feeder, the watcher and the account's keeper, and where segments become files who writes these.
+    fn start_keepers<'s, R: Files<File = File> + Clock + Log + Wait + Sync, N>(
+        &mut self,
+        scope: &Scope<'s, N>,
+        house: House<'s, '_, R, E>,
+        feeder: HouseSeat<E>,
+        watcher: HouseSeat<E>,
+    )
+    where
+        R::Dir: Send + Sync,
+    {
+        let House { spool, hall } = house;
+        let thread = scope.spawn(move || Feeding { spool, hall }.feed_all(feeder));
+        self.is_whole &= keep(&mut self.looking, thread);
         let thread = scope.spawn(move || watch(house, watcher));
-        crew.is_whole &= keep(&mut crew.looking, thread);
+        self.is_whole &= keep(&mut self.looking, thread);
         let thread = scope.spawn(move || house.keep_account());
-        crew.is_whole &= keep(&mut crew.seatless, thread);
-        let thread = scope.spawn(move || Care { house }.look_after(steward, counter));
-        crew.steward = thread.ok();
-        crew.is_whole &= crew.steward.is_some();
+        self.is_whole &= keep(&mut self.seatless, thread);
+        if hall.archive.is_some() {
+            let thread = scope.spawn(move || hall.archive_all());
+            self.is_whole &= keep(&mut self.archiving, thread);
+        }
+    }
+
+    /// Starts the steward, and who shows the status where it is shown.
+    fn start_care<'s, R: Files<File = File> + Clock + Log + Wait + Sync, N>(
+        &mut self,
+        scope: &Scope<'s, N>,
+        house: House<'s, '_, R, E>,
+        steward: HouseSeat<E>,
+        reached: (Counter, Option<Board>),
+    )
+    where
+        R::Dir: Send + Sync,
+    {
+        let House { spool, hall } = house;
+        let (counter, board) = reached;
+        let thread = scope.spawn(move || Care { spool, hall }.look_after(steward, counter));
+        self.steward = thread.ok();
+        self.is_whole &= self.steward.is_some();
         if let Some(board) = board {
-            let thread = scope.spawn(move || Care { house }.show_all(board));
-            crew.is_whole &= keep(&mut crew.seatless, thread);
+            let thread = scope.spawn(move || Care { spool, hall }.show_all(board));
+            self.is_whole &= keep(&mut self.seatless, thread);
         }
-        if house.archive.is_some() {
-            let thread = scope.spawn(move || house.archive_all());
-            crew.is_whole &= keep(&mut crew.archiving, thread);
-        }
-        (crew, porter)
     }
 
     /// Joins the threads of sessions that have ended, closes the spool once nothing is left to do, or
@@ -147,9 +196,9 @@ impl<E: SpoolLedger + Send + Sync, K: Ledger + Send + Sync, H: Ledger + Send + S
     /// for it is refused.
     fn close<R: Clock + Log + Threads + Wait>(
         self,
-        house: &House<'_, R, E, K, H>,
-        seat: SessionSeat<E, K, H>,
-    ) -> Returned<E, K, H> {
+        house: House<'_, '_, R, E>,
+        seat: HouseSeat<E>,
+    ) -> Returned<E> {
         let Crew {
             answering,
             looking,
@@ -159,18 +208,12 @@ impl<E: SpoolLedger + Send + Sync, K: Ledger + Send + Sync, H: Ledger + Send + S
             archiving,
             ..
         } = self;
-        let (rt, alloc) = (house.rt, house.alloc);
+        let hall = house.hall;
+        let (rt, alloc) = (hall.rt, hall.alloc);
         let mut seat = seat;
         let (mut sessions, mut printers) = (Vec::new(alloc), Vec::new(alloc));
         join_all(rt, answering, &mut sessions);
-        let care = Care { house };
-        care.wait_until_done();
-        care.tell_all_lost();
-        house.spool.close(rt, &mut seat);
-        house.ending.close();
-        house.oversight.wake_steward();
-        house.close_shelf();
-        care.end_showing();
+        close_spool(house, &mut seat);
         for thread in seatless {
             thread.join(rt);
         }
@@ -184,7 +227,7 @@ impl<E: SpoolLedger + Send + Sync, K: Ledger + Send + Sync, H: Ledger + Send + S
             counter = Some(given_back);
         }
         // Nobody rotates the account any more.
-        house.end_archiving();
+        hall.end_archiving();
         for thread in archiving {
             thread.join(rt);
         }
@@ -203,23 +246,29 @@ fn work_in<
         + Threads
         + Wait
         + Sync,
-    E: SpoolLedger + Send + Sync,
-    K: Ledger + Send + Sync,
-    H: Ledger + Send + Sync,
+    E: HouseLedger + Send + Sync,
     N,
     W: OctetWrite,
 >(
-    house: &'s House<'_, R, E, K, H>,
+    house: House<'s, '_, R, E>,
     scope: &Scope<'s, N>,
-    roles: Roles<E, K, H>,
+    roles: Roles<E>,
     entrance: Entrance,
     output: &mut W,
-) -> (Result<(), Fault>, Returned<E, K, H>)
+) -> (Result<(), ServerFault>, Returned<E>)
 where
     R::Dir: Send + Sync,
     ensures { TellsRotations (W.written output.old) (W.faults output.old)
         (W.written output.new) (W.faults output.new) result.0 }
 {
+    let Roles {
+        porter,
+        watcher,
+        steward,
+        feeder,
+        sessions,
+        printers,
+    } = roles;
     let Entrance {
         gate,
         places,
@@ -227,13 +276,18 @@ where
         board,
         ..
     } = entrance;
-    let (crew, seat) = Crew::start(scope, house, roles, places, counter, board);
-    let mut porter = Porter::new(house, seat, gate);
+    let hall = house.hall;
+    let mut crew = Crew::new(hall.alloc);
+    crew.start_printers(scope, house, printers, places);
+    crew.start_sessions(scope, house, sessions);
+    crew.start_keepers(scope, house, feeder, watcher);
+    crew.start_care(scope, house, steward, (counter, board));
+    let mut porter = Porter::new(house, porter, gate);
     let admitted = porter.admit(crew.is_whole, output);
     // However it went, all threads are joined before the seats are looked at.
     let returned = crew.close(house, porter.leave());
     // What was rotated while sessions ended.
-    let told = announce_all(house.rt, house.alloc, output, admitted, &house.rotations);
+    let told = announce_all(hall.rt, hall.alloc, output, admitted, &hall.rotations);
     (told, returned)
 }
 
@@ -242,24 +296,12 @@ where
 /// wasn't started, or memory for it was refused.
 ///
 /// Output where a line can't be written; Memory where memory for one is refused.
-pub(crate) fn work<
-    R: Files<File = File>
-        + Net<Listener = TcpListener, Stream = TcpStream>
-        + Clock
-        + Log
-        + Threads
-        + Wait
-        + Sync,
-    E: SpoolLedger + Send + Sync,
-    K: Ledger + Send + Sync,
-    H: Ledger + Send + Sync,
-    W: OctetWrite,
->(
-    house: &House<'_, R, E, K, H>,
-    roles: Roles<E, K, H>,
+pub(crate) fn work<R: Host, E: HouseLedger + Send + Sync, W: OctetWrite>(
+    house: House<'_, '_, R, E>,
+    roles: Roles<E>,
     entrance: Entrance,
     output: &mut W,
-) -> (Result<(), Fault>, Returned<E, K, H>)
+) -> (Result<(), ServerFault>, Returned<E>)
 where
     R::Dir: Send + Sync,
     ensures { TellsRotations (W.written output.old) (W.faults output.old)
@@ -268,9 +310,9 @@ where
     // The output comes back with the seats, so that it is known what was written.
     let (told, returned, _output) = thread::scope(
         thread::scope_env(),
-        house.rt,
-        |scope| -> (Result<(), Fault>, Returned<E, K, H>, &mut W)
-            requires { IsSend E.row × IsSend K.row × IsSend H.row }
+        house.hall.rt,
+        |scope| -> (Result<(), ServerFault>, Returned<E>, &mut W)
+            requires { IsSend E.row }
             ensures same { result.2.ghost_name ≡ output.entry.ghost_name }
             ensures tells { TellsRotations (W.written output.entry.now)
                 (W.faults output.entry.now) (W.written result.2.now)

@@ -4,27 +4,33 @@ ghost use Rattle.std.specs.Prelude.{◌≡◌};
 
 use crate::sink::Explains;
 use printer_devices::Device;
-use printer_sinks::{Dial, Folder, Pause};
+use printer_sinks::{Dial, Pause, PrinterFolder};
 use printer_worker::{HandedPage, Leaving, PrintSink, SinkFault};
 use sink_devices::{Causes, Errand};
 use std::io::Error;
 
 /// A device of which the pages are counted that were written, and that were not.
 #[derive(Drop)]
-pub(crate) struct DeviceSink<'a, Q: Errand, D: Dial + Drop, P: Pause + Drop, F: Folder + Drop> {
+pub(crate) struct DeviceSink<
+    'a,
+    Q: Errand,
+    D: Dial + Drop,
+    P: Pause + Drop,
+    F: PrinterFolder + Drop,
+> {
     device: Device<'a, Q, D, P, F>,
     cause: Option<Error>,
     written: u64,
     faults: u64,
 }
 
-impl<'a, Q: Errand, D: Dial + Causes + Drop, P: Pause + Drop, F: Folder + Causes + Drop> DeviceSink<
+impl<
     'a,
-    Q,
-    D,
-    P,
-    F,
-> {
+    Q: Errand,
+    D: Dial + Causes + Drop,
+    P: Pause + Drop,
+    F: PrinterFolder + Causes + Drop,
+> DeviceSink<'a, Q, D, P, F> {
     /// A sink that writes to this device, on which no page was written.
     pub(crate) fn new(device: Device<'a, Q, D, P, F>) -> DeviceSink<'a, Q, D, P, F>
         ensures { (result.written ≡ 0) × (result.faults ≡ 0) }
@@ -38,7 +44,7 @@ impl<'a, Q: Errand, D: Dial + Causes + Drop, P: Pause + Drop, F: Folder + Causes
     }
 }
 
-impl<Q: Errand, D: Dial + Causes + Drop, P: Pause + Drop, F: Folder + Causes + Drop> Explains
+impl<Q: Errand, D: Dial + Causes + Drop, P: Pause + Drop, F: PrinterFolder + Causes + Drop> Explains
     for DeviceSink<'_, Q, D, P, F> {
     ghost why = { λ sink. sink.cause };
 
@@ -47,8 +53,12 @@ impl<Q: Errand, D: Dial + Causes + Drop, P: Pause + Drop, F: Folder + Causes + D
     }
 }
 
-impl<Q: Errand, D: Dial + Causes + Drop, P: Pause + Drop, F: Folder + Causes + Drop> PrintSink
-    for DeviceSink<'_, Q, D, P, F> {
+impl<
+    Q: Errand,
+    D: Dial + Causes + Drop,
+    P: Pause + Drop,
+    F: PrinterFolder + Causes + Drop,
+> PrintSink for DeviceSink<'_, Q, D, P, F> {
     ghost oks = { λ sink. sink.written };
 
     ghost errs = { λ sink. sink.faults };

@@ -5,26 +5,22 @@
 //! it, and one writes its segments where they become files.
 #![tactic(auto)]
 
-mod answering;
 mod crew;
+mod descriptors;
 mod device_sink;
-mod feeding;
-mod listening;
-mod opening;
+mod preparing;
 mod printing;
-mod served;
 mod serving;
-mod session_notes;
 mod sink;
-mod watching;
 
 pub use control_socket::{OpenFault, SocketFile};
 pub use printer_worker::{PrintSink, SinkFault};
 pub use program_edge::{
-    Limits, LogForm, MOST_SESSIONS, Place, PrinterLimits, PrinterPlace, Settings, StatusPlace,
+    Limits, LogForm, MOST_SESSIONS, Opening, Place, PrinterLimits, PrinterPlace, Settings,
+    StartPart, StatusPlace,
 };
 pub use server_care::Counter;
 pub use server_folders::{ACCOUNT_LINES, FOLDER_CAUSES};
-pub use server_house::Fault;
+pub use server_house::ServerFault;
 pub use server_notes::JOB_LINES;
 pub use serving::{Plan, serve};

@@ -8,18 +8,16 @@ use crate::sink::Explains;
 use held_jobs::Phase;
 use job_files::JobEnd;
 use log::{Log, warn};
-use printer_devices::{Device, Opened, PrinterFile};
-use printer_sinks::{Dial, Folder, FolderSink, Pause, SocketSink};
+use printer_devices::{Device, OpenedPlace, PrinterFile};
+use printer_sinks::{Dial, FolderSink, Pause, PrinterFolder, SocketSink};
 use printer_worker::{HandedPage, Leaving, PrintSink, SinkFault, work};
-use server_house::House;
-use server_notes::Outcome;
-use shared_spool::{PrinterSeat, SpoolLedger};
+use server_house::{House, HouseLedger, PrintingSeat};
+use server_notes::JobOutcome;
 use sink_devices::{Causes, Errand, FileFolder, Pauses, TcpDial};
 use std::fs::{File, Files};
 use std::net::{Net, TcpListener, TcpStream};
 use std::rt::Clock;
 use std::sync::Wait;
-use std::sync::ledger::Ledger;
 
 /// How a job ends for its folder that a printer has left so: None where others end it, or it stays for the next start. What was printed
 /// and isn't where it should be has failed.
@@ -36,8 +34,8 @@ fn end_of(leaving: Leaving, is_there: bool) -> Option<JobEnd>
 /// The sink of a printer, of which each page that isn't written is logged, with why, and it is kept since when the printer stands
 /// still.
 #[derive(Drop)]
-struct Watched<'a, R, E: SpoolLedger, K: Ledger, H: Ledger, S> {
-    house: &'a House<'a, R, E, K, H>,
+struct Watched<'h, 'a, R, E: HouseLedger, S> {
+    house: House<'h, 'a, R, E>,
     printer: u32,
     /// The number of the printer's queue.
     queue: u32,
@@ -48,23 +46,16 @@ struct Watched<'a, R, E: SpoolLedger, K: Ledger, H: Ledger, S> {
     job: Option<u64>,
 }
 
-impl<
-    'a,
-    R: Clock + Log + Wait,
-    E: SpoolLedger,
-    K: Ledger,
-    H: Ledger,
-    S: PrintSink + Explains,
-> Watched<'a, R, E, K, H, S> {
+impl<R: Clock + Log + Wait, E: HouseLedger, S: PrintSink + Explains> Watched<'_, '_, R, E, S> {
     /// Tells of a page that wasn't written: the printer will stand still.
     fn tell_fault(&self, page: &HandedPage) {
-        let (house, printer) = (self.house, self.printer);
+        let (hall, printer) = (self.house.hall, self.printer);
         let (job, place) = (page.job, page.place);
         let cause = self.sink.cause();
-        house.oversight.standstills.begin(house.rt, printer, cause);
+        hall.oversight.standstills.begin(hall.rt, printer, cause);
         match cause {
-            Some(cause) => warn!(house.rt; "printer {printer}: job {job}, place {place}: {cause}"),
-            None => warn!(house.rt; "printer {printer}: job {job}, place {place}: not written"),
+            Some(cause) => warn!(hall.rt; "printer {printer}: job {job}, place {place}: {cause}"),
+            None => warn!(hall.rt; "printer {printer}: job {job}, place {place}: not written"),
         }
     }
 
@@ -72,54 +63,49 @@ impl<
     /// it had ended before, or the server ends.
     fn how_left(&self, told: Leaving, was_given_up: bool) -> Leaving {
         match told {
-            Leaving::Failed if was_given_up && self.house.ending.is_over() => Leaving::Closed,
+            Leaving::Failed if was_given_up && self.house.hall.ending.is_over() => Leaving::Closed,
             Leaving::Failed if was_given_up => Leaving::Ended,
             _ => told,
         }
     }
 }
 
-impl<
-    R: Files<File = File> + Clock + Log + Wait,
-    E: SpoolLedger,
-    K: Ledger,
-    H: Ledger,
-    S: PrintSink + Explains,
-> PrintSink for Watched<'_, R, E, K, H, S> {
+impl<R: Files<File = File> + Clock + Log + Wait, E: HouseLedger, S: PrintSink + Explains> PrintSink
+    for Watched<'_, '_, R, E, S> {
     ghost oks = { λ watched. S.oks watched.sink };
 
     ghost errs = { λ watched. S.errs watched.sink };
 
     fn write_page(&mut self, page: &HandedPage) -> Result<(), SinkFault> {
-        let house = self.house;
+        let hall = self.house.hall;
         self.job = Some(page.job);
         let written = self.sink.write_page(page);
         if written.is_ok() {
-            house.restarts.note_page(house.rt, self.queue);
+            hall.restarts.note_page(hall.rt, self.queue);
         } else {
             self.tell_fault(page);
-            self.was_given_up = !house.is_wanted(page.job);
+            self.was_given_up = !self.house.is_wanted(page.job);
         }
         written
     }
 
     fn leave_job(&mut self, leaving: Leaving) -> Result<(), SinkFault> {
-        let (house, printer) = (self.house, self.printer);
+        let (hall, printer) = (self.house.hall, self.printer);
         let how = self.how_left(leaving, self.was_given_up);
         self.was_given_up = false;
         if leaving == Leaving::Failed {
             let is_lost = how == Leaving::Failed;
-            house.restarts.note_failure(house.rt, self.queue, is_lost);
+            hall.restarts.note_failure(hall.rt, self.queue, is_lost);
         }
         let left = self.sink.leave_job(how);
         if let (Err(SinkFault), Some(cause)) = (left, self.sink.cause()) {
-            warn!(house.rt; "printer {printer}: a job that was printed is not in its folder: {cause}");
+            warn!(hall.rt; "printer {printer}: a job that was printed is not in its folder: {cause}");
         }
         if let (Some(job), Some(end)) = (self.job.take(), end_of(how, left.is_ok())) {
-            if let Some(kept) = &house.kept {
-                kept.end(house.rt, job, end);
+            if let Some(kept) = &hall.kept {
+                kept.end(hall.rt, job, end);
             }
-            house.note_end(job, Outcome::from(end));
+            hall.note_end(job, JobOutcome::from(end));
         }
         left
     }
@@ -127,60 +113,50 @@ impl<
 
 /// Who has pages of a house printed.
 #[derive(Drop)]
-pub(crate) struct Printing<'h, 'a, R, E: SpoolLedger, K: Ledger, H: Ledger> {
-    pub(crate) house: &'h House<'a, R, E, K, H>,
+pub(crate) struct Printing<'h, 'a, R, E: HouseLedger> {
+    pub(crate) house: House<'h, 'a, R, E>,
 }
 
 impl<
     R: Files<File = File> + Net<Listener = TcpListener, Stream = TcpStream> + Clock + Log + Wait,
-    E: SpoolLedger,
-    K: Ledger,
-    H: Ledger,
-> Printing<'_, '_, R, E, K, H> {
+    E: HouseLedger,
+> Printing<'_, '_, R, E> {
     /// Has a printer's pages written to this device, until the spool is closed. Answers the seat.
-    fn print_to<D: Dial + Causes + Drop, P: Pause + Drop, F: Folder + Causes + Drop>(
+    fn print_to<D: Dial + Causes + Drop, P: Pause + Drop, F: PrinterFolder + Causes + Drop>(
         &self,
-        seat: PrinterSeat<E, K, H>,
-        device: Device<'_, House<'_, R, E, K, H>, D, P, F>,
-    ) -> PrinterSeat<E, K, H> {
+        seat: PrintingSeat<E>,
+        device: Device<'_, House<'_, '_, R, E>, D, P, F>,
+    ) -> PrintingSeat<E> {
+        let House { spool, hall } = self.house;
         let printer = seat.printer();
         let mut sink = Watched {
             house: self.house,
             printer,
-            queue: self.house.oversight.config.queue_of(printer),
+            queue: hall.oversight.config.queue_of(printer),
             sink: DeviceSink::new(device),
             was_given_up: false,
             job: None,
         };
-        let (seat, _report) = work(self.house.rt, &self.house.spool, seat, &mut sink);
+        let (seat, _report) = work(hall.rt, spool, seat, &mut sink);
         seat
     }
 
     /// Has a printer's pages written to what it prints to, until the spool is closed. Answers the seat.
-    pub(crate) fn print_all(
-        &self,
-        seat: PrinterSeat<E, K, H>,
-        opened: Opened,
-    ) -> PrinterSeat<E, K, H> {
-        let (printer, limits) = (seat.printer(), self.house.printer_limits);
+    pub(crate) fn print_all(&self, seat: PrintingSeat<E>, opened: OpenedPlace) -> PrintingSeat<E> {
+        let hall = self.house.hall;
+        let (printer, limits) = (seat.printer(), hall.printer_limits);
         let device = match opened {
-            Opened::File(outlet) => {
-                Device::File(PrinterFile::new(outlet, self.house, self.house.kept.is_some()))
+            OpenedPlace::File(outlet) => {
+                Device::File(PrinterFile::new(outlet, &self.house, hall.kept.is_some()))
             }
-            Opened::Socket(address) => {
+            OpenedPlace::Socket(address) => {
                 let silence = limits.silence_seconds;
-                let dial = TcpDial::new(
-                    self.house.rt,
-                    printer,
-                    address.into(),
-                    silence,
-                    self.house,
-                );
-                let pauses = Pauses::new(self.house.rt, limits.patience_minutes, self.house);
+                let dial = TcpDial::new(hall.rt, printer, address.into(), silence, &self.house);
+                let pauses = Pauses::new(hall.rt, limits.patience_minutes, &self.house);
                 Device::Socket(SocketSink::new(dial, pauses, u64::MAX))
             }
-            Opened::Folder { path, next } => {
-                let folder = FileFolder::new(self.house.rt, self.house.alloc, printer, path, next);
+            OpenedPlace::Folder { path, next } => {
+                let folder = FileFolder::new(hall.rt, hall.alloc, printer, path, next);
                 Device::Folder(FolderSink::new(folder))
             }
         };

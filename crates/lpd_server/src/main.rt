@@ -3,7 +3,7 @@
 
 ghost use Rattle.std.specs.Prelude.{◌≡◌, ◌≤◌};
 ghost use Rattle.std.specs.Process.{exit_status};
-ghost use Rattle.lpd_words.specs.Outcome.{IfEnded};
+ghost use Rattle.word_actions.specs.Outcome.{IfEnded};
 
 use account_reports::AUDIT;
 use log::filter::{Builder, Filter, FilteredLog};
@@ -11,10 +11,10 @@ use log::sink::Console;
 use log::{Level, LevelFilter, Log, Logged, error, info};
 use log_lines::{LineLog, LineQueue, LogForm};
 use lpd_daemon::{ACCOUNT_LINES, Counter, FOLDER_CAUSES, JOB_LINES, OpenFault, Plan};
-use lpd_words::{AuditRequest, ControlRequest, Outcome, PROGRESS, Unread, UsageRequest};
 use program_edge::{
     FaultName, Settings, StreamReader, StreamWriter, fill_standard_descriptors, tell, tell_cause,
 };
+use program_words::{AuditRequest, ControlRequest, Unread, UsageRequest};
 use std::alloc::{AllocError, Global};
 use std::fs::{File, Files};
 use std::io::{IsTerminal, Lock, Write};
@@ -25,6 +25,7 @@ use std::sync::{Arc, Wait};
 use std::thread::Threads;
 use std::time::Duration;
 use std::{io, thread};
+use word_actions::{Outcome, PROGRESS};
 
 /// How many lines of the log wait to be written, at most.
 const LINES: usize = 256;
@@ -84,10 +85,10 @@ fn run<'a>(rt: &HostRuntime, words: &'a [String]) -> Outcome<'a>
     // What asks for it is known by the part that sends a job alone.
     let Ok(filter) = told(alloc, rt.stderr().is_terminal(), PROGRESS, true) else {
         let unread = Unread::Memory;
-        return Outcome::Ended(lpd_words::tell_unread(alloc, unread, &mut output, &mut faults));
+        return Outcome::Ended(word_actions::tell_unread(alloc, unread, &mut output, &mut faults));
     };
     let logged = Logged::new(*rt, Level::Info, FilteredLog::new(Console(*rt), filter));
-    lpd_words::run(&logged, rt, words, &mut input, &mut output, &mut faults)
+    word_actions::run(&logged, rt, words, &mut input, &mut output, &mut faults)
 }
 
 /// Sends a command to a server's control socket, and prints the answer. Answers the exit status.
@@ -97,7 +98,7 @@ fn control(rt: &HostRuntime, request: &ControlRequest) -> u8
     let mut output = StreamWriter::new(rt.stdout().lock());
     let mut faults = StreamWriter::new(rt.stderr());
     let logged = Logged::new(*rt, most_told(rt.stderr().is_terminal()), Console(*rt));
-    lpd_words::control(rt, &logged, request, &mut output, &mut faults)
+    word_actions::control(rt, &logged, request, &mut output, &mut faults)
 }
 
 /// Checks an account, of which `progress` asks to be told how far that is. Answers the exit status.
@@ -176,7 +177,7 @@ where
     let mut output = StreamWriter::new(output);
     let mut file = StreamReader::open(rt, config);
     let printers = settings.printers.as_slice();
-    let config = match lpd_words::read_spool(alloc, &mut file, printers) {
+    let config = match word_actions::read_spool(alloc, &mut file, printers) {
         Ok(config) => config,
         Err(fault) => {
             tell_cause(rt, &config, file.cause());
@@ -221,12 +222,12 @@ fn main(rt: HostRuntime) -> ExitCode {
     // isn't to be written to by the log.
     let filled = fill_standard_descriptors();
     let alloc = rt.alloc();
-    let words = match lpd_words::words_of(&rt) {
+    let words = match program_words::words_of(&rt) {
         Ok(words) => words,
         Err(unread) => {
             let mut output = StreamWriter::new(rt.stdout());
             let mut faults = StreamWriter::new(rt.stderr());
-            return code(lpd_words::tell_unread(alloc, unread, &mut output, &mut faults));
+            return code(word_actions::tell_unread(alloc, unread, &mut output, &mut faults));
         }
     };
     match run(&rt, words.as_slice()) {

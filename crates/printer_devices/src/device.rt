@@ -3,7 +3,7 @@
 use crate::faults::DeviceFault;
 use crate::outlet::{Outlet, PatientFile};
 use lpd_commands::write_all;
-use printer_sinks::{Dial, Folder, FolderSink, Pause, SocketSink};
+use printer_sinks::{Dial, FolderSink, Pause, PrinterFolder, SocketSink};
 use program_edge::StreamWriter;
 use sink_devices::{Causes, Errand};
 use std::fs::File;
@@ -45,13 +45,13 @@ impl<'a, Q: Errand> PrinterFile<'a, Q> {
 
 /// What the pages of a printer are written to.
 #[derive(Drop)]
-pub enum Device<'a, Q: Errand, D: Dial + Drop, P: Pause + Drop, F: Folder + Drop> {
+pub enum Device<'a, Q: Errand, D: Dial + Drop, P: Pause + Drop, F: PrinterFolder + Drop> {
     File(PrinterFile<'a, Q>),
     Socket(SocketSink<D, P>),
     Folder(FolderSink<F>),
 }
 
-impl<Q: Errand, D: Dial + Causes + Drop, P: Pause + Drop, F: Folder + Causes + Drop> Device<
+impl<Q: Errand, D: Dial + Causes + Drop, P: Pause + Drop, F: PrinterFolder + Causes + Drop> Device<
     '_,
     Q,
     D,

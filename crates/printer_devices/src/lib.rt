@@ -9,7 +9,7 @@ mod places;
 mod sharing;
 
 pub use device::{Device, PrinterFile};
-pub use faults::{DeviceFault, PlaceFault};
+pub use faults::DeviceFault;
 pub use outlet::{Outlet, has_unread};
-pub use places::{Opened, open_places, pipes_of, place_of};
-pub use sharing::shared_folder;
+pub use places::{OpenedPlace, default_file, open_places, pipes_of, place_of};
+pub use sharing::{SharedFolder, shared_folder};

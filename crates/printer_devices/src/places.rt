@@ -1,14 +1,14 @@
 //! What printers print to, as it is found at a server's start.
 
-ghost use Rattle.std.specs.Prelude.{◌≡◌, ◌==◌, option_map};
+ghost use Rattle.std.specs.Prelude.{◌≡◌, ◌==◌, IfErr, option_map};
 ghost use Rattle.std.specs.List.{find};
+ghost use Rattle.program_edge.specs.Openings.{IsPrinter, IsUnopened};
 ghost use Rattle.program_edge.specs.declared.places.PrinterPlace.{PrinterPlace};
 
-use crate::faults::PlaceFault;
 use crate::outlet::Outlet;
 use crate::sharing::shared_folder;
 use log::{Log, warn};
-use program_edge::{Place, Settings, tell_cause};
+use program_edge::{DefaultFile, Place, Settings, StartFault, StartPart, tell_cause};
 use sink_devices::names_of;
 use std::alloc::{AllocError, Global};
 use std::fs::{File, Files};
@@ -17,7 +17,7 @@ use std::net::SocketAddrV4;
 
 /// What a printer prints to, as it was found.
 #[derive(Drop)]
-pub enum Opened {
+pub enum OpenedPlace {
     /// A file, a device or a pipe, open at its end.
     File(Outlet),
     /// A printer on the network, to which no connection was opened yet.
@@ -26,12 +26,12 @@ pub enum Opened {
     Folder { path: String, next: u64 },
 }
 
-impl Opened {
+impl OpenedPlace {
     /// The pipe, where it is one: whether its reader has taken what was written can be asked.
     pub fn pipe(&self) -> Option<File> {
         match self {
-            Opened::File(outlet) => outlet.pipe(),
-            Opened::Socket(_) | Opened::Folder { .. } => None,
+            OpenedPlace::File(outlet) => outlet.pipe(),
+            OpenedPlace::Socket(_) | OpenedPlace::Folder { .. } => None,
         }
     }
 
@@ -39,42 +39,46 @@ impl Opened {
     /// becomes.
     pub fn begins(&self) -> Option<u64> {
         match self {
-            Opened::File(outlet) => outlet.length(),
-            Opened::Folder { next, .. } => Some(*next),
-            Opened::Socket(_) => None,
+            OpenedPlace::File(outlet) => outlet.length(),
+            OpenedPlace::Folder { next, .. } => Some(*next),
+            OpenedPlace::Socket(_) => None,
         }
     }
 }
 
 /// Looks into a folder. What a server that was killed has left there is told.
-fn open_folder<R: Files<File = File> + Log>(rt: &R, path: String) -> io::Result<Opened> {
+fn open_folder<R: Files<File = File> + Log>(rt: &R, path: String) -> io::Result<OpenedPlace> {
     let names = names_of(rt, path.as_str())?;
     if names.left > 0 {
         let left = names.left;
         warn!(rt; "{path}: {left} hidden files of jobs were left there, which were not printed to their ends");
     }
     let next = names.next;
-    Ok(Opened::Folder { path, next })
+    Ok(OpenedPlace::Folder { path, next })
 }
 
-/// Opens what a printer prints to. A socket isn't dialled yet.
+/// Opens what the printer of a number prints to. A socket isn't dialled yet.
 ///
-/// Path with the path where it can't be opened, of which the log is told why; Memory.
+/// Opening where it can't be opened, of which the log is told why too; Memory.
 fn open_at<R: Files<File = File> + Log>(
     rt: &R,
     alloc: Global,
+    printer: u32,
     place: Place<'_>,
-) -> Result<Opened, PlaceFault> {
+) -> Result<OpenedPlace, StartFault>
+    ensures { IfErr result (IsUnopened IsPrinter) }
+{
     let (path, opened) = match place {
-        Place::Socket(address) => return Ok(Opened::Socket(address)),
-        Place::File(path) => (path, Outlet::open(rt, path).map(Opened::File)),
+        Place::Socket(address) => return Ok(OpenedPlace::Socket(address)),
+        Place::File(path) => (path, Outlet::open(rt, path).map(OpenedPlace::File)),
         Place::Folder(path) => (path, open_folder(rt, String::from_str(alloc, path)?)),
     };
     match opened {
         Ok(opened) => Ok(opened),
         Err(error) => {
             tell_cause(rt, &path, Some(error));
-            Err(PlaceFault::Path(String::from_str(alloc, path)?))
+            let what = StartPart::Printer(printer);
+            Err(StartFault::of(alloc, what, &path, &error))
         }
     }
 }
@@ -91,26 +95,40 @@ pub fn place_of<'a>(settings: &Settings<'a>, printer: u32) -> Option<Place<'a>>
     Some(said.place)
 }
 
+/// The file of a printer of which the settings say nothing.
+pub fn default_file<'a>(settings: &Settings<'a>, printer: u32) -> DefaultFile<'a>
+    ensures directory { result.directory.now ≡ settings.now.out.now }
+    ensures printer { result.printer ≡ printer }
+{
+    DefaultFile {
+        directory: settings.out,
+        printer,
+    }
+}
+
 /// Opens what N printers print to: what the settings say of each, or else the file `printer-K` in their directory, at its end.
 ///
-/// Path with the path of a folder that two of them have, or of the first that can't be opened, of which the log is told why; Memory.
+/// Opening of the printer whose folder another one has too, or of the first that can't be opened, of which the log is told why too; Memory.
 pub fn open_places<R: Files<File = File> + Log>(
     rt: &R,
     alloc: Global,
     settings: &Settings<'_>,
     printers: u32,
-) -> Result<Vec<Opened>, PlaceFault> {
-    if let Some(path) = shared_folder(rt, settings.printers.as_slice()) {
-        return Err(PlaceFault::Path(String::from_str(alloc, path)?));
+) -> Result<Vec<OpenedPlace>, StartFault>
+    ensures { IfErr result (IsUnopened IsPrinter) }
+{
+    if let Some(shared) = shared_folder(rt, settings.printers.as_slice()) {
+        let what = StartPart::Printer(shared.second);
+        return Err(StartFault::of(alloc, what, &shared.path, &shared));
     }
     let mut places = Vec::new(alloc);
     for at in 0..printers {
         let printer = at + 1;
         let opened = match place_of(settings, printer) {
-            Some(place) => open_at(rt, alloc, place)?,
+            Some(place) => open_at(rt, alloc, printer, place)?,
             None => {
-                let path = format!(in alloc; "{}/printer-{printer}", settings.out)?;
-                open_at(rt, alloc, Place::File(path.as_str()))?
+                let path = default_file(settings, printer).to_string(alloc)?;
+                open_at(rt, alloc, printer, Place::File(path.as_str()))?
             }
         };
         places.push(opened)?;
@@ -119,7 +137,7 @@ pub fn open_places<R: Files<File = File> + Log>(
 }
 
 /// The pipes among these, by the printers' numbers, from 1.
-pub fn pipes_of(alloc: Global, places: &[Opened]) -> Result<Vec<Option<File>>, AllocError> {
+pub fn pipes_of(alloc: Global, places: &[OpenedPlace]) -> Result<Vec<Option<File>>, AllocError> {
     let mut pipes = Vec::new(alloc);
     for opened in places {
         pipes.push(opened.pipe())?;

@@ -2,9 +2,9 @@
 
 use log::{Log, info};
 use program_edge::{Place, PrinterPlace};
-use std::fs;
 use std::fs::Files;
 use std::os::unix::fs::MetadataExt;
+use std::{fmt, fs};
 
 /// Which folder of the system a printer prints to: its device and its number there. None where it prints to no folder, or to one that
 /// isn't there.
@@ -25,19 +25,46 @@ fn sharer<R: Files>(rt: &R, printers: &[PrinterPlace], said: &PrinterPlace) -> O
     Some(one.printer)
 }
 
-/// The path of the first folder that a printer has of one before it, by whatever path. The log is told which two these are.
+/// A folder that two printers would print to.
+#[derive(Clone, Copy, Debug, PartialEq, Eq)]
+pub struct SharedFolder<'a> {
+    /// Its path, as it is said of the second of them.
+    pub path: &'a str,
+    /// The number of the first of them.
+    pub first: u32,
+    /// The number of the second.
+    pub second: u32,
+}
+
+/// Why it can't be printed to by both.
+impl fmt::Display for SharedFolder<'_> {
+    fn fmt<W: fmt::Write>(&self, f: &mut fmt::Formatter<W>) -> fmt::Result {
+        let SharedFolder { first, second, .. } = self;
+        write!(
+            f,
+            "printer {first} prints to this folder, and a folder is one printer's: printer {second} needs another one"
+        )
+    }
+}
+
+/// The first folder that a printer has of one before it, by whatever path. The log is told which two these are.
 ///
 /// A folder is one printer's: else nobody could tell which of its files is whose, and the account says of each job which file it is.
-pub fn shared_folder<'a, R: Files + Log>(rt: &R, printers: &[PrinterPlace<'a>]) -> Option<&'a str> {
+pub fn shared_folder<'a, R: Files + Log>(
+    rt: &R,
+    printers: &[PrinterPlace<'a>],
+) -> Option<SharedFolder<'a>> {
     for at in 0..printers.len() {
         let said = &printers[at];
-        if let (Place::Folder(path), Some(other)) = (
-            said.place,
-            sharer(rt, &printers[..at], said),
-        ) {
-            let printer = said.printer;
-            info!(rt; "{path}: printer {other} prints to this folder, and a folder is one printer's: printer {printer} needs another one");
-            return Some(path);
+        let (second, place) = (said.printer, said.place);
+        if let (Place::Folder(path), Some(first)) = (place, sharer(rt, &printers[..at], said)) {
+            let shared = SharedFolder {
+                path,
+                first,
+                second,
+            };
+            info!(rt; "{path}: {shared}");
+            return Some(shared);
         }
     }
     None

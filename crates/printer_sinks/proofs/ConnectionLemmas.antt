@@ -5,7 +5,7 @@ use Rattle.std.proofs.lemmas.List.{append-nil}
 use Rattle.std.proofs.lemmas.Grind.{common_steps}
 use Rattle.std.proofs.lemmas.Bool.Decides.{nat_tests}
 use Rattle.printer_sinks.specs.Connections.{Connection, told, new_connection, longer, spoken, newest_spoke, is_begun, opened, sent}
-use Rattle.printer_sinks.specs.declared.stage.Stage.TheVariants.{Idle}
+use Rattle.printer_sinks.specs.declared.stage.SinkStage.TheVariants.{Idle}
 
 longer-longer : (a b : List ℕ) (connections : List Connection) → longer b (longer a connections) ≡ longer (a ++ b) connections
 longer-longer a b [] = refl

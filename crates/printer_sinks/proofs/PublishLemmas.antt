@@ -5,11 +5,11 @@ use Rattle.std.proofs.lemmas.Bool.Decides.{nat_tests}
 use Rattle.printer_sinks.specs.Files.{File, Shelf, AddsOne, Keeps, PublishesAt, draft_for, extended, with_page, IsBroken}
 use Rattle.printer_sinks.specs.Visits.{Given}
 use Rattle.printer_sinks.specs.Published.{KeepsAll, PrintsAll, all_ok, joined, idle, IsPublished, OnlyWhole}
-use Rattle.printer_sinks.specs.declared.draft.Draft.{Draft}
-use Rattle.printer_sinks.specs.declared.draft.Draft.TheVariants.{Nothing, Whole, Broken}
+use Rattle.printer_sinks.specs.declared.draft.JobDraft.{JobDraft}
+use Rattle.printer_sinks.specs.declared.draft.JobDraft.TheVariants.{Nothing, Whole, Broken}
 
 -- where a sink is after these pages of a job
-abbrev AtDraft : Draft → (job : ℕ) → List Given → (draft : Option (List ℕ)) → Type 0
+abbrev AtDraft : JobDraft → (job : ℕ) → List Given → (draft : Option (List ℕ)) → Type 0
 AtDraft Nothing job pages draft = pages ≡ []
 AtDraft (Whole j) job pages draft = (j ≡ job) × (all_ok pages ≡ true) × (draft ≡ Some (joined pages))
 AtDraft (Broken j) job pages draft = (j ≡ job) × (all_ok pages ≡ false)
@@ -38,7 +38,7 @@ keep_step : (job : ℕ) (pages : List Given) (page : Given) (ok : Bool) (files :
 keep_step job pages page false files old new is at same (stage, kept) = (rw stage (refl, all_ok-not pages page is), kept ∙ same)
 keep_step job pages page true files old new is at same (stage, sound, draft, kept) = (rw stage (go old.stage refl at), kept ∙ same)
   where
-    go : (s : Draft) → old.stage ≡ s → AtDraft s job pages old.draft → (job ≡ job) × (all_ok (pages ++ page ∷ []) ≡ true) × (new.draft ≡ Some (joined (pages ++ page ∷ [])))
+    go : (s : JobDraft) → old.stage ≡ s → AtDraft s job pages old.draft → (job ≡ job) × (all_ok (pages ++ page ∷ []) ≡ true) × (new.draft ≡ Some (joined (pages ++ page ∷ [])))
     go Nothing e none = (
       refl,
       all_ok-more pages page is ∙ ap all_ok none,
@@ -69,7 +69,7 @@ adds_is pages draft files old new was same adds =
     let a : AddsOne (Some (joined pages)) old new = subst (λ d. AddsOne d old new) was adds in
     subst (λ o. AddsOne (Some (joined pages)) o new) same a
 
-leave_step : (job : ℕ) (pages : List Given) (done ok : Bool) (files : List File) (stage : Draft) (draft : Option (List ℕ)) (old new : Option (List File)) → AtDraft stage job pages draft → old ≡ Some files → PublishesAt done ok stage draft old new → OnlyWhole pages done files new
+leave_step : (job : ℕ) (pages : List Given) (done ok : Bool) (files : List File) (stage : JobDraft) (draft : Option (List ℕ)) (old new : Option (List File)) → AtDraft stage job pages draft → old ≡ Some files → PublishesAt done ok stage draft old new → OnlyWhole pages done files new
 leave_step job pages true true files (Whole j) draft old new (of, all, was) same adds = inr (refl, all, adds_is pages draft files old new was same adds)
 leave_step job pages true false files (Whole j) draft old new (of, all, was) same (inl not) = inl (not ∙ same)
 leave_step job pages true false files (Whole j) draft old new (of, all, was) same (inr adds) = inr (refl, all, adds_is pages draft files old new was same adds)
@@ -84,7 +84,7 @@ only_whole job pages done ok draft files new (mid, keeps, (stage, leaves)) =
     let all = keep_all job [] pages files (idle draft files) mid refl refl keeps in
     leave_step job pages done ok files mid.stage mid.draft mid.files new.files all.0 all.1 leaves
 
-there_step : (job : ℕ) (pages : List Given) (files : List File) (stage : Draft) (draft : Option (List ℕ)) (old new : Option (List File)) → AtDraft stage job pages draft → old ≡ Some files → PublishesAt true true stage draft old new → all_ok pages ≡ true → 0 < length pages → IsPublished pages files new
+there_step : (job : ℕ) (pages : List Given) (files : List File) (stage : JobDraft) (draft : Option (List ℕ)) (old new : Option (List File)) → AtDraft stage job pages draft → old ≡ Some files → PublishesAt true true stage draft old new → all_ok pages ≡ true → 0 < length pages → IsPublished pages files new
 there_step job pages files Nothing draft old new none same leaves all some = absurd (omega (arith, ap length none))
 there_step job pages files (Whole j) draft old new (of, ok, was) same adds all some = adds_is pages draft files old new was same adds
 there_step job pages files (Broken j) draft old new (of, not) same leaves all some = let no : true ≡ false = sym all ∙ not in absurd (cc)

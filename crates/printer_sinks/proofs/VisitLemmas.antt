@@ -7,11 +7,11 @@ use Rattle.printer_sinks.proofs.ConnectionLemmas.{is_new}
 use Rattle.std.proofs.lemmas.Bool.{cases_eq, eq-eqb}
 use Rattle.printer_sinks.specs.Connections.{Connection, told, new_connection, longer, sent, stage_for, stage_after, Desk, Adds}
 use Rattle.printer_sinks.specs.Visits.{Given, Visits, at_rest, told_ok, Begins, AddsOne}
-use Rattle.printer_sinks.specs.declared.stage.Stage.{Stage}
-use Rattle.printer_sinks.specs.declared.stage.Stage.TheVariants.{Idle, Sending, Lost}
+use Rattle.printer_sinks.specs.declared.stage.SinkStage.{SinkStage}
+use Rattle.printer_sinks.specs.declared.stage.SinkStage.TheVariants.{Idle, Sending, Lost}
 
 -- where a sink is after these pages of a job
-abbrev AtStage : Stage → (job : ℕ) → List Given → (base : List Connection) → Option (List Connection) → Type 0
+abbrev AtStage : SinkStage → (job : ℕ) → List Given → (base : List Connection) → Option (List Connection) → Type 0
 AtStage Idle job pages base connections = (connections ≡ Some base) × (told_ok pages ≡ [])
 AtStage (Sending j) job pages base connections = (j ≡ job) × (connections ≡ Some (new_connection job (told_ok pages) base))
 AtStage (Lost j) job pages base connections = (j ≡ job) × (part : List ℕ) × (connections ≡ Some (new_connection job (told_ok pages ++ part) base)) × Begins part pages
@@ -72,18 +72,18 @@ module _ (job : ℕ) (pages : List Given) (base : List Connection) (octets : Lis
     | inl zero ↦
         let same : stage_after Idle job n (length octets) ≡ Idle = grind (arith, nat_tests) in
         let connections : sent Idle job (take n octets) base ≡ base = ap (λ (k : ℕ). sent Idle job (take k octets) base) zero in
-        let P : Stage → Type 0 = λ s. AtStage s job (pages ++ record { octets = octets; ok = ok } ∷ []) base (Some (sent Idle job (take n octets) base)) in
+        let P : SinkStage → Type 0 = λ s. AtStage s job (pages ++ record { octets = octets; ok = ok } ∷ []) base (Some (sent Idle job (take n octets) base)) in
         subst P (sym same) (ap Some connections, none_told zero ∙ none)
     | inr some ↦ elim (cases_eq n (length octets)) [
       | inl all ↦
           let stage : stage_after Idle job n (length octets) ≡ Sending job = grind (arith, nat_tests) in
-          let P : Stage → Type 0 = λ s. AtStage s job (pages ++ record { octets = octets; ok = ok } ∷ []) base (Some (sent Idle job (take n octets) base)) in
+          let P : SinkStage → Type 0 = λ s. AtStage s job (pages ++ record { octets = octets; ok = ok } ∷ []) base (Some (sent Idle job (take n octets) base)) in
           let took : take n octets ≡ told_ok (pages ++ record { octets = octets; ok = ok } ∷ []) =
           take_all n octets (omega arith) ∙ ap (λ (s : List ℕ). s ++ octets) (sym none) ∙ sym (told_ok-yes pages octets ok (is_told all)) in
           subst P (sym stage) (refl, ap Some (is_new job (take n octets) base (taken some) ∙ ap (λ (s : List ℕ). new_connection job s base) took))
       | inr part ↦
           let stage : stage_after Idle job n (length octets) ≡ Lost job = grind (arith, nat_tests) in
-          let P : Stage → Type 0 = λ s. AtStage s job (pages ++ record { octets = octets; ok = ok } ∷ []) base (Some (sent Idle job (take n octets) base)) in
+          let P : SinkStage → Type 0 = λ s. AtStage s job (pages ++ record { octets = octets; ok = ok } ∷ []) base (Some (sent Idle job (take n octets) base)) in
           let took : take n octets ≡ told_ok (pages ++ record { octets = octets; ok = ok } ∷ []) ++ take n octets =
           ap (λ (s : List ℕ). s ++ take n octets) (sym (told_ok-no pages octets ok (is_not part) ∙ none)) in
           subst P (sym stage) (refl, take n octets, ap Some (is_new job (take n octets) base (taken some) ∙ ap (λ (s : List ℕ). new_connection job s base) took), Begins-last pages octets ok n (is_not part))
@@ -94,13 +94,13 @@ module _ (job : ℕ) (pages : List Given) (base : List Connection) (octets : Lis
   sending_step = elim (cases_eq n (length octets)) [
     | inl all ↦
         let stage : stage_after (Sending job) job n (length octets) ≡ Sending job = grind (arith, nat_tests) in
-        let P : Stage → Type 0 = λ s. AtStage s job (pages ++ record { octets = octets; ok = ok } ∷ []) base (Some (longer (take n octets) (new_connection job (told_ok pages) base))) in
+        let P : SinkStage → Type 0 = λ s. AtStage s job (pages ++ record { octets = octets; ok = ok } ∷ []) base (Some (longer (take n octets) (new_connection job (told_ok pages) base))) in
         let took : told_ok pages ++ take n octets ≡ told_ok (pages ++ record { octets = octets; ok = ok } ∷ []) =
         ap (λ (s : List ℕ). told_ok pages ++ s) (take_all n octets (omega arith)) ∙ sym (told_ok-yes pages octets ok (is_told all)) in
         subst P (sym stage) (refl, ap (λ (s : List ℕ). Some (new_connection job s base)) took)
     | inr part ↦
         let stage : stage_after (Sending job) job n (length octets) ≡ Lost job = grind (arith, nat_tests) in
-        let P : Stage → Type 0 = λ s. AtStage s job (pages ++ record { octets = octets; ok = ok } ∷ []) base (Some (longer (take n octets) (new_connection job (told_ok pages) base))) in
+        let P : SinkStage → Type 0 = λ s. AtStage s job (pages ++ record { octets = octets; ok = ok } ∷ []) base (Some (longer (take n octets) (new_connection job (told_ok pages) base))) in
         let took : told_ok pages ++ take n octets ≡ told_ok (pages ++ record { octets = octets; ok = ok } ∷ []) ++ take n octets =
         ap (λ (s : List ℕ). s ++ take n octets) (sym (told_ok-no pages octets ok (is_not part))) in
         subst P (sym stage) (refl, take n octets, ap (λ (s : List ℕ). Some (new_connection job s base)) took, Begins-last pages octets ok n (is_not part))
@@ -114,7 +114,7 @@ module _ (job : ℕ) (pages : List Given) (base : List Connection) (octets : Lis
 stage_same : (job j : ℕ) → j ≡ job → (stage_for job (Sending j) ≡ Sending job) × (stage_for job (Lost j) ≡ Lost job)
 stage_same job j h = (grind (arith, nat_tests), grind (arith, nat_tests))
 
-step_at : (stage : Stage) (job : ℕ) (pages : List Given) (base : List Connection) (octets : List ℕ) (ok : Bool) (n : ℕ) (connections : Option (List Connection)) (new : Desk) → AtStage stage job pages base connections → Adds n job octets (stage_for job stage) connections new → ok ≡ (n == length octets) → AtStage new.stage job (pages ++ record { octets = octets; ok = ok } ∷ []) base new.connections
+step_at : (stage : SinkStage) (job : ℕ) (pages : List Given) (base : List Connection) (octets : List ℕ) (ok : Bool) (n : ℕ) (connections : Option (List Connection)) (new : Desk) → AtStage stage job pages base connections → Adds n job octets (stage_for job stage) connections new → ok ≡ (n == length octets) → AtStage new.stage job (pages ++ record { octets = octets; ok = ok } ∷ []) base new.connections
 step_at Idle job pages base octets ok n connections new (is, none) adds whole =
     let to : new.connections ≡ Some (sent Idle job (take n octets) base) = adds.connections ∙ ap (told (sent Idle job (take n octets))) is in
     rw (adds.stage, to) (idle_step job pages base octets ok n adds.size whole none)
@@ -140,7 +140,7 @@ run_at job before (page ∷ after) base old new at (mid, (n, adds, whole), rest)
     let P : List Given → Type 0 = λ ps. AtStage new.stage job ps base new.connections in
     subst P (append_assoc before (page ∷ []) after) all
 
-added : (stage : Stage) (job : ℕ) (pages : List Given) (base : List Connection) (connections : Option (List Connection)) → AtStage stage job pages base connections → AddsOne job pages base connections
+added : (stage : SinkStage) (job : ℕ) (pages : List Given) (base : List Connection) (connections : Option (List Connection)) → AtStage stage job pages base connections → AddsOne job pages base connections
 added Idle job pages base connections at = inl at
 added (Sending j) job pages base connections (of, is) = inr (told_ok pages, is, inl refl)
 added (Lost j) job pages base connections (of, part, is, begins) = inr (told_ok pages ++ part, is, inr (part, refl, begins))

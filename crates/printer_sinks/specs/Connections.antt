@@ -1,7 +1,7 @@
 -- Connections, and the octets that they took.
 use Rattle.std.specs.Prelude.{◌≡◌, ◌≤◌, ℕ, Bool, true, false, not, List, [], ◌∷◌, ◌++◌, Option, Some, None, length, take, ◌==◌, if◌then◌else◌}
-use Rattle.printer_sinks.specs.declared.stage.Stage.{Stage}
-use Rattle.printer_sinks.specs.declared.stage.Stage.TheVariants.{Idle, Sending, Lost}
+use Rattle.printer_sinks.specs.declared.stage.SinkStage.{SinkStage}
+use Rattle.printer_sinks.specs.declared.stage.SinkStage.TheVariants.{Idle, Sending, Lost}
 
 -- a connection: the job that it was opened for, and the octets that it took
 pub record Connection : Type 0 where
@@ -43,49 +43,49 @@ is_begun None = true
 is_begun (Some connections) = newest_spoke connections
 
 -- where a sink is amid a job, the newest connection took an octet
-abbrev pub stands : Stage → Option (List Connection) → Bool
+abbrev pub stands : SinkStage → Option (List Connection) → Bool
 stands (Sending job) connections = is_begun connections
 stands _ connections = true
 
 -- the stage of a sink for a page of this job: another job is left
-abbrev pub stage_for : (job : ℕ) → Stage → Stage
+abbrev pub stage_for : (job : ℕ) → SinkStage → SinkStage
 stage_for job Idle = Idle
 stage_for job (Sending other) = if other == job then Sending other else Idle
 stage_for job (Lost other) = if other == job then Lost other else Idle
 
 -- an octet of the job was sent
-abbrev pub is_amid : Stage → Bool
+abbrev pub is_amid : SinkStage → Bool
 is_amid Idle = false
 is_amid _ = true
 
 -- the connections that took an octet, after these octets of a job were sent
-abbrev pub sent : Stage → (job : ℕ) (octets : List ℕ) → List Connection → List Connection
+abbrev pub sent : SinkStage → (job : ℕ) (octets : List ℕ) → List Connection → List Connection
 sent Idle job octets connections = if length octets == 0 then connections else new_connection job octets connections
 sent (Sending _) job octets connections = longer octets connections
 sent (Lost _) job octets connections = connections
 
 -- the stage after n of a page's octets were sent, which has this size
-abbrev pub stage_after : Stage → (job n size : ℕ) → Stage
+abbrev pub stage_after : SinkStage → (job n size : ℕ) → SinkStage
 stage_after Idle job n size = if n == 0 then Idle else (if n == size then Sending job else Lost job)
 stage_after (Sending _) job n size = if n == size then Sending job else Lost job
 stage_after (Lost _) job n size = Lost job
 
 -- how many of a page's octets may be sent: where an octet of its job was sent and the connection failed, none
-abbrev pub most : Stage → (size : ℕ) → ℕ
+abbrev pub most : SinkStage → (size : ℕ) → ℕ
 most (Lost _) size = 0
 most _ size = size
 
 -- a sink between two calls: its stage, and the connections that took an octet
 pub record Desk : Type 0 where
-  pub stage : Stage
+  pub stage : SinkStage
   pub connections : Option (List Connection)
 
 -- the desk of a sink at this stage, whose device tells these connections
-abbrev pub desk : Stage → Option (List Connection) → Desk
+abbrev pub desk : SinkStage → Option (List Connection) → Desk
 desk stage connections = record { stage = stage; connections = told spoken connections }
 
 -- n of the octets of a page are sent, by a sink that is at this stage of the page's job
-pub record Adds (n : ℕ) (job : ℕ) (octets : List ℕ) (from : Stage) (before : Option (List Connection)) (new : Desk) : Type 0 where
+pub record Adds (n : ℕ) (job : ℕ) (octets : List ℕ) (from : SinkStage) (before : Option (List Connection)) (new : Desk) : Type 0 where
   pub size : n ≤ most from (length octets)
   pub connections : new.connections ≡ told (sent from job (take n octets)) before
   pub stage : new.stage ≡ stage_after from job n (length octets)

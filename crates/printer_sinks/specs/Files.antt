@@ -1,7 +1,7 @@
 -- The files of a folder, and the hidden one that a job's pages go to.
 use Rattle.std.specs.Prelude.{◌≡◌, ◌⊎◌, ℕ, Bool, true, false, List, [], ◌∷◌, ◌++◌, Option, Some, None, ◌==◌, if◌then◌else◌}
-use Rattle.printer_sinks.specs.declared.draft.Draft.{Draft}
-use Rattle.printer_sinks.specs.declared.draft.Draft.TheVariants.{Nothing, Whole, Broken}
+use Rattle.printer_sinks.specs.declared.draft.JobDraft.{JobDraft}
+use Rattle.printer_sinks.specs.declared.draft.JobDraft.TheVariants.{Nothing, Whole, Broken}
 
 -- a file: its number, and its octets
 pub record File : Type 0 where
@@ -38,29 +38,29 @@ abbrev pub MayAdd : (draft : Option (List ℕ)) (old new : Option (List File)) �
 MayAdd draft old new = (new ≡ old) ⊎ AddsOne draft old new
 
 -- what a sink has of a job when a page of this job comes: another job is left
-abbrev pub draft_for : (job : ℕ) → Draft → Draft
+abbrev pub draft_for : (job : ℕ) → JobDraft → JobDraft
 draft_for job Nothing = Nothing
 draft_for job (Whole other) = if other == job then Whole other else Nothing
 draft_for job (Broken other) = if other == job then Broken other else Nothing
 
 -- a sink between two calls: what it has of a job, the hidden file, and the files with numbers
 pub record Shelf : Type 0 where
-  pub stage : Draft
+  pub stage : JobDraft
   pub draft : Option (List ℕ)
   pub files : Option (List File)
 
 -- the hidden file after a page
-abbrev pub with_page : Draft → (octets : List ℕ) → Option (List ℕ) → Option (List File) → Option (List ℕ)
+abbrev pub with_page : JobDraft → (octets : List ℕ) → Option (List ℕ) → Option (List File) → Option (List ℕ)
 with_page (Whole _) octets draft files = extended octets draft
 with_page _ octets draft files = extended octets (started files)
 
 -- all pages of a job so far are in the hidden file
-abbrev pub is_whole : Draft → Bool
+abbrev pub is_whole : JobDraft → Bool
 is_whole (Whole _) = true
 is_whole _ = false
 
 -- what a sink has of a job is broken
-abbrev pub IsBroken : Draft → Type 0
+abbrev pub IsBroken : JobDraft → Type 0
 IsBroken (Broken _) = Unit {0}
 IsBroken _ = ⊥
 
@@ -73,7 +73,7 @@ Keeps job octets false old new = (new.stage ≡ Broken job) × (new.files ≡ ol
 
 -- what leaving a job does to the files: where it was done and no page of it failed, the hidden file gets a number where that is
 -- told, and else maybe; otherwise nothing is published
-abbrev pub PublishesAt : (done ok : Bool) → Draft → (draft : Option (List ℕ)) → (old new : Option (List File)) → Type 0
+abbrev pub PublishesAt : (done ok : Bool) → JobDraft → (draft : Option (List ℕ)) → (old new : Option (List File)) → Type 0
 PublishesAt true true (Whole job) draft old new = AddsOne draft old new
 PublishesAt true false (Whole job) draft old new = MayAdd draft old new
 PublishesAt _ _ _ draft old new = new ≡ old
@@ -83,5 +83,5 @@ abbrev pub Leaves : (done ok : Bool) (old new : Shelf) → Type 0
 Leaves done ok old new = (new.stage ≡ Nothing) × PublishesAt done ok old.stage old.draft old.files new.files
 
 -- the shelf of a sink over a folder
-abbrev pub shelf : Draft → Option (List ℕ) → Option (List File) → Shelf
+abbrev pub shelf : JobDraft → Option (List ℕ) → Option (List File) → Shelf
 shelf stage draft files = record { stage = stage; draft = draft; files = files }

@@ -1,6 +1,6 @@
 -- What a folder's sink publishes of a job, from its first page until it is left.
 use Rattle.std.specs.Prelude.{◌≡◌, ◌⊎◌, ℕ, Bool, true, false, List, [], ◌∷◌, ◌++◌, Option, Some, if◌then◌else◌}
-use Rattle.printer_sinks.specs.declared.draft.Draft.TheVariants.{Nothing}
+use Rattle.printer_sinks.specs.declared.draft.JobDraft.TheVariants.{Nothing}
 use Rattle.printer_sinks.specs.Files.{File, Shelf, IsFree, Keeps, Leaves, shelf}
 use Rattle.printer_sinks.specs.Visits.{Given}
 

@@ -1,6 +1,6 @@
 -- What a sink's connections took of a job, from its first page until it is left.
 use Rattle.std.specs.Prelude.{◌≡◌, ◌⊎◌, ℕ, Bool, false, List, [], ◌∷◌, ◌++◌, Option, Some, take, if◌then◌else◌}
-use Rattle.printer_sinks.specs.declared.stage.Stage.TheVariants.{Idle}
+use Rattle.printer_sinks.specs.declared.stage.SinkStage.TheVariants.{Idle}
 use Rattle.printer_sinks.specs.Connections.{Connection, Desk, Sends, new_connection}
 
 -- a page that a sink was given, and whether it was told Ok

@@ -8,7 +8,7 @@ ghost use Rattle.printer_sinks.specs.Files.{File, Adds, MayAdd, started, extende
 pub struct FolderFault;
 
 /// A folder with one hidden file, and files with numbers of its own in their names.
-pub trait Folder {
+pub trait PrinterFolder {
     /// The files that have a number, the newest first, where the type can tell them.
     ghost files: { Self → Option (List File) };
 

@@ -4,27 +4,27 @@ ghost use Rattle.std.specs.Prelude.{◌≡◌, Bool, true, false, OnOk, OnErr};
 ghost use Rattle.std.specs.Result.{is_ok};
 ghost use Rattle.printer_sinks.specs.Files.{AddsOne, IsBroken, Keeps, Leaves, MayAdd, draft_for, extended, is_whole, shelf, started, with_page};
 
-use crate::draft::Draft;
-use crate::folder::{Folder, FolderFault};
+use crate::draft::JobDraft;
+use crate::folder::{FolderFault, PrinterFolder};
 
 /// What the sink has of a page's job. Where it was at another job it leaves that, and removes its hidden file.
-fn come_to<F: Folder>(folder: &mut F, stage: Draft, job: u64) -> Draft
+fn come_to<F: PrinterFolder>(folder: &mut F, stage: JobDraft, job: u64) -> JobDraft
     ensures stage { result ≡ draft_for job stage }
     ensures files { F.files folder.new ≡ F.files folder.old }
     ensures draft { is_whole result ≡ true → F.draft folder.new ≡ F.draft folder.old }
 {
     match stage {
-        Draft::Whole(other) if other != job => {
+        JobDraft::Whole(other) if other != job => {
             folder.discard();
-            Draft::Nothing
+            JobDraft::Nothing
         }
-        Draft::Broken(other) if other != job => Draft::Nothing,
+        JobDraft::Broken(other) if other != job => JobDraft::Nothing,
         _ => stage,
     }
 }
 
 /// Makes the hidden file of a job with its first page, and says whether the file has it.
-fn begin_with<F: Folder>(folder: &mut F, job: u64, octets: &[u8]) -> bool
+fn begin_with<F: PrinterFolder>(folder: &mut F, job: u64, octets: &[u8]) -> bool
     ensures draft { result ≡ true
         → F.draft folder.new ≡ extended octets.now (started (F.files folder.old)) }
     ensures files { F.files folder.new ≡ F.files folder.old }
@@ -33,35 +33,35 @@ fn begin_with<F: Folder>(folder: &mut F, job: u64, octets: &[u8]) -> bool
 }
 
 /// Adds a page to the hidden file, or makes one where nothing of the job is there. Says whether the file has the page.
-fn add<F: Folder>(folder: &mut F, stage: Draft, job: u64, octets: &[u8]) -> bool
+fn add<F: PrinterFolder>(folder: &mut F, stage: JobDraft, job: u64, octets: &[u8]) -> bool
     ensures draft { result ≡ true → F.draft folder.new
         ≡ with_page stage octets.now (F.draft folder.old) (F.files folder.old) }
     ensures whole { result ≡ true → IsBroken stage → ⊥ }
     ensures files { F.files folder.new ≡ F.files folder.old }
 {
     match stage {
-        Draft::Whole(_) => folder.append(octets).is_ok(),
-        Draft::Nothing => begin_with(folder, job, octets),
-        Draft::Broken(_) => false,
+        JobDraft::Whole(_) => folder.append(octets).is_ok(),
+        JobDraft::Nothing => begin_with(folder, job, octets),
+        JobDraft::Broken(_) => false,
     }
 }
 
 /// Adds a page to the hidden file of its job. Where that fails, the file is removed.
-fn keep<F: Folder>(folder: &mut F, stage: Draft, job: u64, octets: &[u8]) -> Draft
+fn keep<F: PrinterFolder>(folder: &mut F, stage: JobDraft, job: u64, octets: &[u8]) -> JobDraft
     ensures keeps { Keeps job octets.now (is_whole result)
         (shelf stage (F.draft folder.old) (F.files folder.old))
         (shelf result (F.draft folder.new) (F.files folder.new)) }
 {
     let stage = come_to(folder, stage, job);
     if add(folder, stage, job, octets) {
-        return Draft::Whole(job);
+        return JobDraft::Whole(job);
     }
     folder.discard();
-    Draft::Broken(job)
+    JobDraft::Broken(job)
 }
 
 /// Writes the hidden file to the disk, and then gives it a number.
-fn publish<F: Folder>(folder: &mut F) -> Result<(), FolderFault>
+fn publish<F: PrinterFolder>(folder: &mut F) -> Result<(), FolderFault>
     ensures ok { OnOk result (AddsOne (F.draft folder.old) (F.files folder.old)
         (F.files folder.new)) }
     ensures err { OnErr result (MayAdd (F.draft folder.old) (F.files folder.old)
@@ -74,19 +74,19 @@ fn publish<F: Folder>(folder: &mut F) -> Result<(), FolderFault>
 
 /// A folder that each job becomes a file of, once all of it was printed.
 #[derive(Drop)]
-pub struct FolderSink<F: Folder + Drop> {
+pub struct FolderSink<F: PrinterFolder + Drop> {
     folder: F,
-    stage: Draft,
+    stage: JobDraft,
 }
 
-impl<F: Folder + Drop> FolderSink<F> {
+impl<F: PrinterFolder + Drop> FolderSink<F> {
     /// A sink that is at no job.
     pub fn new(folder: F) -> FolderSink<F>
-        ensures { (result.stage ≡ Draft.Nothing) × (result.folder ≡ folder) }
+        ensures { (result.stage ≡ JobDraft.Nothing) × (result.folder ≡ folder) }
     {
         FolderSink {
             folder,
-            stage: Draft::Nothing,
+            stage: JobDraft::Nothing,
         }
     }
 
@@ -107,7 +107,7 @@ impl<F: Folder + Drop> FolderSink<F> {
             (shelf self.new.stage (F.draft self.new.folder) (F.files self.new.folder)) }
     {
         self.stage = keep(&mut self.folder, self.stage, job, octets);
-        if let Draft::Whole(_) = self.stage {
+        if let JobDraft::Whole(_) = self.stage {
             return Ok(());
         }
         Err(FolderFault)
@@ -124,11 +124,11 @@ impl<F: Folder + Drop> FolderSink<F> {
             (shelf self.new.stage (F.draft self.new.folder) (F.files self.new.folder)) }
     {
         let stage = self.stage;
-        self.stage = Draft::Nothing;
+        self.stage = JobDraft::Nothing;
         match stage {
-            Draft::Whole(_) if is_done => publish(&mut self.folder)?,
-            Draft::Whole(_) => self.folder.discard(),
-            Draft::Nothing | Draft::Broken(_) => {}
+            JobDraft::Whole(_) if is_done => publish(&mut self.folder)?,
+            JobDraft::Whole(_) => self.folder.discard(),
+            JobDraft::Nothing | JobDraft::Broken(_) => {}
         }
         Ok(())
     }

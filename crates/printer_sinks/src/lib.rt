@@ -14,11 +14,11 @@ mod socket;
 mod stage;
 
 pub use dial::{ConnectionFault, Dial, Pause};
-pub use draft::Draft;
-pub use folder::{Folder, FolderFault};
+pub use draft::JobDraft;
+pub use folder::{FolderFault, PrinterFolder};
 pub use folder_sink::FolderSink;
 pub use laws::{no_job_has_two, one_connection_a_job, published_is_whole};
-pub use memory_dial::{MemoryConnection, MemoryDial, Turn};
-pub use memory_folder::{MemoryFile, MemoryFolder};
+pub use memory_dial::{DialTurn, MemoryConnection, MemoryDial};
+pub use memory_folder::{MemoryFile, MemoryPrinterFolder};
 pub use socket::SocketSink;
-pub use stage::Stage;
+pub use stage::SinkStage;

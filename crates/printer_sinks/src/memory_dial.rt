@@ -18,7 +18,7 @@ pub struct MemoryConnection {
 
 /// What the printer does at a call.
 #[derive(Clone, Copy, Debug, PartialEq, Eq)]
-pub enum Turn {
+pub enum DialTurn {
     /// It fails.
     Fail,
     /// It takes N octets at most; at a dial, it opens the connection.
@@ -30,14 +30,14 @@ pub enum Turn {
 pub struct MemoryDial {
     alloc: Global,
     connections: Vec<MemoryConnection>,
-    turns: Vec<Turn>,
+    turns: Vec<DialTurn>,
     calls: usize,
     is_open: bool,
 }
 
 impl MemoryDial {
     /// A printer with these turns.
-    pub fn new(alloc: Global, turns: Vec<Turn>) -> MemoryDial
+    pub fn new(alloc: Global, turns: Vec<DialTurn>) -> MemoryDial
         ensures { result.connections.items ≡ [] }
     {
         MemoryDial {
@@ -56,12 +56,12 @@ impl MemoryDial {
         &self.connections
     }
 
-    fn turn(&mut self) -> Turn
+    fn turn(&mut self) -> DialTurn
         ensures { self.new.connections.items ≡ self.old.connections.items }
     {
         let turn = self.turns.get(self.calls).copied();
         self.calls = self.calls.saturating_add(1);
-        turn.unwrap_or(Turn::Take(usize::MAX))
+        turn.unwrap_or(DialTurn::Take(usize::MAX))
     }
 }
 
@@ -86,7 +86,7 @@ impl Dial for MemoryDial {
     ghost connections = { λ dial. Some (memory_connections dial.connections.items) };
 
     fn dial(&mut self, job: u64) -> Result<(), ConnectionFault> {
-        if self.turn() == Turn::Fail {
+        if self.turn() == DialTurn::Fail {
             return Err(ConnectionFault);
         }
         let connection = MemoryConnection {
@@ -101,7 +101,7 @@ impl Dial for MemoryDial {
     }
 
     fn write(&mut self, octets: &[u8]) -> Result<usize, ConnectionFault> {
-        let Turn::Take(most) = self.turn() else {
+        let DialTurn::Take(most) = self.turn() else {
             return Err(ConnectionFault);
         };
         if !self.is_open {

@@ -4,7 +4,7 @@ ghost use Rattle.std.specs.Prelude.{◌≡◌, ◌++◌, Some, OnOk, OnErr, IsTr
 ghost use Rattle.printer_sinks.specs.MemoryFiles.{memory_files};
 ghost use Rattle.printer_sinks.specs.Files.{IsFree};
 
-use crate::folder::{Folder, FolderFault};
+use crate::folder::{FolderFault, PrinterFolder};
 use std::alloc::Global;
 use std::mem;
 
@@ -19,7 +19,7 @@ pub struct MemoryFile {
 
 /// A folder that keeps its files in memory, and fails at one of its calls.
 #[derive(Drop)]
-pub struct MemoryFolder {
+pub struct MemoryPrinterFolder {
     alloc: Global,
     files: Vec<MemoryFile>,
     draft: Vec<u8>,
@@ -28,10 +28,10 @@ pub struct MemoryFolder {
     fails_at: u64,
 }
 
-impl MemoryFolder {
+impl MemoryPrinterFolder {
     /// A folder with nothing in it. Its call of that number fails, from 0.
-    pub fn new(alloc: Global, fails_at: u64) -> MemoryFolder {
-        MemoryFolder {
+    pub fn new(alloc: Global, fails_at: u64) -> MemoryPrinterFolder {
+        MemoryPrinterFolder {
             alloc,
             files: Vec::new(alloc),
             draft: Vec::new(alloc),
@@ -74,7 +74,7 @@ fn is_free(files: &[MemoryFile], number: u64) -> bool
     true
 }
 
-impl Folder for MemoryFolder {
+impl PrinterFolder for MemoryPrinterFolder {
     ghost files = { λ folder. Some (memory_files folder.files.items) };
 
     ghost draft = { λ folder. Some folder.draft.items };

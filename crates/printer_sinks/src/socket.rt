@@ -5,7 +5,7 @@ ghost use Rattle.std.specs.Result.{is_ok};
 ghost use Rattle.printer_sinks.specs.Connections.{Adds, desk, Sends, SendsSome, spoken, is_amid, is_begun, opened, stands, stage_for, told, longer, sent};
 
 use crate::dial::{ConnectionFault, Dial, Pause};
-use crate::stage::Stage;
+use crate::stage::SinkStage;
 
 /// Writes octets to the newest connection until it fails, and answers how many it took.
 fn write_on<D: Dial>(dial: &mut D, octets: &[u8]) -> usize
@@ -28,7 +28,7 @@ fn write_on<D: Dial>(dial: &mut D, octets: &[u8]) -> usize
 fn try_once<D: Dial>(dial: &mut D, job: u64, octets: &[u8]) -> usize
     ensures within { result ≤ length octets.now }
     ensures connections { told spoken (D.connections dial.new)
-        ≡ told (sent Stage.Idle job (take result octets.now)) (told spoken
+        ≡ told (sent SinkStage.Idle job (take result octets.now)) (told spoken
         (D.connections dial.old)) }
     ensures begun { 0 < result → is_begun (D.connections dial.new) ≡ true }
 {
@@ -56,7 +56,7 @@ struct Tries<'a, P: Pause> {
 fn begin<D: Dial, P: Pause>(dial: &mut D, tries: Tries<'_, P>, job: u64, octets: &[u8]) -> usize
     ensures within { result ≤ length octets.now }
     ensures connections { told spoken (D.connections dial.new)
-        ≡ told (sent Stage.Idle job (take result octets.now)) (told spoken
+        ≡ told (sent SinkStage.Idle job (take result octets.now)) (told spoken
         (D.connections dial.old)) }
     ensures begun { 0 < result → is_begun (D.connections dial.new) ≡ true }
 {
@@ -96,30 +96,30 @@ fn send_first<D: Dial, P: Pause>(
     tries: Tries<'_, P>,
     job: u64,
     octets: &[u8],
-) -> (usize, Stage)
-    ensures adds { Adds result.0 job octets.now Stage.Idle (told spoken (D.connections dial.old))
+) -> (usize, SinkStage)
+    ensures adds { Adds result.0 job octets.now SinkStage.Idle (told spoken (D.connections dial.old))
         (desk result.1 (D.connections dial.new)) }
     ensures stands { stands result.1 (D.connections dial.new) ≡ true }
 {
     if octets.is_empty() {
-        return (0, Stage::Idle);
+        return (0, SinkStage::Idle);
     }
     let first = begin(dial, tries, job, octets);
     if first == 0 {
-        return (0, Stage::Idle);
+        return (0, SinkStage::Idle);
     }
     let count = first + go_on(dial, &octets[first..]);
     if count == octets.len() {
-        (count, Stage::Sending(job))
+        (count, SinkStage::Sending(job))
     } else {
-        (count, Stage::Lost(job))
+        (count, SinkStage::Lost(job))
     }
 }
 
 /// Sends a page of a job of which an octet was sent.
-fn send_more<D: Dial>(dial: &mut D, job: u64, octets: &[u8]) -> (usize, Stage)
+fn send_more<D: Dial>(dial: &mut D, job: u64, octets: &[u8]) -> (usize, SinkStage)
     requires { is_begun (D.connections dial.old) ≡ true }
-    ensures adds { Adds result.0 job octets.now (Stage.Sending job) (told spoken
+    ensures adds { Adds result.0 job octets.now (SinkStage.Sending job) (told spoken
         (D.connections dial.old))
         (desk result.1 (D.connections dial.new)) }
     ensures stands { stands result.1 (D.connections dial.new) ≡ true }
@@ -127,23 +127,23 @@ fn send_more<D: Dial>(dial: &mut D, job: u64, octets: &[u8]) -> (usize, Stage)
 {
     let count = go_on(dial, octets);
     if count == octets.len() {
-        (count, Stage::Sending(job))
+        (count, SinkStage::Sending(job))
     } else {
-        (count, Stage::Lost(job))
+        (count, SinkStage::Lost(job))
     }
 }
 
 /// The stage for a page of a job. Where the sink was at another job it leaves that, and ends its connection.
-fn come_to<D: Dial>(dial: &mut D, stage: Stage, job: u64) -> Stage
+fn come_to<D: Dial>(dial: &mut D, stage: SinkStage, job: u64) -> SinkStage
     ensures stage { result ≡ stage_for job stage }
     ensures connections { D.connections dial.new ≡ D.connections dial.old }
 {
     match stage {
-        Stage::Sending(other) if other != job => {
+        SinkStage::Sending(other) if other != job => {
             let _ = dial.hang_up();
-            Stage::Idle
+            SinkStage::Idle
         }
-        Stage::Lost(other) if other != job => Stage::Idle,
+        SinkStage::Lost(other) if other != job => SinkStage::Idle,
         _ => stage,
     }
 }
@@ -152,10 +152,10 @@ fn come_to<D: Dial>(dial: &mut D, stage: Stage, job: u64) -> Stage
 fn send<D: Dial, P: Pause>(
     dial: &mut D,
     tries: Tries<'_, P>,
-    stage: Stage,
+    stage: SinkStage,
     job: u64,
     octets: &[u8],
-) -> (usize, Stage)
+) -> (usize, SinkStage)
     requires { stands stage (D.connections dial.old) ≡ true }
     ensures sends { SendsSome result.0 job octets.now (desk stage (D.connections dial.old))
         (desk result.1 (D.connections dial.new)) }
@@ -164,9 +164,9 @@ fn send<D: Dial, P: Pause>(
         → opened (D.connections dial.new) ≡ opened (D.connections dial.old) }
 {
     match come_to(dial, stage, job) {
-        Stage::Idle => send_first(dial, tries, job, octets),
-        Stage::Sending(_) => send_more(dial, job, octets),
-        Stage::Lost(_) => (0, Stage::Lost(job)),
+        SinkStage::Idle => send_first(dial, tries, job, octets),
+        SinkStage::Sending(_) => send_more(dial, job, octets),
+        SinkStage::Lost(_) => (0, SinkStage::Lost(job)),
     }
 }
 
@@ -176,7 +176,7 @@ pub struct SocketSink<D: Dial + Drop, P: Pause + Drop> {
     dial: D,
     pause: P,
     most_tries: u64,
-    stage: Stage,
+    stage: SinkStage,
     ghost begun: { stands stage (D.connections dial) ≡ true },
 }
 
@@ -184,13 +184,13 @@ impl<D: Dial + Drop, P: Pause + Drop> SocketSink<D, P> {
     /// A sink that is at no job. It makes N tries at most to open a connection for a job, with a pause after each.
     pub fn new(dial: D, pause: P, most_tries: u64) -> SocketSink<D, P>
         ensures { desk result.stage (D.connections result.dial)
-            ≡ desk Stage.Idle (D.connections dial) }
+            ≡ desk SinkStage.Idle (D.connections dial) }
     {
         SocketSink {
             dial,
             pause,
             most_tries,
-            stage: Stage::Idle,
+            stage: SinkStage::Idle,
         }
     }
 
@@ -232,10 +232,10 @@ impl<D: Dial + Drop, P: Pause + Drop> SocketSink<D, P> {
     /// failed: the last octets may not have come.
     pub fn leave(&mut self) -> Result<(), ConnectionFault>
         ensures { desk self.new.stage (D.connections self.new.dial)
-            ≡ desk Stage.Idle (D.connections self.old.dial) }
+            ≡ desk SinkStage.Idle (D.connections self.old.dial) }
     {
-        let is_open = matches!(self.stage, Stage::Sending(_));
-        self.stage = Stage::Idle;
+        let is_open = matches!(self.stage, SinkStage::Sending(_));
+        self.stage = SinkStage::Idle;
         if is_open {
             return self.dial.hang_up();
         }

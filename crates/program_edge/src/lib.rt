@@ -3,8 +3,11 @@
 #![tactic(auto)]
 
 mod descriptors;
+mod leaving;
+mod names;
 mod networks;
 mod numerals;
+mod opening;
 mod places;
 mod settings;
 mod status;
@@ -12,7 +15,10 @@ mod streams;
 mod telling;
 
 pub use descriptors::{descriptor_limit, fill_standard_descriptors};
+pub use leaving::pass_over;
+pub use names::{DefaultFile, JOB_FILE, JobFileName};
 pub use networks::Network;
+pub use opening::{Opening, StartFault, StartPart};
 pub use places::{Place, PrinterPlace};
 pub use settings::{
     LEAVE_SECONDS, Limits, LogForm, MOST_CONTROL_PATH, MOST_SESSIONS, NO_JOB_SECONDS,

@@ -113,20 +113,22 @@ fn address_of(text: &str) -> Option<SocketAddrV4>
     socket_of(text)
 }
 
-/// The place that a text writes. None where it writes none.
-fn place_of(text: &str) -> Option<Place<'_>>
-    ensures place { IfSome result (IsPlaceText text.now) }
-    ensures none { IfNone result ((place : Place) → IsPlaceText text.now place → ⊥) }
-{
-    if let Some(path) = path_after(text, "file:") {
-        return Some(Place::File(path));
+impl<'a> Place<'a> {
+    /// The place that a text writes: `file:PATH`, `folder:PATH` or `socket://A.B.C.D[:PORT]`. None where it writes none.
+    pub fn read(text: &'a str) -> Option<Place<'a>>
+        ensures place { IfSome result (IsPlaceText text.now) }
+        ensures none { IfNone result ((place : Place) → IsPlaceText text.now place → ⊥) }
+    {
+        if let Some(path) = path_after(text, "file:") {
+            return Some(Place::File(path));
+        }
+        if let Some(path) = path_after(text, "folder:") {
+            return Some(Place::Folder(path));
+        }
+        let host = after(text, "socket://")?;
+        let address = address_of(host)?;
+        Some(Place::Socket(address))
     }
-    if let Some(path) = path_after(text, "folder:") {
-        return Some(Place::Folder(path));
-    }
-    let host = after(text, "socket://")?;
-    let address = address_of(host)?;
-    Some(Place::Socket(address))
 }
 
 /// What stands before the first equals sign, and what stands behind it, if there is one.
@@ -153,7 +155,7 @@ impl<'a> PrinterPlace<'a> {
         if printer == 0 {
             return None;
         }
-        let place = place_of(place)?;
+        let place = Place::read(place)?;
         Some(PrinterPlace { printer, place })
     }
 }

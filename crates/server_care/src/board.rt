@@ -1,14 +1,15 @@
 //! Where the status of a server is asked for, and what is known of who shows it.
 
-ghost use Rattle.std.specs.Prelude.{IfErr};
-ghost use Rattle.server_house.specs.Faults.{IsListeningFault};
+ghost use Rattle.std.specs.Prelude.{◌≡◌, IfErr};
+ghost use Rattle.program_edge.specs.Openings.{IsUnopened};
+ghost use Rattle.program_edge.specs.declared.opening.StartPart.{StartPart};
+ghost use Rattle.program_edge.specs.declared.opening.StartPart.TheVariants.{Status};
 
 use log::Log;
 use mio::Waker;
-use program_edge::{Settings, tell_cause};
+use program_edge::{Settings, StartFault, StartPart, tell_cause};
 use server_counts::LastHour;
 use server_edge::{Doorway, Listening, Lobby};
-use server_house::Fault;
 use std::alloc::{AllocError, Global};
 use std::net::{Net, SocketAddr, TcpListener, TcpStream};
 
@@ -38,19 +39,19 @@ fn door_of(alloc: Global, settings: &Settings<'_>) -> Result<(Doorway, String), 
 
 /// A board where the settings have a place for it, and what wakes its thread.
 ///
-/// Network where the system doesn't give what it takes, of which the log is told why; Memory.
+/// Opening where the system doesn't give what it takes, of which the log is told why too; Memory.
 pub fn open_board<R: Log + Net<Listener = TcpListener, Stream = TcpStream>>(
     rt: &R,
     alloc: Global,
     settings: &Settings<'_>,
-) -> Result<Option<(Board, Waker)>, Fault>
-    ensures { IfErr result IsListeningFault }
+) -> Result<Option<(Board, Waker)>, StartFault>
+    ensures { IfErr result (IsUnopened (λ (part : StartPart). part ≡ Status)) }
 {
     let Some(place) = settings.status else {
         return Ok(None);
     };
     let Ok((doorway, name)) = door_of(alloc, settings) else {
-        return Err(Fault::Memory);
+        return Err(StartFault::Memory);
     };
     let address = SocketAddr::from((place.address, place.port));
     let listening = Listening {
@@ -72,7 +73,7 @@ pub fn open_board<R: Log + Net<Listener = TcpListener, Stream = TcpStream>>(
         }
         Err(error) => {
             tell_cause(rt, &address, Some(error));
-            Err(Fault::Network)
+            Err(StartFault::of(alloc, StartPart::Status, &address, &error))
         }
     }
 }

@@ -1,11 +1,10 @@
-//! Who looks after a house, and at it.
+//! Who looks after a server, and at it.
 
-use server_house::House;
-use shared_spool::SpoolLedger;
-use std::sync::ledger::Ledger;
+use server_house::{Hall, HouseLedger, HouseSpool};
 
-/// Who looks after a house, and at it: what is done there for whoever runs the server.
+/// Who looks after a server, and at it: what is done there for whoever runs the server.
 #[derive(Drop)]
-pub struct Care<'h, 'a, R, E: SpoolLedger, K: Ledger, H: Ledger> {
-    pub house: &'h House<'a, R, E, K, H>,
+pub struct Care<'h, 'a, R, E: HouseLedger> {
+    pub spool: &'h HouseSpool<E>,
+    pub hall: &'h Hall<'a, R>,
 }

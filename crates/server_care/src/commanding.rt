@@ -3,37 +3,36 @@
 use crate::care::Care;
 use control_lines::{AnswerEnd, Command};
 use log::Log;
-use server_house::{PrintedLine, rotation_of};
-use shared_spool::{Octets, SessionSeat, SpoolLedger};
+use server_house::{HouseLedger, HouseSeat, PrintedLine, rotation_of};
+use shared_spool::Octets;
 use std::alloc::{AllocError, Global};
 use std::fmt::Display;
 use std::fs::{File, Files};
 use std::rt::Clock;
 use std::sync::Wait;
-use std::sync::ledger::Ledger;
 
 /// Who removes what is removed at the control socket.
 const AGENT: &[u8] = b"root";
 
 /// The lines of an answer.
 #[derive(Drop)]
-pub struct Answer {
+pub struct AnswerLines {
     alloc: Global,
     text: String,
 }
 
-impl Answer {
+impl AnswerLines {
     /// No line.
-    pub fn new(alloc: Global) -> Answer {
-        Answer {
+    pub fn new(alloc: Global) -> AnswerLines {
+        AnswerLines {
             alloc,
             text: String::new(alloc),
         }
     }
 
     /// These lines.
-    pub fn of_lines(alloc: Global, text: String) -> Answer {
-        Answer { alloc, text }
+    pub fn of_lines(alloc: Global, text: String) -> AnswerLines {
+        AnswerLines { alloc, text }
     }
 
     /// One line more. An error where memory is refused.
@@ -47,7 +46,7 @@ impl Answer {
     pub fn end(self, end: AnswerEnd<'_>) -> Result<Vec<u8>, AllocError> {
         let mut answer = self;
         answer.line(&end)?;
-        let Answer { text, .. } = answer;
+        let AnswerLines { text, .. } = answer;
         Ok(text.into_bytes())
     }
 
@@ -63,26 +62,17 @@ impl Answer {
     }
 }
 
-impl<R: Files<File = File> + Clock + Log + Wait, E: SpoolLedger, K: Ledger, H: Ledger> Care<
-    '_,
-    '_,
-    R,
-    E,
-    K,
-    H,
-> {
+impl<R: Files<File = File> + Clock + Log + Wait, E: HouseLedger> Care<'_, '_, R, E> {
     /// The numbers of the printers of a queue that stand still now. An error where memory is refused.
     fn stopped_of(&self, queue: &[u8]) -> Result<Vec<u32>, AllocError> {
-        let config = &self.house.oversight.config;
-        let mut stopped = Vec::new(self.house.alloc);
+        let config = &self.hall.oversight.config;
+        let mut stopped = Vec::new(self.hall.alloc);
         let Some(queue) = config.queue_named(queue) else {
             return Ok(stopped);
         };
         for before in 0..config.printer_count() {
             let printer = before + 1;
-            if config.queue_of(printer) == queue
-                && self.house.spool.is_stopped(self.house.rt, printer)
-            {
+            if config.queue_of(printer) == queue && self.spool.is_stopped(self.hall.rt, printer) {
                 stopped.push(printer)?;
             }
         }
@@ -90,14 +80,10 @@ impl<R: Files<File = File> + Clock + Log + Wait, E: SpoolLedger, K: Ledger, H: L
     }
 
     /// Starts the stopped printers of a queue, and tells which.
-    fn start_queue(
-        &self,
-        seat: &mut SessionSeat<E, K, H>,
-        queue: &[u8],
-    ) -> Result<Vec<u8>, AllocError> {
-        let mut answer = Answer::new(self.house.alloc);
+    fn start_queue(&self, seat: &mut HouseSeat<E>, queue: &[u8]) -> Result<Vec<u8>, AllocError> {
+        let mut answer = AnswerLines::new(self.hall.alloc);
         let stopped = self.stopped_of(queue)?;
-        let started = match self.house.spool.start_telling(self.house.rt, seat, queue) {
+        let started = match self.spool.start_telling(self.hall.rt, seat, queue) {
             Ok(started) => started,
             Err(refusal) => return answer.end_by(Some(refusal)),
         };
@@ -114,69 +100,68 @@ impl<R: Files<File = File> + Clock + Log + Wait, E: SpoolLedger, K: Ledger, H: L
     /// Holds a queue, or releases it.
     fn hold_queue(&self, queue: &[u8], held: bool) -> Result<Vec<u8>, AllocError> {
         let done = if held {
-            self.house.spool.hold(self.house.rt, queue)
+            self.spool.hold(self.hall.rt, queue)
         } else {
-            self.house.spool.release(self.house.rt, queue)
+            self.spool.release(self.hall.rt, queue)
         };
-        Answer::new(self.house.alloc).end_by(done.err())
+        AnswerLines::new(self.hall.alloc).end_by(done.err())
     }
 
     /// Removes a job or a user's jobs of a queue, and tells which.
     fn remove_jobs(
         &self,
-        seat: &mut SessionSeat<E, K, H>,
+        seat: &mut HouseSeat<E>,
         queue: &[u8],
         whom: &[u8],
     ) -> Result<Vec<u8>, AllocError> {
-        let list = [Octets::copy_of(self.house.alloc, whom)?];
+        let list = [Octets::copy_of(self.hall.alloc, whom)?];
         match self
-            .house
             .spool
-            .remove_telling(self.house.rt, seat, queue, AGENT, &list)
+            .remove_telling(self.hall.rt, seat, queue, AGENT, &list)
         {
             Ok(removal) => {
-                self.house.end_removed(removal.numbers);
+                self.hall.end_removed(removal.numbers);
                 let mut octets = removal.text.into_vec();
-                let end = Answer::new(self.house.alloc).end(AnswerEnd::Done)?;
+                let end = AnswerLines::new(self.hall.alloc).end(AnswerEnd::Done)?;
                 octets.extend_from_slice(end.as_slice())?;
                 Ok(octets)
             }
-            Err(refusal) => Answer::new(self.house.alloc).end_by(Some(refusal)),
+            Err(refusal) => AnswerLines::new(self.hall.alloc).end_by(Some(refusal)),
         }
     }
 
     /// Has a job fed again that has failed, by the number of its file.
     fn resend_job(&self, number: u64) -> Result<Vec<u8>, AllocError> {
-        let answer = Answer::new(self.house.alloc);
-        let Some(kept) = &self.house.kept else {
+        let answer = AnswerLines::new(self.hall.alloc);
+        let Some(kept) = &self.hall.kept else {
             return answer.end_by(Some("no jobs are kept: the server has no --spool"));
         };
         if let Err(fault) = kept.disk.resend(number) {
             return answer.end_by(Some(fault));
         }
-        if kept.enter(self.house.rt, self.house.alloc, number)? {
+        if kept.enter(self.hall.rt, self.hall.alloc, number)? {
             return answer.end(AnswerEnd::Done);
         }
         answer.end_by(Some("the file isn't that of a kept job"))
     }
 
     /// Rotates the account. The porter prints that.
-    fn rotate_account(&self, seat: &mut SessionSeat<E, K, H>) -> Result<Vec<u8>, AllocError> {
-        let mut answer = Answer::new(self.house.alloc);
-        if !self.house.takes_place() {
+    fn rotate_account(&self, seat: &mut HouseSeat<E>) -> Result<Vec<u8>, AllocError> {
+        let mut answer = AnswerLines::new(self.hall.alloc);
+        if !self.hall.takes_place() {
             return answer.end_by(Some("segments of the account wait to be written"));
         }
-        match self.house.spool.rotate(self.house.rt, seat) {
+        match self.spool.rotate(self.hall.rt, seat) {
             Ok(segment) => {
                 let rotation = rotation_of(&segment);
-                self.house.note_rotated(Ok(segment));
-                let _ = self.house.waker.wake();
+                self.hall.note_rotated(Ok(segment));
+                let _ = self.hall.waker.wake();
                 let (number, entries) = (rotation.number, rotation.entries);
                 answer.line(&PrintedLine::Rotated { number, entries })?;
                 answer.end(AnswerEnd::Done)
             }
             Err(refusal) => {
-                self.house.give_place_back();
+                self.hall.give_place_back();
                 answer.end_by(Some(refusal))
             }
         }
@@ -185,7 +170,7 @@ impl<R: Files<File = File> + Clock + Log + Wait, E: SpoolLedger, K: Ledger, H: L
     /// Does what a command asks for, but for a stop. The octets of its answer; an error where memory is refused.
     pub fn carry_out(
         &self,
-        seat: &mut SessionSeat<E, K, H>,
+        seat: &mut HouseSeat<E>,
         command: &Command,
     ) -> Result<Vec<u8>, AllocError> {
         match command {
@@ -198,7 +183,7 @@ impl<R: Files<File = File> + Clock + Log + Wait, E: SpoolLedger, K: Ledger, H: L
             }
             Command::Resend { number } => self.resend_job(*number),
             Command::Rotate => self.rotate_account(seat),
-            Command::Stop { .. } | Command::StopNow => Answer::new(self.house.alloc).end(
+            Command::Stop { .. } | Command::StopNow => AnswerLines::new(self.hall.alloc).end(
                 AnswerEnd::Done,
             ),
         }

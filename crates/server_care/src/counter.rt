@@ -1,11 +1,11 @@
 //! What reaches a server beside its clients: what is asked at a control socket, and signals.
 
-use crate::commanding::Answer;
+use crate::commanding::AnswerLines;
 use control_lines::MOST_LINE;
-use control_socket::{Asked, ControlSocket, OpenFault, Pending, Signals, SocketFile, Times};
+use control_socket::{AskedLine, ControlSocket, OpenFault, Pending, Signals, SocketFile, Times};
 use log::{Log, warn};
 use mio::Waker;
-use server_house::Fault;
+use server_house::ServerFault;
 use std::alloc::Global;
 use std::fs::{File, Files};
 use std::net::Net;
@@ -78,7 +78,7 @@ impl Counter {
     }
 
     /// What is asked next, if anything is within half a second.
-    pub fn next<R: Clock + Log + Wait>(&mut self, rt: &R) -> Option<Asked> {
+    pub fn next<R: Clock + Log + Wait>(&mut self, rt: &R) -> Option<AskedLine> {
         let Some(control) = &mut self.control else {
             thread::sleep(rt, Duration::from_millis(TURN_MS));
             return None;
@@ -94,16 +94,16 @@ impl Counter {
     }
 
     /// Answers what was asked.
-    pub fn answer(&mut self, asked: &Asked, octets: Vec<u8>) {
+    pub fn answer(&mut self, asked: &AskedLine, octets: Vec<u8>) {
         if let Some(control) = &mut self.control {
             control.answer(asked.talk, octets);
         }
     }
 
     /// The server has ended so: answers those who wait for that.
-    pub fn end<R: Clock + Log>(self, rt: &R, alloc: Global, ended: &Result<(), Fault>) {
+    pub fn end<R: Clock + Log>(self, rt: &R, alloc: Global, ended: &Result<(), ServerFault>) {
         let Counter { control, .. } = self;
-        let answer = Answer::new(alloc).end_by(ended.as_ref().err());
+        let answer = AnswerLines::new(alloc).end_by(ended.as_ref().err());
         // Without memory for the answer there is none.
         let answer = answer.unwrap_or(Vec::new(alloc));
         if let Some(control) = control {

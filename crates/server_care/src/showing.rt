@@ -6,18 +6,17 @@ use crate::care::Care;
 use log::{Log, warn};
 use server_counts::{Look, ServerCounts};
 use server_edge::Visit;
-use server_house::Showing;
-use shared_spool::{Sight, SpoolLedger};
+use server_house::{HouseLedger, Showing};
+use shared_spool::Sight;
 use spool_snapshot::Pages;
 use status_answers::{
-    Method, Reading, Resource, Scene, read_request, refusal_response, send_response,
+    Method, RequestReading, Resource, Scene, read_request, refusal_response, send_response,
     status_response, timeout_response, unavailable_response,
 };
 use std::alloc::{AllocError, Global};
 use std::fs::{File, Files};
 use std::rt::Clock;
 use std::sync::Wait;
-use std::sync::ledger::Ledger;
 use std::thread;
 use std::time::Duration;
 
@@ -58,25 +57,18 @@ fn put_off_of(alloc: Global, sight: &Sight) -> Result<Vec<u64>, AllocError> {
     Ok(put_off)
 }
 
-impl<R: Files<File = File> + Clock + Log + Wait, E: SpoolLedger, K: Ledger, H: Ledger> Care<
-    '_,
-    '_,
-    R,
-    E,
-    K,
-    H,
-> {
+impl<R: Files<File = File> + Clock + Log + Wait, E: HouseLedger> Care<'_, '_, R, E> {
     /// The seconds since the server's start; none where the clock can't be read.
     fn uptime(&self) -> u64 {
-        let start = self.house.oversight.start;
-        let elapsed = start.and_then(|start| start.elapsed(self.house.rt).ok());
+        let start = self.hall.oversight.start;
+        let elapsed = start.and_then(|start| start.elapsed(self.hall.rt).ok());
         elapsed.map_or(0, |elapsed| elapsed.as_secs())
     }
 
     /// What was counted since the server's start.
     fn counts(&self) -> ServerCounts {
-        match &self.house.job_book {
-            Some(book) => book.counts(self.house.rt),
+        match &self.hall.job_book {
+            Some(book) => book.counts(self.hall.rt),
             None => ServerCounts::new(),
         }
     }
@@ -88,7 +80,7 @@ impl<R: Files<File = File> + Clock + Log + Wait, E: SpoolLedger, K: Ledger, H: L
             return;
         }
         board.due = second.saturating_add(LOOK_SECONDS);
-        let pages = self.house.spool.pages(self.house.rt);
+        let pages = self.spool.pages(self.hall.rt);
         let _ = board.hour.note(look_of(second, pages, &self.counts()));
     }
 
@@ -99,20 +91,20 @@ impl<R: Files<File = File> + Clock + Log + Wait, E: SpoolLedger, K: Ledger, H: L
         method: Method,
         resource: Resource,
     ) -> Result<String, AllocError> {
-        let (rt, alloc) = (self.house.rt, self.house.alloc);
-        let sight = self.house.spool.sight(rt, alloc)?;
+        let (rt, alloc) = (self.hall.rt, self.hall.alloc);
+        let sight = self.spool.sight(rt, alloc)?;
         let Some(survey) = self.survey(&sight)? else {
             return unavailable_response(alloc);
         };
         let order = sight.spool.finishing_order(alloc)?;
         let put_off = put_off_of(alloc, &sight)?;
-        let ages = match &self.house.job_book {
+        let ages = match &self.hall.job_book {
             Some(book) => book.ages(rt, numbers_of(alloc, &sight)?.as_slice())?,
             None => Vec::new(alloc),
         };
         let counts = self.counts();
         let scene = Scene {
-            config: &self.house.oversight.config,
+            config: &self.hall.oversight.config,
             spool: &sight.spool,
             outside: &survey.outside(&sight),
             order: order.as_ref().map(|order| order.as_slice()),
@@ -126,13 +118,13 @@ impl<R: Files<File = File> + Clock + Log + Wait, E: SpoolLedger, K: Ledger, H: L
 
     /// The response to a connection.
     fn response_to(&self, board: &Board, visit: &Visit) -> Result<String, AllocError> {
-        match read_request(self.house.rt, &visit.stream, board.name.as_bytes()) {
-            Reading::Wanted { method, resource } => match self.draw(board, method, resource) {
+        match read_request(self.hall.rt, &visit.stream, board.name.as_bytes()) {
+            RequestReading::Wanted { method, resource } => match self.draw(board, method, resource) {
                 Ok(response) => Ok(response),
-                Err(AllocError) => unavailable_response(self.house.alloc),
+                Err(AllocError) => unavailable_response(self.hall.alloc),
             },
-            Reading::Refused(refusal) => refusal_response(self.house.alloc, refusal),
-            Reading::More => timeout_response(self.house.alloc),
+            RequestReading::Refused(refusal) => refusal_response(self.hall.alloc, refusal),
+            RequestReading::More => timeout_response(self.hall.alloc),
         }
     }
 
@@ -140,20 +132,20 @@ impl<R: Files<File = File> + Clock + Log + Wait, E: SpoolLedger, K: Ledger, H: L
     fn show(&self, board: &Board, visit: &Visit) {
         match self.response_to(board, visit) {
             Ok(response) => {
-                let _ = send_response(self.house.rt, &visit.stream, response.as_str());
+                let _ = send_response(self.hall.rt, &visit.stream, response.as_str());
             }
             Err(AllocError) =>
-                warn!(self.house.rt; "{}: memory was refused to show the status", visit.peer),
+                warn!(self.hall.rt; "{}: memory was refused to show the status", visit.peer),
         }
     }
 
     /// Answers a connection, which whoever ends the server may end meanwhile.
     fn show_to(&self, board: &Board, showing: &Showing, visit: &Visit) {
-        *showing.answered.lock(self.house.rt) = visit.stream.try_clone().ok();
-        if !self.house.ending.is_closed() {
+        *showing.answered.lock(self.hall.rt) = visit.stream.try_clone().ok();
+        if !self.hall.ending.is_closed() {
             self.show(board, visit);
         }
-        *showing.answered.lock(self.house.rt) = None;
+        *showing.answered.lock(self.hall.rt) = None;
     }
 
     /// Waits for a connection, until the next look is due.
@@ -161,21 +153,21 @@ impl<R: Files<File = File> + Clock + Log + Wait, E: SpoolLedger, K: Ledger, H: L
         let seconds = board.due.saturating_sub(self.uptime()).min(LOOK_SECONDS);
         if let Err(error) = board
             .lobby
-            .round(self.house.rt, Some(seconds.saturating_mul(1_000)))
+            .round(self.hall.rt, Some(seconds.saturating_mul(1_000)))
         {
-            warn!(self.house.rt; "the status can't be asked for: {error}");
-            thread::sleep(self.house.rt, Duration::from_millis(PAUSE_MS));
+            warn!(self.hall.rt; "the status can't be asked for: {error}");
+            thread::sleep(self.hall.rt, Duration::from_millis(PAUSE_MS));
         }
     }
 
     /// Answers who asks for the status, until the spool is closed.
     pub fn show_all(&self, board: Board) {
-        let Some(showing) = &self.house.showing else {
+        let Some(showing) = &self.hall.showing else {
             return;
         };
         let mut board = board;
-        for _ in self.house.rt.forever() {
-            if self.house.ending.is_closed() {
+        for _ in self.hall.rt.forever() {
+            if self.hall.ending.is_closed() {
                 break;
             }
             self.look(&mut board);
@@ -187,11 +179,11 @@ impl<R: Files<File = File> + Clock + Log + Wait, E: SpoolLedger, K: Ledger, H: L
     }
 }
 
-impl<R: Wait, E: SpoolLedger, K: Ledger, H: Ledger> Care<'_, '_, R, E, K, H> {
+impl<R: Wait, E: HouseLedger> Care<'_, '_, R, E> {
     /// The status isn't shown any more, once the spool is closed.
     pub fn end_showing(&self) {
-        if let Some(showing) = &self.house.showing {
-            showing.end(self.house.rt);
+        if let Some(showing) = &self.hall.showing {
+            showing.end(self.hall.rt);
         }
     }
 }

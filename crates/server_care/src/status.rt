@@ -1,16 +1,16 @@
 //! How all of a server stands, as lines.
 
 use crate::care::Care;
-use crate::commanding::Answer;
+use crate::commanding::AnswerLines;
 use control_lines::AnswerEnd;
 use log::Log;
-use shared_spool::{Sight, SpoolLedger};
-use status_lines::{KeptJobs, Outside, SeenSession, Standstill, status_text};
+use server_house::HouseLedger;
+use shared_spool::Sight;
+use status_lines::{KeptJobs, Outside, SeenSession, SeenStandstill, status_text};
 use std::alloc::AllocError;
 use std::fs::{File, Files};
 use std::rt::Clock;
 use std::sync::Wait;
-use std::sync::ledger::Ledger;
 use std::time::Instant;
 
 /// What the edge of a server knows at one moment.
@@ -22,7 +22,7 @@ pub struct Survey {
     lobby: usize,
     kept: Option<KeptJobs>,
     sessions: Vec<SeenSession>,
-    standstills: Vec<Option<Standstill>>,
+    standstills: Vec<Option<SeenStandstill>>,
 }
 
 impl Survey {
@@ -42,21 +42,14 @@ impl Survey {
     }
 }
 
-impl<R: Files<File = File> + Clock + Log + Wait, E: SpoolLedger, K: Ledger, H: Ledger> Care<
-    '_,
-    '_,
-    R,
-    E,
-    K,
-    H,
-> {
+impl<R: Files<File = File> + Clock + Log + Wait, E: HouseLedger> Care<'_, '_, R, E> {
     /// The sessions that serve somebody, the oldest first, at this moment.
     fn seen_sessions(&self, start: Instant, now: Instant) -> Result<Vec<SeenSession>, AllocError> {
-        let mut sessions = Vec::new(self.house.alloc);
+        let mut sessions = Vec::new(self.hall.alloc);
         for served in self
-            .house
+            .hall
             .posts
-            .served(self.house.rt, self.house.alloc, start, now)?
+            .served(self.hall.rt, self.hall.alloc, start, now)?
         {
             sessions.push(SeenSession {
                 peer: served.peer,
@@ -71,20 +64,20 @@ impl<R: Files<File = File> + Clock + Log + Wait, E: SpoolLedger, K: Ledger, H: L
         &self,
         sight: &Sight,
         now: Instant,
-    ) -> Result<Vec<Option<Standstill>>, AllocError> {
-        let mut standstills = Vec::new(self.house.alloc);
-        for at in 0..self.house.oversight.config.printer_count() {
+    ) -> Result<Vec<Option<SeenStandstill>>, AllocError> {
+        let mut standstills = Vec::new(self.hall.alloc);
+        for at in 0..self.hall.oversight.config.printer_count() {
             let mut seen = None;
             let printer = sight.spool.printers.get(at as usize);
             let is_stopped = printer.is_some_and(|printer| printer.stopped);
-            let standstill = self.house.oversight.standstills.of(self.house.rt, at + 1);
+            let standstill = self.hall.oversight.standstills.of(self.hall.rt, at + 1);
             if let (true, Some(standstill)) = (is_stopped, standstill) {
                 let cause = match standstill.cause {
-                    Some(cause) => format!(in self.house.alloc; "{cause}")?,
-                    None => String::from_str(self.house.alloc, "not written")?,
+                    Some(cause) => format!(in self.hall.alloc; "{cause}")?,
+                    None => String::from_str(self.hall.alloc, "not written")?,
                 };
                 let seconds = now.saturating_duration_since(standstill.since).as_secs();
-                seen = Some(Standstill { seconds, cause });
+                seen = Some(SeenStandstill { seconds, cause });
             }
             standstills.push(seen)?;
         }
@@ -94,15 +87,14 @@ impl<R: Files<File = File> + Clock + Log + Wait, E: SpoolLedger, K: Ledger, H: L
     /// What the edge of the server knows at this moment, at which the spool is as that shows. None where the clock can't be read.
     /// AllocError where memory for it is refused.
     pub fn survey(&self, sight: &Sight) -> Result<Option<Survey>, AllocError> {
-        let (Some(start), Ok(now)) = (self.house.oversight.start, Instant::now(self.house.rt))
-        else {
+        let (Some(start), Ok(now)) = (self.hall.oversight.start, Instant::now(self.hall.rt)) else {
             return Ok(None);
         };
         Ok(Some(Survey {
             uptime: now.saturating_duration_since(start).as_secs(),
-            stops: self.house.ending.stops(),
-            lobby: self.house.oversight.in_lobby() as usize,
-            kept: self.house.kept.as_ref().map(|kept| kept.counts()),
+            stops: self.hall.ending.stops(),
+            lobby: self.hall.oversight.in_lobby() as usize,
+            kept: self.hall.kept.as_ref().map(|kept| kept.counts()),
             sessions: self.seen_sessions(start, now)?,
             standstills: self.seen_standstills(sight, now)?,
         }))
@@ -110,12 +102,12 @@ impl<R: Files<File = File> + Clock + Log + Wait, E: SpoolLedger, K: Ledger, H: L
 
     /// Tells how the spool, its sessions, its printers and its jobs stand.
     pub fn tell_status(&self) -> Result<Vec<u8>, AllocError> {
-        let sight = self.house.spool.sight(self.house.rt, self.house.alloc)?;
+        let sight = self.spool.sight(self.hall.rt, self.hall.alloc)?;
         let Some(survey) = self.survey(&sight)? else {
-            return Answer::new(self.house.alloc).end(AnswerEnd::Done);
+            return AnswerLines::new(self.hall.alloc).end(AnswerEnd::Done);
         };
-        let (config, outside) = (&self.house.oversight.config, survey.outside(&sight));
-        let text = status_text(self.house.alloc, config, &sight.spool, &outside)?;
-        Answer::of_lines(self.house.alloc, text).end(AnswerEnd::Done)
+        let (config, outside) = (&self.hall.oversight.config, survey.outside(&sight));
+        let text = status_text(self.hall.alloc, config, &sight.spool, &outside)?;
+        AnswerLines::of_lines(self.hall.alloc, text).end(AnswerEnd::Done)
     }
 }

@@ -1,25 +1,24 @@
 //! The thread that does what is asked at the control socket and by signals, and tells again of printers that stand still.
 
 use crate::care::Care;
-use crate::commanding::Answer;
+use crate::commanding::AnswerLines;
 use crate::counter::Counter;
 use control_lines::{AnswerEnd, Command, LineFault};
-use control_socket::{Asked, Pending};
+use control_socket::{AskedLine, Pending};
 use log::{Log, warn};
+use server_house::{HouseLedger, HouseSeat};
 use server_notes::Standstill;
-use shared_spool::{SessionSeat, SpoolLedger};
 use std::alloc::AllocError;
 use std::fs::{File, Files};
 use std::rt::Clock;
 use std::sync::Wait;
-use std::sync::ledger::Ledger;
 use std::time::{Duration, Instant};
 
 /// Who does what is asked.
 #[derive(Drop)]
-struct Steward<'h, 'a, R, E: SpoolLedger, K: Ledger, H: Ledger> {
-    care: &'h Care<'h, 'a, R, E, K, H>,
-    seat: SessionSeat<E, K, H>,
+struct Steward<'h, 'a, R, E: HouseLedger> {
+    care: &'h Care<'h, 'a, R, E>,
+    seat: HouseSeat<E>,
     counter: Counter,
     /// When nothing is waited for any more, where that was asked.
     cut_off_at: Option<Instant>,
@@ -33,20 +32,13 @@ fn earlier(first: Option<Instant>, second: Option<Instant>) -> Option<Instant> {
     }
 }
 
-impl<R: Files<File = File> + Clock + Log + Wait, E: SpoolLedger, K: Ledger, H: Ledger> Steward<
-    '_,
-    '_,
-    R,
-    E,
-    K,
-    H,
-> {
+impl<R: Files<File = File> + Clock + Log + Wait, E: HouseLedger> Steward<'_, '_, R, E> {
     /// Nobody is let in any more; after N seconds nothing is waited for any more, where there is such a number.
     fn stop(&mut self, seconds: Option<u32>) {
-        let house = self.care.house;
-        house.ending.stop();
-        let _ = house.waker.wake();
-        if let (Some(seconds), Ok(now)) = (seconds, Instant::now(house.rt)) {
+        let hall = self.care.hall;
+        hall.ending.stop();
+        let _ = hall.waker.wake();
+        if let (Some(seconds), Ok(now)) = (seconds, Instant::now(hall.rt)) {
             let at = now.checked_add(Duration::from_secs(u64::from(seconds)));
             self.cut_off_at = earlier(self.cut_off_at, at);
         }
@@ -61,7 +53,7 @@ impl<R: Files<File = File> + Clock + Log + Wait, E: SpoolLedger, K: Ledger, H: L
     fn look_at_signals(&mut self) {
         match self.counter.pending() {
             Pending::Neither => {}
-            Pending::One if self.care.house.ending.stops() => {}
+            Pending::One if self.care.hall.ending.stops() => {}
             Pending::One => self.stop(None),
             Pending::Both => self.stop_now(),
         }
@@ -69,7 +61,7 @@ impl<R: Files<File = File> + Clock + Log + Wait, E: SpoolLedger, K: Ledger, H: L
 
     /// Does what is due.
     fn look_at_clock(&mut self) {
-        let Ok(now) = Instant::now(self.care.house.rt) else {
+        let Ok(now) = Instant::now(self.care.hall.rt) else {
             return;
         };
         if self.cut_off_at.is_some_and(|at| at <= now) {
@@ -81,45 +73,45 @@ impl<R: Files<File = File> + Clock + Log + Wait, E: SpoolLedger, K: Ledger, H: L
     /// How many jobs of its queue wait behind a printer, where it stands still. None where it runs, of which it is kept that it doesn't
     /// stand still any more.
     fn jobs_behind(&self, printer: u32, queue: u32) -> Option<usize> {
-        let house = self.care.house;
-        if !house.spool.is_stopped(house.rt, printer) {
-            house.oversight.standstills.end(house.rt, printer);
+        let (spool, hall) = (self.care.spool, self.care.hall);
+        if !spool.is_stopped(hall.rt, printer) {
+            hall.oversight.standstills.end(hall.rt, printer);
             return None;
         }
-        Some(house.spool.held_in(house.rt, queue))
+        Some(spool.held_in(hall.rt, queue))
     }
 
     /// Tells that a printer stands still.
     fn tell_standstill(&self, printer: u32, standstill: Standstill, now: Instant) {
-        let house = self.care.house;
-        let queue = house.oversight.config.queue_of(printer);
+        let hall = self.care.hall;
+        let queue = hall.oversight.config.queue_of(printer);
         let Some(jobs) = self.jobs_behind(printer, queue) else {
             return;
         };
-        let name = house.queue_name(queue);
+        let name = hall.queue_name(queue);
         let minutes = now.saturating_duration_since(standstill.since).as_secs() / 60;
         match standstill.cause {
             Some(cause) =>
-                warn!(house.rt; "printer {printer} of {name} has stood still for {minutes} min, with {jobs} jobs: {cause}"),
+                warn!(hall.rt; "printer {printer} of {name} has stood still for {minutes} min, with {jobs} jobs: {cause}"),
             None =>
-                warn!(house.rt; "printer {printer} of {name} has stood still for {minutes} min, with {jobs} jobs"),
+                warn!(hall.rt; "printer {printer} of {name} has stood still for {minutes} min, with {jobs} jobs"),
         }
     }
 
     /// Tells of each printer that stands still, where that is due.
     fn tell_standstills(&self, now: Instant) {
-        let house = self.care.house;
-        for at in 0..house.oversight.config.printer_count() {
+        let hall = self.care.hall;
+        for at in 0..hall.oversight.config.printer_count() {
             let printer = at + 1;
-            if let Some(standstill) = house.oversight.standstills.take_due(house.rt, printer, now) {
+            if let Some(standstill) = hall.oversight.standstills.take_due(hall.rt, printer, now) {
                 self.tell_standstill(printer, standstill, now);
             }
         }
     }
 
     /// Does what was asked at the control socket.
-    fn answer(&mut self, asked: Asked) {
-        let alloc = self.care.house.alloc;
+    fn answer(&mut self, asked: AskedLine) {
+        let alloc = self.care.hall.alloc;
         let answer = match Command::parse(alloc, asked.line.as_slice()) {
             Ok(Command::Stop { seconds }) => {
                 self.stop(seconds);
@@ -130,7 +122,7 @@ impl<R: Files<File = File> + Clock + Log + Wait, E: SpoolLedger, K: Ledger, H: L
                 return;
             }
             Ok(command) => self.care.carry_out(&mut self.seat, &command),
-            Err(LineFault::Unknown) => Answer::new(alloc).end(AnswerEnd::Unknown),
+            Err(LineFault::Unknown) => AnswerLines::new(alloc).end(AnswerEnd::Unknown),
             Err(LineFault::Memory) => Err(AllocError),
         };
         // Without memory for the answer there is none.
@@ -139,22 +131,11 @@ impl<R: Files<File = File> + Clock + Log + Wait, E: SpoolLedger, K: Ledger, H: L
     }
 }
 
-impl<R: Files<File = File> + Clock + Log + Wait, E: SpoolLedger, K: Ledger, H: Ledger> Care<
-    '_,
-    '_,
-    R,
-    E,
-    K,
-    H,
-> {
+impl<R: Files<File = File> + Clock + Log + Wait, E: HouseLedger> Care<'_, '_, R, E> {
     /// Does what is asked, and tells again of printers that stand still, until the spool is closed. Answers the seat, and what still
     /// waits for the server's end. Where nobody looks after the server or at it, this answers at once.
-    pub fn look_after(
-        &self,
-        seat: SessionSeat<E, K, H>,
-        counter: Counter,
-    ) -> (SessionSeat<E, K, H>, Counter) {
-        if !self.house.is_watched() {
+    pub fn look_after(&self, seat: HouseSeat<E>, counter: Counter) -> (HouseSeat<E>, Counter) {
+        if !self.hall.is_watched() {
             return (seat, counter);
         }
         let mut steward = Steward {
@@ -163,13 +144,13 @@ impl<R: Files<File = File> + Clock + Log + Wait, E: SpoolLedger, K: Ledger, H: L
             counter,
             cut_off_at: None,
         };
-        for _ in self.house.rt.forever() {
-            if self.house.ending.is_closed() {
+        for _ in self.hall.rt.forever() {
+            if self.hall.ending.is_closed() {
                 break;
             }
             steward.look_at_signals();
             steward.look_at_clock();
-            if let Some(asked) = steward.counter.next(self.house.rt) {
+            if let Some(asked) = steward.counter.next(self.hall.rt) {
                 steward.answer(asked);
             }
         }

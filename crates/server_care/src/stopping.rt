@@ -9,11 +9,11 @@ use control_lines::Escaped;
 use held_jobs::Phase;
 use log::{Log, warn};
 use printer_devices::has_unread;
-use shared_spool::{SeenJob, SessionSeat, Sight, SpoolLedger};
+use server_house::{HouseLedger, HouseSeat};
+use shared_spool::{SeenJob, Sight};
 use spool_calls::Printer;
 use std::rt::Clock;
 use std::sync::Wait;
-use std::sync::ledger::Ledger;
 use std::thread;
 use std::time::Duration;
 
@@ -73,11 +73,11 @@ fn awaits_one(sight: &Sight) -> bool
         .any(|job| is_awaited(printers, held, job))
 }
 
-impl<R: Clock + Log + Wait, E: SpoolLedger, K: Ledger, H: Ledger> Care<'_, '_, R, E, K, H> {
+impl<R: Clock + Log + Wait, E: HouseLedger> Care<'_, '_, R, E> {
     /// Whether the pipe of a printer that runs has octets that its reader hasn't taken.
     fn has_full_pipe(&self, sight: &Sight) -> bool {
         let printers = sight.spool.printers.iter();
-        let mut pipes = self.house.oversight.pipes.iter().zip(printers);
+        let mut pipes = self.hall.oversight.pipes.iter().zip(printers);
         pipes.any(|(pipe, printer)| {
             !printer.stopped && pipe.as_ref().is_some_and(|pipe| has_unread(pipe))
         })
@@ -85,10 +85,10 @@ impl<R: Clock + Log + Wait, E: SpoolLedger, K: Ledger, H: Ledger> Care<'_, '_, R
 
     /// Whether nothing is left to do.
     fn is_done(&self) -> bool {
-        if !self.house.ending.stops() {
-            return self.house.spool.is_idle(self.house.rt);
+        if !self.hall.ending.stops() {
+            return self.spool.is_idle(self.hall.rt);
         }
-        let Ok(sight) = self.house.spool.sight(self.house.rt, self.house.alloc) else {
+        let Ok(sight) = self.spool.sight(self.hall.rt, self.hall.alloc) else {
             return false;
         };
         !awaits_one(&sight) && !self.has_full_pipe(&sight)
@@ -96,27 +96,27 @@ impl<R: Clock + Log + Wait, E: SpoolLedger, K: Ledger, H: Ledger> Care<'_, '_, R
 
     /// Waits until nothing is left to do, once no session brings more; or until nothing is waited for any more.
     pub fn wait_until_done(&self) {
-        if !self.house.is_watched() {
-            self.house.spool.idle_wait(self.house.rt);
+        if !self.hall.is_watched() {
+            self.spool.idle_wait(self.hall.rt);
             return;
         }
-        for _ in self.house.rt.forever() {
-            if self.house.ending.cuts_off() || self.is_done() {
+        for _ in self.hall.rt.forever() {
+            if self.hall.ending.cuts_off() || self.is_done() {
                 return;
             }
-            thread::sleep(self.house.rt, Duration::from_millis(LOOK_MS));
+            thread::sleep(self.hall.rt, Duration::from_millis(LOOK_MS));
         }
     }
 
     /// Tells that a job is lost.
     fn tell_lost(&self, job: &SeenJob) {
         let (user, host) = (Escaped(job.user.as_slice()), Escaped(job.host.as_slice()));
-        let (number, queue, octets) = (job.number, self.house.queue_name(job.queue), job.octets);
+        let (number, queue, octets) = (job.number, self.hall.queue_name(job.queue), job.octets);
         let why = match job.phase {
             Phase::Receiving => "it isn't whole",
             Phase::Received | Phase::Ended => "it isn't printed",
         };
-        warn!(self.house.rt; "job {number} {queue} {user}@{host} {octets} octets is lost: {why}");
+        warn!(self.hall.rt; "job {number} {queue} {user}@{host} {octets} octets is lost: {why}");
     }
 
     /// Tells of each of these jobs that is whole, or of each that isn't, that it is lost.
@@ -127,7 +127,7 @@ impl<R: Clock + Log + Wait, E: SpoolLedger, K: Ledger, H: Ledger> Care<'_, '_, R
         for (at, job) in lost.enumerate() {
             self.tell_lost(job);
             if at % LINES == LINES - 1 {
-                thread::sleep(self.house.rt, Duration::from_millis(PAUSE_MS));
+                thread::sleep(self.hall.rt, Duration::from_millis(PAUSE_MS));
             }
         }
     }
@@ -135,11 +135,11 @@ impl<R: Clock + Log + Wait, E: SpoolLedger, K: Ledger, H: Ledger> Care<'_, '_, R
     /// Tells of each held job that is whole, or of each that isn't, that it is lost. Whole ones aren't where jobs are kept.
     fn tell_lost_of(&self, is_whole: bool) {
         // A whole job stays in its folder, and is printed after the next start.
-        if is_whole && self.house.kept.is_some() {
+        if is_whole && self.hall.kept.is_some() {
             return;
         }
-        let Ok(sight) = self.house.spool.sight(self.house.rt, self.house.alloc) else {
-            warn!(self.house.rt; "memory was refused: jobs that are lost aren't told");
+        let Ok(sight) = self.spool.sight(self.hall.rt, self.hall.alloc) else {
+            warn!(self.hall.rt; "memory was refused: jobs that are lost aren't told");
             return;
         };
         if !sight.spool.closed {
@@ -149,7 +149,7 @@ impl<R: Clock + Log + Wait, E: SpoolLedger, K: Ledger, H: Ledger> Care<'_, '_, R
 
     /// Tells of each job that is held that it is lost, where the server is stopped.
     pub fn tell_all_lost(&self) {
-        if self.house.ending.stops() {
+        if self.hall.ending.stops() {
             self.tell_lost_of(false);
             self.tell_lost_of(true);
         }
@@ -157,19 +157,19 @@ impl<R: Clock + Log + Wait, E: SpoolLedger, K: Ledger, H: Ledger> Care<'_, '_, R
 
     /// Waits for nothing any more: ends the sessions, tells what is lost, and closes the spool. A write that waits for its printer
     /// ends within a second.
-    pub fn cut_off(&self, seat: &mut SessionSeat<E, K, H>) {
-        if self.house.ending.cuts_off() {
+    pub fn cut_off(&self, seat: &mut HouseSeat<E>) {
+        if self.hall.ending.cuts_off() {
             return;
         }
-        self.house.ending.stop();
-        let _ = self.house.waker.wake();
+        self.hall.ending.stop();
+        let _ = self.hall.waker.wake();
         // Before their sessions end them.
         self.tell_lost_of(false);
         // From here on no job is acknowledged: its session's octet 00 reaches nobody.
-        self.house.posts.hang_up(self.house.rt);
+        self.hall.posts.hang_up(self.hall.rt);
         // Before a printer gives its job up, since it is waited for no more: that job is lost too.
         self.tell_lost_of(true);
-        self.house.spool.close(self.house.rt, seat);
-        self.house.ending.cut_off();
+        self.spool.close(self.hall.rt, seat);
+        self.hall.ending.cut_off();
     }
 }

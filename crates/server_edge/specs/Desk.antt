@@ -1,8 +1,8 @@
 -- For which connections a session is free.
 use Rattle.std.specs.Prelude.{◌≡◌, ◌==◌, ◌<◌, ◌⊎◌, ℕ, List, Some, count_by, slice_get}
-use Rattle.server_edge.specs.declared.desk.Hall.{Hall}
-use Rattle.server_edge.specs.declared.first_line.Errand.{Errand}
-use Rattle.server_edge.specs.declared.first_line.Errand.TheVariants.{Job, Listing, Short}
+use Rattle.server_edge.specs.declared.desk.DeskState.{DeskState}
+use Rattle.server_edge.specs.declared.first_line.Purpose.{Purpose}
+use Rattle.server_edge.specs.declared.first_line.Purpose.TheVariants.{Job, Listing, Short}
 use Rattle.server_edge.specs.declared.waiting_room.Ready.{Ready}
 
 -- how many of these sessions for all a host has
@@ -14,15 +14,15 @@ abbrev pub HasPlace : ℕ → List ℕ → ℕ → ℕ → Type 0
 HasPlace free hosts host most = (0 < free) × (of_host host hosts < most)
 
 -- a session is free: for a job one for all, for other lines one that takes no jobs too; and of long listings fewer than eight are in hand
-abbrev pub IsFree : Errand → ℕ → ℕ → ℕ → List ℕ → ℕ → ℕ → Type 0
+abbrev pub IsFree : Purpose → ℕ → ℕ → ℕ → List ℕ → ℕ → ℕ → Type 0
 IsFree Job free no_jobs listings hosts host most = HasPlace free hosts host most
 IsFree Short free no_jobs listings hosts host most = (0 < no_jobs) ⊎ HasPlace free hosts host most
 IsFree Listing free no_jobs listings hosts host most = (listings < 8) × ((0 < no_jobs) ⊎ HasPlace free hosts host most)
 
 -- under the lock, a session is free for one that is ready
-abbrev pub IsFreeFor : Hall → Ready → Type 0
+abbrev pub IsFreeFor : DeskState → Ready → Type 0
 IsFreeFor hall ready =
-    IsFree ready.errand hall.all.free hall.no_jobs.free hall.listings hall.hosts.items ready.host hall.per_host
+    IsFree ready.purpose hall.all.free hall.no_jobs.free hall.listings hall.hosts.items ready.host hall.per_host
 
 -- of those that are ready none of the first n is one for which a session is free
 abbrev pub IsNoneFree : (Ready → Type 0) → List Ready → ℕ → Type 0

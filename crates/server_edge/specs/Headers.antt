@@ -4,8 +4,8 @@ use Rattle.proxy_header.specs.declared.header.Header.{Header}
 use Rattle.proxy_header.specs.declared.header.Header.TheVariants as header
 use Rattle.server_edge.specs.declared.headers.HeaderFault.{HeaderFault}
 use Rattle.server_edge.specs.declared.headers.HeaderFault.TheVariants.{Bad, Elsewhere, Cut, Late}
-use Rattle.server_edge.specs.declared.headers.Word.{Word}
-use Rattle.server_edge.specs.declared.headers.Word.TheVariants.{Waits, From, Itself, Nothing, Fault}
+use Rattle.server_edge.specs.declared.headers.HeaderWord.{HeaderWord}
+use Rattle.server_edge.specs.declared.headers.HeaderWord.TheVariants.{Waits, From, Itself, Nothing, Fault}
 
 -- a fault in words
 abbrev pub why : HeaderFault → List ℕ
@@ -15,7 +15,7 @@ why Cut = codes "the connection ended in the middle of it"
 why Late = codes "it hasn't come within 3 s"
 
 -- what a connection says of whom it comes from, where its first octets are so many and are read as this header
-abbrev pub word_of : Header → ℕ → Bool → Word
+abbrev pub word_of : Header → ℕ → Bool → HeaderWord
 word_of (header.Source address port n) count is_ended = From address port n
 word_of (header.Local n) count is_ended = Itself n
 word_of header.Unsupported count is_ended = Fault Elsewhere

@@ -5,9 +5,9 @@ ghost use Rattle.std.specs.Prelude.{IfSome, IsSome, IsTrue, None, Some, false, l
 ghost use Rattle.server_edge.specs.Desk.{HasPlace, IsFirstFree, IsFree, IsFreeFor, IsNoneFree};
 ghost use Rattle.server_edge.specs.Desk.{of_host};
 ghost use Rattle.server_edge.specs.declared.desk.Serves.TheVariants.{All, NoJobs};
-ghost use Rattle.server_edge.specs.declared.first_line.Errand.TheVariants.{Job, Listing};
+ghost use Rattle.server_edge.specs.declared.first_line.Purpose.TheVariants.{Job, Listing};
 
-use crate::first_line::Errand;
+use crate::first_line::Purpose;
 use crate::waiting_room::{Ready, Visit};
 use crossbeam_channel::{Receiver, Sender};
 use mio::Waker;
@@ -70,7 +70,7 @@ fn place_of(hosts: &[u32], host: u32) -> Option<usize>
 
 /// What is under the lock.
 #[derive(Drop)]
-struct Hall {
+struct DeskState {
     all: Window,
     no_jobs: Window,
     // The hosts that sessions for all serve, each as often as it has one, and how many one host may have.
@@ -82,7 +82,7 @@ struct Hall {
     wanted: bool,
 }
 
-impl Hall {
+impl DeskState {
     /// A session is free again.
     fn give_one(&mut self, serves: Serves)
         ensures wanted { self.new.wanted ≡ self.old.wanted }
@@ -104,13 +104,13 @@ impl Hall {
 
     /// Whether a session is free for this one.
     fn is_free(&self, ready: Ready) -> bool
-        ensures { IsTrue result ↔ IsFree ready.errand self.now.all.free self.now.no_jobs.free
+        ensures { IsTrue result ↔ IsFree ready.purpose self.now.all.free self.now.no_jobs.free
             self.now.listings self.now.hosts.items ready.host self.now.per_host }
     {
-        match ready.errand {
-            Errand::Job => self.has_place(ready.host),
-            Errand::Listing if self.listings >= MOST_LISTINGS => false,
-            Errand::Short | Errand::Listing => {
+        match ready.purpose {
+            Purpose::Job => self.has_place(ready.host),
+            Purpose::Listing if self.listings >= MOST_LISTINGS => false,
+            Purpose::Short | Purpose::Listing => {
                 self.no_jobs.free > 0 || self.has_place(ready.host)
             }
         }
@@ -142,17 +142,17 @@ impl Hall {
 
     /// Takes a session that is free for one that comes for this: one that brings no job takes one for no jobs first, so that
     /// the others stay free for jobs. Answers which; None where none is free, or memory is refused.
-    fn hand(&mut self, errand: Errand, host: u32) -> Option<Serves>
-        ensures job { errand ≡ Job → result ≢ Some NoJobs }
-        ensures listing { errand ≡ Listing → IsSome result
+    fn hand(&mut self, purpose: Purpose, host: u32) -> Option<Serves>
+        ensures job { purpose ≡ Job → result ≢ Some NoJobs }
+        ensures listing { purpose ≡ Listing → IsSome result
             → self.new.listings ≡ min (self.old.listings + 1) (2 ^ 32 - 1) }
-        ensures other { errand ≢ Listing → self.new.listings ≡ self.old.listings }
-        ensures no_jobs { errand ≢ Job → 0 < self.old.no_jobs.free → result ≡ Some NoJobs }
+        ensures other { purpose ≢ Listing → self.new.listings ≡ self.old.listings }
+        ensures no_jobs { purpose ≢ Job → 0 < self.old.no_jobs.free → result ≡ Some NoJobs }
         ensures share { result ≡ Some All
             → self.new.hosts.items ≡ self.old.hosts.items ++ host ∷ [] }
         ensures no_share { result ≢ Some All → self.new.hosts.items ≡ self.old.hosts.items }
     {
-        let serves = if !matches!(errand, Errand::Job) && self.no_jobs.take_one() {
+        let serves = if !matches!(purpose, Purpose::Job) && self.no_jobs.take_one() {
             Some(Serves::NoJobs)
         } else if self.hosts.push(host).is_ok() {
             let is_free = self.all.take_one();
@@ -163,23 +163,23 @@ impl Hall {
         } else {
             None
         };
-        if matches!(errand, Errand::Listing) && serves.is_some() {
+        if matches!(purpose, Purpose::Listing) && serves.is_some() {
             self.listings = self.listings.saturating_add(1);
         }
         serves
     }
 
     /// A session has served this.
-    fn leave(&mut self, serves: Serves, errand: Errand, host: u32)
-        ensures listing { errand ≡ Listing → self.new.listings ≡ self.old.listings - 1 }
-        ensures other { errand ≢ Listing → self.new.listings ≡ self.old.listings }
+    fn leave(&mut self, serves: Serves, purpose: Purpose, host: u32)
+        ensures listing { purpose ≡ Listing → self.new.listings ≡ self.old.listings - 1 }
+        ensures other { purpose ≢ Listing → self.new.listings ≡ self.old.listings }
         ensures no_jobs { serves ≡ NoJobs → self.new.hosts ≡ self.old.hosts }
         ensures share { serves ≡ All
             → of_host host self.new.hosts.items ≡ of_host host self.old.hosts.items - 1 }
         ensures others { (other : ℕ) → other ≢ host
             → of_host other self.new.hosts.items ≡ of_host other self.old.hosts.items }
     {
-        if matches!(errand, Errand::Listing) {
+        if matches!(purpose, Purpose::Listing) {
             self.listings = self.listings.saturating_sub(1);
         }
         if matches!(serves, Serves::All) {
@@ -193,7 +193,7 @@ impl Hall {
 /// Where sessions take what one thread hands on.
 #[derive(Drop)]
 pub struct Desk {
-    hall: Mutex<Hall>,
+    hall: Mutex<DeskState>,
     for_all: Receiver<Visit>,
     for_no_jobs: Receiver<Visit>,
 }
@@ -206,11 +206,11 @@ pub struct Doors {
 }
 
 impl Doors {
-    /// Hands on where a session is free that serves its errand. Whether it has; where it hasn't, the connection is closed. Never
+    /// Hands on where a session is free that serves its purpose. Whether it has; where it hasn't, the connection is closed. Never
     /// waits for a session.
     pub fn hand<R: Wait>(&self, rt: &R, desk: &Desk, visit: Visit) -> bool {
-        let (errand, host) = (visit.errand, visit.host());
-        let Some(serves) = desk.hall.lock(rt).hand(errand, host) else {
+        let (purpose, host) = (visit.purpose, visit.host());
+        let Some(serves) = desk.hall.lock(rt).hand(purpose, host) else {
             return false;
         };
         let door = match serves {
@@ -221,7 +221,7 @@ impl Doors {
         let is_sent = door.send(rt, visit).is_ok();
         if !is_sent {
             let mut hall = desk.hall.lock(rt);
-            hall.leave(serves, errand, host);
+            hall.leave(serves, purpose, host);
             hall.give_one(serves);
         }
         is_sent
@@ -234,7 +234,7 @@ impl Desk {
     pub fn new(alloc: Global, per_host: u32) -> Result<(Desk, Doors), AllocError> {
         let (all, for_all) = crossbeam_channel::unbounded(alloc)?;
         let (no_jobs, for_no_jobs) = crossbeam_channel::unbounded(alloc)?;
-        let hall = Mutex::new(Hall {
+        let hall = Mutex::new(DeskState {
             all: Window { free: 0 },
             no_jobs: Window { free: 0 },
             hosts: Vec::new(alloc),
@@ -272,9 +272,9 @@ impl Desk {
 
     /// A session has served this. The connection is closed.
     pub fn leave<R: Wait>(&self, rt: &R, serves: Serves, visit: Visit) {
-        let (errand, host) = (visit.errand, visit.host());
+        let (purpose, host) = (visit.purpose, visit.host());
         drop(visit);
-        self.hall.lock(rt).leave(serves, errand, host);
+        self.hall.lock(rt).leave(serves, purpose, host);
     }
 
     /// The next connection for a session, which is free until then; None after the end. Where whoever hands on has to be told,

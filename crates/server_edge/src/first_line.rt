@@ -2,14 +2,14 @@
 
 ghost use Rattle.std.specs.Prelude.{◌≡◌, ◌≤◌, ◌↔◌, ◌⊎◌, IsTrue, length, Some, true};
 ghost use Rattle.server_edge.specs.FirstLine.{HasLineFeed};
-ghost use Rattle.server_edge.specs.declared.first_line.Errand.TheVariants.{Job, Listing};
+ghost use Rattle.server_edge.specs.declared.first_line.Purpose.TheVariants.{Job, Listing};
 
 /// As many octets as a first line may have: once they have come, no more are waited for.
 pub const FIRST_LINE_OCTETS: usize = 1_024;
 
 /// What a connection comes for.
 #[derive(Clone, Copy)]
-pub enum Errand {
+pub enum Purpose {
     /// It brings a job.
     Job,
     /// It asks for a long listing, whose answer may be large.
@@ -26,13 +26,13 @@ pub fn is_whole(octets: &[u8], ended: bool) -> bool
 }
 
 /// What a connection comes for, by its first octet.
-pub fn errand_of(first: Option<u8>) -> Errand
+pub fn purpose_of(first: Option<u8>) -> Purpose
     ensures job { (result ≡ Job) ↔ (first ≡ Some 2) }
     ensures listing { (result ≡ Listing) ↔ (first ≡ Some 4) }
 {
     match first {
-        Some(2) => Errand::Job,
-        Some(4) => Errand::Listing,
-        _ => Errand::Short,
+        Some(2) => Purpose::Job,
+        Some(4) => Purpose::Listing,
+        _ => Purpose::Short,
     }
 }

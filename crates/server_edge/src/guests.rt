@@ -2,11 +2,11 @@
 
 ghost use Rattle.std.specs.Prelude.{length, IfSome, IfNone};
 ghost use Rattle.server_edge.specs.Guests.{IsFirstAt, IsNobodyAt, Leaves};
-ghost use Rattle.server_edge.specs.declared.guests.Stage.TheVariants.{Silent, Begun};
+ghost use Rattle.server_edge.specs.declared.guests.GuestStage.TheVariants.{Silent, Begun};
 
 /// How far a connection that waits has come.
 #[derive(Clone, Copy, PartialEq, Eq)]
-pub enum Stage {
+pub enum GuestStage {
     /// It has sent nothing.
     Silent,
     /// Its first line has begun.
@@ -21,11 +21,11 @@ pub struct Guest {
     /// Its number, by order of arrival.
     pub number: u64,
     /// How far it has come.
-    pub stage: Stage,
+    pub stage: GuestStage,
 }
 
 /// The place of the guest that came first of those that have come so far; None where there is none.
-fn first_at(guests: &[Option<Guest>], stage: Stage) -> Option<usize>
+fn first_at(guests: &[Option<Guest>], stage: GuestStage) -> Option<usize>
     ensures first { IfSome result (λ at. IsFirstAt stage guests.now at) }
     ensures none { IfNone result (IsNobodyAt stage guests.now (length guests.now)) }
 {
@@ -56,8 +56,8 @@ pub fn who_leaves(guests: &[Option<Guest>]) -> Option<usize>
     ensures none { IfNone result (IsNobodyAt Silent guests.now (length guests.now)
         × IsNobodyAt Begun guests.now (length guests.now)) }
 {
-    match first_at(guests, Stage::Silent) {
+    match first_at(guests, GuestStage::Silent) {
         Some(at) => Some(at),
-        None => first_at(guests, Stage::Begun),
+        None => first_at(guests, GuestStage::Begun),
     }
 }

@@ -53,7 +53,7 @@ impl Display for HeaderFault {
 
 /// What is known of the header of a connection.
 #[derive(Clone, Copy, PartialEq, Eq)]
-pub(crate) enum Word {
+pub(crate) enum HeaderWord {
     /// It isn't whole.
     Waits,
     /// The connection comes from this address and port; the header has so many octets.
@@ -67,16 +67,16 @@ pub(crate) enum Word {
 }
 
 /// What these octets, with which a connection begins, say of whom it comes from; `is_ended` where no more come.
-pub(crate) fn read_word(octets: &[u8], is_ended: bool) -> Word
+pub(crate) fn read_word(octets: &[u8], is_ended: bool) -> HeaderWord
     ensures { result ≡ word_of (header_of octets.now) (length octets.now) is_ended }
 {
     match read_header(octets) {
-        Header::Source(address, port, count) => Word::From(address, port, count),
-        Header::Local(count) => Word::Itself(count),
-        Header::Unsupported => Word::Fault(HeaderFault::Elsewhere),
-        Header::Bad => Word::Fault(HeaderFault::Bad),
-        Header::More if !is_ended => Word::Waits,
-        Header::More if octets.is_empty() => Word::Nothing,
-        Header::More => Word::Fault(HeaderFault::Cut),
+        Header::Source(address, port, count) => HeaderWord::From(address, port, count),
+        Header::Local(count) => HeaderWord::Itself(count),
+        Header::Unsupported => HeaderWord::Fault(HeaderFault::Elsewhere),
+        Header::Bad => HeaderWord::Fault(HeaderFault::Bad),
+        Header::More if !is_ended => HeaderWord::Waits,
+        Header::More if octets.is_empty() => HeaderWord::Nothing,
+        Header::More => HeaderWord::Fault(HeaderFault::Cut),
     }
 }

@@ -14,9 +14,11 @@ mod waiting_room;
 
 pub use desk::{Desk, Doors, Serves};
 pub use doorway::Doorway;
-pub use first_line::{Errand, errand_of, is_whole};
-pub use guests::{Guest, Stage, who_leaves};
+pub use first_line::{Purpose, is_whole, purpose_of};
+pub use guests::{Guest, GuestStage, who_leaves};
 pub use limits::{MOST_GUESTS, places};
 pub use lobby::{Listening, Lobby};
-pub use peers::{Peer, Standing, ask_peer, keep_asking, may_end, send_in_pieces, unread_octets};
+pub use peers::{
+    Peer, PeerStanding, ask_peer, keep_asking, may_end, send_in_pieces, unread_octets,
+};
 pub use waiting_room::Visit;

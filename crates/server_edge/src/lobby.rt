@@ -15,9 +15,8 @@ ghost use Rattle.std.specs.Fmt.{decimal};
 
 use crate::desk::Desk;
 use crate::doorway::Doorway;
-use crate::first_line::Errand;
-use crate::headers::{HeaderFault, Word};
-use crate::waiting_room::{Ready, Visit, WaitingRoom};
+use crate::headers::{HeaderFault, HeaderWord};
+use crate::waiting_room::{Caller, Ready, Visit, WaitingRoom};
 use log::{Log, warn};
 use mio::unix::SourceFd;
 use mio::{Events, Interest, Poll, Token, Waker};
@@ -151,34 +150,34 @@ impl Lobby {
     /// Whether no connection is accepted any more and none waits.
     pub fn is_over(&self) -> bool
         ensures { IsTrue result ↔ (self.now.left ≡ 0)
-            × (length self.now.room.free.items ≡ length self.now.room.visits.items) }
+            × (length self.now.room.free.items ≡ length self.now.room.callers.items) }
     {
-        self.left == 0 && self.room.free.len() == self.room.visits.len()
+        self.left == 0 && self.room.free.len() == self.room.callers.len()
     }
 
     /// How many connections wait.
     pub fn waiting(&self) -> u64
-        ensures { result ≡ length self.now.room.visits.items - length self.now.room.free.items }
+        ensures { result ≡ length self.now.room.callers.items - length self.now.room.free.items }
     {
-        self.room.visits.len().saturating_sub(self.room.free.len()) as u64
+        self.room.callers.len().saturating_sub(self.room.free.len()) as u64
     }
 
     /// Accepts no connection any more, and closes those that wait.
     pub fn close(&mut self, alloc: Global)
         ensures left { self.new.left ≡ 0 }
-        ensures none { (self.new.room.visits.items ≡ []) × (self.new.room.free.items ≡ []) }
+        ensures none { (self.new.room.callers.items ≡ []) × (self.new.room.free.items ≡ []) }
     {
         self.left = 0;
         self.room = WaitingRoom::new(alloc);
     }
 
     /// Takes a guest out of its place.
-    fn release(&mut self, at: usize) -> Option<Visit> {
-        let visit = self.room.release(at)?;
-        let descriptor = visit.stream.as_raw_fd();
+    fn release(&mut self, at: usize) -> Option<Caller> {
+        let caller = self.room.release(at)?;
+        let descriptor = caller.stream.as_raw_fd();
         // Nothing happens where the system isn't asked about it.
         let _ = self.poll.registry().deregister(&mut SourceFd(&descriptor));
-        Some(visit)
+        Some(caller)
     }
 
     /// Where no place is free, the oldest connection without its first line is closed.
@@ -186,26 +185,26 @@ impl Lobby {
         let Some(at) = self.room.who_makes_place() else {
             return;
         };
-        if let Some(visit) = self.release(at) {
-            let peer = visit.peer;
-            drop(visit);
+        if let Some(caller) = self.release(at) {
+            let peer = caller.peer;
+            drop(caller);
             self.closed = self.closed.saturating_add(1);
             tell(rt, &peer, &WantOfRoom(self.closed));
         }
     }
 
     /// Closes a connection whose address isn't let in.
-    fn turn_away<R: Clock + Log>(&mut self, rt: &R, visit: Visit) {
-        let (peer, host) = (visit.peer, visit.host());
-        drop(visit);
+    fn turn_away<R: Clock + Log>(&mut self, rt: &R, caller: Caller) {
+        let (peer, host) = (caller.peer, caller.host());
+        drop(caller);
         self.doorway.refused.refuse(rt, peer, host);
     }
 
     /// Closes the connection at a place for its header.
     fn close_for<R: Log>(&mut self, rt: &R, at: usize, fault: HeaderFault) {
-        if let Some(visit) = self.release(at) {
-            let peer = visit.peer;
-            drop(visit);
+        if let Some(caller) = self.release(at) {
+            let peer = caller.peer;
+            drop(caller);
             tell(rt, &peer, &fault);
         }
     }
@@ -214,20 +213,20 @@ impl Lobby {
     /// proxy itself in any case. Whether what is behind it may be looked at; where the guest is closed, nothing is.
     fn is_named<R: Clock + Log>(&mut self, rt: &R, at: usize, is_ended: bool) -> Option<bool> {
         match self.room.read_header(at, is_ended) {
-            Word::Waits => return Some(false),
-            Word::Itself(_) => return Some(true),
-            Word::From(..) => {
+            HeaderWord::Waits => return Some(false),
+            HeaderWord::Itself(_) => return Some(true),
+            HeaderWord::From(..) => {
                 let peer = self.room.peer_at(at)?;
                 if self.doorway.lets_in(peer) {
                     return Some(true);
                 }
-                let visit = self.release(at)?;
-                self.turn_away(rt, visit);
+                let caller = self.release(at)?;
+                self.turn_away(rt, caller);
             }
-            Word::Nothing => {
+            HeaderWord::Nothing => {
                 self.release(at);
             }
-            Word::Fault(fault) => self.close_for(rt, at, fault),
+            HeaderWord::Fault(fault) => self.close_for(rt, at, fault),
         }
         None
     }
@@ -266,7 +265,7 @@ impl Lobby {
         }
         self.looked = Some(now);
         let mut from = 0;
-        for _ in 0..self.room.visits.len() {
+        for _ in 0..self.room.callers.len() {
             let Some(at) = self.room.late_from(from, now) else {
                 break;
             };
@@ -277,9 +276,9 @@ impl Lobby {
 
     /// Gives a connection that was accepted a place, and looks at what it has sent; or closes it,
     /// where its address isn't let in. That of a proxy is let in until its header is read.
-    fn admit<R: Clock + Log>(&mut self, rt: &R, visit: Visit) -> Result<(), AllocError> {
+    fn admit<R: Clock + Log>(&mut self, rt: &R, caller: Caller) -> Result<(), AllocError> {
         self.left = self.left.saturating_sub(1);
-        let (descriptor, peer) = (visit.stream.as_raw_fd(), visit.peer);
+        let (descriptor, peer) = (caller.stream.as_raw_fd(), caller.peer);
         let mut awaited = None;
         if self.doorway.is_proxy(peer) {
             match Instant::now(rt) {
@@ -290,12 +289,12 @@ impl Lobby {
                 }
             }
         } else if !self.doorway.lets_in(peer) {
-            self.turn_away(rt, visit);
+            self.turn_away(rt, caller);
             return Ok(());
         }
         self.accepted = self.accepted.saturating_add(1);
         self.make_place(rt);
-        let Some(at) = self.room.settle(self.accepted, visit, awaited) else {
+        let Some(at) = self.room.settle(self.accepted, caller, awaited) else {
             return Ok(());
         };
         if self.look(rt, at, false)? {
@@ -329,17 +328,7 @@ impl Lobby {
                 return Ok(Some(ACCEPT_PAUSE_MS));
             }
             match self.listener.accept() {
-                Ok((stream, peer)) => {
-                    let errand = Errand::Short;
-                    self.admit(
-                        rt,
-                        Visit {
-                            stream,
-                            peer,
-                            errand,
-                        },
-                    )?;
-                }
+                Ok((stream, peer)) => self.admit(rt, Caller { stream, peer })?,
                 Err(error) if error.kind() == ErrorKind::WouldBlock => return Ok(None),
                 Err(error) => {
                     tell(rt, &"a connection wasn't accepted", &error);
@@ -361,10 +350,9 @@ impl Lobby {
                 ready = desk.is_free(rt, last).then_some(last);
             }
         }
-        let Ready { at, errand, .. } = ready?;
-        let mut visit = self.release(at)?;
-        visit.errand = errand;
-        Some(visit)
+        let Ready { at, purpose, .. } = ready?;
+        let caller = self.release(at)?;
+        Some(caller.coming_for(purpose))
     }
 
     /// The connection that has been ready for the longest time, whatever it comes for: where one thread serves them all. Its stream is
@@ -377,7 +365,9 @@ impl Lobby {
         if ready.is_none() {
             ready = self.room.jobs.pop_front();
         }
-        self.release(ready?.at)
+        let Ready { at, purpose, .. } = ready?;
+        let caller = self.release(at)?;
+        Some(caller.coming_for(purpose))
     }
 
     /// Whether a job waits for a session.

@@ -60,7 +60,7 @@ pub(crate) fn take_octets(stream: &TcpStream, buffer: &mut [u8]) -> bool {
 
 /// What is known of a session that waits for a page, while its peer sends no more.
 #[derive(Clone, Copy)]
-pub struct Standing {
+pub struct PeerStanding {
     /// Octets of the connection that nobody has read.
     pub unread: u64,
     /// Octets that its last read gave.
@@ -75,7 +75,7 @@ pub struct Standing {
 
 /// Whether what came may still end the open file, with the octet 00 after it: what the session has read and not used is no more
 /// than its last read, nor than what is in no page.
-pub fn may_end(standing: &Standing) -> bool
+pub fn may_end(standing: &PeerStanding) -> bool
     ensures { IsTrue result ↔ standing.now.left < standing.now.unread
         + min standing.now.last (standing.now.received - standing.now.taken) }
 {

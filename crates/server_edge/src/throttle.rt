@@ -18,7 +18,7 @@ const MOST_HOSTS: usize = 1_024;
 
 /// A host of which a line told, when that was, and how many of its connections came since.
 #[derive(Drop)]
-struct Refused {
+struct RefusedHost {
     host: u32,
     told: Instant,
     more: u64,
@@ -28,7 +28,7 @@ struct Refused {
 #[derive(Drop)]
 pub(crate) struct Throttle {
     // The one whose line is the oldest stands first.
-    hosts: VecDeque<Refused>,
+    hosts: VecDeque<RefusedHost>,
     // The connections of further hosts, and since when they are counted.
     others: u64,
     others_since: Option<Instant>,
@@ -67,7 +67,7 @@ impl Throttle {
             return false;
         }
         if self.hosts.len() < MOST_HOSTS {
-            let first = Refused {
+            let first = RefusedHost {
                 host,
                 told: now,
                 more: 0,
@@ -94,15 +94,15 @@ impl Throttle {
 
     /// Says of a host how many of its connections were closed since its last line; it is forgotten
     /// where none was.
-    fn tell_host<R: Clock + Log>(&mut self, rt: &R, refused: Refused) {
-        let Refused { host, more, .. } = refused;
+    fn tell_host<R: Clock + Log>(&mut self, rt: &R, refused: RefusedHost) {
+        let RefusedHost { host, more, .. } = refused;
         if more == 0 {
             return;
         }
         let address = Ipv4Addr::from_bits(host);
         warn!(rt; "{address}: {more} more connections weren't let in");
         if let Ok(told) = Instant::now(rt) {
-            let _ = self.hosts.push_back(Refused {
+            let _ = self.hosts.push_back(RefusedHost {
                 host,
                 told,
                 more: 0,

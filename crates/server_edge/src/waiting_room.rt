@@ -3,17 +3,27 @@
 ghost use Rattle.std.specs.Prelude.{◌≡◌, ◌≢◌, ◌++◌, ◌∷◌, [], IfSome, OnOk};
 ghost use Rattle.std.specs.Net.Socket.{socket_ip};
 ghost use Rattle.server_edge.specs.Hosts.{host_number};
-ghost use Rattle.server_edge.specs.declared.first_line.Errand.TheVariants.{Job};
+ghost use Rattle.server_edge.specs.declared.first_line.Purpose.TheVariants.{Job};
 
-use crate::first_line::{Errand, FIRST_LINE_OCTETS, errand_of, is_whole};
-use crate::guests::{Guest, Stage, who_leaves};
-use crate::headers::{HEADER_SECONDS, HeaderFault, MOST_HEADER, Word, read_word};
+use crate::first_line::{FIRST_LINE_OCTETS, Purpose, is_whole, purpose_of};
+use crate::guests::{Guest, GuestStage, who_leaves};
+use crate::headers::{HEADER_SECONDS, HeaderFault, HeaderWord, MOST_HEADER, read_word};
 use crate::peers::{take_octets, unread_octets};
 use std::alloc::{AllocError, Global};
 use std::collections::VecDeque;
 use std::mem;
 use std::net::{IpAddr, Ipv4Addr, SocketAddr, TcpStream};
 use std::time::Instant;
+
+/// The number that stands for a host: the four octets of its address.
+fn host_of(peer: SocketAddr) -> u32
+    ensures { result ≡ host_number (socket_ip peer) }
+{
+    match peer.ip() {
+        IpAddr::V4(address) => u32::from(address),
+        IpAddr::V6(_) => 0,
+    }
+}
 
 /// A connection that is handed on.
 #[derive(Drop)]
@@ -23,7 +33,7 @@ pub struct Visit {
     /// Its peer: where a proxy has brought it, whom that names.
     pub peer: SocketAddr,
     /// What it comes for.
-    pub errand: Errand,
+    pub purpose: Purpose,
 }
 
 impl Visit {
@@ -31,9 +41,36 @@ impl Visit {
     pub fn host(&self) -> u32
         ensures { result ≡ host_number (socket_ip self.now.peer) }
     {
-        match self.peer.ip() {
-            IpAddr::V4(address) => u32::from(address),
-            IpAddr::V6(_) => 0,
+        host_of(self.peer)
+    }
+}
+
+/// A connection that waits: what it comes for is known once its first line is whole.
+#[derive(Drop)]
+pub(crate) struct Caller {
+    pub(crate) stream: TcpStream,
+    pub(crate) peer: SocketAddr,
+}
+
+impl Caller {
+    /// The number that stands for its host: the four octets of its address.
+    pub(crate) fn host(&self) -> u32
+        ensures { result ≡ host_number (socket_ip self.now.peer) }
+    {
+        host_of(self.peer)
+    }
+
+    /// It comes for this, and is handed on.
+    pub(crate) fn coming_for(self, purpose: Purpose) -> Visit
+        ensures stream { result.stream ≡ self.stream }
+        ensures peer { result.peer ≡ self.peer }
+        ensures purpose { result.purpose ≡ purpose }
+    {
+        let Caller { stream, peer } = self;
+        Visit {
+            stream,
+            peer,
+            purpose,
         }
     }
 }
@@ -42,7 +79,7 @@ impl Visit {
 #[derive(Clone, Copy)]
 pub(crate) struct Ready {
     pub(crate) at: usize,
-    pub(crate) errand: Errand,
+    pub(crate) purpose: Purpose,
     pub(crate) host: u32,
 }
 
@@ -50,7 +87,7 @@ pub(crate) struct Ready {
 #[derive(Drop)]
 pub(crate) struct WaitingRoom {
     guests: Vec<Option<Guest>>,
-    pub(crate) visits: Vec<Option<Visit>>,
+    pub(crate) callers: Vec<Option<Caller>>,
     // Since when the header of a proxy is waited for, where it is, and for how many it is.
     awaited: Vec<Option<Instant>>,
     pub(crate) headers: usize,
@@ -61,27 +98,27 @@ pub(crate) struct WaitingRoom {
 }
 
 /// How far a connection has come by what it has sent, which is left unread, and what it comes for.
-fn stage_of(stream: &TcpStream, is_ended: bool) -> (Stage, Errand) {
+fn stage_of(stream: &TcpStream, is_ended: bool) -> (GuestStage, Purpose) {
     let mut octets = [0u8; FIRST_LINE_OCTETS];
     let came = unread_octets(stream, &mut octets);
     let count = came.unwrap_or(0);
     let octets = &octets[..count];
     let stage = match count {
-        _ if is_whole(octets, is_ended || came == Some(0)) => Stage::Ready,
-        0 => Stage::Silent,
-        _ => Stage::Begun,
+        _ if is_whole(octets, is_ended || came == Some(0)) => GuestStage::Ready,
+        0 => GuestStage::Silent,
+        _ => GuestStage::Begun,
     };
-    (stage, errand_of(octets.first().copied()))
+    (stage, purpose_of(octets.first().copied()))
 }
 
 impl WaitingRoom {
     /// No place.
     pub(crate) fn new(alloc: Global) -> WaitingRoom
-        ensures { (result.visits.items ≡ []) × (result.free.items ≡ []) }
+        ensures { (result.callers.items ≡ []) × (result.free.items ≡ []) }
     {
         WaitingRoom {
             guests: Vec::new(alloc),
-            visits: Vec::new(alloc),
+            callers: Vec::new(alloc),
             awaited: Vec::new(alloc),
             headers: 0,
             free: Vec::new(alloc),
@@ -93,9 +130,9 @@ impl WaitingRoom {
     /// Adds N places, all free. An error where memory is refused.
     pub(crate) fn grow(&mut self, places: u64) -> Result<(), AllocError> {
         for _ in 0..places {
-            self.free.push(self.visits.len())?;
+            self.free.push(self.callers.len())?;
             self.guests.push(None)?;
-            self.visits.push(None)?;
+            self.callers.push(None)?;
             self.awaited.push(None)?;
         }
         Ok(())
@@ -118,7 +155,7 @@ impl WaitingRoom {
     /// The first guest whose first line isn't whole, where nobody is ready, as one that brings a job. A session for all waits for
     /// its line as long as its peer may be silent. None while the header of a proxy is waited for.
     pub(crate) fn last_guest(&self) -> Option<Ready>
-        ensures { IfSome result (λ ready. ready.errand ≡ Job) }
+        ensures { IfSome result (λ ready. ready.purpose ≡ Job) }
     {
         if !self.jobs.is_empty() || !self.others.is_empty() {
             return None;
@@ -127,13 +164,13 @@ impl WaitingRoom {
         if self.awaits_header(at) {
             return None;
         }
-        let Some(Some(visit)) = self.visits.get(at) else {
+        let Some(Some(caller)) = self.callers.get(at) else {
             return None;
         };
         Some(Ready {
             at,
-            errand: Errand::Job,
-            host: visit.host(),
+            purpose: Purpose::Job,
+            host: caller.host(),
         })
     }
 
@@ -142,15 +179,15 @@ impl WaitingRoom {
     pub(crate) fn settle(
         &mut self,
         number: u64,
-        visit: Visit,
+        caller: Caller,
         awaited: Option<Instant>,
     ) -> Option<usize> {
         let at = self.free.pop()?;
         self.await_header(at, awaited);
-        if let Some(place) = self.visits.get_mut(at) {
-            *place = Some(visit);
+        if let Some(place) = self.callers.get_mut(at) {
+            *place = Some(caller);
         }
-        let stage = Stage::Silent;
+        let stage = GuestStage::Silent;
         self.mark(at, Some(Guest { number, stage }));
         Some(at)
     }
@@ -164,8 +201,8 @@ impl WaitingRoom {
 
     /// The peer of the guest at a place.
     pub(crate) fn peer_at(&self, at: usize) -> Option<SocketAddr> {
-        match self.visits.get(at) {
-            Some(Some(visit)) => Some(visit.peer),
+        match self.callers.get(at) {
+            Some(Some(caller)) => Some(caller.peer),
             _ => None,
         }
     }
@@ -203,73 +240,73 @@ impl WaitingRoom {
 
     /// Reads the header of the guest at a place, and nothing behind it, once it is whole: from then on the guest's peer is whom it
     /// names. What it says.
-    pub(crate) fn read_header(&mut self, at: usize, is_ended: bool) -> Word {
-        let Some(Some(visit)) = self.visits.get_mut(at) else {
-            return Word::Nothing;
+    pub(crate) fn read_header(&mut self, at: usize, is_ended: bool) -> HeaderWord {
+        let Some(Some(caller)) = self.callers.get_mut(at) else {
+            return HeaderWord::Nothing;
         };
         let mut octets = [0u8; MOST_HEADER];
-        let came = unread_octets(&visit.stream, &mut octets);
+        let came = unread_octets(&caller.stream, &mut octets);
         let count = came.unwrap_or(0);
         let word = read_word(&octets[..count], is_ended || came == Some(0));
         let length = match word {
-            Word::From(_, _, length) | Word::Itself(length) => length,
+            HeaderWord::From(_, _, length) | HeaderWord::Itself(length) => length,
             _ => return word,
         };
         let is_taken = match octets.get_mut(..length) {
-            Some(header) => take_octets(&visit.stream, header),
+            Some(header) => take_octets(&caller.stream, header),
             None => false,
         };
         if !is_taken {
-            return Word::Fault(HeaderFault::Cut);
+            return HeaderWord::Fault(HeaderFault::Cut);
         }
-        if let Word::From(address, port, _) = word {
-            visit.peer = SocketAddr::from((Ipv4Addr::from(address), port));
+        if let HeaderWord::From(address, port, _) = word {
+            caller.peer = SocketAddr::from((Ipv4Addr::from(address), port));
         }
         self.await_header(at, None);
         word
     }
 
     /// Takes a guest out of its place.
-    pub(crate) fn release(&mut self, at: usize) -> Option<Visit> {
-        let visit = self.visits.get_mut(at)?.take()?;
+    pub(crate) fn release(&mut self, at: usize) -> Option<Caller> {
+        let caller = self.callers.get_mut(at)?.take()?;
         self.await_header(at, None);
         self.mark(at, None);
         // There is room, since a place was taken from it.
         let _ = self.free.push(at);
-        Some(visit)
+        Some(caller)
     }
 
     /// One more is ready, behind those that were before: jobs among jobs.
     fn line_up(&mut self, ready: Ready) -> Result<(), AllocError>
-        ensures job { ready.errand ≡ Job → OnOk result
+        ensures job { ready.purpose ≡ Job → OnOk result
             (self.new.jobs.items ≡ self.old.jobs.items ++ ready ∷ []) }
-        ensures other { ready.errand ≢ Job → OnOk result
+        ensures other { ready.purpose ≢ Job → OnOk result
             (self.new.others.items ≡ self.old.others.items ++ ready ∷ []) }
     {
-        match ready.errand {
-            Errand::Job => self.jobs.push_back(ready)?,
-            Errand::Short | Errand::Listing => self.others.push_back(ready)?,
+        match ready.purpose {
+            Purpose::Job => self.jobs.push_back(ready)?,
+            Purpose::Short | Purpose::Listing => self.others.push_back(ready)?,
         }
         Ok(())
     }
 
     /// Looks at what a guest has sent, and leaves it unread. Whether it is ready.
     pub(crate) fn look(&mut self, at: usize, is_ended: bool) -> Result<bool, AllocError> {
-        let (Some(Some(guest)), Some(Some(visit))) = (self.guests.get(at), self.visits.get(at))
+        let (Some(Some(guest)), Some(Some(caller))) = (self.guests.get(at), self.callers.get(at))
         else {
             return Ok(true);
         };
         let Guest { number, stage } = *guest;
-        if matches!(stage, Stage::Ready) {
+        if matches!(stage, GuestStage::Ready) {
             return Ok(true);
         }
-        let (stage, errand) = stage_of(&visit.stream, is_ended);
-        let host = visit.host();
+        let (stage, purpose) = stage_of(&caller.stream, is_ended);
+        let host = caller.host();
         self.mark(at, Some(Guest { number, stage }));
-        if !matches!(stage, Stage::Ready) {
+        if !matches!(stage, GuestStage::Ready) {
             return Ok(false);
         }
-        self.line_up(Ready { at, errand, host })?;
+        self.line_up(Ready { at, purpose, host })?;
         Ok(true)
     }
 }

@@ -1,6 +1,9 @@
 //! Where the account's segments become files, and those that wait for it.
 
-ghost use Rattle.std.specs.Prelude.{◌≡◌, ◌*◌, min};
+ghost use Rattle.std.specs.Prelude.{◌≡◌, ◌*◌, IfErr, min};
+ghost use Rattle.program_edge.specs.Openings.{IsUnopened};
+ghost use Rattle.program_edge.specs.declared.opening.StartPart.{StartPart};
+ghost use Rattle.program_edge.specs.declared.opening.StartPart.TheVariants.{Account};
 
 use crate::refusal::refused;
 use crate::told_places::told_places;
@@ -8,8 +11,8 @@ use account::Segment;
 use account_folder::{AccountFolder, WriteFault};
 use config_values::Config;
 use log::{Log, error, info, warn};
-use printer_devices::{Opened, PlaceFault};
-use program_edge::Settings;
+use printer_devices::OpenedPlace;
+use program_edge::{Settings, StartFault, StartPart};
 use std::alloc::{AllocError, Global};
 use std::fs::{File, Files};
 use std::rt::Clock;
@@ -24,10 +27,10 @@ pub const ACCOUNT_LINES: &str = "lpd_daemon::archiving";
 const MOST_WAITING: usize = 2;
 
 /// The first pause after a try that failed, in seconds. Each further one is twice as long as the one before.
-const FIRST_PAUSE: u64 = 1;
+const FIRST_PAUSE_SECONDS: u64 = 1;
 
 /// The longest pause, in seconds: also the time between two warnings.
-const LONGEST_PAUSE: u64 = 60;
+const LONGEST_PAUSE_SECONDS: u64 = 60;
 
 /// How often what is left is tried at a server's end.
 pub const LAST_TRIES: u32 = 3;
@@ -36,7 +39,7 @@ pub const LAST_TRIES: u32 = 3;
 fn next_pause(seconds: u64) -> u64
     ensures { result ≡ min (2 * seconds) 60 }
 {
-    seconds.saturating_mul(2).min(LONGEST_PAUSE)
+    seconds.saturating_mul(2).min(LONGEST_PAUSE_SECONDS)
 }
 
 /// A segment that waits.
@@ -99,14 +102,16 @@ fn time_of<R: Clock>(rt: &R) -> SystemTime {
 /// Opens the folder in which the account's segments become files, if the settings name one. Where the account is never rotated
 /// while the server runs, that is logged: then there is one file, at the end.
 ///
-/// Path with the path where it can't be used, or another server has it, of which the log is told why; Memory.
+/// Opening where it can't be used, or another server has it, of which the log is told why too; Memory.
 pub fn open_archive<'a, R: Files<File = File> + Clock + Log>(
     rt: &R,
     alloc: Global,
     settings: &Settings<'a>,
     config: &Config,
-    places: &[Opened],
-) -> Result<Option<Archive<'a>>, PlaceFault> {
+    places: &[OpenedPlace],
+) -> Result<Option<Archive<'a>>, StartFault>
+    ensures { IfErr result (IsUnopened (λ (part : StartPart). part ≡ Account)) }
+{
     let Some(path) = settings.account else {
         return Ok(None);
     };
@@ -120,7 +125,7 @@ pub fn open_archive<'a, R: Files<File = File> + Clock + Log>(
     let waiting = Vec::with_capacity(alloc, MOST_WAITING + 2)?;
     let folder = match AccountFolder::open(rt, alloc, path, config, printers, time_of(rt)) {
         Ok(folder) => folder,
-        Err(error) => return Err(refused(rt, alloc, path, &error)),
+        Err(error) => return Err(refused(rt, alloc, StartPart::Account, path, &error)),
     };
     let shelf = Shelf {
         waiting,
@@ -234,7 +239,7 @@ impl Archive<'_> {
     /// Makes the segment in hand a file, again and again until that is done. Where it fails that is logged, once a minute at most.
     /// False where nothing is waited for any more: the segment is still in hand then.
     fn write<R: Files<File = File> + Clock + Log + Wait>(&self, rt: &R) -> bool {
-        let mut pause = FIRST_PAUSE;
+        let mut pause = FIRST_PAUSE_SECONDS;
         let mut told: Option<Instant> = None;
         for _ in rt.forever() {
             let Err(fault) = self.try_once(rt) else {
@@ -273,7 +278,7 @@ impl Archive<'_> {
         rt: &R,
         tries: u32,
     ) -> Result<(), WriteFault> {
-        let mut pause = FIRST_PAUSE;
+        let mut pause = FIRST_PAUSE_SECONDS;
         for _ in 1..tries {
             if self.try_once(rt).is_ok() {
                 return Ok(());
@@ -326,7 +331,7 @@ impl Archive<'_> {
 fn is_due(told: Option<Instant>, now: Option<Instant>) -> bool {
     match (told, now) {
         (Some(told), Some(now)) => {
-            now.saturating_duration_since(told) >= Duration::from_secs(LONGEST_PAUSE)
+            now.saturating_duration_since(told) >= Duration::from_secs(LONGEST_PAUSE_SECONDS)
         }
         _ => true,
     }

@@ -1,5 +1,10 @@
 //! The folder in which jobs are kept until they are printed, as a server's threads share it.
 
+ghost use Rattle.std.specs.Prelude.{◌≡◌, IfErr};
+ghost use Rattle.program_edge.specs.Openings.{IsUnopened};
+ghost use Rattle.program_edge.specs.declared.opening.StartPart.{StartPart};
+ghost use Rattle.program_edge.specs.declared.opening.StartPart.TheVariants.{Spool};
+
 use crate::owner::{Owner, owner_of};
 use crate::refusal::refused;
 use crate::stored::StoredJobs;
@@ -8,7 +13,7 @@ use job_disk::Disk;
 use job_files::JobEnd;
 use job_store::{Store, recover};
 use log::{Log, warn};
-use printer_devices::PlaceFault;
+use program_edge::{StartFault, StartPart};
 use status_lines::KeptJobs;
 use std::alloc::{AllocError, Global};
 use std::collections::VecDeque;
@@ -19,7 +24,7 @@ use std::time::Duration;
 
 /// The jobs of the folder that wait for the spool to take them.
 #[derive(Drop)]
-struct Line {
+struct KeptLine {
     /// The numbers of their files, in order.
     numbers: VecDeque<u64>,
     /// Each that had room at the start was fed.
@@ -28,36 +33,41 @@ struct Line {
 
 /// The folder in which jobs are kept.
 #[derive(Drop)]
-pub struct Kept<'a, R> {
+pub struct JobFolder<'a, R> {
     pub disk: Disk<'a, R>,
-    line: Mutex<Line>,
+    line: Mutex<KeptLine>,
     settled: Condvar,
 }
 
-impl<'a, R: Files<File = File> + Log + Wait> Kept<'a, R> {
+impl<'a, R: Files<File = File> + Log + Wait> JobFolder<'a, R> {
     /// Opens the folder at a path, which is made where nothing is there. What was coming when the server before ended is removed, and
     /// the whole jobs wait to be fed, by the numbers of their files.
     ///
-    /// Path with the path where it can't be used, or another server has it, of which the log is told why; Memory.
+    /// Opening where it can't be used, or another server has it, of which the log is told why too; Memory.
     pub fn open(
         rt: &'a R,
         alloc: Global,
         path: &'a str,
         config: &Config,
-    ) -> Result<Kept<'a, R>, PlaceFault> {
+    ) -> Result<JobFolder<'a, R>, StartFault>
+        ensures { IfErr result (IsUnopened (λ (part : StartPart). part ≡ Spool)) }
+    {
         let disk = match Disk::open(rt, alloc, path, config.max_jobs() as usize) {
             Ok(disk) => disk,
-            Err(error) => return Err(refused(rt, alloc, path, &error)),
+            Err(error) => return Err(refused(rt, alloc, StartPart::Spool, path, &error)),
         };
         let numbers = match recover(alloc, &mut StoredJobs::new(&disk)) {
             Ok(found) => found.jobs,
-            Err(_) => return Err(refused(rt, alloc, path, &"its jobs can't be found")),
+            Err(_) => {
+                let why = "its jobs can't be found";
+                return Err(refused(rt, alloc, StartPart::Spool, path, &why));
+            }
         };
-        let line = Line {
+        let line = KeptLine {
             numbers: VecDeque::new(alloc),
             is_settled: false,
         };
-        let kept = Kept {
+        let kept = JobFolder {
             disk,
             line: Mutex::new(line),
             settled: Condvar::new(),
@@ -135,7 +145,7 @@ impl<'a, R: Files<File = File> + Log + Wait> Kept<'a, R> {
     }
 }
 
-impl<R: Clock + Wait> Kept<'_, R> {
+impl<R: Clock + Wait> JobFolder<'_, R> {
     /// Whether each job that had room at the start has been fed. Waits for that for N milliseconds at most.
     pub fn is_settled(&self, rt: &R, limit_ms: u64) -> bool {
         let limit = Duration::from_millis(limit_ms);

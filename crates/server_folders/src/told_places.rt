@@ -1,8 +1,8 @@
 //! What is told of printers in the heads of the account's segments.
 
 use lpd_values::Octets;
-use printer_devices::{Opened, place_of};
-use program_edge::Settings;
+use printer_devices::{OpenedPlace, default_file, place_of};
+use program_edge::{Place, Settings};
 use segment_text::PrinterPlace;
 use std::alloc::{AllocError, Global};
 
@@ -11,15 +11,18 @@ use std::alloc::{AllocError, Global};
 pub(crate) fn told_places(
     alloc: Global,
     settings: &Settings<'_>,
-    places: &[Opened],
+    places: &[OpenedPlace],
 ) -> Result<Vec<PrinterPlace>, AllocError> {
     let mut told = Vec::new(alloc);
     let mut printer = 0;
     for opened in places {
         printer = u32::saturating_add(printer, 1);
         let place = match place_of(settings, printer) {
-            Some(place) => format!(in alloc; "{place}")?,
-            None => format!(in alloc; "file:{}/printer-{printer}", settings.out)?,
+            Some(place) => place.to_string(alloc)?,
+            None => {
+                let path = default_file(settings, printer).to_string(alloc)?;
+                Place::File(path.as_str()).to_string(alloc)?
+            }
         };
         told.push(PrinterPlace {
             place: Octets::from_vec(place.into_bytes()),

@@ -5,7 +5,7 @@ use Rattle.lpd_commands.specs.Ends.{Writes}
 use Rattle.lpd_commands.proofs.Writing.{Writes-append, Writes-none}
 use Rattle.server_house.specs.Faults.{IsRunningFault, write_faults}
 use Rattle.server_house.specs.Lines.{TellsRotations, WritesAll, WritesRotations, line_octets, rotation_octets}
-use Rattle.server_house.specs.declared.faults.Fault.{Fault}
+use Rattle.server_house.specs.declared.faults.ServerFault.{ServerFault}
 use Rattle.server_house.specs.declared.lines.PrintedLine.TheVariants.{Closed, Listening, Rotated}
 
 pub rotation_octets-append : (a b : List (ℕ × ℕ)) → rotation_octets (a ++ b) ≡ rotation_octets a ++ rotation_octets b
@@ -37,27 +37,27 @@ unfolding TellsRotations
 TellsRotations-none was faults = (WritesRotations-none was, refl, tt)
 
 -- what was written, and how often writing failed
-pub TellsRotations-written : (was : Option (List ℕ)) (faults : ℕ) (now : Option (List ℕ)) (now_faults : ℕ) (told : Result (Unit {0}) Fault) → TellsRotations was faults now now_faults told → OnOk told (WritesRotations was now)
+pub TellsRotations-written : (was : Option (List ℕ)) (faults : ℕ) (now : Option (List ℕ)) (now_faults : ℕ) (told : Result (Unit {0}) ServerFault) → TellsRotations was faults now now_faults told → OnOk told (WritesRotations was now)
 unfolding TellsRotations
 TellsRotations-written was faults now now_faults told tells = tells.0
 
-pub TellsRotations-counts : (was : Option (List ℕ)) (faults : ℕ) (now : Option (List ℕ)) (now_faults : ℕ) (told : Result (Unit {0}) Fault) → TellsRotations was faults now now_faults told → now_faults ≡ write_faults faults told
+pub TellsRotations-counts : (was : Option (List ℕ)) (faults : ℕ) (now : Option (List ℕ)) (now_faults : ℕ) (told : Result (Unit {0}) ServerFault) → TellsRotations was faults now now_faults told → now_faults ≡ write_faults faults told
 unfolding TellsRotations
 TellsRotations-counts was faults now now_faults told tells = tells.1
 
-pub TellsRotations-fault : (was : Option (List ℕ)) (faults : ℕ) (now : Option (List ℕ)) (now_faults : ℕ) (told : Result (Unit {0}) Fault) → TellsRotations was faults now now_faults told → IfErr told IsRunningFault
+pub TellsRotations-fault : (was : Option (List ℕ)) (faults : ℕ) (now : Option (List ℕ)) (now_faults : ℕ) (told : Result (Unit {0}) ServerFault) → TellsRotations was faults now now_faults told → IfErr told IsRunningFault
 unfolding TellsRotations
 TellsRotations-fault was faults now now_faults told tells = tells.2
 
 -- one rotation more, where all was printed until now
-TellsRotations-more : (printed : Result (Unit {0}) Fault) (was then_ : Option (List ℕ)) (faults then_faults : ℕ) (now : Option (List ℕ)) (now_faults : ℕ) (number entries : ℕ) → WritesRotations was then_ → then_faults ≡ faults → OnOk printed (Writes then_ now (line_octets (Rotated number entries))) → now_faults ≡ write_faults then_faults printed → IfErr printed IsRunningFault → TellsRotations was faults now now_faults printed
+TellsRotations-more : (printed : Result (Unit {0}) ServerFault) (was then_ : Option (List ℕ)) (faults then_faults : ℕ) (now : Option (List ℕ)) (now_faults : ℕ) (number entries : ℕ) → WritesRotations was then_ → then_faults ≡ faults → OnOk printed (Writes then_ now (line_octets (Rotated number entries))) → now_faults ≡ write_faults then_faults printed → IfErr printed IsRunningFault → TellsRotations was faults now now_faults printed
 unfolding TellsRotations
 TellsRotations-more (Ok v) was then_ faults then_faults now now_faults number entries all same w c f =
     (WritesRotations-append was then_ now all (WritesRotations-one then_ now number entries w), c ∙ same, f)
 TellsRotations-more (Err e) was then_ faults then_faults now now_faults number entries all same w c f =
     (tt, c ∙ ap (λ n. write_faults {A = Unit {0}} n (Err e)) same, f)
 
-pub TellsRotations-then : (told printed : Result (Unit {0}) Fault) (was then_ : Option (List ℕ)) (faults then_faults : ℕ) (now : Option (List ℕ)) (now_faults : ℕ) (number entries : ℕ) → TellsRotations was faults then_ then_faults told → told ≡ Ok tt → OnOk printed (Writes then_ now (line_octets (Rotated number entries))) → now_faults ≡ write_faults then_faults printed → IfErr printed IsRunningFault → TellsRotations was faults now now_faults printed
+pub TellsRotations-then : (told printed : Result (Unit {0}) ServerFault) (was then_ : Option (List ℕ)) (faults then_faults : ℕ) (now : Option (List ℕ)) (now_faults : ℕ) (number entries : ℕ) → TellsRotations was faults then_ then_faults told → told ≡ Ok tt → OnOk printed (Writes then_ now (line_octets (Rotated number entries))) → now_faults ≡ write_faults then_faults printed → IfErr printed IsRunningFault → TellsRotations was faults now now_faults printed
 unfolding TellsRotations
 TellsRotations-then told printed was then_ faults then_faults now now_faults number entries before is w c f =
     let all : TellsRotations was faults then_ then_faults (Ok tt) = subst (λ t. TellsRotations was faults then_ then_faults t) is before in

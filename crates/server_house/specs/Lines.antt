@@ -3,8 +3,8 @@ use Rattle.std.specs.Prelude.{◌≡◌, ◌++◌, ◌∷◌, ℕ, List, [], Opt
 use Rattle.std.specs.Fmt.{decimal}
 use Rattle.lpd_commands.specs.Ends.{Writes}
 use Rattle.server_house.specs.Faults.{IsRunningFault, write_faults}
-use Rattle.server_house.specs.declared.faults.Fault.{Fault}
-use Rattle.server_house.specs.declared.faults.Fault.TheVariants.{Network, PrinterFile}
+use Rattle.server_house.specs.declared.faults.ServerFault.{ServerFault}
+use Rattle.server_house.specs.declared.faults.ServerFault.TheVariants.{Opening}
 use Rattle.server_house.specs.declared.lines.PrintedLine.{PrintedLine}
 use Rattle.server_house.specs.declared.lines.PrintedLine.TheVariants.{Closed, Listening, Rotated}
 
@@ -26,7 +26,7 @@ abbrev pub WritesRotations : Option (List ℕ) → Option (List ℕ) → Type 0
 WritesRotations was now = (segments : List (ℕ × ℕ)) × Writes was now (rotation_octets segments)
 
 -- from an output with these octets and faults to one with those it was told of rotations: where that went well nothing else was written, and else it is told what failed
-unfoldable pub TellsRotations : Option (List ℕ) → ℕ → Option (List ℕ) → ℕ → Result (Unit {0}) Fault → Type 0
+unfoldable pub TellsRotations : Option (List ℕ) → ℕ → Option (List ℕ) → ℕ → Result (Unit {0}) ServerFault → Type 0
 TellsRotations was faults now now_faults told =
     OnOk told (WritesRotations was now) × (now_faults ≡ write_faults faults told) × IfErr told IsRunningFault
 
@@ -34,8 +34,7 @@ TellsRotations was faults now now_faults told =
 abbrev pub WritesAll : Option (List ℕ) → Option (List ℕ) → Type 0
 WritesAll was now = (port : ℕ) × (segments : List (ℕ × ℕ)) × (entries : ℕ) × Writes was now (line_octets (Listening port) ++ (rotation_octets segments ++ line_octets (Closed entries)))
 
--- nothing was written where a printer's file can't be opened or the address can't be listened on
-abbrev pub IsQuiet : Option (List ℕ) → Option (List ℕ) → Fault → Type 0
-IsQuiet was now (PrinterFile path) = now ≡ was
-IsQuiet was now Network = now ≡ was
+-- nothing was written where something couldn't be opened at the start
+abbrev pub IsQuiet : Option (List ℕ) → Option (List ℕ) → ServerFault → Type 0
+IsQuiet was now (Opening opening) = now ≡ was
 IsQuiet was now _ = Unit {0}

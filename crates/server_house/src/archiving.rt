@@ -1,15 +1,14 @@
 //! The thread that writes the account's segments into files, and who waits for it.
 
-use crate::house::House;
+use crate::hall::Hall;
 use log::Log;
 use server_folders::LAST_TRIES;
-use shared_spool::{Segment, SpoolLedger};
+use shared_spool::Segment;
 use std::fs::{File, Files};
 use std::rt::Clock;
 use std::sync::Wait;
-use std::sync::ledger::Ledger;
 
-impl<R: Clock + Log + Wait, E: SpoolLedger, K: Ledger, H: Ledger> House<'_, R, E, K, H> {
+impl<R: Clock + Log + Wait> Hall<'_, R> {
     /// Whether the account may be rotated: where its segments become files a place is taken then for one that waits.
     pub fn takes_place(&self) -> bool {
         match &self.archive {
@@ -61,13 +60,7 @@ impl<R: Clock + Log + Wait, E: SpoolLedger, K: Ledger, H: Ledger> House<'_, R, E
     }
 }
 
-impl<R: Files<File = File> + Clock + Log + Wait, E: SpoolLedger, K: Ledger, H: Ledger> House<
-    '_,
-    R,
-    E,
-    K,
-    H,
-> {
+impl<R: Files<File = File> + Clock + Log + Wait> Hall<'_, R> {
     /// Has the account's segments become files, one after another, until the server ends.
     pub fn archive_all(&self) {
         if let Some(archive) = &self.archive {

@@ -1,52 +1,49 @@
 //! What stops a server.
 
 ghost use Rattle.std.specs.Prelude.{◌≡◌, ◌↔◌, IsTrue};
-ghost use Rattle.server_house.specs.declared.faults.Fault.TheVariants.{Memory, Output};
+ghost use Rattle.server_house.specs.declared.faults.ServerFault.TheVariants.{Memory, Output};
 
-use program_edge::FaultName;
+use program_edge::{FaultName, Opening};
 use std::alloc::{AllocError, AllocFailed};
 use thiserror::Error;
 
 /// Why a server stopped.
 #[derive(Debug, PartialEq, Eq, Drop, Error)]
-pub enum Fault {
+pub enum ServerFault {
     /// Memory was refused, or a thread.
     #[error("{}", FaultName::Memory)]
     Memory,
-    /// The address can't be listened on.
-    #[error("{}", FaultName::Network)]
-    Network,
-    /// The printer's file at this path can't be opened for writing.
-    #[error("{name} {0}", name = FaultName::WriteFile)]
-    PrinterFile(String),
+    /// Something couldn't be opened at its start.
+    #[error("{0}")]
+    Opening(Opening),
     /// The output can't be written.
     #[error("{}", FaultName::WriteFile)]
     Output,
 }
 
-impl From<AllocError> for Fault {
+impl From<AllocError> for ServerFault {
     ghost from_gives = { λ _ fault. fault ≡ Memory };
 
-    fn from(_error: AllocError) -> Fault {
-        Fault::Memory
+    fn from(_error: AllocError) -> ServerFault {
+        ServerFault::Memory
     }
 }
 
-impl<T: Drop> From<AllocFailed<T>> for Fault {
+impl<T: Drop> From<AllocFailed<T>> for ServerFault {
     ghost from_gives = { λ _ fault. fault ≡ Memory };
 
-    fn from(_error: AllocFailed<T>) -> Fault {
-        Fault::Memory
+    fn from(_error: AllocFailed<T>) -> ServerFault {
+        ServerFault::Memory
     }
 }
 
-impl Fault {
+impl ServerFault {
     /// Whether the server has logged it by itself when it ends: a line of the output that can't be
     /// written is told at once, and once.
     pub fn is_told(&self) -> bool
         ensures { IsTrue result ↔ self.now ≡ Output }
     {
-        matches!(self, Fault::Output)
+        matches!(self, ServerFault::Output)
     }
 
     /// The exit status, 4 for each.

@@ -5,7 +5,7 @@ ghost use Rattle.lpd_commands.specs.Ends.{Writes};
 ghost use Rattle.server_house.specs.Faults.{IsRunningFault, write_faults};
 ghost use Rattle.server_house.specs.Lines.{line_octets, line_text};
 
-use crate::faults::Fault;
+use crate::faults::ServerFault;
 use log::{Log, error};
 use lpd_commands::{OctetWrite, write_all};
 use std::alloc::Global;
@@ -39,14 +39,18 @@ impl fmt::Display for PrintedLine {
 
 /// Writes a line to the output. Output where it can't be written; Memory where memory for it is
 /// refused.
-pub fn print<W: OctetWrite>(alloc: Global, output: &mut W, line: PrintedLine) -> Result<(), Fault>
+pub fn print<W: OctetWrite>(
+    alloc: Global,
+    output: &mut W,
+    line: PrintedLine,
+) -> Result<(), ServerFault>
     ensures written { OnOk result
         (Writes (W.written output.old) (W.written output.new) (line_octets line)) }
     ensures write_fault { W.faults output.new ≡ write_faults (W.faults output.old) result }
     ensures fault { IfErr result IsRunningFault }
 {
     let text = format!(in alloc; "{line}\n")?;
-    write_all(output, text.as_bytes()).or(Err(Fault::Output))
+    write_all(output, text.as_bytes()).or(Err(ServerFault::Output))
 }
 
 /// Writes a line to the output, as `print` does. Where it can't be written that is logged.
@@ -55,15 +59,15 @@ pub fn print_or_tell<R: Log, W: OctetWrite>(
     alloc: Global,
     output: &mut W,
     line: PrintedLine,
-) -> Result<(), Fault>
+) -> Result<(), ServerFault>
     ensures written { OnOk result
         (Writes (W.written output.old) (W.written output.new) (line_octets line)) }
     ensures write_fault { W.faults output.new ≡ write_faults (W.faults output.old) result }
     ensures fault { IfErr result IsRunningFault }
 {
     let printed = print(alloc, output, line);
-    if let Err(Fault::Output) = &printed {
-        error!(rt; "{}", Fault::Output);
+    if let Err(ServerFault::Output) = &printed {
+        error!(rt; "{}", ServerFault::Output);
     }
     printed
 }

@@ -21,35 +21,28 @@ pub struct Oversight {
     pub pipes: Vec<Option<File>>,
     // How many connections wait in the lobby.
     in_lobby: AtomicU64,
-    /// What wakes the steward.
-    waker: Option<Waker>,
+    /// What wakes the steward, where one waits at a control socket.
+    pub waker: Option<Waker>,
 }
 
 impl Oversight {
-    /// Of a server that starts now with this configuration nothing is known yet. `waker` wakes the steward, if there is one; where
-    /// the server is watched its start is known.
-    pub fn new<R: Clock>(
-        rt: &R,
-        alloc: Global,
-        config: Config,
-        pipes: Vec<Option<File>>,
-        waker: Option<Waker>,
-        is_watched: bool,
-    ) -> Result<Oversight, AllocError> {
-        let printers = config.printer_count();
-        let start = if is_watched {
-            Instant::now(rt).ok()
-        } else {
-            None
-        };
+    /// Of a server of this configuration nothing is known yet, and nobody looks after it or at it. AllocError where memory is refused.
+    pub fn new(alloc: Global, config: &Config) -> Result<Oversight, AllocError> {
+        let config = Config::copy_of(alloc, config)?;
+        let standstills = Standstills::new(alloc, config.printer_count())?;
         Ok(Oversight {
             config,
-            start,
-            standstills: Standstills::new(alloc, printers)?,
-            pipes,
+            start: None,
+            standstills,
+            pipes: Vec::new(alloc),
             in_lobby: AtomicU64::new(0),
-            waker,
+            waker: None,
         })
+    }
+
+    /// Somebody looks after the server, or at it, which starts now.
+    pub fn watch<R: Clock>(&mut self, rt: &R) {
+        self.start = Instant::now(rt).ok();
     }
 
     /// Wakes the steward, where one waits at a control socket.

@@ -3,7 +3,7 @@
 ghost use Rattle.std.specs.Int.NonZero.{non_zero_u64_get};
 ghost use Rattle.std.specs.Prelude.{◌≡◌, ◌↔◌, ◌<◌, ◌*◌, ◌-◌, ◌^◌, IsTrue, min, unwrap_or};
 
-use server_edge::{Peer, Standing, Visit, ask_peer, may_end, unread_octets};
+use server_edge::{Peer, PeerStanding, Visit, ask_peer, may_end, unread_octets};
 use server_notes::{milliseconds, milliseconds_between};
 use shared_spool::Waiting;
 use std::alloc::{AllocError, Global};
@@ -21,7 +21,7 @@ const JUDGED_AFTER_SECONDS: u64 = 60;
 
 /// A connection that is served.
 #[derive(Drop)]
-struct Served {
+struct ServedConnection {
     stream: TcpStream,
     peer: SocketAddr,
     since: Instant,
@@ -31,7 +31,7 @@ struct Served {
 #[derive(Drop)]
 struct Post {
     // The connection that it serves.
-    served: Mutex<Option<Served>>,
+    served: Mutex<Option<ServedConnection>>,
     // How many octets it has read of that, and how many by the last read.
     received: AtomicU64,
     last: AtomicU64,
@@ -92,7 +92,7 @@ impl Posts {
                     .store(milliseconds_between(start, since), Ordering::SeqCst);
             }
             let served = stream.try_clone().and_then(|stream| {
-                Ok(Served {
+                Ok(ServedConnection {
                     stream,
                     peer,
                     since: since?,
@@ -161,7 +161,7 @@ impl Posts {
             return false;
         };
         let served = post.served.lock(rt);
-        let Some(Served { stream, .. }) = &*served else {
+        let Some(ServedConnection { stream, .. }) = &*served else {
             return false;
         };
         match ask_peer(stream) {
@@ -179,14 +179,14 @@ impl Posts {
 
 /// What is known of a session that waits for this, where of its connection so many octets are unread,
 /// its last read gave `last`, and all reads gave `received`.
-fn standing_of(waiting: Waiting, unread: Option<usize>, last: u64, received: u64) -> Standing
+fn standing_of(waiting: Waiting, unread: Option<usize>, last: u64, received: u64) -> PeerStanding
     ensures unread { result.unread ≡ unwrap_or unread 0 }
     ensures last { result.last ≡ last }
     ensures received { result.received ≡ received }
     ensures taken { result.taken ≡ waiting.put }
     ensures left { result.left ≡ waiting.lacks }
 {
-    Standing {
+    PeerStanding {
         unread: unread.unwrap_or(0) as u64,
         last,
         received,

@@ -1,38 +1,37 @@
 //! Queues that are started again by themselves once a printer of theirs has failed.
 
 use crate::house::House;
+use crate::ledgers::{HouseLedger, HouseSeat};
 use log::{Log, warn};
 use server_notes::Failures;
-use shared_spool::{SessionSeat, SpoolLedger};
 use std::rt::Clock;
 use std::sync::Wait;
-use std::sync::ledger::Ledger;
 use std::time::Instant;
 
-impl<R: Clock + Log + Wait, E: SpoolLedger, K: Ledger, H: Ledger> House<'_, R, E, K, H> {
+impl<R: Clock + Log + Wait, E: HouseLedger> House<'_, '_, R, E> {
     /// Starts a queue again of which this has failed, and tells that, where a printer of it stood still.
-    fn start_again(&self, seat: &mut SessionSeat<E, K, H>, queue: u32, failures: Failures) {
-        let name = self.oversight.config.name_of(queue);
-        let Ok(started) = self.spool.start_telling(self.rt, seat, name) else {
+    fn start_again(&self, seat: &mut HouseSeat<E>, queue: u32, failures: Failures) {
+        let name = self.hall.oversight.config.name_of(queue);
+        let Ok(started) = self.spool.start_telling(self.hall.rt, seat, name) else {
             return;
         };
         if started.stopped > 0 {
-            let (name, Failures { seconds, lost, .. }) = (self.queue_name(queue), failures);
-            warn!(self.rt; "queue {name} is started again after {seconds} s: {lost} jobs have failed since a page was written");
+            let (name, Failures { seconds, lost, .. }) = (self.hall.queue_name(queue), failures);
+            warn!(self.hall.rt; "queue {name} is started again after {seconds} s: {lost} jobs have failed since a page was written");
         }
     }
 
     /// Starts each queue again of which that is due, unless the server is being stopped.
-    pub fn start_all_due(&self, seat: &mut SessionSeat<E, K, H>) {
-        if self.ending.stops() {
+    pub fn start_all_due(&self, seat: &mut HouseSeat<E>) {
+        if self.hall.ending.stops() {
             return;
         }
-        let Ok(now) = Instant::now(self.rt) else {
+        let Ok(now) = Instant::now(self.hall.rt) else {
             return;
         };
-        for place in 0..self.oversight.config.queues().len() {
+        for place in 0..self.hall.oversight.config.queues().len() {
             let queue = place as u32 + 1;
-            if let Some(failures) = self.restarts.take_due(self.rt, queue, now) {
+            if let Some(failures) = self.hall.restarts.take_due(self.hall.rt, queue, now) {
                 self.start_again(seat, queue, failures);
             }
         }

@@ -1,13 +1,12 @@
 //! Who gets which seat.
 
 ghost use Rattle.std.specs.Prelude.{◌≡◌, ◌↔◌, ◌<◌, IfErr};
-ghost use Rattle.server_house.specs.declared.faults.Fault.TheVariants.{Memory};
+ghost use Rattle.server_house.specs.declared.faults.ServerFault.TheVariants.{Memory};
 ghost use Rattle.server_edge.specs.declared.desk.Serves.TheVariants.{NoJobs};
 
-use crate::faults::Fault;
+use crate::faults::ServerFault;
+use crate::ledgers::{HouseLedger, HouseSeat, PrintingSeat};
 use server_edge::Serves;
-use shared_spool::{PrinterSeat, SessionSeat, SpoolLedger};
-use std::sync::ledger::Ledger;
 
 /// How many sessions serve connections that bring no job, and those alone.
 pub const NO_JOB_SESSIONS: u32 = 2;
@@ -18,46 +17,46 @@ pub const OTHERS: u32 = 4;
 
 /// Seats at a spool.
 #[derive(Drop)]
-pub struct Seats<E: SpoolLedger, K: Ledger, H: Ledger> {
-    pub sessions: Vec<SessionSeat<E, K, H>>,
-    pub printers: Vec<PrinterSeat<E, K, H>>,
+pub struct Seats<E: HouseLedger> {
+    pub sessions: Vec<HouseSeat<E>>,
+    pub printers: Vec<PrintingSeat<E>>,
 }
 
 /// The seats by who gets them.
 #[derive(Drop)]
-pub struct Roles<E: SpoolLedger, K: Ledger, H: Ledger> {
+pub struct Roles<E: HouseLedger> {
     /// Who hands connections on.
-    pub porter: SessionSeat<E, K, H>,
+    pub porter: HouseSeat<E>,
     /// Who looks for peers that are gone.
-    pub watcher: SessionSeat<E, K, H>,
+    pub watcher: HouseSeat<E>,
     /// Who does what is asked at the control socket and by signals.
-    pub steward: SessionSeat<E, K, H>,
+    pub steward: HouseSeat<E>,
     /// Who has the spool take what a folder has kept.
-    pub feeder: SessionSeat<E, K, H>,
-    pub sessions: Vec<SessionSeat<E, K, H>>,
-    pub printers: Vec<PrinterSeat<E, K, H>>,
+    pub feeder: HouseSeat<E>,
+    pub sessions: Vec<HouseSeat<E>>,
+    pub printers: Vec<PrintingSeat<E>>,
 }
 
-impl<E: SpoolLedger, K: Ledger, H: Ledger> Roles<E, K, H> {
+impl<E: HouseLedger> Roles<E> {
     /// Deals the seats out: the last ones to others than sessions. Memory where one is missing.
     pub fn deal(
-        sessions: Vec<SessionSeat<E, K, H>>,
-        printers: Vec<PrinterSeat<E, K, H>>,
-    ) -> Result<Roles<E, K, H>, Fault>
+        sessions: Vec<HouseSeat<E>>,
+        printers: Vec<PrintingSeat<E>>,
+    ) -> Result<Roles<E>, ServerFault>
         ensures { IfErr result (λ fault. fault ≡ Memory) }
     {
         let mut sessions = sessions;
         let Some(porter) = sessions.pop() else {
-            return Err(Fault::Memory);
+            return Err(ServerFault::Memory);
         };
         let Some(watcher) = sessions.pop() else {
-            return Err(Fault::Memory);
+            return Err(ServerFault::Memory);
         };
         let Some(steward) = sessions.pop() else {
-            return Err(Fault::Memory);
+            return Err(ServerFault::Memory);
         };
         let Some(feeder) = sessions.pop() else {
-            return Err(Fault::Memory);
+            return Err(ServerFault::Memory);
         };
         Ok(Roles {
             porter,

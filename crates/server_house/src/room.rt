@@ -4,13 +4,12 @@ ghost use Rattle.std.specs.Prelude.{◌≡◌, ◌≤◌, ◌+◌, ◌-◌, ◌*
 ghost use Rattle.config_values.specs.Config.{IsQueue, reserve_of};
 ghost use Rattle.server_house.specs.Rotating.{next_hold};
 
+use crate::ledgers::{HouseLedger, HouseSpool};
 use config_values::Config;
 use log::{Log, warn};
 use server_notes::milliseconds_since;
-use shared_spool::{SharedSpool, SpoolLedger};
 use std::rt::Clock;
 use std::sync::Wait;
-use std::sync::ledger::Ledger;
 use std::time::Instant;
 
 /// The time without room after which that is told, and told again, in seconds.
@@ -128,10 +127,10 @@ impl AccountRoom {
     }
 
     /// Whether new jobs are let in.
-    pub fn lets_jobs_in<E: SpoolLedger, K: Ledger, H: Ledger, R: Clock + Log + Wait>(
+    pub fn lets_jobs_in<E: HouseLedger, R: Clock + Log + Wait>(
         &mut self,
         rt: &R,
-        spool: &SharedSpool<E, K, H>,
+        spool: &HouseSpool<E>,
     ) -> bool {
         let counted = spool.counted_reserve(rt);
         self.tell_full(rt, counted);

@@ -4,15 +4,16 @@ ghost use Rattle.std.specs.Int.NonZero.{non_zero_u64_get};
 ghost use Rattle.std.specs.Prelude.{◌≡◌, ◌↔◌, IsTrue, length, option_map};
 ghost use Rattle.server_house.specs.Rotating.{HasTurn};
 
+use crate::hall::Hall;
 use crate::house::House;
+use crate::ledgers::HouseLedger;
 use log::{Log, error, info};
 use server_folders::ACCOUNT_LINES;
 use server_notes::Rotation;
-use shared_spool::{RotateError, Segment, SpoolLedger};
+use shared_spool::{RotateError, Segment};
 use std::num::NonZeroU64;
 use std::rt::Clock;
 use std::sync::Wait;
-use std::sync::ledger::Ledger;
 use std::thread;
 use std::time::Duration;
 
@@ -38,7 +39,7 @@ pub fn rotation_of(segment: &Segment) -> Rotation
     }
 }
 
-impl<R: Clock + Wait + Log, E: SpoolLedger, K: Ledger, H: Ledger> House<'_, R, E, K, H> {
+impl<R: Clock + Wait + Log> Hall<'_, R> {
     /// What comes of a rotation for which there was a place: the segment is printed of, and where the account is kept it waits
     /// to become a file. Where the account wasn't rotated the log is told why, and the server goes on.
     pub fn note_rotated(&self, rotated: Result<Segment, RotateError>) {
@@ -62,27 +63,29 @@ impl<R: Clock + Wait + Log, E: SpoolLedger, K: Ledger, H: Ledger> House<'_, R, E
             info!(self.rt; target: ACCOUNT_LINES, "segment {number} of the account began amid held jobs, {since} entries behind the last rotation");
         }
     }
+}
 
+impl<R: Clock + Wait + Log, E: HouseLedger> House<'_, '_, R, E> {
     /// Rotates the account, or trims it where jobs are held, as soon as `least` entries are counted and no job is held, or a trim
     /// gives as many back; again and again until the spool is closed, and never where no room is kept.
     pub fn keep_account(&self) {
-        let Some(least) = self.least else {
+        let Some(least) = self.hall.least else {
             return;
         };
-        for _ in self.rt.forever() {
-            if !self.wait_for_place() {
+        for _ in self.hall.rt.forever() {
+            if !self.hall.wait_for_place() {
                 return;
             }
-            let Some(segment) = self.spool.keep_wait(self.rt, least) else {
-                self.give_place_back();
+            let Some(segment) = self.spool.keep_wait(self.hall.rt, least) else {
+                self.hall.give_place_back();
                 return;
             };
             let is_refused = segment.is_err();
-            self.note_rotated(segment);
+            self.hall.note_rotated(segment);
             if is_refused {
-                thread::sleep(self.rt, Duration::from_secs(PAUSE_SECONDS));
+                thread::sleep(self.hall.rt, Duration::from_secs(PAUSE_SECONDS));
             } else {
-                let _ = self.waker.wake();
+                let _ = self.hall.waker.wake();
             }
         }
     }

@@ -11,16 +11,16 @@ use std::sync::atomic::{AtomicBool, Ordering};
 
 /// How far the end of a server has come. It never goes back.
 #[derive(Drop)]
-pub struct Ending {
+pub struct ServerEnding {
     stops: AtomicBool,
     cuts_off: AtomicBool,
     closed: AtomicBool,
 }
 
-impl Ending {
+impl ServerEnding {
     /// The server runs.
-    pub fn new() -> Ending {
-        Ending {
+    pub fn new() -> ServerEnding {
+        ServerEnding {
             stops: AtomicBool::new(false),
             cuts_off: AtomicBool::new(false),
             closed: AtomicBool::new(false),

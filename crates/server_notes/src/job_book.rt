@@ -7,7 +7,7 @@
 //!       +------------------- its session has given it up -----------------------+
 //! ```
 
-use crate::job_lines::{Outcome, tell_job};
+use crate::job_lines::{JobOutcome, tell_job};
 use crate::moments::milliseconds;
 use control_file::Control;
 use log::Log;
@@ -146,7 +146,7 @@ impl JobBook {
     }
 
     /// Tells what has become of a job by now, where the log has a line for that.
-    fn tell<R: Log>(&self, rt: &R, job: u64, noted: &Noted, outcome: Outcome, now: Duration) {
+    fn tell<R: Log>(&self, rt: &R, job: u64, noted: &Noted, outcome: JobOutcome, now: Duration) {
         if self.has_lines {
             tell_job(rt, job, noted, outcome, now.saturating_sub(noted.since));
         }
@@ -156,7 +156,7 @@ impl JobBook {
     fn note_whole<R: Log + Wait>(&self, rt: &R, job: u64, noted: &Noted, now: Duration) {
         let took = milliseconds(now.saturating_sub(noted.since));
         self.counts.lock(rt).receive(noted.octets, took);
-        self.tell(rt, job, noted, Outcome::Received, now);
+        self.tell(rt, job, noted, JobOutcome::Received, now);
     }
 
     /// A job has come whole.
@@ -170,28 +170,28 @@ impl JobBook {
     }
 
     /// Counts a job by what has become of it.
-    fn count<R: Wait>(&self, rt: &R, noted: &Noted, outcome: Outcome, now: Duration) {
+    fn count<R: Wait>(&self, rt: &R, noted: &Noted, outcome: JobOutcome, now: Duration) {
         let mut counts = self.counts.lock(rt);
         match outcome {
-            Outcome::Received => {}
-            Outcome::Done => {
+            JobOutcome::Received => {}
+            JobOutcome::Done => {
                 let since = noted.received.unwrap_or(now);
                 counts.finish(noted.octets, milliseconds(now.saturating_sub(since)));
             }
-            Outcome::Failed => counts.fail(),
-            Outcome::Removed => counts.remove(),
-            Outcome::Aborted => counts.abort(),
+            JobOutcome::Failed => counts.fail(),
+            JobOutcome::Removed => counts.remove(),
+            JobOutcome::Aborted => counts.abort(),
         }
     }
 
     /// A job isn't held any more: each is told once.
-    pub fn end<R: Clock + Log + Wait>(&self, rt: &R, job: u64, outcome: Outcome) {
+    pub fn end<R: Clock + Log + Wait>(&self, rt: &R, job: u64, outcome: JobOutcome) {
         let now = since_start(rt);
         let Some(noted) = self.jobs.lock(rt).remove(&job) else {
             return;
         };
         // A printer may be through with it before its session has told that it came whole.
-        if noted.received.is_none() && outcome != Outcome::Aborted {
+        if noted.received.is_none() && outcome != JobOutcome::Aborted {
             self.note_whole(rt, job, &noted, now);
         }
         self.count(rt, &noted, outcome, now);
@@ -206,7 +206,7 @@ impl JobBook {
             .get(&job)
             .is_some_and(|noted| noted.received.is_some());
         if !is_received {
-            self.end(rt, job, Outcome::Aborted);
+            self.end(rt, job, JobOutcome::Aborted);
         }
     }
 }

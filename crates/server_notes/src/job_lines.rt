@@ -12,7 +12,7 @@ pub const JOB_LINES: &str = "lpd_daemon::job_lines";
 
 /// What becomes of a job.
 #[derive(Clone, Copy, Debug, PartialEq, Eq)]
-pub enum Outcome {
+pub enum JobOutcome {
     /// It came whole.
     Received,
     /// All its pages were printed.
@@ -25,33 +25,33 @@ pub enum Outcome {
     Aborted,
 }
 
-impl fmt::Display for Outcome {
+impl fmt::Display for JobOutcome {
     fn fmt<W: fmt::Write>(&self, f: &mut fmt::Formatter<W>) -> fmt::Result {
         f.write_str(match self {
-            Outcome::Received => "received",
-            Outcome::Done => "done",
-            Outcome::Failed => "failed",
-            Outcome::Removed => "removed",
-            Outcome::Aborted => "aborted",
+            JobOutcome::Received => "received",
+            JobOutcome::Done => "done",
+            JobOutcome::Failed => "failed",
+            JobOutcome::Removed => "removed",
+            JobOutcome::Aborted => "aborted",
         })
     }
 }
 
-impl From<JobEnd> for Outcome {
-    fn from(end: JobEnd) -> Outcome {
+impl From<JobEnd> for JobOutcome {
+    fn from(end: JobEnd) -> JobOutcome {
         match end {
-            JobEnd::Done => Outcome::Done,
-            JobEnd::Removed => Outcome::Removed,
-            JobEnd::Failed => Outcome::Failed,
+            JobEnd::Done => JobOutcome::Done,
+            JobEnd::Removed => JobOutcome::Removed,
+            JobEnd::Failed => JobOutcome::Failed,
         }
     }
 }
 
 /// A word of strangers, or `-` where there is none.
 #[derive(Clone, Copy)]
-struct Word<'a>(Option<&'a [u8]>);
+struct ShownWord<'a>(Option<&'a [u8]>);
 
-impl fmt::Display for Word<'_> {
+impl fmt::Display for ShownWord<'_> {
     fn fmt<W: fmt::Write>(&self, f: &mut fmt::Formatter<W>) -> fmt::Result {
         match self.0 {
             Some(octets) => write!(f, "{}", Escaped(octets)),
@@ -78,7 +78,7 @@ impl fmt::Display for Number {
 struct JobLine<'a> {
     job: u64,
     noted: &'a Noted,
-    outcome: Outcome,
+    outcome: JobOutcome,
     took: Duration,
 }
 
@@ -90,9 +90,9 @@ impl fmt::Display for JobLine<'_> {
             outcome,
             took,
         } = self;
-        let queue = Word(Some(noted.queue.as_slice()));
-        let user = Word(noted.user.as_ref().map(|user| user.as_slice()));
-        let host = Word(noted.host.as_ref().map(|host| host.as_slice()));
+        let queue = ShownWord(Some(noted.queue.as_slice()));
+        let user = ShownWord(noted.user.as_ref().map(|user| user.as_slice()));
+        let host = ShownWord(noted.host.as_ref().map(|host| host.as_slice()));
         let number = Number(noted.number);
         let (pages, octets) = (noted.pages, noted.octets);
         let (seconds, hundredths) = (took.as_secs(), took.subsec_millis() / 10);
@@ -105,7 +105,13 @@ impl fmt::Display for JobLine<'_> {
 }
 
 /// Tells what has become of a job this long after it was accepted.
-pub(crate) fn tell_job<R: Log>(rt: &R, job: u64, noted: &Noted, outcome: Outcome, took: Duration) {
+pub(crate) fn tell_job<R: Log>(
+    rt: &R,
+    job: u64,
+    noted: &Noted,
+    outcome: JobOutcome,
+    took: Duration,
+) {
     let line = JobLine {
         job,
         noted,

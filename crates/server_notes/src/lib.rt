@@ -10,9 +10,9 @@ mod restarts;
 mod rotations;
 mod standstills;
 
-pub use ending::Ending;
+pub use ending::ServerEnding;
 pub use job_book::JobBook;
-pub use job_lines::{JOB_LINES, Outcome};
+pub use job_lines::{JOB_LINES, JobOutcome};
 pub use moments::{milliseconds, milliseconds_between, milliseconds_since};
 pub use restarts::{Failures, Restarts};
 pub use rotations::{Rotation, Rotations};

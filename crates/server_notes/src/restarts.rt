@@ -73,7 +73,7 @@ impl Failures {
 
 /// A queue whose printers may fail.
 #[derive(Clone, Copy)]
-struct Row {
+struct FailingQueue {
     failures: Failures,
     /// When a job failed last, where the queue waits for its start.
     failed_at: Option<Instant>,
@@ -84,7 +84,7 @@ struct Row {
 pub struct Restarts {
     first_seconds: u64,
     /// By the queues' numbers, from 1; none where no queue is started again.
-    queues: Vec<Mutex<Row>>,
+    queues: Vec<Mutex<FailingQueue>>,
 }
 
 impl Restarts {
@@ -99,7 +99,7 @@ impl Restarts {
         let first_seconds = seconds.map_or(0, NonZeroU64::get);
         if seconds.is_some() {
             for _queue in 0..queues {
-                rows.push(Mutex::new(Row {
+                rows.push(Mutex::new(FailingQueue {
                     failures: Failures::none(first_seconds),
                     failed_at: None,
                 }))?;
@@ -112,7 +112,7 @@ impl Restarts {
     }
 
     /// The row of a queue.
-    fn row(&self, queue: u32) -> Option<&Mutex<Row>> {
+    fn row(&self, queue: u32) -> Option<&Mutex<FailingQueue>> {
         self.queues.get((queue as usize).checked_sub(1)?)
     }
 
@@ -126,7 +126,7 @@ impl Restarts {
                 row.failures
             };
             let failed_at = Instant::now(rt).ok();
-            *row = Row {
+            *row = FailingQueue {
                 failures,
                 failed_at,
             };
@@ -148,7 +148,7 @@ impl Restarts {
         if waited < failures.seconds {
             return None;
         }
-        *row = Row {
+        *row = FailingQueue {
             failures: Failures {
                 is_tried: true,
                 ..failures

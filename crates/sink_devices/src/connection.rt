@@ -16,14 +16,14 @@ const KEPT_OCTETS: u32 = 65_536;
 const KEEPALIVE_SECONDS: u8 = 60;
 
 /// How many octets that the printer sends are dropped at once.
-const PIECE: usize = 4_096;
+const PIECE_OCTETS: usize = 4_096;
 
 /// How many such reads follow one another before something is written again.
 const READS: u32 = 16;
 
 /// A connection to a printer.
 #[derive(Drop)]
-pub(crate) struct Connection {
+pub(crate) struct PrinterConnection {
     stream: TcpStream,
     // Whether the printer may still send something.
     hears: bool,
@@ -31,7 +31,7 @@ pub(crate) struct Connection {
 
 /// Reads what has come, up to a bound, and drops it. Whether more may come: false once the printer has ended its sending.
 fn drop_input(stream: &mut TcpStream) -> io::Result<bool> {
-    let mut buffer = [0u8; PIECE];
+    let mut buffer = [0u8; PIECE_OCTETS];
     for _read in 0..READS {
         match stream.read(&mut buffer) {
             Ok(0) => return Ok(false),
@@ -44,10 +44,10 @@ fn drop_input(stream: &mut TcpStream) -> io::Result<bool> {
     Ok(true)
 }
 
-impl Connection {
+impl PrinterConnection {
     /// Asks the system for a connection to this address, and doesn't wait for it.
-    pub(crate) fn begin<R: Net>(rt: &R, address: SocketAddr) -> io::Result<Connection> {
-        Ok(Connection {
+    pub(crate) fn begin<R: Net>(rt: &R, address: SocketAddr) -> io::Result<PrinterConnection> {
+        Ok(PrinterConnection {
             stream: TcpStream::from(mio::net::TcpStream::connect(rt, address)?),
             hears: true,
         })

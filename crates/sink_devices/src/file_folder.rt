@@ -4,7 +4,8 @@ ghost use Rattle.std.specs.Prelude.{◌≡◌, None, Some, false};
 
 use crate::causes::Causes;
 use log::{Log, warn};
-use printer_sinks::{Folder, FolderFault};
+use printer_sinks::{FolderFault, PrinterFolder};
+use program_edge::{JOB_FILE, JobFileName};
 use std::alloc::{AllocError, Global};
 use std::fs::{File, Files, OpenOptions};
 use std::io::{Error, ErrorKind, Write};
@@ -65,9 +66,9 @@ impl<'a, R: Files<File = File> + Log> FileFolder<'a, R> {
     fn hidden_path(&self, job: u64, taken: u32) -> Result<String, AllocError> {
         let path = &self.path;
         if taken == 0 {
-            return format!(in self.alloc; "{path}/.job-{job}");
+            return format!(in self.alloc; "{path}/.{JOB_FILE}{job}");
         }
-        format!(in self.alloc; "{path}/.job-{job}-{taken}")
+        format!(in self.alloc; "{path}/.{JOB_FILE}{job}-{taken}")
     }
 
     /// Makes the hidden file for a job. AlreadyExists where each of the names that are tried is taken.
@@ -101,7 +102,8 @@ impl<'a, R: Files<File = File> + Log> FileFolder<'a, R> {
     /// Gives the hidden file the next number, and answers it. AlreadyExists where a file has that.
     fn link(&mut self) -> io::Result<u64> {
         let number = self.take_number();
-        let path = format!(in self.alloc; "{}/job-{number:010}", self.path)?;
+        let name = JobFileName { number };
+        let path = format!(in self.alloc; "{}/{name}", self.path)?;
         // A link, since a rename would write over a file that has the name.
         fs::hard_link(self.rt, self.hidden.as_str(), path.as_str())?;
         Ok(number)
@@ -152,7 +154,7 @@ impl<'a, R: Files<File = File> + Log> Causes for FileFolder<'a, R> {
     }
 }
 
-impl<'a, R: Files<File = File> + Log> Folder for FileFolder<'a, R> {
+impl<'a, R: Files<File = File> + Log> PrinterFolder for FileFolder<'a, R> {
     ghost files = { λ _. None };
 
     ghost draft = { λ _. None };

@@ -10,7 +10,7 @@ use std::io;
 use std::io::Read;
 
 /// How many octets of names are read at once.
-const PIECE: usize = 8_192;
+const PIECE_OCTETS: usize = 8_192;
 
 /// What the names in a folder say.
 #[derive(Clone, Copy, Debug, PartialEq, Eq)]
@@ -104,7 +104,7 @@ impl FolderNames {
 pub fn names_of<R: Files>(rt: &R, path: &str) -> io::Result<FolderNames> {
     let mut names = FolderNames::none();
     let mut folder = rt.open_dir(path)?;
-    let mut buffer = [0u8; PIECE];
+    let mut buffer = [0u8; PIECE_OCTETS];
     for _ in 0..u64::MAX {
         let count = folder.read(&mut buffer)?;
         if count == 0 {

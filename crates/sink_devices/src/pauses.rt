@@ -4,7 +4,7 @@ ghost use Rattle.std.specs.Prelude.{◌≡◌, ◌^◌, min};
 
 use crate::errand::Errand;
 use crate::moments::{milliseconds_since, now};
-use crate::waiting::Waiting;
+use crate::waiting::PrinterWait;
 use printer_sinks::Pause;
 use std::num::NonZeroU64;
 use std::rt::Clock;
@@ -64,7 +64,7 @@ impl<'a, R: Clock, Q: Errand> Pause for Pauses<'a, R, Q> {
         if tries == 0 {
             self.start = now(self.rt);
         }
-        let mut waiting = Waiting::begin(self.rt, self.errand, job);
+        let mut waiting = PrinterWait::begin(self.rt, self.errand, job);
         for _step in 0..pause_seconds(tries) * 1_000 / STEP_MS {
             thread::sleep(self.rt, Duration::from_millis(STEP_MS));
             if !self.has_time() || !waiting.goes_on() {

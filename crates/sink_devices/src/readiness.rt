@@ -1,4 +1,4 @@
-//! Waiting for both directions of a socket.
+//! PrinterWait for both directions of a socket.
 
 use libc::net::{POLLERR, POLLHUP, POLLIN, POLLNVAL, POLLOUT, poll};
 use libc::types::pollfd;

@@ -3,11 +3,11 @@
 ghost use Rattle.std.specs.Prelude.{◌≡◌, ◌≤◌, None, Some, length, IfOk};
 
 use crate::causes::Causes;
-use crate::connection::Connection;
+use crate::connection::PrinterConnection;
 use crate::errand::Errand;
 use crate::moments::{milliseconds_since, now};
 use crate::unended::Unended;
-use crate::waiting::{Waiting, is_not_wanted, not_wanted};
+use crate::waiting::{PrinterWait, is_not_wanted, not_wanted};
 use log::{Log, info, warn};
 use printer_sinks::{ConnectionFault, Dial};
 use std::fmt::Display;
@@ -56,7 +56,7 @@ pub struct TcpDial<'a, R: Net + Clock + Log, Q: Errand> {
     address: SocketAddr,
     silence_ms: Option<u64>,
     job: u64,
-    connection: Option<Connection>,
+    connection: Option<PrinterConnection>,
     // Whether the connection took an octet.
     is_begun: bool,
     // Since when it isn't reached, and when that was told last.
@@ -94,9 +94,9 @@ impl<'a, R: Net + Clock + Log, Q: Errand> TcpDial<'a, R, Q> {
 
     /// Opens a connection. TimedOut where the printer doesn't accept it; as `not_wanted` where nobody waits for the job any
     /// more.
-    fn connect(&self) -> io::Result<Connection> {
-        let connection = Connection::begin(self.rt, self.address)?;
-        let mut waiting = Waiting::begin(self.rt, self.errand, self.job);
+    fn connect(&self) -> io::Result<PrinterConnection> {
+        let connection = PrinterConnection::begin(self.rt, self.address)?;
+        let mut waiting = PrinterWait::begin(self.rt, self.errand, self.job);
         for _turn in 0..CONNECT_TURNS {
             if connection.is_accepted(TURN_MS)? {
                 return Ok(connection);
@@ -165,7 +165,7 @@ impl<'a, R: Net + Clock + Log, Q: Errand> TcpDial<'a, R, Q> {
         let Some(connection) = &mut self.connection else {
             return Err(Error::from(ErrorKind::NotConnected));
         };
-        let mut waiting = Waiting::begin(self.rt, self.errand, self.job);
+        let mut waiting = PrinterWait::begin(self.rt, self.errand, self.job);
         for _turn in 0..u64::MAX {
             match connection.write(octets, TURN_MS) {
                 Err(error) if error.kind() == ErrorKind::WouldBlock => {}
@@ -190,7 +190,7 @@ impl<'a, R: Net + Clock + Log, Q: Errand> TcpDial<'a, R, Q> {
 
     /// Ends a connection, and waits for the printer to end it too, unless it hasn't for three jobs in a row: what is there is
     /// dropped once then.
-    fn end(&self, connection: &mut Connection) -> End {
+    fn end(&self, connection: &mut PrinterConnection) -> End {
         if let Err(error) = connection.end_sending() {
             return End::Failed(error);
         }

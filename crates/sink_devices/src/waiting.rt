@@ -11,7 +11,7 @@ const ASK_MS: u64 = 1_000;
 
 /// A wait for a printer, with a job.
 #[derive(Drop)]
-pub(crate) struct Waiting<'a, R: Clock, Q: Errand> {
+pub(crate) struct PrinterWait<'a, R: Clock, Q: Errand> {
     rt: &'a R,
     errand: &'a Q,
     job: u64,
@@ -20,10 +20,10 @@ pub(crate) struct Waiting<'a, R: Clock, Q: Errand> {
     asked_ms: u64,
 }
 
-impl<'a, R: Clock, Q: Errand> Waiting<'a, R, Q> {
+impl<'a, R: Clock, Q: Errand> PrinterWait<'a, R, Q> {
     /// A wait that begins now.
-    pub(crate) fn begin(rt: &'a R, errand: &'a Q, job: u64) -> Waiting<'a, R, Q> {
-        Waiting {
+    pub(crate) fn begin(rt: &'a R, errand: &'a Q, job: u64) -> PrinterWait<'a, R, Q> {
+        PrinterWait {
             rt,
             errand,
             job,

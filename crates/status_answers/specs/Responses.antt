@@ -7,12 +7,12 @@ use Rattle.status_request.specs.declared.asked.Method.{Method}
 use Rattle.status_request.specs.declared.asked.Method.TheVariants.{Get, Head}
 use Rattle.status_request.specs.declared.asked.Resource.{Resource}
 use Rattle.status_request.specs.declared.asked.Resource.TheVariants.{Page, Metrics}
-use Rattle.status_request.specs.declared.judged.Refusal.{Refusal}
-use Rattle.status_request.specs.declared.judged.Refusal.TheVariants.{BadRequest, OtherHost, NotFound, MethodNotAllowed, TooLarge}
+use Rattle.status_request.specs.declared.judged.RequestRefusal.{RequestRefusal}
+use Rattle.status_request.specs.declared.judged.RequestRefusal.TheVariants.{BadRequest, OtherHost, NotFound, MethodNotAllowed, TooLarge}
 use Rattle.status_scene.specs.declared.scene.Scene.{Scene}
 
 -- the status line of a refusal, from its code on
-abbrev pub refusal_line : Refusal → List ℕ
+abbrev pub refusal_line : RequestRefusal → List ℕ
 refusal_line BadRequest = codes "400 Bad Request"
 refusal_line OtherHost = codes "400 Bad Request"
 refusal_line NotFound = codes "404 Not Found"

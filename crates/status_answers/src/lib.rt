@@ -6,5 +6,5 @@ mod response;
 
 pub use connection::{read_request, send_response};
 pub use response::{refusal_response, status_response, timeout_response, unavailable_response};
-pub use status_request::{Method, Reading, Refusal, Resource};
+pub use status_request::{Method, RequestReading, RequestRefusal, Resource};
 pub use status_scene::Scene;

@@ -5,7 +5,7 @@ ghost use Rattle.status_answers.specs.Responses.{IsBody, in_one_line, head_text,
 
 use status_metrics::metrics;
 use status_page::html;
-use status_request::{Method, Refusal, Resource};
+use status_request::{Method, RequestRefusal, Resource};
 use status_scene::Scene;
 use std::alloc::{AllocError, Global};
 
@@ -13,14 +13,14 @@ use std::alloc::{AllocError, Global};
 const PLAIN: &str = "text/plain; charset=utf-8";
 
 /// The status line of a refusal, from its code on.
-fn refusal_line(refusal: Refusal) -> &'static str
+fn refusal_line(refusal: RequestRefusal) -> &'static str
     ensures { result.now ≡ refusal_line refusal }
 {
     match refusal {
-        Refusal::BadRequest | Refusal::OtherHost => "400 Bad Request",
-        Refusal::NotFound => "404 Not Found",
-        Refusal::MethodNotAllowed => "405 Method Not Allowed",
-        Refusal::TooLarge => "431 Request Header Fields Too Large",
+        RequestRefusal::BadRequest | RequestRefusal::OtherHost => "400 Bad Request",
+        RequestRefusal::NotFound => "404 Not Found",
+        RequestRefusal::MethodNotAllowed => "405 Method Not Allowed",
+        RequestRefusal::TooLarge => "431 Request Header Fields Too Large",
     }
 }
 
@@ -87,7 +87,7 @@ pub fn status_response(
 /// The response to a request that is refused.
 ///
 /// AllocError where memory for it is refused.
-pub fn refusal_response(alloc: Global, refusal: Refusal) -> Result<String, AllocError>
+pub fn refusal_response(alloc: Global, refusal: RequestRefusal) -> Result<String, AllocError>
     ensures { IfOk result (λ text. string_bytes text ≡ in_one_line (refusal_line refusal)) }
 {
     in_one_line(alloc, refusal_line(refusal))

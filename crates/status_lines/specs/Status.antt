@@ -19,7 +19,7 @@ use Rattle.status_lines.specs.declared.line.JobPages.{JobPages}
 use Rattle.status_lines.specs.declared.outside.KeptJobs.{KeptJobs}
 use Rattle.status_lines.specs.declared.outside.Outside.{Outside}
 use Rattle.status_lines.specs.declared.outside.SeenSession.{SeenSession}
-use Rattle.status_lines.specs.declared.outside.Standstill.{Standstill}
+use Rattle.status_lines.specs.declared.outside.SeenStandstill.{SeenStandstill}
 use Rattle.status_lines.specs.Pieces.{one_line}
 use Rattle.status_lines.specs.Words.{entries_words, job_words, kept_words, lobby_words, pages_words, printer_line, queue_words, session_words, spool_words, standstill_line, uptime_words}
 
@@ -60,21 +60,21 @@ work_of None = printer.Idle
 work_of (Some sheet) = printer.Prints sheet.job sheet.place
 
 -- the line of a stopped printer, where it may be known since when and why it stands still
-abbrev pub stopped_line : ℕ → List ℕ → Option Standstill → List ℕ
+abbrev pub stopped_line : ℕ → List ℕ → Option SeenStandstill → List ℕ
 stopped_line number name None = printer_line number name printer.Stopped
 stopped_line number name (Some stop) = standstill_line number name stop.seconds (one_line (string_bytes stop.cause))
 
-abbrev pub printer_told : ℕ → List ℕ → Printer → Option Standstill → List ℕ
+abbrev pub printer_told : ℕ → List ℕ → Printer → Option SeenStandstill → List ℕ
 printer_told number name p stop =
     if p.stopped then stopped_line number name stop else printer_line number name (work_of p.out)
 
 -- the line of the printer at a place, where it serves the queue of this number; printers are numbered from 1
-abbrev pub printer_text : (queue : ℕ) → List ℕ → List (Option Standstill) → ℕ → Printer → List ℕ
+abbrev pub printer_text : (queue : ℕ) → List ℕ → List (Option SeenStandstill) → ℕ → Printer → List ℕ
 printer_text number name stops at p =
     if p.queue == number then ended (printer_told (at + 1) name p (slice_index_or stops at None)) else []
 
 -- the lines of the queue at a place and of its printers; queues are numbered from 1
-abbrev pub queue_text : List Printer → List Bool → List (Option Standstill) → ℕ → Queue → List ℕ
+abbrev pub queue_text : List Printer → List Bool → List (Option SeenStandstill) → ℕ → Queue → List ℕ
 queue_text printers held stops at q =
     ended (queue_words q.name (queue_state held at)) ++ placed (printer_text (at + 1) q.name stops) 0 printers
 

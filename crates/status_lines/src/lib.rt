@@ -9,6 +9,6 @@ mod status;
 
 pub use laws::one_line_has_no_line_feed;
 pub use line::{JobPages, PrinterState, QueueState, SpoolState, StatusLine};
-pub use outside::{KeptJobs, Outside, SeenSession, Standstill};
+pub use outside::{KeptJobs, Outside, SeenSession, SeenStandstill};
 pub use pieces::one_line;
 pub use status::status_text;

@@ -176,9 +176,9 @@ fn address_of(sender: u32) -> Ipv4Addr
 
 /// Who sent a job: its sender's address, and the user and the host that its control file names.
 #[derive(Clone, Copy)]
-struct Owner<'a>(&'a SeenJob);
+struct JobSender<'a>(&'a SeenJob);
 
-impl fmt::Display for Owner<'_> {
+impl fmt::Display for JobSender<'_> {
     ghost output = { λ owner. Some (owner_words owner.0.now) };
 
     fn fmt<W: fmt::Write>(&self, f: &mut fmt::Formatter<W>) -> fmt::Result {
@@ -191,9 +191,9 @@ impl fmt::Display for Owner<'_> {
 
 /// How far a job is.
 #[derive(Clone, Copy)]
-struct Progress<'a>(&'a SeenJob);
+struct JobProgress<'a>(&'a SeenJob);
 
-impl fmt::Display for Progress<'_> {
+impl fmt::Display for JobProgress<'_> {
     ghost output = { λ progress. Some (progress_words progress.0.now) };
 
     fn fmt<W: fmt::Write>(&self, f: &mut fmt::Formatter<W>) -> fmt::Result {
@@ -239,7 +239,7 @@ impl fmt::Display for StatusLine<'_> {
                 cause,
             } => { write!(f, "printer {number} {queue} stopped {seconds} {cause}") }
             StatusLine::Job { job, queue, pages } => {
-                let (number, owner, progress) = (job.number, Owner(job), Progress(job));
+                let (number, owner, progress) = (job.number, JobSender(job), JobProgress(job));
                 write!(f, "job {number} {queue} {owner} {progress} {pages}")
             }
         }

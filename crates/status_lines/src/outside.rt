@@ -13,7 +13,7 @@ pub struct SeenSession {
 
 /// Since when and why a printer stands still.
 #[derive(Debug, Drop)]
-pub struct Standstill {
+pub struct SeenStandstill {
     /// For how many seconds it does.
     pub seconds: u64,
     /// Why: the fault of its last page.
@@ -47,5 +47,5 @@ pub struct Outside<'a> {
     /// Which queues are held, in the order of the configuration; the others run.
     pub held: &'a [bool],
     /// Of the printers by their numbers, since when and why each stands still, where that is known.
-    pub standstills: &'a [Option<Standstill>],
+    pub standstills: &'a [Option<SeenStandstill>],
 }

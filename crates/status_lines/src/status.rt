@@ -7,7 +7,7 @@ ghost use Rattle.status_lines.specs.Words.{line_words};
 ghost use Rattle.status_lines.specs.Status.{ended, head_text, job_text, kept_text, pages_in, placed, printer_text, printer_told, queue_state, queue_text, queues_text, session_text, spool_state, status_text, work_of};
 
 use crate::line::{JobPages, PrinterState, QueueState, SpoolState, StatusLine};
-use crate::outside::{KeptJobs, Outside, SeenSession, Standstill};
+use crate::outside::{KeptJobs, Outside, SeenSession, SeenStandstill};
 use crate::pieces::{name_text, one_line, pages_of, queue_name};
 use account::Sheet;
 use claims::Row;
@@ -117,7 +117,7 @@ fn push_printer(
     number: usize,
     queue: &str,
     printer: &Printer,
-    standstill: Option<&Standstill>,
+    standstill: Option<&SeenStandstill>,
 ) -> Result<(), AllocError>
     ensures { OnOk result (string_bytes text.new ≡ string_bytes text.old
         ++ ended (printer_told number queue.now printer.now (option_copied standstill.entry))) }
@@ -146,7 +146,7 @@ fn push_printer(
 }
 
 /// What is known of the standstill of the printer at a place.
-fn standstill_at(standstills: &[Option<Standstill>], at: usize) -> Option<&Standstill>
+fn standstill_at(standstills: &[Option<SeenStandstill>], at: usize) -> Option<&SeenStandstill>
     ensures { option_copied result ≡ slice_index_or standstills.now at None }
 {
     standstills.get(at)?.as_ref()
@@ -159,7 +159,7 @@ fn push_served(
     queue: (usize, &str),
     at: usize,
     printer: &Printer,
-    standstills: &[Option<Standstill>],
+    standstills: &[Option<SeenStandstill>],
 ) -> Result<(), AllocError>
     requires { at < 2 ^ 63 }
     ensures { OnOk result (string_bytes text.new ≡ string_bytes text.old
@@ -179,7 +179,7 @@ fn push_printers(
     text: &mut String,
     queue: (usize, &str),
     printers: &[Printer],
-    standstills: &[Option<Standstill>],
+    standstills: &[Option<SeenStandstill>],
 ) -> Result<(), AllocError>
     ensures { OnOk result (string_bytes text.new ≡ string_bytes text.old
         ++ placed (printer_text queue.entry.0 queue.entry.1.now standstills.now) 0 printers.now) }

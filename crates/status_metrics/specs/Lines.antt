@@ -8,16 +8,16 @@ use Rattle.html_text.specs.Written.{written}
 use Rattle.server_counts.specs.declared.histogram.Histogram.{Histogram as Times}
 use Rattle.server_counts.specs.declared.histogram.TheConstants.{BOUNDS}
 use Rattle.status_lines.specs.Status.{placed}
-use Rattle.status_metrics.specs.declared.kind.Kind.{Kind}
-use Rattle.status_metrics.specs.declared.kind.Kind.TheVariants as kind
+use Rattle.status_metrics.specs.declared.kind.SampleKind.{SampleKind}
+use Rattle.status_metrics.specs.declared.kind.SampleKind.TheVariants as kind
 
-abbrev pub kind_word : Kind → List ℕ
+abbrev pub kind_word : SampleKind → List ℕ
 kind_word kind.Counter = codes "counter"
 kind_word kind.Gauge = codes "gauge"
 kind_word kind.Histogram = codes "histogram"
 
 -- what a metric is: HELP and TYPE
-unfoldable pub family_text : (name help : List ℕ) → Kind → List ℕ
+unfoldable pub family_text : (name help : List ℕ) → SampleKind → List ℕ
 family_text name help what =
     codes "# HELP " ++ (name ++ (codes " " ++ (help ++ (codes "\n# TYPE " ++ (name ++ (codes " " ++ (
     kind_word what ++ codes "\n")))))))
@@ -27,7 +27,7 @@ unfoldable pub sample_text : (name : List ℕ) → ℕ → List ℕ
 sample_text name value = name ++ (codes " " ++ (decimal value ++ codes "\n"))
 
 -- a metric with one sample
-unfoldable pub single_text : (name help : List ℕ) → Kind → ℕ → List ℕ
+unfoldable pub single_text : (name help : List ℕ) → SampleKind → ℕ → List ℕ
 single_text name help what value = family_text name help what ++ sample_text name value
 
 -- a sample with one label

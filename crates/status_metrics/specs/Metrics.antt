@@ -9,15 +9,15 @@ use Rattle.spool_snapshot.specs.declared.snapshot.Pages.{Pages}
 use Rattle.status_lines.specs.declared.outside.KeptJobs.{KeptJobs}
 use Rattle.status_lines.specs.declared.outside.Outside.{Outside}
 use Rattle.status_lines.specs.Status.{placed}
-use Rattle.status_metrics.specs.declared.kind.Kind.TheVariants as kind
+use Rattle.status_metrics.specs.declared.kind.SampleKind.TheVariants as kind
 use Rattle.status_metrics.specs.declared.queues.OfPrinter.{OfPrinter}
 use Rattle.status_metrics.specs.declared.queues.OfPrinter.TheVariants as what_printer
 use Rattle.status_metrics.specs.declared.queues.OfQueue.{OfQueue}
 use Rattle.status_metrics.specs.declared.queues.OfQueue.TheVariants as what_queue
 use Rattle.status_metrics.specs.Lines.{family_text, histogram_text, of_queue_text, single_text, worded_text}
 use Rattle.status_scene.specs.declared.scene.Scene.{Scene}
-use Rattle.status_scene.specs.declared.stage.Stage.{Stage}
-use Rattle.status_scene.specs.declared.stage.Stage.TheVariants as far
+use Rattle.status_scene.specs.declared.stage.JobStage.{JobStage}
+use Rattle.status_scene.specs.declared.stage.JobStage.TheVariants as far
 use Rattle.status_scene.specs.Stages.{is_of_queue_at}
 
 -- 1 where it is so, else 0
@@ -77,14 +77,14 @@ times_text c =
     family_text (codes "hurgwaye_refused_total") (codes "What was refused, by the number of the refusal.") kind.Counter ++ (placed refusal_text 0 c.refused ++ (histogram_text (codes "hurgwaye_job_arriving_seconds") (codes "Seconds from a job's acceptance until it was whole.") c.arriving ++ histogram_text (codes "hurgwaye_job_printing_seconds") (codes "Seconds from when a job was whole until it was printed.") c.printing))
 
 -- how far jobs are, as a further label
-abbrev pub stage_word : Stage → List ℕ
+abbrev pub stage_word : JobStage → List ℕ
 stage_word far.Arriving = codes ",phase=\"arriving\""
 stage_word far.Waiting = codes ",phase=\"waiting\""
 stage_word far.Printing = codes ",phase=\"printing\""
 stage_word far.Ended = codes ",phase=\"ended\""
 
 -- how many jobs of the queue at a place are so far; queues are numbered from 1
-unfoldable pub of_stage : Scene → ℕ → Queue → Stage → List ℕ
+unfoldable pub of_stage : Scene → ℕ → Queue → JobStage → List ℕ
 of_stage s at q stage =
     of_queue_text (codes "hurgwaye_jobs") q.name (stage_word stage) (count_by (is_of_queue_at (at + 1) stage) s.spool.now.jobs.items)
 

@@ -1,10 +1,10 @@
 //! The lines of a metric.
 
 ghost use Rattle.std.specs.Prelude.{◌≡◌, ◌++◌, OnOk, string_bytes};
-ghost use Rattle.status_metrics.specs.declared.kind.Kind.TheVariants as kind;
+ghost use Rattle.status_metrics.specs.declared.kind.SampleKind.TheVariants as kind;
 ghost use Rattle.status_metrics.specs.Lines.{family_text, of_queue_text, sample_text, single_text, worded_text};
 
-use crate::kind::Kind;
+use crate::kind::SampleKind;
 use html_text::{Form, push_octets};
 use std::alloc::{AllocError, Global};
 
@@ -14,7 +14,7 @@ pub(crate) fn push_family(
     text: &mut String,
     name: &str,
     help: &str,
-    kind: Kind,
+    kind: SampleKind,
 ) -> Result<(), AllocError>
     ensures { OnOk result
         (string_bytes text.new ≡ string_bytes text.old ++ family_text name.now help.now kind) }
@@ -43,7 +43,7 @@ pub(crate) fn push_gauge(
     ensures { OnOk result (string_bytes text.new
         ≡ string_bytes text.old ++ single_text name.now help.now kind.Gauge value) }
 {
-    push_family(text, name, help, Kind::Gauge)?;
+    push_family(text, name, help, SampleKind::Gauge)?;
     push_sample(text, name, value)
 }
 
@@ -58,7 +58,7 @@ pub(crate) fn push_counter(
     ensures { OnOk result (string_bytes text.new
         ≡ string_bytes text.old ++ single_text name.now help.now kind.Counter value) }
 {
-    push_family(text, name, help, Kind::Counter)?;
+    push_family(text, name, help, SampleKind::Counter)?;
     push_sample(text, name, value)
 }
 

@@ -5,7 +5,7 @@ ghost use Rattle.status_lines.specs.Status.{placed};
 ghost use Rattle.status_metrics.specs.Lines.{bound_word, bucket_text, histogram_text, seconds_word, total_of, totals_text};
 
 use crate::family::push_family;
-use crate::kind::Kind;
+use crate::kind::SampleKind;
 use server_counts::{BOUNDS, Histogram};
 use std::alloc::AllocError;
 use std::fmt;
@@ -117,7 +117,7 @@ pub(crate) fn push_histogram(
     ensures { OnOk result
         (string_bytes text.new ≡ string_bytes text.old ++ histogram_text name.now help.now times.now) }
 {
-    push_family(text, name, help, Kind::Histogram)?;
+    push_family(text, name, help, SampleKind::Histogram)?;
     push_buckets(text, name, times.buckets.as_slice())?;
     push_totals(text, name, times)
 }

@@ -5,7 +5,7 @@ ghost use Rattle.status_metrics.specs.Lines.{kind_word};
 
 /// What a metric's samples do.
 #[derive(Clone, Copy, Debug, PartialEq, Eq)]
-pub(crate) enum Kind {
+pub(crate) enum SampleKind {
     /// They only grow while the server runs.
     Counter,
     /// They go up and down.
@@ -14,14 +14,14 @@ pub(crate) enum Kind {
     Histogram,
 }
 
-impl Kind {
+impl SampleKind {
     pub(crate) fn word(self) -> &'static str
         ensures { result.now ≡ kind_word self }
     {
         match self {
-            Kind::Counter => "counter",
-            Kind::Gauge => "gauge",
-            Kind::Histogram => "histogram",
+            SampleKind::Counter => "counter",
+            SampleKind::Gauge => "gauge",
+            SampleKind::Histogram => "histogram",
         }
     }
 }

@@ -5,10 +5,10 @@ ghost use Rattle.status_lines.specs.Status.{placed};
 ghost use Rattle.status_metrics.specs.Metrics.{of_printer, of_queue, of_stage, printer_help, printer_name, printers_text, queue_help, queue_name, queues_text, stage_word};
 
 use crate::family::{push_family, push_of_queue};
-use crate::kind::Kind;
+use crate::kind::SampleKind;
 use config_values::Queue;
 use spool_calls::Printer;
-use status_scene::{Scene, Stage, jobs_of_queue_at};
+use status_scene::{JobStage, Scene, jobs_of_queue_at};
 use std::alloc::{AllocError, Global};
 
 /// What is said of each queue.
@@ -73,14 +73,14 @@ impl OfPrinter {
 }
 
 /// How far jobs are, as a further label.
-fn stage_word(stage: Stage) -> &'static str
+fn stage_word(stage: JobStage) -> &'static str
     ensures { result.now ≡ stage_word stage }
 {
     match stage {
-        Stage::Arriving => ",phase=\"arriving\"",
-        Stage::Waiting => ",phase=\"waiting\"",
-        Stage::Printing => ",phase=\"printing\"",
-        Stage::Ended => ",phase=\"ended\"",
+        JobStage::Arriving => ",phase=\"arriving\"",
+        JobStage::Waiting => ",phase=\"waiting\"",
+        JobStage::Printing => ",phase=\"printing\"",
+        JobStage::Ended => ",phase=\"ended\"",
     }
 }
 
@@ -92,7 +92,7 @@ fn push_stage(
     scene: &Scene<'_>,
     at: usize,
     queue: &Queue,
-    stage: Stage,
+    stage: JobStage,
 ) -> Result<(), AllocError>
     requires { at < 2 ^ 63 }
     ensures { OnOk result (string_bytes text.new ≡ string_bytes text.old
@@ -125,10 +125,10 @@ fn push_queue(
 {
     match what {
         OfQueue::Jobs => {
-            push_stage(alloc, text, scene, at, queue, Stage::Arriving)?;
-            push_stage(alloc, text, scene, at, queue, Stage::Waiting)?;
-            push_stage(alloc, text, scene, at, queue, Stage::Printing)?;
-            push_stage(alloc, text, scene, at, queue, Stage::Ended)
+            push_stage(alloc, text, scene, at, queue, JobStage::Arriving)?;
+            push_stage(alloc, text, scene, at, queue, JobStage::Waiting)?;
+            push_stage(alloc, text, scene, at, queue, JobStage::Printing)?;
+            push_stage(alloc, text, scene, at, queue, JobStage::Ended)
         }
         OfQueue::Limit => {
             let limit = u64::from(queue.limit());
@@ -152,7 +152,7 @@ pub(crate) fn push_queues(
     ensures { OnOk result
         (string_bytes text.new ≡ string_bytes text.old ++ queues_text scene.now what) }
 {
-    push_family(text, what.name(), what.help(), Kind::Gauge)?;
+    push_family(text, what.name(), what.help(), SampleKind::Gauge)?;
     for (i, queue) in scene.config.queues().iter().enumerate() {
         push_queue(alloc, text, scene, what, i, queue)?;
     }
@@ -200,7 +200,7 @@ pub(crate) fn push_printers(
     ensures { OnOk result
         (string_bytes text.new ≡ string_bytes text.old ++ printers_text scene.now what) }
 {
-    push_family(text, what.name(), what.help(), Kind::Gauge)?;
+    push_family(text, what.name(), what.help(), SampleKind::Gauge)?;
     for (i, printer) in scene.spool.printers.iter().enumerate() {
         push_printer(alloc, text, scene, what, i, printer)?;
     }

@@ -5,7 +5,7 @@ ghost use Rattle.status_lines.specs.Status.{placed};
 ghost use Rattle.status_metrics.specs.Metrics.{account_text, edge_text, jobs_text, kept_text, octets_text, one_if, pages_text, refusal_text, spool_text};
 
 use crate::family::{push_counter, push_family, push_gauge, push_worded};
-use crate::kind::Kind;
+use crate::kind::SampleKind;
 use spool_snapshot::Pages;
 use status_lines::{KeptJobs, Outside};
 use status_scene::Scene;
@@ -36,7 +36,7 @@ pub(crate) fn push_pages(text: &mut String, pages: Pages) -> Result<(), AllocErr
         text,
         PAGES,
         "Pages of the pool, by where they are.",
-        Kind::Gauge,
+        SampleKind::Gauge,
     )?;
     push_worded(text, PAGES, "place", "free", pages.free as u64)?;
     push_worded(text, PAGES, "place", "chained", pages.chained as u64)?;
@@ -223,7 +223,7 @@ pub(crate) fn push_kept(text: &mut String, kept: Option<KeptJobs>) -> Result<(),
         text,
         KEPT,
         "Jobs in the folder that keeps them, by what they wait for.",
-        Kind::Gauge,
+        SampleKind::Gauge,
     )?;
     push_worded(text, KEPT, "state", "waiting", kept.waiting)?;
     push_worded(text, KEPT, "state", "failed", kept.failed)

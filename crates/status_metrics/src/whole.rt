@@ -5,7 +5,7 @@ ghost use Rattle.status_metrics.specs.Metrics.{each_text, metrics_text, server_t
 
 use crate::family::push_family;
 use crate::histogram::push_histogram;
-use crate::kind::Kind;
+use crate::kind::SampleKind;
 use crate::queues::{OfPrinter, OfQueue, push_printers, push_queues};
 use crate::server::{
     REFUSED, push_account, push_edge, push_jobs, push_kept, push_octets, push_pages, push_refusals,
@@ -40,7 +40,7 @@ fn push_times(alloc: Global, text: &mut String, scene: &Scene<'_>) -> Result<(),
         text,
         REFUSED,
         "What was refused, by the number of the refusal.",
-        Kind::Counter,
+        SampleKind::Counter,
     )?;
     push_refusals(alloc, text, scene.counts.refused.as_slice())?;
     push_histogram(

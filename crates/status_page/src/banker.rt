@@ -2,7 +2,7 @@
 
 use crate::figures::{Grouped, Share};
 use crate::rows::{MOST_ROWS, close_table, column, number_cell, open_rows, open_table, row_head};
-use crate::turns::{Turn, pages_of};
+use crate::turns::{FinishingTurn, pages_of};
 use html_page::{Attribute, AttributeName, Page, Tag, class, id};
 use status_scene::Scene;
 use std::alloc::Global;
@@ -15,7 +15,7 @@ fn mark(alloc: Global, page: &mut Page, kind: &str, part: u64, whole: u64) {
 }
 
 /// What a job may still need, of what is free in its turn.
-fn bar(alloc: Global, page: &mut Page, turn: &Turn, pages: u64) {
+fn bar(alloc: Global, page: &mut Page, turn: &FinishingTurn, pages: u64) {
     let hidden = Attribute::new(AttributeName::AriaHidden, "true");
     page.open(Tag::Cell, &[class("wide")]);
     page.open(Tag::Division, &[class("till"), hidden]);
@@ -26,7 +26,7 @@ fn bar(alloc: Global, page: &mut Page, turn: &Turn, pages: u64) {
 }
 
 /// The row of a turn by its place, from 0.
-fn row(alloc: Global, page: &mut Page, at: usize, turn: &Turn, pages: u64) {
+fn row(alloc: Global, page: &mut Page, at: usize, turn: &FinishingTurn, pages: u64) {
     let job = page.text(format!(in alloc; "{}", turn.job));
     page.open(Tag::Row, &[]);
     number_cell(alloc, page, (at as u64).saturating_add(1));
@@ -52,7 +52,7 @@ fn heads(page: &mut Page) {
 }
 
 /// The turns.
-fn table(alloc: Global, page: &mut Page, turns: &[Turn], pages: u64) {
+fn table(alloc: Global, page: &mut Page, turns: &[FinishingTurn], pages: u64) {
     open_table(page, "turns", "the banker’s table");
     heads(page);
     open_rows(page);
@@ -76,7 +76,7 @@ fn words(alloc: Global, page: &mut Page, scene: &Scene<'_>) {
 }
 
 /// The banker's table, folded away.
-pub(crate) fn banker(alloc: Global, page: &mut Page, scene: &Scene<'_>, turns: &[Turn]) {
+pub(crate) fn banker(alloc: Global, page: &mut Page, scene: &Scene<'_>, turns: &[FinishingTurn]) {
     page.open(Tag::Section, &[class("card"), id("banker")]);
     page.open(Tag::Details, &[]);
     page.open(Tag::Summary, &[]);

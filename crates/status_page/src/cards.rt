@@ -5,7 +5,7 @@ use crate::standing::is_held;
 use config_values::Queue;
 use html_page::{Attribute, AttributeName, Page, Tag, class, id};
 use spool_calls::Printer;
-use status_lines::Standstill;
+use status_lines::SeenStandstill;
 use status_scene::{Scene, stopped_printers};
 use std::alloc::Global;
 
@@ -20,7 +20,7 @@ fn card(alloc: Global, page: &mut Page, kind: &str, number: u64, words: &str, re
 }
 
 /// The card of a printer that is stopped, with since when and why, where that is known.
-fn stopped_card(alloc: Global, page: &mut Page, number: u64, standstill: Option<&Standstill>) {
+fn stopped_card(alloc: Global, page: &mut Page, number: u64, standstill: Option<&SeenStandstill>) {
     let remark = match standstill {
         Some(known) => page.text(format!(in alloc; "{}: {}", Span(known.seconds), known.cause)),
         None => String::new(alloc),

@@ -1,8 +1,8 @@
 //! The held jobs.
 
 use crate::figures::{Grouped, Size, Span};
-use crate::standing::{Standing, standing_of};
-use crate::turns::Turn;
+use crate::standing::{JobStanding, standing_of};
+use crate::turns::FinishingTurn;
 use html_page::{Attribute, AttributeName, Page, Tag, class, id};
 use spool_snapshot::SeenJob;
 use status_scene::Scene;
@@ -89,44 +89,44 @@ fn sender(page: &mut Page, job: &SeenJob) {
 }
 
 /// The class of a job that stands so, and the word for it.
-fn state_of(standing: Standing) -> (&'static str, &'static str) {
+fn state_of(standing: JobStanding) -> (&'static str, &'static str) {
     match standing {
-        Standing::Begun | Standing::Arriving { .. } => ("st", "arriving"),
-        Standing::NoPage | Standing::Kept(_) | Standing::Page => ("st stay", "put off"),
-        Standing::Behind(_) | Standing::Held => ("st stay", "waiting"),
-        Standing::Stopped => ("st ill", "waiting"),
-        Standing::Waiting => ("st", "waiting"),
-        Standing::Printing { .. } | Standing::Next => ("st go", "printing"),
-        Standing::Dying => ("st ill", "ended"),
+        JobStanding::Begun | JobStanding::Arriving { .. } => ("st", "arriving"),
+        JobStanding::NoPage | JobStanding::Kept(_) | JobStanding::Page => ("st stay", "put off"),
+        JobStanding::Behind(_) | JobStanding::Held => ("st stay", "waiting"),
+        JobStanding::Stopped => ("st ill", "waiting"),
+        JobStanding::Waiting => ("st", "waiting"),
+        JobStanding::Printing { .. } | JobStanding::Next => ("st go", "printing"),
+        JobStanding::Dying => ("st ill", "ended"),
     }
 }
 
 /// What a job does or waits for, in words.
-fn remark_of(alloc: Global, standing: Standing) -> Result<String, AllocError> {
+fn remark_of(alloc: Global, standing: JobStanding) -> Result<String, AllocError> {
     match standing {
-        Standing::Begun => Ok(String::new(alloc)),
-        Standing::Arriving { came, told } => {
+        JobStanding::Begun => Ok(String::new(alloc)),
+        JobStanding::Arriving { came, told } => {
             format!(in alloc; "{} of {} pages", Grouped(came), Grouped(told))
         }
-        Standing::NoPage => String::from_str(alloc, "waits for a page: none is free"),
-        Standing::Kept(job) => {
+        JobStanding::NoPage => String::from_str(alloc, "waits for a page: none is free"),
+        JobStanding::Kept(job) => {
             format!(in alloc; "waits for a page: those free are kept for job {job}")
         }
-        Standing::Page => String::from_str(alloc, "waits for a page"),
-        Standing::Behind(job) => format!(in alloc; "behind job {job} of its sender"),
-        Standing::Held => String::from_str(alloc, "its queue is held"),
-        Standing::Stopped => String::from_str(alloc, "its queue’s printers are stopped"),
-        Standing::Waiting => String::from_str(alloc, "for a printer"),
-        Standing::Printing { printer, page } => {
+        JobStanding::Page => String::from_str(alloc, "waits for a page"),
+        JobStanding::Behind(job) => format!(in alloc; "behind job {job} of its sender"),
+        JobStanding::Held => String::from_str(alloc, "its queue is held"),
+        JobStanding::Stopped => String::from_str(alloc, "its queue’s printers are stopped"),
+        JobStanding::Waiting => String::from_str(alloc, "for a printer"),
+        JobStanding::Printing { printer, page } => {
             format!(in alloc; "page {} at printer {printer}", Grouped(page))
         }
-        Standing::Next => String::from_str(alloc, "its next page is due"),
-        Standing::Dying => String::from_str(alloc, "a page of it is still at a printer"),
+        JobStanding::Next => String::from_str(alloc, "its next page is due"),
+        JobStanding::Dying => String::from_str(alloc, "a page of it is still at a printer"),
     }
 }
 
 /// What a job does or waits for.
-fn state(alloc: Global, page: &mut Page, standing: Standing) {
+fn state(alloc: Global, page: &mut Page, standing: JobStanding) {
     let (kind, word) = state_of(standing);
     let remark = page.text(remark_of(alloc, standing));
     page.open(Tag::Cell, &[class(kind)]);
@@ -151,7 +151,7 @@ fn row(
     alloc: Global,
     page: &mut Page,
     scene: &Scene<'_>,
-    turns: &[Turn],
+    turns: &[FinishingTurn],
     at: usize,
     job: &SeenJob,
 ) {
@@ -186,7 +186,7 @@ fn heads(page: &mut Page) {
 }
 
 /// The held jobs, in order of acceptance.
-pub(crate) fn jobs(alloc: Global, page: &mut Page, scene: &Scene<'_>, turns: &[Turn]) {
+pub(crate) fn jobs(alloc: Global, page: &mut Page, scene: &Scene<'_>, turns: &[FinishingTurn]) {
     let held = scene.spool.jobs.as_slice();
     let label = Attribute::new(AttributeName::AriaLabelledBy, "jobs");
     page.open(Tag::Section, &[class("card"), label]);

@@ -8,13 +8,13 @@ use status_scene::Scene;
 use std::alloc::Global;
 
 /// From how many seconds on a peer is called silent.
-const SILENT: u64 = 60;
+const SILENT_SECONDS: u64 = 60;
 
 /// The row of a session.
 fn row(alloc: Global, page: &mut Page, session: &SeenSession) {
     let peer = page.text(format!(in alloc; "{}", session.peer));
     let silent = page.text(format!(in alloc; "{}", Span(session.silent)));
-    let kind = if session.silent < SILENT {
+    let kind = if session.silent < SILENT_SECONDS {
         "st"
     } else {
         "st stay"
@@ -22,7 +22,7 @@ fn row(alloc: Global, page: &mut Page, session: &SeenSession) {
     page.open(Tag::Row, &[]);
     cell(page, "", peer.as_str());
     page.open(Tag::Cell, &[class(kind)]);
-    if session.silent >= SILENT {
+    if session.silent >= SILENT_SECONDS {
         page.element(Tag::B, &[], "silent ");
     }
     page.words(silent.as_str());

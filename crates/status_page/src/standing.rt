@@ -1,6 +1,6 @@
 //! What a held job does, or waits for.
 
-use crate::turns::{Turn, kept_for, pages_of};
+use crate::turns::{FinishingTurn, kept_for, pages_of};
 use held_jobs::Phase;
 use spool_calls::Printer;
 use spool_snapshot::SeenJob;
@@ -8,7 +8,7 @@ use status_scene::Scene;
 
 /// What a held job does, or waits for.
 #[derive(Clone, Copy)]
-pub(crate) enum Standing {
+pub(crate) enum JobStanding {
     /// It has no file yet.
     Begun,
     /// Its octets come: so many pages of those that its files have, as far as these are told.
@@ -72,60 +72,64 @@ pub(crate) fn is_held(scene: &Scene<'_>, queue: u32) -> bool {
 }
 
 /// How many pages of how many are there of a job that is being received.
-fn came(scene: &Scene<'_>, job: &SeenJob) -> Standing {
+fn came(scene: &Scene<'_>, job: &SeenJob) -> JobStanding {
     if job.octets == 0 {
-        return Standing::Begun;
+        return JobStanding::Begun;
     }
     let page_size = u64::from(scene.config.page_size()).max(1);
     let (told, came) = (job.octets.div_ceil(page_size), u64::from(job.granted));
-    Standing::Arriving {
+    JobStanding::Arriving {
         came,
         told: told.max(came),
     }
 }
 
 /// What a job does that is being received.
-fn arrives(scene: &Scene<'_>, turns: &[Turn], job: &SeenJob) -> Standing {
+fn arrives(scene: &Scene<'_>, turns: &[FinishingTurn], job: &SeenJob) -> JobStanding {
     if !scene.put_off.iter().any(|other| *other == job.number) {
         return came(scene, job);
     }
     if pages_of(scene.spool.claims.free()) == 0 {
-        return Standing::NoPage;
+        return JobStanding::NoPage;
     }
-    kept_for(turns, job.number).map_or(Standing::Page, Standing::Kept)
+    kept_for(turns, job.number).map_or(JobStanding::Page, JobStanding::Kept)
 }
 
 /// What a job waits for that was received, and of which no page was handed to a printer.
-fn waits(scene: &Scene<'_>, job: &SeenJob) -> Standing {
+fn waits(scene: &Scene<'_>, job: &SeenJob) -> JobStanding {
     if let Some(other) = earlier(scene.spool.jobs.as_slice(), job) {
-        return Standing::Behind(other);
+        return JobStanding::Behind(other);
     }
     if is_held(scene, job.queue) {
-        return Standing::Held;
+        return JobStanding::Held;
     }
     if are_stopped(scene.spool.printers.as_slice(), job.queue) {
-        return Standing::Stopped;
+        return JobStanding::Stopped;
     }
-    Standing::Waiting
+    JobStanding::Waiting
 }
 
 /// What a job does that was received.
-fn prints(scene: &Scene<'_>, job: &SeenJob) -> Standing {
+fn prints(scene: &Scene<'_>, job: &SeenJob) -> JobStanding {
     if let Some(printer) = printer_of(scene.spool.printers.as_slice(), job.number) {
         let page = job.handed;
-        return Standing::Printing { printer, page };
+        return JobStanding::Printing { printer, page };
     }
     if job.handed != 0 {
-        return Standing::Next;
+        return JobStanding::Next;
     }
     waits(scene, job)
 }
 
 /// What a held job does, or waits for.
-pub(crate) fn standing_of(scene: &Scene<'_>, turns: &[Turn], job: &SeenJob) -> Standing {
+pub(crate) fn standing_of(
+    scene: &Scene<'_>,
+    turns: &[FinishingTurn],
+    job: &SeenJob,
+) -> JobStanding {
     match job.phase {
         Phase::Receiving => arrives(scene, turns, job),
         Phase::Received => prints(scene, job),
-        Phase::Ended => Standing::Dying,
+        Phase::Ended => JobStanding::Dying,
     }
 }

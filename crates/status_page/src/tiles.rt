@@ -2,7 +2,7 @@
 
 use crate::figures::{Grouped, Share};
 use html_page::{Page, Tag, class};
-use status_scene::{Scene, Stage, jobs_at};
+use status_scene::{JobStage, Scene, jobs_at};
 use std::alloc::Global;
 
 /// A value, with what it is of and a remark.
@@ -29,12 +29,17 @@ fn jobs(alloc: Global, page: &mut Page, scene: &Scene<'_>) {
     let most = page.text(format!(in alloc; " of {}", Grouped(u64::from(scene.config.max_jobs()))));
     tile(page, "jobs held", number.as_str(), most.as_str());
     let (arriving, waiting) = (
-        jobs_at(held, Stage::Arriving),
-        jobs_at(held, Stage::Waiting),
+        jobs_at(held, JobStage::Arriving),
+        jobs_at(held, JobStage::Waiting),
     );
     count(alloc, page, "arriving", arriving);
     count(alloc, page, "waiting for a printer", waiting);
-    count(alloc, page, "being printed", jobs_at(held, Stage::Printing));
+    count(
+        alloc,
+        page,
+        "being printed",
+        jobs_at(held, JobStage::Printing),
+    );
 }
 
 /// What was done since the server began.

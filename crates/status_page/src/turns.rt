@@ -7,7 +7,7 @@ use std::alloc::{AllocError, Global};
 
 /// A job in its turn of a finishing order: pages that it holds and may still need, and those that are free then.
 #[derive(Clone, Copy)]
-pub(crate) struct Turn {
+pub(crate) struct FinishingTurn {
     pub(crate) job: u64,
     pub(crate) holds: u64,
     pub(crate) needs: u64,
@@ -27,7 +27,7 @@ fn row_of(claims: &Table, job: u64) -> Option<&Row> {
 /// The turns of the finishing order, in that order. None where there is no order.
 ///
 /// AllocError where memory for them is refused.
-pub(crate) fn turns_of(alloc: Global, scene: &Scene<'_>) -> Result<Vec<Turn>, AllocError> {
+pub(crate) fn turns_of(alloc: Global, scene: &Scene<'_>) -> Result<Vec<FinishingTurn>, AllocError> {
     let claims = &scene.spool.claims;
     let mut turns = Vec::new(alloc);
     let mut free = pages_of(claims.free());
@@ -36,7 +36,7 @@ pub(crate) fn turns_of(alloc: Global, scene: &Scene<'_>) -> Result<Vec<Turn>, Al
             continue;
         };
         let (holds, needs) = (pages_of(&row.held), pages_of(&row.need));
-        turns.push(Turn {
+        turns.push(FinishingTurn {
             job: *job,
             holds,
             needs,
@@ -49,7 +49,7 @@ pub(crate) fn turns_of(alloc: Global, scene: &Scene<'_>) -> Result<Vec<Turn>, Al
 
 /// The first job before this one in the order that may need all that is free in its turn: where this one got a page more, that one
 /// would lack it.
-pub(crate) fn kept_for(turns: &[Turn], job: u64) -> Option<u64> {
+pub(crate) fn kept_for(turns: &[FinishingTurn], job: u64) -> Option<u64> {
     for turn in turns {
         if turn.job == job {
             return None;

@@ -4,10 +4,10 @@ use Rattle.httparse.specs.Grammar.{RequestHead, ReadsRequest, HasNoRequest, Neve
 use Rattle.httparse.specs.Spans.{RequestOverflows, name_and_value}
 use Rattle.status_request.specs.declared.asked.Method.{Method}
 use Rattle.status_request.specs.declared.asked.Resource.{Resource}
-use Rattle.status_request.specs.declared.judged.Reading.{Reading}
-use Rattle.status_request.specs.declared.judged.Reading.TheVariants.{More, Wanted, Refused}
-use Rattle.status_request.specs.declared.judged.Refusal.{Refusal}
-use Rattle.status_request.specs.declared.judged.Refusal.TheVariants.{BadRequest, OtherHost, NotFound, MethodNotAllowed, TooLarge}
+use Rattle.status_request.specs.declared.judged.RequestReading.{RequestReading}
+use Rattle.status_request.specs.declared.judged.RequestReading.TheVariants.{More, Wanted, Refused}
+use Rattle.status_request.specs.declared.judged.RequestRefusal.{RequestRefusal}
+use Rattle.status_request.specs.declared.judged.RequestRefusal.TheVariants.{BadRequest, OtherHost, NotFound, MethodNotAllowed, TooLarge}
 use Rattle.status_request.specs.declared.judged.TheConstants.{MOST_OCTETS, MOST_FIELDS}
 use Rattle.status_request.specs.Asked.{AreHere, host_values, method_name, path_of, resource_path}
 
@@ -28,7 +28,7 @@ HasHead octets P = (head : RequestHead) × (rest : List ℕ) × ReadsRequest oct
 abbrev pub IsAnswered : List ℕ → Type 0
 IsAnswered name = (method : Method) × (name ≡ method_name method)
 
-abbrev pub IsRefused : List ℕ → List ℕ → Refusal → Type 0
+abbrev pub IsRefused : List ℕ → List ℕ → RequestRefusal → Type 0
 -- whatever follows, no head comes of it
 IsRefused name octets BadRequest = NeverHasRequest octets
 IsRefused name octets OtherHost = HasHead octets (λ head. IsMeant name head → ⊥)
@@ -38,7 +38,7 @@ IsRefused name octets NotFound = HasHead octets (λ head. IsAnswered head.method
 IsRefused name octets TooLarge = (HasNoRequest octets × (MOST_OCTETS ≤ length octets)) ⊎ RequestOverflows MOST_FIELDS octets
 
 -- what the octets that have come so far ask for of the server of a name
-abbrev pub IsReading : List ℕ → List ℕ → Reading → Type 0
+abbrev pub IsReading : List ℕ → List ℕ → RequestReading → Type 0
 IsReading name octets More = HasNoRequest octets × MayBecomeRequest octets × (length octets < MOST_OCTETS)
 IsReading name octets (Wanted method resource) =
     HasHead octets (λ head. IsMeant name head × (head.method ≡ method_name method) × (path_of head.target ≡ resource_path resource))

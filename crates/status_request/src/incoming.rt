@@ -4,7 +4,7 @@ ghost use Rattle.std.specs.Prelude.{◌≡◌, ◌+◌, ◌<◌, ◌≤◌, ◌+
 ghost use Rattle.status_request.specs.declared.judged.TheConstants.{MOST_OCTETS};
 ghost use Rattle.status_request.specs.Request.{IsReading};
 
-use crate::judged::{MOST_OCTETS, Reading, judge};
+use crate::judged::{MOST_OCTETS, RequestReading, judge};
 use std::io;
 use std::io::Read;
 use std::marker::Model;
@@ -47,7 +47,7 @@ impl Incoming {
     }
 
     /// What they ask for of the server of this name.
-    pub fn reading(&self, name: &[u8]) -> Reading
+    pub fn reading(&self, name: &[u8]) -> RequestReading
         ensures { IsReading name.now self.now result }
     {
         judge(&self.buffer[..self.count], name)

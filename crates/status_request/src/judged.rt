@@ -15,7 +15,7 @@ pub const MOST_FIELDS: usize = 64;
 
 /// Why a request isn't answered.
 #[derive(Clone, Copy, Debug, PartialEq, Eq)]
-pub enum Refusal {
+pub enum RequestRefusal {
     /// 400: no head of a request can come of the octets.
     BadRequest,
     /// 400: it isn't said to be for this server: a field Host names another, as of a page that was loaded from elsewhere, or there are two
@@ -31,36 +31,38 @@ pub enum Refusal {
 
 /// What octets ask for.
 #[derive(Clone, Copy, Debug, PartialEq, Eq)]
-pub enum Reading {
+pub enum RequestReading {
     /// The head isn't whole.
     More,
     /// A resource, by this method.
     Wanted { method: Method, resource: Resource },
     /// It isn't answered, and why.
-    Refused(Refusal),
+    Refused(RequestRefusal),
 }
 
 /// What the octets ask for, as far as they have come, of a server of this name. The whole head is read again at each call; it is
 /// short.
-pub fn judge(octets: &[u8], name: &[u8]) -> Reading
+pub fn judge(octets: &[u8], name: &[u8]) -> RequestReading
     ensures { IsReading name.now octets.now result }
 {
     let mut fields = [EMPTY_HEADER_SPAN; MOST_FIELDS];
     match parse_request(octets, &mut fields) {
         Ok(Status::Complete(head)) => {
             if !is_named(octets, &fields[..head.headers], head.version, name) {
-                return Reading::Refused(Refusal::OtherHost);
+                return RequestReading::Refused(RequestRefusal::OtherHost);
             }
             let Some(method) = method_named(head.method.of(octets)) else {
-                return Reading::Refused(Refusal::MethodNotAllowed);
+                return RequestReading::Refused(RequestRefusal::MethodNotAllowed);
             };
             let Some(resource) = resource_at(path(head.path.of(octets))) else {
-                return Reading::Refused(Refusal::NotFound);
+                return RequestReading::Refused(RequestRefusal::NotFound);
             };
-            Reading::Wanted { method, resource }
+            RequestReading::Wanted { method, resource }
         }
-        Ok(Status::Partial) if octets.len() < MOST_OCTETS => Reading::More,
-        Ok(Status::Partial) | Err(Error::TooManyHeaders) => Reading::Refused(Refusal::TooLarge),
-        Err(_) => Reading::Refused(Refusal::BadRequest),
+        Ok(Status::Partial) if octets.len() < MOST_OCTETS => RequestReading::More,
+        Ok(Status::Partial) | Err(Error::TooManyHeaders) => RequestReading::Refused(
+            RequestRefusal::TooLarge,
+        ),
+        Err(_) => RequestReading::Refused(RequestRefusal::BadRequest),
     }
 }

@@ -8,4 +8,4 @@ mod judged;
 
 pub use asked::{Method, Resource};
 pub use incoming::Incoming;
-pub use judged::{MOST_FIELDS, MOST_OCTETS, Reading, Refusal, judge};
+pub use judged::{MOST_FIELDS, MOST_OCTETS, RequestReading, RequestRefusal, judge};

@@ -5,4 +5,4 @@ mod scene;
 mod stage;
 
 pub use scene::Scene;
-pub use stage::{Stage, jobs_at, jobs_of_queue_at, stopped_printers};
+pub use stage::{JobStage, jobs_at, jobs_of_queue_at, stopped_printers};

@@ -11,7 +11,7 @@ use spool_snapshot::SeenJob;
 
 /// How far a held job is.
 #[derive(Clone, Copy, Debug, PartialEq, Eq)]
-pub enum Stage {
+pub enum JobStage {
     /// It is being received.
     Arriving,
     /// It is whole, and no page of it was handed to a printer.
@@ -23,26 +23,26 @@ pub enum Stage {
 }
 
 /// Whether a job is so far.
-fn is_at(stage: Stage, job: &SeenJob) -> bool
+fn is_at(stage: JobStage, job: &SeenJob) -> bool
     ensures { result ≡ is_at stage job.now }
 {
     match (stage, job.phase) {
-        (Stage::Arriving, Phase::Receiving) | (Stage::Ended, Phase::Ended) => true,
-        (Stage::Waiting, Phase::Received) => job.handed == 0,
-        (Stage::Printing, Phase::Received) => job.handed != 0,
+        (JobStage::Arriving, Phase::Receiving) | (JobStage::Ended, Phase::Ended) => true,
+        (JobStage::Waiting, Phase::Received) => job.handed == 0,
+        (JobStage::Printing, Phase::Received) => job.handed != 0,
         _ => false,
     }
 }
 
 /// How many of these jobs are so far.
-pub fn jobs_at(jobs: &[SeenJob], stage: Stage) -> u64
+pub fn jobs_at(jobs: &[SeenJob], stage: JobStage) -> u64
     ensures { result ≡ count_by (is_at stage) jobs.now }
 {
     jobs.iter().filter(|job| is_at(stage, job)).count() as u64
 }
 
 /// How many of these jobs are of the queue of this number, and so far.
-pub fn jobs_of_queue_at(jobs: &[SeenJob], queue: usize, stage: Stage) -> u64
+pub fn jobs_of_queue_at(jobs: &[SeenJob], queue: usize, stage: JobStage) -> u64
     ensures { result ≡ count_by (is_of_queue_at queue stage) jobs.now }
 {
     jobs.iter()

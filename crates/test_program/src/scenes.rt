@@ -38,8 +38,7 @@ use crate::network::{
 };
 use log::{Level, Log, Logged};
 use log_lines::{LineLog, LineQueue, LogForm};
-use lpd_daemon::{Counter, Fault, Plan, Settings};
-use lpd_words::{Outcome, read_config};
+use lpd_daemon::{Counter, Plan, ServerFault, Settings};
 use lpr_client::SendFault;
 use program_edge::{StreamReader, StreamWriter};
 use std::fs::{File, Files};
@@ -52,6 +51,7 @@ use std::time::{Clock, Duration};
 use std::{fs, thread};
 use test_kit::Spool;
 use test_kit::rows::{number, octets, short_number, word};
+use word_actions::{Outcome, read_config};
 
 /// How often it is looked for a line that comes soon, and how many milliseconds apart.
 const LOOKS: u32 = 40;
@@ -389,7 +389,7 @@ fn plan_of<
     let mut input = StreamReader::new(b"".as_slice());
     let mut output = StreamWriter::new(Vec::new(alloc));
     let mut faults = StreamWriter::new(Vec::new(alloc));
-    let outcome = lpd_words::run(rt, rt, words, &mut input, &mut output, &mut faults);
+    let outcome = word_actions::run(rt, rt, words, &mut input, &mut output, &mut faults);
     let Outcome::Serve { config, settings } = outcome else {
         panic!(rt; "it doesn't serve");
     };
@@ -402,7 +402,7 @@ fn plan_of<
 }
 
 /// The fault that a server ended with, or nothing.
-fn text_of<R: Abort + AllocGlobal>(rt: &R, ended: Result<(), Fault>) -> String {
+fn text_of<R: Abort + AllocGlobal>(rt: &R, ended: Result<(), ServerFault>) -> String {
     match ended {
         Ok(()) => String::new(rt.alloc()),
         Err(fault) => format!(in rt.alloc(); "{fault}").expect(rt, "memory"),

@@ -4,12 +4,12 @@ use crate::kit::expect;
 use claims::OpenError;
 use counts::TooLarge;
 use lpd_commands::Refusal;
-use lpd_words::Fault;
 use lpr_client::SendFault;
 use page_chain::ChainError;
 use page_pool::Pool;
 use queues::Book;
 use std::test::Fail;
+use word_actions::Fault;
 
 /// Refusals as they are printed, with their numbers and the octets that are sent.
 const REFUSALS: &str = "\

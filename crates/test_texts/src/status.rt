@@ -3,7 +3,7 @@
 use html_page::{Page, Tag, class};
 use html_text::{Form, push_octets};
 use server_counts::{Histogram, LastHour, Look};
-use status_request::{Method, Reading, Refusal, Resource, judge};
+use status_request::{Method, RequestReading, RequestRefusal, Resource, judge};
 use std::alloc::{AllocError, Global};
 use test_kit::rows::{number, octets};
 
@@ -24,13 +24,13 @@ fn method_word(method: Method) -> &'static str {
 }
 
 /// Why a request isn't answered, as rows call it.
-fn refusal_word(refusal: Refusal) -> &'static str {
+fn refusal_word(refusal: RequestRefusal) -> &'static str {
     match refusal {
-        Refusal::BadRequest => "bad request",
-        Refusal::OtherHost => "another host",
-        Refusal::NotFound => "not found",
-        Refusal::MethodNotAllowed => "method not allowed",
-        Refusal::TooLarge => "too large",
+        RequestRefusal::BadRequest => "bad request",
+        RequestRefusal::OtherHost => "another host",
+        RequestRefusal::NotFound => "not found",
+        RequestRefusal::MethodNotAllowed => "method not allowed",
+        RequestRefusal::TooLarge => "too large",
     }
 }
 
@@ -38,12 +38,12 @@ fn refusal_word(refusal: Refusal) -> &'static str {
 pub fn request(told: &mut String, alloc: Global, asked: &str) -> Result<(), AllocError> {
     let request = octets(alloc, asked)?;
     match judge(request.as_slice(), b"printers.example") {
-        Reading::More => told.push_str("more"),
-        Reading::Wanted { method, resource } => {
+        RequestReading::More => told.push_str("more"),
+        RequestReading::Wanted { method, resource } => {
             let (method, resource) = (method_word(method), resource_word(resource));
             write!(told, "{method} {resource}")
         }
-        Reading::Refused(refusal) => told.push_str(refusal_word(refusal)),
+        RequestReading::Refused(refusal) => told.push_str(refusal_word(refusal)),
     }
 }
 

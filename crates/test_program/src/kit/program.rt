@@ -1,14 +1,14 @@
 //! The program's words, and what they are told.
 
 use log::Log;
-use lpd_words::{Outcome, Settings, run};
-use program_edge::{Limits, PrinterLimits, StreamReader, StreamWriter};
+use program_edge::{Limits, PrinterLimits, Settings, StreamReader, StreamWriter};
 use std::alloc::{AllocError, Global};
 use std::env;
 use std::fs::{File, Files};
 use std::net::{Ipv4Addr, Net, OpenListener, SocketAddr, TcpListener, TcpStream};
 use std::process::Abort;
 use std::rt::Env;
+use word_actions::{Outcome, run};
 
 /// A configuration of one queue and one printer.
 pub const CONFIG: &[u8] =

@@ -5,7 +5,7 @@ ghost use Rattle.std.specs.Thread.{IsSend, IsSync};
 
 use log::Log;
 use lpd_commands::{OctetFault, OctetWrite};
-use lpd_daemon::{Counter, Fault, Plan, Settings, serve};
+use lpd_daemon::{Counter, Plan, ServerFault, Settings, serve};
 use std::alloc::Global;
 use std::fs::{File, Files};
 use std::net::{Ipv4Addr, Net, TcpListener, TcpStream};
@@ -153,7 +153,7 @@ pub fn run<
         + Threads
         + Wait
         + Sync,
->(rt: &R, terminal: &Terminal, plan: Plan<'_>) -> Result<(), Fault>
+>(rt: &R, terminal: &Terminal, plan: Plan<'_>) -> Result<(), ServerFault>
 where
     R::Dir: Send + Sync,
 {
@@ -182,7 +182,7 @@ pub fn beside<
         + Wait
         + Sync,
     F: FnOnce(u16) + Send,
->(rt: &R, terminal: &Terminal, plan: Plan<'_>, clients: F) -> (Result<(), Fault>, String)
+>(rt: &R, terminal: &Terminal, plan: Plan<'_>, clients: F) -> (Result<(), ServerFault>, String)
 where
     R::Dir: Send + Sync,
     requires { F.IsAlwaysCallable clients }

@@ -1,13 +1,10 @@
 use Rattle.lpd_daemon.proofs.serving.serve.Given as goal
 
 abbrev pub ghosts-run-E-Ledger : goal.ghosts-run-E-Ledger
-ghosts-run-E-Ledger g a = record { name = a.blanks.entries.name; parts = a.blanks.entries.parts }
+ghosts-run-E-Ledger g a = record { name = a.stock.blanks.entries.name; parts = a.stock.blanks.entries.parts }
 
 abbrev pub ghosts-run-E-SpoolLedger : goal.ghosts-run-E-SpoolLedger
-ghosts-run-E-SpoolLedger g a = record { config = a.config }
+ghosts-run-E-SpoolLedger g a = record { config = a.stock.config }
 
-abbrev pub ghosts-run-K-Ledger : goal.ghosts-run-K-Ledger
-ghosts-run-K-Ledger g a = record { name = a.blanks.kinds.name; parts = a.blanks.kinds.parts }
-
-abbrev pub ghosts-run-H-Ledger : goal.ghosts-run-H-Ledger
-ghosts-run-H-Ledger g a = record { name = a.blanks.handed.name; parts = a.blanks.handed.parts }
+abbrev pub ghosts-run-E-HouseLedger : goal.ghosts-run-E-HouseLedger
+ghosts-run-E-HouseLedger g a = record { kinds = a.stock.blanks.kinds.name; handed = a.stock.blanks.handed.name }

@@ -1,5 +1,5 @@
 use Rattle.std.proofs.Common.{ℕ, ◌++◌, ◌∙◌, ap, codes, string_bytes}
-use Rattle.status_metrics.specs.declared.kind.Kind.TheVariants as kind
+use Rattle.status_metrics.specs.declared.kind.SampleKind.TheVariants as kind
 use Rattle.status_metrics.specs.Lines.{single_text}
 use Rattle.status_metrics.specs.Metrics.{account_text}
 use Rattle.status_metrics.proofs.RowLemmas.{rows3}

@@ -1,8 +1,0 @@
-use Rattle.server_house.proofs.Rotations.{TellsRotations-none}
-use Rattle.lpd_daemon.proofs.listening.Porter.admit.Goals as goal
-
-pub rounds-init : goal.rounds-init
-rounds-init g c = TellsRotations-none _ _
-
-pub returns-then-not-started : goal.returns-then-not-started
-returns-then-not-started g c = TellsRotations-none _ _

@@ -1,8 +1,0 @@
-use Rattle.lpd_words.proofs.auditing.audit.Goals as goal
-use Rattle.lpd_words.specs.Auditing.{audit_words}
-use Rattle.lpd_words.proofs.CommandLemmas.{ok_rules}
-
-pub returns : goal.returns
-returns c =
-    ok_rules _ _ _ _ _ audit_words c.with_words.ensures c.in_ok-words.ensures.items c.plain.ensures.0
-    (c.segment_files.ensures, (c.option.ensures, (c.option-2.ensures, (c.repeated.ensures, (c.counts.ensures, (c.flag.ensures, tt))))))

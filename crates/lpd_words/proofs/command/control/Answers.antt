@@ -1,8 +1,0 @@
-use Rattle.lpd_words.proofs.command.control.Goals as goal
-use Rattle.lpd_words.specs.CommandLine.{control_words}
-use Rattle.lpd_words.proofs.CommandLemmas.{ok_rules}
-
-pub returns : goal.returns
-returns c =
-    ok_rules _ _ _ _ _ control_words c.with_words.ensures c.in_ok-words.ensures.items c.plain.ensures.0
-    (c.word.ensures, (c.words.ensures, tt))

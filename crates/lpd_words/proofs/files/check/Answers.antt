@@ -1,5 +1,0 @@
-use Rattle.lpd_words.proofs.OrderLemmas.{not_read}
-use Rattle.lpd_words.proofs.files.check.Goals as goal
-
-pub returns-clause-faulty : goal.returns-clause-faulty
-returns-clause-faulty g c text left due first = absurd (not_read due _ (c.in_ok-config.ensures.faulty text left due first))

@@ -1,6 +1,0 @@
-use Rattle.std.proofs.Common.{◌≡◌}
-use Rattle.lpd_words.specs.Sizes.{size_lines}
-use Rattle.lpd_words.proofs.files.size_lines.Given as goal
-
-abbrev pub invariant-loop-place : goal.invariant-loop-place
-invariant-loop-place l = l.text.items ≡ size_lines l.config l.place

@@ -1,6 +1,0 @@
-use Rattle.std.proofs.Common.{◌≡◌}
-use Rattle.lpd_words.specs.Places.{printer_lines}
-use Rattle.lpd_words.proofs.places.place_lines.Given as goal
-
-abbrev pub invariant-loop-index : goal.invariant-loop-index
-invariant-loop-index l = l.text.items ≡ printer_lines l.printers l.index

@@ -1,8 +1,0 @@
-use Rattle.lpd_words.proofs.questions.remove.Goals as goal
-use Rattle.lpd_words.specs.Questions.{remove_words}
-use Rattle.lpd_words.proofs.CommandLemmas.{ok_rules}
-
-pub returns : goal.returns
-returns c =
-    ok_rules _ _ _ _ _ remove_words c.with_words.ensures c.in_ok-words.ensures.items c.plain.ensures.0
-    (c.server_port.ensures, (c.word.ensures, (c.word-2.ensures, (c.optional_words.ensures, (c.server_option.ensures, tt)))))

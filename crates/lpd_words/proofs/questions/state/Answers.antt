@@ -1,8 +1,0 @@
-use Rattle.lpd_words.proofs.questions.state.Goals as goal
-use Rattle.lpd_words.specs.Questions.{state_words}
-use Rattle.lpd_words.proofs.CommandLemmas.{ok_rules}
-
-pub returns : goal.returns
-returns c =
-    ok_rules _ _ _ _ _ state_words c.with_words.ensures c.in_ok-words.ensures.items c.plain.ensures.0
-    (c.server_port.ensures, (c.word.ensures, (c.optional_words.ensures, (c.flag.ensures, (c.server_option.ensures, tt)))))

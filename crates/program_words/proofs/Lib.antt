@@ -1,0 +1,11 @@
+mod AllowLemmas
+mod AskedLemmas
+mod AuditLemmas
+mod CheckingLemmas
+mod CommandLemmas
+mod ControlLemmas
+mod EnvelopeLemmas
+mod ListLemmas
+mod PrinterLemmas
+mod QuestionLemmas
+mod ServingLemmas

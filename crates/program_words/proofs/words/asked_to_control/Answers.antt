@@ -1,0 +1,10 @@
+use Rattle.std.proofs.Common.{codes, refl}
+use Rattle.std.proofs.lemmas.Result.{err_from_is_err_and}
+use Rattle.clap.specs.Words.{found_of, rows_of}
+use Rattle.program_words.proofs.QuestionLemmas.{asks_no_request}
+use Rattle.program_words.proofs.words.asked_to_control.Goals as goal
+
+pub returns-in_err-request_of-clause-fault : goal.returns-in_err-request_of-clause-fault
+returns-in_err-request_of-clause-fault c =
+    let p = err_from_is_err_and c.from_residual.result c.from_residual.ensures.1 in
+    rw (p.1, p.2) (asks_no_request (codes "control") (rows_of (found_of c.args.matches.now)) c.in_err-request_of.field-0.0 refl c.in_err-request_of.ensures.fault)

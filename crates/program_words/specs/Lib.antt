@@ -1,0 +1,11 @@
+-- The words of this crate's contracts.
+pub mod Asked
+pub mod Auditing
+pub mod Checking
+pub mod CommandLine
+pub mod Naming
+pub mod Questions
+pub mod Refused
+pub mod Rules
+pub mod Serving
+pub mod Values

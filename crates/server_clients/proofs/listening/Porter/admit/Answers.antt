@@ -1,0 +1,8 @@
+use Rattle.server_house.proofs.Rotations.{TellsRotations-none}
+use Rattle.server_clients.proofs.listening.Porter.admit.Goals as goal
+
+pub rounds-init : goal.rounds-init
+rounds-init g c = TellsRotations-none _ _
+
+pub returns-then-not-started : goal.returns-then-not-started
+returns-then-not-started g c = TellsRotations-none _ _

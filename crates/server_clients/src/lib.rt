@@ -1,0 +1,15 @@
+//! Who is served by a server: connections come to its porter, who hands them on to threads that serve them; the jobs that a folder has
+//! kept are fed to its spool; and jobs whose peers are gone are ended.
+#![tactic(auto)]
+
+mod answering;
+mod feeding;
+mod listening;
+mod served;
+mod session_notes;
+mod watching;
+
+pub use answering::Answering;
+pub use feeding::Feeding;
+pub use listening::{Gate, Porter, announce_all, listen};
+pub use watching::watch;

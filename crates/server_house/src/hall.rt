@@ -1,0 +1,121 @@
+//! What all threads of a server share beside its spool.
+
+use crate::oversight::Oversight;
+use crate::posts::Posts;
+use crate::sessions::{most_of, sessions_of};
+use crate::showing::Showing;
+use config_values::Config;
+use job_files::JobEnd;
+use log::Log;
+use mio::Waker;
+use program_edge::{Limits, PrinterLimits, Settings};
+use server_edge::{Desk, Doors};
+use server_folders::{Archive, JobFolder};
+use server_notes::{JobBook, JobOutcome, Restarts, Rotations, ServerEnding};
+use std::alloc::{AllocError, Global};
+use std::fs::{File, Files};
+use std::rt::Clock;
+use std::str;
+use std::sync::Wait;
+
+/// What all threads of a server share beside its spool. It is made once, of the settings, and lent to each thread.
+#[derive(Drop)]
+pub struct Hall<'a, R> {
+    pub rt: &'a R,
+    pub alloc: Global,
+    pub limits: Limits,
+    /// What printers on the network may do.
+    pub printer_limits: PrinterLimits,
+    /// When queues are started again.
+    pub restarts: Restarts,
+    /// From how many counted entries on the account is rotated, where room is kept in it.
+    pub least: Option<u64>,
+    pub desk: Desk,
+    pub posts: Posts,
+    pub rotations: Rotations,
+    /// What wakes the porter.
+    pub waker: Waker,
+    pub oversight: Oversight,
+    pub ending: ServerEnding,
+    /// Where jobs are kept until they are printed, if they are.
+    pub kept: Option<JobFolder<'a, R>>,
+    /// Where the account's segments become files, if they do.
+    pub archive: Option<Archive<'a>>,
+    /// What is noted of each job, where the log has lines of them or the status is shown.
+    pub job_book: Option<JobBook>,
+    /// What is known of the thread that shows the status, where there is one.
+    pub showing: Option<Showing>,
+}
+
+impl<'a, R> Hall<'a, R> {
+    /// That of a server of these settings and this configuration, whose porter is woken by this, and what
+    /// connections are handed to it by. Nobody looks after it yet, nothing is kept in folders, and no room is kept in the account.
+    ///
+    /// AllocError where memory is refused.
+    pub fn new(
+        rt: &'a R,
+        alloc: Global,
+        settings: &Settings<'_>,
+        config: &Config,
+        waker: Waker,
+    ) -> Result<(Hall<'a, R>, Doors), AllocError> {
+        let is_shown = settings.status.is_some();
+        let restarts = Restarts::new(alloc, config.queues().len(), settings.restart_seconds)?;
+        let posts = Posts::new(alloc, sessions_of(settings) as usize)?;
+        let job_book = JobBook::open(alloc, settings.log_jobs, is_shown, config.max_jobs())?;
+        let oversight = Oversight::new(alloc, config)?;
+        let (desk, doors) = Desk::new(alloc, most_of(settings.limits.per_host))?;
+        let hall = Hall {
+            rt,
+            alloc,
+            limits: settings.limits,
+            printer_limits: settings.printer_limits,
+            restarts,
+            least: None,
+            desk,
+            posts,
+            rotations: Rotations::new(alloc),
+            waker,
+            oversight,
+            ending: ServerEnding::new(),
+            kept: None,
+            archive: None,
+            job_book,
+            showing: None,
+        };
+        Ok((hall, doors))
+    }
+}
+
+impl<R> Hall<'_, R> {
+    /// Whether somebody looks after the server, or at it.
+    pub fn is_watched(&self) -> bool {
+        self.oversight.start.is_some()
+    }
+
+    /// The name of a queue, of which each octet is a character of ASCII.
+    pub fn queue_name(&self, queue: u32) -> &str {
+        str::from_utf8(self.oversight.config.name_of(queue)).unwrap_or("")
+    }
+}
+
+impl<R: Clock + Log + Wait> Hall<'_, R> {
+    /// Notes what has become of a job that isn't held any more.
+    pub fn note_end(&self, job: u64, outcome: JobOutcome) {
+        if let Some(book) = &self.job_book {
+            book.end(self.rt, job, outcome);
+        }
+    }
+}
+
+impl<R: Files<File = File> + Clock + Log + Wait> Hall<'_, R> {
+    /// Has the files of jobs that were removed taken away, and notes the end of these jobs.
+    pub fn end_removed(&self, jobs: Vec<u64>) {
+        for job in jobs {
+            if let Some(kept) = &self.kept {
+                kept.end(self.rt, job, JobEnd::Removed);
+            }
+            self.note_end(job, JobOutcome::Removed);
+        }
+    }
+}

@@ -1,0 +1,4 @@
+mod ControlLemmas
+mod DataFileLemmas
+mod OrderLemmas
+mod PlaceLemmas

@@ -1,0 +1,68 @@
+//! What stops the program.
+
+ghost use Rattle.std.specs.Prelude.{◌≡◌};
+ghost use Rattle.word_actions.specs.Status.{status_of};
+ghost use Rattle.word_actions.specs.declared.fault.Fault.TheVariants.{Memory, Run};
+
+use lpr_client::SendFault;
+use program_edge::FaultName;
+use std::alloc::AllocError;
+use thiserror::Error;
+
+/// Why the program stopped.
+#[derive(Debug, PartialEq, Eq, Drop, Error)]
+pub enum Fault {
+    /// Memory was refused.
+    #[error("{}", FaultName::Memory)]
+    Memory,
+    /// A file can't be read or written, a configuration can't be used, or a script can't be run.
+    #[error("{0}")]
+    Run(lpd_script::Fault),
+    /// The server can't be reached.
+    #[error("{}", FaultName::Network)]
+    Network,
+    /// The server didn't take the job.
+    #[error("{0}")]
+    Send(SendFault),
+    /// The configuration has no printer of this number, and this text says what it prints to.
+    #[error("printer {number} isn't there: {text}")]
+    Printer { number: u32, text: String },
+    /// The folder at this path can't be taken to keep jobs, or isn't there for the printers' files.
+    #[error("{name} {0}", name = FaultName::WriteFile)]
+    Folder(String),
+    /// A control socket can't be made at this path.
+    #[error("{name} {0}", name = FaultName::Network)]
+    Socket(String),
+}
+
+impl From<AllocError> for Fault {
+    ghost from_gives = { λ _ fault. fault ≡ Memory };
+
+    fn from(_error: AllocError) -> Fault {
+        Fault::Memory
+    }
+}
+
+impl From<lpd_script::Fault> for Fault {
+    ghost from_gives = { λ cause fault. fault ≡ Run cause };
+
+    fn from(fault: lpd_script::Fault) -> Fault {
+        Fault::Run(fault)
+    }
+}
+
+impl Fault {
+    /// The exit status: 1 for a printer that isn't there, 2 for the configuration, 3 for the script,
+    /// 5 for a job that wasn't taken, 4 for the rest.
+    pub fn status(&self) -> u8
+        ensures { result ≡ status_of self.now }
+    {
+        match self {
+            Fault::Printer { .. } => 1,
+            Fault::Run(fault) => fault.status(),
+            Fault::Memory | Fault::Network | Fault::Folder(_) | Fault::Socket(_) => 4,
+            Fault::Send(SendFault::Memory) => 4,
+            Fault::Send(_) => 5,
+        }
+    }
+}

@@ -1,0 +1,20 @@
+//! What is done for the words of the program.
+#![tactic(auto)]
+
+mod asking;
+mod controlling;
+mod fault;
+mod files;
+mod folders;
+mod places;
+mod progress;
+mod readers;
+mod running;
+mod sockets;
+
+pub use asking::ask_queue;
+pub use controlling::{ControlFault, ask_server, control};
+pub use fault::Fault;
+pub use files::{check, read_config, read_spool, replay};
+pub use progress::PROGRESS;
+pub use running::{Outcome, data_file, run, send, tell_unread};
