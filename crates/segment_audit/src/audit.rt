@@ -1,8 +1,8 @@
 //! An audit of segments.
 
-ghost use Rattle.std.specs.Prelude.{◌≡◌, ◌≤◌, ◌<◌, ◌^◌, ◌↔◌, ◌∷◌, [], ℕ, IsTrue, List, MatchOption, MatchResult, None, Option, Some};
-ghost use Rattle.segment_text.specs.Items.{item_line, item_seen, Item};
-ghost use Rattle.segment_text.specs.Streams.{HasRead, HasReadAtMost};
+ghost use Rattle.std.specs.Prelude.{◌≡◌, ◌≤◌, ◌<◌, ◌+◌, ◌^◌, ◌↔◌, ◌⊎◌, ◌∷◌, [], ℕ, IsTrue, List, MatchOption, MatchResult, None, Option, Some};
+ghost use Rattle.segment_text.specs.Items.{item_line, item_seen, IsItem, Item, MayStand};
+ghost use Rattle.segment_text.specs.Streams.{CanRead, HasRead, HasReadAtMost};
 ghost use Rattle.segment_audit.specs.Audited as A;
 ghost use Rattle.segment_audit.specs.Read.{entries_in};
 ghost use Rattle.segment_audit.specs.Told.{IsAtMost};
@@ -28,6 +28,29 @@ pub struct SegmentAudit {
     tally: Tally,
     ghost few: { (lines ≤ 2 ^ 62) × HasReadAtMost reader lines × (entries_in part ≤ lines)
         × IsAtMost lines tally },
+}
+
+/// Reads a line without its LF.
+///
+/// `Line` exactly where it is the line of nothing that can be told and may stand behind those that were read; `Memory`.
+fn read_line(
+    reader: &mut SegmentReader,
+    alloc: Global,
+    line: &[u8],
+) -> Result<SegmentLine, AuditFault>
+    requires { CanRead reader.old }
+    ensures read { (is : List Item) → HasRead reader.old is → MatchResult result
+        (λ got. (line.now ≡ item_line (item_seen got)) × MayStand is (item_seen got)
+        × HasRead reader.new (item_seen got ∷ is))
+        (λ f. (f ≡ AuditFault.Memory) ⊎ ((f ≡ AuditFault.Line)
+        × ((i : Item) → IsItem i → MayStand is i → line.now ≡ item_line i → ⊥))) }
+    ensures few { (n : ℕ) → HasReadAtMost reader.old n → HasReadAtMost reader.new (n + 1) }
+{
+    match reader.read(alloc, line) {
+        Ok(got) => Ok(got),
+        Err(LineFault::Bad) => Err(AuditFault::Line),
+        Err(LineFault::Memory) => Err(AuditFault::Memory),
+    }
 }
 
 /// The reader of what comes behind a line.
@@ -75,6 +98,9 @@ impl SegmentAudit {
             × HasAudited got.0 after (item_seen got.1 ∷ is))
             (λ f. IsRefused f after is line.now) }
     {
+        if self.lines >= MAX_LINES {
+            return Err(AuditFault::Line);
+        }
         let SegmentAudit {
             after,
             part,
@@ -82,18 +108,8 @@ impl SegmentAudit {
             lines,
             tally,
         } = self;
-        if lines >= MAX_LINES {
-            return Err(AuditFault::Line);
-        }
-        let got = match reader.read(alloc, line) {
-            Ok(got) => got,
-            Err(LineFault::Bad) => return Err(AuditFault::Line),
-            Err(LineFault::Memory) => return Err(AuditFault::Memory),
-        };
-        let part = match part.read(&after, alloc, &got) {
-            Ok(part) => part,
-            Err(fault) => return Err(fault),
-        };
+        let got = read_line(&mut reader, alloc, line)?;
+        let part = part.read(&after, alloc, &got)?;
         let tally = tally.with(&got, lines);
         let audit = SegmentAudit {
             after,
