@@ -16,7 +16,7 @@ use Rattle.segment_text.specs.Seen.{head_seen, origin_seen, printer_seen}
 use Rattle.segment_audit.specs.declared.fault.AuditFault.{AuditFault}
 use Rattle.segment_audit.specs.declared.fault.AuditFault.TheVariants as fault
 use Rattle.segment_audit.specs.declared.course.Course as K
-use Rattle.segment_audit.specs.declared.part.Before as J
+use Rattle.segment_audit.specs.declared.follow.Before as J
 use Rattle.segment_audit.specs.declared.part.Part.{Part}
 use Rattle.segment_audit.specs.declared.part.Part.TheVariants as part
 use Rattle.segment_audit.specs.Audited.{Course, Past, Meets, course_of, head_of, past_digest, past_of, present}

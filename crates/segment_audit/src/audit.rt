@@ -1,8 +1,8 @@
 //! An audit of segments.
 
-ghost use Rattle.std.specs.Prelude.{◌≡◌, ◌≤◌, ◌<◌, ◌+◌, ◌^◌, ◌↔◌, ◌⊎◌, ◌∷◌, [], ℕ, IsTrue, List, MatchOption, MatchResult, None, Option, Some};
+ghost use Rattle.std.specs.Prelude.{◌≡◌, ◌≤◌, ◌<◌, ◌+◌, ◌^◌, ◌↔◌, ◌⊎◌, ◌∷◌, [], ℕ, IfOk, IsTrue, List, MatchOption, MatchResult, None, Option, Some};
 ghost use Rattle.segment_text.specs.Items.{item_line, item_seen, IsItem, Item, MayStand};
-ghost use Rattle.segment_text.specs.Streams.{CanRead, HasRead, HasReadAtMost};
+ghost use Rattle.segment_text.specs.Streams.{HasRead, HasReadAtMost};
 ghost use Rattle.segment_audit.specs.Audited as A;
 ghost use Rattle.segment_audit.specs.Read.{entries_in};
 ghost use Rattle.segment_audit.specs.Told.{IsAtMost};
@@ -30,22 +30,28 @@ pub struct SegmentAudit {
         × IsAtMost lines tally },
 }
 
-/// Reads a line without its LF.
+/// Reads a line without its LF, behind so many lines.
 ///
-/// `Line` exactly where it is the line of nothing that can be told and may stand behind those that were read; `Memory`.
+/// `Line` exactly where it is the line of nothing that can be told and may stand behind those that were read, or these are 2^62;
+/// `Memory` where memory is refused.
 fn read_line(
     reader: &mut SegmentReader,
+    lines: u64,
     alloc: Global,
     line: &[u8],
 ) -> Result<SegmentLine, AuditFault>
-    requires { CanRead reader.old }
+    requires { HasReadAtMost reader.old lines }
     ensures read { (is : List Item) → HasRead reader.old is → MatchResult result
         (λ got. (line.now ≡ item_line (item_seen got)) × MayStand is (item_seen got)
         × HasRead reader.new (item_seen got ∷ is))
-        (λ f. (f ≡ AuditFault.Memory) ⊎ ((f ≡ AuditFault.Line)
-        × ((i : Item) → IsItem i → MayStand is i → line.now ≡ item_line i → ⊥))) }
-    ensures few { (n : ℕ) → HasReadAtMost reader.old n → HasReadAtMost reader.new (n + 1) }
+        (λ f. (f ≡ AuditFault.Memory) ⊎ ((f ≡ AuditFault.Line) × (lines < 2 ^ 62
+        → (i : Item) → IsItem i → MayStand is i → line.now ≡ item_line i → ⊥))) }
+    ensures room { IfOk result (λ _. lines < 2 ^ 62) }
+    ensures few { HasReadAtMost reader.new (lines + 1) }
 {
+    if lines >= MAX_LINES {
+        return Err(AuditFault::Line);
+    }
     match reader.read(alloc, line) {
         Ok(got) => Ok(got),
         Err(LineFault::Bad) => Err(AuditFault::Line),
@@ -89,7 +95,7 @@ impl SegmentAudit {
     /// it is an entry that may not come in a legal account, or by version 1 a last line where a job is held; `Follow` where it is the
     /// last line of a head (`base ..` or `part ..`) that doesn't follow on the segment before, or isn't the one that is asked for, or
     /// is of no segment that can be the first; `Memory` where memory is refused.
-    #[tactic(auto, using(crate::proofs::Steps::refused))]
+    #[tactic(auto, using(crate::proofs::Steps::refused, crate::proofs::Steps::unread))]
     pub fn read(self, alloc: Global, line: &[u8]) -> Result<(SegmentAudit, SegmentLine), AuditFault>
         ensures { (after : Option (List ℕ)) (is : List Item) → HasAudited self after is
             → MatchResult result
@@ -98,9 +104,6 @@ impl SegmentAudit {
             × HasAudited got.0 after (item_seen got.1 ∷ is))
             (λ f. IsRefused f after is line.now) }
     {
-        if self.lines >= MAX_LINES {
-            return Err(AuditFault::Line);
-        }
         let SegmentAudit {
             after,
             part,
@@ -108,7 +111,7 @@ impl SegmentAudit {
             lines,
             tally,
         } = self;
-        let got = read_line(&mut reader, alloc, line)?;
+        let got = read_line(&mut reader, lines, alloc, line)?;
         let part = part.read(&after, alloc, &got)?;
         let tally = tally.with(&got, lines);
         let audit = SegmentAudit {

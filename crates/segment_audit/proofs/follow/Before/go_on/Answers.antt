@@ -4,7 +4,7 @@ use Rattle.segment_text.specs.Follow.{GoesOn, RunFollows}
 use Rattle.segment_text.specs.Heads as H
 use Rattle.segment_text.specs.Seen.{head_seen}
 use Rattle.segment_audit.proofs.Matched.{result_map}
-use Rattle.segment_audit.proofs.follow.go_on.Goals as goal
+use Rattle.segment_audit.proofs.follow.Before.go_on.Goals as goal
 
 pub returns-clause-read : goal.returns-clause-read
 returns-clause-read c = λ was v b.
