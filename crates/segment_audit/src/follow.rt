@@ -148,17 +148,17 @@ impl Before {
             × (A.Follows was c (head_seen next.now) → ⊥))) }
         ensures few { IfOk result (λ k. k.audit.entries ≤ self.course.audit.entries) }
     {
-        let Before {
-            head,
-            digest,
-            course,
-        } = self;
-        if !names_digest(&next.origin, &digest) {
+        if !names_digest(&next.origin, &self.digest) {
             return Err(AuditFault::Follow);
         }
-        if goes_on(&head, next) {
-            return begin_behind(course, next, alloc);
+        if !goes_on(&self.head, next) {
+            return begin_next(&self.head, next, alloc);
         }
-        begin_next(&head, next, alloc)
+        let Before {
+            head: _,
+            digest: _,
+            course,
+        } = self;
+        begin_behind(course, next, alloc)
     }
 }
