@@ -1,5 +1,5 @@
 -- What one line more makes of what is held of a run.
-use Rattle.std.proofs.Common.{◌≡◌, ◌+◌, ◌<◌, ◌≤◌, ◌^◌, ◌↔◌, ℕ, List, [], ◌∷◌, false, length, map, add-one, refl, sym, ◌∙◌, ap, subst, arith}
+use Rattle.std.proofs.Common.{◌≡◌, ◌+◌, ◌<◌, ◌^◌, ◌↔◌, ℕ, List, [], ◌∷◌, false, length, map, add-one, refl, sym, ◌∙◌, ap, subst, arith}
 use Rattle.std.proofs.lemmas.Bool.{false≢true}
 use Rattle.std.specs.Prelude.{IsTrue, Some, if◌then◌else◌}
 use Rattle.config_values.specs.Config.{Config}
@@ -24,7 +24,7 @@ use Rattle.segment_text.specs.Heads as H
 use Rattle.segment_text.specs.Heads.Begin.{AtBase, Amid}
 use Rattle.segment_text.specs.Seen.{begin_seen}
 use Rattle.segment_audit.specs.declared.course.Course as K
-use Rattle.segment_audit.specs.Audited.{Course, IsAtRest, Rests, amid, given, rested, state_at, widened}
+use Rattle.segment_audit.specs.Audited.{Course, IsAtRest, Rests, amid, given, state_at, widened}
 use Rattle.segment_audit.specs.Read.{IsCourse}
 
 -- where the entries leave the spool

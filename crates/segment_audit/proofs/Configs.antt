@@ -1,6 +1,6 @@
 -- Which configuration was read last.
 use Rattle.std.proofs.Common.{◌≡◌, ℕ, List, [], ◌∷◌, refl, sym, ◌∙◌, subst, ap}
-use Rattle.std.specs.Prelude.{Option, Some, None}
+use Rattle.std.specs.Prelude.{Option, Some}
 use Rattle.config_values.specs.Config.{Config}
 use Rattle.segment_text.specs.declared.items.Stage.{Stage}
 use Rattle.segment_text.specs.declared.items.Stage.TheVariants as stage

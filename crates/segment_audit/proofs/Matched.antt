@@ -1,6 +1,6 @@
 -- What is matched of results, and of what is before a segment.
 use Rattle.std.specs.Prelude.{Err, MatchResult, None, Ok, Option, Result, Some}
-use Rattle.segment_audit.specs.declared.part.Before as J
+use Rattle.segment_audit.specs.declared.follow.Before as J
 use Rattle.segment_audit.specs.Audited.{Course, Past}
 use Rattle.segment_audit.specs.Read.{IsBefore, IsBehind}
 

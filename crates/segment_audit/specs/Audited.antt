@@ -14,7 +14,7 @@ use Rattle.account_audit.specs.Giving.{given_back}
 use Rattle.segment_text.specs.declared.head.Version.{Version}
 use Rattle.segment_text.specs.declared.head.Version.TheVariants as version
 use Rattle.segment_text.specs.Follow.{BeginsRun, FitsConfig, GoesOn, RunFollows}
-use Rattle.segment_text.specs.Heads.{Begin, Head, Origin, Start}
+use Rattle.segment_text.specs.Heads.{Begin, Head, Start}
 use Rattle.segment_text.specs.Heads.Begin.{AtBase, Amid}
 use Rattle.segment_text.specs.Items.{Item, MayStand}
 use Rattle.segment_text.specs.Items.Item.{OfOrigin, OfConfig, OfPrinter, OfStart, OfEvent, OfLast}

@@ -1,6 +1,5 @@
 -- What lines count for.
 use Rattle.std.specs.Prelude.{ℕ, Bool, true, false, length}
-use Rattle.spool_history.specs.Events.{Act, Progress, Turn, Event}
 use Rattle.spool_history.specs.Events.Act.{Aborted}
 use Rattle.spool_history.specs.Events.Progress.{Done}
 use Rattle.spool_history.specs.Events.Turn.{Printed, Failed}

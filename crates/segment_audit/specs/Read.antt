@@ -1,5 +1,5 @@
 -- What an audit holds of the lines that it has read.
-use Rattle.std.specs.Prelude.{◌≡◌, ◌≤◌, ◌<◌, ◌+◌, ◌^◌, ℕ, List, [], ◌∷◌, Option, Some, None, length, map}
+use Rattle.std.specs.Prelude.{◌≡◌, ℕ, List, [], Option, Some, None, length, map}
 use Rattle.config_values.specs.Config.{Config}
 use Rattle.spool_history.specs.Legal.{IsLeftBy}
 use Rattle.account.specs.Kinds.{kinds_in, handed_in}
@@ -16,10 +16,10 @@ use Rattle.segment_text.specs.Seen.{head_seen, origin_seen, printer_seen}
 use Rattle.segment_audit.specs.declared.fault.AuditFault.{AuditFault}
 use Rattle.segment_audit.specs.declared.fault.AuditFault.TheVariants as fault
 use Rattle.segment_audit.specs.declared.course.Course as K
-use Rattle.segment_audit.specs.declared.part.Before as J
+use Rattle.segment_audit.specs.declared.follow.Before as J
 use Rattle.segment_audit.specs.declared.part.Part.{Part}
 use Rattle.segment_audit.specs.declared.part.Part.TheVariants as part
-use Rattle.segment_audit.specs.Audited.{Course, Past, Meets, course_of, events_of, head_of, past_digest, past_of, present}
+use Rattle.segment_audit.specs.Audited.{Course, Past, Meets, course_of, head_of, past_digest, past_of, present}
 
 -- this is what a run has come to: its events are legal and leave the spool where the audit has it, and are what that has counted
 pub record IsCourse (k : K.Course) (c : Course) : Type 0 where

@@ -1,7 +1,7 @@
 //! An audit of segments.
 
-ghost use Rattle.std.specs.Prelude.{◌≡◌, ◌≤◌, ◌<◌, ◌^◌, ◌↔◌, ◌∷◌, [], ℕ, IsTrue, List, MatchOption, MatchResult, None, Option, Some};
-ghost use Rattle.segment_text.specs.Items.{item_line, item_seen, Item};
+ghost use Rattle.std.specs.Prelude.{◌≡◌, ◌≤◌, ◌<◌, ◌+◌, ◌^◌, ◌↔◌, ◌⊎◌, ◌∷◌, [], ℕ, IfOk, IsTrue, List, MatchOption, MatchResult, None, Option, Some};
+ghost use Rattle.segment_text.specs.Items.{item_line, item_seen, IsItem, Item, MayStand};
 ghost use Rattle.segment_text.specs.Streams.{HasRead, HasReadAtMost};
 ghost use Rattle.segment_audit.specs.Audited as A;
 ghost use Rattle.segment_audit.specs.Read.{entries_in};
@@ -28,6 +28,35 @@ pub struct SegmentAudit {
     tally: Tally,
     ghost few: { (lines ≤ 2 ^ 62) × HasReadAtMost reader lines × (entries_in part ≤ lines)
         × IsAtMost lines tally },
+}
+
+/// Reads a line without its LF, behind so many lines.
+///
+/// `Line` exactly where it is the line of nothing that can be told and may stand behind those that were read, or these are 2^62;
+/// `Memory` where memory is refused.
+fn read_line(
+    reader: &mut SegmentReader,
+    lines: u64,
+    alloc: Global,
+    line: &[u8],
+) -> Result<SegmentLine, AuditFault>
+    requires { HasReadAtMost reader.old lines }
+    ensures read { (is : List Item) → HasRead reader.old is → MatchResult result
+        (λ got. (line.now ≡ item_line (item_seen got)) × MayStand is (item_seen got)
+        × HasRead reader.new (item_seen got ∷ is))
+        (λ f. (f ≡ AuditFault.Memory) ⊎ ((f ≡ AuditFault.Line) × (lines < 2 ^ 62
+        → (i : Item) → IsItem i → MayStand is i → line.now ≡ item_line i → ⊥))) }
+    ensures room { IfOk result (λ _. lines < 2 ^ 62) }
+    ensures few { HasReadAtMost reader.new (lines + 1) }
+{
+    if lines >= MAX_LINES {
+        return Err(AuditFault::Line);
+    }
+    match reader.read(alloc, line) {
+        Ok(got) => Ok(got),
+        Err(LineFault::Bad) => Err(AuditFault::Line),
+        Err(LineFault::Memory) => Err(AuditFault::Memory),
+    }
 }
 
 /// The reader of what comes behind a line.
@@ -66,7 +95,7 @@ impl SegmentAudit {
     /// it is an entry that may not come in a legal account, or by version 1 a last line where a job is held; `Follow` where it is the
     /// last line of a head (`base ..` or `part ..`) that doesn't follow on the segment before, or isn't the one that is asked for, or
     /// is of no segment that can be the first; `Memory` where memory is refused.
-    #[tactic(auto, using(crate::proofs::Steps::refused))]
+    #[tactic(auto, using(crate::proofs::Steps::refused, crate::proofs::Steps::unread))]
     pub fn read(self, alloc: Global, line: &[u8]) -> Result<(SegmentAudit, SegmentLine), AuditFault>
         ensures { (after : Option (List ℕ)) (is : List Item) → HasAudited self after is
             → MatchResult result
@@ -82,18 +111,8 @@ impl SegmentAudit {
             lines,
             tally,
         } = self;
-        if lines >= MAX_LINES {
-            return Err(AuditFault::Line);
-        }
-        let got = match reader.read(alloc, line) {
-            Ok(got) => got,
-            Err(LineFault::Bad) => return Err(AuditFault::Line),
-            Err(LineFault::Memory) => return Err(AuditFault::Memory),
-        };
-        let part = match part.read(&after, alloc, &got) {
-            Ok(part) => part,
-            Err(fault) => return Err(fault),
-        };
+        let got = read_line(&mut reader, lines, alloc, line)?;
+        let part = part.read(&after, alloc, &got)?;
         let tally = tally.with(&got, lines);
         let audit = SegmentAudit {
             after,

@@ -19,7 +19,6 @@ use spool_laws::wider_is_legal;
 use std::alloc::{AllocError, Global};
 
 /// What a run has come to since its last base.
-#[derive(Drop)]
 pub(crate) struct Course {
     /// What its spool is made for, with the entries more that its account may have.
     pub(crate) config: Config,
@@ -33,6 +32,20 @@ pub(crate) struct Course {
     pub(crate) handed: u64,
     /// The audit of the entries since.
     pub(crate) audit: Audit,
+}
+
+// Written out: each place that lets one go is then one call, and not the drops of all that it holds.
+impl Drop for Course {
+    fn drop(self) {
+        let Course {
+            config: _,
+            freed: _,
+            entries: _,
+            kinds: _,
+            handed: _,
+            audit: _,
+        } = self;
+    }
 }
 
 /// With this configuration an account has so many entries more. None where they would be more than one may say.
@@ -211,11 +224,11 @@ impl Course {
         }
         let Course {
             config,
+            freed: _,
             entries,
             kinds,
             handed,
             audit,
-            ..
         } = self;
         match widened(config, more) {
             Some(config) => Some(Course {

@@ -8,11 +8,31 @@ ghost use Rattle.segment_audit.specs.Read.{IsBehind, IsCourse};
 
 use crate::course::Course;
 use crate::fault::AuditFault;
-use crate::part::Before;
 use segment_text::{
     Begin, Head, Version, begins_run, fits_config, goes_on, names_digest, run_follows,
 };
 use std::alloc::Global;
+
+/// What is before a segment.
+pub(crate) struct Before {
+    /// What stands at the head of the segment that was over last.
+    pub(crate) head: Head,
+    /// The digest that it ends in.
+    pub(crate) digest: [u8; 32],
+    /// What its run has come to.
+    pub(crate) course: Course,
+}
+
+// Written out: each place that lets one go is then one call, and not the drops of all that it holds.
+impl Drop for Before {
+    fn drop(self) {
+        let Before {
+            head: _,
+            digest: _,
+            course: _,
+        } = self;
+    }
+}
 
 /// Whether a segment names the digest that is asked for.
 fn names_asked(after: &Option<[u8; 32]>, next: &Head) -> bool
@@ -115,28 +135,30 @@ fn begin_behind(course: Course, next: &Head, alloc: Global) -> Result<Course, Au
     }
 }
 
-/// What a run has come to where a segment of this head follows on another.
-///
-/// `Follow` where it doesn't; `Memory`.
-pub(crate) fn go_on(before: Before, next: &Head, alloc: Global) -> Result<Course, AuditFault>
-    ensures read { (was : A.Past) (c : A.Course) → IsBehind before was c → MatchResult result
-        (λ k. A.Follows was c (head_seen next.now)
-        × IsCourse k (A.course_from (head_seen next.now).start.begin next.now.config
-        (head_seen next.now).start c))
-        (λ f. (f ≡ AuditFault.Memory) ⊎ ((f ≡ AuditFault.Follow)
-        × (A.Follows was c (head_seen next.now) → ⊥))) }
-    ensures few { IfOk result (λ k. k.audit.entries ≤ before.course.audit.entries) }
-{
-    let Before {
-        head,
-        digest,
-        course,
-    } = before;
-    if !names_digest(&next.origin, &digest) {
-        return Err(AuditFault::Follow);
+impl Before {
+    /// What a run has come to where a segment of this head follows on another.
+    ///
+    /// `Follow` where it doesn't; `Memory`.
+    pub(crate) fn go_on(self, next: &Head, alloc: Global) -> Result<Course, AuditFault>
+        ensures read { (was : A.Past) (c : A.Course) → IsBehind self was c → MatchResult result
+            (λ k. A.Follows was c (head_seen next.now)
+            × IsCourse k (A.course_from (head_seen next.now).start.begin next.now.config
+            (head_seen next.now).start c))
+            (λ f. (f ≡ AuditFault.Memory) ⊎ ((f ≡ AuditFault.Follow)
+            × (A.Follows was c (head_seen next.now) → ⊥))) }
+        ensures few { IfOk result (λ k. k.audit.entries ≤ self.course.audit.entries) }
+    {
+        if !names_digest(&next.origin, &self.digest) {
+            return Err(AuditFault::Follow);
+        }
+        if !goes_on(&self.head, next) {
+            return begin_next(&self.head, next, alloc);
+        }
+        let Before {
+            head: _,
+            digest: _,
+            course,
+        } = self;
+        begin_behind(course, next, alloc)
     }
-    if goes_on(&head, next) {
-        return begin_behind(course, next, alloc);
-    }
-    begin_next(&head, next, alloc)
 }

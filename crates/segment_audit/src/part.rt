@@ -9,24 +9,12 @@ ghost use Rattle.segment_audit.specs.Read.{ComesNext, entries_before, entries_in
 use crate::copies::{copy_origin, copy_printer, copy_start};
 use crate::course::Course;
 use crate::fault::AuditFault;
-use crate::follow::{begin_first, go_on};
+use crate::follow::{Before, begin_first};
 use config_values::Config;
 use segment_text::{Head, Last, Origin, PrinterPlace, SegmentLine, Version};
 use std::alloc::{AllocError, Global};
 
-/// What is before a segment.
-#[derive(Drop)]
-pub(crate) struct Before {
-    /// What stands at the head of the segment that was over last.
-    pub(crate) head: Head,
-    /// The digest that it ends in.
-    pub(crate) digest: [u8; 32],
-    /// What its run has come to.
-    pub(crate) course: Course,
-}
-
 /// How far a segment is read. Before its entries what is before it is kept, if anything is.
-#[derive(Drop)]
 pub(crate) enum Part {
     /// No line of it was.
     Between(Option<Before>),
@@ -36,6 +24,18 @@ pub(crate) enum Part {
     Headed(Option<Before>, Origin, Config, Vec<PrinterPlace>),
     /// Its head, and what its run has come to with its entries so far; and the digest that the segment before it ends in.
     Entries(Option<[u8; 32]>, Head, Course),
+}
+
+// Written out: each place that lets a part go is then one call, and not the drops of all that it may hold.
+impl Drop for Part {
+    fn drop(self) {
+        match self {
+            Part::Between(_) => {}
+            Part::Begun(_, _) => {}
+            Part::Headed(_, _, _, _) => {}
+            Part::Entries(_, _, _) => {}
+        }
+    }
 }
 
 /// The configuration of the segment that was over last.
@@ -117,7 +117,7 @@ fn follow(
     ensures few { IfOk result (λ k. k.audit.entries ≤ entries_before before) }
 {
     match before {
-        Some(before) => go_on(before, next, alloc),
+        Some(before) => before.go_on(next, alloc),
         None => begin_first(after, next, alloc),
     }
 }

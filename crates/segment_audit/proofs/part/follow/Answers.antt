@@ -4,7 +4,7 @@ use Rattle.segment_text.specs.Seen.{head_seen}
 use Rattle.segment_audit.specs.declared.course.Course as K
 use Rattle.segment_audit.specs.declared.fault.AuditFault.{AuditFault}
 use Rattle.segment_audit.specs.declared.fault.AuditFault.TheVariants as fault
-use Rattle.segment_audit.specs.declared.part.Before as J
+use Rattle.segment_audit.specs.declared.follow.Before as J
 use Rattle.segment_audit.specs.Audited.{MayFollow, Past, course_from}
 use Rattle.segment_audit.specs.Read.{IsBefore, IsCourse}
 use Rattle.segment_audit.proofs.Matched.{behind, nothing}

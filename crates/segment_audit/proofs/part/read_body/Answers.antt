@@ -1,4 +1,4 @@
-use Rattle.std.proofs.Common.{◌≡◌, ◌⊎◌, ◌∷◌, ℕ, List, [], inl, inr, refl, subst, sym}
+use Rattle.std.proofs.Common.{◌≡◌, ◌⊎◌, ◌∷◌, ℕ, List, inl, inr, refl, subst, sym}
 use Rattle.std.specs.Prelude.{MatchResult, Option}
 use Rattle.segment_text.specs.declared.head.Last.{Last}
 use Rattle.segment_text.specs.declared.items.SegmentLine.TheVariants as line

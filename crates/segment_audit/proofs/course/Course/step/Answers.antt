@@ -1,4 +1,4 @@
-use Rattle.std.proofs.Common.{◌≡◌, ◌+◌, ◌∷◌, refl, subst}
+use Rattle.std.proofs.Common.{◌≡◌, ◌+◌, subst}
 use Rattle.std.specs.Prelude.{IfSome, MatchOption, Option, if◌then◌else◌}
 use Rattle.spool_history.specs.Legal.{May}
 use Rattle.account.specs.Kinds.{is_handed_kind, kind_of, number_of}

@@ -1,13 +1,13 @@
-use Rattle.std.proofs.Common.{◌≡◌, ◌∙◌, ◌⊎◌, inl, inr, ap, subst, sym}
+use Rattle.std.proofs.Common.{◌∙◌, inl, inr, ap, subst, sym}
 use Rattle.std.specs.Prelude.{Some}
 use Rattle.segment_text.specs.Follow.{GoesOn, RunFollows}
 use Rattle.segment_text.specs.Heads as H
 use Rattle.segment_text.specs.Seen.{head_seen}
 use Rattle.segment_audit.proofs.Matched.{result_map}
-use Rattle.segment_audit.proofs.follow.go_on.Goals as goal
+use Rattle.segment_audit.proofs.follow.Before.go_on.Goals as goal
 
-pub returns-clause-read : goal.returns-clause-read
-returns-clause-read c = λ was v b.
+pub returns-then-not-goes_on-clause-read : goal.returns-then-not-goes_on-clause-read
+returns-then-not-goes_on-clause-read c = λ was v b.
     let next = head_seen c.args.next.now in
     result_map c.begin_next.result _ _ _ _
     (λ k h. (
@@ -21,7 +21,7 @@ returns-clause-read c = λ was v b.
         λ follows. elim follows.1 [
           | inl g ↦ (
               let t = c.goes_on.ensures.1 (subst (λ (x : H.Head). GoesOn x next) (sym b.head) g.0) in
-              let e = c.if-goes_on.false in
+              let e = c.if-not-goes_on.true in
               absurd cc)
           | inr r ↦ n.1 (subst (λ (x : H.Head). RunFollows x next) (sym b.head) r)
         ],
