@@ -15,7 +15,7 @@ use program_edge::{Settings, StartFault};
 use server_care::{Board, Counter, open_board};
 use server_clients::{Gate, listen};
 use server_folders::{Archive, JobFolder, open_archive};
-use server_house::{AccountRoom, Hall, Host, Showing, sessions_of};
+use server_house::{AccountRoom, Hall, Host, Oversight, Showing, sessions_of};
 use std::alloc::Global;
 use std::fs::{File, Files};
 use std::sync::Wait;
@@ -95,6 +95,12 @@ fn shown_at(board: Option<(Board, Waker)>) -> (Option<Board>, Option<Showing>) {
     }
 }
 
+/// Who looks after a server has these pipes of its printers, and is woken so.
+fn oversee(oversight: &mut Oversight, pipes: Vec<Option<File>>, waker: Option<Waker>) {
+    oversight.pipes = pipes;
+    oversight.waker = waker;
+}
+
 /// Opens all that a server of these settings and this configuration has, and listens: what its threads share beside its spool, and what
 /// single ones own. `counter` is what reaches it beside its clients.
 ///
@@ -122,8 +128,7 @@ pub(crate) fn prepare<'a, R: Host>(
     if has_steward || board.is_some() {
         hall.oversight.watch(rt);
     }
-    hall.oversight.pipes = pipes;
-    hall.oversight.waker = counter.take_waker();
+    oversee(&mut hall.oversight, pipes, counter.take_waker());
     hall.showing = showing;
     let room = AccountRoom::new(config, sessions, settings.limits.room_ms);
     let room = settings.keep_room.then_some(room);
