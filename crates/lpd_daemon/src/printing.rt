@@ -113,10 +113,24 @@ impl<R: Files<File = File> + Clock + Log + Wait, E: HouseLedger, S: PrintSink + 
     }
 }
 
-/// Who has pages of a house printed.
+/// Who has pages of a house printed. What the printer prints to asks it while it waits.
 #[derive(Drop)]
 pub(crate) struct Printing<'h, 'a, R, E: HouseLedger> {
     pub(crate) house: House<'h, 'a, R, E>,
+}
+
+impl<R: Clock + Log + Wait, E: HouseLedger> Errand for Printing<'_, '_, R, E> {
+    fn is_wanted(&self, job: u64) -> bool {
+        self.house.is_wanted(job)
+    }
+
+    fn is_cut_off(&self) -> bool {
+        self.house.is_cut_off()
+    }
+
+    fn tell_unreached(&self, printer: u32, job: u64, seconds: u64) {
+        self.house.tell_unreached(printer, job, seconds);
+    }
 }
 
 impl<
@@ -127,7 +141,7 @@ impl<
     fn print_to<D: Dial + Causes + Drop, P: Pause + Drop, F: PrinterFolder + Causes + Drop>(
         &self,
         seat: PrintingSeat<E>,
-        device: Device<'_, House<'_, '_, R, E>, D, P, F>,
+        device: Device<'_, Printing<'_, '_, R, E>, D, P, F>,
     ) -> PrintingSeat<E> {
         let House { spool, hall } = self.house;
         let printer = seat.printer();
@@ -149,12 +163,12 @@ impl<
         let (printer, limits) = (seat.printer(), hall.printer_limits);
         let device = match opened {
             OpenedPlace::File(outlet) => {
-                Device::File(PrinterFile::new(outlet, &self.house, hall.kept.is_some()))
+                Device::File(PrinterFile::new(outlet, self, hall.kept.is_some()))
             }
             OpenedPlace::Socket(address) => {
                 let silence = limits.silence_seconds;
-                let dial = TcpDial::new(hall.rt, printer, address.into(), silence, &self.house);
-                let pauses = Pauses::new(hall.rt, limits.patience_minutes, &self.house);
+                let dial = TcpDial::new(hall.rt, printer, address.into(), silence, self);
+                let pauses = Pauses::new(hall.rt, limits.patience_minutes, self);
                 Device::Socket(SocketSink::new(dial, pauses, u64::MAX))
             }
             OpenedPlace::Folder { path, next } => {
