@@ -129,7 +129,7 @@ impl<E: HouseLedger + Send + Sync> Crew<E> {
         R::Dir: Send + Sync,
     {
         for (seat, opened) in seats.into_iter().zip(places) {
-            let thread = scope.spawn(move || Printing { house }.print_all(seat, opened));
+            let thread = scope.spawn(move || Printing::new(house).print_all(seat, opened));
             self.is_whole &= keep(&mut self.printing, thread);
         }
     }

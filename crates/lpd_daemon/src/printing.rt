@@ -11,7 +11,7 @@ use log::{Log, warn};
 use printer_devices::{Device, OpenedPlace, PrinterFile};
 use printer_sinks::{Dial, FolderSink, Pause, PrinterFolder, SocketSink};
 use printer_worker::{HandedPage, Leaving, PrintSink, SinkFault, work};
-use server_house::{House, HouseLedger, PrintingSeat};
+use server_house::{Hall, House, HouseLedger, HouseSpool, PrintingSeat};
 use server_notes::JobOutcome;
 use sink_devices::{Causes, Errand, FileFolder, Pauses, TcpDial};
 use std::fs::{File, Files};
@@ -116,20 +116,43 @@ impl<R: Files<File = File> + Clock + Log + Wait, E: HouseLedger, S: PrintSink + 
 /// Who has pages of a house printed. What the printer prints to asks it while it waits.
 #[derive(Drop)]
 pub(crate) struct Printing<'h, 'a, R, E: HouseLedger> {
-    pub(crate) house: House<'h, 'a, R, E>,
+    // What a house is, in references of its own: so each type that names this one knows how long they live.
+    spool: &'h HouseSpool<E>,
+    hall: &'h Hall<'a, R>,
+    rt: &'a R,
+}
+
+impl<'h, 'a, R, E: HouseLedger> Printing<'h, 'a, R, E> {
+    /// Who has pages of this house printed.
+    pub(crate) fn new(house: House<'h, 'a, R, E>) -> Printing<'h, 'a, R, E> {
+        let House { spool, hall } = house;
+        Printing {
+            spool,
+            hall,
+            rt: hall.rt,
+        }
+    }
+
+    /// The house.
+    fn house(&self) -> House<'h, 'a, R, E> {
+        House {
+            spool: self.spool,
+            hall: self.hall,
+        }
+    }
 }
 
 impl<R: Clock + Log + Wait, E: HouseLedger> Errand for Printing<'_, '_, R, E> {
     fn is_wanted(&self, job: u64) -> bool {
-        self.house.is_wanted(job)
+        self.house().is_wanted(job)
     }
 
     fn is_cut_off(&self) -> bool {
-        self.house.is_cut_off()
+        self.house().is_cut_off()
     }
 
     fn tell_unreached(&self, printer: u32, job: u64, seconds: u64) {
-        self.house.tell_unreached(printer, job, seconds);
+        self.house().tell_unreached(printer, job, seconds);
     }
 }
 
@@ -143,23 +166,24 @@ impl<
         seat: PrintingSeat<E>,
         device: Device<'_, Printing<'_, '_, R, E>, D, P, F>,
     ) -> PrintingSeat<E> {
-        let House { spool, hall } = self.house;
+        let (house, rt) = (self.house(), self.rt);
+        let House { spool, hall } = house;
         let printer = seat.printer();
         let mut sink = Watched {
-            house: self.house,
+            house,
             printer,
             queue: hall.oversight.config.queue_of(printer),
             sink: DeviceSink::new(device),
             was_given_up: false,
             job: None,
         };
-        let (seat, _report) = work(hall.rt, spool, seat, &mut sink);
+        let (seat, _report) = work(rt, spool, seat, &mut sink);
         seat
     }
 
     /// Has a printer's pages written to what it prints to, until the spool is closed. Answers the seat.
     pub(crate) fn print_all(&self, seat: PrintingSeat<E>, opened: OpenedPlace) -> PrintingSeat<E> {
-        let hall = self.house.hall;
+        let hall = self.hall;
         let (printer, limits) = (seat.printer(), hall.printer_limits);
         let device = match opened {
             OpenedPlace::File(outlet) => {
