@@ -8,7 +8,7 @@ ghost use Rattle.segment_text.specs.Seen.{begin_seen, start_seen};
 use crate::fault::WriteFault;
 use crate::listing::list;
 use crate::names::SegmentName;
-use crate::opening::OpenError;
+use crate::opening::AccountOpenError;
 use crate::reading::next_in;
 use crate::stamps::stamp;
 use crate::writing::{TextFault, write_segment};
@@ -16,7 +16,7 @@ use account::{Base, Entry, Segment};
 use config_values::Config;
 use lpd_values::Octets;
 use program_edge::StreamWriter;
-use segment_text::{Begin, Head, Origin, PrinterPlace, Start, Version, is_before};
+use segment_text::{Begin, Head, HeadPrinter, Origin, Start, Version, is_before};
 use server_folder::{FILE_MODE, FolderUse};
 use std::alloc::Global;
 use std::fmt::{Display, Formatter, Write};
@@ -84,7 +84,7 @@ fn head_of(
     run: u64,
     previous: Option<[u8; 32]>,
     config: Config,
-    printers: Vec<PrinterPlace>,
+    printers: Vec<HeadPrinter>,
 ) -> Head {
     let origin = Origin {
         version: Version::Two,
@@ -132,9 +132,9 @@ impl AccountFolder {
         alloc: Global,
         path: &str,
         config: Config,
-        printers: Vec<PrinterPlace>,
+        printers: Vec<HeadPrinter>,
         begun: SystemTime,
-    ) -> Result<AccountFolder, OpenError> {
+    ) -> Result<AccountFolder, AccountOpenError> {
         let lock = server_folder::take(rt, alloc, FolderUse::Account, path)?;
         let listing = list(rt, alloc, path)?;
         for name in &listing.left {

@@ -15,4 +15,4 @@ pub use fault::WriteFault;
 pub use folder::{AccountFolder, PutAway};
 pub use looking::{AccountState, look};
 pub use names::SegmentName;
-pub use opening::OpenError;
+pub use opening::AccountOpenError;

@@ -1,7 +1,7 @@
 //! Looking at a folder of segments without taking it.
 
 use crate::listing::Listing;
-use crate::opening::OpenError;
+use crate::opening::AccountOpenError;
 use crate::reading::next_in;
 use server_folder::FolderUse;
 use std::alloc::Global;
@@ -32,7 +32,7 @@ pub fn look<R: Files<File = File>>(
     rt: &R,
     alloc: Global,
     path: &str,
-) -> Result<AccountState, OpenError> {
+) -> Result<AccountState, AccountOpenError> {
     let Some(octets) = server_folder::look(rt, alloc, FolderUse::Account, path)? else {
         return Ok(AccountState::Absent);
     };

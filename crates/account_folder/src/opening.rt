@@ -8,7 +8,7 @@ use std::{fmt, io};
 
 /// Why a folder isn't opened.
 #[derive(Clone, Copy, Debug)]
-pub enum OpenError {
+pub enum AccountOpenError {
     /// The server doesn't get it.
     Folder(FolderError),
     /// The file of the greatest number isn't a whole segment.
@@ -17,26 +17,29 @@ pub enum OpenError {
     Full,
 }
 
-impl From<io::Error> for OpenError {
-    fn from(cause: io::Error) -> OpenError {
-        OpenError::Folder(FolderError::Failed(cause))
+impl From<io::Error> for AccountOpenError {
+    fn from(cause: io::Error) -> AccountOpenError {
+        AccountOpenError::Folder(FolderError::Failed(cause))
     }
 }
 
-impl From<FolderError> for OpenError {
-    fn from(error: FolderError) -> OpenError {
-        OpenError::Folder(error)
+impl From<FolderError> for AccountOpenError {
+    fn from(error: FolderError) -> AccountOpenError {
+        AccountOpenError::Folder(error)
     }
 }
 
-impl Display for OpenError {
+impl Display for AccountOpenError {
     fn fmt<W: Write>(&self, f: &mut Formatter<W>) -> fmt::Result {
         match self {
-            OpenError::Folder(error) => Display::fmt(error, f),
-            OpenError::Broken(name) => write!(f, "{name} isn't a whole segment: move it away"),
-            OpenError::Full => f.write_str("no number is left for a segment"),
+            AccountOpenError::Folder(error) => Display::fmt(error, f),
+            AccountOpenError::Broken(name) => write!(
+                f,
+                "{name} isn't a whole segment: move it away"
+            ),
+            AccountOpenError::Full => f.write_str("no number is left for a segment"),
         }
     }
 }
 
-impl Error for OpenError {}
+impl Error for AccountOpenError {}

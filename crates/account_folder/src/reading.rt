@@ -4,7 +4,7 @@ ghost use Rattle.segment_text.specs.Streams.{HasReadAtMost};
 
 use crate::listing::Listing;
 use crate::names::SegmentName;
-use crate::opening::OpenError;
+use crate::opening::AccountOpenError;
 use segment_text::{LineFault, SegmentLine, SegmentReader};
 use std::alloc::{AllocError, Global};
 use std::fs::{File, Files};
@@ -153,13 +153,13 @@ fn read_named<R: Files<File = File>>(
     alloc: Global,
     path: &str,
     name: SegmentName,
-) -> Result<LastSegment, OpenError> {
+) -> Result<LastSegment, AccountOpenError> {
     let path = format!(in alloc; "{path}/{name}").map_err(io::Error::from)?;
     let mut file = File::open(rt, path.as_str())?;
     match read_segment(alloc, &mut file) {
         Ok(last) => Ok(last),
-        Err(ReadFault::Broken) => Err(OpenError::Broken(name)),
-        Err(ReadFault::Failed(cause)) => Err(OpenError::from(cause)),
+        Err(ReadFault::Broken) => Err(AccountOpenError::Broken(name)),
+        Err(ReadFault::Failed(cause)) => Err(AccountOpenError::from(cause)),
     }
 }
 
@@ -185,7 +185,7 @@ pub(crate) fn next_in<R: Files<File = File>>(
     alloc: Global,
     path: &str,
     listing: &Listing,
-) -> Result<NextSegment, OpenError> {
+) -> Result<NextSegment, AccountOpenError> {
     let Some(greatest) = listing.greatest else {
         return Ok(NextSegment {
             name: SegmentName::first(),
@@ -194,8 +194,8 @@ pub(crate) fn next_in<R: Files<File = File>>(
         });
     };
     let last = read_named(rt, alloc, path, greatest)?;
-    let name = greatest.next().ok_or(OpenError::Full)?;
-    let run = last.run.checked_add(1).ok_or(OpenError::Full)?;
+    let name = greatest.next().ok_or(AccountOpenError::Full)?;
+    let run = last.run.checked_add(1).ok_or(AccountOpenError::Full)?;
     Ok(NextSegment {
         name,
         run,

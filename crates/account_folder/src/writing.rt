@@ -44,31 +44,36 @@ impl From<OctetFault> for TextFault {
 
 /// A segment as far as it is written.
 #[derive(Drop)]
-struct Draft {
+struct SegmentDraft {
     writer: SegmentWriter,
     entries: u64,
     ghost few: { HasWrittenAtMost writer entries },
 }
 
-impl Draft {
+impl SegmentDraft {
     /// Its head, at the end of the text.
-    fn begin(alloc: Global, head: &Head, text: &mut Vec<u8>) -> Result<Draft, AllocError>
+    fn begin(alloc: Global, head: &Head, text: &mut Vec<u8>) -> Result<SegmentDraft, AllocError>
         ensures written { IfOk result (λ d. HasWritten d.writer (I.head_items (head_seen head.now))) }
         ensures text { OnOk result (text.new.items
             ≡ text.old.items ++ I.text_of (I.head_items (head_seen head.now))) }
     {
         let writer = SegmentWriter::begin(alloc, head, text)?;
-        Ok(Draft { writer, entries: 0 })
+        Ok(SegmentDraft { writer, entries: 0 })
     }
 
     /// One entry more, at the end of the text.
-    fn with(self, alloc: Global, entry: &Entry, text: &mut Vec<u8>) -> Result<Draft, AllocError>
+    fn with(
+        self,
+        alloc: Global,
+        entry: &Entry,
+        text: &mut Vec<u8>,
+    ) -> Result<SegmentDraft, AllocError>
         ensures written { IfOk result (λ d. (is : List Item) → HasWritten self.writer is
             → HasWritten d.writer (I.Item.OfEvent (event_seen entry.now) ∷ is)) }
         ensures text { OnOk result (text.new.items
             ≡ text.old.items ++ with_feed (event_line (event_seen entry.now))) }
     {
-        let Draft {
+        let SegmentDraft {
             mut writer,
             entries,
         } = self;
@@ -76,7 +81,7 @@ impl Draft {
             return Err(AllocError);
         }
         writer.add(alloc, entry, text)?;
-        Ok(Draft {
+        Ok(SegmentDraft {
             writer,
             entries: entries + 1,
         })
@@ -114,7 +119,7 @@ pub(crate) fn write_segment<W: OctetWrite>(
         digest ≡ I.digest_of (head_seen head.now) (map event_seen entries.now)) }
 {
     let mut text = Vec::new(alloc);
-    let mut draft = Draft::begin(alloc, head, &mut text)?;
+    let mut draft = SegmentDraft::begin(alloc, head, &mut text)?;
     for entry in entries {
         draft = draft.with(alloc, entry, &mut text)?;
         pass_on(&mut text, PIECE, output)?;

@@ -27,17 +27,17 @@ const RANDOM: &str = "/dev/urandom";
 
 /// A segment that is read, line by line.
 #[derive(Drop)]
-struct Reading {
+struct UsageReading {
     reader: SegmentReader,
     /// How many of its lines were read.
     lines: u64,
     ghost few: { (lines ≤ 2 ^ 62) × HasReadAtMost reader lines },
 }
 
-impl Reading {
+impl UsageReading {
     /// A segment of which nothing was read.
-    fn begin() -> Reading {
-        Reading {
+    fn begin() -> UsageReading {
+        UsageReading {
             reader: SegmentReader::begin(),
             lines: 0,
         }
@@ -46,14 +46,14 @@ impl Reading {
     /// Reads one line, without its LF.
     ///
     /// `Bad` where it is no line that may stand there, or too many were read; `Memory`.
-    fn read(self, alloc: Global, line: &[u8]) -> Result<(Reading, SegmentLine), LineFault> {
-        let Reading { mut reader, lines } = self;
+    fn read(self, alloc: Global, line: &[u8]) -> Result<(UsageReading, SegmentLine), LineFault> {
+        let UsageReading { mut reader, lines } = self;
         if lines >= MOST_LINES {
             return Err(LineFault::Bad);
         }
         let got = reader.read(alloc, line)?;
         let lines = lines + 1;
-        Ok((Reading { reader, lines }, got))
+        Ok((UsageReading { reader, lines }, got))
     }
 }
 
@@ -62,7 +62,7 @@ impl Reading {
 struct Counting<'a> {
     table: UsageTable,
     /// None once a line was refused.
-    reading: Option<Reading>,
+    reading: Option<UsageReading>,
     since: Option<&'a str>,
     until: Option<&'a str>,
     /// Whether the segment that is read is one of those that are asked for.
@@ -106,7 +106,7 @@ impl<'a> TakeLines<'a> for Counting<'a> {
             Some(reading) if reading.reader.is_over() => {}
             _ => return Err(ReportFault::Line(path, number)),
         }
-        self.reading = Some(Reading::begin());
+        self.reading = Some(UsageReading::begin());
         self.counts = false;
         Ok(())
     }
@@ -223,7 +223,7 @@ fn tell_usage<'a, R: Files<File = File> + Log + RandomSource, O: OctetWrite>(
     };
     let mut counting = Counting {
         table: UsageTable::new(alloc, random, request.by),
-        reading: Some(Reading::begin()),
+        reading: Some(UsageReading::begin()),
         since: request.since,
         until: request.until,
         counts: false,

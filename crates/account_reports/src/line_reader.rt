@@ -10,7 +10,7 @@ const MOST_LINE: usize = 262_144;
 
 /// Why there is no line more.
 #[derive(Clone, Copy, Debug, PartialEq, Eq)]
-pub(crate) enum LineFault {
+pub(crate) enum StreamFault {
     /// It is too long.
     TooLong,
     /// The stream ends without an LF.
@@ -61,7 +61,7 @@ impl<R: OctetRead + Drop> LineReader<R> {
     }
 
     /// Reads some octets more. `false` at the end of the stream.
-    fn fill(&mut self) -> Result<bool, LineFault> {
+    fn fill(&mut self) -> Result<bool, StreamFault> {
         let (start, end) = (self.start, self.end);
         if start != 0 {
             self.buffer.as_mut_slice().copy_within(start..end, 0);
@@ -69,7 +69,7 @@ impl<R: OctetRead + Drop> LineReader<R> {
             self.end = end - start;
         }
         if self.end == self.buffer.len() {
-            return Err(LineFault::TooLong);
+            return Err(StreamFault::TooLong);
         }
         let end = self.end;
         match self.reader.read(&mut self.buffer[end..]) {
@@ -78,12 +78,12 @@ impl<R: OctetRead + Drop> LineReader<R> {
                 self.end = end + count;
                 Ok(true)
             }
-            Err(OctetFault) => Err(LineFault::Unread),
+            Err(OctetFault) => Err(StreamFault::Unread),
         }
     }
 
     /// Goes on to behind the next LF, and tells from where to where the line before it stands. None at the end of the stream.
-    fn next_range(&mut self) -> Result<Option<(usize, usize)>, LineFault>
+    fn next_range(&mut self) -> Result<Option<(usize, usize)>, StreamFault>
         ensures { IfOk result (λ r. IfSome r (λ range.
             (range.0 ≤ range.1) × (range.1 < length self.new.buffer.items))) }
     {
@@ -102,13 +102,13 @@ impl<R: OctetRead + Drop> LineReader<R> {
         if self.start == self.end {
             return Ok(None);
         }
-        Err(LineFault::CutOff)
+        Err(StreamFault::CutOff)
     }
 
     /// The next line, without its LF. None at the end of the stream.
     ///
     /// `TooLong` where it has `MOST_LINE` octets or more, `CutOff` where the stream ends before its LF, `Unread` where it can't be read.
-    pub(crate) fn next_line(&mut self) -> Result<Option<&[u8]>, LineFault> {
+    pub(crate) fn next_line(&mut self) -> Result<Option<&[u8]>, StreamFault> {
         match self.next_range()? {
             Some((from, to)) => Ok(Some(&self.buffer[from..to])),
             None => Ok(None),

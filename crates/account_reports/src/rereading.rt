@@ -12,9 +12,9 @@ use account::Entry;
 use lpd_commands::OctetWrite;
 use lpd_values::Octets;
 use printed_pages::{PrinterTrail, RunBegins, TrailFault};
-use program_edge::Place;
+use program_edge::PrinterPlace;
 use segment_audit::SegmentLine;
-use segment_text::PrinterPlace;
+use segment_text::HeadPrinter;
 use std::alloc::{AllocError, Global};
 use std::fs::{File, Files};
 use std::{mem, str};
@@ -84,10 +84,10 @@ pub(crate) struct Rereading<'r> {
 }
 
 /// What a printer prints to, as the head of a segment tells it. None where that is nothing that a server writes.
-fn place_of(printer: &PrinterPlace) -> Option<Place<'_>>
+fn place_of(printer: &HeadPrinter) -> Option<PrinterPlace<'_>>
     ensures { IfSome result (IsPlaceText printer.now.place) }
 {
-    Place::read(str::from_utf8(printer.place.as_slice()).ok()?)
+    PrinterPlace::read(str::from_utf8(printer.place.as_slice()).ok()?)
 }
 
 impl Reread {
@@ -96,18 +96,18 @@ impl Reread {
         rt: &R,
         alloc: Global,
         printer: u32,
-        place: &PrinterPlace,
+        place: &HeadPrinter,
         path: String,
     ) -> Result<Reread, AllocError> {
         match place_of(place) {
-            Some(Place::Folder(_)) => match job_numbers(rt, alloc, path.as_str()) {
+            Some(PrinterPlace::Folder(_)) => match job_numbers(rt, alloc, path.as_str()) {
                 Ok(numbers) => {
                     let folder = FolderReread::new(alloc, printer, path, numbers);
                     Ok(Reread::Folder(folder))
                 }
                 Err(_) => Ok(Reread::Nowhere),
             },
-            Some(Place::File(_)) if place.begins.is_some() => {
+            Some(PrinterPlace::File(_)) if place.begins.is_some() => {
                 match PrintedFile::open(rt, path.as_str()) {
                     Ok(octets) => Ok(Reread::File(FileReread {
                         trail: PrinterTrail::new(printer),
@@ -118,7 +118,7 @@ impl Reread {
                 }
             }
             // What went over the network can't be read again, nor what isn't a regular file.
-            Some(Place::File(_) | Place::Socket(_)) | None => Ok(Reread::Nowhere),
+            Some(PrinterPlace::File(_) | PrinterPlace::Socket(_)) | None => Ok(Reread::Nowhere),
         }
     }
 
@@ -255,7 +255,7 @@ impl<'r> Rereading<'r> {
         alloc: Global,
         output: &mut O,
         printer: u32,
-        place: &PrinterPlace,
+        place: &HeadPrinter,
         path: Option<String>,
     ) -> Result<Printed, ReportFault<'a>> {
         let reread = match path {
@@ -279,7 +279,7 @@ impl<'r> Rereading<'r> {
         alloc: Global,
         output: &mut O,
         at: usize,
-        place: &PrinterPlace,
+        place: &HeadPrinter,
     ) -> Result<(), ReportFault<'a>> {
         let printer = u32::try_from(at).unwrap_or(u32::MAX).saturating_add(1);
         let known = resting_at(self.resting.as_slice(), at, place.place.as_slice());
@@ -306,7 +306,7 @@ impl<'r> Rereading<'r> {
     }
 
     /// Whether the printer at this place in the heads was at another place until now.
-    fn has_moved(&self, at: usize, place: &PrinterPlace) -> bool {
+    fn has_moved(&self, at: usize, place: &HeadPrinter) -> bool {
         match self.rereads.get(at) {
             Some(printed) => printed.place.as_slice() != place.place.as_slice(),
             None => false,
@@ -319,7 +319,7 @@ impl<'r> Rereading<'r> {
         rt: &R,
         alloc: Global,
         output: &mut O,
-        place: &PrinterPlace,
+        place: &HeadPrinter,
     ) -> Result<(), ReportFault<'a>> {
         let at = self.heads;
         self.heads = at.saturating_add(1);

@@ -18,13 +18,13 @@ use Rattle.control_lines.specs.Verbs.{verb_word}
 use Rattle.control_lines.specs.declared.verb.Verb.{Verb}
 use Rattle.control_lines.specs.declared.verb.Verb.TheVariants as verb
 use Rattle.std.specs.Result.{IsErrAnd}
-use Rattle.control_lines.specs.declared.command.LineFault.{LineFault}
-use Rattle.control_lines.specs.declared.command.LineFault.TheVariants.{Unknown, Memory}
-use Rattle.control_lines.specs.declared.command.Command.{Command}
-use Rattle.control_lines.specs.declared.command.Command.TheVariants.{Status, Start, Hold, Release, Remove, Resend, Rotate, Stop, StopNow}
+use Rattle.control_lines.specs.declared.command.CommandFault.{CommandFault}
+use Rattle.control_lines.specs.declared.command.CommandFault.TheVariants.{Unknown, Memory}
+use Rattle.control_lines.specs.declared.command.ControlCommand.{ControlCommand}
+use Rattle.control_lines.specs.declared.command.ControlCommand.TheVariants.{Status, Start, Hold, Release, Remove, Resend, Rotate, Stop, StopNow}
 
 -- what follows the first word of a command and a space
-abbrev pub operand_of : Command → Option (List ℕ)
+abbrev pub operand_of : ControlCommand → Option (List ℕ)
 operand_of Status = None
 operand_of (Start queue) = Some queue
 operand_of (Hold queue) = Some queue
@@ -41,7 +41,7 @@ abbrev pub joined : List ℕ → Option (List ℕ) → List ℕ
 joined word None = word
 joined word (Some rest) = word ++ 32 ∷ rest
 
-parts : (c : Command) → written c ≡ joined (verb_word (verb_of c)) (operand_of c)
+parts : (c : ControlCommand) → written c ≡ joined (verb_word (verb_of c)) (operand_of c)
 parts Status = refl
 parts (Start queue) = refl
 parts (Hold queue) = refl
@@ -125,12 +125,12 @@ same_verb : (v w : Verb) → verb_word v ≡ verb_word w → v ≡ w
 same_verb v w e = sym (verb_at-word v) ∙ (ap verb_at e ∙ verb_at-word w)
 
 -- the operand is this queue's name, and the command that of it
-abbrev NamesIt : (List ℕ → Command) → Option (List ℕ) → Command → Type 0
+abbrev NamesIt : (List ℕ → ControlCommand) → Option (List ℕ) → ControlCommand → Type 0
 NamesIt make operand c =
     (queue : List ℕ) × (operand ≡ Some queue) × (c ≡ make queue) × IsTrue (is_queue_name queue)
 
 -- a command of this verb with this operand, and why
-abbrev MeansAt : Verb → Option (List ℕ) → Command → Type 0
+abbrev MeansAt : Verb → Option (List ℕ) → ControlCommand → Type 0
 MeansAt verb.Status operand c = (operand ≡ None) × (c ≡ Status)
 MeansAt verb.Start operand c = NamesIt (λ q. Start q) operand c
 MeansAt verb.Hold operand c = NamesIt (λ q. Hold q) operand c
@@ -144,7 +144,7 @@ MeansAt verb.Stop operand c =
     ((operand ≡ None) × (c ≡ Stop None)) ⊎ ((operand ≡ Some (codes "now")) × (c ≡ StopNow))
     ⊎ ((n : ℕ) × (operand ≡ Some (decimal n)) × (c ≡ Stop (Some n)) × (n < 2 ^ 32))
 
-by_verb : (c : Command) → IsSayable c → MeansAt (verb_of c) (operand_of c) c
+by_verb : (c : ControlCommand) → IsSayable c → MeansAt (verb_of c) (operand_of c) c
 by_verb Status h = (refl, refl)
 by_verb (Start queue) h = (queue, refl, refl, h)
 by_verb (Hold queue) h = (queue, refl, refl, h)
@@ -157,11 +157,11 @@ by_verb (Stop (Some seconds)) h = inr (inr (seconds, refl, refl, h))
 by_verb StopNow h = inr (inl (refl, refl))
 
 -- a line is cut in one way
-pub cut_of : (word : List ℕ) (rest : Option (List ℕ)) → HasNoSpace word → (c : Command) → joined word rest ≡ written c → (word ≡ verb_word (verb_of c)) × (rest ≡ operand_of c)
+pub cut_of : (word : List ℕ) (rest : Option (List ℕ)) → HasNoSpace word → (c : ControlCommand) → joined word rest ≡ written c → (word ≡ verb_word (verb_of c)) × (rest ≡ operand_of c)
 cut_of word rest p c e = same_joined word (verb_word (verb_of c)) rest (operand_of c) p (verb_has_no_space (verb_of c)) (e ∙ parts c)
 
 -- what a line of this verb with this operand means
-at : (v : Verb) (operand : Option (List ℕ)) (c : Command) → Means (joined (verb_word v) operand) c → MeansAt v operand c
+at : (v : Verb) (operand : Option (List ℕ)) (c : ControlCommand) → Means (joined (verb_word v) operand) c → MeansAt v operand c
 at v operand c m =
     let r = cut_of (verb_word v) operand (verb_has_no_space v) c m.0 in
     let kind : v ≡ verb_of c = same_verb v (verb_of c) r.0 in
@@ -177,33 +177,33 @@ queue_has_no_space queue h =
 some_is : (x y : List ℕ) → Some x ≡ Some y → x ≡ y
 some_is x y e = cc
 
-pub starts : (operand : List ℕ) (c : Command) → Means (codes "start " ++ operand) c → IsTrue (is_queue_name operand)
+pub starts : (operand : List ℕ) (c : ControlCommand) → Means (codes "start " ++ operand) c → IsTrue (is_queue_name operand)
 starts operand c m =
     let r = at verb.Start (Some operand) c m in
     subst (λ (q : List ℕ). IsTrue (is_queue_name q)) (sym (some_is _ _ r.1)) r.3
 
-pub holds : (operand : List ℕ) (c : Command) → Means (codes "hold " ++ operand) c → IsTrue (is_queue_name operand)
+pub holds : (operand : List ℕ) (c : ControlCommand) → Means (codes "hold " ++ operand) c → IsTrue (is_queue_name operand)
 holds operand c m =
     let r = at verb.Hold (Some operand) c m in
     subst (λ (q : List ℕ). IsTrue (is_queue_name q)) (sym (some_is _ _ r.1)) r.3
 
-pub releases : (operand : List ℕ) (c : Command) → Means (codes "release " ++ operand) c → IsTrue (is_queue_name operand)
+pub releases : (operand : List ℕ) (c : ControlCommand) → Means (codes "release " ++ operand) c → IsTrue (is_queue_name operand)
 releases operand c m =
     let r = at verb.Release (Some operand) c m in
     subst (λ (q : List ℕ). IsTrue (is_queue_name q)) (sym (some_is _ _ r.1)) r.3
 
 -- a job is sent again by its number
-pub resends : (operand : List ℕ) (c : Command) → Means (codes "resend " ++ operand) c → (n : ℕ) × (n < 2 ^ 64) × (operand ≡ decimal n)
+pub resends : (operand : List ℕ) (c : ControlCommand) → Means (codes "resend " ++ operand) c → (n : ℕ) × (n < 2 ^ 64) × (operand ≡ decimal n)
 resends operand c m = let r = at verb.Resend (Some operand) c m in (r.0, r.3, some_is _ _ r.1)
 
 -- a removal is cut at the first space behind its first word
-pub removes : (operands queue whom : List ℕ) → IsCut operands queue whom → (c : Command) → Means (codes "remove " ++ operands) c → IsTrue (is_queue_name queue) × IsTrue (is_whom whom)
+pub removes : (operands queue whom : List ℕ) → IsCut operands queue whom → (c : ControlCommand) → Means (codes "remove " ++ operands) c → IsTrue (is_queue_name queue) × IsTrue (is_whom whom)
 removes operands queue whom cut c m =
     let r = at verb.Remove (Some operands) c m in
     let same = same_cut r.0 queue r.1 whom (queue_has_no_space r.0 r.4) cut.1 (sym (some_is _ _ r.2) ∙ cut.0) in
     (subst (λ (q : List ℕ). IsTrue (is_queue_name q)) same.0 r.4, subst (λ (w : List ℕ). IsTrue (is_whom w)) same.1 r.5)
 
-pub removes_two : (operands : List ℕ) → HasNoSpace operands → (c : Command) → Means (codes "remove " ++ operands) c → ⊥
+pub removes_two : (operands : List ℕ) → HasNoSpace operands → (c : ControlCommand) → Means (codes "remove " ++ operands) c → ⊥
 removes_two operands none c m = let r = at verb.Remove (Some operands) c m in no_cut r.0 r.1 operands none (some_is _ _ r.2)
 
 same_some : (o : Option (List ℕ)) (x y : List ℕ) → o ≡ Some x → o ≡ Some y → x ≡ y
@@ -219,7 +219,7 @@ number_is_no_now n h e =
     cc
 
 -- a verb with an operand means one command at most
-one_at : (v : Verb) (o : Option (List ℕ)) (a b : Command) → MeansAt v o a → MeansAt v o b → a ≡ b
+one_at : (v : Verb) (o : Option (List ℕ)) (a b : ControlCommand) → MeansAt v o a → MeansAt v o b → a ≡ b
 one_at verb.Status o a b p q = p.1 ∙ sym q.1
 one_at verb.Start o a b p q = p.2 ∙ (ap (λ (t : List ℕ). Start t) (same_some o _ _ p.1 q.1) ∙ sym q.2)
 one_at verb.Hold o a b p q = p.2 ∙ (ap (λ (t : List ℕ). Hold t) (same_some o _ _ p.1 q.1) ∙ sym q.2)
@@ -244,7 +244,7 @@ one_at verb.Stop o a b (inr (inr p)) (inr (inr q)) =
     p.2 ∙ (ap (λ (n : ℕ). Stop (Some n)) e ∙ sym q.2)
 
 -- a line means one command at most
-pub one_meaning : (line : List ℕ) (a b : Command) → Means line a → Means line b → a ≡ b
+pub one_meaning : (line : List ℕ) (a b : ControlCommand) → Means line a → Means line b → a ≡ b
 one_meaning line a b p q =
     let means : Means (joined (verb_word (verb_of a)) (operand_of a)) b = (sym (parts a) ∙ (sym p.0 ∙ q.0), q.1) in
     one_at (verb_of a) (operand_of a) a b (by_verb a p.1) (at (verb_of a) (operand_of a) b means)
@@ -256,7 +256,7 @@ whom_short : (whom : List ℕ) → IsTrue (is_whom whom) → length whom ≤ 255
 whom_short whom h = leb-true (length whom) 255 (and_parts _ _ (and_parts _ _ (and_parts _ _ h).0).0).1
 
 -- the line of a command that can be said isn't longer than the longest removal
-pub is_short : (c : Command) → IsSayable c → length (written c) ≤ 1285
+pub is_short : (c : ControlCommand) → IsSayable c → length (written c) ≤ 1285
 is_short Status h = lit≤ tt
 is_short (Start queue) h = let few = queue_short queue h in omega arith
 is_short (Hold queue) h = let few = queue_short queue h in omega arith
@@ -279,25 +279,25 @@ is_short (Stop (Some n)) h =
 is_short StopNow h = lit≤ tt
 
 -- a fault that `?` hands on is the answer, where the line is refused with it
-pub refused : (line : List ℕ) (fault : LineFault) (result : Result Command LineFault) → IsErrAnd result (λ e. e ≡ fault) → Refuses line fault → Reads line result
+pub refused : (line : List ℕ) (fault : CommandFault) (result : Result ControlCommand CommandFault) → IsErrAnd result (λ e. e ≡ fault) → Refuses line fault → Reads line result
 refused line fault (Ok c) is h = absurd is
 refused line fault (Err e) is h = rw is h
 
 -- no queue, or no memory for its name
 
-pub starts_none : (operand : List ℕ) (fault : LineFault) → IsQueueOf operand (Err fault) → Refuses (codes "start " ++ operand) fault
+pub starts_none : (operand : List ℕ) (fault : CommandFault) → IsQueueOf operand (Err fault) → Refuses (codes "start " ++ operand) fault
 starts_none operand Unknown h = λ c m. h (starts operand c m)
 starts_none operand Memory h = (Start operand, (refl, h), tt)
 
-pub holds_none : (operand : List ℕ) (fault : LineFault) → IsQueueOf operand (Err fault) → Refuses (codes "hold " ++ operand) fault
+pub holds_none : (operand : List ℕ) (fault : CommandFault) → IsQueueOf operand (Err fault) → Refuses (codes "hold " ++ operand) fault
 holds_none operand Unknown h = λ c m. h (holds operand c m)
 holds_none operand Memory h = (Hold operand, (refl, h), tt)
 
-pub releases_none : (operand : List ℕ) (fault : LineFault) → IsQueueOf operand (Err fault) → Refuses (codes "release " ++ operand) fault
+pub releases_none : (operand : List ℕ) (fault : CommandFault) → IsQueueOf operand (Err fault) → Refuses (codes "release " ++ operand) fault
 releases_none operand Unknown h = λ c m. h (releases operand c m)
 releases_none operand Memory h = (Release operand, (refl, h), tt)
 
-pub removes_none : (operands queue whom : List ℕ) (fault : LineFault) → IsCut operands queue whom → IsTrue (is_whom whom) → IsQueueOf queue (Err fault) → Refuses (codes "remove " ++ operands) fault
+pub removes_none : (operands queue whom : List ℕ) (fault : CommandFault) → IsCut operands queue whom → IsTrue (is_whom whom) → IsQueueOf queue (Err fault) → Refuses (codes "remove " ++ operands) fault
 removes_none operands queue whom Unknown cut some h = λ c m. h (removes operands queue whom cut c m).0
 removes_none operands queue whom Memory cut some h = (Remove queue whom, (ap (λ (t : List ℕ). codes "remove " ++ t) cut.0, (h, some)), tt)
 

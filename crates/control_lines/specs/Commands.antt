@@ -4,13 +4,13 @@ use Rattle.std.specs.Fmt.{decimal}
 use Rattle.control_lines.specs.Operands.{is_queue_name, is_whom}
 use Rattle.control_lines.specs.declared.verb.Verb.{Verb}
 use Rattle.control_lines.specs.declared.verb.Verb.TheVariants as verb
-use Rattle.control_lines.specs.declared.command.Command.{Command}
-use Rattle.control_lines.specs.declared.command.Command.TheVariants.{Status, Start, Hold, Release, Remove, Resend, Rotate, Stop, StopNow}
-use Rattle.control_lines.specs.declared.command.LineFault.{LineFault}
-use Rattle.control_lines.specs.declared.command.LineFault.TheVariants.{Unknown, Memory}
+use Rattle.control_lines.specs.declared.command.ControlCommand.{ControlCommand}
+use Rattle.control_lines.specs.declared.command.ControlCommand.TheVariants.{Status, Start, Hold, Release, Remove, Resend, Rotate, Stop, StopNow}
+use Rattle.control_lines.specs.declared.command.CommandFault.{CommandFault}
+use Rattle.control_lines.specs.declared.command.CommandFault.TheVariants.{Unknown, Memory}
 
 -- the line of a command, without its LF
-abbrev pub written : Command → List ℕ
+abbrev pub written : ControlCommand → List ℕ
 written Status = codes "status"
 written (Start queue) = codes "start " ++ queue
 written (Hold queue) = codes "hold " ++ queue
@@ -23,7 +23,7 @@ written (Stop (Some seconds)) = codes "stop " ++ decimal seconds
 written StopNow = codes "stop now"
 
 -- a command that can be said: a queue and whom are as they may be written, a number fits 64 bits, and seconds fit 32
-abbrev pub IsSayable : Command → Type 0
+abbrev pub IsSayable : ControlCommand → Type 0
 IsSayable Status = Unit {0}
 IsSayable (Start queue) = IsTrue (is_queue_name queue)
 IsSayable (Hold queue) = IsTrue (is_queue_name queue)
@@ -36,11 +36,11 @@ IsSayable (Stop (Some seconds)) = seconds < 2 ^ 32
 IsSayable StopNow = Unit {0}
 
 -- a line (without its LF) means the command that can be said and of which it is written
-abbrev pub Means : List ℕ → Command → Type 0
+abbrev pub Means : List ℕ → ControlCommand → Type 0
 Means line command = (line ≡ written command) × IsSayable command
 
 -- a command with octets of its own
-abbrev pub NamesQueue : Command → Type 0
+abbrev pub NamesQueue : ControlCommand → Type 0
 NamesQueue (Start queue) = Unit {0}
 NamesQueue (Hold queue) = Unit {0}
 NamesQueue (Release queue) = Unit {0}
@@ -48,22 +48,22 @@ NamesQueue (Remove queue whom) = Unit {0}
 NamesQueue _ = ⊥
 
 -- a line that means nothing is unknown, and memory is wanted only for a queue
-abbrev pub Refuses : List ℕ → LineFault → Type 0
-Refuses line Unknown = (command : Command) → Means line command → ⊥
-Refuses line Memory = (command : Command) × Means line command × NamesQueue command
+abbrev pub Refuses : List ℕ → CommandFault → Type 0
+Refuses line Unknown = (command : ControlCommand) → Means line command → ⊥
+Refuses line Memory = (command : ControlCommand) × Means line command × NamesQueue command
 
 -- a reader's answer: the meaning, or why there is none
-abbrev pub Reads : List ℕ → Result Command LineFault → Type 0
+abbrev pub Reads : List ℕ → Result ControlCommand CommandFault → Type 0
 Reads line result = MatchResult result (Means line) (Refuses line)
 
 -- these octets name a queue, or why not
-abbrev pub IsQueueOf : List ℕ → Result (List ℕ) LineFault → Type 0
+abbrev pub IsQueueOf : List ℕ → Result (List ℕ) CommandFault → Type 0
 IsQueueOf name (Ok queue) = (queue ≡ name) × IsTrue (is_queue_name name)
 IsQueueOf name (Err Unknown) = IsTrue (is_queue_name name) → ⊥
 IsQueueOf name (Err Memory) = IsTrue (is_queue_name name)
 
 -- the first word of a command
-abbrev pub verb_of : Command → Verb
+abbrev pub verb_of : ControlCommand → Verb
 verb_of Status = verb.Status
 verb_of (Start queue) = verb.Start
 verb_of (Hold queue) = verb.Hold

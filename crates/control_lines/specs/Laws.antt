@@ -4,16 +4,16 @@ use Rattle.percent_encoding.specs.AsciiSet.{should_percent_encode}
 use Rattle.control_lines.specs.Answers.{HasNoEnd, IsEndLine, IsOneLine, IsWhole}
 use Rattle.control_lines.specs.Commands.{IsSayable, Means, written}
 use Rattle.control_lines.specs.Escapes.{escaped, unescaped, is_plain}
-use Rattle.control_lines.specs.declared.command.Command.{Command}
+use Rattle.control_lines.specs.declared.command.ControlCommand.{ControlCommand}
 use Rattle.control_lines.specs.declared.escaped.TheConstants.{HIDDEN}
 use Rattle.control_lines.specs.declared.operands.TheConstants.{MOST_LINE}
 
 -- a line means one command at most: so what is written is read back
 abbrev pub HasOneMeaning : List ℕ → Type 0
-HasOneMeaning line = (a b : Command) → Means line a → Means line b → a ≡ b
+HasOneMeaning line = (a b : ControlCommand) → Means line a → Means line b → a ≡ b
 
 -- the line of a command that can be said isn't longer than MOST_LINE
-abbrev pub IsShort : Command → Type 0
+abbrev pub IsShort : ControlCommand → Type 0
 IsShort command = IsSayable command → length (written command) ≤ MOST_LINE
 
 -- shown octets are read back: so no two texts are shown alike
@@ -41,4 +41,4 @@ HasNoEndYet front rest =
 
 -- some command that can be said has a line of MOST_LINE octets
 abbrev pub MostIsReached : Type 0
-MostIsReached = (command : Command) × IsSayable command × (length (written command) ≡ MOST_LINE)
+MostIsReached = (command : ControlCommand) × IsSayable command × (length (written command) ≡ MOST_LINE)

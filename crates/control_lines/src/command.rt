@@ -12,7 +12,7 @@ use std::alloc::{AllocError, Global};
 
 /// What a server is asked for over its control socket.
 #[derive(Debug, Drop)]
-pub enum Command {
+pub enum ControlCommand {
     /// Tells how the spool, its sessions, its printers and its jobs stand.
     Status,
     /// Starts the stopped printers of the queue.
@@ -35,60 +35,60 @@ pub enum Command {
 
 /// Why a line wasn't read as a command.
 #[derive(Clone, Copy, Debug, PartialEq, Eq)]
-pub enum LineFault {
+pub enum CommandFault {
     /// It is the line of no command.
     Unknown,
     /// Memory was refused.
     Memory,
 }
 
-impl From<AllocError> for LineFault {
+impl From<AllocError> for CommandFault {
     ghost use Rattle.std.specs.Prelude.{◌≡◌};
-    ghost use Rattle.control_lines.specs.declared.command.LineFault.TheVariants.{Memory};
+    ghost use Rattle.control_lines.specs.declared.command.CommandFault.TheVariants.{Memory};
 
     ghost from_gives = { λ _ e. e ≡ Memory };
 
-    fn from(_error: AllocError) -> LineFault {
-        LineFault::Memory
+    fn from(_error: AllocError) -> CommandFault {
+        CommandFault::Memory
     }
 }
 
 /// The queue of this name.
 ///
 /// `Unknown` where these octets can't name one; `Memory` where memory for them is refused.
-fn queue_of(alloc: Global, name: &[u8]) -> Result<Octets, LineFault>
+fn queue_of(alloc: Global, name: &[u8]) -> Result<Octets, CommandFault>
     ensures { IsQueueOf name.now result }
 {
     if !is_queue_name(name) {
-        return Err(LineFault::Unknown);
+        return Err(CommandFault::Unknown);
     }
     Ok(Octets::copy_of(alloc, name)?)
 }
 
 /// The removal of these operands.
-fn removal_of(alloc: Global, operands: &[u8]) -> Result<Command, LineFault>
+fn removal_of(alloc: Global, operands: &[u8]) -> Result<ControlCommand, CommandFault>
     ensures { Reads (codes "remove " ++ operands.now) result }
 {
     let Some((queue, whom)) = cut(operands) else {
-        return Err(LineFault::Unknown);
+        return Err(CommandFault::Unknown);
     };
     if !is_whom(whom) {
-        return Err(LineFault::Unknown);
+        return Err(CommandFault::Unknown);
     }
     let queue = queue_of(alloc, queue)?;
     let whom = Octets::copy_of(alloc, whom)?;
-    Ok(Command::Remove { queue, whom })
+    Ok(ControlCommand::Remove { queue, whom })
 }
 
 /// The stop with this operand.
-fn stop_of(operand: &[u8]) -> Result<Command, LineFault>
+fn stop_of(operand: &[u8]) -> Result<ControlCommand, CommandFault>
     ensures { Reads (codes "stop " ++ operand.now) result }
 {
     match operand {
-        b"now" => Ok(Command::StopNow),
+        b"now" => Ok(ControlCommand::StopNow),
         _ => {
-            let seconds = read_seconds(operand).ok_or(LineFault::Unknown)?;
-            Ok(Command::Stop {
+            let seconds = read_seconds(operand).ok_or(CommandFault::Unknown)?;
+            Ok(ControlCommand::Stop {
                 seconds: Some(seconds),
             })
         }
@@ -97,65 +97,65 @@ fn stop_of(operand: &[u8]) -> Result<Command, LineFault>
 
 impl Verb {
     /// The command that this word alone is.
-    fn alone(self) -> Result<Command, LineFault>
+    fn alone(self) -> Result<ControlCommand, CommandFault>
         ensures { Reads (verb_word self) result }
     {
         match self {
-            Verb::Status => Ok(Command::Status),
-            Verb::Rotate => Ok(Command::Rotate),
-            Verb::Stop => Ok(Command::Stop { seconds: None }),
+            Verb::Status => Ok(ControlCommand::Status),
+            Verb::Rotate => Ok(ControlCommand::Rotate),
+            Verb::Stop => Ok(ControlCommand::Stop { seconds: None }),
             Verb::Start | Verb::Hold | Verb::Release | Verb::Remove | Verb::Resend => {
-                Err(LineFault::Unknown)
+                Err(CommandFault::Unknown)
             }
         }
     }
 
     /// The command that this word is with what follows it and a space.
-    fn with(self, alloc: Global, operand: &[u8]) -> Result<Command, LineFault>
+    fn with(self, alloc: Global, operand: &[u8]) -> Result<ControlCommand, CommandFault>
         ensures { Reads (verb_word self ++ 32 ∷ operand.now) result }
     {
         match self {
             Verb::Start => {
                 let queue = queue_of(alloc, operand)?;
-                Ok(Command::Start { queue })
+                Ok(ControlCommand::Start { queue })
             }
             Verb::Hold => {
                 let queue = queue_of(alloc, operand)?;
-                Ok(Command::Hold { queue })
+                Ok(ControlCommand::Hold { queue })
             }
             Verb::Release => {
                 let queue = queue_of(alloc, operand)?;
-                Ok(Command::Release { queue })
+                Ok(ControlCommand::Release { queue })
             }
             Verb::Remove => removal_of(alloc, operand),
             Verb::Resend => {
-                let number = read_decimal(operand).ok_or(LineFault::Unknown)?;
-                Ok(Command::Resend { number })
+                let number = read_decimal(operand).ok_or(CommandFault::Unknown)?;
+                Ok(ControlCommand::Resend { number })
             }
             Verb::Stop => stop_of(operand),
-            Verb::Status | Verb::Rotate => Err(LineFault::Unknown),
+            Verb::Status | Verb::Rotate => Err(CommandFault::Unknown),
         }
     }
 }
 
-impl Command {
+impl ControlCommand {
     /// The command of a line without its LF. Each command has one line, and each line one command at most.
     ///
     /// # Errors
     ///
     /// `Unknown` exactly where the line is that of no command; `Memory` only where the command names a queue, and memory for it
     /// is refused.
-    pub fn parse(alloc: Global, line: &[u8]) -> Result<Command, LineFault>
+    pub fn parse(alloc: Global, line: &[u8]) -> Result<ControlCommand, CommandFault>
         ensures { Reads line.now result }
     {
         let Some((word, operand)) = cut(line) else {
             return match Verb::read(line) {
                 Some(verb) => verb.alone(),
-                None => Err(LineFault::Unknown),
+                None => Err(CommandFault::Unknown),
             };
         };
         let Some(verb) = Verb::read(word) else {
-            return Err(LineFault::Unknown);
+            return Err(CommandFault::Unknown);
         };
         verb.with(alloc, operand)
     }
@@ -165,14 +165,14 @@ impl Command {
         ensures { result ≡ verb_of self.now }
     {
         match self {
-            Command::Status => Verb::Status,
-            Command::Start { .. } => Verb::Start,
-            Command::Hold { .. } => Verb::Hold,
-            Command::Release { .. } => Verb::Release,
-            Command::Remove { .. } => Verb::Remove,
-            Command::Resend { .. } => Verb::Resend,
-            Command::Rotate => Verb::Rotate,
-            Command::Stop { .. } | Command::StopNow => Verb::Stop,
+            ControlCommand::Status => Verb::Status,
+            ControlCommand::Start { .. } => Verb::Start,
+            ControlCommand::Hold { .. } => Verb::Hold,
+            ControlCommand::Release { .. } => Verb::Release,
+            ControlCommand::Remove { .. } => Verb::Remove,
+            ControlCommand::Resend { .. } => Verb::Resend,
+            ControlCommand::Rotate => Verb::Rotate,
+            ControlCommand::Stop { .. } | ControlCommand::StopNow => Verb::Stop,
         }
     }
 
@@ -184,23 +184,27 @@ impl Command {
     {
         let mut line = Vec::from_slice(alloc, self.verb().word())?;
         match self {
-            Command::Status | Command::Rotate | Command::Stop { seconds: None } => {}
-            Command::Start { queue } | Command::Hold { queue } | Command::Release { queue } => {
+            ControlCommand::Status
+            | ControlCommand::Rotate
+            | ControlCommand::Stop { seconds: None } => {}
+            ControlCommand::Start { queue }
+            | ControlCommand::Hold { queue }
+            | ControlCommand::Release { queue } => {
                 put_operand(&mut line, queue.as_slice())?;
             }
-            Command::Remove { queue, whom } => {
+            ControlCommand::Remove { queue, whom } => {
                 put_operand(&mut line, queue.as_slice())?;
                 put_operand(&mut line, whom.as_slice())?;
             }
-            Command::Resend { number } => {
+            ControlCommand::Resend { number } => {
                 put_operand(&mut line, number.to_string(alloc)?.as_bytes())?;
             }
-            Command::Stop {
+            ControlCommand::Stop {
                 seconds: Some(seconds),
             } => {
                 put_operand(&mut line, seconds.to_string(alloc)?.as_bytes())?;
             }
-            Command::StopNow => put_operand(&mut line, b"now")?,
+            ControlCommand::StopNow => put_operand(&mut line, b"now")?,
         }
         line.push(b'\n')?;
         Ok(Octets::from_vec(line))

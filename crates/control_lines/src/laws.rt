@@ -3,7 +3,7 @@
 ghost use Rattle.control_lines.specs.Laws.{HasNoEndYet, HasOneMeaning, HidesOthers, MostIsReached, IsOneWord, IsReadBack, IsShort};
 ghost use Rattle.control_lines.specs.Escapes.{escaped};
 
-use crate::command::Command;
+use crate::command::ControlCommand;
 
 /// A line has one meaning at most. So what is written of a command that can be said is read back as that command.
 pub fn line_has_one_meaning(_line: &[u8])
@@ -11,7 +11,7 @@ pub fn line_has_one_meaning(_line: &[u8])
 {}
 
 /// The line of a command that can be said has at most `MOST_LINE` octets without its LF.
-pub fn line_is_short(_command: &Command)
+pub fn line_is_short(_command: &ControlCommand)
     ensures { IsShort _command.now }
 {}
 

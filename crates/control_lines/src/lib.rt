@@ -9,7 +9,7 @@ mod operands;
 mod verb;
 
 pub use answer::{AnswerEnd, read_answer};
-pub use command::{Command, LineFault};
+pub use command::{CommandFault, ControlCommand};
 pub use escaped::{Escaped, HIDDEN};
 pub use laws::{
     cut_answer_has_no_end, escaped_is_one_word, escaped_is_read_back, line_has_one_meaning,

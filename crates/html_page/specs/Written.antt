@@ -2,7 +2,7 @@
 use Rattle.std.specs.Prelude.{◌≡◌, ◌++◌, true, false, ℕ, List, Option, Some, None, [], length, ◌-◌, take, string_bytes}
 use Rattle.std.specs.List.{slice_get}
 use Rattle.html_page.specs.declared.draft.Draft.{Draft}
-use Rattle.html_page.specs.declared.page.Page.{Page}
+use Rattle.html_page.specs.declared.page.HtmlPage.{HtmlPage}
 use Rattle.html_page.specs.declared.tag.Tag.{Tag}
 use Rattle.html_page.specs.Parts.{End, part_octets}
 
@@ -15,23 +15,23 @@ abbrev pub draft_opened : Draft → List Tag
 draft_opened d = d.opened.items
 
 -- the octets that were put so far
-abbrev pub written : Page → List ℕ
+abbrev pub written : HtmlPage → List ℕ
 written p = draft_written p.draft
 
 -- the elements that are open, outermost first
-abbrev pub opened : Page → List Tag
+abbrev pub opened : HtmlPage → List Tag
 opened p = draft_opened p.draft
 
 -- no part of it was refused memory
-abbrev pub IsWhole : Page → Type 0
+abbrev pub IsWhole : HtmlPage → Type 0
 IsWhole p = p.is_whole ≡ true
 
 -- Memory for some part was refused.
-abbrev pub IsLost : Page → Type 0
+abbrev pub IsLost : HtmlPage → Type 0
 IsLost p = p.is_whole ≡ false
 
 -- A part was put behind a page that was whole and still is; or no octet was put, since memory was refused, then or before.
-abbrev pub Puts : Page → Page → List ℕ → Type 0
+abbrev pub Puts : HtmlPage → HtmlPage → List ℕ → Type 0
 Puts was now octets = (IsWhole now → IsWhole was × (written now ≡ written was ++ octets)) × (IsLost now → written now ≡ written was)
 
 -- the end tag of an element, where there is one

@@ -17,23 +17,23 @@ use std::alloc::{AllocError, Global};
 /// A page of HTML so far. Each of its calls puts one part at the end, whole. Where memory for a part is refused, neither it nor any later part is
 /// put, and `into_text` says so.
 #[derive(Drop)]
-pub struct Page {
+pub struct HtmlPage {
     alloc: Global,
     draft: Draft,
     is_whole: bool,
 }
 
-impl Page {
+impl HtmlPage {
     ghost use Rattle.html_page.specs.Written.{IsLost, IsWhole, Puts, last_closing, opened, outer, written};
 
     /// The words that say that it is HTML.
     ///
     /// AllocError where memory for them is refused.
-    pub fn new(alloc: Global) -> Result<Page, AllocError>
+    pub fn new(alloc: Global) -> Result<HtmlPage, AllocError>
         ensures opened { IfOk result (λ page. opened page ≡ []) }
         ensures whole { IfOk result (λ page. IsWhole page) }
     {
-        Ok(Page {
+        Ok(HtmlPage {
             alloc,
             draft: Draft::new(alloc)?,
             is_whole: true,

@@ -16,8 +16,8 @@ mod sink;
 pub use control_socket::{OpenFault, SocketFile};
 pub use printer_worker::{PrintSink, SinkFault};
 pub use program_edge::{
-    Limits, LogForm, MOST_SESSIONS, Opening, Place, PrinterLimits, PrinterPlace, Settings,
-    StartPart, StatusPlace,
+    FailedOpening, Limits, LogForm, MOST_SESSIONS, PlacedPrinter, PrinterLimits, PrinterPlace,
+    Settings, StartPart, StatusPlace,
 };
 pub use server_care::Counter;
 pub use server_folders::{ACCOUNT_LINES, FOLDER_CAUSES};

@@ -28,7 +28,7 @@ use std::sync::{Arc, Wait};
 use std::thread::Threads;
 use std::time::Duration;
 use std::{io, thread};
-use word_actions::{Outcome, PROGRESS};
+use word_actions::{PROGRESS, RunOutcome};
 
 /// How many lines of the log wait to be written, at most.
 const LINES: usize = 256;
@@ -78,7 +78,7 @@ fn refuse_memory<W: Write + Drop>(alloc: Global, faults: &mut StreamWriter<W>) -
 }
 
 /// Does what the words ask for, but for serving and for commands to a server.
-fn run<'a>(rt: &HostRuntime, words: &'a [String]) -> Outcome<'a>
+fn run<'a>(rt: &HostRuntime, words: &'a [String]) -> RunOutcome<'a>
     ensures { IfEnded result (λ status. status ≤ 5) }
 {
     let alloc = rt.alloc();
@@ -88,7 +88,12 @@ fn run<'a>(rt: &HostRuntime, words: &'a [String]) -> Outcome<'a>
     // What asks for it is known by the part that sends a job alone.
     let Ok(filter) = told(alloc, rt.stderr().is_terminal(), PROGRESS, true) else {
         let unread = Unread::Memory;
-        return Outcome::Ended(word_actions::tell_unread(alloc, unread, &mut output, &mut faults));
+        return RunOutcome::Ended(word_actions::tell_unread(
+            alloc,
+            unread,
+            &mut output,
+            &mut faults,
+        ));
     };
     let logged = Logged::new(*rt, Level::Info, FilteredLog::new(Console(*rt), filter));
     word_actions::run(&logged, rt, words, &mut input, &mut output, &mut faults)
@@ -234,11 +239,11 @@ fn main(rt: HostRuntime) -> ExitCode {
         }
     };
     match run(&rt, words.as_slice()) {
-        Outcome::Ended(status) => code(status),
-        Outcome::Control(request) => code(control(&rt, &request)),
-        Outcome::Audit(request) => code(audit(&rt, &request)),
-        Outcome::Usage(request) => code(usage(&rt, &request)),
-        Outcome::Serve { config, settings } => {
+        RunOutcome::Ended(status) => code(status),
+        RunOutcome::Control(request) => code(control(&rt, &request)),
+        RunOutcome::Audit(request) => code(audit(&rt, &request)),
+        RunOutcome::Usage(request) => code(usage(&rt, &request)),
+        RunOutcome::Serve { config, settings } => {
             let Ok(queue) = start_log(&rt, alloc, settings.log, rt.stderr()) else {
                 let mut faults = StreamWriter::new(rt.stderr());
                 return code(refuse_memory(alloc, &mut faults));

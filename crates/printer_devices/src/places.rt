@@ -3,12 +3,12 @@
 ghost use Rattle.std.specs.Prelude.{◌≡◌, ◌==◌, IfErr, option_map};
 ghost use Rattle.std.specs.List.{find};
 ghost use Rattle.program_edge.specs.Openings.{IsPrinter, IsUnopened};
-ghost use Rattle.program_edge.specs.declared.places.PrinterPlace.{PrinterPlace};
+ghost use Rattle.program_edge.specs.declared.places.PlacedPrinter.{PlacedPrinter};
 
 use crate::outlet::Outlet;
 use crate::sharing::shared_folder;
 use log::{Log, warn};
-use program_edge::{DefaultFile, Place, Settings, StartFault, StartPart, tell_cause};
+use program_edge::{DefaultFile, PrinterPlace, Settings, StartFault, StartPart, tell_cause};
 use sink_devices::names_of;
 use std::alloc::{AllocError, Global};
 use std::fs::{File, Files};
@@ -64,14 +64,14 @@ fn open_at<R: Files<File = File> + Log>(
     rt: &R,
     alloc: Global,
     printer: u32,
-    place: Place<'_>,
+    place: PrinterPlace<'_>,
 ) -> Result<OpenedPlace, StartFault>
     ensures { IfErr result (IsUnopened IsPrinter) }
 {
     let (path, opened) = match place {
-        Place::Socket(address) => return Ok(OpenedPlace::Socket(address)),
-        Place::File(path) => (path, Outlet::open(rt, path).map(OpenedPlace::File)),
-        Place::Folder(path) => (path, open_folder(rt, String::from_str(alloc, path)?)),
+        PrinterPlace::Socket(address) => return Ok(OpenedPlace::Socket(address)),
+        PrinterPlace::File(path) => (path, Outlet::open(rt, path).map(OpenedPlace::File)),
+        PrinterPlace::Folder(path) => (path, open_folder(rt, String::from_str(alloc, path)?)),
     };
     match opened {
         Ok(opened) => Ok(opened),
@@ -84,9 +84,9 @@ fn open_at<R: Files<File = File> + Log>(
 }
 
 /// What settings say that a printer prints to, if they say it.
-pub fn place_of<'a>(settings: &Settings<'a>, printer: u32) -> Option<Place<'a>>
-    ensures { result ≡ option_map (λ (said : PrinterPlace). said.place)
-        (find (λ (said : PrinterPlace). said.printer == printer) settings.now.printers.items) }
+pub fn place_of<'a>(settings: &Settings<'a>, printer: u32) -> Option<PrinterPlace<'a>>
+    ensures { result ≡ option_map (λ (said : PlacedPrinter). said.place)
+        (find (λ (said : PlacedPrinter). said.printer == printer) settings.now.printers.items) }
 {
     let said = settings
         .printers
@@ -128,7 +128,7 @@ pub fn open_places<R: Files<File = File> + Log>(
             Some(place) => open_at(rt, alloc, printer, place)?,
             None => {
                 let path = default_file(settings, printer).to_string(alloc)?;
-                open_at(rt, alloc, printer, Place::File(path.as_str()))?
+                open_at(rt, alloc, printer, PrinterPlace::File(path.as_str()))?
             }
         };
         places.push(opened)?;

@@ -1,15 +1,15 @@
 //! Folders that two printers would print to.
 
 use log::{Log, info};
-use program_edge::{Place, PrinterPlace};
+use program_edge::{PlacedPrinter, PrinterPlace};
 use std::fs::Files;
 use std::os::unix::fs::MetadataExt;
 use std::{fmt, fs};
 
 /// Which folder of the system a printer prints to: its device and its number there. None where it prints to no folder, or to one that
 /// isn't there.
-fn identity<R: Files>(rt: &R, place: Place<'_>) -> Option<(u64, u64)> {
-    let Place::Folder(path) = place else {
+fn identity<R: Files>(rt: &R, place: PrinterPlace<'_>) -> Option<(u64, u64)> {
+    let PrinterPlace::Folder(path) = place else {
         return None;
     };
     let metadata = fs::metadata(rt, path).ok()?;
@@ -17,7 +17,7 @@ fn identity<R: Files>(rt: &R, place: Place<'_>) -> Option<(u64, u64)> {
 }
 
 /// The printer among these that prints to the same folder as this one does, if there is one.
-fn sharer<R: Files>(rt: &R, printers: &[PrinterPlace], said: &PrinterPlace) -> Option<u32> {
+fn sharer<R: Files>(rt: &R, printers: &[PlacedPrinter], said: &PlacedPrinter) -> Option<u32> {
     let own = identity(rt, said.place)?;
     let one = printers
         .iter()
@@ -53,12 +53,15 @@ impl fmt::Display for SharedFolder<'_> {
 /// is the one place where something is refused that earlier servers took, without an option that asks for it.
 pub fn shared_folder<'a, R: Files + Log>(
     rt: &R,
-    printers: &[PrinterPlace<'a>],
+    printers: &[PlacedPrinter<'a>],
 ) -> Option<SharedFolder<'a>> {
     for at in 0..printers.len() {
         let said = &printers[at];
         let (second, place) = (said.printer, said.place);
-        if let (Place::Folder(path), Some(first)) = (place, sharer(rt, &printers[..at], said)) {
+        if let (PrinterPlace::Folder(path), Some(first)) = (
+            place,
+            sharer(rt, &printers[..at], said),
+        ) {
             let shared = SharedFolder {
                 path,
                 first,

@@ -7,8 +7,8 @@ use Rattle.std.specs.declared.net.ipv4_addr.Ipv4Addr.{Ipv4Addr}
 use Rattle.std.specs.declared.net.socket_addr.SocketAddrV4.{SocketAddrV4}
 use Rattle.std.proofs.lemmas.List.{append_cancel_left}
 use Rattle.program_edge.specs.Places.{IsPlaceText, IsSocketText}
-use Rattle.program_edge.specs.declared.places.Place.{Place}
-use Rattle.program_edge.specs.declared.places.Place.TheVariants.{File, Folder, Socket}
+use Rattle.program_edge.specs.declared.places.PrinterPlace.{PrinterPlace}
+use Rattle.program_edge.specs.declared.places.PrinterPlace.TheVariants.{File, Folder, Socket}
 
 -- a word is stripped off a text
 pub word_stripped : (word text : List ℕ) (r : Option (Bor (List ℕ))) → MatchOption r (FindsTextPrefix word text None) (λ x. StripsPrefix (FindsTextPrefix word) text x.now) → MatchOption r ((rest : List ℕ) → text ≡ word ++ rest → ⊥) (λ x. text ≡ word ++ x.now)
@@ -20,7 +20,7 @@ abbrev pub HasNoPath : (word text : List ℕ) → Type 0
 HasNoPath word text = (path : List ℕ) → text ≡ word ++ path → 0 < length path → ⊥
 
 -- a text with none of the three kinds is no place
-pub no_place : (text : List ℕ) → HasNoPath (codes "file:") text → HasNoPath (codes "folder:") text → ((host : List ℕ) → text ≡ codes "socket://" ++ host → (address : SocketAddrV4) → IsSocketText host address → ⊥) → (place : Place) → IsPlaceText text place → ⊥
+pub no_place : (text : List ℕ) → HasNoPath (codes "file:") text → HasNoPath (codes "folder:") text → ((host : List ℕ) → text ≡ codes "socket://" ++ host → (address : SocketAddrV4) → IsSocketText host address → ⊥) → (place : PrinterPlace) → IsPlaceText text place → ⊥
 no_place text file folder socket (File path) (same, long) = file path.now same long
 no_place text file folder socket (Folder path) (same, long) = folder path.now same long
 no_place text file folder socket (Socket address) (host, same, is) = socket host same address is

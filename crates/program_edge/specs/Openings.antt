@@ -2,7 +2,7 @@
 use Rattle.std.specs.Prelude.{◌≡◌, ◌++◌, ℕ, List, Option, None, Some, codes, string_bytes}
 use Rattle.program_edge.specs.Told.{fault_text}
 use Rattle.program_edge.specs.declared.telling.FaultName.TheVariants.{Network, WriteFile}
-use Rattle.program_edge.specs.declared.opening.Opening as O
+use Rattle.program_edge.specs.declared.opening.FailedOpening as O
 use Rattle.program_edge.specs.declared.opening.StartFault.{StartFault}
 use Rattle.program_edge.specs.declared.opening.StartFault.TheVariants as fault
 use Rattle.program_edge.specs.declared.opening.StartPart.{StartPart}
@@ -16,7 +16,7 @@ text_of kind.Account at = fault_text WriteFile ++ codes " " ++ at
 text_of kind.Listener at = fault_text Network
 text_of kind.Status at = fault_text Network
 
-abbrev pub refusal_text : O.Opening → List ℕ
+abbrev pub refusal_text : O.FailedOpening → List ℕ
 refusal_text opening = text_of opening.what (string_bytes opening.at)
 
 -- these are the octets of a text, where it tells them
@@ -25,7 +25,7 @@ IsText (Some text) octets = octets ≡ text
 IsText None octets = Unit {0}
 
 -- this is what wasn't opened, where it is, and why
-pub record Tells (part : StartPart) (place why : Option (List ℕ)) (opening : O.Opening) : Type 0 where
+pub record Tells (part : StartPart) (place why : Option (List ℕ)) (opening : O.FailedOpening) : Type 0 where
   pub what : opening.what ≡ part
   pub at : IsText place (string_bytes opening.at)
   pub cause : IsText why (string_bytes opening.cause)

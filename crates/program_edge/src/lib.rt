@@ -18,8 +18,8 @@ pub use descriptors::{descriptor_limit, fill_standard_descriptors};
 pub use leaving::pass_over;
 pub use names::{DefaultFile, JOB_FILE, JobFileName};
 pub use networks::Network;
-pub use opening::{Opening, StartFault, StartPart};
-pub use places::{Place, PrinterPlace};
+pub use opening::{FailedOpening, StartFault, StartPart};
+pub use places::{PlacedPrinter, PrinterPlace};
 pub use settings::{
     LEAVE_SECONDS, Limits, LogForm, MOST_CONTROL_PATH, MOST_SESSIONS, NO_JOB_SECONDS,
     PrinterLimits, ROOM_MS, Settings,

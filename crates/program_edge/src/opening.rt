@@ -26,7 +26,7 @@ pub enum StartPart {
 ///
 /// As a fault it is WriteFile with the path, of a printer and of a folder, or Network, of an address.
 #[derive(Debug, PartialEq, Eq, Drop)]
-pub struct Opening {
+pub struct FailedOpening {
     /// What wasn't opened.
     pub what: StartPart,
     /// Its path or its address.
@@ -35,17 +35,17 @@ pub struct Opening {
     pub cause: String,
 }
 
-impl Opening {
+impl FailedOpening {
     /// What couldn't be opened there, for this cause. AllocError where memory for the words is refused.
     fn new<A: fmt::Display, C: fmt::Display>(
         alloc: Global,
         what: StartPart,
         at: &A,
         cause: &C,
-    ) -> Result<Opening, AllocError>
+    ) -> Result<FailedOpening, AllocError>
         ensures { IfOk result (Tells what (A.output at.now) (C.output cause.now)) }
     {
-        Ok(Opening {
+        Ok(FailedOpening {
             what,
             at: at.to_string(alloc)?,
             cause: cause.to_string(alloc)?,
@@ -53,7 +53,7 @@ impl Opening {
     }
 }
 
-impl fmt::Display for Opening {
+impl fmt::Display for FailedOpening {
     ghost output = { λ opening. Some (refusal_text opening) };
 
     fn fmt<W: fmt::Write>(&self, f: &mut fmt::Formatter<W>) -> fmt::Result {
@@ -72,7 +72,7 @@ pub enum StartFault {
     /// Memory was refused.
     Memory,
     /// Something couldn't be opened.
-    Opening(Opening),
+    Opening(FailedOpening),
 }
 
 impl From<AllocError> for StartFault {
@@ -105,7 +105,7 @@ impl StartFault {
     ) -> StartFault
         ensures { IsRefusal what (A.output at.now) (C.output cause.now) result }
     {
-        match Opening::new(alloc, what, at, cause) {
+        match FailedOpening::new(alloc, what, at, cause) {
             Ok(opening) => StartFault::Opening(opening),
             Err(AllocError) => StartFault::Memory,
         }

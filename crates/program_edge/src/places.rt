@@ -6,7 +6,7 @@ ghost use Rattle.std.specs.Net.Grammar.{IsSocketV4Text};
 ghost use Rattle.std.specs.Net.Socket.{v4_port};
 ghost use Rattle.std.specs.declared.net.socket_addr.SocketAddrV4.{SocketAddrV4};
 ghost use Rattle.program_edge.specs.Places.{IsPlaceText, IsPrinterText, IsSocketText, is_equals_sign};
-ghost use Rattle.program_edge.specs.declared.places.Place.{Place};
+ghost use Rattle.program_edge.specs.declared.places.PrinterPlace.{PrinterPlace};
 
 use crate::numerals::plain_number;
 use std::fmt;
@@ -17,7 +17,7 @@ const RAW_PORT: u16 = 9_100;
 
 /// What a printer prints to.
 #[derive(Clone, Copy, Debug, PartialEq, Eq)]
-pub enum Place<'a> {
+pub enum PrinterPlace<'a> {
     /// A file, a device or a pipe at this path.
     File(&'a str),
     /// A printer at this address of the network, which takes octets as they are.
@@ -26,7 +26,7 @@ pub enum Place<'a> {
     Folder(&'a str),
 }
 
-impl fmt::Display for Place<'_> {
+impl fmt::Display for PrinterPlace<'_> {
     ghost use Rattle.std.specs.Prelude.{Some};
     ghost use Rattle.program_edge.specs.Places.{place_text};
 
@@ -34,30 +34,30 @@ impl fmt::Display for Place<'_> {
 
     fn fmt<W: fmt::Write>(&self, f: &mut fmt::Formatter<W>) -> fmt::Result {
         match self {
-            Place::File(path) => write!(f, "file:{path}"),
-            Place::Socket(address) => write!(f, "socket://{address}"),
-            Place::Folder(path) => write!(f, "folder:{path}"),
+            PrinterPlace::File(path) => write!(f, "file:{path}"),
+            PrinterPlace::Socket(address) => write!(f, "socket://{address}"),
+            PrinterPlace::Folder(path) => write!(f, "folder:{path}"),
         }
     }
 }
 
 /// What the printer of a number prints to.
 #[derive(Clone, Copy, Debug, PartialEq, Eq)]
-pub struct PrinterPlace<'a> {
+pub struct PlacedPrinter<'a> {
     /// The printer's number, from 1.
     pub printer: u32,
     /// What it prints to.
-    pub place: Place<'a>,
+    pub place: PrinterPlace<'a>,
 }
 
-impl fmt::Display for PrinterPlace<'_> {
+impl fmt::Display for PlacedPrinter<'_> {
     ghost use Rattle.std.specs.Prelude.{Some};
     ghost use Rattle.program_edge.specs.Places.{printer_text};
 
     ghost output = { λ said. Some (printer_text said) };
 
     fn fmt<W: fmt::Write>(&self, f: &mut fmt::Formatter<W>) -> fmt::Result {
-        let PrinterPlace { printer, place } = self;
+        let PlacedPrinter { printer, place } = self;
         write!(f, "{printer}={place}")
     }
 }
@@ -113,21 +113,21 @@ fn address_of(text: &str) -> Option<SocketAddrV4>
     socket_of(text)
 }
 
-impl<'a> Place<'a> {
+impl<'a> PrinterPlace<'a> {
     /// The place that a text writes: `file:PATH`, `folder:PATH` or `socket://A.B.C.D[:PORT]`. None where it writes none.
-    pub fn read(text: &'a str) -> Option<Place<'a>>
+    pub fn read(text: &'a str) -> Option<PrinterPlace<'a>>
         ensures place { IfSome result (IsPlaceText text.now) }
-        ensures none { IfNone result ((place : Place) → IsPlaceText text.now place → ⊥) }
+        ensures none { IfNone result ((place : PrinterPlace) → IsPlaceText text.now place → ⊥) }
     {
         if let Some(path) = path_after(text, "file:") {
-            return Some(Place::File(path));
+            return Some(PrinterPlace::File(path));
         }
         if let Some(path) = path_after(text, "folder:") {
-            return Some(Place::Folder(path));
+            return Some(PrinterPlace::Folder(path));
         }
         let host = after(text, "socket://")?;
         let address = address_of(host)?;
-        Some(Place::Socket(address))
+        Some(PrinterPlace::Socket(address))
     }
 }
 
@@ -141,21 +141,21 @@ fn parts_of(text: &str) -> Option<(&str, &str)>
     text.split_once('=')
 }
 
-impl<'a> PrinterPlace<'a> {
-    ghost use Rattle.program_edge.specs.declared.places.PrinterPlace.{PrinterPlace};
+impl<'a> PlacedPrinter<'a> {
+    ghost use Rattle.program_edge.specs.declared.places.PlacedPrinter.{PlacedPrinter};
 
     /// What a text says of a printer: its number, from 1, an equals sign, and `file:PATH`,
     /// `socket://A.B.C.D[:PORT]` or `folder:PATH`. None where it says nothing of one.
-    pub fn read(text: &'a str) -> Option<PrinterPlace<'a>>
+    pub fn read(text: &'a str) -> Option<PlacedPrinter<'a>>
         ensures place { IfSome result (IsPrinterText text.now) }
-        ensures none { IfNone result ((said : PrinterPlace) → IsPrinterText text.now said → ⊥) }
+        ensures none { IfNone result ((said : PlacedPrinter) → IsPrinterText text.now said → ⊥) }
     {
         let (number, place) = parts_of(text)?;
         let printer = plain_number(number)?;
         if printer == 0 {
             return None;
         }
-        let place = Place::read(place)?;
-        Some(PrinterPlace { printer, place })
+        let place = PrinterPlace::read(place)?;
+        Some(PlacedPrinter { printer, place })
     }
 }

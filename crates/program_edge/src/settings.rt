@@ -10,7 +10,7 @@ ghost use Rattle.program_edge.specs.declared.settings.LogForm.{LogForm};
 ghost use Rattle.program_edge.specs.declared.settings.LogForm.TheVariants.{Plain};
 
 use crate::networks::Network;
-use crate::places::PrinterPlace;
+use crate::places::PlacedPrinter;
 use crate::status::StatusPlace;
 use std::alloc::Global;
 use std::net::Ipv4Addr;
@@ -88,7 +88,7 @@ pub struct Settings<'a> {
     pub control: Option<&'a str>,
     /// What single printers print to: each number at most once. Every other printer prints to its
     /// file in `out`.
-    pub printers: Vec<PrinterPlace<'a>>,
+    pub printers: Vec<PlacedPrinter<'a>>,
     /// What a printer on the network may do.
     pub printer_limits: PrinterLimits,
     /// How many seconds after the last failure of a printer its queue is started again; never

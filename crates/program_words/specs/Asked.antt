@@ -3,7 +3,7 @@ use Rattle.std.specs.Prelude.{◌≡◌, ◌≤◌, ◌<◌, List, Option, Some,
 use Rattle.std.specs.List.{join_with_byte}
 use Rattle.clap.specs.Words.{Row, Text, all_of, first_of}
 use Rattle.control_lines.specs.Commands.{Means}
-use Rattle.control_lines.specs.declared.command.Command.{Command}
+use Rattle.control_lines.specs.declared.command.ControlCommand.{ControlCommand}
 use Rattle.program_words.specs.Auditing.{IsAuditRequest, IsUsageRequest}
 use Rattle.program_words.specs.Checking.{IsChecking}
 use Rattle.program_words.specs.Naming.{IsEnvelope}
@@ -31,7 +31,7 @@ abbrev pub IsPath : List Row → Text → Type 0
 IsPath rows path = (first_of (codes "path") rows ≡ Some path) × (length path ≤ MOST_CONTROL_PATH)
 
 -- the line of these words, with a space between two, means this command
-abbrev pub IsLine : List Row → Command → Type 0
+abbrev pub IsLine : List Row → ControlCommand → Type 0
 IsLine rows command =
     (words : List Text) × (all_of (codes "word") rows ≡ Some words) × Means (join_with_byte 32 words) command
 

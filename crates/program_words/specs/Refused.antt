@@ -9,7 +9,7 @@ use Rattle.clap.specs.declared.error.kind.ErrorKind.{ErrorKind}
 use Rattle.clap.specs.declared.error.kind.ErrorKind.TheVariants.{DisplayHelp, DisplayVersion}
 use Rattle.clap.specs.declared.error.kind.ErrorKind.TheVariants.{OutOfMemory}
 use Rattle.control_lines.specs.Commands.{Refuses}
-use Rattle.control_lines.specs.declared.command.LineFault.TheVariants as line
+use Rattle.control_lines.specs.declared.command.CommandFault.TheVariants as line
 use Rattle.lpd_commands.specs.Written.{command_has_line}
 use Rattle.lpd_commands.specs.declared.command.Command.{Command}
 use Rattle.lpd_commands.specs.declared.command.Command.TheVariants.{Receive}
@@ -41,7 +41,7 @@ use Rattle.program_edge.specs.Networks.{IsNetworkText}
 use Rattle.program_edge.specs.declared.networks.Network.{Network}
 use Rattle.program_edge.specs.Places.{IsPrinterText}
 use Rattle.program_edge.specs.StatusPlaces.{IsHostName, IsStatusText}
-use Rattle.program_edge.specs.declared.places.PrinterPlace.{PrinterPlace}
+use Rattle.program_edge.specs.declared.places.PlacedPrinter.{PlacedPrinter}
 use Rattle.program_edge.specs.declared.settings.Limits.{Limits}
 use Rattle.program_edge.specs.declared.settings.LogForm.{LogForm}
 use Rattle.program_edge.specs.declared.settings.PrinterLimits.{PrinterLimits}
@@ -185,7 +185,7 @@ HasNoStatusHost rows faults.Memory = Unit {0}
 HasNoStatusHost rows fault = ⊥
 
 -- the option for printers gives this text behind others, which say this of printers, of each once
-abbrev pub IsBehind : List Row → List PrinterPlace → Text → Type 0
+abbrev pub IsBehind : List Row → List PlacedPrinter → Text → Type 0
 IsBehind rows printers text =
     (before : List Text) × (behind : List Text)
     × (all_of (codes "printer") rows ≡ Some (before ++ text ∷ behind))
@@ -194,12 +194,12 @@ IsBehind rows printers text =
 -- the first text that says nothing of a printer, or that is for the printer of one before it; or memory was refused
 abbrev pub HasNoPrinters : List Row → WordFault → Type 0
 HasNoPrinters rows (faults.Printer text) =
-    (before : List PrinterPlace) × IsBehind rows before (string_bytes text)
-    × ((said : PrinterPlace) → IsPrinterText (string_bytes text) said → ⊥)
+    (before : List PlacedPrinter) × IsBehind rows before (string_bytes text)
+    × ((said : PlacedPrinter) → IsPrinterText (string_bytes text) said → ⊥)
 HasNoPrinters rows (faults.PrinterTwice text) =
-    (before : List PrinterPlace) × IsBehind rows before (string_bytes text)
-    × ((said : PrinterPlace) × IsPrinterText (string_bytes text) said
-    × Any (λ (one : PrinterPlace). one.printer ≡ said.printer) before)
+    (before : List PlacedPrinter) × IsBehind rows before (string_bytes text)
+    × ((said : PlacedPrinter) × IsPrinterText (string_bytes text) said
+    × Any (λ (one : PlacedPrinter). one.printer ≡ said.printer) before)
 HasNoPrinters rows faults.Memory = Unit {0}
 HasNoPrinters rows fault = ⊥
 

@@ -10,7 +10,7 @@ use Rattle.program_edge.specs.Networks.{NameNetworks}
 use Rattle.program_edge.specs.declared.networks.Network.{Network}
 use Rattle.program_edge.specs.Places.{IsPrinterText}
 use Rattle.program_edge.specs.StatusPlaces.{IsHostName, IsStatusText}
-use Rattle.program_edge.specs.declared.places.PrinterPlace.{PrinterPlace}
+use Rattle.program_edge.specs.declared.places.PlacedPrinter.{PlacedPrinter}
 use Rattle.program_edge.specs.declared.settings.Limits.{Limits}
 use Rattle.program_edge.specs.declared.settings.LogForm.{LogForm}
 use Rattle.program_edge.specs.declared.settings.LogForm.TheVariants.{Journal, Plain, Time}
@@ -85,12 +85,12 @@ IsStatusHost rows (Some name) =
     (first_of (codes "status-host") rows ≡ Some name) × IsHostName name × (first_of (codes "status") rows ≢ None)
 
 -- no two of these are for one printer
-abbrev pub AreOfDifferentPrinters : List PrinterPlace → Type 0
+abbrev pub AreOfDifferentPrinters : List PlacedPrinter → Type 0
 AreOfDifferentPrinters printers =
-    AllPairs (λ (one other : PrinterPlace). one.printer ≢ other.printer) printers
+    AllPairs (λ (one other : PlacedPrinter). one.printer ≢ other.printer) printers
 
 -- these say what single printers print to: what the option says, each time that it is there, in order; no printer twice
-pub record ArePrinters (rows : List Row) (printers : List PrinterPlace) : Type 0 where
+pub record ArePrinters (rows : List Row) (printers : List PlacedPrinter) : Type 0 where
   pub said : AllZip IsPrinterText (unwrap_or (all_of (codes "printer") rows) []) printers
   pub once : AreOfDifferentPrinters printers
 

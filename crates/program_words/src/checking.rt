@@ -12,7 +12,7 @@ use crate::serving::control_of;
 use crate::values::{flag_of, text_if, text_of};
 use crate::word_fault::WordFault;
 use clap::ArgMatches;
-use program_edge::PrinterPlace;
+use program_edge::PlacedPrinter;
 use std::alloc::Global;
 
 const MORE_OF_CHECK: &str = "\
@@ -47,7 +47,7 @@ pub struct Checking<'a> {
     pub sizes: bool,
     /// What single printers print to: each number at most once. Where there are any, what each
     /// printer prints to is said.
-    pub printers: Vec<PrinterPlace<'a>>,
+    pub printers: Vec<PlacedPrinter<'a>>,
     /// The directory of the printers' files, where it is said that it is there.
     pub out: Option<&'a str>,
     /// The path of a control socket, at most `MOST_CONTROL_PATH` octets, where it is said that a server could make it.

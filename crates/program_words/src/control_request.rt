@@ -8,7 +8,7 @@ ghost use Rattle.program_words.specs.Refused.{HasNoCommand, HasNoPath, LacksRequ
 use crate::values::{text_of, texts_of};
 use crate::word_fault::WordFault;
 use clap::ArgMatches;
-use control_lines::{Command, LineFault};
+use control_lines::{CommandFault, ControlCommand};
 use program_edge::MOST_CONTROL_PATH;
 use std::alloc::Global;
 
@@ -18,7 +18,7 @@ pub struct ControlRequest<'a> {
     /// The path of the socket, at most `MOST_CONTROL_PATH` octets.
     pub path: &'a str,
     /// The command.
-    pub command: Command,
+    pub command: ControlCommand,
 }
 
 /// The path of a control socket. `Missing` where it isn't there, `Control` where it is too long, and `Memory`.
@@ -33,18 +33,18 @@ fn path_of<'a>(alloc: Global, matches: &ArgMatches<'a>) -> Result<&'a str, WordF
     Ok(path)
 }
 
-/// The command that words are, with a space between two. `Missing` where there are none, `Command` where they are no
+/// The command that words are, with a space between two. `Missing` where there are none, `ControlCommand` where they are no
 /// command, and `Memory`.
-fn command_of(alloc: Global, matches: &ArgMatches) -> Result<Command, WordFault>
+fn command_of(alloc: Global, matches: &ArgMatches) -> Result<ControlCommand, WordFault>
     ensures command { IfOk result (IsLine (rows_of (found_of matches.now))) }
     ensures fault { IfErr result (HasNoCommand (rows_of (found_of matches.now))) }
 {
     let words = texts_of(matches, "word")?;
     let line = words.join(alloc, " ")?;
-    match Command::parse(alloc, line.as_bytes()) {
+    match ControlCommand::parse(alloc, line.as_bytes()) {
         Ok(command) => Ok(command),
-        Err(LineFault::Unknown) => Err(WordFault::Command),
-        Err(LineFault::Memory) => Err(WordFault::Memory),
+        Err(CommandFault::Unknown) => Err(WordFault::Command),
+        Err(CommandFault::Memory) => Err(WordFault::Memory),
     }
 }
 

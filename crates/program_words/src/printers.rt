@@ -6,13 +6,13 @@ ghost use Rattle.clap.specs.Words.{found_of, rows_of};
 ghost use Rattle.program_words.specs.Refused.{HasNoPrinterLimits, HasNoPrinters};
 ghost use Rattle.program_words.specs.Serving.{ArePrinterLimits, ArePrinters};
 ghost use Rattle.program_words.specs.declared.word_fault.WordFault.TheVariants.{Missing};
-ghost use Rattle.program_edge.specs.declared.places.PrinterPlace.{PrinterPlace};
+ghost use Rattle.program_edge.specs.declared.places.PlacedPrinter.{PlacedPrinter};
 
 use crate::rules::{Shape, Word};
 use crate::values::{limit_of, texts_of};
 use crate::word_fault::WordFault;
 use clap::ArgMatches;
-use program_edge::{PrinterLimits, PrinterPlace};
+use program_edge::{PlacedPrinter, PrinterLimits};
 use std::alloc::Global;
 
 /// The option for a printer.
@@ -23,8 +23,8 @@ pub(crate) const PRINTER: Word = Word {
 };
 
 /// Whether one of these is for the printer of this number.
-fn has_printer(printers: &[PrinterPlace], number: u32) -> bool
-    ensures { result ≡ list_any (λ (said : PrinterPlace). said.printer == number) printers.now }
+fn has_printer(printers: &[PlacedPrinter], number: u32) -> bool
+    ensures { result ≡ list_any (λ (said : PlacedPrinter). said.printer == number) printers.now }
 {
     printers.iter().any(|said| said.printer == number)
 }
@@ -34,7 +34,7 @@ fn has_printer(printers: &[PrinterPlace], number: u32) -> bool
 pub(crate) fn printers_of<'a>(
     alloc: Global,
     matches: &ArgMatches<'a>,
-) -> Result<Vec<PrinterPlace<'a>>, WordFault>
+) -> Result<Vec<PlacedPrinter<'a>>, WordFault>
     ensures printers { IfOk result (λ printers.
         ArePrinters (rows_of (found_of matches.now)) printers.items) }
     ensures fault { IfErr result (HasNoPrinters (rows_of (found_of matches.now))) }
@@ -44,7 +44,7 @@ pub(crate) fn printers_of<'a>(
         return Ok(printers);
     };
     for text in texts {
-        let Some(said) = PrinterPlace::read(text) else {
+        let Some(said) = PlacedPrinter::read(text) else {
             return Err(WordFault::Printer(String::from_str(alloc, text)?));
         };
         if has_printer(printers.as_slice(), said.printer) {

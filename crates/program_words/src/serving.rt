@@ -18,8 +18,8 @@ use crate::values::{
 use crate::word_fault::WordFault;
 use clap::ArgMatches;
 use program_edge::{
-    LEAVE_SECONDS, Limits, LogForm, MOST_CONTROL_PATH, NO_JOB_SECONDS, Network, PrinterLimits,
-    PrinterPlace, ROOM_MS, Settings, StatusPlace, is_host_name,
+    LEAVE_SECONDS, Limits, LogForm, MOST_CONTROL_PATH, NO_JOB_SECONDS, Network, PlacedPrinter,
+    PrinterLimits, ROOM_MS, Settings, StatusPlace, is_host_name,
 };
 use std::alloc::Global;
 use std::net::Ipv4Addr;
@@ -296,7 +296,7 @@ fn status_host_of<'a>(alloc: Global, matches: &ArgMatches<'a>) -> Result<Option<
 
 /// Where a server listens, and how many connections it serves.
 #[derive(Clone, Copy)]
-struct Listening {
+struct ListeningWords {
     port: u16,
     bind: Ipv4Addr,
     sessions: u32,
@@ -306,11 +306,11 @@ struct Listening {
 }
 
 /// What words say of the connections that a server takes.
-fn listening_of(matches: &ArgMatches) -> Result<Listening, WordFault>
+fn listening_of(matches: &ArgMatches) -> Result<ListeningWords, WordFault>
     ensures read { IfOk result (IsListening (rows_of (found_of matches.now))) }
     ensures fault { IfErr result (LacksServing (rows_of (found_of matches.now))) }
 {
-    Ok(Listening {
+    Ok(ListeningWords {
         port: number_of(matches, "port")?,
         bind: bind_of(matches)?,
         sessions: sessions_of(matches)?,
@@ -322,18 +322,18 @@ fn listening_of(matches: &ArgMatches) -> Result<Listening, WordFault>
 
 /// What a server prints to.
 #[derive(Drop)]
-struct Printing<'a> {
-    printers: Vec<PrinterPlace<'a>>,
+struct PrintingWords<'a> {
+    printers: Vec<PlacedPrinter<'a>>,
     limits: PrinterLimits,
     restart_seconds: Option<NonZeroU64>,
 }
 
 /// What words say of the printers of a server.
-fn printing_of<'a>(alloc: Global, matches: &ArgMatches<'a>) -> Result<Printing<'a>, WordFault>
+fn printing_of<'a>(alloc: Global, matches: &ArgMatches<'a>) -> Result<PrintingWords<'a>, WordFault>
     ensures read { IfOk result (IsPrinting (rows_of (found_of matches.now))) }
     ensures fault { IfErr result (LacksServing (rows_of (found_of matches.now))) }
 {
-    Ok(Printing {
+    Ok(PrintingWords {
         printers: printers_of(alloc, matches)?,
         limits: printer_limits_of(matches)?,
         restart_seconds: limit_of(matches, "restart")?,

@@ -7,7 +7,7 @@ use Rattle.account.specs.Seen.{octets}
 use Rattle.history_reader.specs.Seen.{state_seen}
 use Rattle.segment_text.specs.declared.head.Head as D
 use Rattle.segment_text.specs.declared.head.Origin as O
-use Rattle.segment_text.specs.declared.head.PrinterPlace as P
+use Rattle.segment_text.specs.declared.head.HeadPrinter as P
 use Rattle.segment_text.specs.declared.items.Stage.{Stage}
 use Rattle.segment_text.specs.declared.items.Stage.TheVariants as stage
 use Rattle.segment_text.specs.Items.{Item, Suits, stage_of}
@@ -43,7 +43,7 @@ pub record IsBegun (o : O.Origin) (is : List Item) : Type 0 where
   pub origin : origin_seen o ≡ (head_of is).origin
   pub printers : (head_of is).printers ≡ []
 
-pub record IsHeaded (o : O.Origin) (c : Config) (ps : List P.PrinterPlace) (is : List Item) : Type 0 where
+pub record IsHeaded (o : O.Origin) (c : Config) (ps : List P.HeadPrinter) (is : List Item) : Type 0 where
   pub stage : IsAtPrinters (stage_of is)
   pub origin : origin_seen o ≡ (head_of is).origin
   pub config : c ≡ (head_of is).config

@@ -6,7 +6,7 @@ ghost use Rattle.segment_text.specs.Seen.{begin_seen, origin_seen, printer_seen,
 
 use account::Base;
 use lpd_values::Octets;
-use segment_text::{Begin, Origin, PrinterPlace, Start};
+use segment_text::{Begin, HeadPrinter, Origin, Start};
 use std::alloc::{AllocError, Global};
 
 /// The same octets once more.
@@ -35,13 +35,10 @@ pub(crate) fn copy_origin(alloc: Global, origin: &Origin) -> Result<Origin, Allo
 /// A printer's place, once more.
 ///
 /// AllocError where memory is refused.
-pub(crate) fn copy_printer(
-    alloc: Global,
-    printer: &PrinterPlace,
-) -> Result<PrinterPlace, AllocError>
+pub(crate) fn copy_printer(alloc: Global, printer: &HeadPrinter) -> Result<HeadPrinter, AllocError>
     ensures { IfOk result (λ copy. printer_seen copy ≡ printer_seen printer.now) }
 {
-    Ok(PrinterPlace {
+    Ok(HeadPrinter {
         place: copy_octets(alloc, &printer.place)?,
         begins: printer.begins,
     })

@@ -11,7 +11,7 @@ use crate::course::Course;
 use crate::fault::AuditFault;
 use crate::follow::{Before, begin_first};
 use config_values::Config;
-use segment_text::{Head, Last, Origin, PrinterPlace, SegmentLine, Version};
+use segment_text::{Head, HeadPrinter, Last, Origin, SegmentLine, Version};
 use std::alloc::{AllocError, Global};
 
 /// How far a segment is read. Before its entries what is before it is kept, if anything is.
@@ -21,7 +21,7 @@ pub(crate) enum Part {
     /// Its first line.
     Begun(Option<Before>, Origin),
     /// Its configuration, and these of its printers.
-    Headed(Option<Before>, Origin, Config, Vec<PrinterPlace>),
+    Headed(Option<Before>, Origin, Config, Vec<HeadPrinter>),
     /// Its head, and what its run has come to with its entries so far; and the digest that the segment before it ends in.
     Entries(Option<[u8; 32]>, Head, Course),
 }
@@ -146,7 +146,7 @@ fn begin_entries(
 /// A printer's line, or the one behind those.
 fn add_to_head(
     before: Option<Before>,
-    headed: (Origin, Config, Vec<PrinterPlace>),
+    headed: (Origin, Config, Vec<HeadPrinter>),
     after: &Option<[u8; 32]>,
     alloc: Global,
     got: &SegmentLine,

@@ -5,7 +5,7 @@ use Rattle.account.specs.Seen.{base_seen}
 use Rattle.segment_text.specs.declared.head.Begin as G
 use Rattle.segment_text.specs.declared.head.Begin.TheVariants as begin
 use Rattle.segment_text.specs.declared.head.Origin as O
-use Rattle.segment_text.specs.declared.head.PrinterPlace as P
+use Rattle.segment_text.specs.declared.head.HeadPrinter as P
 use Rattle.segment_text.specs.declared.head.Start as B
 use Rattle.segment_text.specs.declared.head.Last as L
 use Rattle.segment_text.specs.declared.head.Head as D
@@ -17,7 +17,7 @@ use Rattle.account_text.specs.Told.{IsU64}
 abbrev pub origin_seen : O.Origin → Origin
 origin_seen o = record { version = o.version; run = o.run; segment = o.segment; first = o.first; last = o.last; previous = o.previous }
 
-abbrev pub printer_seen : P.PrinterPlace → Printer
+abbrev pub printer_seen : P.HeadPrinter → Printer
 printer_seen p = record { place = p.place; begins = p.begins }
 
 abbrev pub begin_seen : G.Begin → Begin

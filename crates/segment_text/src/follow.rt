@@ -6,7 +6,7 @@ ghost use Rattle.account.specs.Seen.{base_seen};
 ghost use Rattle.segment_text.specs.Follow.{BeginsFirst, BeginsRun, FitsConfig, GoesOn, IsFirstBase, RunFollows};
 ghost use Rattle.segment_text.specs.Seen.{begin_seen, head_seen, origin_seen, printer_seen, start_seen};
 
-use crate::head::{Begin, Head, Origin, PrinterPlace, Start};
+use crate::head::{Begin, Head, HeadPrinter, Origin, Start};
 use account::Base;
 use config_values::{Config, Queue};
 
@@ -56,14 +56,14 @@ fn same_config(one: &Config, other: &Config) -> bool
 
 /// Whether two printers are the same.
 #[tactic(auto, using(crate::proofs::Same::printer_same))]
-fn same_printer(one: &PrinterPlace, other: &PrinterPlace) -> bool
+fn same_printer(one: &HeadPrinter, other: &HeadPrinter) -> bool
     ensures { IsTrue result ↔ (printer_seen one.now ≡ printer_seen other.now) }
 {
     one.place.as_slice() == other.place.as_slice() && one.begins == other.begins
 }
 
 /// Whether these printers are the same.
-fn same_printers(some: &[PrinterPlace], others: &[PrinterPlace]) -> bool
+fn same_printers(some: &[HeadPrinter], others: &[HeadPrinter]) -> bool
     ensures { IsTrue result ↔ (map printer_seen some.now ≡ map printer_seen others.now) }
 {
     match (some.split_first(), others.split_first()) {

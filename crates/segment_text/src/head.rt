@@ -32,7 +32,7 @@ pub struct Origin {
 
 /// What a printer prints to.
 #[derive(Drop)]
-pub struct PrinterPlace {
+pub struct HeadPrinter {
     /// Its place, as the words of the server tell it.
     pub place: Octets,
     /// Where it was when the run began: of a regular file its length in octets, of a folder by version 2 the number of the file that
@@ -75,7 +75,7 @@ pub struct Head {
     /// What its spool is made for.
     pub config: Config,
     /// The printers, by their numbers from 1.
-    pub printers: Vec<PrinterPlace>,
+    pub printers: Vec<HeadPrinter>,
     /// What is before it.
     pub start: Start,
 }

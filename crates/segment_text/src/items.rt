@@ -4,7 +4,7 @@ ghost use Rattle.std.specs.Prelude.{◌≡◌, ◌⊎◌, MatchResult};
 ghost use Rattle.segment_text.specs.Items.{item_line, item_seen, IsItem, Item, OnlyMeans, Suits};
 
 use crate::config::parse_config;
-use crate::head::{Last, Origin, PrinterPlace, Start};
+use crate::head::{HeadPrinter, Last, Origin, Start};
 use crate::read::{parse_last, parse_origin, parse_printer, parse_start};
 use account::Entry;
 use account_text::{LineFault, parse_entry};
@@ -19,7 +19,7 @@ pub enum SegmentLine {
     /// What its spool is made for.
     Config(Config),
     /// What a printer prints to, in the order of the printers' numbers.
-    Printer(PrinterPlace),
+    Printer(HeadPrinter),
     /// What is before the segment.
     Start(Start),
     /// One entry, in order of writing.

@@ -15,7 +15,7 @@ mod writer;
 pub use account_text::LineFault;
 pub use config::parse_config;
 pub use follow::{begins_run, fits_config, goes_on, names_digest, run_follows, same_base};
-pub use head::{Begin, Head, Last, Origin, PrinterPlace, Start, Version};
+pub use head::{Begin, Head, HeadPrinter, Last, Origin, Start, Version};
 pub use items::{SegmentLine, Stage, parse_line};
 pub use laws::{lines_are_read_back, lines_have_no_feed, segments_are_in_turn};
 pub use read::{parse_last, parse_origin, parse_printer, parse_start};

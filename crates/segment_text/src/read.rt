@@ -9,7 +9,7 @@ ghost use Rattle.segment_text.specs.Meant as M;
 ghost use Rattle.segment_text.specs.Reading as R;
 ghost use Rattle.segment_text.specs.Seen.{begin_seen, last_seen, origin_seen, printer_seen, start_seen};
 
-use crate::head::{Begin, Last, Origin, PrinterPlace, Start, Version};
+use crate::head::{Begin, HeadPrinter, Last, Origin, Start, Version};
 use crate::stamp::{is_before, stamp};
 use crate::write::{write_last, write_origin, write_printer, write_start};
 use account::Base;
@@ -103,7 +103,7 @@ fn begins(word: &[u8]) -> Option<Option<u64>>
 }
 
 /// What a printer prints to.
-fn printer(alloc: Global, text: &[u8]) -> Result<PrinterPlace, LineFault>
+fn printer(alloc: Global, text: &[u8]) -> Result<HeadPrinter, LineFault>
     ensures { MatchResult result
         (λ p. R.printer_in (words_of text.now) ≡ Some (printer_seen p))
         (λ f. (f ≡ LineFault.Memory)
@@ -116,7 +116,7 @@ fn printer(alloc: Global, text: &[u8]) -> Result<PrinterPlace, LineFault>
     }
     let begins = begins(word).ok_or(LineFault::Bad)?;
     let place = hidden(alloc, place)?;
-    Ok(PrinterPlace { place, begins })
+    Ok(HeadPrinter { place, begins })
 }
 
 /// Whether a spool is closed.
@@ -274,7 +274,7 @@ pub fn parse_origin(alloc: Global, line: &[u8]) -> Result<Origin, LineFault>
 }
 
 /// What the words of a line tell of a printer.
-fn read_printer(alloc: Global, line: &[u8]) -> Result<PrinterPlace, LineFault>
+fn read_printer(alloc: Global, line: &[u8]) -> Result<HeadPrinter, LineFault>
     ensures { MatchResult result (λ v. R.printer_of line.now ≡ Some (printer_seen v))
         (λ f. (f ≡ LineFault.Memory)
         ⊎ ((f ≡ LineFault.Bad) × (R.printer_of line.now ≡ None))) }
@@ -289,7 +289,7 @@ fn read_printer(alloc: Global, line: &[u8]) -> Result<PrinterPlace, LineFault>
 /// What a line (without its LF) means of a printer.
 ///
 /// `Bad` exactly where it is the line of none that can be told; `Memory` where memory is refused.
-pub fn parse_printer(alloc: Global, line: &[u8]) -> Result<PrinterPlace, LineFault>
+pub fn parse_printer(alloc: Global, line: &[u8]) -> Result<HeadPrinter, LineFault>
     ensures { MatchResult result (λ v. line.now ≡ H.printer_line (printer_seen v))
         (λ f. (f ≡ LineFault.Memory) ⊎ ((f ≡ LineFault.Bad) × M.IsNoPrinter line.now)) }
 {

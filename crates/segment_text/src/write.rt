@@ -5,7 +5,7 @@ ghost use Rattle.account.specs.Seen.{base_seen};
 ghost use Rattle.segment_text.specs.Heads as H;
 ghost use Rattle.segment_text.specs.Seen.{begin_seen, last_seen, origin_seen, printer_seen, start_seen};
 
-use crate::head::{Begin, Last, Origin, PrinterPlace, Start, Version};
+use crate::head::{Begin, HeadPrinter, Last, Origin, Start, Version};
 use account::Base;
 use account_text::{put_hexed, put_number, put_plain, put_shown};
 use config_values::{Config, Queue};
@@ -97,7 +97,7 @@ fn put_begins(line: &mut Vec<u8>, alloc: Global, begins: Option<u64>) -> Result<
 /// The line of a printer, without its LF.
 ///
 /// AllocError where memory is refused.
-pub fn write_printer(alloc: Global, printer: &PrinterPlace) -> Result<Vec<u8>, AllocError>
+pub fn write_printer(alloc: Global, printer: &HeadPrinter) -> Result<Vec<u8>, AllocError>
     ensures { IfOk result (λ line. line.items ≡ H.printer_line (printer_seen printer.now)) }
 {
     let mut line = Vec::new(alloc);

@@ -10,7 +10,7 @@ ghost use Rattle.segment_text.specs.Items.{Item, with_feed};
 ghost use Rattle.segment_text.specs.Seen.{head_seen, printer_seen};
 ghost use Rattle.segment_text.specs.Streams.{CanWrite, HasWritten, HasWrittenAtMost};
 
-use crate::head::{Head, Last, PrinterPlace};
+use crate::head::{Head, HeadPrinter, Last};
 use crate::write::{write_config, write_last, write_origin, write_printer, write_start};
 use account::Entry;
 use account_text::write_entry;
@@ -38,7 +38,7 @@ fn put_line(text: &mut Vec<u8>, mut line: Vec<u8>) -> Result<(), AllocError>
 fn put_printers(
     text: &mut Vec<u8>,
     alloc: Global,
-    printers: &[PrinterPlace],
+    printers: &[HeadPrinter],
 ) -> Result<(), AllocError>
     ensures { OnOk result ((is : List Item) → text.old.items ≡ I.text_of is
         → text.new.items ≡ I.text_of (I.with_printers is (map printer_seen printers.now))) }

@@ -5,11 +5,11 @@ ghost use Rattle.program_edge.specs.Openings.{IsUnopened};
 ghost use Rattle.program_edge.specs.declared.opening.StartPart.{StartPart};
 ghost use Rattle.program_edge.specs.declared.opening.StartPart.TheVariants.{Status};
 
+use connection_lobby::{Doorway, Listening, Lobby};
 use log::Log;
 use mio::Waker;
 use program_edge::{Settings, StartFault, StartPart, tell_cause};
 use server_counts::LastHour;
-use server_edge::{Doorway, Listening, Lobby};
 use std::alloc::{AllocError, Global};
 use std::net::{Net, SocketAddr, TcpListener, TcpStream};
 

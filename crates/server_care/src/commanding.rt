@@ -1,7 +1,7 @@
 //! What is asked at the control socket, each command as calls of the spool and the lines of its answer.
 
 use crate::care::Care;
-use control_lines::{AnswerEnd, Command};
+use control_lines::{AnswerEnd, ControlCommand};
 use log::Log;
 use server_house::{HouseLedger, HouseSeat, PrintedLine, rotation_of};
 use shared_spool::Octets;
@@ -171,21 +171,21 @@ impl<R: Files<File = File> + Clock + Log + Wait, E: HouseLedger> Care<'_, '_, R,
     pub fn carry_out(
         &self,
         seat: &mut HouseSeat<E>,
-        command: &Command,
+        command: &ControlCommand,
     ) -> Result<Vec<u8>, AllocError> {
         match command {
-            Command::Status => self.tell_status(),
-            Command::Start { queue } => self.start_queue(seat, queue.as_slice()),
-            Command::Hold { queue } => self.hold_queue(queue.as_slice(), true),
-            Command::Release { queue } => self.hold_queue(queue.as_slice(), false),
-            Command::Remove { queue, whom } => {
+            ControlCommand::Status => self.tell_status(),
+            ControlCommand::Start { queue } => self.start_queue(seat, queue.as_slice()),
+            ControlCommand::Hold { queue } => self.hold_queue(queue.as_slice(), true),
+            ControlCommand::Release { queue } => self.hold_queue(queue.as_slice(), false),
+            ControlCommand::Remove { queue, whom } => {
                 self.remove_jobs(seat, queue.as_slice(), whom.as_slice())
             }
-            Command::Resend { number } => self.resend_job(*number),
-            Command::Rotate => self.rotate_account(seat),
-            Command::Stop { .. } | Command::StopNow => AnswerLines::new(self.hall.alloc).end(
-                AnswerEnd::Done,
-            ),
+            ControlCommand::Resend { number } => self.resend_job(*number),
+            ControlCommand::Rotate => self.rotate_account(seat),
+            ControlCommand::Stop { .. } | ControlCommand::StopNow => AnswerLines::new(
+                self.hall.alloc,
+            ).end(AnswerEnd::Done),
         }
     }
 }

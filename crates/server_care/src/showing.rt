@@ -6,9 +6,9 @@
 
 use crate::board::Board;
 use crate::care::Care;
+use connection_lobby::Visit;
 use log::{Log, warn};
 use server_counts::{Look, ServerCounts};
-use server_edge::Visit;
 use server_house::{HouseLedger, Showing};
 use shared_spool::Sight;
 use spool_snapshot::Pages;

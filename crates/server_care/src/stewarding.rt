@@ -3,7 +3,7 @@
 use crate::care::Care;
 use crate::commanding::AnswerLines;
 use crate::counter::Counter;
-use control_lines::{AnswerEnd, Command, LineFault};
+use control_lines::{AnswerEnd, CommandFault, ControlCommand};
 use control_socket::{AskedLine, Pending};
 use log::{Log, warn};
 use server_house::{HouseLedger, HouseSeat};
@@ -112,18 +112,18 @@ impl<R: Files<File = File> + Clock + Log + Wait, E: HouseLedger> Steward<'_, '_,
     /// Does what was asked at the control socket.
     fn answer(&mut self, asked: AskedLine) {
         let alloc = self.care.hall.alloc;
-        let answer = match Command::parse(alloc, asked.line.as_slice()) {
-            Ok(Command::Stop { seconds }) => {
+        let answer = match ControlCommand::parse(alloc, asked.line.as_slice()) {
+            Ok(ControlCommand::Stop { seconds }) => {
                 self.stop(seconds);
                 return;
             }
-            Ok(Command::StopNow) => {
+            Ok(ControlCommand::StopNow) => {
                 self.stop_now();
                 return;
             }
             Ok(command) => self.care.carry_out(&mut self.seat, &command),
-            Err(LineFault::Unknown) => AnswerLines::new(alloc).end(AnswerEnd::Unknown),
-            Err(LineFault::Memory) => Err(AllocError),
+            Err(CommandFault::Unknown) => AnswerLines::new(alloc).end(AnswerEnd::Unknown),
+            Err(CommandFault::Memory) => Err(AllocError),
         };
         // Without memory for the answer there is none.
         self.counter

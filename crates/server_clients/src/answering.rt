@@ -3,10 +3,11 @@
 ghost use Rattle.std.specs.Int.NonZero.{non_zero_u64_get};
 ghost use Rattle.std.specs.Prelude.{◌≡◌, Some, max, option_map};
 ghost use Rattle.server_clients.specs.Ends.{failure_text};
-ghost use Rattle.server_edge.specs.declared.desk.Serves.TheVariants.{All, NoJobs};
+ghost use Rattle.connection_lobby.specs.declared.desk.Serves.TheVariants.{All, NoJobs};
 
 use crate::served::Served;
 use crate::session_notes::SessionNotes;
+use connection_lobby::{Serves, Visit, keep_asking, send_in_pieces};
 use job_disk::DiskFolder;
 use job_files::JobEnd;
 use kept_requests::Keeping;
@@ -15,7 +16,6 @@ use lpd_commands::{OctetRead, OctetWrite};
 use noted_requests::Noting;
 use program_edge::{Limits, StreamReader, StreamWriter, pass_over};
 use request_session::{Input, Requests, serve_with};
-use server_edge::{Serves, Visit, keep_asking, send_in_pieces};
 use server_folders::JobFolder;
 use server_house::{Hall, HouseLedger, HouseSeat, HouseSpool};
 use server_notes::{ServerEnding, milliseconds_since};

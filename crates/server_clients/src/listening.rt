@@ -6,11 +6,11 @@ ghost use Rattle.program_edge.specs.Openings.{IsUnopened};
 ghost use Rattle.program_edge.specs.declared.opening.StartPart.{StartPart};
 ghost use Rattle.program_edge.specs.declared.opening.StartPart.TheVariants.{Listener};
 
+use connection_lobby::{Doors, Doorway, Listening, Lobby, Visit, places};
 use log::{Log, error, warn};
 use lpd_commands::OctetWrite;
 use mio::Waker;
 use program_edge::{Settings, StartFault, StartPart, descriptor_limit, tell_cause};
-use server_edge::{Doors, Doorway, Listening, Lobby, Visit, places};
 use server_house::{
     AccountRoom, Hall, House, HouseLedger, HouseSeat, HouseSpool, PrintedLine, ServerFault,
     has_turn, print,

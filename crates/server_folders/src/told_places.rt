@@ -2,8 +2,8 @@
 
 use lpd_values::Octets;
 use printer_devices::{OpenedPlace, default_file, place_of};
-use program_edge::{Place, Settings};
-use segment_text::PrinterPlace;
+use program_edge::{PrinterPlace, Settings};
+use segment_text::HeadPrinter;
 use std::alloc::{AllocError, Global};
 
 /// What printers print to, as their places are written, and where what they print begins: what the heads of the account's segments
@@ -12,7 +12,7 @@ pub(crate) fn told_places(
     alloc: Global,
     settings: &Settings<'_>,
     places: &[OpenedPlace],
-) -> Result<Vec<PrinterPlace>, AllocError> {
+) -> Result<Vec<HeadPrinter>, AllocError> {
     let mut told = Vec::new(alloc);
     let mut printer = 0;
     for opened in places {
@@ -21,10 +21,10 @@ pub(crate) fn told_places(
             Some(place) => place.to_string(alloc)?,
             None => {
                 let path = default_file(settings, printer).to_string(alloc)?;
-                Place::File(path.as_str()).to_string(alloc)?
+                PrinterPlace::File(path.as_str()).to_string(alloc)?
             }
         };
-        told.push(PrinterPlace {
+        told.push(HeadPrinter {
             place: Octets::from_vec(place.into_bytes()),
             begins: opened.begins(),
         })?;

@@ -3,7 +3,7 @@
 ghost use Rattle.std.specs.Prelude.{◌≡◌, ◌↔◌, IsTrue};
 ghost use Rattle.server_house.specs.declared.faults.ServerFault.TheVariants.{Memory, Output};
 
-use program_edge::{FaultName, Opening};
+use program_edge::{FailedOpening, FaultName};
 use std::alloc::{AllocError, AllocFailed};
 use thiserror::Error;
 
@@ -15,7 +15,7 @@ pub enum ServerFault {
     Memory,
     /// Something couldn't be opened at its start.
     #[error("{0}")]
-    Opening(Opening),
+    Opening(FailedOpening),
     /// The output can't be written.
     #[error("{}", FaultName::WriteFile)]
     Output,

@@ -8,7 +8,7 @@
 ghost use Rattle.std.specs.Int.NonZero.{non_zero_u64_get};
 ghost use Rattle.std.specs.Prelude.{◌≡◌, ◌↔◌, ◌<◌, ◌*◌, ◌-◌, ◌^◌, IsTrue, min, unwrap_or};
 
-use server_edge::{Peer, PeerStanding, Visit, ask_peer, may_end, unread_octets};
+use connection_lobby::{Peer, PeerStanding, Visit, ask_peer, may_end, unread_octets};
 use server_notes::{milliseconds, milliseconds_between};
 use shared_spool::Waiting;
 use std::alloc::{AllocError, Global};

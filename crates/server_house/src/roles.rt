@@ -4,11 +4,11 @@
 
 ghost use Rattle.std.specs.Prelude.{◌≡◌, ◌↔◌, ◌<◌, IfErr};
 ghost use Rattle.server_house.specs.declared.faults.ServerFault.TheVariants.{Memory};
-ghost use Rattle.server_edge.specs.declared.desk.Serves.TheVariants.{NoJobs};
+ghost use Rattle.connection_lobby.specs.declared.desk.Serves.TheVariants.{NoJobs};
 
 use crate::faults::ServerFault;
 use crate::ledgers::{HouseLedger, HouseSeat, PrintingSeat};
-use server_edge::Serves;
+use connection_lobby::Serves;
 
 /// How many sessions serve connections that bring no job, and those alone.
 pub const NO_JOB_SESSIONS: u32 = 2;

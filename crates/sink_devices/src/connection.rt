@@ -4,7 +4,7 @@
 ghost use Rattle.std.specs.Prelude.{◌≤◌, length, IfOk};
 
 use crate::readiness::{Readiness, wait_for};
-use server_edge::{keep_asking, send_in_pieces};
+use connection_lobby::{keep_asking, send_in_pieces};
 use std::io;
 use std::io::{Error, ErrorKind, Read, Write};
 use std::net::{Net, Shutdown, SocketAddr, TcpStream};

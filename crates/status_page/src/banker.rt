@@ -3,19 +3,19 @@
 use crate::figures::{Grouped, Share};
 use crate::rows::{MOST_ROWS, close_table, column, number_cell, open_rows, open_table, row_head};
 use crate::turns::{FinishingTurn, pages_of};
-use html_page::{Attribute, AttributeName, Page, Tag, class, id};
+use html_page::{Attribute, AttributeName, HtmlPage, Tag, class, id};
 use status_scene::Scene;
 use std::alloc::Global;
 
 /// A part of a bar from the left.
-fn mark(alloc: Global, page: &mut Page, kind: &str, part: u64, whole: u64) {
+fn mark(alloc: Global, page: &mut HtmlPage, kind: &str, part: u64, whole: u64) {
     let width = page.text(format!(in alloc; "width:{}%", Share { part, whole }));
     let style = Attribute::new(AttributeName::Style, width.as_str());
     page.element(Tag::Mark, &[class(kind), style], "");
 }
 
 /// What a job may still need, of what is free in its turn.
-fn bar(alloc: Global, page: &mut Page, turn: &FinishingTurn, pages: u64) {
+fn bar(alloc: Global, page: &mut HtmlPage, turn: &FinishingTurn, pages: u64) {
     let hidden = Attribute::new(AttributeName::AriaHidden, "true");
     page.open(Tag::Cell, &[class("wide")]);
     page.open(Tag::Division, &[class("till"), hidden]);
@@ -26,7 +26,7 @@ fn bar(alloc: Global, page: &mut Page, turn: &FinishingTurn, pages: u64) {
 }
 
 /// The row of a turn by its place, from 0.
-fn row(alloc: Global, page: &mut Page, at: usize, turn: &FinishingTurn, pages: u64) {
+fn row(alloc: Global, page: &mut HtmlPage, at: usize, turn: &FinishingTurn, pages: u64) {
     let job = page.text(format!(in alloc; "{}", turn.job));
     page.open(Tag::Row, &[]);
     number_cell(alloc, page, (at as u64).saturating_add(1));
@@ -41,7 +41,7 @@ fn row(alloc: Global, page: &mut Page, at: usize, turn: &FinishingTurn, pages: u
 }
 
 /// The heads of the table.
-fn heads(page: &mut Page) {
+fn heads(page: &mut HtmlPage) {
     column(page, "n", "turn");
     column(page, "n", "job");
     column(page, "n", "claim");
@@ -52,7 +52,7 @@ fn heads(page: &mut Page) {
 }
 
 /// The turns.
-fn table(alloc: Global, page: &mut Page, turns: &[FinishingTurn], pages: u64) {
+fn table(alloc: Global, page: &mut HtmlPage, turns: &[FinishingTurn], pages: u64) {
     open_table(page, "turns", "the banker’s table");
     heads(page);
     open_rows(page);
@@ -63,7 +63,7 @@ fn table(alloc: Global, page: &mut Page, turns: &[FinishingTurn], pages: u64) {
 }
 
 /// What the table says.
-fn words(alloc: Global, page: &mut Page, scene: &Scene<'_>) {
+fn words(alloc: Global, page: &mut HtmlPage, scene: &Scene<'_>) {
     let free = Grouped(pages_of(scene.spool.claims.free()));
     let pages = Grouped(u64::from(scene.config.pages()));
     let now = page.text(format!(in alloc; " Free now: {free} of {pages} pages."));
@@ -76,7 +76,12 @@ fn words(alloc: Global, page: &mut Page, scene: &Scene<'_>) {
 }
 
 /// The banker's table, folded away.
-pub(crate) fn banker(alloc: Global, page: &mut Page, scene: &Scene<'_>, turns: &[FinishingTurn]) {
+pub(crate) fn banker(
+    alloc: Global,
+    page: &mut HtmlPage,
+    scene: &Scene<'_>,
+    turns: &[FinishingTurn],
+) {
     page.open(Tag::Section, &[class("card"), id("banker")]);
     page.open(Tag::Details, &[]);
     page.open(Tag::Summary, &[]);

@@ -3,14 +3,14 @@
 use crate::figures::{Grouped, Span};
 use crate::standing::is_held;
 use config_values::Queue;
-use html_page::{Attribute, AttributeName, Page, Tag, class, id};
+use html_page::{Attribute, AttributeName, HtmlPage, Tag, class, id};
 use spool_calls::Printer;
 use status_lines::SeenStandstill;
 use status_scene::{Scene, stopped_printers};
 use std::alloc::Global;
 
 /// A printer's card of this class: its number, and words on it.
-fn card(alloc: Global, page: &mut Page, kind: &str, number: u64, words: &str, remark: &str) {
+fn card(alloc: Global, page: &mut HtmlPage, kind: &str, number: u64, words: &str, remark: &str) {
     let name = page.text(format!(in alloc; "printer {number}"));
     page.open(Tag::Item, &[class(kind)]);
     page.element(Tag::B, &[], name.as_str());
@@ -20,7 +20,12 @@ fn card(alloc: Global, page: &mut Page, kind: &str, number: u64, words: &str, re
 }
 
 /// The card of a printer that is stopped, with since when and why, where that is known.
-fn stopped_card(alloc: Global, page: &mut Page, number: u64, standstill: Option<&SeenStandstill>) {
+fn stopped_card(
+    alloc: Global,
+    page: &mut HtmlPage,
+    number: u64,
+    standstill: Option<&SeenStandstill>,
+) {
     let remark = match standstill {
         Some(known) => page.text(format!(in alloc; "{}: {}", Span(known.seconds), known.cause)),
         None => String::new(alloc),
@@ -29,7 +34,13 @@ fn stopped_card(alloc: Global, page: &mut Page, number: u64, standstill: Option<
 }
 
 /// The card of a printer by its place, from 0.
-fn printer_card(alloc: Global, page: &mut Page, scene: &Scene<'_>, at: usize, printer: &Printer) {
+fn printer_card(
+    alloc: Global,
+    page: &mut HtmlPage,
+    scene: &Scene<'_>,
+    at: usize,
+    printer: &Printer,
+) {
     let number = (at as u64).saturating_add(1);
     if printer.stopped {
         let standstill = scene.outside.standstills.get(at);
@@ -46,7 +57,7 @@ fn printer_card(alloc: Global, page: &mut Page, scene: &Scene<'_>, at: usize, pr
 }
 
 /// A queue's name and what is said of it.
-fn title(alloc: Global, page: &mut Page, scene: &Scene<'_>, number: u32, queue: &Queue) {
+fn title(alloc: Global, page: &mut HtmlPage, scene: &Scene<'_>, number: u32, queue: &Queue) {
     let limit = Grouped(u64::from(queue.limit()));
     let remark = page.text(format!(in alloc; "up to {limit} pages a job"));
     page.open(Tag::Heading2, &[]);
@@ -63,7 +74,7 @@ fn title(alloc: Global, page: &mut Page, scene: &Scene<'_>, number: u32, queue: 
 }
 
 /// The queue of this number, with those printers that serve it.
-fn queue_card(alloc: Global, page: &mut Page, scene: &Scene<'_>, number: u32, queue: &Queue) {
+fn queue_card(alloc: Global, page: &mut HtmlPage, scene: &Scene<'_>, number: u32, queue: &Queue) {
     page.open(Tag::Section, &[class("card")]);
     title(alloc, page, scene, number, queue);
     page.open(Tag::List, &[class("printers")]);
@@ -78,7 +89,7 @@ fn queue_card(alloc: Global, page: &mut Page, scene: &Scene<'_>, number: u32, qu
 }
 
 /// The queues, in the order of the configuration.
-pub(crate) fn queues(alloc: Global, page: &mut Page, scene: &Scene<'_>) {
+pub(crate) fn queues(alloc: Global, page: &mut HtmlPage, scene: &Scene<'_>) {
     if stopped_printers(scene.spool.printers.as_slice()) != 0 {
         let hint =
             "A stopped printer runs again once its queue is started: by lpc’s start or a connection with octet 01 and the queue’s name.";

@@ -2,12 +2,12 @@
 
 use crate::figures::{Grouped, Span};
 use crate::style::STYLE;
-use html_page::{Attribute, AttributeName, Page, Tag, class};
+use html_page::{Attribute, AttributeName, HtmlPage, Tag, class};
 use status_scene::{Scene, stopped_printers};
 use std::alloc::Global;
 
 /// What is said of the page itself: it is shown anew every ten seconds.
-fn head(page: &mut Page) {
+fn head(page: &mut HtmlPage) {
     page.open(Tag::Html, &[Attribute::new(AttributeName::Lang, "en")]);
     page.open(Tag::Head, &[]);
     page.meta(&[Attribute::new(AttributeName::Charset, "utf-8")]);
@@ -28,13 +28,13 @@ fn head(page: &mut Page) {
 }
 
 /// A word on the whole server, in colour.
-fn chip(page: &mut Page, kind: &str, text: &str) {
+fn chip(page: &mut HtmlPage, kind: &str, text: &str) {
     let attributes = [class(kind), Attribute::new(AttributeName::Role, "status")];
     page.element(Tag::Paragraph, &attributes, text);
 }
 
 /// Whether each printer runs, or how many don't; and whether the spool takes no jobs any more.
-fn chips(alloc: Global, page: &mut Page, scene: &Scene<'_>) {
+fn chips(alloc: Global, page: &mut HtmlPage, scene: &Scene<'_>) {
     match stopped_printers(scene.spool.printers.as_slice()) {
         0 => chip(page, "chip good", "every printer runs"),
         1 => chip(page, "chip bad", "1 printer stopped"),
@@ -51,7 +51,7 @@ fn chips(alloc: Global, page: &mut Page, scene: &Scene<'_>) {
 }
 
 /// How long the server runs, and how often its account was rotated.
-fn uptime(alloc: Global, page: &mut Page, scene: &Scene<'_>) {
+fn uptime(alloc: Global, page: &mut HtmlPage, scene: &Scene<'_>) {
     let up = Span(scene.outside.uptime);
     let text = match scene.outside.segment.saturating_sub(1) {
         0 => page.text(format!(in alloc; "up {up}")),
@@ -62,12 +62,12 @@ fn uptime(alloc: Global, page: &mut Page, scene: &Scene<'_>) {
 }
 
 /// A link to a place.
-fn link(page: &mut Page, href: &str, text: &str) {
+fn link(page: &mut HtmlPage, href: &str, text: &str) {
     page.element(Tag::A, &[Attribute::new(AttributeName::Href, href)], text);
 }
 
 /// Links to the parts of the page.
-fn navigation(page: &mut Page) {
+fn navigation(page: &mut HtmlPage) {
     let label = Attribute::new(AttributeName::AriaLabel, "parts of this page");
     page.open(Tag::Navigation, &[label]);
     link(page, "#pool", "pool");
@@ -79,7 +79,7 @@ fn navigation(page: &mut Page) {
 }
 
 /// The page's beginning, up to what it is about.
-pub(crate) fn begin(alloc: Global, page: &mut Page, scene: &Scene<'_>) {
+pub(crate) fn begin(alloc: Global, page: &mut HtmlPage, scene: &Scene<'_>) {
     head(page);
     page.end_line();
     page.open(Tag::Body, &[]);
@@ -94,7 +94,7 @@ pub(crate) fn begin(alloc: Global, page: &mut Page, scene: &Scene<'_>) {
 }
 
 /// The page's end.
-pub(crate) fn end(page: &mut Page) {
+pub(crate) fn end(page: &mut HtmlPage) {
     page.close();
     page.open(Tag::Footer, &[]);
     page.words("loads anew every 10 seconds · ");

@@ -12,7 +12,7 @@ use crate::rows::jobs;
 use crate::sessions::sessions;
 use crate::tiles::tiles;
 use crate::turns::turns_of;
-use html_page::Page;
+use html_page::HtmlPage;
 use status_scene::Scene;
 use std::alloc::{AllocError, Global};
 
@@ -23,7 +23,7 @@ pub fn html(alloc: Global, scene: &Scene<'_>) -> Result<String, AllocError>
     ensures { IfOk result (λ text. ∥ IsPage (string_bytes text) ∥₁) }
 {
     let turns = turns_of(alloc, scene)?;
-    let mut page = Page::new(alloc)?;
+    let mut page = HtmlPage::new(alloc)?;
     begin(alloc, &mut page, scene);
     tiles(alloc, &mut page, scene);
     pool(alloc, &mut page, scene);

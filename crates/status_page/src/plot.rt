@@ -1,7 +1,7 @@
 //! Where the pages were over the last hour, as areas.
 
 use crate::figures::Grouped;
-use html_page::{Attribute, AttributeName, Page, Tag, class};
+use html_page::{Attribute, AttributeName, HtmlPage, Tag, class};
 use server_counts::Look;
 use std::alloc::{AllocError, Global};
 
@@ -67,20 +67,20 @@ fn corners(alloc: Global, area: Area, hour: &[Look], total: u64) -> Result<Strin
 }
 
 /// Draws an area.
-fn draw(alloc: Global, page: &mut Page, area: Area, hour: &[Look], total: u64) {
+fn draw(alloc: Global, page: &mut HtmlPage, area: Area, hour: &[Look], total: u64) {
     let corners = page.text(corners(alloc, area, hour, total));
     let points = Attribute::new(AttributeName::Points, corners.as_str());
     page.element(Tag::Polygon, &[class(area.kind()), points], "");
 }
 
 /// A line or more of a drawing.
-pub(crate) fn path(page: &mut Page, kind: &str, drawing: &str) {
+pub(crate) fn path(page: &mut HtmlPage, kind: &str, drawing: &str) {
     let drawing = Attribute::new(AttributeName::Drawing, drawing);
     page.element(Tag::Path, &[class(kind), drawing], "");
 }
 
 /// Opens a plot of this name, and its axis.
-pub(crate) fn open_plot(page: &mut Page, name: &str) {
+pub(crate) fn open_plot(page: &mut HtmlPage, name: &str) {
     let hidden = Attribute::new(AttributeName::AriaHidden, "true");
     page.element(Tag::Heading3, &[], name);
     page.open(Tag::Division, &[class("plot")]);
@@ -88,13 +88,13 @@ pub(crate) fn open_plot(page: &mut Page, name: &str) {
 }
 
 /// Words beside the axis, below those that are there.
-pub(crate) fn tick(page: &mut Page, text: Result<String, AllocError>) {
+pub(crate) fn tick(page: &mut HtmlPage, text: Result<String, AllocError>) {
     let text = page.text(text);
     page.element(Tag::Span, &[], text.as_str());
 }
 
 /// Closes the axis, and opens the canvas of a plot of this name.
-pub(crate) fn open_canvas(page: &mut Page, name: &str) {
+pub(crate) fn open_canvas(page: &mut HtmlPage, name: &str) {
     page.close();
     let attributes = [
         Attribute::new(AttributeName::ViewBox, "0 0 3600 1000"),
@@ -106,7 +106,7 @@ pub(crate) fn open_canvas(page: &mut Page, name: &str) {
 }
 
 /// Closes the canvas and the plot, with its axes.
-pub(crate) fn close_plot(page: &mut Page) {
+pub(crate) fn close_plot(page: &mut HtmlPage) {
     let hidden = Attribute::new(AttributeName::AriaHidden, "true");
     path(
         page,
@@ -129,7 +129,7 @@ pub(crate) fn close_plot(page: &mut Page) {
 const NAME: &str = "Pages in use, the last hour";
 
 /// Where the pages were over the last hour, once there are two looks.
-pub(crate) fn plot(alloc: Global, page: &mut Page, hour: &[Look], total: u64) {
+pub(crate) fn plot(alloc: Global, page: &mut HtmlPage, hour: &[Look], total: u64) {
     if hour.len() < 2 {
         return;
     }

@@ -2,13 +2,13 @@
 
 use crate::figures::{Grouped, Share, Size};
 use crate::plot::plot;
-use html_page::{Attribute, AttributeName, Page, Tag, class, id};
+use html_page::{Attribute, AttributeName, HtmlPage, Tag, class, id};
 use spool_snapshot::Pages;
 use status_scene::Scene;
 use std::alloc::Global;
 
 /// A part of the bar.
-fn bar_part(alloc: Global, page: &mut Page, kind: &str, part: usize, whole: u64) {
+fn bar_part(alloc: Global, page: &mut HtmlPage, kind: &str, part: usize, whole: u64) {
     let part = part as u64;
     let width = page.text(format!(in alloc; "width:{}%", Share { part, whole }));
     let style = Attribute::new(AttributeName::Style, width.as_str());
@@ -16,7 +16,7 @@ fn bar_part(alloc: Global, page: &mut Page, kind: &str, part: usize, whole: u64)
 }
 
 /// Where the pages are, as a bar.
-fn bar(alloc: Global, page: &mut Page, pages: Pages, total: u64) {
+fn bar(alloc: Global, page: &mut HtmlPage, pages: Pages, total: u64) {
     let hidden = Attribute::new(AttributeName::AriaHidden, "true");
     page.open(Tag::Division, &[class("bar"), hidden]);
     bar_part(alloc, page, "out", pages.out, total);
@@ -26,7 +26,7 @@ fn bar(alloc: Global, page: &mut Page, pages: Pages, total: u64) {
 }
 
 /// How many pages are at one place.
-fn legend_item(alloc: Global, page: &mut Page, kind: &str, text: &str, pages: usize) {
+fn legend_item(alloc: Global, page: &mut HtmlPage, kind: &str, text: &str, pages: usize) {
     let number = page.text(format!(in alloc; "{}", Grouped(pages as u64)));
     page.open(Tag::Item, &[class(kind)]);
     page.element(Tag::Span, &[], text);
@@ -35,7 +35,7 @@ fn legend_item(alloc: Global, page: &mut Page, kind: &str, text: &str, pages: us
 }
 
 /// Where the pages are, as a list.
-fn legend(alloc: Global, page: &mut Page, pages: Pages) {
+fn legend(alloc: Global, page: &mut HtmlPage, pages: Pages) {
     page.open(Tag::List, &[class("legend")]);
     legend_item(alloc, page, "out", "at printers", pages.out);
     legend_item(alloc, page, "lent", "lent to sessions", pages.lent);
@@ -45,7 +45,7 @@ fn legend(alloc: Global, page: &mut Page, pages: Pages) {
 }
 
 /// The pool.
-pub(crate) fn pool(alloc: Global, page: &mut Page, scene: &Scene<'_>) {
+pub(crate) fn pool(alloc: Global, page: &mut HtmlPage, scene: &Scene<'_>) {
     let total = u64::from(scene.config.pages());
     let size = Size(u64::from(scene.config.page_size()));
     let remark = page.text(format!(in alloc; "{} pages of {size}", Grouped(total)));

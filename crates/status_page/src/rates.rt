@@ -2,7 +2,7 @@
 
 use crate::figures::{Grouped, Size};
 use crate::plot::{HEIGHT, across, close_plot, down, open_canvas, open_plot, path, tick};
-use html_page::{Attribute, AttributeName, Page, Tag, class, id};
+use html_page::{Attribute, AttributeName, HtmlPage, Tag, class, id};
 use server_counts::Look;
 use status_scene::Scene;
 use std::alloc::{AllocError, Global};
@@ -72,7 +72,7 @@ fn bars(alloc: Global, rate: Rate, hour: &[Look], greatest: u64) -> Result<Strin
 }
 
 /// One plot.
-fn draw(alloc: Global, page: &mut Page, rate: Rate, hour: &[Look]) {
+fn draw(alloc: Global, page: &mut HtmlPage, rate: Rate, hour: &[Look]) {
     let greatest = rate.greatest(hour);
     open_plot(page, rate.title());
     tick(page, rate.words(alloc, greatest));
@@ -85,7 +85,7 @@ fn draw(alloc: Global, page: &mut Page, rate: Rate, hour: &[Look]) {
 }
 
 /// Jobs and octets a minute over the last hour, once there are two looks.
-pub(crate) fn rates(alloc: Global, page: &mut Page, scene: &Scene<'_>) {
+pub(crate) fn rates(alloc: Global, page: &mut HtmlPage, scene: &Scene<'_>) {
     if scene.hour.len() < 2 {
         return;
     }

@@ -3,7 +3,7 @@
 use crate::figures::{Grouped, Size, Span};
 use crate::standing::{JobStanding, standing_of};
 use crate::turns::FinishingTurn;
-use html_page::{Attribute, AttributeName, Page, Tag, class, id};
+use html_page::{Attribute, AttributeName, HtmlPage, Tag, class, id};
 use spool_snapshot::SeenJob;
 use status_scene::Scene;
 use std::alloc::{AllocError, Global};
@@ -12,30 +12,30 @@ use std::alloc::{AllocError, Global};
 pub(crate) const MOST_ROWS: usize = 200;
 
 /// The head of a column.
-pub(crate) fn column(page: &mut Page, kind: &str, text: &str) {
+pub(crate) fn column(page: &mut HtmlPage, kind: &str, text: &str) {
     let scope = Attribute::new(AttributeName::Scope, "col");
     page.element(Tag::HeaderCell, &[scope, class(kind)], text);
 }
 
 /// The head of a row.
-pub(crate) fn row_head(page: &mut Page, text: &str) {
+pub(crate) fn row_head(page: &mut HtmlPage, text: &str) {
     let scope = Attribute::new(AttributeName::Scope, "row");
     page.element(Tag::HeaderCell, &[scope, class("n")], text);
 }
 
 /// A cell with these words.
-pub(crate) fn cell(page: &mut Page, kind: &str, text: &str) {
+pub(crate) fn cell(page: &mut HtmlPage, kind: &str, text: &str) {
     page.element(Tag::Cell, &[class(kind)], text);
 }
 
 /// A cell with a number.
-pub(crate) fn number_cell(alloc: Global, page: &mut Page, n: u64) {
+pub(crate) fn number_cell(alloc: Global, page: &mut HtmlPage, n: u64) {
     let text = page.text(format!(in alloc; "{}", Grouped(n)));
     cell(page, "n", text.as_str());
 }
 
 /// Opens a table that can be scrolled, of this name, with the row of its heads.
-pub(crate) fn open_table(page: &mut Page, kind: &str, name: &str) {
+pub(crate) fn open_table(page: &mut HtmlPage, kind: &str, name: &str) {
     let attributes = [
         class("scroll"),
         Attribute::new(AttributeName::TabIndex, "0"),
@@ -49,7 +49,7 @@ pub(crate) fn open_table(page: &mut Page, kind: &str, name: &str) {
 }
 
 /// Closes the row of a table's heads, and opens its rows.
-pub(crate) fn open_rows(page: &mut Page) {
+pub(crate) fn open_rows(page: &mut HtmlPage) {
     page.close();
     page.close();
     page.end_line();
@@ -57,7 +57,7 @@ pub(crate) fn open_rows(page: &mut Page) {
 }
 
 /// Closes a table, with a row that tells how many more there are than are listed, of this many columns.
-pub(crate) fn close_table(alloc: Global, page: &mut Page, rows: usize, columns: &str) {
+pub(crate) fn close_table(alloc: Global, page: &mut HtmlPage, rows: usize, columns: &str) {
     if rows > MOST_ROWS {
         let text = page.text(format!(in alloc; "and {} more", Grouped((rows - MOST_ROWS) as u64)));
         let span = Attribute::new(AttributeName::ColSpan, columns);
@@ -71,7 +71,7 @@ pub(crate) fn close_table(alloc: Global, page: &mut Page, rows: usize, columns: 
 }
 
 /// Who sent a job, as its control file says it.
-fn sender(page: &mut Page, job: &SeenJob) {
+fn sender(page: &mut HtmlPage, job: &SeenJob) {
     if job.user.as_slice().is_empty() {
         cell(page, "who soft", "not told yet");
         return;
@@ -126,7 +126,7 @@ fn remark_of(alloc: Global, standing: JobStanding) -> Result<String, AllocError>
 }
 
 /// What a job does or waits for.
-fn state(alloc: Global, page: &mut Page, standing: JobStanding) {
+fn state(alloc: Global, page: &mut HtmlPage, standing: JobStanding) {
     let (kind, word) = state_of(standing);
     let remark = page.text(remark_of(alloc, standing));
     page.open(Tag::Cell, &[class(kind)]);
@@ -136,7 +136,7 @@ fn state(alloc: Global, page: &mut Page, standing: JobStanding) {
 }
 
 /// For how long a job is held, where that is known.
-fn age(alloc: Global, page: &mut Page, age: Option<u64>) {
+fn age(alloc: Global, page: &mut HtmlPage, age: Option<u64>) {
     match age {
         Some(seconds) => {
             let text = page.text(format!(in alloc; "{}", Span(seconds)));
@@ -149,7 +149,7 @@ fn age(alloc: Global, page: &mut Page, age: Option<u64>) {
 /// The row of the job at a place.
 fn row(
     alloc: Global,
-    page: &mut Page,
+    page: &mut HtmlPage,
     scene: &Scene<'_>,
     turns: &[FinishingTurn],
     at: usize,
@@ -175,7 +175,7 @@ fn row(
 }
 
 /// The heads of the table.
-fn heads(page: &mut Page) {
+fn heads(page: &mut HtmlPage) {
     column(page, "n", "job");
     column(page, "", "from");
     column(page, "", "queue");
@@ -186,7 +186,7 @@ fn heads(page: &mut Page) {
 }
 
 /// The held jobs, in order of acceptance.
-pub(crate) fn jobs(alloc: Global, page: &mut Page, scene: &Scene<'_>, turns: &[FinishingTurn]) {
+pub(crate) fn jobs(alloc: Global, page: &mut HtmlPage, scene: &Scene<'_>, turns: &[FinishingTurn]) {
     let held = scene.spool.jobs.as_slice();
     let label = Attribute::new(AttributeName::AriaLabelledBy, "jobs");
     page.open(Tag::Section, &[class("card"), label]);

@@ -2,7 +2,7 @@
 
 use crate::figures::Span;
 use crate::rows::{MOST_ROWS, cell, close_table, column, open_rows, open_table};
-use html_page::{Attribute, AttributeName, Page, Tag, class, id};
+use html_page::{Attribute, AttributeName, HtmlPage, Tag, class, id};
 use status_lines::SeenSession;
 use status_scene::Scene;
 use std::alloc::Global;
@@ -11,7 +11,7 @@ use std::alloc::Global;
 const SILENT_SECONDS: u64 = 60;
 
 /// The row of a session.
-fn row(alloc: Global, page: &mut Page, session: &SeenSession) {
+fn row(alloc: Global, page: &mut HtmlPage, session: &SeenSession) {
     let peer = page.text(format!(in alloc; "{}", session.peer));
     let silent = page.text(format!(in alloc; "{}", Span(session.silent)));
     let kind = if session.silent < SILENT_SECONDS {
@@ -32,7 +32,7 @@ fn row(alloc: Global, page: &mut Page, session: &SeenSession) {
 }
 
 /// The sessions that serve a connection.
-pub(crate) fn sessions(alloc: Global, page: &mut Page, scene: &Scene<'_>) {
+pub(crate) fn sessions(alloc: Global, page: &mut HtmlPage, scene: &Scene<'_>) {
     let sessions = scene.outside.sessions;
     let label = Attribute::new(AttributeName::AriaLabelledBy, "sessions");
     page.open(Tag::Section, &[class("card"), label]);

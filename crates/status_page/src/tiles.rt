@@ -1,12 +1,12 @@
 //! Numbers in large digits.
 
 use crate::figures::{Grouped, Share};
-use html_page::{Page, Tag, class};
+use html_page::{HtmlPage, Tag, class};
 use status_scene::{JobStage, Scene, jobs_at};
 use std::alloc::Global;
 
 /// A value, with what it is of and a remark.
-fn tile(page: &mut Page, term: &str, value: &str, remark: &str) {
+fn tile(page: &mut HtmlPage, term: &str, value: &str, remark: &str) {
     page.open(Tag::Division, &[]);
     page.element(Tag::Term, &[], term);
     page.open(Tag::Value, &[]);
@@ -17,13 +17,13 @@ fn tile(page: &mut Page, term: &str, value: &str, remark: &str) {
 }
 
 /// A number, with what it counts.
-fn count(alloc: Global, page: &mut Page, term: &str, n: u64) {
+fn count(alloc: Global, page: &mut HtmlPage, term: &str, n: u64) {
     let text = page.text(format!(in alloc; "{}", Grouped(n)));
     tile(page, term, text.as_str(), "");
 }
 
 /// How many jobs are held, and how far they are.
-fn jobs(alloc: Global, page: &mut Page, scene: &Scene<'_>) {
+fn jobs(alloc: Global, page: &mut HtmlPage, scene: &Scene<'_>) {
     let held = scene.spool.jobs.as_slice();
     let number = page.text(format!(in alloc; "{}", Grouped(held.len() as u64)));
     let most = page.text(format!(in alloc; " of {}", Grouped(u64::from(scene.config.max_jobs()))));
@@ -43,7 +43,7 @@ fn jobs(alloc: Global, page: &mut Page, scene: &Scene<'_>) {
 }
 
 /// What was done since the server began.
-fn totals(alloc: Global, page: &mut Page, scene: &Scene<'_>) {
+fn totals(alloc: Global, page: &mut HtmlPage, scene: &Scene<'_>) {
     let counts = scene.counts;
     count(alloc, page, "received so far", counts.received);
     count(alloc, page, "printed so far", counts.done);
@@ -53,7 +53,7 @@ fn totals(alloc: Global, page: &mut Page, scene: &Scene<'_>) {
 }
 
 /// How full the account is, who is connected, and what is kept in the folder.
-fn edge(alloc: Global, page: &mut Page, scene: &Scene<'_>) {
+fn edge(alloc: Global, page: &mut HtmlPage, scene: &Scene<'_>) {
     let (part, whole) = (scene.spool.reserved, scene.config.account());
     let share = page.text(format!(in alloc; "{}", Share { part, whole }));
     tile(page, "of the account", share.as_str(), "%");
@@ -69,7 +69,7 @@ fn edge(alloc: Global, page: &mut Page, scene: &Scene<'_>) {
 }
 
 /// Numbers in large digits.
-pub(crate) fn tiles(alloc: Global, page: &mut Page, scene: &Scene<'_>) {
+pub(crate) fn tiles(alloc: Global, page: &mut HtmlPage, scene: &Scene<'_>) {
     page.open(Tag::Terms, &[class("tiles")]);
     jobs(alloc, page, scene);
     totals(alloc, page, scene);

@@ -9,7 +9,7 @@ use page_chain::ChainError;
 use page_pool::Pool;
 use queues::Book;
 use std::test::Fail;
-use word_actions::Fault;
+use word_actions::ActionFault;
 
 /// Refusals as they are printed, with their numbers and the octets that are sent.
 const REFUSALS: &str = "\
@@ -49,20 +49,29 @@ fn texts_of_faults(rt: HostRuntime) {
     let text = format!(in alloc; "{taken} {full}").expect(&rt, "memory");
     expect(&rt, b"chains", text.as_bytes(), b"7 NameTaken 8 FilesFull");
     let text = String::from_str(alloc, "9=file:x").expect(&rt, "memory");
-    let faults: [(Fault, &[u8]); 9] = [
-        (Fault::Send(SendFault::Refused(1)), b"fault 60 Refused 1"),
-        (Fault::Send(SendFault::Cut), b"fault 61 Cut"),
-        (Fault::Send(SendFault::ReadFault), b"fault 62 ReadFault"),
-        (Fault::Send(SendFault::WriteFault), b"fault 63 WriteFault"),
-        (Fault::Send(SendFault::Memory), b"fault 12 Memory"),
-        (Fault::Memory, b"fault 12 Memory"),
-        (Fault::Network, b"fault 72 Network"),
+    let faults: [(ActionFault, &[u8]); 9] = [
         (
-            Fault::Run(lpd_script::Fault::WriteFile),
+            ActionFault::Send(SendFault::Refused(1)),
+            b"fault 60 Refused 1",
+        ),
+        (ActionFault::Send(SendFault::Cut), b"fault 61 Cut"),
+        (
+            ActionFault::Send(SendFault::ReadFault),
+            b"fault 62 ReadFault",
+        ),
+        (
+            ActionFault::Send(SendFault::WriteFault),
+            b"fault 63 WriteFault",
+        ),
+        (ActionFault::Send(SendFault::Memory), b"fault 12 Memory"),
+        (ActionFault::Memory, b"fault 12 Memory"),
+        (ActionFault::Network, b"fault 72 Network"),
+        (
+            ActionFault::Run(lpd_script::Fault::WriteFile),
             b"fault 73 WriteFile",
         ),
         (
-            Fault::Printer { number: 9, text },
+            ActionFault::Printer { number: 9, text },
             b"printer 9 isn't there: 9=file:x",
         ),
     ];

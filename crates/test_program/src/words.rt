@@ -240,8 +240,8 @@ const TOLD: [(&str, &[u8], &[u8]); 53] = [
          --printer,4294967295=socket://255.255.255.255:1,--printer,10=file:/dev/lp0",
         b"",
         b"serves a 1 127.0.0.1 . 8 None None None None None 5 5 1000 false [] [] None \
-          [PrinterPlace { printer: 2, place: Folder(\"jobs/a=b\") }, PrinterPlace { printer: 1, place: Socket(10.0.0.9:9100) }, \
-          PrinterPlace { printer: 4294967295, place: Socket(255.255.255.255:1) }, PrinterPlace { printer: 10, place: File(\"/dev/lp0\") }] \
+          [PlacedPrinter { printer: 2, place: Folder(\"jobs/a=b\") }, PlacedPrinter { printer: 1, place: Socket(10.0.0.9:9100) }, \
+          PlacedPrinter { printer: 4294967295, place: Socket(255.255.255.255:1) }, PlacedPrinter { printer: 10, place: File(\"/dev/lp0\") }] \
           Some(10) Some(4294967295) Some(1) None None Plain false \
           None None\n",
     ),

@@ -1,7 +1,7 @@
 //! Command lines, subcommand lines, file names, texts of control files, and what is said over a control socket.
 
 use control_file::Control;
-use control_lines::{Escaped, LineFault, read_answer};
+use control_lines::{CommandFault, Escaped, read_answer};
 use lpd_commands::{FileName, Octets, Refusal, parse_command, parse_sub, write_command, write_sub};
 use std::alloc::{AllocError, Global};
 use test_kit::rows::{octets, push_read};
@@ -55,8 +55,8 @@ pub fn control(told: &mut String, alloc: Global, asked: &str) -> Result<(), Allo
 }
 
 /// The command of a line over a control socket, as it is written.
-fn read_control_line(alloc: Global, line: &[u8]) -> Result<Octets, LineFault> {
-    Ok(control_lines::Command::parse(alloc, line)?.line(alloc)?)
+fn read_control_line(alloc: Global, line: &[u8]) -> Result<Octets, CommandFault> {
+    Ok(control_lines::ControlCommand::parse(alloc, line)?.line(alloc)?)
 }
 
 /// Appends the command of a line over a control socket, as it is written, or why there is none.
@@ -64,8 +64,8 @@ pub fn control_line(told: &mut String, alloc: Global, asked: &str) -> Result<(),
     let line = octets(alloc, asked)?;
     match read_control_line(alloc, line.as_slice()) {
         Ok(octets) => write!(told, "{}", octets.as_slice().escape_ascii()),
-        Err(LineFault::Unknown) => told.push_str("unknown"),
-        Err(LineFault::Memory) => told.push_str("memory"),
+        Err(CommandFault::Unknown) => told.push_str("unknown"),
+        Err(CommandFault::Memory) => told.push_str("memory"),
     }
 }
 

@@ -1,6 +1,6 @@
 //! What is asked of the page that shows a server's status, how strangers' octets stand in it, and what is counted for it.
 
-use html_page::{Page, Tag, class};
+use html_page::{HtmlPage, Tag, class};
 use html_text::{Form, push_octets};
 use server_counts::{Histogram, LastHour, Look};
 use status_request::{Method, RequestReading, RequestRefusal, Resource, judge};
@@ -51,7 +51,7 @@ pub fn request(told: &mut String, alloc: Global, asked: &str) -> Result<(), Allo
 pub fn marked(told: &mut String, alloc: Global, asked: &str) -> Result<(), AllocError> {
     let shown = octets(alloc, asked)?;
     let text = String::from_utf8_lossy(alloc, shown.as_slice())?;
-    let mut page = Page::new(alloc)?;
+    let mut page = HtmlPage::new(alloc)?;
     page.open(Tag::Paragraph, &[class(text.as_str())]);
     page.octets(shown.as_slice());
     page.open(Tag::B, &[]);

@@ -3,8 +3,8 @@ use Rattle.std.specs.Prelude.{◌≡◌, ◌++◌, ◌∷◌, ℕ, List, [], Opt
 use Rattle.std.specs.Borrow.{Bor}
 use Rattle.control_lines.specs.Answers.{HasNoEnd, IsEnded}
 use Rattle.control_lines.specs.Commands.{written}
-use Rattle.control_lines.specs.declared.command.Command.{Command}
-use Rattle.control_lines.specs.declared.command.Command.TheVariants.{Stop, StopNow}
+use Rattle.control_lines.specs.declared.command.ControlCommand.{ControlCommand}
+use Rattle.control_lines.specs.declared.command.ControlCommand.TheVariants.{Stop, StopNow}
 use Rattle.lpd_commands.specs.Ends.{Writes, WritesSome, one_more}
 use Rattle.lpd_script.specs.Streams.{HasGivenAll}
 use Rattle.word_actions.specs.declared.controlling.ControlFault.{ControlFault}
@@ -59,7 +59,7 @@ IfUnprinted (Err Memory) P = P
 IfUnprinted _ P = Unit {0}
 
 -- the line of the command was written
-abbrev pub IsSent : Command → (was now : Option (List ℕ)) → Type 0
+abbrev pub IsSent : ControlCommand → (was now : Option (List ℕ)) → Type 0
 IsSent command was now = Writes was now (written command ++ 10 ∷ [])
 
 -- a reader gave a whole answer that ends with this line, and what comes before the line was written
@@ -83,7 +83,7 @@ write_faults n (Err WriteFile) = one_more n
 write_faults n _ = n
 
 -- for how many seconds a server may say nothing, where that is limited: a stop is answered at the server's end
-abbrev pub patience_seconds : Command → Option ℕ
+abbrev pub patience_seconds : ControlCommand → Option ℕ
 patience_seconds (Stop seconds) = None
 patience_seconds StopNow = None
 patience_seconds _ = Some 10

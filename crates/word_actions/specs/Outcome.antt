@@ -1,15 +1,15 @@
 -- What comes of words.
 use Rattle.std.specs.Prelude.{ℕ, List}
 use Rattle.std.specs.Borrow.{Bor}
-use Rattle.word_actions.specs.declared.running.Outcome.{Outcome}
-use Rattle.word_actions.specs.declared.running.Outcome.TheVariants.{Ended, Serve, Control, Audit, Usage}
+use Rattle.word_actions.specs.declared.running.RunOutcome.{RunOutcome}
+use Rattle.word_actions.specs.declared.running.RunOutcome.TheVariants.{Ended, Serve, Control, Audit, Usage}
 use Rattle.program_words.specs.declared.control_request.ControlRequest.{ControlRequest}
 use Rattle.program_words.specs.declared.words.Ask.{Ask}
 use Rattle.program_words.specs.declared.words.Ask.TheVariants as ask
 use Rattle.program_edge.specs.declared.settings.Settings.{Settings}
 
 -- a fact of the exit status, if the program ends
-abbrev pub IfEnded : Outcome → (ℕ → Type 0) → Type 0
+abbrev pub IfEnded : RunOutcome → (ℕ → Type 0) → Type 0
 IfEnded (Ended status) P = P status
 IfEnded (Serve config settings) P = Unit {0}
 IfEnded (Control request) P = Unit {0}
@@ -17,7 +17,7 @@ IfEnded (Audit request) P = Unit {0}
 IfEnded (Usage request) P = Unit {0}
 
 -- a fact of what is to be served and how, if the program serves
-abbrev pub IfServes : Outcome → (Bor (List ℕ) → Settings → Type 0) → Type 0
+abbrev pub IfServes : RunOutcome → (Bor (List ℕ) → Settings → Type 0) → Type 0
 IfServes (Ended status) P = Unit {0}
 IfServes (Serve config settings) P = P config settings
 IfServes (Control request) P = Unit {0}
@@ -25,7 +25,7 @@ IfServes (Audit request) P = Unit {0}
 IfServes (Usage request) P = Unit {0}
 
 -- a fact of the command that is to be sent, if the program sends one
-abbrev pub IfControls : Outcome → (ControlRequest → Type 0) → Type 0
+abbrev pub IfControls : RunOutcome → (ControlRequest → Type 0) → Type 0
 IfControls (Ended status) P = Unit {0}
 IfControls (Serve config settings) P = Unit {0}
 IfControls (Control request) P = P request
@@ -33,7 +33,7 @@ IfControls (Audit request) P = Unit {0}
 IfControls (Usage request) P = Unit {0}
 
 -- a fact of what is asked of an account, if anything is
-abbrev pub IfReports : Outcome → (Ask → Type 0) → Type 0
+abbrev pub IfReports : RunOutcome → (Ask → Type 0) → Type 0
 IfReports (Ended status) P = Unit {0}
 IfReports (Serve config settings) P = Unit {0}
 IfReports (Control request) P = Unit {0}

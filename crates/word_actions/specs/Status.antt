@@ -3,8 +3,8 @@ use Rattle.std.specs.Prelude.{ℕ, Result, Ok, Err}
 use Rattle.lpr_client.specs.declared.send.SendFault.{SendFault}
 use Rattle.lpr_client.specs.declared.send.SendFault.TheVariants as send
 use Rattle.lpd_script.specs.Status as script
-use Rattle.word_actions.specs.declared.fault.Fault.{Fault}
-use Rattle.word_actions.specs.declared.fault.Fault.TheVariants.{Memory, Run, Network, Send, Printer, Folder, Socket}
+use Rattle.word_actions.specs.declared.fault.ActionFault.{ActionFault}
+use Rattle.word_actions.specs.declared.fault.ActionFault.TheVariants.{Memory, Run, Network, Send, Printer, Folder, Socket}
 
 -- 4 for memory, 5 for what the server or its connection did
 abbrev pub send_status : SendFault → ℕ
@@ -16,7 +16,7 @@ send_status send.Memory = 4
 
 -- 1 for a printer that isn't there, 2 for the configuration, 3 for the script, 4 for memory, files and the network, 5 for
 -- a job that wasn't taken
-abbrev pub status_of : Fault → ℕ
+abbrev pub status_of : ActionFault → ℕ
 status_of Memory = 4
 status_of (Run fault) = script.status_of fault
 status_of Network = 4
@@ -26,6 +26,6 @@ status_of (Folder path) = 4
 status_of (Socket path) = 4
 
 -- 0 for what was done
-abbrev pub end_status : Result (Unit {0}) Fault → ℕ
+abbrev pub end_status : Result (Unit {0}) ActionFault → ℕ
 end_status (Ok done) = 0
 end_status (Err fault) = status_of fault

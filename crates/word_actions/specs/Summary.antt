@@ -4,7 +4,7 @@ use Rattle.std.specs.Fmt.{decimal}
 use Rattle.config_values.specs.Config as C
 use Rattle.word_actions.specs.Places.{place_lines}
 use Rattle.word_actions.specs.Sizes.{size_lines}
-use Rattle.program_edge.specs.declared.places.PrinterPlace.{PrinterPlace}
+use Rattle.program_edge.specs.declared.places.PlacedPrinter.{PlacedPrinter}
 
 abbrev pub summary_line : (pages page_size queues printers : ℕ) → List ℕ
 summary_line pages page_size queues printers =
@@ -20,5 +20,5 @@ spool_text c sizes =
     if sizes then summary_text c ++ size_lines c (length c.queues) else summary_text c
 
 -- the same, and where anything is said of printers, a line for each printer
-abbrev pub check_text : C.Config → Bool → List PrinterPlace → List ℕ
+abbrev pub check_text : C.Config → Bool → List PlacedPrinter → List ℕ
 check_text c sizes printers = spool_text c sizes ++ place_lines printers (C.printer_count c)

@@ -4,9 +4,9 @@ ghost use Rattle.std.specs.Prelude.{◌≡◌, ◌≢◌, IfErr};
 ghost use Rattle.word_actions.specs.Order.{write_faults};
 ghost use Rattle.word_actions.specs.Asking.{ComesTo, IsPut, Starts, Tells, sent_line};
 ghost use Rattle.word_actions.specs.Status.{status_of};
-ghost use Rattle.word_actions.specs.declared.fault.Fault.TheVariants.{Network};
+ghost use Rattle.word_actions.specs.declared.fault.ActionFault.TheVariants.{Network};
 
-use crate::fault::Fault;
+use crate::fault::ActionFault;
 use crate::files::print;
 use log::Log;
 use lpd_commands::{Command, OctetRead, OctetWrite, write_command};
@@ -34,14 +34,14 @@ fn both_ends<R: Net>(rt: &R, address: SocketAddr) -> io::Result<(R::Stream, R::S
 pub(crate) fn connect<R: Net + Log>(
     rt: &R,
     address: SocketAddr,
-) -> Result<(R::Stream, R::Stream), Fault>
+) -> Result<(R::Stream, R::Stream), ActionFault>
     ensures { IfErr result (λ fault. fault ≡ Network) }
 {
     match both_ends(rt, address) {
         Ok(ends) => Ok(ends),
         Err(error) => {
             tell_cause(rt, &address, Some(error));
-            Err(Fault::Network)
+            Err(ActionFault::Network)
         }
     }
 }
@@ -52,7 +52,7 @@ fn start_printers<R: OctetRead, W: OctetWrite, O: OctetWrite>(
     writer: &mut W,
     line: &[u8],
     output: &mut O,
-) -> Result<(), Fault>
+) -> Result<(), ActionFault>
     ensures put { IsPut line.now result (W.written writer.old) (W.written writer.new) }
     ensures starts { Starts result (R.left reader.old) (R.left reader.new)
         (O.written output.old) (O.written output.new) }
@@ -60,7 +60,7 @@ fn start_printers<R: OctetRead, W: OctetWrite, O: OctetWrite>(
     ensures fault { IfErr result (λ fault. status_of fault ≢ 1) }
 {
     if let Err(fault) = ask_silently(reader, writer, line) {
-        return Err(Fault::Send(fault));
+        return Err(ActionFault::Send(fault));
     }
     print(output, b"started\n")?;
     Ok(())
@@ -72,7 +72,7 @@ fn print_answer<R: OctetRead, W: OctetWrite, O: OctetWrite>(
     writer: &mut W,
     line: &[u8],
     output: &mut O,
-) -> Result<(), Fault>
+) -> Result<(), ActionFault>
     ensures put { IsPut line.now result (W.written writer.old) (W.written writer.new) }
     ensures tells { Tells result (R.left reader.old) (R.left reader.new)
         (O.written output.old) (O.written output.new) }
@@ -81,8 +81,8 @@ fn print_answer<R: OctetRead, W: OctetWrite, O: OctetWrite>(
 {
     match ask(reader, writer, line, output) {
         Ok(()) => Ok(()),
-        Err(AskFault::Server(fault)) => Err(Fault::Send(fault)),
-        Err(AskFault::Output) => Err(Fault::Run(lpd_script::Fault::WriteFile)),
+        Err(AskFault::Server(fault)) => Err(ActionFault::Send(fault)),
+        Err(AskFault::Output) => Err(ActionFault::Run(lpd_script::Fault::WriteFile)),
     }
 }
 
@@ -99,7 +99,7 @@ pub fn ask_queue<R: OctetRead, W: OctetWrite, O: OctetWrite>(
     writer: &mut W,
     command: &Command,
     output: &mut O,
-) -> Result<(), Fault>
+) -> Result<(), ActionFault>
     ensures put { IsPut (sent_line command.now) result (W.written writer.old)
         (W.written writer.new) }
     ensures comes { ComesTo command.now result (R.left reader.old) (R.left reader.new)
@@ -123,7 +123,7 @@ pub(crate) fn ask_question<R: Net + Log, O: OctetWrite>(
     rt: &R,
     question: &QueueQuestion,
     output: &mut O,
-) -> Result<(), Fault>
+) -> Result<(), ActionFault>
     ensures write_fault { O.faults output.new ≡ write_faults (O.faults output.old) result }
     ensures fault { IfErr result (λ fault. status_of fault ≢ 1) }
 {

@@ -10,7 +10,7 @@ ghost use Rattle.word_actions.specs.Controlling.{patience_seconds, result_status
 ghost use Rattle.word_actions.specs.declared.controlling.ControlFault.TheVariants.{Memory, Network, WriteFile};
 ghost use Rattle.program_edge.specs.Told.{IsTold};
 
-use control_lines::{AnswerEnd, Command, read_answer};
+use control_lines::{AnswerEnd, ControlCommand, read_answer};
 use log::Log;
 use lpd_commands::{OctetRead, OctetWrite, write_all};
 use lpd_script::read_all;
@@ -159,11 +159,11 @@ pub fn ask_server<'a, R: OctetRead, W: OctetWrite, O: OctetWrite>(
 
 /// For how many seconds a server may say nothing once it has this command; none where it may take as long as it likes, since it
 /// answers a stop at its own end.
-fn patience(command: &Command) -> Option<u64>
+fn patience(command: &ControlCommand) -> Option<u64>
     ensures { result ≡ patience_seconds command.now }
 {
     match command {
-        Command::Stop { .. } | Command::StopNow => None,
+        ControlCommand::Stop { .. } | ControlCommand::StopNow => None,
         _ => Some(PATIENCE_SECONDS),
     }
 }

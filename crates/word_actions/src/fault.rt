@@ -2,7 +2,7 @@
 
 ghost use Rattle.std.specs.Prelude.{◌≡◌};
 ghost use Rattle.word_actions.specs.Status.{status_of};
-ghost use Rattle.word_actions.specs.declared.fault.Fault.TheVariants.{Memory, Run};
+ghost use Rattle.word_actions.specs.declared.fault.ActionFault.TheVariants.{Memory, Run};
 
 use lpr_client::SendFault;
 use program_edge::FaultName;
@@ -11,7 +11,7 @@ use thiserror::Error;
 
 /// Why the program stopped.
 #[derive(Debug, PartialEq, Eq, Drop, Error)]
-pub enum Fault {
+pub enum ActionFault {
     /// Memory was refused.
     #[error("{}", FaultName::Memory)]
     Memory,
@@ -35,34 +35,37 @@ pub enum Fault {
     Socket(String),
 }
 
-impl From<AllocError> for Fault {
+impl From<AllocError> for ActionFault {
     ghost from_gives = { λ _ fault. fault ≡ Memory };
 
-    fn from(_error: AllocError) -> Fault {
-        Fault::Memory
+    fn from(_error: AllocError) -> ActionFault {
+        ActionFault::Memory
     }
 }
 
-impl From<lpd_script::Fault> for Fault {
+impl From<lpd_script::Fault> for ActionFault {
     ghost from_gives = { λ cause fault. fault ≡ Run cause };
 
-    fn from(fault: lpd_script::Fault) -> Fault {
-        Fault::Run(fault)
+    fn from(fault: lpd_script::Fault) -> ActionFault {
+        ActionFault::Run(fault)
     }
 }
 
-impl Fault {
+impl ActionFault {
     /// The exit status: 1 for a printer that isn't there, 2 for the configuration, 3 for the script,
     /// 5 for a job that wasn't taken, 4 for the rest.
     pub fn status(&self) -> u8
         ensures { result ≡ status_of self.now }
     {
         match self {
-            Fault::Printer { .. } => 1,
-            Fault::Run(fault) => fault.status(),
-            Fault::Memory | Fault::Network | Fault::Folder(_) | Fault::Socket(_) => 4,
-            Fault::Send(SendFault::Memory) => 4,
-            Fault::Send(_) => 5,
+            ActionFault::Printer { .. } => 1,
+            ActionFault::Run(fault) => fault.status(),
+            ActionFault::Memory
+            | ActionFault::Network
+            | ActionFault::Folder(_)
+            | ActionFault::Socket(_) => 4,
+            ActionFault::Send(SendFault::Memory) => 4,
+            ActionFault::Send(_) => 5,
         }
     }
 }

@@ -4,7 +4,7 @@ ghost use Rattle.std.specs.Prelude.{◌≡◌, ◌≢◌, OnOk, IfOk, IfErr, Err
 ghost use Rattle.std.specs.Prelude.{string_bytes};
 ghost use Rattle.lpd_commands.specs.Ends.{Writes};
 ghost use Rattle.lpd_script.specs.declared.fault.Fault.TheVariants.{ReadFile, WriteFile};
-ghost use Rattle.word_actions.specs.declared.fault.Fault.TheVariants.{Run};
+ghost use Rattle.word_actions.specs.declared.fault.ActionFault.TheVariants.{Run};
 ghost use Rattle.word_actions.specs.Causes.{IsRunFault};
 ghost use Rattle.word_actions.specs.Order.{Checked, IsConfigFault, IsMissed, IsSpoolFault, ReadsConfig};
 ghost use Rattle.word_actions.specs.Order.{StopsAt, write_faults};
@@ -14,29 +14,29 @@ ghost use Rattle.word_actions.specs.Summary.{check_text, spool_text, summary_lin
 ghost use Rattle.spool_config.specs.Answers.{fault_of};
 ghost use Rattle.spool_config.specs.declared.settings.ConfigFault.{ConfigFault};
 
-use crate::fault::Fault;
+use crate::fault::ActionFault;
 use crate::places::{check_printers, place_lines};
 use config_values::Config;
 use lpd_commands::{OctetRead, OctetWrite, write_all};
 use lpd_script::{read_all, run_parts};
-use program_edge::PrinterPlace;
+use program_edge::PlacedPrinter;
 use std::alloc::{AllocError, Global};
 
 /// Where fewer jobs than these fit into the account, the line says that they are few.
 const FEW: u64 = 50;
 
 /// Writes a text to the output.
-pub(crate) fn print<W: OctetWrite>(output: &mut W, text: &[u8]) -> Result<(), Fault>
+pub(crate) fn print<W: OctetWrite>(output: &mut W, text: &[u8]) -> Result<(), ActionFault>
     ensures written { OnOk result (Writes (W.written output.old) (W.written output.new) text.now) }
     ensures write_fault { W.faults output.new ≡ write_faults (W.faults output.old) result }
     ensures fault { IfErr result (λ fault. fault ≡ Run WriteFile) }
 {
-    write_all(output, text).or(Err(Fault::Run(lpd_script::Fault::WriteFile)))
+    write_all(output, text).or(Err(ActionFault::Run(lpd_script::Fault::WriteFile)))
 }
 
 /// Reads a configuration to its end. Answers the first fault: `ReadFile`, a fault of the
 /// configuration, and `Memory`.
-pub fn read_config<I: OctetRead>(alloc: Global, input: &mut I) -> Result<Config, Fault>
+pub fn read_config<I: OctetRead>(alloc: Global, input: &mut I) -> Result<Config, ActionFault>
     ensures config { IfOk result (ReadsConfig (I.left input.old) (I.left input.new)) }
     ensures read_fault { I.faults input.new ≢ I.faults input.old → result ≡ Err (Run ReadFile) }
     ensures fault { IfErr result (IsConfigFault (I.left input.old) (I.left input.new)) }
@@ -46,7 +46,7 @@ pub fn read_config<I: OctetRead>(alloc: Global, input: &mut I) -> Result<Config,
     let text = read_all(alloc, input)?;
     match spool_config::read(alloc, text.as_slice()) {
         Ok(config) => Ok(config),
-        Err(fault) => Err(Fault::Run(lpd_script::Fault::Config(fault))),
+        Err(fault) => Err(ActionFault::Run(lpd_script::Fault::Config(fault))),
     }
 }
 
@@ -55,8 +55,8 @@ pub fn read_config<I: OctetRead>(alloc: Global, input: &mut I) -> Result<Config,
 pub fn read_spool<I: OctetRead>(
     alloc: Global,
     input: &mut I,
-    printers: &[PrinterPlace],
-) -> Result<Config, Fault>
+    printers: &[PlacedPrinter],
+) -> Result<Config, ActionFault>
     ensures config { IfOk result (λ config. ReadsConfig (I.left input.old) (I.left input.new) config
         × AreThere config printers.now) }
     ensures read_fault { I.faults input.new ≢ I.faults input.old → result ≡ Err (Run ReadFile) }
@@ -157,7 +157,7 @@ fn check_text(
     alloc: Global,
     config: &Config,
     sizes: bool,
-    printers: &[PrinterPlace],
+    printers: &[PlacedPrinter],
 ) -> Result<Vec<u8>, AllocError>
     ensures { IfOk result (λ text. text.items ≡ check_text config.now sizes printers.now) }
 {
@@ -175,9 +175,9 @@ pub fn check<I: OctetRead, W: OctetWrite>(
     alloc: Global,
     config: &mut I,
     sizes: bool,
-    printers: &[PrinterPlace],
+    printers: &[PlacedPrinter],
     output: &mut W,
-) -> Result<(), Fault>
+) -> Result<(), ActionFault>
     ensures checked { OnOk result (Checked sizes printers.now (I.left config.old)
         (I.left config.new)
         (W.written output.old) (W.written output.new)) }
@@ -204,7 +204,7 @@ pub fn replay<I: OctetRead, J: OctetRead, W: OctetWrite>(
     config: &mut I,
     script: &mut J,
     output: &mut W,
-) -> Result<(), Fault>
+) -> Result<(), ActionFault>
     ensures config_fault { I.faults config.new ≢ I.faults config.old
         → result ≡ Err (Run ReadFile) }
     ensures script_fault { J.faults script.new ≢ J.faults script.old

@@ -8,7 +8,7 @@ ghost use Rattle.word_actions.specs.Folders.{account_line, folder_line, out_line
 ghost use Rattle.word_actions.specs.Order.{write_faults};
 ghost use Rattle.word_actions.specs.Status.{status_of};
 
-use crate::fault::Fault;
+use crate::fault::ActionFault;
 use crate::files::print;
 use account_folder::AccountState;
 use job_disk::{FolderState, look};
@@ -40,7 +40,7 @@ pub(crate) fn check_folder<R: Files<File = File> + Log, W: OctetWrite>(
     rt: &R,
     path: &str,
     output: &mut W,
-) -> Result<(), Fault>
+) -> Result<(), ActionFault>
     ensures printed { OnOk result ((state : FolderState)
         × Writes (W.written output.old) (W.written output.new) (folder_line path.now state)) }
     ensures write_fault { W.faults output.new ≡ write_faults (W.faults output.old) result }
@@ -50,7 +50,7 @@ pub(crate) fn check_folder<R: Files<File = File> + Log, W: OctetWrite>(
         Ok(state) => state,
         Err(why) => {
             info!(rt; target: PART, "{path}: {why}");
-            return Err(Fault::Folder(String::from_str(alloc, path)?));
+            return Err(ActionFault::Folder(String::from_str(alloc, path)?));
         }
     };
     print(output, folder_line(alloc, path, state)?.as_bytes())
@@ -75,7 +75,7 @@ pub(crate) fn check_account<R: Files<File = File> + Log, W: OctetWrite>(
     rt: &R,
     path: &str,
     output: &mut W,
-) -> Result<(), Fault>
+) -> Result<(), ActionFault>
     ensures printed { OnOk result ((state : AccountState)
         × Writes (W.written output.old) (W.written output.new) (account_line path.now state)) }
     ensures write_fault { W.faults output.new ≡ write_faults (W.faults output.old) result }
@@ -85,7 +85,7 @@ pub(crate) fn check_account<R: Files<File = File> + Log, W: OctetWrite>(
         Ok(state) => state,
         Err(why) => {
             info!(rt; target: PART, "{path}: {why}");
-            return Err(Fault::Folder(String::from_str(alloc, path)?));
+            return Err(ActionFault::Folder(String::from_str(alloc, path)?));
         }
     };
     print(output, account_line(alloc, path, state)?.as_bytes())
@@ -105,7 +105,7 @@ pub(crate) fn check_out<R: Files<File = File> + Log, W: OctetWrite>(
     rt: &R,
     path: &str,
     output: &mut W,
-) -> Result<(), Fault>
+) -> Result<(), ActionFault>
     ensures printed { OnOk result
         (Writes (W.written output.old) (W.written output.new) (out_line path.now)) }
     ensures write_fault { W.faults output.new ≡ write_faults (W.faults output.old) result }
@@ -113,7 +113,7 @@ pub(crate) fn check_out<R: Files<File = File> + Log, W: OctetWrite>(
 {
     if let Err(error) = rt.open_dir(path) {
         tell_cause(rt, &path, Some(error));
-        return Err(Fault::Folder(String::from_str(alloc, path)?));
+        return Err(ActionFault::Folder(String::from_str(alloc, path)?));
     }
     print(output, out_line(alloc, path)?.as_bytes())
 }

@@ -2,11 +2,11 @@
 
 ghost use Rattle.std.specs.Prelude.{◌≡◌, IfErr, IfOk, OnOk, option_map, string_bytes};
 ghost use Rattle.word_actions.specs.Places.{AreThere, IsMissing, place_lines, place_of, printer_line, printer_lines};
-ghost use Rattle.program_edge.specs.declared.places.Place.{Place};
+ghost use Rattle.program_edge.specs.declared.places.PrinterPlace.{PrinterPlace};
 
-use crate::fault::Fault;
+use crate::fault::ActionFault;
 use config_values::Config;
-use program_edge::{DefaultFile, Place, PrinterPlace};
+use program_edge::{DefaultFile, PlacedPrinter, PrinterPlace};
 use std::alloc::{AllocError, Global};
 
 /// Whether each of these is for a printer of this configuration. Answers `Printer` with the first
@@ -14,8 +14,8 @@ use std::alloc::{AllocError, Global};
 pub(crate) fn check_printers(
     alloc: Global,
     config: &Config,
-    printers: &[PrinterPlace],
-) -> Result<(), Fault>
+    printers: &[PlacedPrinter],
+) -> Result<(), ActionFault>
     ensures there { OnOk result (AreThere config.now printers.now) }
     ensures fault { IfErr result (IsMissing config.now printers.now) }
 {
@@ -23,14 +23,14 @@ pub(crate) fn check_printers(
         let number = said.printer;
         if !config.is_printer(number) {
             let text = format!(in alloc; "{said}")?;
-            return Err(Fault::Printer { number, text });
+            return Err(ActionFault::Printer { number, text });
         }
     }
     Ok(())
 }
 
 /// What the printer of this number prints to, if one of these says it.
-fn place_of<'a>(printers: &[PrinterPlace<'a>], number: u32) -> Option<Place<'a>>
+fn place_of<'a>(printers: &[PlacedPrinter<'a>], number: u32) -> Option<PrinterPlace<'a>>
     ensures { result ≡ place_of printers.now number }
 {
     let said = printers.iter().find(|said| said.printer == number)?;
@@ -38,7 +38,11 @@ fn place_of<'a>(printers: &[PrinterPlace<'a>], number: u32) -> Option<Place<'a>>
 }
 
 /// The line that says what the printer of this number prints to.
-fn printer_line(alloc: Global, printers: &[PrinterPlace], number: u32) -> Result<String, AllocError>
+fn printer_line(
+    alloc: Global,
+    printers: &[PlacedPrinter],
+    number: u32,
+) -> Result<String, AllocError>
     ensures { IfOk result (λ line. string_bytes line ≡ printer_line printers.now number) }
 {
     match place_of(printers, number) {
@@ -56,7 +60,7 @@ fn printer_line(alloc: Global, printers: &[PrinterPlace], number: u32) -> Result
 /// A line for each of this many printers, and none where nothing is said of any.
 pub(crate) fn place_lines(
     alloc: Global,
-    printers: &[PrinterPlace],
+    printers: &[PlacedPrinter],
     count: u32,
 ) -> Result<Vec<u8>, AllocError>
     ensures { IfOk result (λ text. text.items ≡ place_lines printers.now count) }

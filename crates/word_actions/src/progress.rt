@@ -24,20 +24,20 @@ fn step_of(all: usize) -> usize
 
 /// How far a job is that is sent.
 #[derive(Clone, Copy, Debug)]
-pub(crate) struct Progress {
+pub(crate) struct SendProgress {
     all: usize,
     sent: usize,
     step: usize,
     ghost steps: { step ≡ step_of all },
 }
 
-impl Progress {
+impl SendProgress {
     /// Nothing is sent yet of a job of this many octets.
-    fn new(all: usize) -> Progress
+    fn new(all: usize) -> SendProgress
         ensures { (result.all ≡ all) × (result.sent ≡ 0) }
     {
         let step = step_of(all);
-        Progress { all, sent: 0, step }
+        SendProgress { all, sent: 0, step }
     }
 
     /// How many octets are left up to the next line.
@@ -74,7 +74,7 @@ pub(crate) struct ProgressWriter<'a, R: Log, W: OctetWrite + Drop> {
     rt: &'a R,
     teller: &'static str,
     writer: W,
-    progress: Progress,
+    progress: SendProgress,
 }
 
 impl<'a, R: Log, W: OctetWrite + Drop> ProgressWriter<'a, R, W> {
@@ -86,7 +86,7 @@ impl<'a, R: Log, W: OctetWrite + Drop> ProgressWriter<'a, R, W> {
             rt,
             teller: teller(is_asked),
             writer,
-            progress: Progress::new(all),
+            progress: SendProgress::new(all),
         }
     }
 
@@ -102,7 +102,7 @@ impl<'a, R: Log, W: OctetWrite + Drop> ProgressWriter<'a, R, W> {
         ensures { self.new.writer ≡ self.old.writer }
     {
         if self.progress.advance(octets) {
-            let Progress { sent, all, .. } = self.progress;
+            let SendProgress { sent, all, .. } = self.progress;
             info!(self.rt; target: self.teller, "sent {sent} of {all} octets");
         }
     }

@@ -18,14 +18,14 @@ ghost use Rattle.word_actions.specs.Outcome.{IfControls, IfEnded, IfReports, IfS
 ghost use Rattle.word_actions.specs.Status.{end_status, status_of};
 ghost use Rattle.program_words.specs.Refused.{AsksOfPrinters, IsRefused, IsTaken};
 ghost use Rattle.word_actions.specs.Unread.{IsUnreadStatus};
-ghost use Rattle.word_actions.specs.declared.fault.Fault.TheVariants.{Run};
-ghost use Rattle.word_actions.specs.declared.running.Outcome.TheVariants.{Ended};
+ghost use Rattle.word_actions.specs.declared.fault.ActionFault.TheVariants.{Run};
+ghost use Rattle.word_actions.specs.declared.running.RunOutcome.TheVariants.{Ended};
 ghost use Rattle.program_words.specs.declared.words.Ask.TheVariants.{Control, Serve};
 ghost use Rattle.lpr_client.specs.Sendable.{is_sendable, is_sendable_file};
 ghost use Rattle.lpr_client.specs.declared.file.DataFile.{DataFile};
 
 use crate::asking::{ask_question, connect, socket_of};
-use crate::fault::Fault;
+use crate::fault::ActionFault;
 use crate::files::{check, print, replay};
 use crate::folders::{check_account, check_folder, check_out};
 use crate::progress::ProgressWriter;
@@ -36,7 +36,7 @@ use lpd_commands::{OctetRead, OctetWrite, write_all};
 use lpd_script::{read_all, run_input};
 use lpr_client::{DataFile, FileName, Octets, SendFault, job_length, send_job};
 use printer_devices::shared_folder;
-use program_edge::{PrinterPlace, Settings, StreamReader, StreamWriter, tell, tell_cause};
+use program_edge::{PlacedPrinter, Settings, StreamReader, StreamWriter, tell, tell_cause};
 use program_words::{
     Ask, AuditRequest, Checking, ControlRequest, Envelope, Sending, Server, Unread, UsageRequest,
     read_words, three_digits,
@@ -50,7 +50,7 @@ const UNREAD: u8 = 1;
 
 /// What comes of words.
 #[derive(Debug, Drop)]
-pub enum Outcome<'a> {
+pub enum RunOutcome<'a> {
     /// It was done, or a fault was told: the exit status.
     Ended(u8),
     /// They ask to serve the queues of the configuration at this path.
@@ -83,7 +83,7 @@ pub fn data_file<F: OctetRead>(
     alloc: Global,
     name: FileName,
     file: &mut F,
-) -> Result<DataFile, Fault>
+) -> Result<DataFile, ActionFault>
     ensures ok { IfOk result (λ read. (read.name ≡ name)
         × HasGivenAll (F.left file.old) (F.left file.new) read.octets × (0 < length read.octets)) }
     ensures read_fault { F.faults file.new ≢ F.faults file.old → result ≡ Err (Run ReadFile) }
@@ -96,7 +96,7 @@ pub fn data_file<F: OctetRead>(
 {
     let octets = read_all(alloc, file)?;
     if octets.is_empty() {
-        return Err(Fault::Run(lpd_script::Fault::ReadFile));
+        return Err(ActionFault::Run(lpd_script::Fault::ReadFile));
     }
     Ok(DataFile {
         name,
@@ -112,7 +112,7 @@ fn data_file_at<R: OpenReaders>(
     name: FileName,
     path: &str,
     file: &mut R::Reader,
-) -> Result<DataFile, Fault>
+) -> Result<DataFile, ActionFault>
     ensures ok { IfOk result (λ read. (read.name ≡ name)
         × HasGivenAll (R.Reader.left file.old) (R.Reader.left file.new) read.octets
         × (0 < length read.octets)) }
@@ -127,7 +127,7 @@ fn data_file_at<R: OpenReaders>(
     ensures fault { IfErr result IsFileFault }
 {
     let read = data_file(alloc, name, file);
-    if let Err(Fault::Run(lpd_script::Fault::ReadFile)) = &read {
+    if let Err(ActionFault::Run(lpd_script::Fault::ReadFile)) = &read {
         files.tell_why(path, file);
     }
     read
@@ -140,7 +140,7 @@ fn data_files<R: OpenReaders>(
     files: &R,
     names: &[FileName],
     paths: &[&str],
-) -> Result<Vec<DataFile>, Fault>
+) -> Result<Vec<DataFile>, ActionFault>
     requires { IsTrue (list_all is_data_name names.now) }
     ensures ok { IfOk result (λ read. IsTrue (list_all is_sendable_file read.items)
         × (length read.items ≤ length names.now)) }
@@ -157,7 +157,7 @@ fn data_files<R: OpenReaders>(
             .push(data_file_at(alloc, files, *name, path, &mut file)?)
             .is_err()
         {
-            return Err(Fault::Memory);
+            return Err(ActionFault::Memory);
         }
     }
     Ok(read)
@@ -173,7 +173,7 @@ pub fn send<R: Net + Log>(
     envelope: &Envelope,
     files: &[DataFile],
     tells_progress: bool,
-) -> Result<(), Fault>
+) -> Result<(), ActionFault>
     requires { IsTrue (is_sendable envelope.now.queue envelope.now.name envelope.now.control
         files.now) }
     ensures { IfErr result IsNetworkFault }
@@ -181,14 +181,14 @@ pub fn send<R: Net + Log>(
     let address = socket_of(server);
     let (queue, name, control) = (&envelope.queue, &envelope.name, &envelope.control);
     let Ok(octets) = job_length(alloc, queue, name, control, files) else {
-        return Err(Fault::Send(SendFault::Memory));
+        return Err(ActionFault::Send(SendFault::Memory));
     };
     let (reader, writer) = connect(rt, address)?;
     let mut reader = StreamReader::new(reader);
     let mut writer = ProgressWriter::new(rt, StreamWriter::new(writer), octets, tells_progress);
     let sent = send_job(alloc, &mut reader, &mut writer, queue, name, control, files);
     tell_cause(rt, &address, reader.cause().or(writer.writer().cause()));
-    sent.map_err(Fault::Send)
+    sent.map_err(ActionFault::Send)
 }
 
 /// Reads a job's files, sends it, and says so. All files are read before the server is called, so a job is never left half sent for want
@@ -199,7 +199,7 @@ fn send_files<R: Files + Net + Log, W: OctetWrite>(
     sending: &Sending,
     envelope: &Envelope,
     output: &mut W,
-) -> Result<(), Fault>
+) -> Result<(), ActionFault>
     ensures write_fault { W.faults output.new ≡ write_faults (W.faults output.old) result }
     ensures sent { OnOk result (Writes (W.written output.old) (W.written output.new)
         (sent_line envelope.now.control.number)) }
@@ -218,9 +218,9 @@ fn check_file<R: Files + Log + Alloc<A = Global>, W: OctetWrite>(
     rt: &R,
     config: &str,
     sizes: bool,
-    printers: &[PrinterPlace],
+    printers: &[PlacedPrinter],
     output: &mut W,
-) -> Result<(), Fault>
+) -> Result<(), ActionFault>
     ensures write_fault { W.faults output.new ≡ write_faults (W.faults output.old) result }
     ensures missing { IfErr result (λ fault. status_of fault ≡ 1 →
         (0 < length printers.now) × (W.written output.new ≡ W.written output.old)) }
@@ -239,12 +239,12 @@ fn check_places<R: Files<File = File> + Log, N: Net, W: OctetWrite>(
     host: &N,
     checking: &Checking,
     output: &mut W,
-) -> Result<(), Fault>
+) -> Result<(), ActionFault>
     ensures write_fault { W.faults output.new ≡ write_faults (W.faults output.old) result }
     ensures fault { IfErr result (λ fault. status_of fault ≢ 1) }
 {
     if let Some(shared) = shared_folder(rt, checking.printers.as_slice()) {
-        return Err(Fault::Folder(String::from_str(alloc, shared.path)?));
+        return Err(ActionFault::Folder(String::from_str(alloc, shared.path)?));
     }
     if let Some(path) = checking.out {
         check_out(alloc, rt, path, output)?;
@@ -269,14 +269,14 @@ fn replay_files<R: Files + Log, W: OctetWrite>(
     config: &str,
     script: &str,
     output: &mut W,
-) -> Result<(), Fault>
+) -> Result<(), ActionFault>
     ensures write_fault { W.faults output.new ≡ write_faults (W.faults output.old) result }
     ensures fault { IfErr result IsRunFault }
 {
     let mut config_file = StreamReader::open(rt, config);
     let mut script_file = StreamReader::open(rt, script);
     let end = replay(alloc, &mut config_file, &mut script_file, output);
-    if let Err(Fault::Run(lpd_script::Fault::ReadFile)) = &end {
+    if let Err(ActionFault::Run(lpd_script::Fault::ReadFile)) = &end {
         // The configuration is read first: where that failed the script wasn't read.
         match config_file.cause() {
             None => tell_cause(rt, &script, script_file.cause()),
@@ -294,7 +294,7 @@ fn run_asked<R: Files<File = File> + Net + Log + Alloc<A = Global>, N: Net, W: O
     host: &N,
     ask: &Ask,
     output: &mut W,
-) -> Result<(), Fault>
+) -> Result<(), ActionFault>
     ensures write_fault { W.faults output.new ≡ write_faults (W.faults output.old) result }
     ensures missing { IfErr result (λ fault. status_of fault ≡ 1 →
         ChecksPrinters ask.now × (W.written output.new ≡ W.written output.old)) }
@@ -314,7 +314,7 @@ fn run_asked<R: Files<File = File> + Net + Log + Alloc<A = Global>, N: Net, W: O
 }
 
 /// The exit status of an end. A fault is told.
-fn ended<E: OctetWrite>(alloc: Global, end: Result<(), Fault>, faults: &mut E) -> u8
+fn ended<E: OctetWrite>(alloc: Global, end: Result<(), ActionFault>, faults: &mut E) -> u8
     ensures status { result ≡ end_status end }
     ensures quiet { OnOk end (IsUntouched (E.written faults.old) (E.faults faults.old)
         (E.written faults.new) (E.faults faults.new)) }
@@ -350,7 +350,7 @@ pub fn run<
     input: &mut I,
     output: &mut W,
     faults: &mut E,
-) -> Outcome<'a>
+) -> RunOutcome<'a>
     ensures status { IfEnded result (λ status. status ≤ 5) }
     ensures taken { result ≡ Ended 0 → IsTaken (map string_bytes words.entry.now) }
     // Where words can be read, one alone ends so: `check`, for a printer that isn't there.
@@ -397,16 +397,16 @@ pub fn run<
 {
     let alloc = rt.alloc();
     match read_words(alloc, words) {
-        Ok(Ask::Input) => Outcome::Ended(run_input(alloc, input, output, faults)),
-        Ok(Ask::Serve { config, settings }) => Outcome::Serve { config, settings },
-        Ok(Ask::Control(request)) => Outcome::Control(request),
-        Ok(Ask::Audit(request)) => Outcome::Audit(request),
-        Ok(Ask::Usage(request)) => Outcome::Usage(request),
+        Ok(Ask::Input) => RunOutcome::Ended(run_input(alloc, input, output, faults)),
+        Ok(Ask::Serve { config, settings }) => RunOutcome::Serve { config, settings },
+        Ok(Ask::Control(request)) => RunOutcome::Control(request),
+        Ok(Ask::Audit(request)) => RunOutcome::Audit(request),
+        Ok(Ask::Usage(request)) => RunOutcome::Usage(request),
         Ok(ask) => {
             let end = run_asked(alloc, rt, host, &ask, output);
-            Outcome::Ended(ended(alloc, end, faults))
+            RunOutcome::Ended(ended(alloc, end, faults))
         }
-        Err(unread) => Outcome::Ended(tell_unread(alloc, unread, output, faults)),
+        Err(unread) => RunOutcome::Ended(tell_unread(alloc, unread, output, faults)),
     }
 }
 
@@ -426,7 +426,7 @@ pub fn tell_unread<W: OctetWrite, E: OctetWrite>(
 {
     match unread {
         Unread::Shown(text) => ended(alloc, print(output, text.as_bytes()), faults),
-        Unread::Memory => ended(alloc, Err(Fault::Memory), faults),
+        Unread::Memory => ended(alloc, Err(ActionFault::Memory), faults),
         Unread::Refused(text) => {
             // As for a fault: the exit status says it too.
             let _ = write_all(faults, text.as_bytes());

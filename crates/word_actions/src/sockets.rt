@@ -6,7 +6,7 @@ ghost use Rattle.word_actions.specs.Folders.{socket_line};
 ghost use Rattle.word_actions.specs.Order.{write_faults};
 ghost use Rattle.word_actions.specs.Status.{status_of};
 
-use crate::fault::Fault;
+use crate::fault::ActionFault;
 use crate::files::print;
 use log::{Log, info};
 use lpd_commands::OctetWrite;
@@ -75,7 +75,7 @@ pub(crate) fn check_socket<R: Files + Log, N: Net, W: OctetWrite>(
     host: &N,
     path: &str,
     output: &mut W,
-) -> Result<(), Fault>
+) -> Result<(), ActionFault>
     ensures printed { OnOk result
         (Writes (W.written output.old) (W.written output.new) (socket_line path.now)) }
     ensures write_fault { W.faults output.new ≡ write_faults (W.faults output.old) result }
@@ -86,5 +86,5 @@ pub(crate) fn check_socket<R: Files + Log, N: Net, W: OctetWrite>(
         Found::Answered => info!(rt; target: PART, "{path}: a server answers at the path"),
         Found::Failed(error) => tell_cause(rt, &path, Some(error)),
     }
-    Err(Fault::Socket(String::from_str(alloc, path)?))
+    Err(ActionFault::Socket(String::from_str(alloc, path)?))
 }

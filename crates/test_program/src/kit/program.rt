@@ -8,7 +8,7 @@ use std::fs::{File, Files};
 use std::net::{Ipv4Addr, Net, OpenListener, SocketAddr, TcpListener, TcpStream};
 use std::process::Abort;
 use std::rt::Env;
-use word_actions::{Outcome, run};
+use word_actions::{RunOutcome, run};
 
 /// A configuration of one queue and one printer.
 pub const CONFIG: &[u8] =
@@ -96,14 +96,14 @@ pub fn told<
     let mut told = output.into_stream();
     told.extend_from_slice(faults.into_stream().as_slice())?;
     let end = match &outcome {
-        Outcome::Ended(status) => format!(in alloc; "status {status}\n")?,
-        Outcome::Serve { config, settings } => line_of(alloc, config, settings)?,
-        Outcome::Control(request) => format!(in alloc; "controls {} ", request.path)?,
-        Outcome::Audit(request) => format!(in alloc; "audits {request:?}\n")?,
-        Outcome::Usage(request) => format!(in alloc; "uses {request:?}\n")?,
+        RunOutcome::Ended(status) => format!(in alloc; "status {status}\n")?,
+        RunOutcome::Serve { config, settings } => line_of(alloc, config, settings)?,
+        RunOutcome::Control(request) => format!(in alloc; "controls {} ", request.path)?,
+        RunOutcome::Audit(request) => format!(in alloc; "audits {request:?}\n")?,
+        RunOutcome::Usage(request) => format!(in alloc; "uses {request:?}\n")?,
     };
     told.extend_from_slice(end.as_bytes())?;
-    if let Outcome::Control(request) = &outcome {
+    if let RunOutcome::Control(request) = &outcome {
         told.extend_from_slice(request.command.line(alloc)?.as_slice())?;
     }
     Ok(told)

@@ -1,6 +1,6 @@
 use Rattle.std.proofs.Common.{◌∙◌, sym}
 use Rattle.control_lines.proofs.LineLemmas.{refused, removes, removes_none}
-use Rattle.control_lines.specs.declared.command.LineFault.TheVariants.{Memory}
+use Rattle.control_lines.specs.declared.command.CommandFault.TheVariants.{Memory}
 use Rattle.control_lines.proofs.command.removal_of.Goals as goal
 
 pub returns-then-not-is_whom : goal.returns-then-not-is_whom

@@ -1,7 +1,7 @@
 use Rattle.std.proofs.Common.{◌≡◌, ◌∙◌, Bor, ℕ, List, map, subst}
 use Rattle.std.specs.List.{join_with_byte}
 use Rattle.control_lines.specs.Commands.{Means, Refuses}
-use Rattle.control_lines.specs.declared.command.LineFault.TheVariants as line
+use Rattle.control_lines.specs.declared.command.CommandFault.TheVariants as line
 use Rattle.program_words.proofs.ControlLemmas.{joined}
 use Rattle.program_words.proofs.control_request.command_of.Goals as goal
 

@@ -1,0 +1,134 @@
+//! Lines about hosts that aren't let in, one a minute for each.
+
+ghost use Rattle.std.specs.Prelude.{◌≤◌};
+ghost use Rattle.std.specs.VecDeque.{deque_len};
+
+use log::{Log, warn};
+use std::alloc::Global;
+use std::collections::VecDeque;
+use std::net::{Ipv4Addr, SocketAddr};
+use std::rt::Clock;
+use std::time::Instant;
+
+/// The part of the program that logs what happens here, as the log names it.
+const PART: &str = "server_edge::throttle";
+
+/// The time from a line about a host to the next one, in seconds.
+pub(crate) const AGAIN_SECONDS: u64 = 60;
+
+/// The most hosts that are told apart. All further ones share a line.
+const MOST_HOSTS: usize = 1_024;
+
+/// A host of which a line told, when that was, and how many of its connections came since.
+#[derive(Drop)]
+struct RefusedHost {
+    host: u32,
+    told: Instant,
+    more: u64,
+}
+
+/// Which hosts weren't let in within a minute.
+#[derive(Drop)]
+pub(crate) struct Throttle {
+    // The one whose line is the oldest stands first.
+    hosts: VecDeque<RefusedHost>,
+    // The connections of further hosts, and since when they are counted.
+    others: u64,
+    others_since: Option<Instant>,
+}
+
+/// Whether a minute has passed since a line. Without a clock it hasn't.
+fn is_old<R: Clock>(rt: &R, told: Instant) -> bool {
+    told.elapsed(rt)
+        .is_ok_and(|elapsed| elapsed.as_secs() >= AGAIN_SECONDS)
+}
+
+impl Throttle {
+    /// None yet.
+    pub(crate) fn new(alloc: Global) -> Throttle {
+        Throttle {
+            hosts: VecDeque::new(alloc),
+            others: 0,
+            others_since: None,
+        }
+    }
+
+    /// Whether there are lines to come.
+    pub(crate) fn is_waiting(&self) -> bool {
+        !self.hosts.is_empty() || self.others_since.is_some()
+    }
+
+    /// Counts a connection of a host. Whether a line tells of it at once, as the first one of its
+    /// host in a minute, where there is a place for one host more.
+    fn count(&mut self, now: Instant, host: u32) -> bool
+        ensures { deque_len self.old.hosts ≤ 1024 → deque_len self.new.hosts ≤ 1024 }
+    {
+        if let Some(at) = self.hosts.iter().position(|refused| refused.host == host) {
+            if let Some(refused) = self.hosts.get_mut(at) {
+                refused.more = refused.more.saturating_add(1);
+            }
+            return false;
+        }
+        if self.hosts.len() < MOST_HOSTS {
+            let first = RefusedHost {
+                host,
+                told: now,
+                more: 0,
+            };
+            if self.hosts.push_back(first).is_ok() {
+                return true;
+            }
+        }
+        self.others = self.others.saturating_add(1);
+        self.others_since = self.others_since.or(Some(now));
+        false
+    }
+
+    /// A connection of this host was closed, as it isn't let in: says so where it is the first one
+    /// in a minute. Without a clock nothing is said.
+    pub(crate) fn refuse<R: Clock + Log>(&mut self, rt: &R, peer: SocketAddr, host: u32) {
+        let Ok(now) = Instant::now(rt) else {
+            return;
+        };
+        if self.count(now, host) {
+            warn!(rt; target: PART, "{peer}: its address isn't let in");
+        }
+    }
+
+    /// Says of a host how many of its connections were closed since its last line; it is forgotten
+    /// where none was.
+    fn tell_host<R: Clock + Log>(&mut self, rt: &R, refused: RefusedHost) {
+        let RefusedHost { host, more, .. } = refused;
+        if more == 0 {
+            return;
+        }
+        let address = Ipv4Addr::from_bits(host);
+        warn!(rt; target: PART, "{address}: {more} more connections weren't let in");
+        if let Ok(told) = Instant::now(rt) {
+            let _ = self.hosts.push_back(RefusedHost {
+                host,
+                told,
+                more: 0,
+            });
+        }
+    }
+
+    /// Says what came since each line that is a minute old.
+    pub(crate) fn tell_again<R: Clock + Log>(&mut self, rt: &R) {
+        for _ in 0..MOST_HOSTS {
+            let oldest = self.hosts.front();
+            if !oldest.is_some_and(|refused| is_old(rt, refused.told)) {
+                break;
+            }
+            if let Some(refused) = self.hosts.pop_front() {
+                self.tell_host(rt, refused);
+            }
+        }
+        if self.others_since.is_some_and(|since| is_old(rt, since)) {
+            let others = self.others;
+            warn!(rt; target: PART, "{others} connections of other addresses weren't let in");
+            self.others = 0;
+            self.others_since = None;
+        }
+    }
+}

@@ -1,6 +1,0 @@
-use Rattle.std.proofs.Common.{◌≡◌, take}
-use Rattle.server_edge.specs.Desk.{of_host}
-use Rattle.server_edge.proofs.desk.place_of.Given as goal
-
-abbrev pub invariant-loop-at : goal.invariant-loop-at
-invariant-loop-at l = of_host l.host (take l.at l.hosts) ≡ 0
