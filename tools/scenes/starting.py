@@ -1,5 +1,5 @@
 #!/usr/bin/env python3
-"""Scenes of starts and commands that fail: starting.py PROGRAM [SCENE..], where PROGRAM is the built lpd_server. Its standard error is a file here,
+"""Scenes of starts, and of commands, that fail or are warned of: starting.py PROGRAM [SCENE..], where PROGRAM is the built lpd_server. Its standard error is a file here,
 as under systemd and cron: the line before the fault's names what the fault is about, and why. Each scene is bounded in time, and runs on loopback
 alone. A line says what was seen; the last line is 'N passed, M failed'."""
 import contextlib
@@ -96,5 +96,27 @@ def a_command_tells_why_it_failed():
         return f"{len(cases)} commands told why"
 
 
+def a_start_warns_of_what_bites_later():
+    """Without `--keep-room` and `--rotate`, without `--silence` beyond loopback, and where the account has room for fewer than 50 jobs of a queue a
+    server says so once at its start; with these words, or where it ends after so many connections, it says nothing."""
+    never, stalls = "the account is never rotated", "a peer that stalls amid a job"
+    small, large = spool(account=3_000, limit=4), spool(account=100_000, limit=4)
+    cases = [
+        (large, [], [never]),
+        (large, ["--rotate", "5"], []),
+        (large, ["--keep-room", "--bind", "0.0.0.0"], [stalls]),
+        (large, ["--bind", "0.0.0.0"], [never, stalls]),
+        (large, ["--keep-room", "--bind", "0.0.0.0", "--silence", "60"], []),
+        (small, ["--keep-room"], ["queue lp: an account of 3000 entries takes 2 of its largest jobs at once"]),
+        (small, ["--rotate", "5"], ["queue lp: an account of 3000 entries takes 3 of its largest jobs until it is rotated"]),
+        (small, ["--bind", "0.0.0.0", "--connections", "9"], []),
+    ]
+    for config, words, wanted in cases:
+        with Server(PROGRAM, config, *words) as it:
+            lines = it.log().splitlines()
+            check(len(lines) == len(wanted) and all(part in line for part, line in zip(wanted, lines)), f"{words}: {lines}")
+    return f"{len(cases)} starts"
+
+
 if __name__ == "__main__":
-    sys.exit(main([a_start_tells_why_it_failed, a_command_tells_why_it_failed], __doc__))
+    sys.exit(main([a_start_tells_why_it_failed, a_command_tells_why_it_failed, a_start_warns_of_what_bites_later], __doc__))

@@ -12,6 +12,7 @@ mod preparing;
 mod printing;
 mod serving;
 mod sink;
+mod warnings;
 
 pub use control_socket::{OpenFault, SocketFile};
 pub use printer_devices::SHARED_FOLDERS;
