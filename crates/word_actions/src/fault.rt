@@ -4,7 +4,7 @@ ghost use Rattle.std.specs.Prelude.{◌≡◌};
 ghost use Rattle.word_actions.specs.Status.{status_of};
 ghost use Rattle.word_actions.specs.declared.fault.ActionFault.TheVariants.{Memory, Run};
 
-use crate::{folders, readers, sockets};
+use crate::{folders, readers, reasons, sockets};
 use lpr_client::SendFault;
 use printer_devices::SHARED_FOLDERS;
 use program_edge::FaultName;
@@ -17,6 +17,7 @@ pub const CAUSES: &[&str] = &[
     SHARED_FOLDERS,
     folders::PART,
     readers::PART,
+    reasons::PART,
     sockets::PART,
 ];
 

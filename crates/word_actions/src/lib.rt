@@ -9,6 +9,7 @@ mod folders;
 mod places;
 mod progress;
 mod readers;
+mod reasons;
 mod running;
 mod sockets;
 

@@ -30,6 +30,7 @@ use crate::files::{check, print, replay};
 use crate::folders::{check_account, check_folder, check_out};
 use crate::progress::ProgressWriter;
 use crate::readers::OpenReaders;
+use crate::reasons::tell_reason;
 use crate::sockets::check_socket;
 use log::Log;
 use lpd_commands::{OctetRead, OctetWrite, write_all};
@@ -186,6 +187,9 @@ pub fn send<R: Net + Log>(
     let mut writer = ProgressWriter::new(rt, StreamWriter::new(writer), octets, sending.progress);
     let sent = send_job(alloc, &mut reader, &mut writer, queue, name, control, files);
     tell_cause(rt, &address, reader.cause().or(writer.writer().cause()));
+    if let Err(fault) = &sent {
+        tell_reason(rt, address, fault);
+    }
     sent.map_err(ActionFault::Send)
 }
 
