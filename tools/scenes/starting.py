@@ -82,7 +82,6 @@ def a_command_tells_why_it_failed():
             (["check", "nosuch.toml"], 4, "fault 71 ReadFile", r"nosuch\.toml: No such file"),
             (["check", "spool.toml", "--spool", "file"], 4, "fault 73 WriteFile file", r"file: Not a directory"),
             (["check", "spool.toml", "--out", "nosuch"], 4, "fault 73 WriteFile nosuch", r"nosuch: No such file"),
-            (["replay", "spool.toml", "nosuch.script"], 4, "fault 71 ReadFile", r"nosuch\.script: No such file"),
             (["send", nobody, "lp", "1", "myhost", "ann", "file"], 4, "fault 72 Network", rf"127\.0\.0\.1:{nobody}: Connection refused"),
             (["send", nobody, "lp", "1", "myhost", "ann", "file", "nosuch"], 4, "fault 71 ReadFile", r"nosuch: No such file"),
             (["send", nobody, "lp", "1", "myhost", "ann", "folder"], 4, "fault 71 ReadFile", r"folder: "),
@@ -93,6 +92,8 @@ def a_command_tells_why_it_failed():
         ]
         for words, status, fault, cause in cases:
             fails(room, words, status, fault, cause)
+        # A script's fault is one line, as it is specified.
+        check(run(room, "replay", "spool.toml", "nosuch.script") == (4, ["fault 71 ReadFile"]), "replay tells more")
         return f"{len(cases)} commands told why"
 
 

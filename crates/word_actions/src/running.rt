@@ -32,7 +32,7 @@ use crate::progress::ProgressWriter;
 use crate::readers::OpenReaders;
 use crate::reasons::tell_reason;
 use crate::sockets::check_socket;
-use log::Log;
+use log::{Log, info};
 use lpd_commands::{OctetRead, OctetWrite, write_all};
 use lpd_script::{read_all, run_input};
 use lpr_client::{DataFile, FileName, Octets, SendFault, job_length, send_job};
@@ -44,7 +44,11 @@ use program_words::{
 };
 use std::alloc::{AllocError, Global};
 use std::fs::{File, Files};
+use std::io::Error;
 use std::net::Net;
+
+/// The part of the program that tells which file of a script can't be read, as the log names it.
+const SCRIPTS: &str = "lpd_words::scripts";
 
 /// The exit status where the words can't be read.
 const UNREAD: u8 = 1;
@@ -262,6 +266,14 @@ fn check_places<R: Files<File = File> + Log, N: Net, W: OctetWrite>(
     }
 }
 
+/// Tells the log which file of a script can't be read, and why. Not by the part that tells the causes of all other faults: where standard error
+/// is no terminal a script's fault is one line.
+fn tell_unread_file<R: Log>(rt: &R, path: &str, cause: Option<Error>) {
+    if let Some(cause) = cause {
+        info!(rt; target: SCRIPTS, "{path}: {cause}");
+    }
+}
+
 /// Runs the script at a path on the spool that the configuration at a path gives. The log is told
 /// which of the two can't be read first, and why.
 fn replay_files<R: Files + Log, W: OctetWrite>(
@@ -280,8 +292,8 @@ fn replay_files<R: Files + Log, W: OctetWrite>(
     if let Err(ActionFault::Run(lpd_script::Fault::ReadFile)) = &end {
         // The configuration is read first: where that failed the script wasn't read.
         match config_file.cause() {
-            None => tell_cause(rt, &script, script_file.cause()),
-            cause => tell_cause(rt, &config, cause),
+            None => tell_unread_file(rt, script, script_file.cause()),
+            cause => tell_unread_file(rt, config, cause),
         }
     }
     end
