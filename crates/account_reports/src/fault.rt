@@ -4,7 +4,7 @@ ghost use Rattle.std.specs.Prelude.{◌≡◌};
 ghost use Rattle.account_reports.specs.Faults.{fault_status};
 ghost use Rattle.account_reports.specs.declared.fault.ReportFault.TheVariants.{Memory};
 
-use crate::line_reader::LineFault;
+use crate::line_reader::StreamFault;
 use printed_pages::Differs;
 use program_edge::FaultName;
 use segment_audit::AuditFault;
@@ -64,10 +64,10 @@ impl<'a> ReportFault<'a> {
     }
 
     /// Why the line of a number isn't there.
-    pub(crate) fn of_reading(fault: LineFault, path: &'a str, line: u64) -> ReportFault<'a> {
+    pub(crate) fn of_reading(fault: StreamFault, path: &'a str, line: u64) -> ReportFault<'a> {
         match fault {
-            LineFault::TooLong | LineFault::CutOff => ReportFault::Line(path, line),
-            LineFault::Unread => ReportFault::ReadFile(path),
+            StreamFault::TooLong | StreamFault::CutOff => ReportFault::Line(path, line),
+            StreamFault::Unread => ReportFault::ReadFile(path),
         }
     }
 

@@ -18,7 +18,7 @@ pub(crate) enum Told {
     Unread,
     /// So many octets lie between what a run printed and what the next one did.
     Between(u64),
-    /// Its file lost so many octets between two runs.
+    /// Its file lost N octets between two runs.
     Lost(u64),
     /// So many octets lie behind the last page.
     Tail(u64),

@@ -21,7 +21,7 @@ use Rattle.std.specs.Result.{IsErrAnd}
 use Rattle.control_lines.specs.declared.command.CommandFault.{CommandFault}
 use Rattle.control_lines.specs.declared.command.CommandFault.TheVariants.{Unknown, Memory}
 use Rattle.control_lines.specs.declared.command.ControlCommand.{ControlCommand}
-use Rattle.control_lines.specs.declared.command.ControlCommand.TheVariants.{Status, Start, Hold, Release, Remove, Resend, Rotate, Stop, StopNow}
+use Rattle.control_lines.specs.declared.command.ControlCommand.TheVariants.{Status, Start, Hold, Release, Remove, CancelJob, CancelFile, Resend, Rotate, Stop, StopNow}
 
 -- what follows the first word of a command and a space
 abbrev pub operand_of : ControlCommand → Option (List ℕ)
@@ -30,6 +30,8 @@ operand_of (Start queue) = Some queue
 operand_of (Hold queue) = Some queue
 operand_of (Release queue) = Some queue
 operand_of (Remove queue whom) = Some (queue ++ 32 ∷ whom)
+operand_of (CancelJob number) = Some (codes "job " ++ decimal number)
+operand_of (CancelFile number) = Some (codes "file " ++ decimal number)
 operand_of (Resend number) = Some (decimal number)
 operand_of Rotate = None
 operand_of (Stop None) = None
@@ -47,6 +49,8 @@ parts (Start queue) = refl
 parts (Hold queue) = refl
 parts (Release queue) = refl
 parts (Remove queue whom) = refl
+parts (CancelJob number) = refl
+parts (CancelFile number) = refl
 parts (Resend number) = refl
 parts Rotate = refl
 parts (Stop None) = refl
@@ -59,6 +63,7 @@ verb_has_no_space verb.Start = refl
 verb_has_no_space verb.Hold = refl
 verb_has_no_space verb.Release = refl
 verb_has_no_space verb.Remove = refl
+verb_has_no_space verb.Cancel = refl
 verb_has_no_space verb.Resend = refl
 verb_has_no_space verb.Rotate = refl
 verb_has_no_space verb.Stop = refl
@@ -104,9 +109,10 @@ same_joined a b (Some x) (Some y) p q e = let r = same_cut a b x y p q e in (r.0
 -- the verb of a word, by its letters
 abbrev verb_by : (a b c d : ℕ) → Verb
 verb_by a b c d =
+    cond (a == 99) verb.Cancel (
     cond (a == 104) verb.Hold (
     cond (a == 115) (cond (c == 111) verb.Stop (cond (d == 114) verb.Start verb.Status)) (
-    cond (b == 111) verb.Rotate (cond (c == 108) verb.Release (cond (c == 115) verb.Resend verb.Remove))))
+    cond (b == 111) verb.Rotate (cond (c == 108) verb.Release (cond (c == 115) verb.Resend verb.Remove)))))
 
 abbrev verb_at : List ℕ → Verb
 verb_at s = verb_by (first s) (first (others s)) (first (others (others s))) (first (others (others (others s))))
@@ -117,6 +123,7 @@ verb_at-word verb.Start = refl
 verb_at-word verb.Hold = refl
 verb_at-word verb.Release = refl
 verb_at-word verb.Remove = refl
+verb_at-word verb.Cancel = refl
 verb_at-word verb.Resend = refl
 verb_at-word verb.Rotate = refl
 verb_at-word verb.Stop = refl
@@ -138,6 +145,9 @@ MeansAt verb.Release operand c = NamesIt (λ q. Release q) operand c
 MeansAt verb.Remove operand c =
     (queue : List ℕ) × (whom : List ℕ) × (operand ≡ Some (queue ++ 32 ∷ whom)) × (c ≡ Remove queue whom)
     × IsTrue (is_queue_name queue) × IsTrue (is_whom whom)
+MeansAt verb.Cancel operand c =
+    ((n : ℕ) × (operand ≡ Some (codes "job " ++ decimal n)) × (c ≡ CancelJob n) × (n < 2 ^ 64))
+    ⊎ ((n : ℕ) × (operand ≡ Some (codes "file " ++ decimal n)) × (c ≡ CancelFile n) × (n < 2 ^ 64))
 MeansAt verb.Resend operand c = (n : ℕ) × (operand ≡ Some (decimal n)) × (c ≡ Resend n) × (n < 2 ^ 64)
 MeansAt verb.Rotate operand c = (operand ≡ None) × (c ≡ Rotate)
 MeansAt verb.Stop operand c =
@@ -150,6 +160,8 @@ by_verb (Start queue) h = (queue, refl, refl, h)
 by_verb (Hold queue) h = (queue, refl, refl, h)
 by_verb (Release queue) h = (queue, refl, refl, h)
 by_verb (Remove queue whom) h = (queue, whom, refl, refl, h.0, h.1)
+by_verb (CancelJob number) h = inl (number, refl, refl, h)
+by_verb (CancelFile number) h = inr (number, refl, refl, h)
 by_verb (Resend number) h = (number, refl, refl, h)
 by_verb Rotate h = (refl, refl)
 by_verb (Stop None) h = inl (refl, refl)
@@ -218,6 +230,19 @@ number_is_no_now n h e =
     let first_ : is_digit 110 ≡ true = (and_parts (is_digit 110) (list_all is_digit (111 ∷ 119 ∷ [])) (subst (λ (s : List ℕ). list_all is_digit s ≡ true) e digits)).0 in
     cc
 
+letters_differ : ◌≡◌ {A = ℕ} 106 102 → ⊥
+letters_differ e = omega arith
+
+-- a number of acceptance is no number of a file
+job_is_no_file : (x y : List ℕ) → codes "job " ++ x ≡ codes "file " ++ y → ⊥
+job_is_no_file x y e = letters_differ (ap first e)
+
+after_job : (x y : List ℕ) → codes "job " ++ x ≡ codes "job " ++ y → x ≡ y
+after_job x y e = ap (λ (s : List ℕ). others (others (others (others s)))) e
+
+after_file : (x y : List ℕ) → codes "file " ++ x ≡ codes "file " ++ y → x ≡ y
+after_file x y e = ap (λ (s : List ℕ). others (others (others (others (others s))))) e
+
 -- a verb with an operand means one command at most
 one_at : (v : Verb) (o : Option (List ℕ)) (a b : ControlCommand) → MeansAt v o a → MeansAt v o b → a ≡ b
 one_at verb.Status o a b p q = p.1 ∙ sym q.1
@@ -227,6 +252,14 @@ one_at verb.Release o a b p q = p.2 ∙ (ap (λ (t : List ℕ). Release t) (same
 one_at verb.Remove o a b p q =
     let same = same_cut p.0 q.0 p.1 q.1 (queue_has_no_space p.0 p.4) (queue_has_no_space q.0 q.4) (same_some o _ _ p.2 q.2) in
     let queue = same.0 in let whom = same.1 in let left = p.3 in let right = q.3 in cc
+one_at verb.Cancel o a b (inl p) (inl q) =
+    let e : p.0 ≡ q.0 = decimal_injective p.0 q.0 p.3 q.3 (after_job _ _ (same_some o _ _ p.1 q.1)) in
+    p.2 ∙ (ap (λ (n : ℕ). CancelJob n) e ∙ sym q.2)
+one_at verb.Cancel o a b (inl p) (inr q) = absurd (job_is_no_file _ _ (same_some o _ _ p.1 q.1))
+one_at verb.Cancel o a b (inr p) (inl q) = absurd (job_is_no_file _ _ (same_some o _ _ q.1 p.1))
+one_at verb.Cancel o a b (inr p) (inr q) =
+    let e : p.0 ≡ q.0 = decimal_injective p.0 q.0 p.3 q.3 (after_file _ _ (same_some o _ _ p.1 q.1)) in
+    p.2 ∙ (ap (λ (n : ℕ). CancelFile n) e ∙ sym q.2)
 one_at verb.Resend o a b p q =
     let e : p.0 ≡ q.0 = decimal_injective p.0 q.0 p.3 q.3 (same_some o _ _ p.1 q.1) in
     p.2 ∙ (ap (λ (n : ℕ). Resend n) e ∙ sym q.2)
@@ -265,6 +298,14 @@ is_short (Remove queue whom) h =
     let few = queue_short queue h.0 in
     let short = whom_short whom h.1 in
     let e : length (queue ++ 32 ∷ whom) ≡ length queue + length (32 ∷ whom) = length-append queue (32 ∷ whom) in
+    omega arith
+is_short (CancelJob n) h =
+    let p : 2 ^ 64 < 10 ^ 20 = lit< tt in
+    let few = length-decimal-le 20 n (lit< tt) (omega arith) h in
+    omega arith
+is_short (CancelFile n) h =
+    let p : 2 ^ 64 < 10 ^ 20 = lit< tt in
+    let few = length-decimal-le 20 n (lit< tt) (omega arith) h in
     omega arith
 is_short (Resend n) h =
     let p : 2 ^ 64 < 10 ^ 20 = lit< tt in

@@ -5,7 +5,7 @@ use Rattle.control_lines.specs.Operands.{is_queue_name, is_whom}
 use Rattle.control_lines.specs.declared.verb.Verb.{Verb}
 use Rattle.control_lines.specs.declared.verb.Verb.TheVariants as verb
 use Rattle.control_lines.specs.declared.command.ControlCommand.{ControlCommand}
-use Rattle.control_lines.specs.declared.command.ControlCommand.TheVariants.{Status, Start, Hold, Release, Remove, Resend, Rotate, Stop, StopNow}
+use Rattle.control_lines.specs.declared.command.ControlCommand.TheVariants.{Status, Start, Hold, Release, Remove, CancelJob, CancelFile, Resend, Rotate, Stop, StopNow}
 use Rattle.control_lines.specs.declared.command.CommandFault.{CommandFault}
 use Rattle.control_lines.specs.declared.command.CommandFault.TheVariants.{Unknown, Memory}
 
@@ -16,6 +16,8 @@ written (Start queue) = codes "start " ++ queue
 written (Hold queue) = codes "hold " ++ queue
 written (Release queue) = codes "release " ++ queue
 written (Remove queue whom) = codes "remove " ++ (queue ++ 32 ∷ whom)
+written (CancelJob number) = codes "cancel job " ++ decimal number
+written (CancelFile number) = codes "cancel file " ++ decimal number
 written (Resend number) = codes "resend " ++ decimal number
 written Rotate = codes "rotate"
 written (Stop None) = codes "stop"
@@ -29,6 +31,8 @@ IsSayable (Start queue) = IsTrue (is_queue_name queue)
 IsSayable (Hold queue) = IsTrue (is_queue_name queue)
 IsSayable (Release queue) = IsTrue (is_queue_name queue)
 IsSayable (Remove queue whom) = IsTrue (is_queue_name queue) × IsTrue (is_whom whom)
+IsSayable (CancelJob number) = number < 2 ^ 64
+IsSayable (CancelFile number) = number < 2 ^ 64
 IsSayable (Resend number) = number < 2 ^ 64
 IsSayable Rotate = Unit {0}
 IsSayable (Stop None) = Unit {0}
@@ -69,6 +73,8 @@ verb_of (Start queue) = verb.Start
 verb_of (Hold queue) = verb.Hold
 verb_of (Release queue) = verb.Release
 verb_of (Remove queue whom) = verb.Remove
+verb_of (CancelJob number) = verb.Cancel
+verb_of (CancelFile number) = verb.Cancel
 verb_of (Resend number) = verb.Resend
 verb_of Rotate = verb.Rotate
 verb_of (Stop seconds) = verb.Stop

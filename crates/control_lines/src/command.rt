@@ -1,10 +1,11 @@
 //! Commands.
 
 ghost use Rattle.std.specs.Prelude.{◌≡◌, ◌∷◌, ◌++◌, [], IfOk, OnOk, codes};
+ghost use Rattle.std.specs.Fmt.{decimal};
 ghost use Rattle.control_lines.specs.Commands.{written, verb_of, Means, Reads, IsQueueOf};
 ghost use Rattle.control_lines.specs.Verbs.{verb_word};
 
-use crate::operands::{cut, is_queue_name, is_whom, read_seconds};
+use crate::operands::{after, cut, is_queue_name, is_whom, read_seconds};
 use crate::verb::Verb;
 use decimals::read_decimal;
 use lpd_values::Octets;
@@ -23,6 +24,10 @@ pub enum ControlCommand {
     Release { queue: Octets },
     /// Removes jobs of the queue: the one of this number, or those of this user.
     Remove { queue: Octets, whom: Octets },
+    /// Removes one received job, by its number of acceptance.
+    CancelJob { number: u64 },
+    /// Removes one kept job, by the number of its file.
+    CancelFile { number: u64 },
     /// Has a job printed that failed, by the number of its file.
     Resend { number: u64 },
     /// Rotates the account.
@@ -80,6 +85,19 @@ fn removal_of(alloc: Global, operands: &[u8]) -> Result<ControlCommand, CommandF
     Ok(ControlCommand::Remove { queue, whom })
 }
 
+/// The removal of one job, with this operand.
+fn cancel_of(operand: &[u8]) -> Result<ControlCommand, CommandFault>
+    ensures { Reads (codes "cancel " ++ operand.now) result }
+{
+    if let Some(digits) = after(operand, b"job ") {
+        let number = read_decimal(digits).ok_or(CommandFault::Unknown)?;
+        return Ok(ControlCommand::CancelJob { number });
+    }
+    let digits = after(operand, b"file ").ok_or(CommandFault::Unknown)?;
+    let number = read_decimal(digits).ok_or(CommandFault::Unknown)?;
+    Ok(ControlCommand::CancelFile { number })
+}
+
 /// The stop with this operand.
 fn stop_of(operand: &[u8]) -> Result<ControlCommand, CommandFault>
     ensures { Reads (codes "stop " ++ operand.now) result }
@@ -104,9 +122,8 @@ impl Verb {
             Verb::Status => Ok(ControlCommand::Status),
             Verb::Rotate => Ok(ControlCommand::Rotate),
             Verb::Stop => Ok(ControlCommand::Stop { seconds: None }),
-            Verb::Start | Verb::Hold | Verb::Release | Verb::Remove | Verb::Resend => {
-                Err(CommandFault::Unknown)
-            }
+            Verb::Start | Verb::Hold | Verb::Release | Verb::Remove | Verb::Cancel | Verb::Resend =>
+                Err(CommandFault::Unknown),
         }
     }
 
@@ -128,6 +145,7 @@ impl Verb {
                 Ok(ControlCommand::Release { queue })
             }
             Verb::Remove => removal_of(alloc, operand),
+            Verb::Cancel => cancel_of(operand),
             Verb::Resend => {
                 let number = read_decimal(operand).ok_or(CommandFault::Unknown)?;
                 Ok(ControlCommand::Resend { number })
@@ -170,6 +188,7 @@ impl ControlCommand {
             ControlCommand::Hold { .. } => Verb::Hold,
             ControlCommand::Release { .. } => Verb::Release,
             ControlCommand::Remove { .. } => Verb::Remove,
+            ControlCommand::CancelJob { .. } | ControlCommand::CancelFile { .. } => Verb::Cancel,
             ControlCommand::Resend { .. } => Verb::Resend,
             ControlCommand::Rotate => Verb::Rotate,
             ControlCommand::Stop { .. } | ControlCommand::StopNow => Verb::Stop,
@@ -196,14 +215,18 @@ impl ControlCommand {
                 put_operand(&mut line, queue.as_slice())?;
                 put_operand(&mut line, whom.as_slice())?;
             }
-            ControlCommand::Resend { number } => {
-                put_operand(&mut line, number.to_string(alloc)?.as_bytes())?;
+            ControlCommand::CancelJob { number } => {
+                put_operand(&mut line, b"job")?;
+                put_number(alloc, &mut line, *number)?;
             }
+            ControlCommand::CancelFile { number } => {
+                put_operand(&mut line, b"file")?;
+                put_number(alloc, &mut line, *number)?;
+            }
+            ControlCommand::Resend { number } => put_number(alloc, &mut line, *number)?,
             ControlCommand::Stop {
                 seconds: Some(seconds),
-            } => {
-                put_operand(&mut line, seconds.to_string(alloc)?.as_bytes())?;
-            }
+            } => put_number(alloc, &mut line, u64::from(*seconds))?,
             ControlCommand::StopNow => put_operand(&mut line, b"now")?,
         }
         line.push(b'\n')?;
@@ -217,4 +240,11 @@ fn put_operand(line: &mut Vec<u8>, operand: &[u8]) -> Result<(), AllocError>
 {
     line.push(b' ')?;
     line.extend_from_slice(operand)
+}
+
+/// Puts a space and the number at the end of the line.
+fn put_number(alloc: Global, line: &mut Vec<u8>, number: u64) -> Result<(), AllocError>
+    ensures { OnOk result (line.new.items ≡ line.old.items ++ 32 ∷ decimal number) }
+{
+    put_operand(line, number.to_string(alloc)?.as_bytes())
 }

@@ -12,5 +12,5 @@ mod tag;
 pub use attribute::{Attribute, class, id};
 pub use attribute_name::AttributeName;
 pub use laws::a_page_is_read_as_its_parts;
-pub use page::Page;
+pub use page::HtmlPage;
 pub use tag::Tag;

@@ -197,6 +197,42 @@ impl<'a, R: Files<File = File> + Wait> Disk<'a, R> {
         }
     }
 
+    /// The number of the file of a held job of this number, where it is known.
+    pub fn file_of(&self, job: u64) -> Option<u64> {
+        self.standing.lock(self.rt).files.file_of(job)
+    }
+
+    /// The number of acceptance of the held job whose file has this number, where it is known.
+    pub fn job_of(&self, file: u64) -> Option<u64> {
+        self.standing.lock(self.rt).files.job_of(file)
+    }
+
+    /// Removes a whole file whose job no spool has: one that was to be fed.
+    ///
+    /// An error where there is no such file, or it can't be removed.
+    pub fn drop_whole(&self, number: u64) -> Result<(), DiskFault<'a>> {
+        self.act(number, JobEnd::Removed)
+    }
+
+    /// Removes a file that failed.
+    ///
+    /// An error where there is no such file, or it can't be removed.
+    pub fn drop_failed(&self, number: u64) -> Result<(), DiskFault<'a>> {
+        let stage = FileStage::Failed;
+        let name = KeptFileName { number, stage };
+        if let Err(cause) = self.remove(name) {
+            return Err(self.fault_at(name, cause));
+        }
+        self.note_one_less();
+        Ok(())
+    }
+
+    /// One of the files that failed isn't there any more.
+    fn note_one_less(&self) {
+        let mut standing = self.standing.lock(self.rt);
+        standing.failed = standing.failed.saturating_sub(1);
+    }
+
     /// Makes a file that failed a whole one again, which is to be fed then.
     ///
     /// An error where there is no such file, or it can't be renamed, or the folder can't be synced.
@@ -206,10 +242,7 @@ impl<'a, R: Files<File = File> + Wait> Disk<'a, R> {
         if let Err(cause) = self.rename(name, FileStage::Whole) {
             return Err(self.fault_at(name, cause));
         }
-        {
-            let mut standing = self.standing.lock(self.rt);
-            standing.failed = standing.failed.saturating_sub(1);
-        }
+        self.note_one_less();
         self.sync_names().map_err(|cause| self.fault(cause))
     }
 

@@ -49,6 +49,22 @@ impl<'a, R: Files<File = File> + Wait> DiskStore<'a, R> {
             .map_err(|cause| self.disk.fault_at(name, cause))
     }
 
+    /// The file of this number of a job that is whole or has failed, to be read from its head on. An error where there is neither, or it
+    /// can't be opened.
+    pub fn open_kept(&self, number: u64) -> Result<File, DiskFault<'a>> {
+        let whole = self.open_job(number);
+        if whole.is_ok() {
+            return whole;
+        }
+        let stage = FileStage::Failed;
+        let name = KeptFileName { number, stage };
+        match self.disk.open_file(name) {
+            Ok(file) => Ok(file),
+            // Between the two looks a printer may have left it.
+            Err(_) => self.open_job(number),
+        }
+    }
+
     /// Removes all temporary files, before a session has one in hand. An error where one can't be removed, or the folder can't be read.
     pub fn clear(&self) -> Result<(), DiskFault<'a>> {
         let names = self.disk.names().map_err(|cause| self.disk.fault(cause))?;

@@ -26,6 +26,11 @@ file_in (Some (File file)) = Some file
 file_in (Some (Ended end)) = None
 file_in None = None
 
+-- the job whose file this is, or none is known
+abbrev pub IsJobOf : JobFiles → (file : ℕ) → Option ℕ → Type 0
+IsJobOf files file (Some job) = file_in (entry_of files job) ≡ Some file
+IsJobOf files file None = (job : ℕ) → file_in (entry_of files job) ≡ Some file → ⊥
+
 -- what is known of a job, of which this was known, once its file is this one
 abbrev pub passed : Option JobEntry → ℕ → Option JobEntry
 passed (Some (Ended end)) file = None

@@ -1,7 +1,7 @@
 //! Which file of the folder each accepted job has.
 
 ghost use Rattle.std.specs.Prelude.{◌≡◌, ◌<◌, ◌≤◌, ◌+◌, ℕ, None, IfOk, IsOk, OnErr, OnOk};
-ghost use Rattle.job_files.specs.Table.{Becomes, ended, entry_of, file_in, how_ended, passed, room_of, Stays};
+ghost use Rattle.job_files.specs.Table.{Becomes, ended, entry_of, file_in, how_ended, IsJobOf, passed, room_of, Stays};
 
 use std::alloc::{AllocError, Global};
 use std::collections::HashMap;
@@ -64,6 +64,28 @@ impl JobFiles {
         }
         self.entries.insert(job, JobEntry::File(file))?;
         Ok(None)
+    }
+
+    /// The number of a job's file, where that is known.
+    pub fn file_of(&self, job: u64) -> Option<u64>
+        ensures { result ≡ file_in (entry_of self.now job) }
+    {
+        match self.entries.get(&job) {
+            Some(JobEntry::File(file)) => Some(*file),
+            Some(JobEntry::Ended(_)) | None => None,
+        }
+    }
+
+    /// The job whose file has this number, where one is known that hasn't ended.
+    pub fn job_of(&self, file: u64) -> Option<u64>
+        ensures { IsJobOf self.now file result }
+    {
+        for (job, entry) in &self.entries {
+            if *entry == JobEntry::File(file) {
+                return Some(*job);
+            }
+        }
+        None
     }
 
     /// The job ended. Answers the number of its file, if that is known: nothing is known of the job then, and the caller acts on

@@ -51,6 +51,10 @@ impl<Q: Errand, D: Dial + Causes + Drop, P: Pause + Drop, F: PrinterFolder + Cau
     fn cause(&self) -> Option<Error> {
         self.cause
     }
+
+    fn may_go_on(&self) -> bool {
+        self.device.is_network()
+    }
 }
 
 impl<

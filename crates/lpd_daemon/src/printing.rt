@@ -60,6 +60,18 @@ impl<R: Clock + Log + Wait, E: HouseLedger, S: PrintSink + Explains> Watched<'_,
         }
     }
 
+    /// Notes a page that came back as not written, with which the printer stands still: its job has failed, or, where none is lost, had
+    /// been removed. Then the printer has no cause to stand still where the next job may be tried all the same.
+    fn note_failed(&self, is_lost: bool) {
+        let (hall, printer) = (self.house.hall, self.printer);
+        if is_lost || !self.sink.may_go_on() {
+            hall.restarts.note_failure(hall.rt, self.queue, is_lost);
+            return;
+        }
+        hall.oversight.standstills.end(hall.rt, printer);
+        hall.withdrawals.note(hall.rt, self.queue);
+    }
+
     /// How a job is left of which that is told. Where a page of it wasn't written and it was to be printed no more, it didn't fail: it
     /// had ended before, or the server ends. A removal that comes between the question whether the job is wanted and the page's return is
     /// told as a failure all the same: what the spool says is alike in both cases.
@@ -96,8 +108,7 @@ impl<R: Files<File = File> + Clock + Log + Wait, E: HouseLedger, S: PrintSink + 
         let how = self.how_left(leaving, self.was_given_up);
         self.was_given_up = false;
         if leaving == Leaving::Failed {
-            let is_lost = how == Leaving::Failed;
-            hall.restarts.note_failure(hall.rt, self.queue, is_lost);
+            self.note_failed(how == Leaving::Failed);
         }
         let left = self.sink.leave_job(how);
         if let (Err(SinkFault), Some(cause)) = (left, self.sink.cause()) {

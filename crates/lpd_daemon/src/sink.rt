@@ -1,4 +1,4 @@
-//! Why the pages of a printer aren't written.
+//! Why the pages of a printer aren't written, and whether its next job may be tried all the same.
 
 ghost use Rattle.std.specs.Prelude.{◌≡◌, Option};
 ghost use Rattle.std.specs.declared.io.Error.{Error};
@@ -12,4 +12,7 @@ pub(crate) trait Explains {
     /// Why the last page that wasn't written wasn't; None where all were.
     fn cause(&self) -> Option<Error>
         ensures { result ≡ why self.now };
+
+    /// Whether a page that it didn't write, since its job had been removed, says nothing of the next job.
+    fn may_go_on(&self) -> bool;
 }

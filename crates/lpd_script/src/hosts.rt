@@ -1,4 +1,7 @@
 //! The numbers that stand for the hosts of a script.
+//!
+//! They are given by a host's first `connect`, from 0, and a host is known again by its octets alone. With 4,294,967,296 hosts, or after
+//! 18,446,744,073,709,551,615 turns in a row, a script stops as for want of memory.
 
 ghost use Rattle.std.specs.Prelude.{◌≡◌, [], IfOk, OnOk};
 ghost use Rattle.lpd_script.specs.Hosts.{sender_of, with_host};

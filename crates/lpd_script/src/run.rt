@@ -1,4 +1,10 @@
 //! The main job: a configuration and a script in, acknowledgements and pages out.
+//!
+//! The configuration ends at the first line that is exactly `%%`. A later `%%` is a bad line of the script, and `%%` with a carriage return is
+//! not that line. BadScript comes when its line is reached, and nothing of that line is done; what earlier lines did stays printed.
+//!
+//! What a line prints is defined by the replies to its steps, and the replies by the trace: the number of turns of a line isn't fixed beforehand,
+//! since a session goes on until it stops.
 
 ghost use Rattle.std.specs.Prelude.{◌≡◌, ◌≢◌, ◌≤◌, ◌<◌, ◌⊎◌, ℕ, List, length, IfOk, IfErr, OnOk, OnErr, Err, Some, [], string_bytes};
 ghost use Rattle.lpd_commands.specs.Ends.{MakesAtMost, Writes, most_reads};

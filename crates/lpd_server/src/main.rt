@@ -28,7 +28,7 @@ use std::sync::{Arc, Wait};
 use std::thread::Threads;
 use std::time::Duration;
 use std::{io, thread};
-use word_actions::{PROGRESS, RunOutcome};
+use word_actions::{PROGRESS, RunOutcome, System};
 
 /// How many lines of the log wait to be written, at most.
 const LINES: usize = 256;
@@ -96,7 +96,11 @@ fn run<'a>(rt: &HostRuntime, words: &'a [String]) -> RunOutcome<'a>
         ));
     };
     let logged = Logged::new(*rt, Level::Info, FilteredLog::new(Console(*rt), filter));
-    word_actions::run(&logged, rt, words, &mut input, &mut output, &mut faults)
+    let system = System {
+        rt: &logged,
+        host: rt,
+    };
+    word_actions::run(system, words, &mut input, &mut output, &mut faults)
 }
 
 /// Sends a command to a server's control socket, and prints the answer. Answers the exit status.

@@ -1,4 +1,6 @@
 //! Data files that are sent.
+//!
+//! A data file owns its octets: a struct with a file name and borrowed octets can't be put into a `Vec` by proved code today.
 
 use lpd_commands::{FileName, Octets};
 

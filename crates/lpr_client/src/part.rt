@@ -1,4 +1,8 @@
 //! A job in parts, each up to one acknowledgement.
+//!
+//! Data files are sent in the order given, and the control file last, so that a server has all that the job prints when it learns that the job is
+//! whole. Lines and the control file are written to memory before the first octet is sent, so that want of memory never leaves half a job with a
+//! server; the contents of data files are lent, and not copied.
 
 ghost use Rattle.std.specs.Prelude.{◌≡◌, ◌++◌, ◌∷◌, [], map, IfOk, OnOk};
 ghost use Rattle.control_file.specs.Written.{control_text};

@@ -1,4 +1,6 @@
 //! What a client asks about the jobs of a queue.
+//!
+//! Its lines have no condition: they are written as they are given, and a server reads back those whose words are words and which aren't too long.
 
 ghost use Rattle.std.specs.Prelude.{◌≡◌, ◌++◌, ◌∷◌, [], IfOk};
 ghost use Rattle.lpd_commands.specs.declared.command.Command.TheVariants.{Remove, State};

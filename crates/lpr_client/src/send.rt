@@ -1,4 +1,6 @@
 //! Sending a job, acknowledgement by acknowledgement.
+//!
+//! After a fault nothing more is written: a server aborts the job in hand when its connection ends, so no abort is sent.
 
 ghost use Rattle.std.specs.Prelude.{IsTrue, ◌≡◌, ◌∷◌, [], length, map, OnOk, OnErr, IfErr};
 ghost use Rattle.lpd_commands.specs.Ends.{MakesAtMost, one_more, Took, Writes, WritesSome};

@@ -1,4 +1,8 @@
 //! What a job must be to be sent.
+//!
+//! It is a condition with its test, since a client knows all of it before it sends anything: so no call answers a refusal of its own. That the
+//! names of the data files differ, and that those which are printed are among them, is no condition: a server says so, and the octets are read as
+//! one job all the same.
 
 ghost use Rattle.std.specs.Prelude.{◌≡◌, IfOk};
 ghost use Rattle.std.specs.List.{list_all, list_any};

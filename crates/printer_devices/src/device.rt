@@ -1,4 +1,11 @@
 //! What the pages of a printer are written to: a file, a printer on the network, or a folder.
+//!
+//! A job of which each page was written is printed. What a printer on the network does with its connection then, how late it ends it or
+//! that it resets it, leaves a doubt, which is told where it is seen; it makes no printed job a failed one. A folder and a disk can still
+//! lack it.
+
+ghost use Rattle.std.specs.Prelude.{◌≡◌, IsOk, true};
+ghost use Rattle.printer_devices.specs.declared.device.Device.TheVariants as device;
 
 use crate::faults::DeviceFault;
 use crate::outlet::{Outlet, PatientFile};
@@ -67,12 +74,18 @@ impl<Q: Errand, D: Dial + Causes + Drop, P: Pause + Drop, F: PrinterFolder + Cau
         }
     }
 
-    /// Leaves the job that it is at: where that is done, it has to be where it should be.
-    pub fn leave(&mut self, is_done: bool) -> Result<(), DeviceFault> {
+    /// Leaves the job that it is at: where that is done, it has to be where it should be, in a folder or on the disk.
+    pub fn leave(&mut self, is_done: bool) -> Result<(), DeviceFault>
+        ensures network { (sink : _) → self.old ≡ device.Socket sink → IsOk result }
+    {
         match self {
             Device::File(file) if is_done => file.sync(),
             Device::File(_) => Ok(()),
-            Device::Socket(socket) => socket.leave().or(Err(DeviceFault)),
+            Device::Socket(socket) => {
+                // The dial has told of an end that leaves a doubt.
+                let _ = socket.leave();
+                Ok(())
+            }
             Device::Folder(folder) => folder.leave(is_done).or(Err(DeviceFault)),
         }
     }
@@ -84,6 +97,13 @@ impl<Q: Errand, D: Dial + Causes + Drop, P: Pause + Drop, F: PrinterFolder + Cau
             Device::File(file) => file.unsynced,
             Device::Socket(_) => None,
         }
+    }
+
+    /// Whether it is a printer on the network. Each job has a connection of its own there, so what came of one says nothing of the next.
+    pub fn is_network(&self) -> bool
+        ensures { (sink : _) → self.now ≡ device.Socket sink → result ≡ true }
+    {
+        matches!(self, Device::Socket(_))
     }
 
     /// Why a page wasn't written last.

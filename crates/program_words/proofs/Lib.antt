@@ -2,7 +2,6 @@ mod AllowLemmas
 mod AskedLemmas
 mod AuditLemmas
 mod CheckingLemmas
-mod CommandLemmas
 mod ControlLemmas
 mod EnvelopeLemmas
 mod ListLemmas

@@ -2,7 +2,7 @@
 use Rattle.std.specs.Prelude.{◌≡◌, ◌∷◌, ℕ, List, None, Option, Some, codes, map, option_map, true, [], unwrap_or}
 use Rattle.account_text.specs.Reading.{digest_of}
 use Rattle.clap.specs.Words.{App, Row, Rule, Text, all_of, first_of, new_app}
-use Rattle.program_words.specs.Rules.{counts, flag, option, repeated, with_rules, words}
+use Rattle.command_tables.specs.Rules.{counts, flag, option, repeated, with_rules, words}
 use Rattle.program_words.specs.Values.{IsFlag}
 use Rattle.account_usage.specs.declared.request.AuditRequest.{AuditRequest}
 use Rattle.account_usage.specs.declared.grouping.Grouping.{Grouping}

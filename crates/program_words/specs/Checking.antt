@@ -1,7 +1,7 @@
 -- The words of `check`: as clap sees them, and what they say.
 use Rattle.std.specs.Prelude.{◌≡◌, ◌∷◌, List, Some, codes, option_map, []}
 use Rattle.clap.specs.Words.{App, Row, Rule, first_of, new_app}
-use Rattle.program_words.specs.Rules.{flag, option, with_rules, word}
+use Rattle.command_tables.specs.Rules.{flag, option, with_rules, word}
 use Rattle.program_words.specs.Serving.{ArePrinters, IsControl, printer}
 use Rattle.program_words.specs.Values.{IsFlag}
 use Rattle.program_words.specs.declared.checking.Checking.{Checking}

@@ -3,7 +3,7 @@ use Rattle.std.specs.Prelude.{◌∷◌, List, codes, pos, true, []}
 use Rattle.clap.specs.Words.{App, Rule, new_app}
 use Rattle.clap.specs.declared.builder.value_parser.ValueParser.TheVariants as parser
 use Rattle.program_words.specs.Questions.{remove_app, server_option, server_port, start_app, state_app}
-use Rattle.program_words.specs.Rules.{flag, number, with_commands, with_rules, word, words}
+use Rattle.command_tables.specs.Rules.{flag, number, with_commands, with_rules, word, words}
 use Rattle.program_words.specs.Auditing.{audit_app, usage_app}
 use Rattle.program_words.specs.Checking.{check_app}
 use Rattle.program_words.specs.Serving.{serve_app}

@@ -6,6 +6,5 @@ pub mod CommandLine
 pub mod Naming
 pub mod Questions
 pub mod Refused
-pub mod Rules
 pub mod Serving
 pub mod Values

@@ -4,7 +4,7 @@ use Rattle.clap.specs.Words.{App, Row, Rule, Text, all_of, first_of, new_app}
 use Rattle.clap.specs.declared.builder.value_parser.ValueParser.TheVariants as parser
 use Rattle.lpd_commands.specs.declared.command.Command.{Command}
 use Rattle.lpd_commands.specs.declared.command.Command.TheVariants.{PrintWaiting, Receive, State, Remove}
-use Rattle.program_words.specs.Rules.{flag, number, option, optional_words, with_rules, word}
+use Rattle.command_tables.specs.Rules.{flag, number, option, optional_words, with_rules, word}
 use Rattle.program_words.specs.Values.{IsAddress, IsFlag, IsNumber}
 use Rattle.program_words.specs.declared.queue_question.QueueQuestion.{QueueQuestion}
 use Rattle.program_words.specs.declared.queue_question.Server.{Server}

@@ -4,7 +4,7 @@ use Rattle.std.specs.Int.NonZero.{non_zero_u64_get}
 use Rattle.std.specs.List.{AllPairs, AllZip}
 use Rattle.clap.specs.Words.{App, Row, Rule, Text, all_of, first_of, new_app}
 use Rattle.clap.specs.declared.builder.value_parser.ValueParser.TheVariants as parser
-use Rattle.program_words.specs.Rules.{count, flag, number_option, option, repeated, required_option, with_rules, word}
+use Rattle.command_tables.specs.Rules.{count, flag, number_option, option, repeated, required_option, with_rules, word}
 use Rattle.program_words.specs.Values.{IsAddress, IsFlag, IsGiven, IsGivenOr, IsLimit, IsNumber}
 use Rattle.program_edge.specs.Networks.{NameNetworks}
 use Rattle.program_edge.specs.declared.networks.Network.{Network}

@@ -5,11 +5,11 @@ ghost use Rattle.clap.specs.Words.{all_of, found_of, rows_of};
 ghost use Rattle.program_words.specs.Auditing.{IsAuditRequest, IsDigest, IsGrouping, IsTime, IsUsageRequest};
 ghost use Rattle.program_words.specs.Refused.{HasNoDigest, HasNoGrouping, HasNoTime, LacksAudit, LacksUsage};
 
-use crate::rules::{CommandTable, Shape, Word};
 use crate::values::{flag_of, text_if, text_or, texts_of};
 use crate::word_fault::WordFault;
 use account_usage::{AuditRequest, Grouping, UsageRequest};
 use clap::ArgMatches;
+use command_tables::{CommandTable, Shape, Word};
 use segment_text::is_time;
 use std::alloc::{AllocError, Global};
 

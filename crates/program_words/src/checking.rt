@@ -7,11 +7,11 @@ ghost use Rattle.program_words.specs.Refused.{LacksChecking};
 
 use crate::command::CONFIG;
 use crate::printers::{PRINTER, printers_of};
-use crate::rules::{CommandTable, Shape, Word};
 use crate::serving::control_of;
 use crate::values::{flag_of, text_if, text_of};
 use crate::word_fault::WordFault;
 use clap::ArgMatches;
+use command_tables::{CommandTable, Shape, Word};
 use program_edge::PlacedPrinter;
 use std::alloc::Global;
 

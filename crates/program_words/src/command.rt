@@ -5,14 +5,14 @@
 ghost use Rattle.std.specs.Prelude.{◌≡◌, IfOk, map};
 ghost use Rattle.clap.specs.Words.{app_of};
 ghost use Rattle.program_words.specs.CommandLine.{command_line, program_app};
-ghost use Rattle.program_words.specs.Rules.{table_app, with_commands};
+ghost use Rattle.command_tables.specs.Rules.{table_app, with_commands};
 
 use crate::auditing::{AUDIT, USAGE};
 use crate::checking::CHECK;
 use crate::questions::{QUEUE, REMOVE, SERVER, SERVER_PORT, START, STATE};
-use crate::rules::{CommandTable, Shape, Word, command_of, plain};
 use crate::serving::SERVE;
 use clap::Command;
+use command_tables::{CommandTable, Shape, Word, command_of, plain};
 use std::alloc::{AllocError, Global};
 
 /// The word for a configuration's file.

@@ -10,7 +10,6 @@ mod naming;
 mod printers;
 mod questions;
 mod queue_question;
-mod rules;
 mod serving;
 mod values;
 mod word_fault;

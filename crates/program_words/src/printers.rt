@@ -8,10 +8,10 @@ ghost use Rattle.program_words.specs.Serving.{ArePrinterLimits, ArePrinters};
 ghost use Rattle.program_words.specs.declared.word_fault.WordFault.TheVariants.{Missing};
 ghost use Rattle.program_edge.specs.declared.places.PlacedPrinter.{PlacedPrinter};
 
-use crate::rules::{Shape, Word};
 use crate::values::{limit_of, texts_of};
 use crate::word_fault::WordFault;
 use clap::ArgMatches;
+use command_tables::{Shape, Word};
 use program_edge::{PlacedPrinter, PrinterLimits};
 use std::alloc::Global;
 

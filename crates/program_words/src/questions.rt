@@ -7,10 +7,10 @@ ghost use Rattle.program_words.specs.Questions.{IsList, IsQuery, IsQuestion, IsS
 ghost use Rattle.program_words.specs.Refused.{LacksQuery, LacksQuestion, LacksServer};
 
 use crate::queue_question::{QueueQuestion, Server};
-use crate::rules::{CommandTable, Shape, Word};
 use crate::values::{address_of, flag_of, number_of, text_of, texts_of};
 use crate::word_fault::WordFault;
 use clap::ArgMatches;
+use command_tables::{CommandTable, Shape, Word};
 use lpd_commands::{Command, Octets, Words};
 use lpr_client::has_line;
 use std::alloc::{AllocError, Global};

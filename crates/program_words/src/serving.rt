@@ -11,12 +11,12 @@ ghost use Rattle.program_words.specs.declared.word_fault.WordFault.TheVariants.{
 
 use crate::command::CONFIG;
 use crate::printers::{PRINTER, printer_limits_of, printers_of};
-use crate::rules::{CommandTable, Shape, Word};
 use crate::values::{
     address_of, count_of, flag_of, limit_of, number_of, text_if, text_or, texts_of,
 };
 use crate::word_fault::WordFault;
 use clap::ArgMatches;
+use command_tables::{CommandTable, Shape, Word};
 use program_edge::{
     LEAVE_SECONDS, Limits, LogForm, MOST_CONTROL_PATH, NO_JOB_SECONDS, Network, PlacedPrinter,
     PrinterLimits, ROOM_MS, Settings, StatusPlace, is_host_name,

@@ -1,4 +1,7 @@
 //! What a line of a script asks for.
+//!
+//! Numbers may have leading zeros (1 to 9 digits in all); number 0 names nothing. An empty word, a carriage return or words too many are bad; a
+//! line of spaces is not empty; `#` counts at the first octet alone.
 
 ghost use Rattle.std.specs.Prelude.{◌≡◌, ◌↔◌, ◌++◌, IsTrue, MatchOption, MatchResult, codes};
 ghost use Rattle.script_lines.specs.Grammar.{is_host_octet, IsHost, IsNumber, IsNoNumber};

@@ -1,10 +1,12 @@
 //! What is asked at the control socket, each command as calls of the spool and the lines of its answer.
 
 use crate::care::Care;
-use control_lines::{AnswerEnd, ControlCommand};
+use control_lines::{AnswerEnd, ControlCommand, Escaped};
+use decimals::read_decimal;
+use held_jobs::Phase;
 use log::Log;
 use server_house::{HouseLedger, HouseSeat, PrintedLine, rotation_of};
-use shared_spool::Octets;
+use shared_spool::{Octets, SeenJob};
 use std::alloc::{AllocError, Global};
 use std::fmt::Display;
 use std::fs::{File, Files};
@@ -93,18 +95,84 @@ impl<R: Files<File = File> + Clock + Log + Wait, E: HouseLedger> Care<'_, '_, R,
         }
         if started.stopped == 0 {
             answer.line(&"started none")?;
+            if self.is_held(started.queue)? {
+                let name = self.hall.queue_name(started.queue);
+                let line = format!(in answer.alloc; "{name} is held: release {name}")?;
+                answer.line(&line)?;
+            }
         }
         answer.end(AnswerEnd::Done)
     }
 
-    /// Holds a queue, or releases it.
-    fn hold_queue(&self, queue: &[u8], held: bool) -> Result<Vec<u8>, AllocError> {
-        let done = if held {
-            self.spool.hold(self.hall.rt, queue)
-        } else {
-            self.spool.release(self.hall.rt, queue)
+    /// Whether the queue of a number is held. An error where memory is refused.
+    fn is_held(&self, queue: u32) -> Result<bool, AllocError> {
+        let sight = self.spool.sight(self.hall.rt, self.hall.alloc)?;
+        Ok(sight.held.get(queue as usize).copied().unwrap_or(false))
+    }
+
+    /// Whether the queue of a name is held; not where there is none. An error where memory is refused.
+    fn is_held_by_name(&self, queue: &[u8]) -> Result<bool, AllocError> {
+        match self.hall.oversight.config.queue_named(queue) {
+            Some(queue) => self.is_held(queue),
+            None => Ok(false),
+        }
+    }
+
+    /// Holds a queue. Tells where it was held before.
+    fn hold_queue(&self, queue: &[u8]) -> Result<Vec<u8>, AllocError> {
+        let mut answer = AnswerLines::new(self.hall.alloc);
+        let was_held = self.is_held_by_name(queue)?;
+        if let Err(refusal) = self.spool.hold(self.hall.rt, queue) {
+            return answer.end_by(Some(refusal));
+        }
+        if was_held {
+            answer.line(&"held already")?;
+        }
+        answer.end(AnswerEnd::Done)
+    }
+
+    /// Tells that a queue wasn't held, and which of its printers are stopped.
+    fn tell_unheld(&self, answer: &mut AnswerLines, queue: &[u8]) -> Result<(), AllocError> {
+        let stopped = self.stopped_of(queue)?;
+        if stopped.is_empty() {
+            return answer.line(&"nothing held");
+        }
+        let queue = Escaped(queue);
+        for printer in stopped.iter() {
+            let line = format!(in answer.alloc; "nothing held: printer {printer} is stopped: start {queue}")?;
+            answer.line(&line)?;
+        }
+        Ok(())
+    }
+
+    /// Releases a queue. Where it wasn't held that is told, and what would have its jobs printed.
+    fn release_queue(&self, queue: &[u8]) -> Result<Vec<u8>, AllocError> {
+        let mut answer = AnswerLines::new(self.hall.alloc);
+        let was_held = self.is_held_by_name(queue)?;
+        if let Err(refusal) = self.spool.release(self.hall.rt, queue) {
+            return answer.end_by(Some(refusal));
+        }
+        if !was_held {
+            self.tell_unheld(&mut answer, queue)?;
+        }
+        answer.end(AnswerEnd::Done)
+    }
+
+    /// A line that tells by which command the job goes whose number of acceptance this is, where it is a received one of the queue: `remove`
+    /// takes the number that its sender gave it.
+    fn hint_of(&self, queue: u32, whom: &[u8]) -> Result<Option<String>, AllocError> {
+        let Some(number) = read_decimal(whom) else {
+            return Ok(None);
         };
-        AnswerLines::new(self.hall.alloc).end_by(done.err())
+        let sight = self.spool.sight(self.hall.rt, self.hall.alloc)?;
+        let mut jobs = sight.spool.jobs.iter();
+        let is_meant = |job: &&SeenJob| job.number == number && job.queue == queue && job.phase == Phase::Received;
+        let Some(job) = jobs.find(is_meant) else {
+            return Ok(None);
+        };
+        let name = self.name_of(job);
+        let line = format!(in self.hall.alloc; "remove takes the number that the client gave: for {name} say cancel job {number}")?;
+        Ok(Some(line))
     }
 
     /// Removes a job or a user's jobs of a queue, and tells which.
@@ -120,29 +188,20 @@ impl<R: Files<File = File> + Clock + Log + Wait, E: HouseLedger> Care<'_, '_, R,
             .remove_telling(self.hall.rt, seat, queue, AGENT, &list)
         {
             Ok(removal) => {
+                let mut more = AnswerLines::new(self.hall.alloc);
+                if removal.numbers.is_empty() {
+                    if let Some(hint) = self.hint_of(removal.queue, whom)? {
+                        more.line(&hint)?;
+                    }
+                }
                 self.hall.end_removed(removal.numbers);
                 let mut octets = removal.text.into_vec();
-                let end = AnswerLines::new(self.hall.alloc).end(AnswerEnd::Done)?;
+                let end = more.end(AnswerEnd::Done)?;
                 octets.extend_from_slice(end.as_slice())?;
                 Ok(octets)
             }
             Err(refusal) => AnswerLines::new(self.hall.alloc).end_by(Some(refusal)),
         }
-    }
-
-    /// Has a job fed again that has failed, by the number of its file.
-    fn resend_job(&self, number: u64) -> Result<Vec<u8>, AllocError> {
-        let answer = AnswerLines::new(self.hall.alloc);
-        let Some(kept) = &self.hall.kept else {
-            return answer.end_by(Some("no jobs are kept: the server has no --spool"));
-        };
-        if let Err(fault) = kept.disk.resend(number) {
-            return answer.end_by(Some(fault));
-        }
-        if kept.enter(self.hall.rt, self.hall.alloc, number)? {
-            return answer.end(AnswerEnd::Done);
-        }
-        answer.end_by(Some("the file isn't that of a kept job"))
     }
 
     /// Rotates the account. The porter prints that.
@@ -176,11 +235,13 @@ impl<R: Files<File = File> + Clock + Log + Wait, E: HouseLedger> Care<'_, '_, R,
         match command {
             ControlCommand::Status => self.tell_status(),
             ControlCommand::Start { queue } => self.start_queue(seat, queue.as_slice()),
-            ControlCommand::Hold { queue } => self.hold_queue(queue.as_slice(), true),
-            ControlCommand::Release { queue } => self.hold_queue(queue.as_slice(), false),
+            ControlCommand::Hold { queue } => self.hold_queue(queue.as_slice()),
+            ControlCommand::Release { queue } => self.release_queue(queue.as_slice()),
             ControlCommand::Remove { queue, whom } => {
                 self.remove_jobs(seat, queue.as_slice(), whom.as_slice())
             }
+            ControlCommand::CancelJob { number } => self.cancel_job(seat, *number),
+            ControlCommand::CancelFile { number } => self.cancel_file(seat, *number),
             ControlCommand::Resend { number } => self.resend_job(*number),
             ControlCommand::Rotate => self.rotate_account(seat),
             ControlCommand::Stop { .. } | ControlCommand::StopNow => AnswerLines::new(

@@ -2,9 +2,11 @@
 #![tactic(auto)]
 
 mod board;
+mod cancelling;
 mod care;
 mod commanding;
 mod counter;
+mod job_name;
 mod showing;
 mod status;
 mod stewarding;

@@ -96,13 +96,16 @@ impl<R: Files<File = File> + Clock + Log + Wait, E: HouseLedger> Feeding<'_, '_,
     ) -> bool {
         let (rt, alloc) = (self.hall.rt, self.hall.alloc);
         let Some(owner) = kept.owner(rt, alloc, number) else {
-            kept.pass_over(rt);
+            kept.pass_over(rt, number);
             return true;
         };
         let mut store = StoredJobs::new(&kept.disk);
         let octets = store.length_of(number);
         if !self.has_room(&owner, octets) {
             return false;
+        }
+        if !kept.take_first(rt, number) {
+            return true;
         }
         feeder.inner.hand.folder.take(number);
         let fed = feed_one(rt, alloc, &mut store, feeder, number);
@@ -113,6 +116,7 @@ impl<R: Files<File = File> + Clock + Log + Wait, E: HouseLedger> Feeding<'_, '_,
             warn!(rt; target: PART, "{fault}: the job is printed again after the next start");
         }
         if !is_passed && (waits_for_room(fed) || self.hall.ending.is_over()) {
+            kept.put_back(rt);
             return false;
         }
         kept.leave(rt, &owner);

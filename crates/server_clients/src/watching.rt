@@ -172,6 +172,7 @@ pub fn watch<R: Clock + Log + Wait, E: HouseLedger>(
             break;
         }
         thread::sleep(hall.rt, Duration::from_millis(STEP_MS));
+        house.start_all_due(&mut watcher.seat);
         step = step.saturating_add(1) % STEPS;
         if step != 0 {
             continue;
@@ -179,7 +180,6 @@ pub fn watch<R: Clock + Log + Wait, E: HouseLedger>(
         if watcher.look(buffer.as_mut_slice()).is_err() {
             warn!(hall.rt; target: PART, "memory was refused to look for peers that are gone");
         }
-        house.start_all_due(&mut watcher.seat);
     }
     watcher.seat
 }

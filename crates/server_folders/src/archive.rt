@@ -23,7 +23,7 @@ use std::time::{Duration, Instant, SystemTime, UNIX_EPOCH};
 /// The part of the program that logs each segment that became a file, as the log names it.
 pub const ACCOUNT_LINES: &str = "lpd_daemon::archiving";
 
-/// How many segments may wait, beside the one that is being written. While so many do, the account isn't rotated.
+/// How many segments may wait, beside the one that is being written. While this many do, the account isn't rotated.
 const MOST_WAITING: usize = 2;
 
 /// The first pause after a try that failed, in seconds. Each further one is twice as long as the one before.
@@ -214,7 +214,7 @@ impl Archive<'_> {
         None
     }
 
-    /// Waits for so many seconds. False once nothing is waited for any more.
+    /// Waits for N seconds. False once nothing is waited for any more.
     fn pause<R: Clock + Wait>(&self, rt: &R, seconds: u64) -> bool {
         let limit = Duration::from_secs(seconds);
         let shelf = self.shelf.lock(rt);

@@ -5,15 +5,15 @@ ghost use Rattle.program_edge.specs.Openings.{IsUnopened};
 ghost use Rattle.program_edge.specs.declared.opening.StartPart.{StartPart};
 ghost use Rattle.program_edge.specs.declared.opening.StartPart.TheVariants.{Spool};
 
-use crate::owner::{Owner, owner_of};
+use crate::owner::{FiledJob, Owner, filed_job, owner_of};
 use crate::refusal::refused;
 use crate::stored::StoredJobs;
 use config_values::Config;
-use job_disk::Disk;
+use job_disk::{Disk, DiskFault, DiskStore};
 use job_files::JobEnd;
 use job_store::{Store, recover};
 use log::{Log, warn};
-use program_edge::{StartFault, StartPart};
+use program_edge::{StartFault, StartPart, StreamReader};
 use status_lines::KeptJobs;
 use std::alloc::{AllocError, Global};
 use std::collections::VecDeque;
@@ -23,12 +23,30 @@ use std::sync::{Condvar, Mutex, Wait};
 use std::time::Duration;
 
 /// The jobs of the folder that wait for the spool to take them.
+///
+/// ```text
+///   entered ---> waits ---> first ------------> is fed ------> left
+///                  |          |  ^                |
+///                  |          |  +--- no room ----+
+///                  +----------+---> let go
+/// ```
 #[derive(Drop)]
 struct KeptLine {
     /// The numbers of their files, in order.
     numbers: VecDeque<u64>,
+    /// The first of them is being fed.
+    is_feeding: bool,
     /// Each that had room at the start was fed.
     is_settled: bool,
+}
+
+/// What came of a file whose job was to go.
+#[derive(Clone, Copy, Debug, PartialEq, Eq)]
+pub enum FileEnd {
+    /// It waited to be fed, or had failed, and is removed.
+    Gone,
+    /// It is being fed to the spool.
+    IsFed,
 }
 
 /// The folder in which jobs are kept.
@@ -65,6 +83,7 @@ impl<'a, R: Files<File = File> + Log + Wait> JobFolder<'a, R> {
         };
         let line = KeptLine {
             numbers: VecDeque::new(alloc),
+            is_feeding: false,
             is_settled: false,
         };
         let kept = JobFolder {
@@ -109,15 +128,77 @@ impl<'a, R: Files<File = File> + Log + Wait> JobFolder<'a, R> {
         self.line.lock(rt).numbers.front().copied()
     }
 
-    /// The job that waits first isn't to be fed, and nothing is known of whose it is.
-    pub fn pass_over(&self, rt: &R) {
-        self.line.lock(rt).numbers.pop_front();
+    /// The job in this file isn't to be fed, where it waits first, and nothing is known of whose it is.
+    pub fn pass_over(&self, rt: &R, number: u64) {
+        let mut line = self.line.lock(rt);
+        if line.numbers.front() == Some(&number) {
+            line.numbers.pop_front();
+        }
     }
 
-    /// The job that waits first isn't to be fed any more: its owner's new jobs don't wait for it.
+    /// The job in this file is being fed from now on, where it still waits first. False where it doesn't: it was let go.
+    pub fn take_first(&self, rt: &R, number: u64) -> bool {
+        let mut line = self.line.lock(rt);
+        line.is_feeding = line.numbers.front() == Some(&number);
+        line.is_feeding
+    }
+
+    /// The job that was being fed waits on, since there was no room for it.
+    pub fn put_back(&self, rt: &R) {
+        self.line.lock(rt).is_feeding = false;
+    }
+
+    /// The job that was being fed isn't to be fed any more: its owner's new jobs don't wait for it.
     pub fn leave(&self, rt: &R, owner: &Owner) {
-        self.line.lock(rt).numbers.pop_front();
+        {
+            let mut line = self.line.lock(rt);
+            line.numbers.pop_front();
+            line.is_feeding = false;
+        }
         self.disk.fed(owner.sender, owner.queue.as_slice());
+    }
+
+    /// The job in this file, of one that is whole or has failed, as the file says whose it is.
+    ///
+    /// An error where there is no such file, or it can't be opened; none where it doesn't say that, of which the log is told.
+    pub fn filed(
+        &self,
+        rt: &R,
+        alloc: Global,
+        number: u64,
+    ) -> Result<Option<FiledJob>, DiskFault<'a>> {
+        let file = DiskStore::new(&self.disk).open_kept(number)?;
+        match filed_job(alloc, &mut StreamReader::new(file)) {
+            Ok(job) => Ok(Some(job)),
+            Err(why) => {
+                warn!(rt; "it isn't known whose the job in file {number} is: {why}");
+                Ok(None)
+            }
+        }
+    }
+
+    /// Has the job in this file go, which waits to be fed or has failed: its file is removed, and nobody waits for it any more.
+    ///
+    /// An error where it doesn't wait and no file of it has failed, or the file can't be removed. Nothing changes then.
+    pub fn let_go(
+        &self,
+        rt: &R,
+        number: u64,
+        owner: &Owner,
+    ) -> Result<FileEnd, DiskFault<'a>> {
+        let mut line = self.line.lock(rt);
+        if line.is_feeding && line.numbers.front() == Some(&number) {
+            return Ok(FileEnd::IsFed);
+        }
+        let Some(place) = line.numbers.iter().position(|waiting| *waiting == number) else {
+            self.disk.drop_failed(number)?;
+            return Ok(FileEnd::Gone);
+        };
+        self.disk.drop_whole(number)?;
+        line.numbers.remove(place);
+        drop(line);
+        self.disk.fed(owner.sender, owner.queue.as_slice());
+        Ok(FileEnd::Gone)
     }
 
     /// Each job that had room at the start has been fed.

@@ -1,9 +1,10 @@
-//! Whose a kept job is: what stands at the head of its file.
+//! Whose a kept job is: what stands at the head of its file, and its control file.
 
+use control_file::Control;
 use job_heads::HeadFault;
 use job_store::read_sender;
-use lpd_commands::{Command, OctetFault, OctetRead, parse_command};
-use lpd_values::{MAX_LINE, Octets};
+use lpd_commands::{Command, OctetFault, OctetRead, Sub, parse_command, parse_sub};
+use lpd_values::{MAX_CONTROL_TEXT, MAX_FILES, MAX_LINE, Octets, Refusal};
 use std::alloc::Global;
 use std::fmt;
 
@@ -15,6 +16,18 @@ pub struct Owner {
     /// The name of the queue.
     pub queue: Octets,
 }
+
+/// A kept job, as its file says whose it is.
+#[derive(Drop)]
+pub struct FiledJob {
+    /// Who sent it, and to which queue.
+    pub owner: Owner,
+    /// Its control file.
+    pub control: Control,
+}
+
+/// How many octets are read at once of what is passed over.
+const BLOCK: usize = 8_192;
 
 /// Why a file doesn't say whose its job is.
 #[derive(Clone, Copy, Debug, PartialEq, Eq)]
@@ -43,6 +56,15 @@ impl fmt::Display for OwnerFault {
 impl From<OctetFault> for OwnerFault {
     fn from(_: OctetFault) -> OwnerFault {
         OwnerFault::Unread
+    }
+}
+
+impl From<Refusal> for OwnerFault {
+    fn from(refusal: Refusal) -> OwnerFault {
+        match refusal {
+            Refusal::Memory => OwnerFault::Memory,
+            _ => OwnerFault::NoJob,
+        }
     }
 }
 
@@ -81,4 +103,64 @@ pub(crate) fn owner_of<I: OctetRead>(alloc: Global, job: &mut I) -> Result<Owner
         Ok(Command::Receive { queue }) => Ok(Owner { sender, queue }),
         Ok(_) | Err(_) => Err(OwnerFault::NoJob),
     }
+}
+
+/// Passes over N octets.
+fn pass_over<I: OctetRead>(job: &mut I, count: u64) -> Result<(), OwnerFault> {
+    let mut block = [0; BLOCK];
+    let mut left = count;
+    for _ in 0..count {
+        if left == 0 {
+            break;
+        }
+        let wanted = left.min(BLOCK as u64) as usize;
+        let read = job.read(&mut block[..wanted])?;
+        if read == 0 {
+            return Err(OwnerFault::NoJob);
+        }
+        left = left.saturating_sub(read as u64);
+    }
+    Ok(())
+}
+
+/// The text of a control file of N octets.
+fn text_of<I: OctetRead>(alloc: Global, job: &mut I, count: u64) -> Result<Vec<u8>, OwnerFault> {
+    if count > MAX_CONTROL_TEXT as u64 {
+        return Err(OwnerFault::NoJob);
+    }
+    let mut text = Vec::new(alloc);
+    for _ in 0..count {
+        let mut octet = [0];
+        if job.read(&mut octet)? == 0 {
+            return Err(OwnerFault::NoJob);
+        }
+        if text.push(octet[0]).is_err() {
+            return Err(OwnerFault::Memory);
+        }
+    }
+    Ok(text)
+}
+
+/// The control file of a job whose files stand here, which are read up to it.
+fn control_of<I: OctetRead>(alloc: Global, job: &mut I) -> Result<Control, OwnerFault> {
+    for _ in 0..=MAX_FILES {
+        let line = line_of(alloc, job)?.ok_or(OwnerFault::NoJob)?;
+        match parse_sub(line.as_slice())? {
+            Sub::ControlFile { count, name } => {
+                let text = text_of(alloc, job, count)?;
+                return Ok(Control::parse(alloc, &name, text.as_slice())?);
+            }
+            // An octet 00 ends it.
+            Sub::DataFile { count, .. } => pass_over(job, count.saturating_add(1))?,
+            Sub::Abort => return Err(OwnerFault::NoJob),
+        }
+    }
+    Err(OwnerFault::NoJob)
+}
+
+/// The job that stands here, of which the files before its control file are passed over.
+pub(crate) fn filed_job<I: OctetRead>(alloc: Global, job: &mut I) -> Result<FiledJob, OwnerFault> {
+    let owner = owner_of(alloc, job)?;
+    let control = control_of(alloc, job)?;
+    Ok(FiledJob { owner, control })
 }

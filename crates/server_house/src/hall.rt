@@ -11,7 +11,7 @@ use log::Log;
 use mio::Waker;
 use program_edge::{Limits, PrinterLimits, Settings};
 use server_folders::{Archive, JobFolder};
-use server_notes::{JobBook, JobOutcome, Restarts, Rotations, ServerEnding};
+use server_notes::{JobBook, JobOutcome, Restarts, Rotations, ServerEnding, Withdrawals};
 use std::alloc::{AllocError, Global};
 use std::fs::{File, Files};
 use std::rt::Clock;
@@ -29,6 +29,8 @@ pub struct Hall<'a, R> {
     pub printer_limits: PrinterLimits,
     /// When queues are started again.
     pub restarts: Restarts,
+    /// Which queues are started again at once.
+    pub withdrawals: Withdrawals,
     /// From how many counted entries on the account is rotated, where room is kept in it.
     pub least: Option<u64>,
     pub desk: Desk,
@@ -62,6 +64,7 @@ impl<'a, R> Hall<'a, R> {
     ) -> Result<(Hall<'a, R>, Doors), AllocError> {
         let is_shown = settings.status.is_some();
         let restarts = Restarts::new(alloc, config.queues().len(), settings.restart_seconds)?;
+        let withdrawals = Withdrawals::new(alloc, config.queues().len())?;
         let posts = Posts::new(alloc, sessions_of(settings) as usize)?;
         let job_book = JobBook::open(alloc, settings.log_jobs, is_shown, config.max_jobs())?;
         let oversight = Oversight::new(alloc, config)?;
@@ -72,6 +75,7 @@ impl<'a, R> Hall<'a, R> {
             limits: settings.limits,
             printer_limits: settings.printer_limits,
             restarts,
+            withdrawals,
             least: None,
             desk,
             posts,

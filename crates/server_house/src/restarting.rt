@@ -3,6 +3,9 @@
 //! `--restart` starts whole queues, by the same event as command 01, so it needs no other room in the account. The watcher does it, which
 //! looks once a second in any case: it needs no thread and no seat of its own. A server that is being stopped starts none, since a stop
 //! passes over printers that stand still.
+//!
+//! Without it, too, a queue is started at once whose printer stands still for want of its job alone, which was removed: what one user removes
+//! stops no queue. Where another printer of the queue stands still for a cause of its own it waits for whoever starts the queue.
 
 use crate::house::House;
 use crate::ledgers::{HouseLedger, HouseSeat};
@@ -25,6 +28,30 @@ impl<R: Clock + Log + Wait, E: HouseLedger> House<'_, '_, R, E> {
         }
     }
 
+    /// Whether a printer of a queue stands still for a cause of its own.
+    fn has_standstill(&self, queue: u32) -> bool {
+        let (rt, oversight) = (self.hall.rt, &self.hall.oversight);
+        for before in 0..oversight.config.printer_count() {
+            let printer = before + 1;
+            if oversight.config.queue_of(printer) == queue
+                && oversight.standstills.of(rt, printer).is_some()
+                && self.spool.is_stopped(rt, printer)
+            {
+                return true;
+            }
+        }
+        false
+    }
+
+    /// Starts a queue at once whose printer stands still for want of its job, unless another of its printers stands still for a cause of
+    /// its own.
+    fn start_at_once(&self, seat: &mut HouseSeat<E>, queue: u32) {
+        if self.hall.withdrawals.take(self.hall.rt, queue) && !self.has_standstill(queue) {
+            let name = self.hall.oversight.config.name_of(queue);
+            let _ = self.spool.start_telling(self.hall.rt, seat, name);
+        }
+    }
+
     /// Starts each queue again of which that is due, unless the server is being stopped.
     pub fn start_all_due(&self, seat: &mut HouseSeat<E>) {
         if self.hall.ending.stops() {
@@ -35,6 +62,7 @@ impl<R: Clock + Log + Wait, E: HouseLedger> House<'_, '_, R, E> {
         };
         for place in 0..self.hall.oversight.config.queues().len() {
             let queue = place as u32 + 1;
+            self.start_at_once(seat, queue);
             if let Some(failures) = self.hall.restarts.take_due(self.hall.rt, queue, now) {
                 self.start_again(seat, queue, failures);
             }

@@ -135,6 +135,11 @@ impl JobBook {
         }
     }
 
+    /// The number that a held job's sender gave it, where it is known.
+    pub fn number_of<R: Wait>(&self, rt: &R, job: u64) -> Option<u16> {
+        self.jobs.lock(rt).get(&job).and_then(|noted| noted.number)
+    }
+
     /// One more page of a job has come, with N octets.
     pub fn note_page<R: Wait>(&self, rt: &R, job: u64, octets: usize) {
         if let Some(noted) = self.jobs.lock(rt).get_mut(&job) {

@@ -1,5 +1,5 @@
 //! What a server notes beside its spool, each under a lock of its own: how far its end has come, what becomes of each job, which printers
-//! stand still, when queues are started again, and rotations that aren't printed yet.
+//! stand still, when queues are started again, also at once, and rotations that aren't printed yet.
 #![tactic(auto)]
 
 mod ending;
@@ -9,6 +9,7 @@ mod moments;
 mod restarts;
 mod rotations;
 mod standstills;
+mod withdrawals;
 
 pub use ending::ServerEnding;
 pub use job_book::JobBook;
@@ -17,3 +18,4 @@ pub use moments::{milliseconds, milliseconds_between, milliseconds_since};
 pub use restarts::{Failures, Restarts};
 pub use rotations::{Rotation, Rotations};
 pub use standstills::{Standstill, Standstills};
+pub use withdrawals::Withdrawals;

@@ -1,6 +1,6 @@
 //! When queues are started again by themselves once a printer of theirs has failed.
 //!
-//! A start comes so many seconds after the last failure. Where the first job after it fails before a page is written, the time to the next
+//! A start comes N seconds after the last failure. Where the first job after it fails before a page is written, the time to the next
 //! start is twice as long, up to ten minutes, until a page is written.
 
 ghost use Rattle.std.specs.Prelude.{◌≡◌, ◌+◌, ◌-◌, ◌^◌, false, min, true};
@@ -38,7 +38,7 @@ pub struct Failures {
 }
 
 impl Failures {
-    /// Nothing has failed. The first start comes so many seconds after a failure.
+    /// Nothing has failed. The first start comes N seconds after a failure.
     fn none(first_seconds: u64) -> Failures
         ensures seconds { result.seconds ≡ first_seconds }
         ensures lost { result.lost ≡ 0 }
@@ -88,7 +88,7 @@ pub struct Restarts {
 }
 
 impl Restarts {
-    /// N queues of which nothing has failed, to be started again so many seconds after a failure; where there is no such number,
+    /// N queues of which nothing has failed, to be started again M seconds after a failure; where there is no such number,
     /// none is. An error where memory is refused.
     pub fn new(
         alloc: Global,

@@ -1,4 +1,13 @@
 //! A configuration as its document tells it.
+//!
+//! For each key in the stated order Missing comes first, then WrongType, then OutOfRange, before the next key is looked at; each queue whole
+//! before the next; SameName over all queues before LimitOverPool. `queue = []` is OutOfRange; an array with an element that is no table is
+//! WrongType. A key is looked for in its own table alone: `limit` at the top of the document, or `pages` in the table of a queue, is a key that
+//! isn't known and is passed over. A number may be written in any way that TOML has for whole numbers; one that doesn't fit a signed 64-bit
+//! integer is NotToml wherever it stands, since the TOML reader says so.
+//!
+//! A text that is no TOML can't be looked at for other faults, and NotToml is told for octets that aren't UTF-8 too. Memory may be refused while
+//! the text is read, so it may be told of a text that has a fault as well.
 
 ghost use Rattle.std.specs.Prelude.{◌≡◌, ◌≢◌, ◌≤◌, ◌⊎◌, All, Some, [], ◌∷◌, IfOk, IfErr, IsErrAnd, MatchResult, IsTrue, IsSome, length, map, not, option_map, slice_get, int_lt, pos, false, true};
 ghost use Rattle.std.specs.List.{list_all, list_any, flat_map};

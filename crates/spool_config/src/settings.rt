@@ -1,4 +1,7 @@
 //! The keys of a configuration and its faults.
+//!
+//! `ConfigFault` writes its own text beside the derive of `thiserror`, which makes it an error: a text by that derive has no contract, and this
+//! one is proved.
 
 ghost use Rattle.std.specs.Prelude.{◌≡◌};
 ghost use Rattle.spool_config.specs.Keys.{word_of, most_of};

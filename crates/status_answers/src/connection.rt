@@ -20,7 +20,7 @@ const MOST_READS: u32 = 4;
 /// How many milliseconds each of these is waited for.
 const LEAVING_MS: u64 = 200;
 
-/// The time that is left of so many milliseconds since the start. None where none is.
+/// The time that is left of N milliseconds since the start. None where none is.
 fn time_left(rt: &impl Clock, start: Instant, most_ms: u64) -> io::Result<Option<Duration>> {
     let left = Duration::from_millis(most_ms).saturating_sub(start.elapsed(rt)?);
     Ok(if left.is_zero() { None } else { Some(left) })

@@ -51,7 +51,7 @@ use std::time::{Clock, Duration};
 use std::{fs, thread};
 use test_kit::Spool;
 use test_kit::rows::{number, octets, short_number, word};
-use word_actions::{RunOutcome, read_config};
+use word_actions::{RunOutcome, System, read_config};
 
 /// How often it is looked for a line that comes soon, and how many milliseconds apart.
 const LOOKS: u32 = 40;
@@ -389,7 +389,13 @@ fn plan_of<
     let mut input = StreamReader::new(b"".as_slice());
     let mut output = StreamWriter::new(Vec::new(alloc));
     let mut faults = StreamWriter::new(Vec::new(alloc));
-    let outcome = word_actions::run(rt, rt, words, &mut input, &mut output, &mut faults);
+    let outcome = word_actions::run(
+        System { rt, host: rt },
+        words,
+        &mut input,
+        &mut output,
+        &mut faults,
+    );
     let RunOutcome::Serve { config, settings } = outcome else {
         panic!(rt; "it doesn't serve");
     };

@@ -17,4 +17,4 @@ pub use controlling::{ControlFault, ask_server, control};
 pub use fault::ActionFault;
 pub use files::{check, read_config, read_spool, replay};
 pub use progress::PROGRESS;
-pub use running::{RunOutcome, data_file, run, send, tell_unread};
+pub use running::{RunOutcome, System, data_file, run, send, tell_unread};

@@ -163,29 +163,27 @@ fn data_files<R: OpenReaders>(
     Ok(read)
 }
 
-/// Sends a job to this server. Answers `Network` where it can't be
-/// reached, and the faults of `send_job`. The log is told why the connection failed, and how far the job is, by `PROGRESS`
-/// where that is asked for.
+/// Sends a job of these files to the server that is named. Answers `Network` where it can't be reached, and the faults of `send_job`. The
+/// log is told why the connection failed, and how far the job is, by `PROGRESS` where that is asked for.
 pub fn send<R: Net + Log>(
     alloc: Global,
     rt: &R,
-    server: Server,
+    sending: &Sending,
     envelope: &Envelope,
     files: &[DataFile],
-    tells_progress: bool,
 ) -> Result<(), ActionFault>
     requires { IsTrue (is_sendable envelope.now.queue envelope.now.name envelope.now.control
         files.now) }
     ensures { IfErr result IsNetworkFault }
 {
-    let address = socket_of(server);
+    let address = socket_of(sending.server);
     let (queue, name, control) = (&envelope.queue, &envelope.name, &envelope.control);
     let Ok(octets) = job_length(alloc, queue, name, control, files) else {
         return Err(ActionFault::Send(SendFault::Memory));
     };
     let (reader, writer) = connect(rt, address)?;
     let mut reader = StreamReader::new(reader);
-    let mut writer = ProgressWriter::new(rt, StreamWriter::new(writer), octets, tells_progress);
+    let mut writer = ProgressWriter::new(rt, StreamWriter::new(writer), octets, sending.progress);
     let sent = send_job(alloc, &mut reader, &mut writer, queue, name, control, files);
     tell_cause(rt, &address, reader.cause().or(writer.writer().cause()));
     sent.map_err(ActionFault::Send)
@@ -208,8 +206,7 @@ fn send_files<R: Files + Net + Log, W: OctetWrite>(
     let names = envelope.control.prints.as_slice();
     let files = data_files(alloc, rt, names, sending.files.as_slice())?;
     let line = sent_line(alloc, envelope.control.number)?;
-    let (server, progress) = (sending.server, sending.progress);
-    send(alloc, rt, server, envelope, files.as_slice(), progress)?;
+    send(alloc, rt, sending, envelope, files.as_slice())?;
     print(output, line.as_slice())
 }
 
@@ -327,6 +324,14 @@ fn ended<E: OctetWrite>(alloc: Global, end: Result<(), ActionFault>, faults: &mu
     fault.status()
 }
 
+/// What the program is lent of the system: files, addresses and the log by one, and Unix sockets by the other, since a logger hands
+/// none on.
+#[derive(Drop)]
+pub struct System<'r, R, N> {
+    pub rt: &'r R,
+    pub host: &'r N,
+}
+
 /// Does what the words ask for, of which the first is the program's name: without others, what the
 /// input asks (see `lpd_script::run_input`). Where they ask to serve, `Serve` says how, and where they
 /// ask to send a command to a server, `Control` says which; where they ask something of an account, `Audit` and `Usage` say
@@ -334,8 +339,7 @@ fn ended<E: OctetWrite>(alloc: Global, end: Result<(), ActionFault>, faults: &mu
 /// was asked for and printed; 1 where the words can't be read, which `faults` is told; otherwise
 /// that of the fault, which is told there in one line, 1 too where it is a printer that isn't there. Faults are looked for in this order: the
 /// words, files read, the configuration, the network. Before a fault for a file or the network the
-/// log is told at INFO which file or address it is about, and why. A control socket is looked for by `host`, since a logger
-/// hands no Unix sockets on.
+/// log is told at INFO which file or address it is about, and why.
 pub fn run<
     'a,
     R: Files<File = File> + Net + Log + Alloc<A = Global>,
@@ -344,8 +348,7 @@ pub fn run<
     W: OctetWrite,
     E: OctetWrite,
 >(
-    rt: &R,
-    host: &N,
+    system: System<'_, R, N>,
     words: &'a [String],
     input: &mut I,
     output: &mut W,
@@ -395,6 +398,7 @@ pub fn run<
         × IsUntouched (E.written faults.old) (E.faults faults.old) (E.written faults.new)
         (E.faults faults.new)) }
 {
+    let System { rt, host } = system;
     let alloc = rt.alloc();
     match read_words(alloc, words) {
         Ok(Ask::Input) => RunOutcome::Ended(run_input(alloc, input, output, faults)),

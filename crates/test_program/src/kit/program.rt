@@ -8,7 +8,7 @@ use std::fs::{File, Files};
 use std::net::{Ipv4Addr, Net, OpenListener, SocketAddr, TcpListener, TcpStream};
 use std::process::Abort;
 use std::rt::Env;
-use word_actions::{RunOutcome, run};
+use word_actions::{RunOutcome, System, run};
 
 /// A configuration of one queue and one printer.
 pub const CONFIG: &[u8] =
@@ -92,7 +92,13 @@ pub fn told<
     let mut output = StreamWriter::new(Vec::new(alloc));
     let mut faults = StreamWriter::new(Vec::new(alloc));
     let mut input = StreamReader::new(input);
-    let outcome = run(rt, rt, words, &mut input, &mut output, &mut faults);
+    let outcome = run(
+        System { rt, host: rt },
+        words,
+        &mut input,
+        &mut output,
+        &mut faults,
+    );
     let mut told = output.into_stream();
     told.extend_from_slice(faults.into_stream().as_slice())?;
     let end = match &outcome {

@@ -1,8 +1,8 @@
 use Rattle.std.proofs.Common.{map, take}
 use Rattle.std.proofs.lemmas.List.{map_more}
 use Rattle.clap.specs.Words.{app_of}
-use Rattle.program_words.specs.Rules.{table_app}
-use Rattle.program_words.proofs.CommandLemmas.{one_more_command}
+use Rattle.command_tables.specs.Rules.{table_app}
+use Rattle.command_tables.proofs.CommandLemmas.{one_more_command}
 use Rattle.program_words.proofs.command.with_commands.Goals as goal
 
 pub loop-table-preserved : goal.loop-table-preserved

@@ -1,6 +1,6 @@
 use Rattle.std.proofs.Common.{◌≡◌, map, take}
 use Rattle.clap.specs.Words.{app_of}
-use Rattle.program_words.specs.Rules.{table_app, with_commands}
+use Rattle.command_tables.specs.Rules.{table_app, with_commands}
 use Rattle.program_words.proofs.command.with_commands.Given as goal
 
 abbrev pub invariant-loop-table : goal.invariant-loop-table

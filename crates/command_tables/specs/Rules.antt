@@ -7,10 +7,10 @@ use Rattle.clap.specs.declared.builder.command.Command.TheViews.{out-Command as 
 use Rattle.clap.specs.declared.builder.action.ArgAction.TheVariants.{Append, SetTrue}
 use Rattle.clap.specs.declared.builder.value_parser.ValueParser.{ValueParser}
 use Rattle.clap.specs.declared.builder.value_parser.ValueParser.TheVariants as parser
-use Rattle.program_words.specs.declared.rules.CommandTable.{CommandTable}
-use Rattle.program_words.specs.declared.rules.Shape.{Shape}
-use Rattle.program_words.specs.declared.rules.Shape.TheVariants as shape
-use Rattle.program_words.specs.declared.rules.Word.{Word}
+use Rattle.command_tables.specs.declared.tables.CommandTable.{CommandTable}
+use Rattle.command_tables.specs.declared.tables.Shape.{Shape}
+use Rattle.command_tables.specs.declared.tables.Shape.TheVariants as shape
+use Rattle.command_tables.specs.declared.tables.Word.{Word}
 
 -- a word by this rule, which isn't one of all commands
 abbrev pub IsWord : Arg → Rule → Type 0

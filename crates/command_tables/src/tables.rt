@@ -2,8 +2,8 @@
 
 ghost use Rattle.std.specs.Prelude.{IfOk};
 ghost use Rattle.clap.specs.Words.{new_app};
-ghost use Rattle.program_words.specs.Rules.{IsCommand, IsWord, count, flag, number, number_option, option};
-ghost use Rattle.program_words.specs.Rules.{optional_words, table_app, word, word_rule, words};
+ghost use Rattle.command_tables.specs.Rules.{IsCommand, IsWord, count, flag, number, number_option, option};
+ghost use Rattle.command_tables.specs.Rules.{optional_words, table_app, word, word_rule, words};
 
 use clap::builder::ValueParser;
 use clap::{Arg, ArgAction, Command};
@@ -11,7 +11,7 @@ use std::alloc::{AllocError, Global};
 
 /// How a word may stand, each with the name of its value in `--help`.
 #[derive(Clone, Copy)]
-pub(crate) enum Shape {
+pub enum Shape {
     /// A word that has to be there.
     Word(&'static str),
     /// One word or more, up to so many, that have to be there.
@@ -38,26 +38,26 @@ pub(crate) enum Shape {
 
 /// A word of a command.
 #[derive(Clone, Copy)]
-pub(crate) struct Word {
+pub struct Word {
     /// What it is asked for by; of an option also how it is written.
-    pub(crate) id: &'static str,
+    pub id: &'static str,
     /// How it may stand.
-    pub(crate) shape: Shape,
+    pub shape: Shape,
     /// What `--help` says of it.
-    pub(crate) help: &'static str,
+    pub help: &'static str,
 }
 
 /// A command and its words.
 #[derive(Clone, Copy)]
-pub(crate) struct CommandTable {
+pub struct CommandTable {
     /// How it is written.
-    pub(crate) name: &'static str,
+    pub name: &'static str,
     /// What it does, in a line.
-    pub(crate) about: &'static str,
+    pub about: &'static str,
     /// What `--help` says at its end.
-    pub(crate) more: &'static str,
+    pub more: &'static str,
     /// Its words, in order.
-    pub(crate) words: &'static [Word],
+    pub words: &'static [Word],
 }
 
 /// A word that has to be there.
@@ -171,14 +171,14 @@ fn arg_of<'a>(alloc: Global, word: &Word) -> Arg<'a>
 }
 
 /// A command of this name without words.
-pub(crate) fn plain<'a>(alloc: Global, name: &'a str, about: &'a str, more: &'a str) -> Command<'a>
+pub fn plain<'a>(alloc: Global, name: &'a str, about: &'a str, more: &'a str) -> Command<'a>
     ensures { IsCommand result (new_app name.now) }
 {
     Command::new(alloc, name).about(about).after_help(more)
 }
 
 /// The command of a table, with its words in order.
-pub(crate) fn command_of<'a>(alloc: Global, table: &CommandTable) -> Result<Command<'a>, AllocError>
+pub fn command_of<'a>(alloc: Global, table: &CommandTable) -> Result<Command<'a>, AllocError>
     ensures { IfOk result (λ command. IsCommand command (table_app table.now)) }
 {
     let mut command = plain(alloc, table.name, table.about, table.more);

@@ -4,7 +4,7 @@ use Rattle.clap.specs.Words.{AddsArg, AddsSubcommand, App, Rule, app_of, rule_of
 use Rattle.clap.specs.declared.builder.arg.Arg.{Arg}
 use Rattle.clap.specs.declared.builder.command.Command.{Command}
 use Rattle.clap.specs.declared.builder.command.Command.TheViews.{out-Command as fields_of}
-use Rattle.program_words.specs.Rules.{IsCommand, IsWord, with_commands, with_rules}
+use Rattle.command_tables.specs.Rules.{IsCommand, IsWord, with_commands, with_rules}
 
 with_rules-append : (app : App) (rules : List Rule) (rule : Rule) → with_rules app (rules ++ rule ∷ []) ≡ with_rule (with_rules app rules) rule
 with_rules-append app [] rule = refl

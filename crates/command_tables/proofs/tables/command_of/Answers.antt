@@ -1,9 +1,9 @@
 use Rattle.std.proofs.Common.{map, take}
 use Rattle.std.proofs.lemmas.List.{map_more}
 use Rattle.clap.specs.Words.{new_app}
-use Rattle.program_words.specs.Rules.{word_rule}
-use Rattle.program_words.proofs.CommandLemmas.{one_more_word}
-use Rattle.program_words.proofs.rules.command_of.Goals as goal
+use Rattle.command_tables.specs.Rules.{word_rule}
+use Rattle.command_tables.proofs.CommandLemmas.{one_more_word}
+use Rattle.command_tables.proofs.tables.command_of.Goals as goal
 
 pub loop-word-preserved : goal.loop-word-preserved
 loop-word-preserved c =

@@ -1,0 +1,182 @@
+//! Commands for one job: it is removed, by its number of acceptance or by that of its file, or fed again.
+
+use crate::care::Care;
+use crate::commanding::AnswerLines;
+use crate::job_name::{JobName, JobNumber};
+use control_lines::AnswerEnd;
+use held_jobs::Phase;
+use log::Log;
+use server_folders::{FileEnd, FiledJob, JobFolder};
+use server_house::{HouseLedger, HouseSeat};
+use shared_spool::{SeenJob, Unremoved};
+use std::alloc::AllocError;
+use std::fmt::Display;
+use std::fs::{File, Files};
+use std::rt::Clock;
+use std::sync::Wait;
+
+/// Why a kept job can't be named where none is kept.
+const NOT_KEPT: &str = "no jobs are kept: the server has no --spool";
+
+/// Why one can't be named whose file says nothing of it.
+const NO_JOB: &str = "the file isn't that of a kept job";
+
+/// The name of a job in this file.
+fn filed_name(number: u64, job: &FiledJob) -> JobName<'_> {
+    JobName {
+        number: JobNumber::File(number),
+        given: Some(job.control.number),
+        user: job.control.user.as_slice(),
+        host: job.control.host.as_slice(),
+        queue: job.owner.queue.as_slice(),
+    }
+}
+
+impl<R: Files<File = File> + Clock + Log + Wait, E: HouseLedger> Care<'_, '_, R, E> {
+    /// The name of a held job.
+    pub(crate) fn name_of<'j>(&'j self, job: &'j SeenJob) -> JobName<'j> {
+        let book = self.hall.job_book.as_ref();
+        JobName {
+            number: JobNumber::Accepted(job.number),
+            given: book.and_then(|book| book.number_of(self.hall.rt, job.number)),
+            user: job.user.as_slice(),
+            host: job.host.as_slice(),
+            queue: self.hall.oversight.config.name_of(job.queue),
+        }
+    }
+
+    /// The answer that tells that this was done to a job.
+    fn tell_done(&self, what: &str, job: &JobName<'_>) -> Result<Vec<u8>, AllocError> {
+        let mut answer = AnswerLines::new(self.hall.alloc);
+        let line = format!(in self.hall.alloc; "{what} {job}")?;
+        answer.line(&line)?;
+        answer.end(AnswerEnd::Done)
+    }
+
+    /// The answer that it wasn't, for this reason.
+    fn refuse<W: Display + Drop>(&self, why: W) -> Result<Vec<u8>, AllocError> {
+        AnswerLines::new(self.hall.alloc).end_by(Some(why))
+    }
+
+    /// Removes a received job, which is told by this name.
+    fn remove_one(
+        &self,
+        seat: &mut HouseSeat<E>,
+        job: &SeenJob,
+        name: &JobName<'_>,
+    ) -> Result<Vec<u8>, AllocError> {
+        let number = job.number;
+        if job.phase == Phase::Receiving {
+            let why = format!(in self.hall.alloc; "{name} is still arriving: it can be removed once it is whole")?;
+            return self.refuse(why);
+        }
+        let queue = self.hall.oversight.config.name_of(job.queue);
+        match self.spool.remove_jobs(self.hall.rt, seat, queue, &[number]) {
+            Ok(_) => {
+                // What is told is known before the job's end is noted.
+                let answer = self.tell_done("removed", name);
+                let removed = Vec::from_slice(self.hall.alloc, &[number])?;
+                self.hall.end_removed(removed);
+                answer
+            }
+            Err(Unremoved::Stays(_)) => {
+                let why = format!(in self.hall.alloc; "{name} has ended")?;
+                self.refuse(why)
+            }
+            Err(Unremoved::Refused(refusal)) => self.refuse(refusal),
+        }
+    }
+
+    /// Removes a received job, by its number of acceptance, and tells whose it was.
+    pub(crate) fn cancel_job(
+        &self,
+        seat: &mut HouseSeat<E>,
+        number: u64,
+    ) -> Result<Vec<u8>, AllocError> {
+        let sight = self.spool.sight(self.hall.rt, self.hall.alloc)?;
+        let mut jobs = sight.spool.jobs.iter();
+        let Some(job) = jobs.find(|job| job.number == number) else {
+            let why = format!(in self.hall.alloc; "no job {number} is held")?;
+            return self.refuse(why);
+        };
+        self.remove_one(seat, job, &self.name_of(job))
+    }
+
+    /// Removes a job that the spool has, of which this is the file.
+    fn cancel_held(
+        &self,
+        seat: &mut HouseSeat<E>,
+        job: u64,
+        name: &JobName<'_>,
+    ) -> Result<Vec<u8>, AllocError> {
+        let sight = self.spool.sight(self.hall.rt, self.hall.alloc)?;
+        let mut jobs = sight.spool.jobs.iter();
+        match jobs.find(|seen| seen.number == job) {
+            Some(seen) => self.remove_one(seat, seen, name),
+            None => {
+                let why = format!(in self.hall.alloc; "{name} has ended")?;
+                self.refuse(why)
+            }
+        }
+    }
+
+    /// Has a job go that waits in the folder, or has failed there.
+    fn cancel_waiting(
+        &self,
+        kept: &JobFolder<'_, R>,
+        number: u64,
+        filed: &FiledJob,
+    ) -> Result<Vec<u8>, AllocError> {
+        let name = filed_name(number, filed);
+        match kept.let_go(self.hall.rt, number, &filed.owner) {
+            Ok(FileEnd::Gone) => self.tell_done("removed", &name),
+            Ok(FileEnd::IsFed) => {
+                let why = format!(in self.hall.alloc; "{name} is being handed to the spool: ask again")?;
+                self.refuse(why)
+            }
+            Err(fault) => {
+                let why = format!(in self.hall.alloc; "{name} neither waits nor has failed: ask again: {fault}")?;
+                self.refuse(why)
+            }
+        }
+    }
+
+    /// Removes a kept job, by the number of its file, and tells whose it was: from the spool where that has it, else from the folder.
+    pub(crate) fn cancel_file(
+        &self,
+        seat: &mut HouseSeat<E>,
+        number: u64,
+    ) -> Result<Vec<u8>, AllocError> {
+        let Some(kept) = &self.hall.kept else {
+            return self.refuse(NOT_KEPT);
+        };
+        let filed = match kept.filed(self.hall.rt, self.hall.alloc, number) {
+            Ok(Some(filed)) => filed,
+            Ok(None) => return self.refuse(NO_JOB),
+            Err(fault) => return self.refuse(fault),
+        };
+        match kept.disk.job_of(number) {
+            Some(job) => self.cancel_held(seat, job, &filed_name(number, &filed)),
+            None => self.cancel_waiting(kept, number, &filed),
+        }
+    }
+
+    /// Has a job fed again that has failed, by the number of its file, and tells whose it is.
+    pub(crate) fn resend_job(&self, number: u64) -> Result<Vec<u8>, AllocError> {
+        let Some(kept) = &self.hall.kept else {
+            return self.refuse(NOT_KEPT);
+        };
+        if let Err(fault) = kept.disk.resend(number) {
+            return self.refuse(fault);
+        }
+        // Whose it is is read before the spool may have it printed.
+        let filed = kept.filed(self.hall.rt, self.hall.alloc, number);
+        if !kept.enter(self.hall.rt, self.hall.alloc, number)? {
+            return self.refuse(NO_JOB);
+        }
+        match filed {
+            Ok(Some(filed)) => self.tell_done("resent", &filed_name(number, &filed)),
+            Ok(None) | Err(_) => AnswerLines::new(self.hall.alloc).end(AnswerEnd::Done),
+        }
+    }
+}
