@@ -3,6 +3,9 @@ use Rattle.std.specs.Prelude.{ℕ, ◌-◌, ◌^◌, false, List, [], ◌++◌, 
 use Rattle.std.specs.Fmt.{decimal, format_spec, padded_integral}
 use Rattle.standings.specs.declared.job.JobStanding.{JobStanding}
 use Rattle.standings.specs.declared.job.JobStanding.TheVariants as job
+use Rattle.standings.specs.declared.numbers.JobName.{JobName}
+use Rattle.standings.specs.declared.numbers.JobNumber.{JobNumber}
+use Rattle.standings.specs.declared.numbers.JobNumber.TheVariants as number
 use Rattle.standings.specs.declared.numbers.JobNumbers.{JobNumbers}
 
 abbrev pub standing_words : JobStanding → List ℕ
@@ -29,12 +32,21 @@ three_digits number = padded_integral (format_spec 32 0 4 3 (2 ^ 64 - 1)) false 
 -- the number that a sender gave its job, behind a space
 abbrev pub client_words : Option ℕ → List ℕ
 client_words None = []
-client_words (Some number) = codes " (" ++ (three_digits number ++ codes ")")
+client_words (Some given) = codes " (" ++ (three_digits given ++ codes ")")
 
--- the file or else the job by its number of acceptance
-abbrev pub kind_words : Option ℕ → ℕ → List ℕ
-kind_words None job = codes "job " ++ decimal job
-kind_words (Some file) job = codes "file " ++ decimal file
+-- the number by which a person names it
+abbrev pub number_words : JobNumber → List ℕ
+number_words (number.Accepted job) = codes "job " ++ decimal job
+number_words (number.File file) = codes "file " ++ decimal file
 
-abbrev pub name_words : ℕ → JobNumbers → List ℕ
-name_words job numbers = kind_words numbers.file job ++ client_words numbers.client
+-- job 5 (002), or file 7 (002)
+abbrev pub name_words : JobName → List ℕ
+name_words name = number_words name.number ++ client_words name.client
+
+-- that of its file, which lasts, or else that of its acceptance
+abbrev pub number_of : Option ℕ → ℕ → JobNumber
+number_of None job = number.Accepted job
+number_of (Some file) job = number.File file
+
+abbrev pub name_of : JobNumbers → ℕ → JobName
+name_of numbers job = record { number = number_of numbers.file job; client = numbers.client }

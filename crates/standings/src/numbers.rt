@@ -1,7 +1,7 @@
 //! What a job is called.
 
-ghost use Rattle.std.specs.Prelude.{◌<◌};
-ghost use Rattle.standings.specs.Words.{client_words, name_words};
+ghost use Rattle.std.specs.Prelude.{◌≡◌};
+ghost use Rattle.standings.specs.Words.{client_words, name_of, name_words, number_words};
 
 use std::fmt;
 
@@ -14,14 +14,51 @@ pub struct JobNumbers {
     pub client: Option<u16>,
 }
 
-/// A job's name for people: `file 7 (002)` where it has a file in the folder, else `job 5 (002)` by its number of acceptance; in
-/// parentheses its sender's number, once that is known.
+/// The number by which a person names a job to the server.
+#[derive(Clone, Copy)]
+pub enum JobNumber {
+    /// Its number of acceptance.
+    Accepted(u64),
+    /// That of its file in the folder that keeps jobs.
+    File(u64),
+}
+
+/// A job's name for people: `job 5 (002)` or `file 7 (002)`, with its sender's number in parentheses, where that is known.
 #[derive(Clone, Copy)]
 pub struct JobName {
-    /// Its number of acceptance.
-    pub job: u64,
-    /// What it is called outside of the spool.
-    pub numbers: JobNumbers,
+    /// Its number.
+    pub number: JobNumber,
+    /// The number that its sender gave it.
+    pub client: Option<u16>,
+}
+
+impl JobNumbers {
+    /// The name of the held job of this number of acceptance: by its file, where it has one, since that number lasts.
+    pub fn name(self, job: u64) -> JobName
+        ensures { result ≡ name_of self job }
+    {
+        let number = match self.file {
+            Some(file) => JobNumber::File(file),
+            None => JobNumber::Accepted(job),
+        };
+        JobName {
+            number,
+            client: self.client,
+        }
+    }
+}
+
+impl fmt::Display for JobNumber {
+    ghost use Rattle.std.specs.Prelude.{Some};
+
+    ghost output = { λ number. Some (number_words number) };
+
+    fn fmt<W: fmt::Write>(&self, f: &mut fmt::Formatter<W>) -> fmt::Result {
+        match self {
+            JobNumber::Accepted(job) => write!(f, "job {job}"),
+            JobNumber::File(file) => write!(f, "file {file}"),
+        }
+    }
 }
 
 /// The number that a sender gave its job, in parentheses behind a space, where it is known.
@@ -44,13 +81,10 @@ impl fmt::Display for ClientNumber {
 impl fmt::Display for JobName {
     ghost use Rattle.std.specs.Prelude.{Some};
 
-    ghost output = { λ name. Some (name_words name.job name.numbers) };
+    ghost output = { λ name. Some (name_words name) };
 
     fn fmt<W: fmt::Write>(&self, f: &mut fmt::Formatter<W>) -> fmt::Result {
-        let client = ClientNumber(self.numbers.client);
-        match self.numbers.file {
-            Some(file) => write!(f, "file {file}{client}"),
-            None => write!(f, "job {}{client}", self.job),
-        }
+        let (number, client) = (self.number, ClientNumber(self.client));
+        write!(f, "{number}{client}")
     }
 }

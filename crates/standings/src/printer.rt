@@ -110,7 +110,7 @@ fn one_if(so: bool) -> usize
 }
 
 /// Whether the printer at a place isn't reached.
-fn is_unreached_at(notes: &[PrinterNotes], at: usize, printer: &Printer) -> bool
+pub fn is_unreached_at(notes: &[PrinterNotes], at: usize, printer: &Printer) -> bool
     ensures { result ≡ is_unreached_at notes.now at printer.now }
 {
     let is_noted = notes.get(at).is_some_and(|notes| notes.unreached.is_some());
@@ -136,7 +136,7 @@ fn is_reached_for(notes: &[PrinterNotes], queue: u32, at: usize, printer: &Print
 }
 
 /// How many of these printers run for this queue, and are reached.
-pub(crate) fn reached_printers(notes: &[PrinterNotes], queue: u32, printers: &[Printer]) -> usize
+pub fn reached_printers(notes: &[PrinterNotes], queue: u32, printers: &[Printer]) -> usize
     ensures { result ≡ count_at (is_reached_for notes.now queue) 0 printers.now }
 {
     let mut count = 0;

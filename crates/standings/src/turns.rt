@@ -31,7 +31,7 @@ impl FinishingTurn {
 }
 
 /// How many pages these amounts have.
-pub(crate) fn pages_of(amounts: &Counts) -> u32
+pub fn pages_of(amounts: &Counts) -> u32
     ensures { result ≡ amount amounts.now 0 }
 {
     amounts.as_slice().first().copied().unwrap_or(0)

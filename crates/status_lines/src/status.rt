@@ -112,13 +112,13 @@ fn push_trouble(
         ++ ended (trouble_line printer.entry.0 printer.entry.1.now trouble.0 trouble.1 (one_line cause.now))) }
 {
     let ((number, queue), (trouble, seconds)) = (printer, trouble);
-    let cause = one_line(alloc, cause)?;
+    let shown = one_line(alloc, cause)?;
     let line = StatusLine::Trouble {
         number,
         queue,
         trouble,
         seconds,
-        cause: cause.as_str(),
+        cause: shown.as_str(),
     };
     push(text, line)
 }
