@@ -12,8 +12,10 @@ mod preparing;
 mod printing;
 mod serving;
 mod sink;
+mod warnings;
 
 pub use control_socket::{OpenFault, SocketFile};
+pub use printer_devices::SHARED_FOLDERS;
 pub use printer_worker::{PrintSink, SinkFault};
 pub use program_edge::{
     FailedOpening, Limits, LogForm, MOST_SESSIONS, PlacedPrinter, PrinterLimits, PrinterPlace,

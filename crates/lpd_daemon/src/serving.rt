@@ -10,6 +10,7 @@ ghost use Rattle.spool_ledgers.specs.Blanks.{AreFor, mark};
 
 use crate::crew::{Entrance, Returned, work};
 use crate::preparing::prepare;
+use crate::warnings::warn_of;
 use config_values::Config;
 use log::Log;
 use lpd_commands::OctetWrite;
@@ -141,6 +142,7 @@ where
         counter,
     } = plan;
     let seats = sessions_of(&settings) + OTHERS;
+    warn_of(rt, &settings, &config);
     let (hall, entrance) = match prepare(rt, alloc, settings, &config, counter) {
         Ok(prepared) => prepared,
         Err(StartFault::Memory) => return Err(ServerFault::Memory),

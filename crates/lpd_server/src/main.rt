@@ -13,9 +13,12 @@ use log::filter::{Builder, Filter, FilteredLog};
 use log::sink::Console;
 use log::{Level, LevelFilter, Log, Logged, error, info};
 use log_lines::{LineLog, LineQueue, LogForm};
-use lpd_daemon::{ACCOUNT_LINES, Counter, FOLDER_CAUSES, JOB_LINES, OpenFault, Plan};
+use lpd_daemon::{
+    ACCOUNT_LINES, Counter, FOLDER_CAUSES, JOB_LINES, OpenFault, Plan, SHARED_FOLDERS,
+};
 use program_edge::{
-    FaultName, Settings, StreamReader, StreamWriter, fill_standard_descriptors, tell, tell_cause,
+    CAUSES, FaultName, Settings, StreamReader, StreamWriter, fill_standard_descriptors, tell,
+    tell_cause,
 };
 use program_words::{AuditRequest, ControlRequest, Unread, UsageRequest};
 use std::alloc::{AllocError, Global};
@@ -36,32 +39,47 @@ const LINES: usize = 256;
 /// The longest time that the end waits until the log is written, in seconds.
 const PATIENCE_SECONDS: u64 = 2;
 
-/// What is logged at the most. For information are why a file can't be opened or an address can't be listened on, in a line before the
-/// fault, what becomes of jobs, and of segments of the account.
-fn most_told(informs: bool) -> Level {
-    if informs { Level::Info } else { Level::Warn }
-}
+/// The part of the program that tells here why a server doesn't start.
+const STARTS: &str = "lpd_server";
 
-/// Which parts of a server log for information where standard error is no terminal.
-fn informing(settings: &Settings) -> &'static [&'static str] {
-    match (settings.log_jobs, settings.account) {
-        (true, Some(_)) => &[JOB_LINES, ACCOUNT_LINES, FOLDER_CAUSES],
-        (true, None) => &[JOB_LINES],
-        (false, Some(_)) => &[ACCOUNT_LINES, FOLDER_CAUSES],
-        (false, None) => &[],
+/// What is logged at the most but by the parts that are named: at a terminal for information too.
+fn most_told(is_terminal: bool) -> LevelFilter {
+    if is_terminal {
+        LevelFilter::Info
+    } else {
+        LevelFilter::Warn
     }
 }
 
-/// What is logged where no server is asked for: as `most_told` says, and of how far something is, which this part of the program
-/// tells, all where that is asked for.
+/// Which parts of a server log for information where standard error is no terminal: in any case why a fault comes, in a line before it.
+fn informing(settings: &Settings) -> &'static [&'static str] {
+    match (settings.log_jobs, settings.account) {
+        (true, Some(_)) => &[
+            CAUSES,
+            FOLDER_CAUSES,
+            SHARED_FOLDERS,
+            STARTS,
+            ACCOUNT_LINES,
+            JOB_LINES,
+        ],
+        (true, None) => &[CAUSES, FOLDER_CAUSES, SHARED_FOLDERS, STARTS, JOB_LINES],
+        (false, Some(_)) => &[CAUSES, FOLDER_CAUSES, SHARED_FOLDERS, STARTS, ACCOUNT_LINES],
+        (false, None) => &[CAUSES, FOLDER_CAUSES, SHARED_FOLDERS, STARTS],
+    }
+}
+
+/// What is logged where no server is asked for: as `most_told` says, why something failed in any case, and of how far something is, which this
+/// part of the program tells, all where that is asked for.
 fn told(
     alloc: Global,
     is_terminal: bool,
     part: &str,
     tells_progress: bool,
 ) -> Result<Filter, AllocError> {
-    let most = LevelFilter::from(most_told(is_terminal));
-    let builder = Builder::new(alloc).filter_level(most)?;
+    let mut builder = Builder::new(alloc).filter_level(most_told(is_terminal))?;
+    for part in word_actions::CAUSES {
+        builder = builder.filter_module(part, LevelFilter::Info)?;
+    }
     if !tells_progress {
         return Ok(builder.build());
     }
@@ -107,9 +125,13 @@ fn run<'a>(rt: &HostRuntime, words: &'a [String]) -> RunOutcome<'a>
 fn control(rt: &HostRuntime, request: &ControlRequest) -> u8
     ensures { result ≤ 5 }
 {
+    let alloc = rt.alloc();
     let mut output = StreamWriter::new(rt.stdout().lock());
     let mut faults = StreamWriter::new(rt.stderr());
-    let logged = Logged::new(*rt, most_told(rt.stderr().is_terminal()), Console(*rt));
+    let Ok(filter) = told(alloc, rt.stderr().is_terminal(), PROGRESS, false) else {
+        return refuse_memory(alloc, &mut faults);
+    };
+    let logged = Logged::new(*rt, Level::Info, FilteredLog::new(Console(*rt), filter));
     word_actions::control(rt, &logged, request, &mut output, &mut faults)
 }
 
@@ -132,10 +154,14 @@ fn audit(rt: &HostRuntime, request: &AuditRequest) -> u8
 fn usage(rt: &HostRuntime, request: &UsageRequest) -> u8
     ensures { result ≤ 6 }
 {
+    let alloc = rt.alloc();
     let mut output = StreamWriter::new(rt.stdout().lock());
     let mut faults = StreamWriter::new(rt.stderr());
-    let logged = Logged::new(*rt, most_told(rt.stderr().is_terminal()), Console(*rt));
-    account_reports::usage(&logged, rt.alloc(), request, &mut output, &mut faults)
+    let Ok(filter) = told(alloc, rt.stderr().is_terminal(), AUDIT, false) else {
+        return refuse_memory(alloc, &mut faults);
+    };
+    let logged = Logged::new(*rt, Level::Info, FilteredLog::new(Console(*rt), filter));
+    account_reports::usage(&logged, alloc, request, &mut output, &mut faults)
 }
 
 /// Starts the thread that writes what is logged, so that no other waits for whoever reads that. It
@@ -162,7 +188,7 @@ fn refuse_control<R: Log>(rt: &R, path: Option<&str>, why: &OpenFault) -> u8
     ensures { result ≡ 4 }
 {
     let path = path.unwrap_or("");
-    info!(rt; "{path}: {why}");
+    info!(rt; target: STARTS, "{path}: {why}");
     error!(rt; "{} {path}", FaultName::Network);
     4
 }
@@ -254,15 +280,14 @@ fn main(rt: HostRuntime) -> ExitCode {
             };
             let is_terminal = rt.stderr().is_terminal();
             let informing = informing(&settings);
-            let level = most_told(is_terminal || !informing.is_empty());
             let lines = LineLog::new(&rt, alloc, &queue);
-            // For information: the lines of jobs and of the account's segments, and at a terminal all.
+            // For information: causes, the lines of jobs and of the account's segments, and at a terminal all.
             let lines = if is_terminal {
                 lines
             } else {
                 lines.informed_by(informing)
             };
-            let logged = Logged::new(rt, level, lines);
+            let logged = Logged::new(rt, Level::Info, lines);
             let status = if filled {
                 serve(&logged, &rt, config, settings, rt.stdout())
             } else {

@@ -12,4 +12,4 @@ pub use device::{Device, PrinterFile};
 pub use faults::DeviceFault;
 pub use outlet::{Outlet, has_unread};
 pub use places::{OpenedPlace, default_file, open_places, pipes_of, place_of};
-pub use sharing::{SharedFolder, shared_folder};
+pub use sharing::{SHARED_FOLDERS, SharedFolder, shared_folder};

@@ -6,6 +6,9 @@ use std::fs::Files;
 use std::os::unix::fs::MetadataExt;
 use std::{fmt, fs};
 
+/// The part of the program that tells of such a folder, as the log names it: by which a log can choose its lines.
+pub const SHARED_FOLDERS: &str = "printer_devices::sharing";
+
 /// Which folder of the system a printer prints to: its device and its number there. None where it prints to no folder, or to one that
 /// isn't there.
 fn identity<R: Files>(rt: &R, place: PrinterPlace<'_>) -> Option<(u64, u64)> {
@@ -67,7 +70,7 @@ pub fn shared_folder<'a, R: Files + Log>(
                 first,
                 second,
             };
-            info!(rt; "{path}: {shared}");
+            info!(rt; target: SHARED_FOLDERS, "{path}: {shared}");
             return Some(shared);
         }
     }

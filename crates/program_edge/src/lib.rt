@@ -26,4 +26,4 @@ pub use settings::{
 };
 pub use status::{StatusPlace, is_host_name};
 pub use streams::{StreamReader, StreamWriter};
-pub use telling::{FaultName, tell, tell_cause};
+pub use telling::{CAUSES, FaultName, tell, tell_cause};

@@ -1,8 +1,8 @@
 //! How faults are told: in a line of their own.
 //!
 //! The cause of a fault is no part of that line, which scripts and units read, and which stays as it is to the letter. Which file or
-//! address it is about, and the system's reason, is a line of the log before it, at INFO. The program logs at INFO only where standard
-//! error is a terminal, and at WARN elsewhere, so nothing more stands in a journal or a file.
+//! address it is about, and the system's reason, is a line of the log before it, at INFO. The program lets these lines through wherever its
+//! standard error leads: who starts a server under systemd, or a check by cron, has no other word of what is wrong.
 
 ghost use Rattle.std.specs.Prelude.{◌≡◌, ◌++◌, ◌∷◌, [], OnOk, OnErr, Some};
 ghost use Rattle.lpd_commands.specs.Ends.{Writes, one_more};
@@ -13,6 +13,9 @@ use lpd_commands::{OctetFault, OctetWrite, write_all};
 use std::alloc::{AllocError, Global};
 use std::fmt;
 use std::io::Error;
+
+/// The part of the program that tells causes, as the log names it: by which a log can choose their lines.
+pub const CAUSES: &str = "program_edge::telling";
 
 /// What stops the program, as it is printed: the word `fault`, a number and a name. The names stand here once, but for those of a
 /// configuration and of a job that isn't taken, whose crates stand below: `ConfigFault` and `SendFault`.
@@ -57,7 +60,7 @@ impl fmt::Display for FaultName {
 /// where there is no cause. The fault's own line comes after it.
 pub fn tell_cause<R: Log, W: fmt::Display>(rt: &R, what: &W, cause: Option<Error>) {
     if let Some(cause) = cause {
-        info!(rt; "{what}: {cause}");
+        info!(rt; target: CAUSES, "{what}: {cause}");
     }
 }
 

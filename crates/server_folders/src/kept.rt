@@ -166,7 +166,7 @@ impl<'a, R: Files<File = File> + Log + Wait> JobFolder<'a, R> {
         rt: &R,
         alloc: Global,
         number: u64,
-    ) -> Result<Option<FiledJob>, DiskFault<'a>> {
+    ) -> Result<Option<FiledJob>, DiskFault<'_>> {
         let file = DiskStore::new(&self.disk).open_kept(number)?;
         match filed_job(alloc, &mut StreamReader::new(file)) {
             Ok(job) => Ok(Some(job)),

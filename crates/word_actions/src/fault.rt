@@ -4,10 +4,21 @@ ghost use Rattle.std.specs.Prelude.{◌≡◌};
 ghost use Rattle.word_actions.specs.Status.{status_of};
 ghost use Rattle.word_actions.specs.declared.fault.ActionFault.TheVariants.{Memory, Run};
 
+use crate::{folders, readers, sockets};
 use lpr_client::SendFault;
+use printer_devices::SHARED_FOLDERS;
 use program_edge::FaultName;
 use std::alloc::AllocError;
 use thiserror::Error;
+
+/// The parts of the program that tell why something failed, as the log names them: by which a log can choose their lines.
+pub const CAUSES: &[&str] = &[
+    program_edge::CAUSES,
+    SHARED_FOLDERS,
+    folders::PART,
+    readers::PART,
+    sockets::PART,
+];
 
 /// Why the program stopped.
 #[derive(Debug, PartialEq, Eq, Drop, Error)]

@@ -19,7 +19,7 @@ use std::alloc::{AllocError, Global};
 use std::fs::{File, Files};
 
 /// The part of the program that tells the log why, by which a log can choose its lines.
-const PART: &str = "lpd_words::folders";
+pub(crate) const PART: &str = "lpd_words::folders";
 
 /// The line that says what stands in the folder at this path.
 fn folder_line(alloc: Global, path: &str, state: FolderState) -> Result<String, AllocError>

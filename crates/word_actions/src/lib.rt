@@ -14,7 +14,7 @@ mod sockets;
 
 pub use asking::ask_queue;
 pub use controlling::{ControlFault, ask_server, control};
-pub use fault::ActionFault;
+pub use fault::{ActionFault, CAUSES};
 pub use files::{check, read_config, read_spool, replay};
 pub use progress::PROGRESS;
 pub use running::{RunOutcome, System, data_file, run, send, tell_unread};

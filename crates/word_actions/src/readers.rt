@@ -13,7 +13,7 @@ use program_edge::{StreamReader, tell_cause};
 use std::fs::Files;
 
 /// The part of the program that tells the log why, by which a log can choose its lines.
-const PART: &str = "lpd_words::readers";
+pub(crate) const PART: &str = "lpd_words::readers";
 
 /// Where files are read from by their paths.
 pub(crate) trait OpenReaders {

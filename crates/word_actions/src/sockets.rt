@@ -21,7 +21,7 @@ use std::os::unix::net::UnixStream;
 use std::path::Path;
 
 /// The part of the program that tells the log why, by which a log can choose its lines.
-const PART: &str = "lpd_words::sockets";
+pub(crate) const PART: &str = "lpd_words::sockets";
 
 /// What stands at a path where a server is to make its control socket.
 enum Found {

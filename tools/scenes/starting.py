@@ -1,0 +1,122 @@
+#!/usr/bin/env python3
+"""Scenes of starts, and of commands, that fail or are warned of: starting.py PROGRAM [SCENE..], where PROGRAM is the built lpd_server. Its standard error is a file here,
+as under systemd and cron: the line before the fault's names what the fault is about, and why. Each scene is bounded in time, and runs on loopback
+alone. A line says what was seen; the last line is 'N passed, M failed'."""
+import contextlib
+import os
+import re
+import socket
+import subprocess
+import sys
+import tempfile
+
+from client import Server, free_port, spool
+from scene import PROGRAM, check, main
+
+
+def run(room, *words, **how):
+    """Runs the program in a room, and answers its status and the lines of its standard error, which is no terminal."""
+    with open(f"{room}/faults", "w+b") as faults:
+        ended = subprocess.run([PROGRAM, *words], cwd=room, stdin=subprocess.DEVNULL, stdout=subprocess.DEVNULL, stderr=faults, timeout=30, **how)
+        faults.seek(0)
+        return ended.returncode, faults.read().decode().splitlines()
+
+
+@contextlib.contextmanager
+def a_room():
+    with tempfile.TemporaryDirectory() as room:
+        with open(f"{room}/spool.toml", "w") as file:
+            file.write(spool(account=100_000, limit=4))
+        with open(f"{room}/file", "w") as file:
+            file.write("hello world")
+        os.mkdir(f"{room}/folder")
+        yield room
+
+
+def fails(room, words, status, fault, cause):
+    """The program ends with this status; its last line is this fault's, and the line before it tells this cause."""
+    ended, lines = run(room, *words)
+    said = f"{' '.join(words)}: {ended} {lines}"
+    check(ended == status, said)
+    check(lines and lines[-1].endswith(fault), said)
+    check(len(lines) > 1 and re.search(cause, lines[-2]), said)
+
+
+def a_start_tells_why_it_failed():
+    """A server that doesn't start: its configuration, each of its files and folders, each address, and its control socket."""
+    with a_room() as room, socket.socket() as taken:
+        taken.bind(("127.0.0.1", 0))
+        taken.listen()
+        port, other = str(taken.getsockname()[1]), str(free_port())
+        serve = ["serve", "spool.toml", "--port", other]
+        cases = [
+            (["serve", "nosuch.toml", "--port", other], 4, "fault 71 ReadFile", r"nosuch\.toml: No such file"),
+            (["serve", "folder", "--port", other], 4, "fault 71 ReadFile", r"folder: Is a directory"),
+            (["serve", "spool.toml", "--port", port], 4, "fault 72 Network", rf"127\.0\.0\.1:{port}: Address already in use"),
+            ([*serve, "--bind", "192.0.2.1"], 4, "fault 72 Network", rf"192\.0\.2\.1:{other}: Cannot assign"),
+            ([*serve, "--status", port], 4, "fault 72 Network", rf"127\.0\.0\.1:{port}: Address already in use"),
+            ([*serve, "--out", "nosuch"], 4, "fault 73 WriteFile nosuch/printer-1", r"nosuch/printer-1: No such file"),
+            ([*serve, "--out", "file"], 4, "fault 73 WriteFile file/printer-1", r"file/printer-1: Not a directory"),
+            ([*serve, "--printer", "1=folder:nosuch"], 4, "fault 73 WriteFile nosuch", r"nosuch: No such file"),
+            ([*serve, "--printer", "1=file:folder"], 4, "fault 73 WriteFile folder", r"folder: Is a directory"),
+            ([*serve, "--spool", "a/b"], 4, "fault 73 WriteFile a/b", r"a/b: No such file"),
+            ([*serve, "--spool", "file"], 4, "fault 73 WriteFile file", r"file: Not a directory"),
+            ([*serve, "--account", "a/b"], 4, "fault 73 WriteFile a/b", r"a/b: No such file"),
+            ([*serve, "--control", "nosuch/socket"], 4, "fault 72 Network nosuch/socket", r"nosuch/socket: No such file"),
+            ([*serve, "--control", "file"], 4, "fault 72 Network file", r"file: "),
+        ]
+        for words, status, fault, cause in cases:
+            fails(room, words, status, fault, cause)
+        with Server(PROGRAM, spool(account=100_000, limit=4), "--spool", f"{room}/kept", "--account", f"{room}/account"):
+            for option in ("kept", "account"):
+                word = "--spool" if option == "kept" else "--account"
+                fails(room, [*serve, word, option], 4, f"fault 73 WriteFile {option}", rf"{option}: .*another server")
+        return f"{len(cases) + 2} starts told why"
+
+
+def a_command_tells_why_it_failed():
+    """The other commands: files that can't be read, servers that aren't there."""
+    with a_room() as room:
+        nobody = str(free_port())
+        cases = [
+            (["check", "nosuch.toml"], 4, "fault 71 ReadFile", r"nosuch\.toml: No such file"),
+            (["check", "spool.toml", "--spool", "file"], 4, "fault 73 WriteFile file", r"file: Not a directory"),
+            (["check", "spool.toml", "--out", "nosuch"], 4, "fault 73 WriteFile nosuch", r"nosuch: No such file"),
+            (["replay", "spool.toml", "nosuch.script"], 4, "fault 71 ReadFile", r"nosuch\.script: No such file"),
+            (["send", nobody, "lp", "1", "myhost", "ann", "file"], 4, "fault 72 Network", rf"127\.0\.0\.1:{nobody}: Connection refused"),
+            (["send", nobody, "lp", "1", "myhost", "ann", "file", "nosuch"], 4, "fault 71 ReadFile", r"nosuch: No such file"),
+            (["send", nobody, "lp", "1", "myhost", "ann", "folder"], 4, "fault 71 ReadFile", r"folder: "),
+            (["state", nobody, "lp"], 4, "fault 72 Network", rf"127\.0\.0\.1:{nobody}: Connection refused"),
+            (["control", "nosuch.socket", "status"], 4, "fault 72 Network nosuch.socket", r"nosuch\.socket: No such file"),
+            (["audit", "nosuch"], 4, "fault 71 ReadFile nosuch", r"nosuch: No such file"),
+            (["usage", "nosuch"], 4, "fault 71 ReadFile nosuch", r"nosuch: No such file"),
+        ]
+        for words, status, fault, cause in cases:
+            fails(room, words, status, fault, cause)
+        return f"{len(cases)} commands told why"
+
+
+def a_start_warns_of_what_bites_later():
+    """Without `--keep-room` and `--rotate`, without `--silence` beyond loopback, and where the account has room for fewer than 50 jobs of a queue a
+    server says so once at its start; with these words, or where it ends after so many connections, it says nothing."""
+    never, stalls = "the account is never rotated", "a peer that stalls amid a job"
+    small, large = spool(account=3_000, limit=4), spool(account=100_000, limit=4)
+    cases = [
+        (large, [], [never]),
+        (large, ["--rotate", "5"], []),
+        (large, ["--keep-room", "--bind", "0.0.0.0"], [stalls]),
+        (large, ["--bind", "0.0.0.0"], [never, stalls]),
+        (large, ["--keep-room", "--bind", "0.0.0.0", "--silence", "60"], []),
+        (small, ["--keep-room"], ["queue lp: an account of 3000 entries takes 2 of its largest jobs at once"]),
+        (small, ["--rotate", "5"], ["queue lp: an account of 3000 entries takes 3 of its largest jobs until it is rotated"]),
+        (small, ["--bind", "0.0.0.0", "--connections", "9"], []),
+    ]
+    for config, words, wanted in cases:
+        with Server(PROGRAM, config, *words) as it:
+            lines = it.log().splitlines()
+            check(len(lines) == len(wanted) and all(part in line for part, line in zip(wanted, lines)), f"{words}: {lines}")
+    return f"{len(cases)} starts"
+
+
+if __name__ == "__main__":
+    sys.exit(main([a_start_tells_why_it_failed, a_command_tells_why_it_failed, a_start_warns_of_what_bites_later], __doc__))
