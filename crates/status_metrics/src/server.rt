@@ -280,5 +280,6 @@ pub(crate) fn push_needs(text: &mut String, scene: &Scene<'_>) -> Result<(), All
         "hurgwaye_sessions_silent",
         "Sessions of whose peer no octet came for a minute.",
         silent,
-    )
+    )?;
+    Ok(())
 }
