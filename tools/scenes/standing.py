@@ -19,7 +19,7 @@ from client import Server, begin, free_port, send, spool
 from scene import PROGRAM, check, main
 
 # What a printer is given at once that takes nothing: more than its socket and the server's hold.
-MUCH = 12_000_000
+MUCH = 6_000_000
 
 
 @contextlib.contextmanager
@@ -157,9 +157,9 @@ def a_printer_that_is_not_reached():
 def a_printer_that_takes_nothing():
     """A printer takes nothing amid a job: for a minute it prints, and then it says since when nothing goes; once it takes more that is over."""
     printer = Halting()
-    config = spool(pages=4096, limit=4000, account=4_000_000)
+    config = spool(pages=2048, limit=2000, account=4_000_000)
     with served(config, "--printer", f"1=socket://127.0.0.1:{printer.port}") as it:
-        check(send(it.port, 7, b"x" * MUCH, limit=120) == 0, "the job isn't taken")
+        check(send(it.port, 7, b"x" * MUCH, limit=300) == 0, "the job isn't taken")
         line_of(it, "printer 1 lp prints 1 ")
         time.sleep(5)
         lacks(ask(it, "status"), "unreached")

@@ -1,7 +1,6 @@
 -- What the page says of a printer, a job, the spool and the pool.
 use Rattle.std.specs.Prelude.{ℕ, ◌+◌, ◌-◌, ◌*◌, ◌/◌, ◌^◌, List, [], ◌∷◌, ◌++◌, Option, Some, None, codes, max, min}
 use Rattle.std.specs.Fmt.{decimal}
-use Rattle.std.specs.Str.Lossy.{utf8_lossy}
 use Rattle.server_counts.specs.declared.hour.Look.{Look}
 use Rattle.spool_snapshot.specs.declared.job.SeenJob.{SeenJob}
 use Rattle.spool_snapshot.specs.declared.snapshot.Pages.{Pages}
@@ -23,6 +22,8 @@ use Rattle.status_page.specs.declared.said.JobColumn.{JobColumn}
 use Rattle.status_page.specs.declared.said.JobColumn.TheVariants as column
 use Rattle.status_page.specs.declared.said.PagePlace.{PagePlace}
 use Rattle.status_page.specs.declared.said.PagePlace.TheVariants as place
+use Rattle.status_page.specs.declared.said.SenderPart.{SenderPart}
+use Rattle.status_page.specs.declared.said.SenderPart.TheVariants as part
 use Rattle.status_page.specs.Figures.{grouped_words, size_words, span_words}
 
 -- how a printer stands
@@ -50,15 +51,25 @@ printer_kind (printer.Printing job place) = codes "busy"
 printer_kind (printer.Unreached job place seconds) = codes "stopped"
 printer_kind (printer.Stopped seconds) = codes "stopped"
 
--- the user, and on a line of its own the host
-abbrev pub sender_octets : SeenJob → List ℕ
-sender_octets job = utf8_lossy job.user ++ 10 ∷ utf8_lossy job.host
+abbrev pub sender_octets : SenderPart → SeenJob → List ℕ
+sender_octets part.User job = job.user
+sender_octets part.Host job = job.host
 
 abbrev pub stage_word : JobStage → List ℕ
 stage_word far.Arriving = codes "arriving"
 stage_word far.Waiting = codes "waiting"
 stage_word far.Printing = codes "printing"
 stage_word far.Ended = codes "ended"
+
+-- one whose printer isn't reached waits, unless it comes still
+abbrev pub unreached_word : JobStage → List ℕ
+unreached_word far.Arriving = codes "arriving"
+unreached_word _ = codes "waiting"
+
+-- how far a job is, that stands so
+abbrev pub job_word : JobStage → JobStanding → List ℕ
+job_word stage (job.PrinterUnreached number) = unreached_word stage
+job_word stage _ = stage_word stage
 
 -- a job goes on, stays for others, or needs somebody
 abbrev pub job_kind : JobStanding → List ℕ

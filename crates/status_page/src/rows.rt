@@ -1,7 +1,7 @@
 //! The held jobs.
 
 use crate::figures::Grouped;
-use crate::said::{JobCell, JobColumn, job_kind, sender_text, stage_word};
+use crate::said::{JobCell, JobColumn, SenderPart, job_kind, job_word};
 use html_page::{Attribute, AttributeName, HtmlPage, Tag, class, id};
 use spool_snapshot::SeenJob;
 use standings::{JobNumber, JobNumbers, JobStage, JobStanding, job_standing, stage_of};
@@ -71,14 +71,19 @@ pub(crate) fn close_table(alloc: Global, page: &mut HtmlPage, rows: usize, colum
 }
 
 /// Who sent a job, as its control file says it.
-fn sender(alloc: Global, page: &mut HtmlPage, job: &SeenJob) {
+fn sender(page: &mut HtmlPage, job: &SeenJob) {
     if job.user.as_slice().is_empty() {
         cell(page, "who soft", "not told yet");
         return;
     }
-    let text = page.text(sender_text(alloc, job));
     page.open(Tag::Cell, &[class("who")]);
-    page.element(Tag::Span, &[], text.as_str());
+    for part in [SenderPart::User, SenderPart::Host] {
+        page.open(part.tag(), &[]);
+        page.open(Tag::Bdi, &[]);
+        page.octets(part.octets(job));
+        page.close();
+        page.close();
+    }
     page.close();
 }
 
@@ -86,7 +91,7 @@ fn sender(alloc: Global, page: &mut HtmlPage, job: &SeenJob) {
 fn state(alloc: Global, page: &mut HtmlPage, stage: JobStage, standing: JobStanding) {
     let remark = page.text(format!(in alloc; "{standing}"));
     page.open(Tag::Cell, &[class(job_kind(standing))]);
-    page.element(Tag::B, &[], stage_word(stage));
+    page.element(Tag::B, &[], job_word(stage, standing));
     page.element(Tag::Small, &[], remark.as_str());
     page.close();
 }
@@ -119,7 +124,7 @@ fn row(alloc: Global, page: &mut HtmlPage, scene: &Scene<'_>, at: usize, job: &S
     };
     page.open(Tag::Row, &[]);
     name(alloc, page, told);
-    sender(alloc, page, job);
+    sender(page, job);
     page.open(Tag::Cell, &[class("q")]);
     page.open(Tag::Bdi, &[]);
     page.octets(scene.config.name_of(job.queue));

@@ -1,13 +1,13 @@
 //! What the page says of a printer, a job, the spool and the pool, before it is put there.
 
-ghost use Rattle.std.specs.Prelude.{◌≡◌, IfOk, option_copied, string_bytes};
-ghost use Rattle.status_page.specs.Said.{column_words, job_kind, place_count, place_words, printer_kind, printer_remark, printer_word, sender_octets, spool_word, stage_word};
+ghost use Rattle.std.specs.Prelude.{◌≡◌};
+ghost use Rattle.status_page.specs.Said.{column_words, job_kind, job_word, place_count, place_words, printer_kind, printer_remark, printer_word, sender_octets, spool_word};
 
 use crate::figures::{Grouped, Size, Span};
+use html_page::Tag;
 use spool_snapshot::{Pages, SeenJob};
 use standings::{JobName, JobStage, JobStanding, PrinterStanding};
 use status_lines::SpoolState;
-use std::alloc::{AllocError, Global};
 use std::fmt;
 
 /// The word for how a printer stands.
@@ -71,28 +71,44 @@ pub(crate) fn printer_kind(standing: PrinterStanding) -> &'static str
     }
 }
 
-/// Who sent a job, as its control file says it: the user and, on a line of its own, the host.
-///
-/// AllocError where memory for it is refused.
-pub(crate) fn sender_text(alloc: Global, job: &SeenJob) -> Result<String, AllocError>
-    ensures { IfOk result (λ text. string_bytes text ≡ sender_octets job.now) }
-{
-    let mut text = String::from_utf8_lossy(alloc, job.user.as_slice())?;
-    let host = String::from_utf8_lossy(alloc, job.host.as_slice())?;
-    text.push_str("\n")?;
-    text.push_str(host.as_str())?;
-    Ok(text)
+/// Who sent a job, as its control file says it.
+#[derive(Clone, Copy)]
+pub(crate) enum SenderPart {
+    /// The user.
+    User,
+    /// The host, in small letters.
+    Host,
 }
 
-/// The word for how far a job is.
-pub(crate) fn stage_word(stage: JobStage) -> &'static str
-    ensures { result.now ≡ stage_word stage }
+impl SenderPart {
+    /// What the control file of this job says.
+    pub(crate) fn octets(self, job: &SeenJob) -> &[u8]
+        ensures { result.now ≡ sender_octets self job.now }
+    {
+        match self {
+            SenderPart::User => job.user.as_slice(),
+            SenderPart::Host => job.host.as_slice(),
+        }
+    }
+
+    /// The element that it stands in.
+    pub(crate) fn tag(self) -> Tag {
+        match self {
+            SenderPart::User => Tag::Span,
+            SenderPart::Host => Tag::Small,
+        }
+    }
+}
+
+/// The word for a job that is so far and stands so: one whose printer isn't reached waits, also where a page of it is there.
+pub(crate) fn job_word(stage: JobStage, standing: JobStanding) -> &'static str
+    ensures { result.now ≡ job_word stage standing }
 {
-    match stage {
-        JobStage::Arriving => "arriving",
-        JobStage::Waiting => "waiting",
-        JobStage::Printing => "printing",
-        JobStage::Ended => "ended",
+    match (stage, standing) {
+        (JobStage::Arriving, _) => "arriving",
+        (JobStage::Waiting, _) | (_, JobStanding::PrinterUnreached { .. }) => "waiting",
+        (JobStage::Printing, _) => "printing",
+        (JobStage::Ended, _) => "ended",
     }
 }
 

@@ -82,9 +82,8 @@ tbody th{color:var(--ink);font-size:14px}
 tbody tr:last-child>*{border-bottom:0;padding-bottom:0}
 .n{text-align:right;white-space:nowrap}
 .who{width:36%;min-width:130px;overflow-wrap:anywhere}
-.who span{display:block;max-height:6.5em;overflow:hidden;white-space:pre-line;unicode-bidi:plaintext;color:var(--soft);font-size:12.5px;
-line-height:1.3}
-.who span::first-line{color:var(--ink);font-size:14px}
+.who bdi{display:-webkit-box;-webkit-box-orient:vertical;-webkit-line-clamp:3;overflow:hidden}
+.who small{display:block;font-size:12.5px;line-height:1.3}
 tbody th small{display:block;font-weight:400;font-size:12.5px;line-height:1.3}
 .q{overflow-wrap:anywhere;width:13%;min-width:76px}
 .st{width:26%;min-width:150px}
