@@ -12,9 +12,9 @@ use printer_devices::{Device, OpenedPlace, PrinterFile};
 use printer_sinks::{Dial, FolderSink, Pause, PrinterFolder, SocketSink};
 use printer_worker::{HandedPage, Leaving, PrintSink, SinkFault, work};
 use server_house::{Hall, House, HouseLedger, HouseSpool, PrintingSeat};
-use server_notes::JobOutcome;
 use sink_devices::{Causes, Errand, FileFolder, Pauses, TcpDial};
 use std::fs::{File, Files};
+use std::io::Error;
 use std::net::{Net, TcpListener, TcpStream};
 use std::rt::Clock;
 use std::sync::Wait;
@@ -107,6 +107,7 @@ impl<R: Files<File = File> + Clock + Log + Wait, E: HouseLedger, S: PrintSink + 
         let (hall, printer) = (self.house.hall, self.printer);
         let how = self.how_left(leaving, self.was_given_up);
         self.was_given_up = false;
+        hall.oversight.delays.end(hall.rt, printer);
         if leaving == Leaving::Failed {
             self.note_failed(how == Leaving::Failed);
         }
@@ -115,10 +116,7 @@ impl<R: Files<File = File> + Clock + Log + Wait, E: HouseLedger, S: PrintSink + 
             warn!(hall.rt; "printer {printer}: a job that was printed is not in its folder: {cause}");
         }
         if let (Some(job), Some(end)) = (self.job.take(), end_of(how, left.is_ok())) {
-            if let Some(kept) = &hall.kept {
-                kept.end(hall.rt, job, end);
-            }
-            hall.note_end(job, JobOutcome::from(end));
+            hall.end_job(job, end);
         }
         left
     }
@@ -165,6 +163,18 @@ impl<R: Clock + Log + Wait, E: HouseLedger> Errand for Printing<'_, '_, R, E> {
     fn tell_unreached(&self, printer: u32, job: u64, seconds: u64) {
         self.house().tell_unreached(printer, job, seconds);
     }
+
+    fn note_unreached(&self, printer: u32, cause: Error) {
+        self.house().note_unreached(printer, cause);
+    }
+
+    fn note_halt(&self, printer: u32) {
+        self.house().note_halt(printer);
+    }
+
+    fn note_taken(&self, printer: u32) {
+        self.house().note_taken(printer);
+    }
 }
 
 impl<
@@ -198,7 +208,12 @@ impl<
         let (printer, limits) = (seat.printer(), hall.printer_limits);
         let device = match opened {
             OpenedPlace::File(outlet) => {
-                Device::File(PrinterFile::new(outlet, self, hall.kept.is_some()))
+                Device::File(PrinterFile::new(
+                    printer,
+                    outlet,
+                    self,
+                    hall.kept.is_some(),
+                ))
             }
             OpenedPlace::Socket(address) => {
                 let silence = limits.silence_seconds;

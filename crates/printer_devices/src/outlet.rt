@@ -95,28 +95,39 @@ pub fn has_unread(pipe: &File) -> bool {
 /// A printer's file, of which a write waits while the printer takes nothing, until the server waits for nothing any more.
 #[derive(Drop)]
 pub struct PatientFile<'a, Q: Errand> {
+    printer: u32,
     file: File,
     errand: &'a Q,
 }
 
 impl<'a, Q: Errand> PatientFile<'a, Q> {
-    /// The file, which asks this while it waits.
-    pub(crate) fn new(file: File, errand: &'a Q) -> PatientFile<'a, Q> {
-        PatientFile { file, errand }
+    /// The file of the printer of this number, which asks this while it waits.
+    pub(crate) fn new(printer: u32, file: File, errand: &'a Q) -> PatientFile<'a, Q> {
+        PatientFile {
+            printer,
+            file,
+            errand,
+        }
     }
 }
 
 impl<Q: Errand> Write for PatientFile<'_, Q> {
     fn write(&mut self, octets: &[u8]) -> io::Result<usize> {
-        for _ in 0..u64::MAX {
+        for turn in 0..u64::MAX {
             match self.file.write(octets) {
                 Err(error) if error.kind() == ErrorKind::WouldBlock => {
                     if self.errand.is_cut_off() {
                         break;
                     }
+                    self.errand.note_halt(self.printer);
                     is_told(self.file.as_raw_fd(), POLLOUT, TURN_MS);
                 }
-                written => return written,
+                written => {
+                    if turn != 0 {
+                        self.errand.note_taken(self.printer);
+                    }
+                    return written;
+                }
             }
         }
         Err(Error::from(ErrorKind::TimedOut))

@@ -1,3 +1,2 @@
 -- The words of this crate's contracts.
-pub mod JobNames
-pub mod Stopping
+pub mod OwnedJobs

@@ -2,13 +2,13 @@
 
 use crate::care::Care;
 use crate::commanding::AnswerLines;
-use crate::job_name::{JobName, JobNumber};
+use crate::owned_job::OwnedJob;
 use control_lines::AnswerEnd;
-use held_jobs::Phase;
 use log::Log;
 use server_folders::{FileEnd, FiledJob, JobFolder};
 use server_house::{HouseLedger, HouseSeat};
 use shared_spool::{SeenJob, Unremoved};
+use standings::{JobName, JobNumber, JobStage, stage_of};
 use std::alloc::AllocError;
 use std::fmt::Display;
 use std::fs::{File, Files};
@@ -22,23 +22,31 @@ const NOT_KEPT: &str = "no jobs are kept: the server has no --spool";
 const NO_JOB: &str = "the file isn't that of a kept job";
 
 /// The name of a job in this file.
-fn filed_name(number: u64, job: &FiledJob) -> JobName<'_> {
-    JobName {
-        number: JobNumber::File(number),
-        given: Some(job.control.number),
+fn filed_name(number: u64, job: &FiledJob) -> OwnedJob<'_> {
+    OwnedJob {
+        name: JobName {
+            number: JobNumber::File(number),
+            client: Some(job.control.number),
+        },
         user: job.control.user.as_slice(),
         host: job.control.host.as_slice(),
         queue: job.owner.queue.as_slice(),
     }
 }
 
+/// Whether a job is whole and hasn't ended.
+pub(crate) fn is_received(job: &SeenJob) -> bool {
+    matches!(stage_of(job), JobStage::Waiting | JobStage::Printing)
+}
+
 impl<R: Files<File = File> + Clock + Log + Wait, E: HouseLedger> Care<'_, '_, R, E> {
     /// The name of a held job.
-    pub(crate) fn name_of<'j>(&'j self, job: &'j SeenJob) -> JobName<'j> {
-        let book = self.hall.job_book.as_ref();
-        JobName {
-            number: JobNumber::Accepted(job.number),
-            given: book.and_then(|book| book.number_of(self.hall.rt, job.number)),
+    pub(crate) fn name_of<'j>(&'j self, job: &'j SeenJob) -> OwnedJob<'j> {
+        OwnedJob {
+            name: JobName {
+                number: JobNumber::Accepted(job.number),
+                client: self.numbers_of(job.number).client,
+            },
             user: job.user.as_slice(),
             host: job.host.as_slice(),
             queue: self.hall.oversight.config.name_of(job.queue),
@@ -46,7 +54,7 @@ impl<R: Files<File = File> + Clock + Log + Wait, E: HouseLedger> Care<'_, '_, R,
     }
 
     /// The answer that tells that this was done to a job.
-    fn tell_done(&self, what: &str, job: &JobName<'_>) -> Result<Vec<u8>, AllocError> {
+    fn tell_done(&self, what: &str, job: &OwnedJob<'_>) -> Result<Vec<u8>, AllocError> {
         let mut answer = AnswerLines::new(self.hall.alloc);
         let line = format!(in self.hall.alloc; "{what} {job}")?;
         answer.line(&line)?;
@@ -63,10 +71,10 @@ impl<R: Files<File = File> + Clock + Log + Wait, E: HouseLedger> Care<'_, '_, R,
         &self,
         seat: &mut HouseSeat<E>,
         job: &SeenJob,
-        name: &JobName<'_>,
+        name: &OwnedJob<'_>,
     ) -> Result<Vec<u8>, AllocError> {
         let number = job.number;
-        if job.phase == Phase::Receiving {
+        if matches!(stage_of(job), JobStage::Arriving) {
             let why = format!(in self.hall.alloc; "{name} is still arriving: it can be removed once it is whole")?;
             return self.refuse(why);
         }
@@ -107,7 +115,7 @@ impl<R: Files<File = File> + Clock + Log + Wait, E: HouseLedger> Care<'_, '_, R,
         &self,
         seat: &mut HouseSeat<E>,
         job: u64,
-        name: &JobName<'_>,
+        name: &OwnedJob<'_>,
     ) -> Result<Vec<u8>, AllocError> {
         let sight = self.spool.sight(self.hall.rt, self.hall.alloc)?;
         let mut jobs = sight.spool.jobs.iter();

@@ -1,9 +1,9 @@
 //! What is asked at the control socket, each command as calls of the spool and the lines of its answer.
 
+use crate::cancelling::is_received;
 use crate::care::Care;
 use control_lines::{AnswerEnd, ControlCommand, Escaped};
 use decimals::read_decimal;
-use held_jobs::Phase;
 use log::Log;
 use server_house::{HouseLedger, HouseSeat, PrintedLine, rotation_of};
 use shared_spool::{Octets, SeenJob};
@@ -166,7 +166,7 @@ impl<R: Files<File = File> + Clock + Log + Wait, E: HouseLedger> Care<'_, '_, R,
         };
         let sight = self.spool.sight(self.hall.rt, self.hall.alloc)?;
         let mut jobs = sight.spool.jobs.iter();
-        let is_meant = |job: &&SeenJob| job.number == number && job.queue == queue && job.phase == Phase::Received;
+        let is_meant = |job: &&SeenJob| job.number == number && job.queue == queue && is_received(job);
         let Some(job) = jobs.find(is_meant) else {
             return Ok(None);
         };

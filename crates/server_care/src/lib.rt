@@ -6,7 +6,7 @@ mod cancelling;
 mod care;
 mod commanding;
 mod counter;
-mod job_name;
+mod owned_job;
 mod showing;
 mod status;
 mod stewarding;

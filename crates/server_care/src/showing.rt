@@ -51,15 +51,6 @@ fn numbers_of(alloc: Global, sight: &Sight) -> Result<Vec<u64>, AllocError> {
     Ok(numbers)
 }
 
-/// The numbers of the jobs whose sessions wait for a page. AllocError where memory for them is refused.
-fn put_off_of(alloc: Global, sight: &Sight) -> Result<Vec<u64>, AllocError> {
-    let mut put_off = Vec::new(alloc);
-    for waiting in &sight.waiting {
-        put_off.push(waiting.job)?;
-    }
-    Ok(put_off)
-}
-
 impl<R: Files<File = File> + Clock + Log + Wait, E: HouseLedger> Care<'_, '_, R, E> {
     /// The seconds since the server's start; none where the clock can't be read.
     fn uptime(&self) -> u64 {
@@ -100,8 +91,6 @@ impl<R: Files<File = File> + Clock + Log + Wait, E: HouseLedger> Care<'_, '_, R,
         let Some(survey) = self.survey(&sight)? else {
             return unavailable_response(alloc);
         };
-        let order = sight.spool.finishing_order(alloc)?;
-        let put_off = put_off_of(alloc, &sight)?;
         let ages = match &self.hall.job_book {
             Some(book) => book.ages(rt, numbers_of(alloc, &sight)?.as_slice())?,
             None => Vec::new(alloc),
@@ -111,8 +100,6 @@ impl<R: Files<File = File> + Clock + Log + Wait, E: HouseLedger> Care<'_, '_, R,
             config: &self.hall.oversight.config,
             spool: &sight.spool,
             outside: &survey.outside(&sight),
-            order: order.as_ref().map(|order| order.as_slice()),
-            put_off: put_off.as_slice(),
             ages: ages.as_slice(),
             counts: &counts,
             hour: board.hour.looks(),

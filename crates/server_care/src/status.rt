@@ -6,8 +6,9 @@ use control_lines::AnswerEnd;
 use log::Log;
 use server_house::HouseLedger;
 use shared_spool::Sight;
-use status_lines::{KeptJobs, Outside, SeenSession, SeenStandstill, status_text};
-use std::alloc::AllocError;
+use standings::{EdgeNotes, FinishingTurn, JobNumbers, PrinterNotes, SeenTrouble, turns_of};
+use status_lines::{KeptJobs, Outside, SeenSession, status_text};
+use std::alloc::{AllocError, Global};
 use std::fs::{File, Files};
 use std::rt::Clock;
 use std::sync::Wait;
@@ -22,7 +23,10 @@ pub struct Survey {
     lobby: usize,
     kept: Option<KeptJobs>,
     sessions: Vec<SeenSession>,
-    standstills: Vec<Option<SeenStandstill>>,
+    printers: Vec<PrinterNotes>,
+    put_off: Vec<u64>,
+    turns: Option<Vec<FinishingTurn>>,
+    numbers: Vec<JobNumbers>,
 }
 
 impl Survey {
@@ -35,10 +39,35 @@ impl Survey {
             lobby: self.lobby,
             kept: self.kept,
             sessions: self.sessions.as_slice(),
-            // No queue has the number 0.
-            held: sight.held.get(1..).unwrap_or(&[]),
-            standstills: self.standstills.as_slice(),
+            noted: EdgeNotes {
+                // No queue has the number 0.
+                held: sight.held.get(1..).unwrap_or(&[]),
+                printers: self.printers.as_slice(),
+                put_off: self.put_off.as_slice(),
+                turns: self.turns.as_ref().map(|turns| turns.as_slice()),
+                numbers: self.numbers.as_slice(),
+            },
         }
+    }
+}
+
+/// The numbers of the jobs whose sessions wait for a page. AllocError where memory for them is refused.
+fn put_off_of(alloc: Global, sight: &Sight) -> Result<Vec<u64>, AllocError> {
+    let mut put_off = Vec::new(alloc);
+    for waiting in &sight.waiting {
+        put_off.push(waiting.job)?;
+    }
+    Ok(put_off)
+}
+
+/// The turns in which the held jobs can finish; none where there is no such order. AllocError where memory for them is refused.
+fn turns_in(alloc: Global, sight: &Sight) -> Result<Option<Vec<FinishingTurn>>, AllocError> {
+    match sight.spool.finishing_order(alloc)? {
+        Some(order) => {
+            let turns = turns_of(alloc, &sight.spool.claims, order.as_slice())?;
+            Ok(Some(turns))
+        }
+        None => Ok(None),
     }
 }
 
@@ -59,29 +88,61 @@ impl<R: Files<File = File> + Clock + Log + Wait, E: HouseLedger> Care<'_, '_, R,
         Ok(sessions)
     }
 
-    /// Since when and why each printer stands still that does, by their numbers, at this moment.
-    fn seen_standstills(
-        &self,
-        sight: &Sight,
-        now: Instant,
-    ) -> Result<Vec<Option<SeenStandstill>>, AllocError> {
-        let mut standstills = Vec::new(self.hall.alloc);
-        for at in 0..self.hall.oversight.config.printer_count() {
-            let mut seen = None;
-            let printer = sight.spool.printers.get(at as usize);
-            let is_stopped = printer.is_some_and(|printer| printer.stopped);
-            let standstill = self.hall.oversight.standstills.of(self.hall.rt, at + 1);
-            if let (true, Some(standstill)) = (is_stopped, standstill) {
-                let cause = match standstill.cause {
-                    Some(cause) => format!(in self.hall.alloc; "{cause}")?,
-                    None => String::from_str(self.hall.alloc, "not written")?,
-                };
-                let seconds = now.saturating_duration_since(standstill.since).as_secs();
-                seen = Some(SeenStandstill { seconds, cause });
-            }
-            standstills.push(seen)?;
+    /// Since when a printer is stopped, at this moment, and why, where that is noted.
+    fn seen_stop(&self, printer: u32, now: Instant) -> Result<Option<SeenTrouble>, AllocError> {
+        let (rt, alloc) = (self.hall.rt, self.hall.alloc);
+        let Some(standstill) = self.hall.oversight.standstills.of(rt, printer) else {
+            return Ok(None);
+        };
+        let cause = match standstill.cause {
+            Some(cause) => format!(in alloc; "{cause}")?,
+            None => String::from_str(alloc, "not written")?,
+        };
+        let seconds = now.saturating_duration_since(standstill.since).as_secs();
+        Ok(Some(SeenTrouble { seconds, cause }))
+    }
+
+    /// Since when nothing of the page at a printer goes, at this moment, and why, where that is noted and long enough.
+    fn seen_delay(&self, printer: u32, now: Instant) -> Result<Option<SeenTrouble>, AllocError> {
+        let Some(delay) = self.hall.oversight.delays.of(self.hall.rt, printer) else {
+            return Ok(None);
+        };
+        let seconds = now.saturating_duration_since(delay.since).as_secs();
+        if !delay.is_shown(seconds) {
+            return Ok(None);
         }
-        Ok(standstills)
+        let cause = format!(in self.hall.alloc; "{}", delay.cause)?;
+        Ok(Some(SeenTrouble { seconds, cause }))
+    }
+
+    /// What is noted of each printer at this moment, by their numbers.
+    fn seen_printers(&self, now: Instant) -> Result<Vec<PrinterNotes>, AllocError> {
+        let mut printers = Vec::new(self.hall.alloc);
+        for at in 0..self.hall.oversight.config.printer_count() {
+            printers.push(PrinterNotes {
+                stop: self.seen_stop(at + 1, now)?,
+                unreached: self.seen_delay(at + 1, now)?,
+            })?;
+        }
+        Ok(printers)
+    }
+
+    /// What the job of this number of acceptance is called outside of the spool, where it is held.
+    pub(crate) fn numbers_of(&self, job: u64) -> JobNumbers {
+        let (kept, book) = (self.hall.kept.as_ref(), self.hall.job_book.as_ref());
+        JobNumbers {
+            file: kept.and_then(|kept| kept.disk.file_of(job)),
+            client: book.and_then(|book| book.number_of(self.hall.rt, job)),
+        }
+    }
+
+    /// What each held job is called outside of the spool.
+    fn seen_numbers(&self, sight: &Sight) -> Result<Vec<JobNumbers>, AllocError> {
+        let mut numbers = Vec::new(self.hall.alloc);
+        for job in &sight.spool.jobs {
+            numbers.push(self.numbers_of(job.number))?;
+        }
+        Ok(numbers)
     }
 
     /// What the edge of the server knows at this moment, at which the spool is as that shows. None where the clock can't be read.
@@ -96,7 +157,10 @@ impl<R: Files<File = File> + Clock + Log + Wait, E: HouseLedger> Care<'_, '_, R,
             lobby: self.hall.oversight.in_lobby() as usize,
             kept: self.hall.kept.as_ref().map(|kept| kept.counts()),
             sessions: self.seen_sessions(start, now)?,
-            standstills: self.seen_standstills(sight, now)?,
+            printers: self.seen_printers(now)?,
+            put_off: put_off_of(self.hall.alloc, sight)?,
+            turns: turns_in(self.hall.alloc, sight)?,
+            numbers: self.seen_numbers(sight)?,
         }))
     }
 

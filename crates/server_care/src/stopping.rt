@@ -9,16 +9,18 @@
 
 ghost use Rattle.std.specs.Prelude.{◌≡◌};
 ghost use Rattle.std.specs.List.{list_any};
-ghost use Rattle.server_care.specs.Stopping.{goes_on, is_awaited, runs_for};
+ghost use Rattle.shared_spool.specs.Line.{held_at};
+ghost use Rattle.spool_snapshot.specs.declared.job.SeenJob.{SeenJob as Seen};
+ghost use Rattle.standings.specs.Stages.{is_awaited};
 
 use crate::care::Care;
 use control_lines::Escaped;
-use held_jobs::Phase;
 use log::{Log, warn};
 use printer_devices::has_unread;
 use server_house::{HouseLedger, HouseSeat};
 use shared_spool::{SeenJob, Sight};
 use spool_calls::Printer;
+use standings::{JobStage, is_awaited, stage_of};
 use std::rt::Clock;
 use std::sync::Wait;
 use std::thread;
@@ -33,51 +35,30 @@ const LINES: usize = 64;
 /// The pause after these, in which the log writes them, in milliseconds.
 const PAUSE_MS: u64 = 20;
 
-/// Whether a printer serves this queue and isn't stopped.
-fn runs_for(queue: u32, printer: &Printer) -> bool
-    ensures { result ≡ runs_for queue printer.now }
-{
-    printer.queue == queue && !printer.stopped
-}
-
-/// Whether a printer of this queue isn't stopped.
-fn is_served(printers: &[Printer], queue: u32) -> bool
-    ensures { result ≡ list_any (runs_for queue) printers.now }
-{
-    printers.iter().any(|printer| runs_for(queue, printer))
-}
-
-/// Whether a job goes on by itself, where its queue is held or isn't, and a printer of it runs.
-fn goes_on(is_held: bool, job: &SeenJob) -> bool
-    ensures { result ≡ goes_on is_held job.now job.now.phase }
-{
-    match job.phase {
-        Phase::Receiving => false,
-        Phase::Received => job.handed > 0 || !is_held,
-        Phase::Ended => true,
-    }
-}
-
-/// Whether a server that stops waits for a job: where nobody need do anything for it to come to its end. A queue that is held, or of
-/// which all printers are stopped, waits for somebody.
-fn is_awaited(printers: &[Printer], held: &[bool], job: &SeenJob) -> bool
-    ensures { result ≡ is_awaited printers.now held.now job.now }
+/// Whether a server that stops waits for a job, where queues are held or aren't, by their numbers.
+fn is_awaited_there(printers: &[Printer], held: &[bool], job: &SeenJob) -> bool
+    ensures { result ≡ is_awaited printers.now (held_at held.now job.now.queue) job.now }
 {
     let is_held = held.get(job.queue as usize).copied().unwrap_or(false);
-    goes_on(is_held, job) && is_served(printers, job.queue)
+    is_awaited(printers, is_held, job)
 }
 
 /// Whether a server that stops waits for a job.
 fn awaits_one(sight: &Sight) -> bool
-    ensures { result ≡ list_any (is_awaited sight.now.spool.printers.items sight.now.held.items)
-        sight.now.spool.jobs.items }
+    ensures { result ≡ list_any (λ (job : Seen). is_awaited sight.now.spool.printers.items
+        (held_at sight.now.held.items job.queue) job) sight.now.spool.jobs.items }
 {
     let (printers, held) = (sight.spool.printers.as_slice(), sight.held.as_slice());
     sight
         .spool
         .jobs
         .iter()
-        .any(|job| is_awaited(printers, held, job))
+        .any(|job| is_awaited_there(printers, held, job))
+}
+
+/// Whether a job has come whole.
+fn is_whole(job: &SeenJob) -> bool {
+    !matches!(stage_of(job), JobStage::Arriving)
 }
 
 impl<R: Clock + Log + Wait, E: HouseLedger> Care<'_, '_, R, E> {
@@ -119,18 +100,19 @@ impl<R: Clock + Log + Wait, E: HouseLedger> Care<'_, '_, R, E> {
     fn tell_lost(&self, job: &SeenJob) {
         let (user, host) = (Escaped(job.user.as_slice()), Escaped(job.host.as_slice()));
         let (number, queue, octets) = (job.number, self.hall.queue_name(job.queue), job.octets);
-        let why = match job.phase {
-            Phase::Receiving => "it isn't whole",
-            Phase::Received | Phase::Ended => "it isn't printed",
+        let why = if is_whole(job) {
+            "it isn't printed"
+        } else {
+            "it isn't whole"
         };
         warn!(self.hall.rt; "job {number} {queue} {user}@{host} {octets} octets is lost: {why}");
     }
 
     /// Tells of each of these jobs that is whole, or of each that isn't, that it is lost.
-    fn tell_each_lost(&self, jobs: &[SeenJob], is_whole: bool) {
+    fn tell_each_lost(&self, jobs: &[SeenJob], whole: bool) {
         let lost = jobs
             .iter()
-            .filter(|job| (job.phase != Phase::Receiving) == is_whole);
+            .filter(|job| is_whole(job) == whole);
         for (at, job) in lost.enumerate() {
             self.tell_lost(job);
             if at % LINES == LINES - 1 {

@@ -252,7 +252,7 @@ impl<R: Files<File = File> + Clock + Wait + Log, E: HouseLedger> Answering<'_, '
         let number = seat.number();
         let seated = Seated::new(hall.rt, self.spool, seat);
         let keeping = Keeping::new(hall.alloc, seated, DiskFolder::new(&kept.disk));
-        let mut noting = Noting::new(keeping, SessionNotes::new(hall.rt, &hall.job_book));
+        let mut noting = Noting::new(keeping, SessionNotes::new(hall));
         let attendant = Attendant {
             hall,
             number,
@@ -273,7 +273,7 @@ impl<R: Files<File = File> + Clock + Wait + Log, E: HouseLedger> Answering<'_, '
         }
         let number = seat.number();
         let seated = Seated::new(hall.rt, self.spool, seat);
-        let mut noting = Noting::new(seated, SessionNotes::new(hall.rt, &hall.job_book));
+        let mut noting = Noting::new(seated, SessionNotes::new(hall));
         let attendant = Attendant {
             hall,
             number,

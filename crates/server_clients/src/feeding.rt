@@ -61,9 +61,9 @@ fn waits_for_room(fed: Fed) -> bool {
 }
 
 /// The seat of whoever feeds, with the hand that has the file which is being fed, and what is told of its job.
-type Feeder<'a, R, E> = Noting<
-    Keeping<HouseSeated<'a, R, E>, FedFolder<'a, R>>,
-    SessionNotes<'a, R>,
+type Feeder<'h, 'a, R, E> = Noting<
+    Keeping<HouseSeated<'h, R, E>, FedFolder<'h, R>>,
+    SessionNotes<'h, 'a, R>,
 >;
 
 /// Who feeds kept jobs to the spool of a server.
@@ -91,7 +91,7 @@ impl<R: Files<File = File> + Clock + Log + Wait, E: HouseLedger> Feeding<'_, '_,
     fn feed_first(
         &self,
         kept: &JobFolder<'_, R>,
-        feeder: &mut Feeder<'_, R, E>,
+        feeder: &mut Feeder<'_, '_, R, E>,
         number: u64,
     ) -> bool {
         let (rt, alloc) = (self.hall.rt, self.hall.alloc);
@@ -137,7 +137,7 @@ impl<R: Files<File = File> + Clock + Log + Wait, E: HouseLedger> Feeding<'_, '_,
         let keeping = Keeping::new(self.hall.alloc, seated, FedFolder::new(&kept.disk));
         let mut feeder = Noting::new(
             keeping,
-            SessionNotes::new(self.hall.rt, &self.hall.job_book),
+            SessionNotes::new(self.hall),
         );
         for _ in self.hall.rt.forever() {
             if self.hall.ending.stops() || self.hall.ending.is_over() {

@@ -4,25 +4,32 @@ use control_file::Control;
 use log::Log;
 use lpd_values::FileName;
 use noted_requests::JobNotes;
+use server_house::Hall;
 use server_notes::JobBook;
+use std::fs::{File, Files};
 use std::rt::Clock;
 use std::sync::Wait;
 
-/// What a session's jobs are told to: the book, where there is one.
+/// What a session's jobs are told to: the book of its hall, where there is one.
 #[derive(Drop)]
-pub(crate) struct SessionNotes<'a, R> {
+pub(crate) struct SessionNotes<'h, 'a, R> {
+    hall: &'h Hall<'a, R>,
     rt: &'a R,
-    book: &'a Option<JobBook>,
+    book: &'h Option<JobBook>,
 }
 
-impl<'a, R> SessionNotes<'a, R> {
-    /// Tells this book, if there is one.
-    pub(crate) fn new(rt: &'a R, book: &'a Option<JobBook>) -> SessionNotes<'a, R> {
-        SessionNotes { rt, book }
+impl<'h, 'a, R> SessionNotes<'h, 'a, R> {
+    /// Tells the book of this hall, if there is one.
+    pub(crate) fn new(hall: &'h Hall<'a, R>) -> SessionNotes<'h, 'a, R> {
+        SessionNotes {
+            hall,
+            rt: hall.rt,
+            book: &hall.job_book,
+        }
     }
 }
 
-impl<R: Clock + Log + Wait> JobNotes for SessionNotes<'_, R> {
+impl<R: Files<File = File> + Clock + Log + Wait> JobNotes for SessionNotes<'_, '_, R> {
     fn opened(&mut self, job: u64, _sender: u32, queue: &[u8]) {
         if let Some(book) = &self.book {
             book.begin(self.rt, job, queue);
@@ -48,6 +55,7 @@ impl<R: Clock + Log + Wait> JobNotes for SessionNotes<'_, R> {
     }
 
     fn received(&mut self, job: u64) {
+        self.hall.note_file(job);
         if let Some(book) = &self.book {
             book.receive(self.rt, job);
         }

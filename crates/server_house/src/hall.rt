@@ -44,7 +44,7 @@ pub struct Hall<'a, R> {
     pub kept: Option<JobFolder<'a, R>>,
     /// Where the account's segments become files, if they do.
     pub archive: Option<Archive<'a>>,
-    /// What is noted of each job, where the log has lines of them or the status is shown.
+    /// What is noted of each job, where the log has lines of them or somebody may ask how they stand.
     pub job_book: Option<JobBook>,
     /// What is known of the thread that shows the status, where there is one.
     pub showing: Option<Showing>,
@@ -62,7 +62,7 @@ impl<'a, R> Hall<'a, R> {
         config: &Config,
         waker: Waker,
     ) -> Result<(Hall<'a, R>, Doors), AllocError> {
-        let is_shown = settings.status.is_some();
+        let is_shown = settings.status.is_some() || settings.control.is_some();
         let restarts = Restarts::new(alloc, config.queues().len(), settings.restart_seconds)?;
         let withdrawals = Withdrawals::new(alloc, config.queues().len())?;
         let posts = Posts::new(alloc, sessions_of(settings) as usize)?;
@@ -104,23 +104,32 @@ impl<R> Hall<'_, R> {
     }
 }
 
-impl<R: Clock + Log + Wait> Hall<'_, R> {
-    /// Notes what has become of a job that isn't held any more.
-    pub fn note_end(&self, job: u64, outcome: JobOutcome) {
-        if let Some(book) = &self.job_book {
-            book.end(self.rt, job, outcome);
+impl<R: Files<File = File> + Clock + Log + Wait> Hall<'_, R> {
+    /// Notes which file a job has in the folder that keeps jobs, where it has one and its end isn't known there yet.
+    pub fn note_file(&self, job: u64) {
+        if let (Some(kept), Some(book)) = (&self.kept, &self.job_book) {
+            if let Some(file) = kept.disk.file_of(job) {
+                book.note_file(self.rt, job, file);
+            }
         }
     }
-}
 
-impl<R: Files<File = File> + Clock + Log + Wait> Hall<'_, R> {
+    /// Has the file of a job taken away or renamed that isn't held any more, and notes how the job ended.
+    pub fn end_job(&self, job: u64, end: JobEnd) {
+        // Which file it is isn't known afterwards.
+        self.note_file(job);
+        if let Some(kept) = &self.kept {
+            kept.end(self.rt, job, end);
+        }
+        if let Some(book) = &self.job_book {
+            book.end(self.rt, job, JobOutcome::Ended(end));
+        }
+    }
+
     /// Has the files of jobs that were removed taken away, and notes the end of these jobs.
     pub fn end_removed(&self, jobs: Vec<u64>) {
         for job in jobs {
-            if let Some(kept) = &self.kept {
-                kept.end(self.rt, job, JobEnd::Removed);
-            }
-            self.note_end(job, JobOutcome::Removed);
+            self.end_job(job, JobEnd::Removed);
         }
     }
 }

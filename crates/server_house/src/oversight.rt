@@ -2,7 +2,7 @@
 
 use config_values::Config;
 use mio::Waker;
-use server_notes::Standstills;
+use server_notes::{Delays, Standstills};
 use std::alloc::{AllocError, Global};
 use std::fs::File;
 use std::rt::Clock;
@@ -16,7 +16,10 @@ pub struct Oversight {
     pub config: Config,
     /// When the server started, where somebody looks after it or at it.
     pub start: Option<Instant>,
+    /// Which printers stand still.
     pub standstills: Standstills,
+    /// At which printers nothing of a page goes.
+    pub delays: Delays,
     /// The printers' pipes, by the printers' numbers, from 1, where a steward looks after it.
     pub pipes: Vec<Option<File>>,
     // How many connections wait in the lobby.
@@ -30,10 +33,12 @@ impl Oversight {
     pub fn new(alloc: Global, config: &Config) -> Result<Oversight, AllocError> {
         let config = Config::copy_of(alloc, config)?;
         let standstills = Standstills::new(alloc, config.printer_count())?;
+        let delays = Delays::new(alloc, config.printer_count())?;
         Ok(Oversight {
             config,
             start: None,
             standstills,
+            delays,
             pipes: Vec::new(alloc),
             in_lobby: AtomicU64::new(0),
             waker: None,

@@ -17,6 +17,7 @@
 use crate::job_lines::{JobOutcome, tell_job};
 use crate::moments::milliseconds;
 use control_file::Control;
+use job_files::JobEnd;
 use log::Log;
 use lpd_values::{Octets, Refusal};
 use server_counts::ServerCounts;
@@ -35,6 +36,8 @@ pub(crate) struct Noted {
     /// Whose it is, once its control file has come.
     pub(crate) user: Option<Octets>,
     pub(crate) host: Option<Octets>,
+    /// The number of its file in the folder that keeps jobs, where it has one.
+    pub(crate) file: Option<u64>,
     pub(crate) pages: u64,
     pub(crate) octets: u64,
     /// When it was accepted.
@@ -120,6 +123,7 @@ impl JobBook {
             number: None,
             user: None,
             host: None,
+            file: None,
             pages: 0,
             octets: 0,
             since: since_start(rt),
@@ -171,6 +175,13 @@ impl JobBook {
         self.tell(rt, job, noted, JobOutcome::Received, now);
     }
 
+    /// A job that has come whole has this file in the folder that keeps jobs.
+    pub fn note_file<R: Wait>(&self, rt: &R, job: u64, file: u64) {
+        if let Some(noted) = self.jobs.lock(rt).get_mut(&job) {
+            noted.file = Some(file);
+        }
+    }
+
     /// A job has come whole.
     pub fn receive<R: Clock + Log + Wait>(&self, rt: &R, job: u64) {
         let now = since_start(rt);
@@ -186,12 +197,12 @@ impl JobBook {
         let mut counts = self.counts.lock(rt);
         match outcome {
             JobOutcome::Received => {}
-            JobOutcome::Done => {
+            JobOutcome::Ended(JobEnd::Done) => {
                 let since = noted.received.unwrap_or(now);
                 counts.finish(noted.octets, milliseconds(now.saturating_sub(since)));
             }
-            JobOutcome::Failed => counts.fail(),
-            JobOutcome::Removed => counts.remove(),
+            JobOutcome::Ended(JobEnd::Failed) => counts.fail(),
+            JobOutcome::Ended(JobEnd::Removed) => counts.remove(),
             JobOutcome::Aborted => counts.abort(),
         }
     }
@@ -203,7 +214,7 @@ impl JobBook {
             return;
         };
         // A printer may be through with it before its session has told that it came whole.
-        if noted.received.is_none() && outcome != JobOutcome::Aborted {
+        if noted.received.is_none() && !matches!(outcome, JobOutcome::Aborted) {
             self.note_whole(rt, job, &noted, now);
         }
         self.count(rt, &noted, outcome, now);

@@ -11,16 +11,19 @@ use std::time::Duration;
 pub const JOB_LINES: &str = "lpd_daemon::job_lines";
 
 /// What becomes of a job.
-#[derive(Clone, Copy, Debug, PartialEq, Eq)]
+///
+/// ```text
+///             came whole             its printer left it, or it was removed
+///   accepted ------------> Received ---------------------------------------> Ended
+///       |
+///       +----- its session gave it up -----> Aborted
+/// ```
+#[derive(Clone, Copy)]
 pub enum JobOutcome {
     /// It came whole.
     Received,
-    /// All its pages were printed.
-    Done,
-    /// A page of it couldn't be printed.
-    Failed,
-    /// It was removed.
-    Removed,
+    /// It has ended so.
+    Ended(JobEnd),
     /// It was given up before it was whole.
     Aborted,
 }
@@ -29,21 +32,11 @@ impl fmt::Display for JobOutcome {
     fn fmt<W: fmt::Write>(&self, f: &mut fmt::Formatter<W>) -> fmt::Result {
         f.write_str(match self {
             JobOutcome::Received => "received",
-            JobOutcome::Done => "done",
-            JobOutcome::Failed => "failed",
-            JobOutcome::Removed => "removed",
+            JobOutcome::Ended(JobEnd::Done) => "done",
+            JobOutcome::Ended(JobEnd::Failed) => "failed",
+            JobOutcome::Ended(JobEnd::Removed) => "removed",
             JobOutcome::Aborted => "aborted",
         })
-    }
-}
-
-impl From<JobEnd> for JobOutcome {
-    fn from(end: JobEnd) -> JobOutcome {
-        match end {
-            JobEnd::Done => JobOutcome::Done,
-            JobEnd::Removed => JobOutcome::Removed,
-            JobEnd::Failed => JobOutcome::Failed,
-        }
     }
 }
 
@@ -73,7 +66,7 @@ impl fmt::Display for Number {
     }
 }
 
-/// A line of a job: `17 lp 001 ann@host 2 pages 11 octets received in 0.01 s`.
+/// A line of a job: `17 lp 001 ann@host 2 pages 11 octets received in 0.01 s`, and `file 7` behind it where it has a file in the folder.
 #[derive(Clone, Copy)]
 struct JobLine<'a> {
     job: u64,
@@ -100,7 +93,11 @@ impl fmt::Display for JobLine<'_> {
             f,
             "{job} {queue} {number} {user}@{host} {pages} pages {octets} octets "
         )?;
-        write!(f, "{outcome} in {seconds}.{hundredths:02} s")
+        write!(f, "{outcome} in {seconds}.{hundredths:02} s")?;
+        match noted.file {
+            Some(file) => write!(f, " file {file}"),
+            None => Ok(()),
+        }
     }
 }
 

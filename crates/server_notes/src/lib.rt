@@ -2,6 +2,7 @@
 //! stand still, when queues are started again, also at once, and rotations that aren't printed yet.
 #![tactic(auto)]
 
+mod delays;
 mod ending;
 mod job_book;
 mod job_lines;
@@ -11,6 +12,7 @@ mod rotations;
 mod standstills;
 mod withdrawals;
 
+pub use delays::{Delay, DelayCause, Delays};
 pub use ending::ServerEnding;
 pub use job_book::JobBook;
 pub use job_lines::{JOB_LINES, JobOutcome};

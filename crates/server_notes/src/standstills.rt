@@ -20,7 +20,7 @@ pub struct Standstill {
 }
 
 /// After how many minutes it is told again that a printer stands still, which was told N times: after 1, after 10, and then each 60.
-fn minutes_until(told: u32) -> u64
+pub(crate) fn minutes_until(told: u32) -> u64
     ensures { result ≡ minutes_until told }
 {
     match told {

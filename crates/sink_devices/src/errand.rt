@@ -1,4 +1,6 @@
-//! Whom a device asks while it waits.
+//! Whom a device asks while it waits, and tells what it waits for.
+
+use std::io::Error;
 
 /// What a device asks while it waits for its printer.
 pub trait Errand {
@@ -10,4 +12,13 @@ pub trait Errand {
 
     /// The printer of this number hasn't been reached for this many seconds, and this job waits for it: the server tells that.
     fn tell_unreached(&self, printer: u32, job: u64, seconds: u64);
+
+    /// The printer of this number isn't reached, for this cause: the server notes since when.
+    fn note_unreached(&self, printer: u32, cause: Error);
+
+    /// The printer of this number takes nothing now: the server notes since when, and tells it where that is long.
+    fn note_halt(&self, printer: u32);
+
+    /// The printer of this number has taken octets again.
+    fn note_taken(&self, printer: u32);
 }

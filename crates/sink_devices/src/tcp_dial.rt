@@ -116,6 +116,7 @@ impl<'a, R: Net + Clock + Log, Q: Errand> TcpDial<'a, R, Q> {
     fn tell_unreached(&mut self, error: &Error)
         ensures { self.new.cause ≡ self.old.cause }
     {
+        self.errand.note_unreached(self.printer, *error);
         let Some(now) = now(self.rt) else {
             return;
         };
@@ -155,6 +156,7 @@ impl<'a, R: Net + Clock + Log, Q: Errand> TcpDial<'a, R, Q> {
         let Some((since, _)) = self.unreached.take() else {
             return;
         };
+        self.errand.note_taken(self.printer);
         let seconds = milliseconds_since(self.rt, Some(since)) / 1_000;
         info!(self.rt; "printer {} is reached again, after {seconds} s", self.printer);
     }
@@ -170,11 +172,18 @@ impl<'a, R: Net + Clock + Log, Q: Errand> TcpDial<'a, R, Q> {
             return Err(Error::from(ErrorKind::NotConnected));
         };
         let mut waiting = PrinterWait::begin(self.rt, self.errand, self.job);
-        for _turn in 0..u64::MAX {
+        for turn in 0..u64::MAX {
             match connection.write(octets, TURN_MS) {
-                Err(error) if error.kind() == ErrorKind::WouldBlock => {}
+                Err(error) if error.kind() == ErrorKind::WouldBlock => {
+                    self.errand.note_halt(self.printer);
+                }
                 Err(error) if error.kind() == ErrorKind::Interrupted => {}
-                written => return written,
+                written => {
+                    if turn != 0 {
+                        self.errand.note_taken(self.printer);
+                    }
+                    return written;
+                }
             }
             if !waiting.goes_on() {
                 return Err(not_wanted());

@@ -1,7 +1,6 @@
 -- The whole answer: which lines it has, in which order.
-use Rattle.std.specs.Prelude.{ℕ, ◌+◌, ◌==◌, Bool, false, List, [], ◌∷◌, ◌++◌, Option, Some, None, if◌then◌else◌, slice_index_or, string_bytes}
+use Rattle.std.specs.Prelude.{ℕ, ◌+◌, ◌==◌, Bool, false, List, [], ◌∷◌, ◌++◌, Option, Some, None, if◌then◌else◌, slice_get, slice_index_or}
 use Rattle.std.specs.List.{flat_map}
-use Rattle.account.specs.declared.entry.Sheet.{Sheet}
 use Rattle.claims.specs.declared.row.Row.{Row}
 use Rattle.claims.specs.Claims.{row_at}
 use Rattle.counts.specs.Amounts.{amount}
@@ -13,15 +12,20 @@ use Rattle.status_lines.specs.declared.line.SpoolState.{SpoolState}
 use Rattle.status_lines.specs.declared.line.SpoolState.TheVariants as spool
 use Rattle.status_lines.specs.declared.line.QueueState.{QueueState}
 use Rattle.status_lines.specs.declared.line.QueueState.TheVariants as queue
-use Rattle.status_lines.specs.declared.line.PrinterState.{PrinterState}
-use Rattle.status_lines.specs.declared.line.PrinterState.TheVariants as printer
+use Rattle.standings.specs.declared.noted.EdgeNotes.{EdgeNotes}
+use Rattle.standings.specs.declared.numbers.JobNumbers.{JobNumbers}
+use Rattle.standings.specs.declared.printer.PrinterStanding.{PrinterStanding}
+use Rattle.standings.specs.declared.printer.PrinterStanding.TheVariants as printer
+use Rattle.standings.specs.Jobs.{job_standing}
+use Rattle.standings.specs.Noted.{is_held}
+use Rattle.standings.specs.Printers.{cause_of, printer_standing}
+use Rattle.status_lines.specs.declared.line.PrinterTrouble.TheVariants as trouble
 use Rattle.status_lines.specs.declared.line.JobPages.{JobPages}
 use Rattle.status_lines.specs.declared.outside.KeptJobs.{KeptJobs}
 use Rattle.status_lines.specs.declared.outside.Outside.{Outside}
 use Rattle.status_lines.specs.declared.outside.SeenSession.{SeenSession}
-use Rattle.status_lines.specs.declared.outside.SeenStandstill.{SeenStandstill}
 use Rattle.status_lines.specs.Pieces.{one_line}
-use Rattle.status_lines.specs.Words.{entries_words, job_words, kept_words, lobby_words, pages_words, printer_line, queue_words, session_words, spool_words, standstill_line, uptime_words}
+use Rattle.status_lines.specs.Words.{entries_words, job_words, kept_words, lobby_words, pages_words, printer_line, queue_words, session_words, spool_words, trouble_line, uptime_words}
 
 -- the texts of elements by their places, the first of which has this one
 abbrev pub placed : {X : Type 0} → (ℕ → X → List ℕ) → ℕ → List X → List ℕ
@@ -54,46 +58,54 @@ session_text s = ended (session_words s.peer s.silent)
 abbrev pub queue_state : List Bool → ℕ → QueueState
 queue_state held at = if slice_index_or held at false then queue.Held else queue.Runs
 
--- what a printer does that isn't stopped: it prints the page that is out at it, or nothing
-abbrev pub work_of : Option Sheet → PrinterState
-work_of None = printer.Idle
-work_of (Some sheet) = printer.Prints sheet.job sheet.place
+-- the lines of a printer that stands so, for a cause
+abbrev pub printer_told : ℕ → List ℕ → PrinterStanding → List ℕ → List ℕ
+printer_told number name printer.Idle cause = ended (printer_line number name printer.Idle)
+printer_told number name printer.Held cause = ended (printer_line number name printer.Held)
+printer_told number name (printer.Printing job place) cause = ended (printer_line number name (printer.Printing job place))
+printer_told number name (printer.Unreached job place seconds) cause =
+    ended (printer_line number name (printer.Unreached job place seconds)) ++ ended (trouble_line number name trouble.Unreached seconds (one_line cause))
+printer_told number name (printer.Stopped None) cause = ended (printer_line number name (printer.Stopped None))
+printer_told number name (printer.Stopped (Some seconds)) cause = ended (trouble_line number name trouble.Stopped seconds (one_line cause))
 
--- the line of a stopped printer, where it may be known since when and why it stands still
-abbrev pub stopped_line : ℕ → List ℕ → Option SeenStandstill → List ℕ
-stopped_line number name None = printer_line number name printer.Stopped
-stopped_line number name (Some stop) = standstill_line number name stop.seconds (one_line (string_bytes stop.cause))
+-- how the printer at a place stands
+abbrev pub standing_at : EdgeNotes → ℕ → Printer → PrinterStanding
+standing_at e at p = printer_standing p (is_held e.held.now p.queue) (slice_get e.printers.now at)
 
-abbrev pub printer_told : ℕ → List ℕ → Printer → Option SeenStandstill → List ℕ
-printer_told number name p stop =
-    if p.stopped then stopped_line number name stop else printer_line number name (work_of p.out)
-
--- the line of the printer at a place, where it serves the queue of this number; printers are numbered from 1
-abbrev pub printer_text : (queue : ℕ) → List ℕ → List (Option SeenStandstill) → ℕ → Printer → List ℕ
-printer_text number name stops at p =
-    if p.queue == number then ended (printer_told (at + 1) name p (slice_index_or stops at None)) else []
+-- the lines of the printer at a place, where it serves the queue of this number; printers are numbered from 1
+abbrev pub printer_text : (queue : ℕ) → List ℕ → EdgeNotes → ℕ → Printer → List ℕ
+printer_text number name e at p =
+    if p.queue == number then printer_told (at + 1) name (standing_at e at p) (cause_of (standing_at e at p) (slice_get e.printers.now at)) else []
 
 -- the lines of the queue at a place and of its printers; queues are numbered from 1
-abbrev pub queue_text : List Printer → List Bool → List (Option SeenStandstill) → ℕ → Queue → List ℕ
-queue_text printers held stops at q =
-    ended (queue_words q.name (queue_state held at)) ++ placed (printer_text (at + 1) q.name stops) 0 printers
+abbrev pub queue_text : List Printer → EdgeNotes → ℕ → Queue → List ℕ
+queue_text printers e at q =
+    ended (queue_words q.name (queue_state e.held.now at)) ++ placed (printer_text (at + 1) q.name e) 0 printers
 
 -- what a row of the table of claims says of pages
 abbrev pub pages_in : Row → JobPages
 pages_in row = record { holds = amount row.held 0; needs = amount row.need 0 }
 
+abbrev pub no_numbers : JobNumbers
+no_numbers = record { file = None; client = None }
+
+-- what the job at a place is called
+abbrev pub numbers_at : List JobNumbers → ℕ → JobNumbers
+numbers_at numbers at = slice_index_or numbers at no_numbers
+
 -- the line of the held job at a place, of which the row at the same place tells what it holds and may still need
-abbrev pub job_text : Config → List Row → ℕ → SeenJob → List ℕ
-job_text c rows at j = ended (job_words j (queue_at c j.queue).name (pages_in (row_at rows at)))
+abbrev pub job_text : Config → Snapshot → EdgeNotes → ℕ → SeenJob → List ℕ
+job_text c s e at j =
+    ended (job_words j (queue_at c j.queue).name (pages_in (row_at s.claims.rows at)) (numbers_at e.numbers.now at) (job_standing s e c.page_size j))
 
 -- the queues in the order of the configuration, each with its printers under it
-abbrev pub queues_text : Config → Snapshot → Outside → List ℕ
-queues_text c s o = placed (queue_text s.printers.items o.held.now o.standstills.now) 0 c.queues
+abbrev pub queues_text : Config → List Printer → EdgeNotes → List ℕ
+queues_text c printers e = placed (queue_text printers e) 0 c.queues
 
 -- the held jobs in order of acceptance
-abbrev pub jobs_text : Config → Snapshot → List ℕ
-jobs_text c s = placed (job_text c s.claims.rows) 0 s.jobs.items
+abbrev pub jobs_text : Config → Snapshot → EdgeNotes → List ℕ
+jobs_text c s e = placed (job_text c s e) 0 s.jobs.items
 
 abbrev pub status_text : Config → Snapshot → Outside → List ℕ
 status_text c s o =
-    head_text c s o ++ (kept_text o.kept ++ (flat_map session_text o.sessions.now ++ (queues_text c s o ++ jobs_text c s)))
+    head_text c s o ++ (kept_text o.kept ++ (flat_map session_text o.sessions.now ++ (queues_text c s.printers.items o.noted ++ jobs_text c s o.noted)))

@@ -1,20 +1,26 @@
 -- What each line says, without its LF.
-use Rattle.std.specs.Prelude.{ℕ, List, ◌++◌, codes}
+use Rattle.std.specs.Prelude.{ℕ, List, [], ◌++◌, Option, Some, None, codes}
 use Rattle.std.specs.Fmt.{decimal}
 use Rattle.std.specs.Int.{w32, to_be_bytes}
 use Rattle.std.specs.Net.Text.{ipv4_text, socket_text}
 use Rattle.std.specs.declared.net.SocketAddr.{SocketAddr}
 use Rattle.control_lines.specs.Escapes.{escaped}
-use Rattle.held_jobs.specs.declared.phase.Phase.{Phase}
-use Rattle.held_jobs.specs.declared.phase.Phase.TheVariants.{Receiving, Received, Ended}
 use Rattle.spool_snapshot.specs.declared.job.SeenJob.{SeenJob}
 use Rattle.spool_snapshot.specs.declared.snapshot.Pages.{Pages}
 use Rattle.status_lines.specs.declared.line.SpoolState.{SpoolState}
 use Rattle.status_lines.specs.declared.line.SpoolState.TheVariants as spool
 use Rattle.status_lines.specs.declared.line.QueueState.{QueueState}
 use Rattle.status_lines.specs.declared.line.QueueState.TheVariants as queue
-use Rattle.status_lines.specs.declared.line.PrinterState.{PrinterState}
-use Rattle.status_lines.specs.declared.line.PrinterState.TheVariants as printer
+use Rattle.standings.specs.declared.job.JobStanding.{JobStanding}
+use Rattle.standings.specs.declared.numbers.JobNumbers.{JobNumbers}
+use Rattle.standings.specs.declared.printer.PrinterStanding.{PrinterStanding}
+use Rattle.standings.specs.declared.printer.PrinterStanding.TheVariants as printer
+use Rattle.standings.specs.declared.stage.JobStage.{JobStage}
+use Rattle.standings.specs.declared.stage.JobStage.TheVariants as far
+use Rattle.standings.specs.Stages.{stage_of}
+use Rattle.standings.specs.Words.{standing_words, three_digits}
+use Rattle.status_lines.specs.declared.line.PrinterTrouble.{PrinterTrouble}
+use Rattle.status_lines.specs.declared.line.PrinterTrouble.TheVariants as trouble
 use Rattle.status_lines.specs.declared.line.JobPages.{JobPages}
 use Rattle.status_lines.specs.declared.line.StatusLine.{StatusLine}
 use Rattle.status_lines.specs.declared.line.StatusLine.TheVariants as line
@@ -28,10 +34,15 @@ abbrev pub queue_word : QueueState → List ℕ
 queue_word queue.Runs = codes "runs"
 queue_word queue.Held = codes "held"
 
-abbrev pub phase_word : Phase → List ℕ
-phase_word Receiving = codes "receiving"
-phase_word Received = codes "received"
-phase_word Ended = codes "ended"
+abbrev pub phase_word : JobStage → List ℕ
+phase_word far.Arriving = codes "receiving"
+phase_word far.Waiting = codes "received"
+phase_word far.Printing = codes "received"
+phase_word far.Ended = codes "ended"
+
+abbrev pub trouble_word : PrinterTrouble → List ℕ
+trouble_word trouble.Stopped = codes "stopped"
+trouble_word trouble.Unreached = codes "unreached"
 
 -- uptime SECONDS
 abbrev pub uptime_words : ℕ → List ℕ
@@ -72,20 +83,22 @@ queue_words name state = codes "queue " ++ (name ++ (codes " " ++ queue_word sta
 abbrev pub prints_words : (job place : ℕ) → List ℕ
 prints_words job place = codes "prints " ++ (decimal job ++ (codes " place " ++ decimal place))
 
-abbrev pub printer_words : PrinterState → List ℕ
+abbrev pub printer_words : PrinterStanding → List ℕ
 printer_words printer.Idle = codes "idle"
-printer_words (printer.Prints job place) = prints_words job place
-printer_words printer.Stopped = codes "stopped"
+printer_words printer.Held = codes "idle"
+printer_words (printer.Printing job place) = prints_words job place
+printer_words (printer.Unreached job place seconds) = prints_words job place
+printer_words (printer.Stopped seconds) = codes "stopped"
 
 -- printer K QUEUE STATE
-abbrev pub printer_line : ℕ → List ℕ → PrinterState → List ℕ
-printer_line number name state =
-    codes "printer " ++ (decimal number ++ (codes " " ++ (name ++ (codes " " ++ printer_words state))))
+abbrev pub printer_line : ℕ → List ℕ → PrinterStanding → List ℕ
+printer_line number name standing =
+    codes "printer " ++ (decimal number ++ (codes " " ++ (name ++ (codes " " ++ printer_words standing))))
 
--- printer K QUEUE stopped SECONDS CAUSE
-abbrev pub standstill_line : ℕ → List ℕ → ℕ → List ℕ → List ℕ
-standstill_line number name seconds cause =
-    codes "printer " ++ (decimal number ++ (codes " " ++ (name ++ (codes " stopped " ++ (decimal seconds ++ (codes " " ++ cause))))))
+-- printer K QUEUE stopped SECONDS CAUSE, or unreached
+abbrev pub trouble_line : ℕ → List ℕ → PrinterTrouble → ℕ → List ℕ → List ℕ
+trouble_line number name what seconds cause =
+    codes "printer " ++ (decimal number ++ (codes " " ++ (name ++ (codes " " ++ (trouble_word what ++ (codes " " ++ (decimal seconds ++ (codes " " ++ cause))))))))
 
 -- SENDER USER HOST
 abbrev pub owner_words : SeenJob → List ℕ
@@ -95,17 +108,34 @@ owner_words job =
 -- PHASE pages N octets M
 abbrev pub progress_words : SeenJob → List ℕ
 progress_words job =
-    phase_word job.phase ++ (codes " pages " ++ (decimal job.granted ++ (codes " octets " ++ decimal job.octets)))
+    phase_word (stage_of job) ++ (codes " pages " ++ (decimal job.granted ++ (codes " octets " ++ decimal job.octets)))
 
 -- holds H needs D
 abbrev pub claim_words : JobPages → List ℕ
 claim_words pages = codes "holds " ++ (decimal pages.holds ++ (codes " needs " ++ decimal pages.needs))
 
--- job NUMBER QUEUE SENDER USER HOST PHASE pages N octets M holds H needs D
-abbrev pub job_words : SeenJob → List ℕ → JobPages → List ℕ
-job_words job name pages =
+abbrev pub client_words : Option ℕ → List ℕ
+client_words None = codes "number -"
+client_words (Some number) = codes "number " ++ three_digits number
+
+abbrev pub file_words : Option ℕ → List ℕ
+file_words None = []
+file_words (Some file) = codes " file " ++ decimal file
+
+-- number NNN, and file F where it has one
+abbrev pub called_words : JobNumbers → List ℕ
+called_words numbers = client_words numbers.client ++ file_words numbers.file
+
+-- holds H needs D number NNN file F STANDING
+abbrev pub outlook_words : JobPages → JobNumbers → JobStanding → List ℕ
+outlook_words pages numbers standing =
+    claim_words pages ++ (codes " " ++ (called_words numbers ++ (codes " " ++ standing_words standing)))
+
+-- job NUMBER QUEUE SENDER USER HOST PHASE pages N octets M holds H needs D number NNN file F STANDING
+abbrev pub job_words : SeenJob → List ℕ → JobPages → JobNumbers → JobStanding → List ℕ
+job_words job name pages numbers standing =
     codes "job " ++ (decimal job.number ++ (codes " " ++ (name ++ (codes " " ++ (owner_words job ++ (codes " " ++ (
-    progress_words job ++ (codes " " ++ claim_words pages))))))))
+    progress_words job ++ (codes " " ++ outlook_words pages numbers standing))))))))
 
 abbrev pub line_words : StatusLine → List ℕ
 line_words (line.Uptime seconds) = uptime_words seconds
@@ -116,6 +146,6 @@ line_words (line.Lobby waiting) = lobby_words waiting
 line_words (line.Kept waiting failed) = kept_words waiting failed
 line_words (line.Session peer silent) = session_words peer silent
 line_words (line.Queue name state) = queue_words name.now state
-line_words (line.Printer number name state) = printer_line number name.now state
-line_words (line.Standstill number name seconds cause) = standstill_line number name.now seconds cause.now
-line_words (line.Job job name pages) = job_words job.now name.now pages
+line_words (line.Printer number name standing) = printer_line number name.now standing
+line_words (line.Trouble number name what seconds cause) = trouble_line number name.now what seconds cause.now
+line_words (line.Job job name pages numbers standing) = job_words job.now name.now pages numbers standing

@@ -8,7 +8,7 @@ mod pieces;
 mod status;
 
 pub use laws::one_line_has_no_line_feed;
-pub use line::{JobPages, PrinterState, QueueState, SpoolState, StatusLine};
-pub use outside::{KeptJobs, Outside, SeenSession, SeenStandstill};
-pub use pieces::one_line;
-pub use status::status_text;
+pub use line::{JobPages, PrinterTrouble, QueueState, SpoolState, StatusLine};
+pub use outside::{KeptJobs, Outside, SeenSession};
+pub use pieces::{one_line, queue_name};
+pub use status::{spool_state, status_text};

@@ -3,11 +3,11 @@
 ghost use Rattle.std.specs.Prelude.{◌≡◌, Some};
 ghost use Rattle.std.specs.Int.{to_be_bytes, w32};
 ghost use Rattle.std.specs.Net.Addr.{ipv4_octets};
-ghost use Rattle.status_lines.specs.Words.{claim_words, line_words, owner_words, phase_word, printer_words, progress_words, queue_word, spool_word};
+ghost use Rattle.status_lines.specs.Words.{called_words, claim_words, line_words, outlook_words, owner_words, phase_word, printer_words, progress_words, queue_word, spool_word, trouble_word};
 
 use control_lines::Escaped;
-use held_jobs::Phase;
 use spool_snapshot::{Pages, SeenJob};
+use standings::{JobNumbers, JobStage, JobStanding, PrinterStanding, stage_of};
 use std::fmt;
 use std::net::{Ipv4Addr, SocketAddr};
 
@@ -54,42 +54,58 @@ impl QueueState {
     }
 }
 
-/// What a printer does.
-#[derive(Clone, Copy, Debug, PartialEq, Eq)]
-pub enum PrinterState {
-    /// It waits for a job.
-    Idle,
-    /// It prints a place of a job: the job's number of acceptance, and the place in print order, from 0.
-    Prints { job: u64, place: u64 },
-    /// It is stopped.
-    Stopped,
-}
+/// What a printer does, as its line says it: whose queue is held is idle, and one that isn't reached has its page.
+#[derive(Clone, Copy)]
+struct PrinterWork(PrinterStanding);
 
-impl fmt::Display for PrinterState {
-    ghost output = { λ state. Some (printer_words state) };
+impl fmt::Display for PrinterWork {
+    ghost output = { λ work. Some (printer_words work.0) };
 
     fn fmt<W: fmt::Write>(&self, f: &mut fmt::Formatter<W>) -> fmt::Result {
-        match self {
-            PrinterState::Idle => f.write_str("idle"),
-            PrinterState::Prints { job, place } => write!(f, "prints {job} place {place}"),
-            PrinterState::Stopped => f.write_str("stopped"),
+        match self.0 {
+            PrinterStanding::Idle | PrinterStanding::Held => f.write_str("idle"),
+            PrinterStanding::Printing { job, place }
+            | PrinterStanding::Unreached { job, place, .. } => {
+                write!(f, "prints {job} place {place}")
+            }
+            PrinterStanding::Stopped { .. } => f.write_str("stopped"),
         }
     }
 }
 
-/// The word for a phase.
-fn phase_word(phase: Phase) -> &'static str
-    ensures { result.now ≡ phase_word phase }
+/// The word for how far a job is.
+fn phase_word(stage: JobStage) -> &'static str
+    ensures { result.now ≡ phase_word stage }
 {
-    match phase {
-        Phase::Receiving => "receiving",
-        Phase::Received => "received",
-        Phase::Ended => "ended",
+    match stage {
+        JobStage::Arriving => "receiving",
+        JobStage::Waiting | JobStage::Printing => "received",
+        JobStage::Ended => "ended",
+    }
+}
+
+/// What is the matter with a printer.
+#[derive(Clone, Copy)]
+pub enum PrinterTrouble {
+    /// It is stopped.
+    Stopped,
+    /// It isn't reached, or takes nothing.
+    Unreached,
+}
+
+impl PrinterTrouble {
+    fn word(self) -> &'static str
+        ensures { result.now ≡ trouble_word self }
+    {
+        match self {
+            PrinterTrouble::Stopped => "stopped",
+            PrinterTrouble::Unreached => "unreached",
+        }
     }
 }
 
 /// What a job holds and may still need, in pages.
-#[derive(Clone, Copy, Debug, PartialEq, Eq)]
+#[derive(Clone, Copy)]
 pub struct JobPages {
     /// The pages that it holds.
     pub holds: u32,
@@ -149,12 +165,13 @@ pub enum StatusLine<'a> {
     Printer {
         number: usize,
         queue: &'a str,
-        state: PrinterState,
+        standing: PrinterStanding,
     },
-    /// A printer of a queue of this name that is stopped, by its number from 1: for how many seconds, and why, which is one line.
-    Standstill {
+    /// What is the matter with a printer of a queue of this name, by its number from 1: for how many seconds, and why, which is one line.
+    Trouble {
         number: usize,
         queue: &'a str,
+        trouble: PrinterTrouble,
         seconds: u64,
         cause: &'a str,
     },
@@ -163,6 +180,8 @@ pub enum StatusLine<'a> {
         job: &'a SeenJob,
         queue: &'a str,
         pages: JobPages,
+        numbers: JobNumbers,
+        standing: JobStanding,
     },
 }
 
@@ -198,8 +217,48 @@ impl fmt::Display for JobProgress<'_> {
 
     fn fmt<W: fmt::Write>(&self, f: &mut fmt::Formatter<W>) -> fmt::Result {
         let job = self.0;
-        let (phase, pages, octets) = (phase_word(job.phase), job.granted, job.octets);
+        let (phase, pages, octets) = (phase_word(stage_of(job)), job.granted, job.octets);
         write!(f, "{phase} pages {pages} octets {octets}")
+    }
+}
+
+/// The number that a sender gave its job, in three digits, or `-` where it isn't known; and that of its file, where it has one.
+#[derive(Clone, Copy)]
+struct JobCalled(JobNumbers);
+
+impl fmt::Display for JobCalled {
+    ghost output = { λ called. Some (called_words called.0) };
+
+    fn fmt<W: fmt::Write>(&self, f: &mut fmt::Formatter<W>) -> fmt::Result {
+        match self.0.client {
+            Some(number) => write!(f, "number {number:03}")?,
+            None => f.write_str("number -")?,
+        }
+        match self.0.file {
+            Some(file) => write!(f, " file {file}"),
+            None => Ok(()),
+        }
+    }
+}
+
+/// What a job holds and may still need, what it is called, and how it stands.
+#[derive(Clone, Copy)]
+struct JobOutlook {
+    pages: JobPages,
+    numbers: JobNumbers,
+    standing: JobStanding,
+}
+
+impl fmt::Display for JobOutlook {
+    ghost output = { λ outlook. Some (outlook_words outlook.pages outlook.numbers outlook.standing) };
+
+    fn fmt<W: fmt::Write>(&self, f: &mut fmt::Formatter<W>) -> fmt::Result {
+        let JobOutlook {
+            pages,
+            numbers,
+            standing,
+        } = self;
+        write!(f, "{pages} {} {standing}", JobCalled(*numbers))
     }
 }
 
@@ -230,17 +289,32 @@ impl fmt::Display for StatusLine<'_> {
             StatusLine::Printer {
                 number,
                 queue,
-                state,
-            } => { write!(f, "printer {number} {queue} {state}") }
-            StatusLine::Standstill {
+                standing,
+            } => { write!(f, "printer {number} {queue} {}", PrinterWork(*standing)) }
+            StatusLine::Trouble {
                 number,
                 queue,
+                trouble,
                 seconds,
                 cause,
-            } => { write!(f, "printer {number} {queue} stopped {seconds} {cause}") }
-            StatusLine::Job { job, queue, pages } => {
+            } => {
+                let word = trouble.word();
+                write!(f, "printer {number} {queue} {word} {seconds} {cause}")
+            }
+            StatusLine::Job {
+                job,
+                queue,
+                pages,
+                numbers,
+                standing,
+            } => {
                 let (number, owner, progress) = (job.number, JobSender(job), JobProgress(job));
-                write!(f, "job {number} {queue} {owner} {progress} {pages}")
+                let outlook = JobOutlook {
+                    pages: *pages,
+                    numbers: *numbers,
+                    standing: *standing,
+                };
+                write!(f, "job {number} {queue} {owner} {progress} {outlook}")
             }
         }
     }

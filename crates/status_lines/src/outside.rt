@@ -1,5 +1,6 @@
 //! What the edge of a server alone knows.
 
+use standings::EdgeNotes;
 use std::net::SocketAddr;
 
 /// A session that serves a connection.
@@ -9,15 +10,6 @@ pub struct SeenSession {
     pub peer: SocketAddr,
     /// For how many seconds nothing came from the peer.
     pub silent: u64,
-}
-
-/// Since when and why a printer stands still.
-#[derive(Debug, Drop)]
-pub struct SeenStandstill {
-    /// For how many seconds it does.
-    pub seconds: u64,
-    /// Why: the fault of its last page.
-    pub cause: String,
 }
 
 /// What is in the folder that keeps a server's jobs.
@@ -44,8 +36,6 @@ pub struct Outside<'a> {
     pub kept: Option<KeptJobs>,
     /// The sessions that serve a connection.
     pub sessions: &'a [SeenSession],
-    /// Which queues are held, in the order of the configuration; the others run.
-    pub held: &'a [bool],
-    /// Of the printers by their numbers, since when and why each stands still, where that is known.
-    pub standstills: &'a [Option<SeenStandstill>],
+    /// What is noted of its queues, printers and jobs.
+    pub noted: EdgeNotes<'a>,
 }

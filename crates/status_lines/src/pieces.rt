@@ -37,7 +37,7 @@ pub(crate) fn name_text(name: &[u8]) -> &str
 }
 
 /// The name of a queue, or nothing where no queue has this number.
-pub(crate) fn queue_name(config: &Config, queue: u32) -> &str
+pub fn queue_name(config: &Config, queue: u32) -> &str
     ensures { result.now ≡ (queue_at config.now queue).name }
 {
     let Some(before) = queue.checked_sub(1) else {

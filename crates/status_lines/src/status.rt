@@ -1,19 +1,22 @@
 //! The whole answer.
 
-ghost use Rattle.std.specs.Prelude.{◌≡◌, ◌<◌, ◌^◌, ◌++◌, IfOk, OnOk, IsUtf8, None, slice_index_or, string_bytes, option_copied};
+ghost use Rattle.std.specs.Prelude.{◌≡◌, ◌<◌, ◌^◌, ◌++◌, IfOk, OnOk, IsUtf8, string_bytes};
 ghost use Rattle.std.specs.List.{flat_map};
 ghost use Rattle.claims.specs.Claims.{row_at};
-ghost use Rattle.status_lines.specs.Words.{line_words};
-ghost use Rattle.status_lines.specs.Status.{ended, head_text, job_text, kept_text, pages_in, placed, printer_text, printer_told, queue_state, queue_text, queues_text, session_text, spool_state, status_text, work_of};
+ghost use Rattle.status_lines.specs.Pieces.{one_line};
+ghost use Rattle.status_lines.specs.Status.{ended, head_text, job_text, jobs_text, kept_text, numbers_at, pages_in, placed, printer_text, printer_told, queue_state, queue_text, queues_text, session_text, spool_state, status_text};
+ghost use Rattle.status_lines.specs.Words.{line_words, trouble_line};
 
-use crate::line::{JobPages, PrinterState, QueueState, SpoolState, StatusLine};
-use crate::outside::{KeptJobs, Outside, SeenSession, SeenStandstill};
+use crate::line::{JobPages, PrinterTrouble, QueueState, SpoolState, StatusLine};
+use crate::outside::{KeptJobs, Outside, SeenSession};
 use crate::pieces::{name_text, one_line, pages_of, queue_name};
-use account::Sheet;
 use claims::Row;
 use config_values::{Config, Queue};
 use spool_calls::Printer;
 use spool_snapshot::{SeenJob, Snapshot};
+use standings::{
+    EdgeNotes, JobNumbers, PrinterStanding, cause_of, is_held, job_standing, printer_standing,
+};
 use std::alloc::{AllocError, Global};
 
 /// Puts a line with its LF at the end of the text.
@@ -24,8 +27,8 @@ fn push(text: &mut String, line: StatusLine<'_>) -> Result<(), AllocError>
     write!(text, "{line}\n")
 }
 
-/// Whether the spool takes jobs.
-fn spool_state(closed: bool, stops: bool) -> SpoolState
+/// Whether a spool that is closed or isn't takes jobs, of a server that was asked to stop or wasn't.
+pub fn spool_state(closed: bool, stops: bool) -> SpoolState
     ensures { result ≡ spool_state closed stops }
 {
     if closed {
@@ -97,80 +100,96 @@ fn push_sessions(text: &mut String, sessions: &[SeenSession]) -> Result<(), Allo
     Ok(())
 }
 
-/// What a printer does that isn't stopped.
-fn work_of(out: Option<&Sheet>) -> PrinterState
-    ensures { result ≡ work_of (option_copied out.entry) }
-{
-    match out {
-        Some(sheet) => PrinterState::Prints {
-            job: sheet.job,
-            place: sheet.place,
-        },
-        None => PrinterState::Idle,
-    }
-}
-
-/// Puts the line of a printer at the end of the text.
-fn push_printer(
+/// Puts a line of what is the matter with a printer at the end of the text.
+fn push_trouble(
     alloc: Global,
     text: &mut String,
-    number: usize,
-    queue: &str,
-    printer: &Printer,
-    standstill: Option<&SeenStandstill>,
+    printer: (usize, &str),
+    trouble: (PrinterTrouble, u64),
+    cause: &str,
 ) -> Result<(), AllocError>
     ensures { OnOk result (string_bytes text.new ≡ string_bytes text.old
-        ++ ended (printer_told number queue.now printer.now (option_copied standstill.entry))) }
+        ++ ended (trouble_line printer.entry.0 printer.entry.1.now trouble.0 trouble.1 (one_line cause.now))) }
 {
-    let (state, known) = if printer.stopped {
-        (PrinterState::Stopped, standstill)
-    } else {
-        (work_of(printer.out.as_ref()), None)
-    };
-    let Some(known) = known else {
-        let line = StatusLine::Printer {
-            number,
-            queue,
-            state,
-        };
-        return push(text, line);
-    };
-    let cause = one_line(alloc, known.cause.as_str())?;
-    let line = StatusLine::Standstill {
+    let ((number, queue), (trouble, seconds)) = (printer, trouble);
+    let shown = one_line(alloc, cause)?;
+    let line = StatusLine::Trouble {
         number,
         queue,
-        seconds: known.seconds,
-        cause: cause.as_str(),
+        trouble,
+        seconds,
+        cause: shown.as_str(),
     };
     push(text, line)
 }
 
-/// What is known of the standstill of the printer at a place.
-fn standstill_at(standstills: &[Option<SeenStandstill>], at: usize) -> Option<&SeenStandstill>
-    ensures { option_copied result ≡ slice_index_or standstills.now at None }
+/// Puts the lines of a printer that stands so at the end of the text.
+fn push_printer(
+    alloc: Global,
+    text: &mut String,
+    printer: (usize, &str),
+    standing: PrinterStanding,
+    cause: &str,
+) -> Result<(), AllocError>
+    ensures { OnOk result (string_bytes text.new ≡ string_bytes text.old
+        ++ printer_told printer.entry.0 printer.entry.1.now standing cause.now) }
 {
-    standstills.get(at)?.as_ref()
+    let (number, queue) = printer;
+    if let PrinterStanding::Stopped {
+        seconds: Some(seconds),
+    } = standing
+    {
+        return push_trouble(
+            alloc,
+            text,
+            printer,
+            (PrinterTrouble::Stopped, seconds),
+            cause,
+        );
+    }
+    let line = StatusLine::Printer {
+        number,
+        queue,
+        standing,
+    };
+    push(text, line)?;
+    if let PrinterStanding::Unreached { seconds, .. } = standing {
+        push_trouble(
+            alloc,
+            text,
+            printer,
+            (PrinterTrouble::Unreached, seconds),
+            cause,
+        )?;
+    }
+    Ok(())
 }
 
-/// Puts the line of the printer at a place at the end of the text, where it serves the queue of this number.
+/// Puts the lines of the printer at a place at the end of the text, where it serves the queue of this number.
 fn push_served(
     alloc: Global,
     text: &mut String,
     queue: (usize, &str),
-    at: usize,
-    printer: &Printer,
-    standstills: &[Option<SeenStandstill>],
+    placed: (usize, &Printer),
+    noted: &EdgeNotes<'_>,
 ) -> Result<(), AllocError>
-    requires { at < 2 ^ 63 }
+    requires { placed.0 < 2 ^ 63 }
     ensures { OnOk result (string_bytes text.new ≡ string_bytes text.old
-        ++ printer_text queue.entry.0 queue.entry.1.now standstills.now at printer.now) }
+        ++ printer_text queue.entry.0 queue.entry.1.now noted.now placed.entry.0 placed.entry.1.now) }
 {
-    let (number, name) = queue;
+    let ((number, name), (at, printer)) = (queue, placed);
     if printer.queue as usize != number {
         return Ok(());
     }
-    let standstill = standstill_at(standstills, at);
-    push_printer(alloc, text, at + 1, name, printer, standstill)
+    let notes = noted.printers.get(at);
+    let standing = printer_standing(printer, is_held(noted.held, printer.queue), notes);
+    push_printer(
+        alloc,
+        text,
+        (at + 1, name),
+        standing,
+        cause_of(standing, notes),
+    )
 }
 
 /// Puts the lines of those of these printers that serve the queue of this number at the end of the text.
@@ -179,37 +198,35 @@ fn push_printers(
     text: &mut String,
     queue: (usize, &str),
     printers: &[Printer],
-    standstills: &[Option<SeenStandstill>],
+    noted: &EdgeNotes<'_>,
 ) -> Result<(), AllocError>
     ensures { OnOk result (string_bytes text.new ≡ string_bytes text.old
-        ++ placed (printer_text queue.entry.0 queue.entry.1.now standstills.now) 0 printers.now) }
+        ++ placed (printer_text queue.entry.0 queue.entry.1.now noted.now) 0 printers.now) }
 {
     for (i, printer) in printers.iter().enumerate() {
-        push_served(alloc, text, queue, i, printer, standstills)?;
+        push_served(alloc, text, queue, (i, printer), noted)?;
     }
     Ok(())
 }
 
-/// Puts the lines of the queue at a place and of its printers at the end of the text.
+/// Puts the line of the queue at a place, and of its printers under it, at the end of the text.
 fn push_queue(
     alloc: Global,
     text: &mut String,
-    at: usize,
-    queue: &Queue,
-    snapshot: &Snapshot,
-    outside: &Outside<'_>,
+    placed: (usize, &Queue),
+    printers: &[Printer],
+    noted: &EdgeNotes<'_>,
 ) -> Result<(), AllocError>
-    requires name { IsUtf8 queue.now.name }
-    requires at { at < 2 ^ 63 }
+    requires name { IsUtf8 placed.1.now.name }
+    requires place { placed.0 < 2 ^ 63 }
     ensures { OnOk result (string_bytes text.new ≡ string_bytes text.old
-        ++ queue_text snapshot.now.printers.items outside.now.held.now outside.now.standstills.now
-        at queue.now) }
+        ++ queue_text printers.now noted.now placed.entry.0 placed.entry.1.now) }
 {
+    let (at, queue) = placed;
     let name = name_text(queue.name());
-    let state = queue_state(outside.held, at);
+    let state = queue_state(noted.held, at);
     push(text, StatusLine::Queue { name, state })?;
-    let printers = snapshot.printers.as_slice();
-    push_printers(alloc, text, (at + 1, name), printers, outside.standstills)
+    push_printers(alloc, text, (at + 1, name), printers, noted)
 }
 
 /// Puts the lines of the queues, and of its printers under each, at the end of the text.
@@ -217,14 +234,14 @@ fn push_queues(
     alloc: Global,
     text: &mut String,
     config: &Config,
-    snapshot: &Snapshot,
-    outside: &Outside<'_>,
+    printers: &[Printer],
+    noted: &EdgeNotes<'_>,
 ) -> Result<(), AllocError>
     ensures { OnOk result (string_bytes text.new
-        ≡ string_bytes text.old ++ queues_text config.now snapshot.now outside.now) }
+        ≡ string_bytes text.old ++ queues_text config.now printers.now noted.now) }
 {
     for (i, queue) in config.queues().iter().enumerate() {
-        push_queue(alloc, text, i, queue, snapshot, outside)?;
+        push_queue(alloc, text, (i, queue), printers, noted)?;
     }
     Ok(())
 }
@@ -242,34 +259,50 @@ fn pages_at(rows: &[Row], at: usize) -> JobPages
     }
 }
 
+/// What the job at a place is called outside of the spool.
+fn numbers_at(numbers: &[JobNumbers], at: usize) -> JobNumbers
+    ensures { result ≡ numbers_at numbers.now at }
+{
+    numbers.get(at).copied().unwrap_or(JobNumbers {
+        file: None,
+        client: None,
+    })
+}
+
 /// Puts the line of the job at a place at the end of the text.
 fn push_job(
     text: &mut String,
     config: &Config,
-    at: usize,
-    job: &SeenJob,
-    rows: &[Row],
+    spool: &Snapshot,
+    noted: &EdgeNotes<'_>,
+    placed: (usize, &SeenJob),
 ) -> Result<(), AllocError>
-    ensures { OnOk result (string_bytes text.new
-        ≡ string_bytes text.old ++ job_text config.now rows.now at job.now) }
+    ensures { OnOk result (string_bytes text.new ≡ string_bytes text.old
+        ++ job_text config.now spool.now noted.now placed.entry.0 placed.entry.1.now) }
 {
-    let queue = queue_name(config, job.queue);
-    let pages = pages_at(rows, at);
-    push(text, StatusLine::Job { job, queue, pages })
+    let (at, job) = placed;
+    let line = StatusLine::Job {
+        job,
+        queue: queue_name(config, job.queue),
+        pages: pages_at(spool.claims.rows(), at),
+        numbers: numbers_at(noted.numbers, at),
+        standing: job_standing(spool, noted, config.page_size(), job),
+    };
+    push(text, line)
 }
 
-/// Puts the lines of these jobs at the end of the text.
+/// Puts the lines of the held jobs at the end of the text.
 fn push_jobs(
     text: &mut String,
     config: &Config,
-    jobs: &[SeenJob],
-    rows: &[Row],
+    spool: &Snapshot,
+    noted: &EdgeNotes<'_>,
 ) -> Result<(), AllocError>
     ensures { OnOk result (string_bytes text.new
-        ≡ string_bytes text.old ++ placed (job_text config.now rows.now) 0 jobs.now) }
+        ≡ string_bytes text.old ++ jobs_text config.now spool.now noted.now) }
 {
-    for (i, job) in jobs.iter().enumerate() {
-        push_job(text, config, i, job, rows)?;
+    for (i, job) in spool.jobs.iter().enumerate() {
+        push_job(text, config, spool, noted, (i, job))?;
     }
     Ok(())
 }
@@ -292,12 +325,8 @@ pub fn status_text(
     push_head(&mut text, config, snapshot, outside)?;
     push_kept(&mut text, outside.kept)?;
     push_sessions(&mut text, outside.sessions)?;
-    push_queues(alloc, &mut text, config, snapshot, outside)?;
-    push_jobs(
-        &mut text,
-        config,
-        snapshot.jobs.as_slice(),
-        snapshot.claims.rows(),
-    )?;
+    let (printers, noted) = (snapshot.printers.as_slice(), &outside.noted);
+    push_queues(alloc, &mut text, config, printers, noted)?;
+    push_jobs(&mut text, config, snapshot, noted)?;
     Ok(text)
 }

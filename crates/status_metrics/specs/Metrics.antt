@@ -16,9 +16,12 @@ use Rattle.status_metrics.specs.declared.queues.OfQueue.{OfQueue}
 use Rattle.status_metrics.specs.declared.queues.OfQueue.TheVariants as what_queue
 use Rattle.status_metrics.specs.Lines.{family_text, histogram_text, of_queue_text, single_text, worded_text}
 use Rattle.status_scene.specs.declared.scene.Scene.{Scene}
-use Rattle.status_scene.specs.declared.stage.JobStage.{JobStage}
-use Rattle.status_scene.specs.declared.stage.JobStage.TheVariants as far
-use Rattle.status_scene.specs.Stages.{is_of_queue_at}
+use Rattle.status_scene.specs.Refusing.{has_full_pool, is_refused_at}
+use Rattle.status_scene.specs.Silence.{is_silent}
+use Rattle.standings.specs.declared.stage.JobStage.{JobStage}
+use Rattle.standings.specs.declared.stage.JobStage.TheVariants as far
+use Rattle.standings.specs.Printers.{is_unreached_at}
+use Rattle.standings.specs.Stages.{is_of_queue_at}
 
 -- 1 where it is so, else 0
 abbrev pub one_if : Bool → ℕ
@@ -34,7 +37,7 @@ pages_text pages =
 unfoldable pub spool_text : Scene → List ℕ
 spool_text s =
     single_text (codes "hurgwaye_page_size_bytes") (codes "Octets of a page.") kind.Gauge s.config.now.page_size ++ (single_text (codes "hurgwaye_closed") (codes "Whether the spool is closed.") kind.Gauge (one_if s.spool.now.closed) ++ (
-    single_text (codes "hurgwaye_jobs_accepted_total") (codes "Jobs that were accepted.") kind.Counter s.spool.now.accepted ++ (single_text (codes "hurgwaye_jobs_limit") (codes "Jobs that may be held at once.") kind.Gauge s.config.now.max_jobs ++ single_text (codes "hurgwaye_jobs_put_off") (codes "Jobs whose sessions wait for a page.") kind.Gauge (length s.put_off.now))))
+    single_text (codes "hurgwaye_jobs_accepted_total") (codes "Jobs that were accepted.") kind.Counter s.spool.now.accepted ++ (single_text (codes "hurgwaye_jobs_limit") (codes "Jobs that may be held at once.") kind.Gauge s.config.now.max_jobs ++ single_text (codes "hurgwaye_jobs_put_off") (codes "Jobs whose sessions wait for a page.") kind.Gauge (length s.outside.now.noted.put_off.now))))
 
 unfoldable pub edge_text : Outside → List ℕ
 edge_text o =
@@ -92,18 +95,21 @@ abbrev pub queue_name : OfQueue → List ℕ
 queue_name what_queue.Jobs = codes "hurgwaye_jobs"
 queue_name what_queue.Limit = codes "hurgwaye_queue_limit_pages"
 queue_name what_queue.Held = codes "hurgwaye_queue_held"
+queue_name what_queue.Refusing = codes "hurgwaye_queue_refusing"
 
 abbrev pub queue_help : OfQueue → List ℕ
 queue_help what_queue.Jobs = codes "Jobs that are held, by their queue and by how far they are."
 queue_help what_queue.Limit = codes "Pages that a job of the queue may hold."
 queue_help what_queue.Held = codes "Whether the queue is held."
+queue_help what_queue.Refusing = codes "Whether a job of the queue is refused for want of room in the account or the table of jobs."
 
 -- what is said of the queue at a place
 unfoldable pub of_queue : Scene → OfQueue → ℕ → Queue → List ℕ
 of_queue s what_queue.Jobs at q =
     of_stage s at q far.Arriving ++ (of_stage s at q far.Waiting ++ (of_stage s at q far.Printing ++ of_stage s at q far.Ended))
 of_queue s what_queue.Limit at q = of_queue_text (codes "hurgwaye_queue_limit_pages") q.name [] q.limit
-of_queue s what_queue.Held at q = of_queue_text (codes "hurgwaye_queue_held") q.name [] (one_if (slice_index_or s.outside.now.held.now at false))
+of_queue s what_queue.Held at q = of_queue_text (codes "hurgwaye_queue_held") q.name [] (one_if (slice_index_or s.outside.now.noted.held.now at false))
+of_queue s what_queue.Refusing at q = of_queue_text (codes "hurgwaye_queue_refusing") q.name [] (one_if (is_refused_at s.config.now s.spool.now at))
 
 unfoldable pub queues_text : Scene → OfQueue → List ℕ
 queues_text s what = family_text (queue_name what) (queue_help what) kind.Gauge ++ placed (of_queue s what) 0 s.config.now.queues
@@ -111,27 +117,35 @@ queues_text s what = family_text (queue_name what) (queue_help what) kind.Gauge 
 abbrev pub printer_name : OfPrinter → List ℕ
 printer_name what_printer.Stopped = codes "hurgwaye_printer_stopped"
 printer_name what_printer.Busy = codes "hurgwaye_printer_busy"
+printer_name what_printer.Unreached = codes "hurgwaye_printer_unreached"
 
 abbrev pub printer_help : OfPrinter → List ℕ
 printer_help what_printer.Stopped = codes "Whether the printer is stopped."
 printer_help what_printer.Busy = codes "Whether a page is at the printer."
+printer_help what_printer.Unreached = codes "Whether a page is at the printer of which nothing goes: it isn't reached, or takes nothing."
 
-abbrev pub printer_value : OfPrinter → Printer → ℕ
-printer_value what_printer.Stopped p = one_if p.stopped
-printer_value what_printer.Busy p = one_if (is_some p.out)
+abbrev pub printer_value : OfPrinter → Scene → ℕ → Printer → ℕ
+printer_value what_printer.Stopped s at p = one_if p.stopped
+printer_value what_printer.Busy s at p = one_if (is_some p.out)
+printer_value what_printer.Unreached s at p = one_if (is_unreached_at s.outside.now.noted.printers.now at p)
 
 -- what is said of the printer at a place; printers are numbered from 1
 unfoldable pub of_printer : Scene → OfPrinter → ℕ → Printer → List ℕ
 of_printer s what at p =
-    of_queue_text (printer_name what) (queue_at s.config.now p.queue).name (codes ",printer=\"" ++ (decimal (at + 1) ++ codes "\"")) (printer_value what p)
+    of_queue_text (printer_name what) (queue_at s.config.now p.queue).name (codes ",printer=\"" ++ (decimal (at + 1) ++ codes "\"")) (printer_value what s at p)
 
 unfoldable pub printers_text : Scene → OfPrinter → List ℕ
 printers_text s what = family_text (printer_name what) (printer_help what) kind.Gauge ++ placed (of_printer s what) 0 s.spool.now.printers.items
 
 unfoldable pub each_text : Scene → List ℕ
 each_text s =
-    queues_text s what_queue.Jobs ++ (queues_text s what_queue.Limit ++ (queues_text s what_queue.Held ++ (
-    printers_text s what_printer.Stopped ++ printers_text s what_printer.Busy)))
+    queues_text s what_queue.Jobs ++ (queues_text s what_queue.Limit ++ (queues_text s what_queue.Held ++ (queues_text s what_queue.Refusing ++ (
+    printers_text s what_printer.Stopped ++ (printers_text s what_printer.Busy ++ printers_text s what_printer.Unreached)))))
+
+-- what is full, and who is silent
+unfoldable pub needs_text : Scene → List ℕ
+needs_text s =
+    single_text (codes "hurgwaye_pool_full") (codes "Whether no page is free, or a job waits for one.") kind.Gauge (one_if (has_full_pool s.spool.now s.outside.now.noted)) ++ single_text (codes "hurgwaye_sessions_silent") (codes "Sessions of whose peer no octet came for a minute.") kind.Gauge (count_by is_silent s.outside.now.sessions.now)
 
 unfoldable pub metrics_text : Scene → List ℕ
-metrics_text s = server_text s ++ (times_text s.counts.now ++ each_text s)
+metrics_text s = server_text s ++ (times_text s.counts.now ++ (each_text s ++ needs_text s))

@@ -8,7 +8,8 @@ use crate::family::{push_family, push_of_queue};
 use crate::kind::SampleKind;
 use config_values::Queue;
 use spool_calls::Printer;
-use status_scene::{JobStage, Scene, jobs_of_queue_at};
+use standings::{JobStage, is_unreached_at, jobs_of_queue_at};
+use status_scene::{Scene, is_refused_at};
 use std::alloc::{AllocError, Global};
 
 /// What is said of each queue.
@@ -17,6 +18,7 @@ pub(crate) enum OfQueue {
     Jobs,
     Limit,
     Held,
+    Refusing,
 }
 
 impl OfQueue {
@@ -28,6 +30,7 @@ impl OfQueue {
             OfQueue::Jobs => "hurgwaye_jobs",
             OfQueue::Limit => "hurgwaye_queue_limit_pages",
             OfQueue::Held => "hurgwaye_queue_held",
+            OfQueue::Refusing => "hurgwaye_queue_refusing",
         }
     }
 
@@ -39,6 +42,8 @@ impl OfQueue {
             OfQueue::Jobs => "Jobs that are held, by their queue and by how far they are.",
             OfQueue::Limit => "Pages that a job of the queue may hold.",
             OfQueue::Held => "Whether the queue is held.",
+            OfQueue::Refusing =>
+                "Whether a job of the queue is refused for want of room in the account or the table of jobs.",
         }
     }
 }
@@ -48,6 +53,7 @@ impl OfQueue {
 pub(crate) enum OfPrinter {
     Stopped,
     Busy,
+    Unreached,
 }
 
 impl OfPrinter {
@@ -58,6 +64,7 @@ impl OfPrinter {
         match self {
             OfPrinter::Stopped => "hurgwaye_printer_stopped",
             OfPrinter::Busy => "hurgwaye_printer_busy",
+            OfPrinter::Unreached => "hurgwaye_printer_unreached",
         }
     }
 
@@ -68,6 +75,8 @@ impl OfPrinter {
         match self {
             OfPrinter::Stopped => "Whether the printer is stopped.",
             OfPrinter::Busy => "Whether a page is at the printer.",
+            OfPrinter::Unreached =>
+                "Whether a page is at the printer of which nothing goes: it isn't reached, or takes nothing.",
         }
     }
 }
@@ -135,8 +144,20 @@ fn push_queue(
             push_of_queue(alloc, text, what.name(), queue.name(), "", limit)
         }
         OfQueue::Held => {
-            let held = scene.outside.held.get(at).copied().unwrap_or(false);
+            let noted = &scene.outside.noted;
+            let held = noted.held.get(at).copied().unwrap_or(false);
             push_of_queue(alloc, text, what.name(), queue.name(), "", u64::from(held))
+        }
+        OfQueue::Refusing => {
+            let refused = is_refused_at(scene.config, scene.spool, at);
+            push_of_queue(
+                alloc,
+                text,
+                what.name(),
+                queue.name(),
+                "",
+                u64::from(refused),
+            )
         }
     }
 }
@@ -175,9 +196,11 @@ fn push_printer(
 {
     let queue = scene.config.name_of(printer.queue);
     let further = format!(in alloc; ",printer=\"{}\"", at + 1)?;
+    let noted = &scene.outside.noted;
     let value = match what {
         OfPrinter::Stopped => printer.stopped,
         OfPrinter::Busy => printer.out.is_some(),
+        OfPrinter::Unreached => is_unreached_at(noted.printers, at, printer),
     };
     push_of_queue(
         alloc,

@@ -2,13 +2,13 @@
 
 ghost use Rattle.std.specs.Prelude.{◌≡◌, ◌++◌, OnOk, string_bytes};
 ghost use Rattle.status_lines.specs.Status.{placed};
-ghost use Rattle.status_metrics.specs.Metrics.{account_text, edge_text, jobs_text, kept_text, octets_text, one_if, pages_text, refusal_text, spool_text};
+ghost use Rattle.status_metrics.specs.Metrics.{account_text, edge_text, jobs_text, kept_text, needs_text, octets_text, one_if, pages_text, refusal_text, spool_text};
 
 use crate::family::{push_counter, push_family, push_gauge, push_worded};
 use crate::kind::SampleKind;
 use spool_snapshot::Pages;
 use status_lines::{KeptJobs, Outside};
-use status_scene::Scene;
+use status_scene::{Scene, has_full_pool, silent_sessions};
 use std::alloc::{AllocError, Global};
 
 /// 1 where it is so, else 0.
@@ -49,7 +49,7 @@ pub(crate) fn push_pages(text: &mut String, pages: Pages) -> Result<(), AllocErr
 pub(crate) fn push_spool(text: &mut String, scene: &Scene<'_>) -> Result<(), AllocError>
     ensures { OnOk result (string_bytes text.new ≡ string_bytes text.old ++ spool_text scene.now) }
 {
-    let (config, spool) = (scene.config, scene.spool);
+    let (config, spool, noted) = (scene.config, scene.spool, &scene.outside.noted);
     push_gauge(
         text,
         "hurgwaye_page_size_bytes",
@@ -78,7 +78,7 @@ pub(crate) fn push_spool(text: &mut String, scene: &Scene<'_>) -> Result<(), All
         text,
         "hurgwaye_jobs_put_off",
         "Jobs whose sessions wait for a page.",
-        scene.put_off.len() as u64,
+        noted.put_off.len() as u64,
     )?;
     Ok(())
 }
@@ -259,5 +259,27 @@ pub(crate) fn push_refusals(
     for (i, count) in refused.iter().enumerate() {
         push_refusal(alloc, text, i, *count)?;
     }
+    Ok(())
+}
+
+/// Puts at the end what is full, and who is silent.
+#[tactic(auto, unfolding(crate::specs::Metrics::needs_text))]
+pub(crate) fn push_needs(text: &mut String, scene: &Scene<'_>) -> Result<(), AllocError>
+    ensures { OnOk result (string_bytes text.new ≡ string_bytes text.old ++ needs_text scene.now) }
+{
+    let is_full = one_if(has_full_pool(scene.spool, &scene.outside.noted));
+    let silent = silent_sessions(scene.outside.sessions);
+    push_gauge(
+        text,
+        "hurgwaye_pool_full",
+        "Whether no page is free, or a job waits for one.",
+        is_full,
+    )?;
+    push_gauge(
+        text,
+        "hurgwaye_sessions_silent",
+        "Sessions of whose peer no octet came for a minute.",
+        silent,
+    )?;
     Ok(())
 }

@@ -8,8 +8,8 @@ use crate::histogram::push_histogram;
 use crate::kind::SampleKind;
 use crate::queues::{OfPrinter, OfQueue, push_printers, push_queues};
 use crate::server::{
-    REFUSED, push_account, push_edge, push_jobs, push_kept, push_octets, push_pages, push_refusals,
-    push_spool,
+    REFUSED, push_account, push_edge, push_jobs, push_kept, push_needs, push_octets, push_pages,
+    push_refusals, push_spool,
 };
 use status_scene::Scene;
 use std::alloc::{AllocError, Global};
@@ -67,8 +67,10 @@ fn push_each(alloc: Global, text: &mut String, scene: &Scene<'_>) -> Result<(), 
     push_queues(alloc, text, scene, OfQueue::Jobs)?;
     push_queues(alloc, text, scene, OfQueue::Limit)?;
     push_queues(alloc, text, scene, OfQueue::Held)?;
+    push_queues(alloc, text, scene, OfQueue::Refusing)?;
     push_printers(alloc, text, scene, OfPrinter::Stopped)?;
     push_printers(alloc, text, scene, OfPrinter::Busy)?;
+    push_printers(alloc, text, scene, OfPrinter::Unreached)?;
     Ok(())
 }
 
@@ -83,5 +85,6 @@ pub fn metrics(alloc: Global, scene: &Scene<'_>) -> Result<String, AllocError>
     push_server(&mut text, scene)?;
     push_times(alloc, &mut text, scene)?;
     push_each(alloc, &mut text, scene)?;
+    push_needs(&mut text, scene)?;
     Ok(text)
 }

@@ -1,9 +1,12 @@
 //! The banker's table: in which order all held jobs can finish.
 
+ghost use Rattle.std.specs.Prelude.{◌≡◌};
+ghost use Rattle.status_page.specs.Said.{turn_numbers};
+
 use crate::figures::{Grouped, Share};
 use crate::rows::{MOST_ROWS, close_table, column, number_cell, open_rows, open_table, row_head};
-use crate::turns::{FinishingTurn, pages_of};
 use html_page::{Attribute, AttributeName, HtmlPage, Tag, class, id};
+use standings::{FinishingTurn, pages_of};
 use status_scene::Scene;
 use std::alloc::Global;
 
@@ -25,16 +28,22 @@ fn bar(alloc: Global, page: &mut HtmlPage, turn: &FinishingTurn, pages: u64) {
     page.close();
 }
 
+/// The numbers of a turn: the job's claim, what it holds and may need, and what is free then.
+fn turn_numbers(turn: &FinishingTurn) -> [u64; 4]
+    ensures { result ≡ turn_numbers turn.now }
+{
+    [turn.claim(), turn.holds, turn.needs, turn.free]
+}
+
 /// The row of a turn by its place, from 0.
 fn row(alloc: Global, page: &mut HtmlPage, at: usize, turn: &FinishingTurn, pages: u64) {
     let job = page.text(format!(in alloc; "{}", turn.job));
     page.open(Tag::Row, &[]);
     number_cell(alloc, page, (at as u64).saturating_add(1));
     row_head(page, job.as_str());
-    number_cell(alloc, page, turn.holds.saturating_add(turn.needs));
-    number_cell(alloc, page, turn.holds);
-    number_cell(alloc, page, turn.needs);
-    number_cell(alloc, page, turn.free);
+    for number in turn_numbers(turn) {
+        number_cell(alloc, page, number);
+    }
     bar(alloc, page, turn, pages);
     page.close();
     page.end_line();
@@ -64,7 +73,7 @@ fn table(alloc: Global, page: &mut HtmlPage, turns: &[FinishingTurn], pages: u64
 
 /// What the table says.
 fn words(alloc: Global, page: &mut HtmlPage, scene: &Scene<'_>) {
-    let free = Grouped(pages_of(scene.spool.claims.free()));
+    let free = Grouped(u64::from(pages_of(scene.spool.claims.free())));
     let pages = Grouped(u64::from(scene.config.pages()));
     let now = page.text(format!(in alloc; " Free now: {free} of {pages} pages."));
     page.open(Tag::Paragraph, &[]);
@@ -76,12 +85,7 @@ fn words(alloc: Global, page: &mut HtmlPage, scene: &Scene<'_>) {
 }
 
 /// The banker's table, folded away.
-pub(crate) fn banker(
-    alloc: Global,
-    page: &mut HtmlPage,
-    scene: &Scene<'_>,
-    turns: &[FinishingTurn],
-) {
+pub(crate) fn banker(alloc: Global, page: &mut HtmlPage, scene: &Scene<'_>) {
     page.open(Tag::Section, &[class("card"), id("banker")]);
     page.open(Tag::Details, &[]);
     page.open(Tag::Summary, &[]);
@@ -89,7 +93,8 @@ pub(crate) fn banker(
     page.element(Tag::Small, &[], "in which order every job can finish");
     page.close();
     words(alloc, page, scene);
-    if scene.order.is_some() {
+    let noted = &scene.outside.noted;
+    if let Some(turns) = noted.turns {
         table(alloc, page, turns, u64::from(scene.config.pages()));
     } else {
         let alert = Attribute::new(AttributeName::Role, "alert");

@@ -1,59 +1,87 @@
-//! The queues, each with its printers.
+//! The printers: first those that need somebody, and under the jobs the queues, each with its printers.
 
-use crate::figures::{Grouped, Span};
-use crate::standing::is_held;
+use crate::figures::Grouped;
+use crate::said::{PrinterRemark, PrinterWord, printer_kind};
 use config_values::Queue;
 use html_page::{Attribute, AttributeName, HtmlPage, Tag, class, id};
 use spool_calls::Printer;
-use status_lines::SeenStandstill;
-use status_scene::{Scene, stopped_printers};
+use standings::{
+    PrinterStanding, cause_of, is_held, printer_standing, stopped_printers, unreached_printers,
+};
+use status_scene::Scene;
 use std::alloc::Global;
 
-/// A printer's card of this class: its number, and words on it.
-fn card(alloc: Global, page: &mut HtmlPage, kind: &str, number: u64, words: &str, remark: &str) {
-    let name = page.text(format!(in alloc; "printer {number}"));
-    page.open(Tag::Item, &[class(kind)]);
-    page.element(Tag::B, &[], name.as_str());
-    page.element(Tag::Span, &[], words);
-    page.element(Tag::Small, &[], remark);
-    page.close();
+/// How the printer at a place stands.
+fn standing_at(scene: &Scene<'_>, at: usize, printer: &Printer) -> PrinterStanding {
+    let noted = &scene.outside.noted;
+    let is_held = is_held(noted.held, printer.queue);
+    printer_standing(printer, is_held, noted.printers.get(at))
 }
 
-/// The card of a printer that is stopped, with since when and why, where that is known.
-fn stopped_card(
-    alloc: Global,
-    page: &mut HtmlPage,
-    number: u64,
-    standstill: Option<&SeenStandstill>,
-) {
-    let remark = match standstill {
-        Some(known) => page.text(format!(in alloc; "{}: {}", Span(known.seconds), known.cause)),
-        None => String::new(alloc),
-    };
-    card(alloc, page, "stopped", number, "stopped", remark.as_str());
-}
-
-/// The card of a printer by its place, from 0.
+/// The card of the printer at a place, from 0, with the name of its queue where that isn't empty.
 fn printer_card(
     alloc: Global,
     page: &mut HtmlPage,
     scene: &Scene<'_>,
-    at: usize,
-    printer: &Printer,
+    placed: (usize, &Printer),
+    queue: &[u8],
 ) {
+    let (at, printer) = placed;
+    let (standing, noted) = (standing_at(scene, at, printer), &scene.outside.noted);
+    let cause = cause_of(standing, noted.printers.get(at));
     let number = (at as u64).saturating_add(1);
-    if printer.stopped {
-        let standstill = scene.outside.standstills.get(at);
-        let standstill = standstill.and_then(|known| known.as_ref());
-        return stopped_card(alloc, page, number, standstill);
+    let name = page.text(format!(in alloc; "printer {number}"));
+    let word = page.text(format!(in alloc; "{}", PrinterWord(standing)));
+    let remark = page.text(format!(in alloc; "{}", PrinterRemark { standing, cause }));
+    page.open(Tag::Item, &[class(printer_kind(standing))]);
+    page.element(Tag::B, &[], name.as_str());
+    if !queue.is_empty() {
+        page.open(Tag::Bdi, &[]);
+        page.octets(queue);
+        page.close();
     }
-    let Some(sheet) = printer.out else {
-        card(alloc, page, "idle", number, "idle", "");
+    page.element(Tag::Span, &[], word.as_str());
+    page.element(Tag::Small, &[], remark.as_str());
+    page.close();
+}
+
+/// Whether a printer that stands so needs somebody.
+fn needs_somebody(standing: PrinterStanding) -> bool {
+    match standing {
+        PrinterStanding::Unreached { .. } | PrinterStanding::Stopped { .. } => true,
+        PrinterStanding::Idle | PrinterStanding::Held | PrinterStanding::Printing { .. } => false,
+    }
+}
+
+/// The printers that need somebody, where there are some.
+pub(crate) fn troubles(alloc: Global, page: &mut HtmlPage, scene: &Scene<'_>) {
+    let (printers, noted) = (scene.spool.printers.as_slice(), &scene.outside.noted);
+    let stopped = stopped_printers(printers);
+    if stopped == 0 && unreached_printers(noted.printers, printers) == 0 {
         return;
-    };
-    let job = page.text(format!(in alloc; "job {}", sheet.job));
-    let place = page.text(format!(in alloc; "page {}", Grouped(sheet.place.saturating_add(1))));
-    card(alloc, page, "busy", number, job.as_str(), place.as_str());
+    }
+    let label = Attribute::new(AttributeName::AriaLabelledBy, "troubles");
+    page.open(Tag::Section, &[class("card"), label]);
+    page.element(
+        Tag::Heading2,
+        &[id("troubles")],
+        "Printers that need somebody",
+    );
+    page.open(Tag::List, &[class("printers")]);
+    for (at, printer) in printers.iter().enumerate() {
+        if needs_somebody(standing_at(scene, at, printer)) {
+            let queue = scene.config.name_of(printer.queue);
+            printer_card(alloc, page, scene, (at, printer), queue);
+        }
+    }
+    page.close();
+    if stopped != 0 {
+        let hint =
+            "A stopped printer runs again once its queue is started: by “lpd_server start PORT QUEUE”, by “control PATH start QUEUE”, or by a connection with octet 01 and the queue’s name.";
+        page.element(Tag::Paragraph, &[class("hint")], hint);
+    }
+    page.close();
+    page.end_line();
 }
 
 /// A queue's name and what is said of it.
@@ -66,7 +94,8 @@ fn title(alloc: Global, page: &mut HtmlPage, scene: &Scene<'_>, number: u32, que
     page.close();
     page.words(" ");
     page.element(Tag::Small, &[], remark.as_str());
-    if is_held(scene, number) {
+    let noted = &scene.outside.noted;
+    if is_held(noted.held, number) {
         page.words(" ");
         page.element(Tag::Span, &[class("chip wait")], "held");
     }
@@ -80,7 +109,7 @@ fn queue_card(alloc: Global, page: &mut HtmlPage, scene: &Scene<'_>, number: u32
     page.open(Tag::List, &[class("printers")]);
     for (at, printer) in scene.spool.printers.iter().enumerate() {
         if printer.queue == number {
-            printer_card(alloc, page, scene, at, printer);
+            printer_card(alloc, page, scene, (at, printer), b"");
         }
     }
     page.close();
@@ -90,11 +119,6 @@ fn queue_card(alloc: Global, page: &mut HtmlPage, scene: &Scene<'_>, number: u32
 
 /// The queues, in the order of the configuration.
 pub(crate) fn queues(alloc: Global, page: &mut HtmlPage, scene: &Scene<'_>) {
-    if stopped_printers(scene.spool.printers.as_slice()) != 0 {
-        let hint =
-            "A stopped printer runs again once its queue is started: by lpc’s start or a connection with octet 01 and the queue’s name.";
-        page.element(Tag::Paragraph, &[class("hint")], hint);
-    }
     let label = Attribute::new(AttributeName::AriaLabel, "queues");
     page.open(Tag::Section, &[class("queues"), id("queues"), label]);
     let mut number = 0u32;

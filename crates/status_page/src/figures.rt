@@ -1,5 +1,8 @@
 //! Numbers for people.
 
+ghost use Rattle.std.specs.Prelude.{Some};
+ghost use Rattle.status_page.specs.Figures.{grouped_words, share_words, size_words, span_words, unit_words};
+
 use std::fmt;
 
 /// A number with its thousands apart.
@@ -7,16 +10,34 @@ use std::fmt;
 pub(crate) struct Grouped(pub(crate) u64);
 
 impl fmt::Display for Grouped {
+    ghost output = { λ number. Some (grouped_words number.0) };
+
     fn fmt<W: fmt::Write>(&self, f: &mut fmt::Formatter<W>) -> fmt::Result {
         let n = self.0;
         let (millions, thousands, ones) = (n / 1_000_000, n / 1_000 % 1_000, n % 1_000);
         if n < 1_000 {
             write!(f, "{ones}")
         } else if n < 1_000_000 {
-            write!(f, "{thousands}\u{202f}{ones:03}")
+            write!(f, "{thousands},{ones:03}")
         } else {
-            write!(f, "{millions}\u{202f}{thousands:03}\u{202f}{ones:03}")
+            write!(f, "{millions},{thousands:03},{ones:03}")
         }
+    }
+}
+
+/// So many parts of 1,024 of a unit, with one place behind the point.
+#[derive(Clone, Copy)]
+struct InUnit {
+    parts: u64,
+    unit: &'static str,
+}
+
+impl fmt::Display for InUnit {
+    ghost output = { λ size. Some (unit_words size.parts size.unit.now) };
+
+    fn fmt<W: fmt::Write>(&self, f: &mut fmt::Formatter<W>) -> fmt::Result {
+        let tenths = self.parts.saturating_mul(10) / 1_024;
+        write!(f, "{}.{} {}", tenths / 10, tenths % 10, self.unit)
     }
 }
 
@@ -25,16 +46,20 @@ impl fmt::Display for Grouped {
 pub(crate) struct Size(pub(crate) u64);
 
 impl fmt::Display for Size {
+    ghost output = { λ size. Some (size_words size.0) };
+
     fn fmt<W: fmt::Write>(&self, f: &mut fmt::Formatter<W>) -> fmt::Result {
         let n = self.0;
-        let (shift, unit) = match n {
-            0..=0x3FF => return write!(f, "{n} B"),
-            0..=0xF_FFFF => (10u32, "KiB"),
-            0..=0x3FFF_FFFF => (20, "MiB"),
-            _ => (30, "GiB"),
+        let (parts, unit) = if n < 1_024 {
+            return write!(f, "{n} B");
+        } else if n < 1_048_576 {
+            (n, "KiB")
+        } else if n < 1_073_741_824 {
+            (n / 1_024, "MiB")
+        } else {
+            (n / 1_048_576, "GiB")
         };
-        let tenths = (n >> (shift - 10)).saturating_mul(10) >> 10;
-        write!(f, "{}.{} {unit}", Grouped(tenths / 10), tenths % 10)
+        write!(f, "{}", InUnit { parts, unit })
     }
 }
 
@@ -46,6 +71,8 @@ pub(crate) struct Share {
 }
 
 impl fmt::Display for Share {
+    ghost output = { λ share. Some (share_words share.part share.whole) };
+
     fn fmt<W: fmt::Write>(&self, f: &mut fmt::Formatter<W>) -> fmt::Result {
         let thousandths = self.part.saturating_mul(1_000) / self.whole.max(1);
         write!(f, "{}.{}", thousandths / 10, thousandths % 10)
@@ -57,13 +84,18 @@ impl fmt::Display for Share {
 pub(crate) struct Span(pub(crate) u64);
 
 impl fmt::Display for Span {
+    ghost output = { λ span. Some (span_words span.0) };
+
     fn fmt<W: fmt::Write>(&self, f: &mut fmt::Formatter<W>) -> fmt::Result {
         let seconds = self.0;
-        match seconds {
-            0..=59 => write!(f, "{seconds} s"),
-            0..=3_599 => write!(f, "{} min", seconds / 60),
-            0..=86_399 => write!(f, "{} h {} min", seconds / 3_600, seconds / 60 % 60),
-            _ => write!(f, "{} d {} h", seconds / 86_400, seconds / 3_600 % 24),
+        if seconds < 60 {
+            write!(f, "{seconds} s")
+        } else if seconds < 3_600 {
+            write!(f, "{} min", seconds / 60)
+        } else if seconds < 86_400 {
+            write!(f, "{} h {} min", seconds / 3_600, seconds / 60 % 60)
+        } else {
+            write!(f, "{} d {} h", seconds / 86_400, seconds / 3_600 % 24)
         }
     }
 }

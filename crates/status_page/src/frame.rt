@@ -1,9 +1,16 @@
 //! The page's beginning and its end.
 
+ghost use Rattle.std.specs.Prelude.{◌≡◌};
+ghost use Rattle.status_lines.specs.Status.{spool_state};
+ghost use Rattle.status_page.specs.Said.{spool_word};
+
 use crate::figures::{Grouped, Span};
+use crate::said::spool_word;
 use crate::style::STYLE;
+use config_values::Config;
 use html_page::{Attribute, AttributeName, HtmlPage, Tag, class};
-use status_scene::{Scene, stopped_printers};
+use status_lines::{queue_name, spool_state};
+use status_scene::{Concern, ConcernWords, Scene, concerns};
 use std::alloc::Global;
 
 /// What is said of the page itself: it is shown anew every ten seconds.
@@ -33,20 +40,50 @@ fn chip(page: &mut HtmlPage, kind: &str, text: &str) {
     page.element(Tag::Paragraph, &attributes, text);
 }
 
-/// Whether each printer runs, or how many don't; and whether the spool takes no jobs any more.
+/// The class of what needs somebody.
+fn concern_kind(concern: Concern) -> &'static str {
+    match concern {
+        Concern::Held { .. } => "chip wait",
+        Concern::TableFull { .. }
+        | Concern::AccountFull { .. }
+        | Concern::PoolFull { .. }
+        | Concern::Unreached { .. }
+        | Concern::Stopped { .. } => "chip bad",
+    }
+}
+
+/// The name of the queue that this is about; nothing where it is about none.
+fn queue_of<'a>(config: &'a Config, concern: Concern) -> &'a str {
+    match concern {
+        Concern::PoolFull { queue, .. } => queue_name(config, queue),
+        _ => "",
+    }
+}
+
+/// How the spool stands, where it doesn't take jobs any more.
+fn state_word(scene: &Scene<'_>) -> &'static str
+    ensures { result.now ≡ spool_word (spool_state scene.now.spool.now.closed scene.now.outside.now.stops) }
+{
+    spool_word(spool_state(scene.spool.closed, scene.outside.stops))
+}
+
+/// What needs somebody, the worst first, or that every printer runs; and whether the spool takes no jobs any more.
 fn chips(alloc: Global, page: &mut HtmlPage, scene: &Scene<'_>) {
-    match stopped_printers(scene.spool.printers.as_slice()) {
-        0 => chip(page, "chip good", "every printer runs"),
-        1 => chip(page, "chip bad", "1 printer stopped"),
-        stopped => {
-            let text = page.text(format!(in alloc; "{} printers stopped", Grouped(stopped)));
-            chip(page, "chip bad", text.as_str());
+    let mut is_quiet = true;
+    for concern in concerns(scene) {
+        if let Some(concern) = concern {
+            is_quiet = false;
+            let queue = queue_of(scene.config, concern);
+            let text = page.text(format!(in alloc; "{}", ConcernWords { concern, queue }));
+            chip(page, concern_kind(concern), text.as_str());
         }
     }
-    if scene.spool.closed {
-        chip(page, "chip bad", "closed");
-    } else if scene.outside.stops {
-        chip(page, "chip bad", "stopping");
+    if is_quiet {
+        chip(page, "chip good", "every printer runs");
+    }
+    let word = state_word(scene);
+    if !word.is_empty() {
+        chip(page, "chip bad", word);
     }
 }
 
@@ -70,9 +107,9 @@ fn link(page: &mut HtmlPage, href: &str, text: &str) {
 fn navigation(page: &mut HtmlPage) {
     let label = Attribute::new(AttributeName::AriaLabel, "parts of this page");
     page.open(Tag::Navigation, &[label]);
-    link(page, "#pool", "pool");
-    link(page, "#queues", "queues");
     link(page, "#jobs", "jobs");
+    link(page, "#queues", "queues");
+    link(page, "#pool", "pool");
     link(page, "#sessions", "sessions");
     link(page, "#banker", "the banker’s table");
     page.close();

@@ -10,10 +10,9 @@ mod plot;
 mod pool;
 mod rates;
 mod rows;
+mod said;
 mod sessions;
-mod standing;
 mod style;
 mod tiles;
-mod turns;
 
 pub use page::html;

@@ -4,14 +4,13 @@ ghost use Rattle.std.specs.Prelude.{IfOk, string_bytes};
 ghost use Rattle.html_page.specs.Parts.{IsPage};
 
 use crate::banker::banker;
-use crate::cards::queues;
+use crate::cards::{queues, troubles};
 use crate::frame::{begin, end};
 use crate::pool::pool;
 use crate::rates::rates;
 use crate::rows::jobs;
 use crate::sessions::sessions;
 use crate::tiles::tiles;
-use crate::turns::turns_of;
 use html_page::HtmlPage;
 use status_scene::Scene;
 use std::alloc::{AllocError, Global};
@@ -22,16 +21,16 @@ use std::alloc::{AllocError, Global};
 pub fn html(alloc: Global, scene: &Scene<'_>) -> Result<String, AllocError>
     ensures { IfOk result (λ text. ∥ IsPage (string_bytes text) ∥₁) }
 {
-    let turns = turns_of(alloc, scene)?;
     let mut page = HtmlPage::new(alloc)?;
     begin(alloc, &mut page, scene);
+    troubles(alloc, &mut page, scene);
     tiles(alloc, &mut page, scene);
+    jobs(alloc, &mut page, scene);
+    queues(alloc, &mut page, scene);
     pool(alloc, &mut page, scene);
     rates(alloc, &mut page, scene);
-    queues(alloc, &mut page, scene);
-    jobs(alloc, &mut page, scene, turns.as_slice());
     sessions(alloc, &mut page, scene);
-    banker(alloc, &mut page, scene, turns.as_slice());
+    banker(alloc, &mut page, scene);
     end(&mut page);
     page.into_text()
 }

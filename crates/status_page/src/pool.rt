@@ -2,34 +2,35 @@
 
 use crate::figures::{Grouped, Share, Size};
 use crate::plot::plot;
+use crate::said::PagePlace;
 use html_page::{Attribute, AttributeName, HtmlPage, Tag, class, id};
 use spool_snapshot::Pages;
 use status_scene::Scene;
 use std::alloc::Global;
 
 /// A part of the bar.
-fn bar_part(alloc: Global, page: &mut HtmlPage, kind: &str, part: usize, whole: u64) {
-    let part = part as u64;
+fn bar_part(alloc: Global, page: &mut HtmlPage, place: PagePlace, pages: Pages, whole: u64) {
+    let part = place.count(pages) as u64;
     let width = page.text(format!(in alloc; "width:{}%", Share { part, whole }));
     let style = Attribute::new(AttributeName::Style, width.as_str());
-    page.element(Tag::Mark, &[class(kind), style], "");
+    page.element(Tag::Mark, &[class(place.kind()), style], "");
 }
 
 /// Where the pages are, as a bar.
 fn bar(alloc: Global, page: &mut HtmlPage, pages: Pages, total: u64) {
     let hidden = Attribute::new(AttributeName::AriaHidden, "true");
     page.open(Tag::Division, &[class("bar"), hidden]);
-    bar_part(alloc, page, "out", pages.out, total);
-    bar_part(alloc, page, "lent", pages.lent, total);
-    bar_part(alloc, page, "chained", pages.chained, total);
+    for place in [PagePlace::Out, PagePlace::Lent, PagePlace::Chained] {
+        bar_part(alloc, page, place, pages, total);
+    }
     page.close();
 }
 
 /// How many pages are at one place.
-fn legend_item(alloc: Global, page: &mut HtmlPage, kind: &str, text: &str, pages: usize) {
-    let number = page.text(format!(in alloc; "{}", Grouped(pages as u64)));
-    page.open(Tag::Item, &[class(kind)]);
-    page.element(Tag::Span, &[], text);
+fn legend_item(alloc: Global, page: &mut HtmlPage, place: PagePlace, pages: Pages) {
+    let number = page.text(format!(in alloc; "{}", Grouped(place.count(pages) as u64)));
+    page.open(Tag::Item, &[class(place.kind())]);
+    page.element(Tag::Span, &[], place.words());
     page.element(Tag::B, &[], number.as_str());
     page.close();
 }
@@ -37,10 +38,14 @@ fn legend_item(alloc: Global, page: &mut HtmlPage, kind: &str, text: &str, pages
 /// Where the pages are, as a list.
 fn legend(alloc: Global, page: &mut HtmlPage, pages: Pages) {
     page.open(Tag::List, &[class("legend")]);
-    legend_item(alloc, page, "out", "at printers", pages.out);
-    legend_item(alloc, page, "lent", "lent to sessions", pages.lent);
-    legend_item(alloc, page, "chained", "full, of jobs", pages.chained);
-    legend_item(alloc, page, "free", "free", pages.free);
+    for place in [
+        PagePlace::Out,
+        PagePlace::Lent,
+        PagePlace::Chained,
+        PagePlace::Free,
+    ] {
+        legend_item(alloc, page, place, pages);
+    }
     page.close();
 }
 

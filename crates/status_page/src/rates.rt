@@ -1,5 +1,8 @@
 //! Jobs and octets a minute over the last hour, as bars.
 
+ghost use Rattle.std.specs.Prelude.{◌≡◌};
+ghost use Rattle.status_page.specs.Said.{rate_between, total_at};
+
 use crate::figures::{Grouped, Size};
 use crate::plot::{HEIGHT, across, close_plot, down, open_canvas, open_plot, path, tick};
 use html_page::{Attribute, AttributeName, HtmlPage, Tag, class, id};
@@ -9,8 +12,10 @@ use std::alloc::{AllocError, Global};
 
 /// What is counted by the minute.
 #[derive(Clone, Copy)]
-enum Rate {
+pub(crate) enum Rate {
+    /// Jobs that were printed.
     Jobs,
+    /// Their octets.
     Octets,
 }
 
@@ -23,7 +28,9 @@ impl Rate {
     }
 
     /// How many there were until a look.
-    fn total(self, look: &Look) -> u64 {
+    fn total(self, look: &Look) -> u64
+        ensures { result ≡ total_at self look.now }
+    {
         match self {
             Rate::Jobs => look.done,
             Rate::Octets => look.octets,
@@ -31,7 +38,9 @@ impl Rate {
     }
 
     /// How many there were a minute from one look to the next.
-    fn between(self, earlier: &Look, later: &Look) -> u64 {
+    fn between(self, earlier: &Look, later: &Look) -> u64
+        ensures { result ≡ rate_between self earlier.now later.now }
+    {
         let seconds = later.second.saturating_sub(earlier.second).max(1);
         let n = self.total(later).saturating_sub(self.total(earlier));
         n.saturating_mul(60) / seconds

@@ -1,12 +1,12 @@
 //! The held jobs.
 
-use crate::figures::{Grouped, Size, Span};
-use crate::standing::{JobStanding, standing_of};
-use crate::turns::FinishingTurn;
+use crate::figures::Grouped;
+use crate::said::{JobCell, JobColumn, SenderPart, job_kind, job_word};
 use html_page::{Attribute, AttributeName, HtmlPage, Tag, class, id};
 use spool_snapshot::SeenJob;
+use standings::{JobNumber, JobNumbers, JobStage, JobStanding, job_standing, stage_of};
 use status_scene::Scene;
-use std::alloc::{AllocError, Global};
+use std::alloc::Global;
 
 /// How many jobs are listed: the page stays short, however many are held.
 pub(crate) const MOST_ROWS: usize = 200;
@@ -77,106 +77,76 @@ fn sender(page: &mut HtmlPage, job: &SeenJob) {
         return;
     }
     page.open(Tag::Cell, &[class("who")]);
-    page.open(Tag::Bdi, &[]);
-    page.octets(job.user.as_slice());
-    page.close();
-    page.open(Tag::Small, &[]);
-    page.open(Tag::Bdi, &[]);
-    page.octets(job.host.as_slice());
-    page.close();
-    page.close();
-    page.close();
-}
-
-/// The class of a job that stands so, and the word for it.
-fn state_of(standing: JobStanding) -> (&'static str, &'static str) {
-    match standing {
-        JobStanding::Begun | JobStanding::Arriving { .. } => ("st", "arriving"),
-        JobStanding::NoPage | JobStanding::Kept(_) | JobStanding::Page => ("st stay", "put off"),
-        JobStanding::Behind(_) | JobStanding::Held => ("st stay", "waiting"),
-        JobStanding::Stopped => ("st ill", "waiting"),
-        JobStanding::Waiting => ("st", "waiting"),
-        JobStanding::Printing { .. } | JobStanding::Next => ("st go", "printing"),
-        JobStanding::Dying => ("st ill", "ended"),
+    for part in [SenderPart::User, SenderPart::Host] {
+        page.open(part.tag(), &[]);
+        page.open(Tag::Bdi, &[]);
+        page.octets(part.octets(job));
+        page.close();
+        page.close();
     }
-}
-
-/// What a job does or waits for, in words.
-fn remark_of(alloc: Global, standing: JobStanding) -> Result<String, AllocError> {
-    match standing {
-        JobStanding::Begun => Ok(String::new(alloc)),
-        JobStanding::Arriving { came, told } => {
-            format!(in alloc; "{} of {} pages", Grouped(came), Grouped(told))
-        }
-        JobStanding::NoPage => String::from_str(alloc, "waits for a page: none is free"),
-        JobStanding::Kept(job) => {
-            format!(in alloc; "waits for a page: those free are kept for job {job}")
-        }
-        JobStanding::Page => String::from_str(alloc, "waits for a page"),
-        JobStanding::Behind(job) => format!(in alloc; "behind job {job} of its sender"),
-        JobStanding::Held => String::from_str(alloc, "its queue is held"),
-        JobStanding::Stopped => String::from_str(alloc, "its queue’s printers are stopped"),
-        JobStanding::Waiting => String::from_str(alloc, "for a printer"),
-        JobStanding::Printing { printer, page } => {
-            format!(in alloc; "page {} at printer {printer}", Grouped(page))
-        }
-        JobStanding::Next => String::from_str(alloc, "its next page is due"),
-        JobStanding::Dying => String::from_str(alloc, "a page of it is still at a printer"),
-    }
+    page.close();
 }
 
 /// What a job does or waits for.
-fn state(alloc: Global, page: &mut HtmlPage, standing: JobStanding) {
-    let (kind, word) = state_of(standing);
-    let remark = page.text(remark_of(alloc, standing));
-    page.open(Tag::Cell, &[class(kind)]);
-    page.element(Tag::B, &[], word);
+fn state(alloc: Global, page: &mut HtmlPage, stage: JobStage, standing: JobStanding) {
+    let remark = page.text(format!(in alloc; "{standing}"));
+    page.open(Tag::Cell, &[class(job_kind(standing))]);
+    page.element(Tag::B, &[], job_word(stage, standing));
     page.element(Tag::Small, &[], remark.as_str());
     page.close();
 }
 
-/// For how long a job is held, where that is known.
-fn age(alloc: Global, page: &mut HtmlPage, age: Option<u64>) {
-    match age {
-        Some(seconds) => {
-            let text = page.text(format!(in alloc; "{}", Span(seconds)));
-            cell(page, "n", text.as_str());
-        }
-        None => cell(page, "n", ""),
+/// What a job is called: with its number of acceptance beside it, where it is called by its file.
+fn name(alloc: Global, page: &mut HtmlPage, told: JobCell<'_>) {
+    let scope = Attribute::new(AttributeName::Scope, "row");
+    let text = page.text(format!(in alloc; "{told}"));
+    page.open(Tag::HeaderCell, &[scope]);
+    page.words(text.as_str());
+    if matches!(told.name.number, JobNumber::File(_)) {
+        let number = page.text(format!(in alloc; "job {}", told.job.number));
+        page.element(Tag::Small, &[], number.as_str());
     }
+    page.close();
 }
 
 /// The row of the job at a place.
-fn row(
-    alloc: Global,
-    page: &mut HtmlPage,
-    scene: &Scene<'_>,
-    turns: &[FinishingTurn],
-    at: usize,
-    job: &SeenJob,
-) {
-    let number = page.text(format!(in alloc; "{}", job.number));
-    let size = page.text(format!(in alloc; "{}", Size(job.octets)));
+fn row(alloc: Global, page: &mut HtmlPage, scene: &Scene<'_>, at: usize, job: &SeenJob) {
+    let noted = &scene.outside.noted;
+    let numbers = noted.numbers.get(at).copied().unwrap_or(JobNumbers {
+        file: None,
+        client: None,
+    });
+    let told = JobCell {
+        column: JobColumn::Name,
+        job,
+        name: numbers.name(job.number),
+        age: scene.ages.get(at).copied().unwrap_or(None),
+    };
     page.open(Tag::Row, &[]);
-    row_head(page, number.as_str());
+    name(alloc, page, told);
     sender(page, job);
     page.open(Tag::Cell, &[class("q")]);
     page.open(Tag::Bdi, &[]);
     page.octets(scene.config.name_of(job.queue));
     page.close();
     page.close();
-    let pages = page.text(format!(in alloc; "{}", Grouped(u64::from(job.granted))));
-    cell(page, "n wide", pages.as_str());
-    cell(page, "n wide", size.as_str());
-    age(alloc, page, scene.ages.get(at).copied().unwrap_or(None));
-    state(alloc, page, standing_of(scene, turns, job));
+    for (column, kind) in [
+        (JobColumn::Pages, "n wide"),
+        (JobColumn::Size, "n wide"),
+        (JobColumn::HeldFor, "n"),
+    ] {
+        let text = page.text(format!(in alloc; "{}", JobCell { column, ..told }));
+        cell(page, kind, text.as_str());
+    }
+    let standing = job_standing(scene.spool, noted, scene.config.page_size(), job);
+    state(alloc, page, stage_of(job), standing);
     page.close();
     page.end_line();
 }
 
 /// The heads of the table.
 fn heads(page: &mut HtmlPage) {
-    column(page, "n", "job");
+    column(page, "", "job");
     column(page, "", "from");
     column(page, "", "queue");
     column(page, "n wide", "pages");
@@ -186,7 +156,7 @@ fn heads(page: &mut HtmlPage) {
 }
 
 /// The held jobs, in order of acceptance.
-pub(crate) fn jobs(alloc: Global, page: &mut HtmlPage, scene: &Scene<'_>, turns: &[FinishingTurn]) {
+pub(crate) fn jobs(alloc: Global, page: &mut HtmlPage, scene: &Scene<'_>) {
     let held = scene.spool.jobs.as_slice();
     let label = Attribute::new(AttributeName::AriaLabelledBy, "jobs");
     page.open(Tag::Section, &[class("card"), label]);
@@ -203,7 +173,7 @@ pub(crate) fn jobs(alloc: Global, page: &mut HtmlPage, scene: &Scene<'_>, turns:
     heads(page);
     open_rows(page);
     for (at, job) in held.iter().take(MOST_ROWS).enumerate() {
-        row(alloc, page, scene, turns, at, job);
+        row(alloc, page, scene, at, job);
     }
     close_table(alloc, page, held.len(), "7");
     page.close();

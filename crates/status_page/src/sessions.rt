@@ -4,25 +4,18 @@ use crate::figures::Span;
 use crate::rows::{MOST_ROWS, cell, close_table, column, open_rows, open_table};
 use html_page::{Attribute, AttributeName, HtmlPage, Tag, class, id};
 use status_lines::SeenSession;
-use status_scene::Scene;
+use status_scene::{Scene, is_silent};
 use std::alloc::Global;
-
-/// From how many seconds on a peer is called silent.
-const SILENT_SECONDS: u64 = 60;
 
 /// The row of a session.
 fn row(alloc: Global, page: &mut HtmlPage, session: &SeenSession) {
     let peer = page.text(format!(in alloc; "{}", session.peer));
     let silent = page.text(format!(in alloc; "{}", Span(session.silent)));
-    let kind = if session.silent < SILENT_SECONDS {
-        "st"
-    } else {
-        "st stay"
-    };
+    let kind = if is_silent(session) { "st stay" } else { "st" };
     page.open(Tag::Row, &[]);
     cell(page, "", peer.as_str());
     page.open(Tag::Cell, &[class(kind)]);
-    if session.silent >= SILENT_SECONDS {
+    if is_silent(session) {
         page.element(Tag::B, &[], "silent ");
     }
     page.words(silent.as_str());

@@ -69,6 +69,7 @@ font-size:13px;line-height:1.35;color:var(--soft);min-width:0}
 .printers .busy span{display:block;color:var(--good);font-weight:600}
 .printers .stopped{border-color:var(--bad);background:var(--badbg);color:var(--bad)}
 .printers .stopped b,.printers .stopped span{color:inherit}
+.printers bdi{display:block;overflow-wrap:anywhere}
 .printers .stopped span{font-weight:600}
 .scroll{overflow-x:auto;margin:0 -20px;padding:0 20px}
 table{width:100%;border-collapse:collapse;font-size:14px}
@@ -80,9 +81,10 @@ td,tbody th{padding:7px 12px 7px 0;border-bottom:1px solid var(--line);vertical-
 tbody th{color:var(--ink);font-size:14px}
 tbody tr:last-child>*{border-bottom:0;padding-bottom:0}
 .n{text-align:right;white-space:nowrap}
-.who{width:40%;min-width:130px;overflow-wrap:anywhere}
+.who{width:36%;min-width:130px;overflow-wrap:anywhere}
 .who bdi{display:-webkit-box;-webkit-box-orient:vertical;-webkit-line-clamp:3;overflow:hidden}
 .who small{display:block;font-size:12.5px;line-height:1.3}
+tbody th small{display:block;font-weight:400;font-size:12.5px;line-height:1.3}
 .q{overflow-wrap:anywhere;width:13%;min-width:76px}
 .st{width:26%;min-width:150px}
 .st b{font-weight:600}
@@ -99,7 +101,7 @@ overflow:hidden}
 .till .need{background:var(--lent)}
 .peers{width:auto}.peers td{padding-right:28px}
 nav{width:100%;display:flex;flex-wrap:wrap;gap:4px 18px;font-size:14px}
-.hint{margin:-4px 0 14px;font-size:14px;color:var(--soft)}
+.hint{margin:12px 0 0;font-size:14px;color:var(--soft)}
 footer{padding-top:4px;padding-bottom:28px;font-size:13px}
 a{color:inherit}
 @media (max-width:640px){header,main,footer{padding-left:12px;padding-right:12px}header .what{display:none}

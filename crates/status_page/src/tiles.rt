@@ -2,7 +2,8 @@
 
 use crate::figures::{Grouped, Share};
 use html_page::{HtmlPage, Tag, class};
-use status_scene::{JobStage, Scene, jobs_at};
+use standings::{JobStage, jobs_at};
+use status_scene::Scene;
 use std::alloc::Global;
 
 /// A value, with what it is of and a remark.

@@ -1,8 +1,14 @@
-//! What a server shows of itself at one moment: its spool, what its edge alone knows, and what it counted.
+//! What a server shows of itself at one moment: its spool, what its edge alone knows, what it counted, and what of that needs somebody.
 #![tactic(auto)]
 
+mod concern;
+mod refusing;
 mod scene;
-mod stage;
+mod silence;
+mod words;
 
+pub use concern::{Concern, concerns};
+pub use refusing::{has_full_pool, is_refused_at};
 pub use scene::Scene;
-pub use stage::{JobStage, jobs_at, jobs_of_queue_at, stopped_printers};
+pub use silence::{is_silent, silent_sessions};
+pub use words::ConcernWords;

@@ -14,10 +14,6 @@ pub struct Scene<'a> {
     pub spool: &'a Snapshot,
     /// What its edge alone knows.
     pub outside: &'a Outside<'a>,
-    /// The numbers of the held jobs in an order in which each can finish, where there is one.
-    pub order: Option<&'a [u64]>,
-    /// The numbers of the jobs whose sessions wait for a page.
-    pub put_off: &'a [u64],
     /// Of the held jobs in order of acceptance, for how many seconds each is held, where that is known.
     pub ages: &'a [Option<u64>],
     /// What the server counted since it began.

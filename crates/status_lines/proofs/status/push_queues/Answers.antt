@@ -11,6 +11,6 @@ push_queue-requires-clause-name c =
 
 pub loop-i-preserved : goal.loop-i-preserved
 loop-i-preserved c =
-    step (queue_text c.args.snapshot.now.printers.items c.args.outside.now.held.now c.args.outside.now.standstills.now) c.queues-queue-items.result.now c.loop-i.i c.queue-item.result
+    step (queue_text c.args.printers.now c.args.noted.now) c.queues-queue-items.result.now c.loop-i.i c.queue-item.result
     (string_bytes c.args.text.now) (string_bytes c.loop-i.text) (string_bytes c.push_queue.new.text)
     c.loop-i-test.true c.queue-item.is c.loop-i.invariant c.in_ok-push_queue.ensures

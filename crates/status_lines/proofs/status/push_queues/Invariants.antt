@@ -6,4 +6,4 @@ abbrev pub invariant-loop-i : goal.invariant-loop-i
 invariant-loop-i l =
     string_bytes l.text
     ≡ string_bytes l.initial.text
-    ++ placed (queue_text l.snapshot.printers.items l.outside.held.now l.outside.standstills.now) 0 (take l.i l.queue-items)
+    ++ placed (queue_text l.printers l.noted) 0 (take l.i l.queue-items)

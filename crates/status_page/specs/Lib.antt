@@ -1,0 +1,3 @@
+-- What the page says.
+pub mod Figures
+pub mod Said
