@@ -1,7 +1,7 @@
 -- Which printer of a configuration a name means: `5` the printer of that number, `lp` the first one of the queue lp, `lp.2` its second one.
 -- Digits alone are a number, whatever queue is called so. Where a name means two printers, as `a.2` where there are a queue a of two printers
 -- and a queue a.2, it means none.
-use Rattle.std.specs.Prelude.{◌≡◌, ◌⊎◌, ◌+◌, ◌<◌, ◌^◌, ◌==◌, ◌++◌, ◌∷◌, ℕ, true, false, zero, suc, List, Result, Ok, Err, if◌then◌else◌}
+use Rattle.std.specs.Prelude.{◌≡◌, ◌⊎◌, ◌+◌, ◌<◌, ◌^◌, ◌==◌, ◌++◌, ◌∷◌, ℕ, true, false, zero, suc, List, Option, Some, None, Result, Ok, Err, if◌then◌else◌}
 use Rattle.std.specs.Fmt.{decimal}
 use Rattle.config_values.specs.Config as C
 use Rattle.program_edge.specs.Numerals.{IsPlainNumber}
@@ -41,6 +41,13 @@ NoOne P = (printer : ℕ) → P printer → ⊥
 abbrev pub IsOfQueue : C.Config → List ℕ → ℕ → Type 0
 IsOfQueue c name printer =
     (IsFirst c name printer × NoOne (IsNumberedOf c name)) ⊎ (IsNumberedOf c name printer × NoOne (IsFirst c name))
+
+-- the one that is there of two
+abbrev pub only_one : Option ℕ → Option ℕ → Result ℕ NameFault
+only_one None None = Err Unknown
+only_one None (Some printer) = Ok printer
+only_one (Some printer) None = Ok printer
+only_one (Some first) (Some other) = Err Ambiguous
 
 -- which printer a name means, or why none
 abbrev pub Means : C.Config → List ℕ → Result ℕ NameFault → Type 0

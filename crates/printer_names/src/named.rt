@@ -42,6 +42,9 @@ pub(crate) fn is_digits(octets: &[u8]) -> bool
 fn is_name(name: &str) -> bool
     ensures { IsTrue result ↔ IsName name.now }
 {
+    if name.is_empty() {
+        return false;
+    }
     if !is_digits(name.as_bytes()) {
         return true;
     }

@@ -39,7 +39,8 @@ fn said_printer<'a>(
     config: &Config,
     said: NamedPrinter<'a>,
 ) -> Result<PlacedPrinter<'a>, PlacingFault<'a>>
-    ensures { MatchResult result (IsSaid config.now said) (IsUnnamed config.now said) }
+    ensures { MatchResult result (IsSaid config.now said.entry)
+        (IsUnnamed config.now said.entry) }
 {
     let place = said.place;
     match printer_named(config, said.name) {

@@ -1,7 +1,7 @@
 //! Which printer of a configuration a name means.
 
-ghost use Rattle.std.specs.Prelude.{MatchOption};
-ghost use Rattle.printer_names.specs.Names.{IsFirst, IsNthOf, IsNumbered, IsNumberedOf, Means, NoOne};
+ghost use Rattle.std.specs.Prelude.{◌≡◌, MatchOption};
+ghost use Rattle.printer_names.specs.Names.{IsFirst, IsNthOf, IsNumbered, IsNumberedOf, Means, NoOne, only_one};
 
 use crate::cutting::cut_at_last;
 use crate::named::is_digits;
@@ -40,10 +40,11 @@ fn numbered(config: &Config, name: &[u8]) -> Option<u32>
         (IsNumbered config.now name.now) }
 {
     let number = read_decimal(name)?;
-    match u32::try_from(number) {
-        Ok(printer) if config.is_printer(printer) => Some(printer),
-        _ => None,
+    let most = u64::from(config.printer_count());
+    if number <= most && config.is_printer(number as u32) {
+        return Some(number as u32);
     }
+    None
 }
 
 /// The first printer of the queue of this name.
@@ -65,6 +66,17 @@ fn numbered_of(config: &Config, name: &[u8]) -> Option<u32>
     nth_printer(config, queue, nth)
 }
 
+/// The one that is there of two.
+fn only_one(first: Option<u32>, other: Option<u32>) -> Result<u32, NameFault>
+    ensures { result ≡ only_one first other }
+{
+    match (first, other) {
+        (Some(printer), None) | (None, Some(printer)) => Ok(printer),
+        (None, None) => Err(NameFault::Unknown),
+        (Some(_), Some(_)) => Err(NameFault::Ambiguous),
+    }
+}
+
 /// The number of the printer that a name means: digits alone are that number; else it is the name of a queue, for its first printer, or that with
 /// a point behind it and which of the queue's printers it is, from 1.
 ///
@@ -76,9 +88,5 @@ pub fn printer_named(config: &Config, name: &str) -> Result<u32, NameFault>
     if is_digits(name) {
         return numbered(config, name).ok_or(NameFault::Unknown);
     }
-    match (first(config, name), numbered_of(config, name)) {
-        (Some(printer), None) | (None, Some(printer)) => Ok(printer),
-        (None, None) => Err(NameFault::Unknown),
-        (Some(_), Some(_)) => Err(NameFault::Ambiguous),
-    }
+    only_one(first(config, name), numbered_of(config, name))
 }
