@@ -1,5 +1,5 @@
 -- Printers that are placed one after another.
-use Rattle.std.proofs.Common.{◌≡◌, ◌≢◌, ◌==◌, ◌≤◌, ◌<◌, ◌++◌, ◌∷◌, ℕ, List, [], ◌∙◌, ap, append_assoc, arith, get_or, length, map, subst, suc, sym, take, true, false, zero}
+use Rattle.std.proofs.Common.{◌≡◌, ◌≢◌, Err, ◌==◌, ◌≤◌, ◌<◌, ◌++◌, ◌∷◌, ℕ, List, [], ◌∙◌, ap, append_assoc, arith, get_or, length, map, subst, suc, sym, take, true, false, zero}
 use Rattle.std.specs.List.{AllZip, list_any}
 use Rattle.std.proofs.lemmas.Bool.{eq-eqb}
 use Rattle.std.proofs.lemmas.List.Folds.{list_any_at}
@@ -9,7 +9,11 @@ use Rattle.std.proofs.lemmas.List.{append-nil, length-map, take_all}
 use Rattle.config_values.specs.Config as C
 use Rattle.spool_config.specs.Places.{told_view}
 use Rattle.spool_config.specs.declared.places.ToldPlace.{ToldPlace}
-use Rattle.printer_names.specs.Placing.{AreOfDifferentPrinters, ArePlaced, IsSaid, IsTold}
+use Rattle.printer_names.specs.Placing.{AreOfDifferentPrinters, ArePlaced, IsPlacingFault, IsSaid, IsTold, IsUnnamed}
+use Rattle.printer_names.specs.Names.{Means}
+use Rattle.printer_names.specs.declared.fault.PlacingFault.{PlacingFault}
+use Rattle.printer_names.specs.declared.fault.PlacingFault.TheVariants.{Ambiguous, Memory, OutOfRange, Twice, Unknown}
+use Rattle.printer_names.specs.declared.resolving.NameFault.TheVariants as name
 use Rattle.printer_names.specs.declared.named.NamedPrinter.{NamedPrinter}
 
 -- one more of these has one more of those
@@ -56,3 +60,13 @@ one_more_word c told words i other printers placed few all one none =
       words = one_more (IsSaid c) words i other all.from_words placed few all.words one;
       once = one_more_differs printers placed all.once none;
     }
+
+-- a word whose name means no printer is among words
+pub placing_fault : (c : C.Config) (words : List NamedPrinter) (i : ℕ) (word : NamedPrinter) (fault : PlacingFault) → i < length words → IsUnnamed c word fault → IsPlacingFault c words fault
+placing_fault c words i word (Unknown other) few is =
+    (omega arith, subst (λ (w : NamedPrinter). Means c w.name.now (Err name.Unknown)) (sym is.0) is.1)
+placing_fault c words i word (Ambiguous other) few is =
+    (omega arith, subst (λ (w : NamedPrinter). Means c w.name.now (Err name.Ambiguous)) (sym is.0) is.1)
+placing_fault c words i word (Twice other) few is = absurd is
+placing_fault c words i word OutOfRange few is = absurd is
+placing_fault c words i word Memory few is = absurd is

@@ -1,5 +1,5 @@
 -- What the printers of a configuration print to, as its texts and the words of a command line say it.
-use Rattle.std.specs.Prelude.{◌≡◌, ◌≢◌, ◌++◌, ℕ, List, Ok, Err, codes}
+use Rattle.std.specs.Prelude.{◌≡◌, ◌≢◌, ◌<◌, ◌++◌, ℕ, List, Ok, Err, codes, length}
 use Rattle.std.specs.List.{AllPairs, AllZip}
 use Rattle.config_values.specs.Config as C
 use Rattle.program_edge.specs.Places.{IsPlaceText}
@@ -40,6 +40,20 @@ IsUnnamed c said (Ambiguous other) = (other ≡ said) × Means c said.name.now (
 IsUnnamed c said (Twice other) = ⊥
 IsUnnamed c said OutOfRange = ⊥
 IsUnnamed c said Memory = ⊥
+
+-- why the texts of a configuration can't be placed
+abbrev pub IsOfTexts : PlacingFault → Type 0
+IsOfTexts OutOfRange = Unit {0}
+IsOfTexts Memory = Unit {0}
+IsOfTexts fault = ⊥
+
+-- why texts and words can't be placed: a word's fault comes only where there are words
+abbrev pub IsPlacingFault : C.Config → List NamedPrinter → PlacingFault → Type 0
+IsPlacingFault c said (Unknown word) = (0 < length said) × Means c word.name.now (Err name.Unknown)
+IsPlacingFault c said (Ambiguous word) = (0 < length said) × Means c word.name.now (Err name.Ambiguous)
+IsPlacingFault c said (Twice word) = 0 < length said
+IsPlacingFault c said OutOfRange = Unit {0}
+IsPlacingFault c said Memory = Unit {0}
 
 -- the line that tells it
 abbrev pub placing_words : PlacingFault → List ℕ

@@ -1,10 +1,10 @@
 //! What the printers of a configuration print to.
 
 ghost use Rattle.std.specs.List.{AllZip, list_any};
-ghost use Rattle.std.specs.Prelude.{◌≡◌, ◌==◌, ◌++◌, IfOk, List, MatchOption, MatchResult, OnOk, map};
+ghost use Rattle.std.specs.Prelude.{◌≡◌, ◌==◌, ◌++◌, IfErr, IfOk, List, MatchOption, MatchResult, OnOk, map};
 ghost use Rattle.program_edge.specs.declared.places.PlacedPrinter.{PlacedPrinter};
 ghost use Rattle.printer_names.specs.Names.{NoOne};
-ghost use Rattle.printer_names.specs.Placing.{ArePlaced, AreOfDifferentPrinters, IsSaid, IsTold, IsUnnamed};
+ghost use Rattle.printer_names.specs.Placing.{AreOfDifferentPrinters, ArePlaced, IsOfTexts, IsPlacingFault, IsSaid, IsTold, IsUnnamed};
 ghost use Rattle.spool_config.specs.Places.{told_view};
 
 use crate::fault::PlacingFault;
@@ -59,6 +59,7 @@ fn told_printers<'a>(
     ensures told { IfOk result (λ printers.
         AllZip (IsTold config.now) (map told_view told.now) printers.items) }
     ensures once { IfOk result (λ printers. AreOfDifferentPrinters printers.items) }
+    ensures fault { IfErr result IsOfTexts }
 {
     let mut printers = Vec::new(alloc);
     for text in told {
@@ -89,8 +90,9 @@ pub fn placed_printers<'a>(
     told: &'a [ToldPlace],
     said: &[NamedPrinter<'a>],
 ) -> Result<Vec<PlacedPrinter<'a>>, PlacingFault<'a>>
-    ensures { IfOk result (λ printers.
+    ensures placed { IfOk result (λ printers.
         ArePlaced config.now (map told_view told.now) said.now printers.items) }
+    ensures fault { IfErr result (IsPlacingFault config.now said.now) }
 {
     let mut printers = told_printers(alloc, config, told)?;
     for word in said {
