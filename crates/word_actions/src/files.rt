@@ -209,14 +209,12 @@ pub fn check<I: OctetRead, W: OctetWrite>(
         StopsAt due result × (W.written output.new ≡ W.written output.old) }
 {
     let spool = read_spool(alloc, config)?;
-    let printers = printers_of(
-        alloc,
-        &spool.config,
-        spool.told.as_slice(),
-        checking.printers.as_slice(),
-    )?;
-    let (sizes, out) = (checking.sizes, out_of(checking));
-    let text = check_text(alloc, &spool.config, sizes, out, printers.as_slice())?;
+    let text = {
+        let (told, said) = (spool.told.as_slice(), checking.printers.as_slice());
+        let printers = printers_of(alloc, &spool.config, told, said)?;
+        let (sizes, out) = (checking.sizes, out_of(checking));
+        check_text(alloc, &spool.config, sizes, out, printers.as_slice())?
+    };
     print(output, text.as_slice())?;
     Ok(spool)
 }

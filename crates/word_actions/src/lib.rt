@@ -18,5 +18,7 @@ pub use controlling::{ControlFault, ask_server, control};
 pub use fault::{ActionFault, CAUSES};
 pub use files::{ReadSpool, check, read_config, read_spool, replay};
 pub use places::{PLACE_LINES, printers_of, tell_places};
+pub use program_words::ServeRequest;
 pub use progress::PROGRESS;
 pub use running::{RunOutcome, System, data_file, run, send, tell_unread};
+pub use spool_config::PlacesFault;
