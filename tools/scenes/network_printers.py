@@ -103,6 +103,8 @@ def a_printed_job_is_done():
             took = until(60 + 11 * count, lambda: it.log().count(" done in ") + it.log().count(" failed in ") == count * len(names))
             log = it.log()
             check(" failed in " not in log, next((line for line in log.splitlines() if " failed in " in line), ""))
+            # (what a printer has read it notes a moment later)
+            until(10, lambda: all(len(printer.jobs) == count for printer in printers))
             for printer, name in zip(printers, names):
                 check(printer.jobs == [OCTETS] * count, f"{name}: {printer.jobs}")
             page = urllib.request.urlopen(f"http://127.0.0.1:{status}/metrics", timeout=10).read().decode()
