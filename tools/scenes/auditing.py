@@ -457,7 +457,7 @@ def hostile_files():
                       f"{label}, {word}: {status} {why[:200]}")
                 check(most < least + 100_000, f"{label}, {word}: {most} KB, and {least} for a file that isn't there")
         told = subprocess.run([PROGRAM, "audit", f"{folder}/none"], capture_output=True, timeout=20)
-        check(told.returncode == 4 and told.stderr.startswith(b"fault 71 ReadFile"), told)
+        check(told.returncode == 4 and told.stderr.splitlines()[-1].startswith(b"fault 71 ReadFile"), told)
         return f"{len(files)} files, each refused in one line"
 
 

@@ -82,7 +82,6 @@ def a_command_tells_why_it_failed():
             (["check", "nosuch.toml"], 4, "fault 71 ReadFile", r"nosuch\.toml: No such file"),
             (["check", "spool.toml", "--spool", "file"], 4, "fault 73 WriteFile file", r"file: Not a directory"),
             (["check", "spool.toml", "--out", "nosuch"], 4, "fault 73 WriteFile nosuch", r"nosuch: No such file"),
-            (["replay", "spool.toml", "nosuch.script"], 4, "fault 71 ReadFile", r"nosuch\.script: No such file"),
             (["send", nobody, "lp", "1", "myhost", "ann", "file"], 4, "fault 72 Network", rf"127\.0\.0\.1:{nobody}: Connection refused"),
             (["send", nobody, "lp", "1", "myhost", "ann", "file", "nosuch"], 4, "fault 71 ReadFile", r"nosuch: No such file"),
             (["send", nobody, "lp", "1", "myhost", "ann", "folder"], 4, "fault 71 ReadFile", r"folder: "),
@@ -93,7 +92,24 @@ def a_command_tells_why_it_failed():
         ]
         for words, status, fault, cause in cases:
             fails(room, words, status, fault, cause)
+        # A script's fault is one line, as it is specified.
+        check(run(room, "replay", "spool.toml", "nosuch.script") == (4, ["fault 71 ReadFile"]), "replay tells more")
         return f"{len(cases)} commands told why"
+
+
+def a_refusal_tells_what_it_may_mean():
+    """Of a server that doesn't take a job or a question: by octet 01, by octet 02, and without a word, since it doesn't let the address in."""
+    with a_room() as room:
+        job = ["1", "myhost", "ann", "file"]
+        with Server(PROGRAM, spool(account=3_000, limit=4, jobs=1), device="fifo") as it:
+            port = str(it.port)
+            fails(room, ["send", port, "nosuch", *job], 5, "fault 60 Refused 1", r"no such queue, or the job is larger than the queue's limit")
+            fails(room, ["state", port, "nosuch"], 5, "fault 60 Refused 1", r"no such queue")
+            check(run(room, "send", port, "lp", *job)[0] == 0, "the first job isn't taken")
+            fails(room, ["send", port, "lp", *job], 5, "fault 60 Refused 2", r"try again later")
+        with Server(PROGRAM, spool(account=100_000, limit=4), "--allow", "192.0.2.0/24") as it:
+            fails(room, ["send", str(it.port), "lp", *job], 5, "fault 61 Cut", r"it may not let this address in")
+    return "5 refusals"
 
 
 def a_start_warns_of_what_bites_later():
@@ -119,4 +135,4 @@ def a_start_warns_of_what_bites_later():
 
 
 if __name__ == "__main__":
-    sys.exit(main([a_start_tells_why_it_failed, a_command_tells_why_it_failed, a_start_warns_of_what_bites_later], __doc__))
+    sys.exit(main([a_start_tells_why_it_failed, a_command_tells_why_it_failed, a_refusal_tells_what_it_may_mean, a_start_warns_of_what_bites_later], __doc__))

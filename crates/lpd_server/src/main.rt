@@ -20,7 +20,7 @@ use program_edge::{
     CAUSES, FaultName, Settings, StreamReader, StreamWriter, fill_standard_descriptors, tell,
     tell_cause,
 };
-use program_words::{AuditRequest, ControlRequest, Unread, UsageRequest};
+use program_words::{AuditRequest, ControlRequest, ServeRequest, Unread, UsageRequest};
 use std::alloc::{AllocError, Global};
 use std::fs::{File, Files};
 use std::io::{IsTerminal, Lock, Write};
@@ -31,7 +31,9 @@ use std::sync::{Arc, Wait};
 use std::thread::Threads;
 use std::time::Duration;
 use std::{io, thread};
-use word_actions::{PROGRESS, RunOutcome, System};
+use word_actions::{
+    ActionFault, PLACE_LINES, PROGRESS, ReadSpool, RunOutcome, System, printers_of, tell_places,
+};
 
 /// How many lines of the log wait to be written, at most.
 const LINES: usize = 256;
@@ -59,12 +61,27 @@ fn informing(settings: &Settings) -> &'static [&'static str] {
             FOLDER_CAUSES,
             SHARED_FOLDERS,
             STARTS,
+            PLACE_LINES,
             ACCOUNT_LINES,
             JOB_LINES,
         ],
-        (true, None) => &[CAUSES, FOLDER_CAUSES, SHARED_FOLDERS, STARTS, JOB_LINES],
-        (false, Some(_)) => &[CAUSES, FOLDER_CAUSES, SHARED_FOLDERS, STARTS, ACCOUNT_LINES],
-        (false, None) => &[CAUSES, FOLDER_CAUSES, SHARED_FOLDERS, STARTS],
+        (true, None) => &[
+            CAUSES,
+            FOLDER_CAUSES,
+            SHARED_FOLDERS,
+            STARTS,
+            PLACE_LINES,
+            JOB_LINES,
+        ],
+        (false, Some(_)) => &[
+            CAUSES,
+            FOLDER_CAUSES,
+            SHARED_FOLDERS,
+            STARTS,
+            PLACE_LINES,
+            ACCOUNT_LINES,
+        ],
+        (false, None) => &[CAUSES, FOLDER_CAUSES, SHARED_FOLDERS, STARTS, PLACE_LINES],
     }
 }
 
@@ -193,7 +210,15 @@ fn refuse_control<R: Log>(rt: &R, path: Option<&str>, why: &OpenFault) -> u8
     4
 }
 
-/// Serves the queues of the configuration at this path, which has each printer that the settings say something of. Faults
+/// Tells a fault in the log. Answers its exit status.
+fn refuse<R: Log>(rt: &R, fault: &ActionFault) -> u8
+    ensures { result ≤ 5 }
+{
+    error!(rt; "{fault}");
+    fault.status()
+}
+
+/// Serves the queues of the configuration at this path, which has each printer that words say something of. Faults
 /// are told in the log. The control socket, where the settings
 /// name one, is made by `host`, since a logger hands no Unix sockets on. Answers the exit status.
 fn serve<
@@ -206,7 +231,7 @@ fn serve<
         + Sync,
     N: AllocGlobal + Clock + Files<File = File> + Net,
     O: Write + Drop,
->(rt: &R, host: &N, config: &str, settings: Settings, output: O) -> u8
+>(rt: &R, host: &N, config: &str, request: ServeRequest, output: O) -> u8
 where
     R::Dir: Send + Sync,
     ensures { result ≤ 5 }
@@ -214,14 +239,25 @@ where
     let alloc = host.alloc();
     let mut output = StreamWriter::new(output);
     let mut file = StreamReader::open(rt, config);
-    let printers = settings.printers.as_slice();
-    let config = match word_actions::read_spool(alloc, &mut file, printers) {
-        Ok(config) => config,
+    let ServeRequest { settings, printers } = request;
+    let spool = match word_actions::read_spool(alloc, &mut file) {
+        Ok(spool) => spool,
         Err(fault) => {
             tell_cause(rt, &config, file.cause());
-            error!(rt; "{fault}");
-            return fault.status();
+            return refuse(rt, &fault);
         }
+    };
+    let ReadSpool { config, told } = spool;
+    let printers = match printers_of(alloc, &config, told.as_slice(), printers.as_slice()) {
+        Ok(printers) => printers,
+        Err(fault) => return refuse(rt, &fault),
+    };
+    if tell_places(rt, alloc, &config, settings.out, printers.as_slice()).is_err() {
+        return refuse(rt, &ActionFault::Memory);
+    }
+    let settings = Settings {
+        printers,
+        ..settings
     };
     let (counter, socket) = match Counter::open(host, alloc, settings.control) {
         Ok(opened) => opened,
@@ -273,13 +309,13 @@ fn main(rt: HostRuntime) -> ExitCode {
         RunOutcome::Control(request) => code(control(&rt, &request)),
         RunOutcome::Audit(request) => code(audit(&rt, &request)),
         RunOutcome::Usage(request) => code(usage(&rt, &request)),
-        RunOutcome::Serve { config, settings } => {
-            let Ok(queue) = start_log(&rt, alloc, settings.log, rt.stderr()) else {
+        RunOutcome::Serve { config, request } => {
+            let Ok(queue) = start_log(&rt, alloc, request.settings.log, rt.stderr()) else {
                 let mut faults = StreamWriter::new(rt.stderr());
                 return code(refuse_memory(alloc, &mut faults));
             };
             let is_terminal = rt.stderr().is_terminal();
-            let informing = informing(&settings);
+            let informing = informing(&request.settings);
             let lines = LineLog::new(&rt, alloc, &queue);
             // For information: causes, the lines of jobs and of the account's segments, and at a terminal all.
             let lines = if is_terminal {
@@ -289,7 +325,7 @@ fn main(rt: HostRuntime) -> ExitCode {
             };
             let logged = Logged::new(rt, Level::Info, lines);
             let status = if filled {
-                serve(&logged, &rt, config, settings, rt.stdout())
+                serve(&logged, &rt, config, request, rt.stdout())
             } else {
                 error!(logged; "{} /dev/null", FaultName::ReadFile);
                 4

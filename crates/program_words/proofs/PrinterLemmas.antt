@@ -1,16 +1,17 @@
 -- What texts say of printers, read one after another.
 use Rattle.std.proofs.Common.{◌≡◌, ◌≢◌, ◌==◌, ◌<◌, ◌++◌, ◌∷◌, ℕ, Bor, Bool, List, [], ap, arith, drop, get_or, length, refl, suc, take, true, false, zero}
 use Rattle.std.specs.List.{AllZip, Any, list_any}
-use Rattle.std.proofs.lemmas.Bool.{eq-eqb, eqb-true}
+use Rattle.std.specs.Str.{bytes_eq}
+use Rattle.std.proofs.lemmas.Slice.Eq.{bytes_eq-Decides}
 use Rattle.std.proofs.lemmas.List.Folds.{Any-from_list_any, list_any_at}
 use Rattle.std.proofs.lemmas.List.Quantifiers.{all_pairs_push}
-use Rattle.program_edge.specs.Places.{IsPrinterText}
-use Rattle.program_edge.specs.declared.places.PlacedPrinter.{PlacedPrinter}
-use Rattle.program_words.specs.Serving.{AreOfDifferentPrinters}
+use Rattle.printer_names.specs.Texts.{IsNamedText}
+use Rattle.printer_names.specs.declared.named.NamedPrinter.{NamedPrinter}
+use Rattle.program_words.specs.Serving.{HaveDifferentNames}
 use Rattle.program_words.proofs.AllowLemmas.{texts}
 
 -- one more text was read, and says something of one more printer
-pub one_more_said : (words : List (Bor (List ℕ))) (i : ℕ) (other : Bor (List ℕ)) (printers : List PlacedPrinter) (said : PlacedPrinter) → i < length words → AllZip IsPrinterText (take i (texts words)) printers → IsPrinterText (get_or words i other).now said → AllZip IsPrinterText (take (suc i) (texts words)) (printers ++ said ∷ [])
+pub one_more_said : (words : List (Bor (List ℕ))) (i : ℕ) (other : Bor (List ℕ)) (printers : List NamedPrinter) (said : NamedPrinter) → i < length words → AllZip IsNamedText (take i (texts words)) printers → IsNamedText (get_or words i other).now said → AllZip IsNamedText (take (suc i) (texts words)) (printers ++ said ∷ [])
 one_more_said [] i other printers said few all one = absurd (omega arith)
 one_more_said (w ∷ ws) zero other [] said few all one = (one, tt)
 one_more_said (w ∷ ws) zero other (p ∷ ps) said few all one = absurd all
@@ -25,19 +26,20 @@ text_between (w ∷ ws) zero other few = refl
 text_between (w ∷ ws) (suc i) other few =
     ap (λ rest. w.now ∷ rest) (text_between ws i other (omega arith))
 
-abbrev pub is_for : ℕ → PlacedPrinter → Bool
-is_for number said = said.printer == number
+abbrev pub has_name : List ℕ → NamedPrinter → Bool
+has_name name said = bytes_eq said.name.now name
 
--- none of these is for the printer of one more, so all are of different printers
-pub one_more_differs : (printers : List PlacedPrinter) (said : PlacedPrinter) → AreOfDifferentPrinters printers → list_any (is_for said.printer) printers ≡ false → AreOfDifferentPrinters (printers ++ said ∷ [])
+-- none of these has the name of one more, so all names differ
+pub one_more_differs : (printers : List NamedPrinter) (said : NamedPrinter) → HaveDifferentNames printers → list_any (has_name said.name.now) printers ≡ false → HaveDifferentNames (printers ++ said ∷ [])
 one_more_differs printers said different none =
-    all_pairs_push (λ (one other : PlacedPrinter). one.printer ≢ other.printer) printers said different
+    all_pairs_push (λ (one other : NamedPrinter). one.name.now ≢ other.name.now) printers said different
     (λ k d few same.
-    let found : list_any (is_for said.printer) printers ≡ true = list_any_at (is_for said.printer) printers k d few (eq-eqb (get_or printers k d).printer said.printer same) in
+    let equal : bytes_eq (get_or printers k d).name.now said.name.now ≡ true = (bytes_eq-Decides (get_or printers k d).name.now said.name.now).1 same in
+    let found : list_any (has_name said.name.now) printers ≡ true = list_any_at (has_name said.name.now) printers k d few equal in
     cc)
 
--- one of these is for a printer
-pub one_is_for : (printers : List PlacedPrinter) (number : ℕ) → list_any (is_for number) printers ≡ true → Any (λ (one : PlacedPrinter). one.printer ≡ number) printers
-one_is_for printers number found =
-    let any = Any-from_list_any (is_for number) printers found in
-    (any.0, any.1, any.2, any.3, eqb-true any.1.printer number any.4)
+-- one of these has the name
+pub one_has_name : (printers : List NamedPrinter) (name : List ℕ) → list_any (has_name name) printers ≡ true → Any (λ (one : NamedPrinter). one.name.now ≡ name) printers
+one_has_name printers name found =
+    let any = Any-from_list_any (has_name name) printers found in
+    (any.0, any.1, any.2, any.3, (bytes_eq-Decides any.1.name.now name).0 any.4)

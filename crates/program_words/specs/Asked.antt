@@ -50,9 +50,9 @@ IsAskedBy name rows (Replay config script) =
 IsAskedBy name rows (Send sending envelope) =
     (name ≡ codes "send") × IsSending rows sending × IsEnvelope sending envelope
 IsAskedBy name rows (Question question) = IsQuestion name rows question
-IsAskedBy name rows (Serve config settings) =
+IsAskedBy name rows (Serve config request) =
     (name ≡ codes "serve") × (first_of (codes "config") rows ≡ Some config.now)
-    × IsServing rows settings
+    × IsServing rows request
 IsAskedBy name rows (Control request) = (name ≡ codes "control") × IsControlRequest rows request
 IsAskedBy name rows (Audit request) = (name ≡ codes "audit") × IsAuditRequest rows request
 IsAskedBy name rows (Usage request) = (name ≡ codes "usage") × IsUsageRequest rows request

@@ -22,7 +22,7 @@ use Rattle.program_words.specs.Checking.{IsChecking}
 use Rattle.account_usage.specs.declared.grouping.Grouping.{Grouping}
 use Rattle.segment_text.specs.Reading.{is_time}
 use Rattle.program_words.specs.declared.checking.Checking.{Checking}
-use Rattle.program_words.specs.Serving.{AreLimits, AreNetworks, AreOfDifferentPrinters, ArePrinterLimits, IsLog}
+use Rattle.program_words.specs.Serving.{AreLimits, AreNetworks, HaveDifferentNames, ArePrinterLimits, IsLog}
 use Rattle.program_edge.specs.declared.settings.TheConstants.{MOST_CONTROL_PATH}
 use Rattle.program_words.specs.Values.{HasNoNumber, IsAddress, IsGiven, IsGivenOr, IsLimit}
 use Rattle.program_words.specs.Asked.{IsControlRequest, IsSending}
@@ -39,13 +39,13 @@ use Rattle.program_words.specs.declared.words.Unread.{Unread}
 use Rattle.program_words.specs.declared.words.Unread.TheVariants.{Shown, Refused, Memory}
 use Rattle.program_edge.specs.Networks.{IsNetworkText}
 use Rattle.program_edge.specs.declared.networks.Network.{Network}
-use Rattle.program_edge.specs.Places.{IsPrinterText}
+use Rattle.printer_names.specs.Texts.{IsNamedText}
 use Rattle.program_edge.specs.StatusPlaces.{IsHostName, IsStatusText}
-use Rattle.program_edge.specs.declared.places.PlacedPrinter.{PlacedPrinter}
+use Rattle.printer_names.specs.declared.named.NamedPrinter.{NamedPrinter}
 use Rattle.program_edge.specs.declared.settings.Limits.{Limits}
 use Rattle.program_edge.specs.declared.settings.LogForm.{LogForm}
 use Rattle.program_edge.specs.declared.settings.PrinterLimits.{PrinterLimits}
-use Rattle.program_edge.specs.declared.settings.Settings.{Settings}
+use Rattle.program_words.specs.declared.serving.ServeRequest.{ServeRequest}
 use Rattle.program_edge.specs.declared.status.StatusPlace.{StatusPlace}
 
 -- a host that can stand in the names of files: 1 to 120 octets of words
@@ -184,22 +184,22 @@ HasNoStatusHost rows faults.NoStatus =
 HasNoStatusHost rows faults.Memory = Unit {0}
 HasNoStatusHost rows fault = ⊥
 
--- the option for printers gives this text behind others, which say this of printers, of each once
-abbrev pub IsBehind : List Row → List PlacedPrinter → Text → Type 0
+-- the option for printers gives this text behind others, which say this of printers, by each name once
+abbrev pub IsBehind : List Row → List NamedPrinter → Text → Type 0
 IsBehind rows printers text =
     (before : List Text) × (behind : List Text)
     × (all_of (codes "printer") rows ≡ Some (before ++ text ∷ behind))
-    × AllZip IsPrinterText before printers × AreOfDifferentPrinters printers
+    × AllZip IsNamedText before printers × HaveDifferentNames printers
 
--- the first text that says nothing of a printer, or that is for the printer of one before it; or memory was refused
+-- the first text that says nothing of a printer, or has the name of one before it; or memory was refused
 abbrev pub HasNoPrinters : List Row → WordFault → Type 0
 HasNoPrinters rows (faults.Printer text) =
-    (before : List PlacedPrinter) × IsBehind rows before (string_bytes text)
-    × ((said : PlacedPrinter) → IsPrinterText (string_bytes text) said → ⊥)
+    (before : List NamedPrinter) × IsBehind rows before (string_bytes text)
+    × ((said : NamedPrinter) → IsNamedText (string_bytes text) said → ⊥)
 HasNoPrinters rows (faults.PrinterTwice text) =
-    (before : List PlacedPrinter) × IsBehind rows before (string_bytes text)
-    × ((said : PlacedPrinter) × IsPrinterText (string_bytes text) said
-    × Any (λ (one : PlacedPrinter). one.printer ≡ said.printer) before)
+    (before : List NamedPrinter) × IsBehind rows before (string_bytes text)
+    × ((said : NamedPrinter) × IsNamedText (string_bytes text) said
+    × Any (λ (one : NamedPrinter). one.name.now ≡ said.name.now) before)
 HasNoPrinters rows faults.Memory = Unit {0}
 HasNoPrinters rows fault = ⊥
 
@@ -223,7 +223,7 @@ HasNoSessions rows = (sessions : ℕ) → IsGivenOr 8 rows (codes "sessions") se
 -- the words of a server aren't all there, or its address isn't one
 abbrev pub LacksServing : List Row → WordFault → Type 0
 LacksServing rows faults.Address = HasNoAddress (codes "bind") rows
-LacksServing rows faults.Missing = (s : Settings) → IsServing rows s → ⊥
+LacksServing rows faults.Missing = (request : ServeRequest) → IsServing rows request → ⊥
 LacksServing rows (faults.Network text) = HasNoServersNetworks rows (faults.Network text)
 LacksServing rows (faults.Control text) = HasNoControl rows (faults.Control text)
 LacksServing rows (faults.Log text) = HasNoLog rows (faults.Log text)

@@ -8,18 +8,18 @@ use Rattle.command_tables.specs.Rules.{count, flag, number_option, option, repea
 use Rattle.program_words.specs.Values.{IsAddress, IsFlag, IsGiven, IsGivenOr, IsLimit, IsNumber}
 use Rattle.program_edge.specs.Networks.{NameNetworks}
 use Rattle.program_edge.specs.declared.networks.Network.{Network}
-use Rattle.program_edge.specs.Places.{IsPrinterText}
+use Rattle.printer_names.specs.Texts.{IsNamedText}
 use Rattle.program_edge.specs.StatusPlaces.{IsHostName, IsStatusText}
-use Rattle.program_edge.specs.declared.places.PlacedPrinter.{PlacedPrinter}
+use Rattle.printer_names.specs.declared.named.NamedPrinter.{NamedPrinter}
 use Rattle.program_edge.specs.declared.settings.Limits.{Limits}
 use Rattle.program_edge.specs.declared.settings.LogForm.{LogForm}
 use Rattle.program_edge.specs.declared.settings.LogForm.TheVariants.{Journal, Plain, Time}
 use Rattle.program_edge.specs.declared.settings.PrinterLimits.{PrinterLimits}
-use Rattle.program_edge.specs.declared.settings.Settings.{Settings}
 use Rattle.program_edge.specs.declared.settings.TheConstants.{MOST_CONTROL_PATH}
 use Rattle.program_edge.specs.declared.status.StatusPlace.{StatusPlace}
 use Rattle.program_words.specs.declared.serving.Listening.{Listening}
 use Rattle.program_words.specs.declared.serving.Printing.{Printing}
+use Rattle.program_words.specs.declared.serving.ServeRequest.{ServeRequest}
 use Rattle.program_words.specs.declared.serving.Telling.{Telling}
 
 -- the port to listen on, which has to be there
@@ -84,15 +84,15 @@ IsStatusHost rows None = first_of (codes "status-host") rows ≡ None
 IsStatusHost rows (Some name) =
     (first_of (codes "status-host") rows ≡ Some name) × IsHostName name × (first_of (codes "status") rows ≢ None)
 
--- no two of these are for one printer
-abbrev pub AreOfDifferentPrinters : List PlacedPrinter → Type 0
-AreOfDifferentPrinters printers =
-    AllPairs (λ (one other : PlacedPrinter). one.printer ≢ other.printer) printers
+-- no two of these have one name
+abbrev pub HaveDifferentNames : List NamedPrinter → Type 0
+HaveDifferentNames printers =
+    AllPairs (λ (one other : NamedPrinter). one.name.now ≢ other.name.now) printers
 
--- these say what single printers print to: what the option says, each time that it is there, in order; no printer twice
-pub record ArePrinters (rows : List Row) (printers : List PlacedPrinter) : Type 0 where
-  pub said : AllZip IsPrinterText (unwrap_or (all_of (codes "printer") rows) []) printers
-  pub once : AreOfDifferentPrinters printers
+-- these say what single printers print to: what the option says, each time that it is there, in order; no name twice
+pub record ArePrinters (rows : List Row) (printers : List NamedPrinter) : Type 0 where
+  pub said : AllZip IsNamedText (unwrap_or (all_of (codes "printer") rows) []) printers
+  pub once : HaveDifferentNames printers
 
 -- a printer on the network may do what these rows say
 pub record ArePrinterLimits (rows : List Row) (limits : PrinterLimits) : Type 0 where
@@ -100,27 +100,29 @@ pub record ArePrinterLimits (rows : List Row) (limits : PrinterLimits) : Type 0 
   pub silence : IsLimit rows (codes "printer-silence") (option_map non_zero_u64_get limits.silence_seconds)
 
 -- a server runs as these rows say: with 8 sessions at once, in the directory . where they don't say it
-pub record IsServing (rows : List Row) (settings : Settings) : Type 0 where
-  pub port : IsNumber rows (codes "port") settings.port
-  pub bind : IsAddress (codes "bind") rows settings.bind
-  pub out : settings.out.now ≡ unwrap_or (first_of (codes "out") rows) (codes ".")
-  pub sessions : IsGivenOr 8 rows (codes "sessions") settings.sessions
-  pub connections : IsGiven 64 rows (codes "connections") settings.connections
-  pub rotate : IsLimit rows (codes "rotate") (option_map non_zero_u64_get settings.rotate)
-  pub keep_room : IsFlag rows (codes "keep-room") settings.keep_room
-  pub limits : AreLimits rows settings.limits
-  pub allowed : AreNetworks rows (codes "allow") settings.allowed.items
-  pub proxied : AreNetworks rows (codes "proxied") settings.proxied.items
-  pub control : IsControl rows (option_map (λ path. path.now) settings.control)
-  pub printers : ArePrinters rows settings.printers.items
-  pub printer_limits : ArePrinterLimits rows settings.printer_limits
-  pub restart : IsLimit rows (codes "restart") (option_map non_zero_u64_get settings.restart_seconds)
-  pub spool : option_map (λ path. path.now) settings.spool ≡ first_of (codes "spool") rows
-  pub account : option_map (λ path. path.now) settings.account ≡ first_of (codes "account") rows
-  pub log : IsLog rows settings.log
-  pub log_jobs : IsFlag rows (codes "log-jobs") settings.log_jobs
-  pub status : IsStatus rows settings.status
-  pub status_host : IsStatusHost rows (option_map (λ name. name.now) settings.status_host)
+pub record IsServing (rows : List Row) (request : ServeRequest) : Type 0 where
+  pub port : IsNumber rows (codes "port") request.settings.port
+  pub bind : IsAddress (codes "bind") rows request.settings.bind
+  pub out : request.settings.out.now ≡ unwrap_or (first_of (codes "out") rows) (codes ".")
+  pub sessions : IsGivenOr 8 rows (codes "sessions") request.settings.sessions
+  pub connections : IsGiven 64 rows (codes "connections") request.settings.connections
+  pub rotate : IsLimit rows (codes "rotate") (option_map non_zero_u64_get request.settings.rotate)
+  pub keep_room : IsFlag rows (codes "keep-room") request.settings.keep_room
+  pub limits : AreLimits rows request.settings.limits
+  pub allowed : AreNetworks rows (codes "allow") request.settings.allowed.items
+  pub proxied : AreNetworks rows (codes "proxied") request.settings.proxied.items
+  pub control : IsControl rows (option_map (λ path. path.now) request.settings.control)
+  pub printers : ArePrinters rows request.printers.items
+  -- which printers these are is known only beside a configuration
+  pub placed : request.settings.printers.items ≡ []
+  pub printer_limits : ArePrinterLimits rows request.settings.printer_limits
+  pub restart : IsLimit rows (codes "restart") (option_map non_zero_u64_get request.settings.restart_seconds)
+  pub spool : option_map (λ path. path.now) request.settings.spool ≡ first_of (codes "spool") rows
+  pub account : option_map (λ path. path.now) request.settings.account ≡ first_of (codes "account") rows
+  pub log : IsLog rows request.settings.log
+  pub log_jobs : IsFlag rows (codes "log-jobs") request.settings.log_jobs
+  pub status : IsStatus rows request.settings.status
+  pub status_host : IsStatusHost rows (option_map (λ name. name.now) request.settings.status_host)
 
 -- the part of it that says where a server listens, and how many connections it serves
 pub record IsListening (rows : List Row) (listening : Listening) : Type 0 where

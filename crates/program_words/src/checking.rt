@@ -12,7 +12,7 @@ use crate::values::{flag_of, text_if, text_of};
 use crate::word_fault::WordFault;
 use clap::ArgMatches;
 use command_tables::{CommandTable, Shape, Word};
-use program_edge::PlacedPrinter;
+use printer_names::NamedPrinter;
 use std::alloc::Global;
 
 const MORE_OF_CHECK: &str = "\
@@ -20,8 +20,9 @@ Prints one line, as: ok pages 1024 page_size 4096 queues 2 printers 3
 With --sizes two lines more for each queue, as: queue lp jobs 85, queue lp held 64
 So many jobs fit into the account, each as large as the queue allows, between two moments without held jobs; and so many of them
 may be held at once by a server with --keep-room, which takes any number one after another.
-With --printer, whose PLACE `serve --help` tells, a line more for each printer, as: printer 1 socket://10.0.0.9:9100
-A printer without a PLACE prints to a file of the directory that `serve --out DIR` names: printer 2 DIR/printer-2
+With --printer, whose PRINTER and PLACE `serve --help` tells, or with `places` in the configuration, a line more for each printer, with its
+queue, as: printer 1 lp socket://10.0.0.9:9100
+A printer without a PLACE prints to a file of the directory that `serve --out DIR` names: printer 2 lp DIR/printer-2
 With --out, --control, --spool and --account at last a line for each, in this order, as:
   out DIR is there
   control PATH will be made
@@ -33,7 +34,7 @@ that it would have, for --out with DIR alone. Whether a file can be made in a fo
 Examples:
   lpd_server check spool.toml
   lpd_server check spool.toml --sizes
-  lpd_server check spool.toml --printer 1=socket://10.0.0.9
+  lpd_server check spool.toml --printer lp=socket://10.0.0.9
   lpd_server check spool.toml --out pages --control /run/hurgwaye/control --spool /var/spool/hurgwaye
 
 The keys of a configuration: docs/OPERATING.md, and with remarks docs/example.toml.";
@@ -45,9 +46,9 @@ pub struct Checking<'a> {
     pub config: &'a str,
     /// Whether to say how many jobs fit into the account.
     pub sizes: bool,
-    /// What single printers print to: each number at most once. Where there are any, what each
+    /// What single printers print to: each name at most once. Where there are any, what each
     /// printer prints to is said.
-    pub printers: Vec<PlacedPrinter<'a>>,
+    pub printers: Vec<NamedPrinter<'a>>,
     /// The directory of the printers' files, where it is said that it is there.
     pub out: Option<&'a str>,
     /// The path of a control socket, at most `MOST_CONTROL_PATH` octets, where it is said that a server could make it.

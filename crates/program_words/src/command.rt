@@ -75,9 +75,11 @@ behind PATH are one command:
   start QUEUE           starts the queue's printers that stand still
   hold QUEUE            has no job of the queue begin from now on
   release QUEUE         ends that
-  remove QUEUE NUMBER   removes the job of this number
+  remove QUEUE NUMBER   removes the job of this number, which its client gave it
   remove QUEUE USER     removes the user's jobs
-  resend NUMBER         prints the job of the file NUMBER.failed, where jobs are kept
+  cancel job NUMBER     removes one received job, by the number that `status` tells, and says whose it was
+  cancel file NUMBER    removes one kept job, by the number of its file, where jobs are kept
+  resend NUMBER         prints the job of the file NUMBER.failed, where jobs are kept, and says whose it is
   rotate                rotates the account
   stop                  stops the server once its jobs are printed, and waits for that
   stop SECONDS          the same, at the latest after so many seconds
@@ -89,6 +91,7 @@ behind a word --.
 Examples:
   lpd_server control spool.control status
   lpd_server control spool.control remove lp ann
+  lpd_server control spool.control cancel job 5
   lpd_server control spool.control stop 60";
 
 /// The command that runs a script.

@@ -17,9 +17,10 @@ use crate::values::{
 use crate::word_fault::WordFault;
 use clap::ArgMatches;
 use command_tables::{CommandTable, Shape, Word};
+use printer_names::NamedPrinter;
 use program_edge::{
-    LEAVE_SECONDS, Limits, LogForm, MOST_CONTROL_PATH, NO_JOB_SECONDS, Network, PlacedPrinter,
-    PrinterLimits, ROOM_MS, Settings, StatusPlace, is_host_name,
+    LEAVE_SECONDS, Limits, LogForm, MOST_CONTROL_PATH, NO_JOB_SECONDS, Network, PrinterLimits,
+    ROOM_MS, Settings, StatusPlace, is_host_name,
 };
 use std::alloc::Global;
 use std::net::Ipv4Addr;
@@ -35,6 +36,9 @@ const MORE_OF_SERVE: &str = "\
 Prints `listening N` with its port, `rotated K entries E` when the account is rotated, and after the last
 connection, where there is one, `closed entries E`. The pages of printer K are written to DIR/printer-K, at its end.
 Sessions that fail are told on standard error.
+A PRINTER is QUEUE, the first printer of that queue, QUEUE.N, its printer N, or K, printer K over all queues. Where the configuration
+has `places` for it too, that is refused. Where any has a PLACE, a line on standard error tells what each prints to, as:
+printer 1 lp socket://10.0.0.9:9100
 A PLACE is file:PATH, a file, a device or a pipe; folder:PATH, where each job becomes a file of its own; or
 socket://A.B.C.D[:PORT], a printer on the network that takes octets as they are, at port 9100 without :PORT.
 N, SECONDS, MINUTES and OCTETS are 1 to 4294967295 where nothing else is said.
@@ -42,7 +46,7 @@ N, SECONDS, MINUTES and OCTETS are 1 to 4294967295 where nothing else is said.
 Examples:
   lpd_server serve spool.toml --port 515 --keep-room
   lpd_server serve spool.toml --port 5150 --bind 0.0.0.0 --out pages --sessions 16 --silence 60
-  lpd_server serve spool.toml --port 515 --printer 1=socket://10.0.0.9
+  lpd_server serve spool.toml --port 515 --printer lp=socket://10.0.0.9
   lpd_server serve spool.toml --port 515 --keep-room --spool /var/spool/hurgwaye
   lpd_server serve spool.toml --port 515 --keep-room --account /var/lib/hurgwaye/account
   lpd_server serve spool.toml --port 515 --keep-room --bind 0.0.0.0 --proxied 10.0.0.2 --allow 10.0.0.0/8
@@ -323,7 +327,7 @@ fn listening_of(matches: &ArgMatches) -> Result<ListeningWords, WordFault>
 /// What a server prints to.
 #[derive(Drop)]
 struct PrintingWords<'a> {
-    printers: Vec<PlacedPrinter<'a>>,
+    printers: Vec<NamedPrinter<'a>>,
     limits: PrinterLimits,
     restart_seconds: Option<NonZeroU64>,
 }
@@ -360,11 +364,20 @@ fn telling_of<'a>(alloc: Global, matches: &ArgMatches<'a>) -> Result<Telling<'a>
     })
 }
 
+/// How a server is to run, as the words say it.
+#[derive(Debug, Drop)]
+pub struct ServeRequest<'a> {
+    /// All but what its printers print to.
+    pub settings: Settings<'a>,
+    /// What single printers print to: each name at most once.
+    pub printers: Vec<NamedPrinter<'a>>,
+}
+
 /// What words say of a server that is to run.
 pub(crate) fn serving_of<'a>(
     alloc: Global,
     matches: &ArgMatches<'a>,
-) -> Result<Settings<'a>, WordFault>
+) -> Result<ServeRequest<'a>, WordFault>
     ensures read { IfOk result (IsServing (rows_of (found_of matches.now))) }
     ensures fault { IfErr result (LacksServing (rows_of (found_of matches.now))) }
 {
@@ -374,7 +387,7 @@ pub(crate) fn serving_of<'a>(
     let control = control_of(alloc, matches)?;
     let printing = printing_of(alloc, matches)?;
     let telling = telling_of(alloc, matches)?;
-    Ok(Settings {
+    let settings = Settings {
         port: listening.port,
         bind: listening.bind,
         out: text_or(matches, "out", OUT),
@@ -386,7 +399,7 @@ pub(crate) fn serving_of<'a>(
         allowed,
         proxied,
         control,
-        printers: printing.printers,
+        printers: Vec::new(alloc),
         printer_limits: printing.limits,
         restart_seconds: printing.restart_seconds,
         spool: text_if(matches, "spool"),
@@ -395,5 +408,9 @@ pub(crate) fn serving_of<'a>(
         log_jobs: flag_of(matches, "log-jobs"),
         status: telling.status,
         status_host: telling.status_host,
+    };
+    Ok(ServeRequest {
+        settings,
+        printers: printing.printers,
     })
 }

@@ -53,13 +53,13 @@ pub enum WordFault {
     #[error("--status-host is given without --status")]
     NoStatus,
     /// This text says nothing of a printer.
-    #[error("'{0}' is no K=PLACE: a printer's number from 1, and file:PATH, folder:PATH or socket://A.B.C.D with or without a port :1 to :65535 behind it")]
+    #[error("'{0}' is no PRINTER=PLACE: a printer's number from 1, its queue or QUEUE.N, and file:PATH, folder:PATH or socket://A.B.C.D with or without a port :1 to :65535 behind it")]
     Printer(String),
-    /// This text says what a printer prints to that another has a place for.
+    /// This text names a printer as another does.
     #[error("'{0}' is a second PLACE for its printer")]
     PrinterTwice(String),
     /// The words behind the path of a control socket are no command.
-    #[error("the words behind PATH are no command: they are status, start QUEUE, hold QUEUE, release QUEUE, remove QUEUE NUMBER, remove QUEUE USER, rotate, stop, stop SECONDS or stop now")]
+    #[error("the words behind PATH are no command: they are status, start QUEUE, hold QUEUE, release QUEUE, remove QUEUE NUMBER, remove QUEUE USER, cancel job NUMBER, cancel file NUMBER, resend NUMBER, rotate, stop, stop SECONDS or stop now")]
     Command,
     /// This text is no digest.
     #[error("'{0}' is no DIGEST: 64 hexadecimal digits")]

@@ -15,13 +15,12 @@ use crate::control_request::{ControlRequest, request_of};
 use crate::envelope::Envelope;
 use crate::questions::{question_of, server_of};
 use crate::queue_question::{QueueQuestion, Server};
-use crate::serving::serving_of;
+use crate::serving::{ServeRequest, serving_of};
 use crate::values::{flag_of, number_of, text_of, texts_of};
 use crate::word_fault::WordFault;
 use account_usage::{AuditRequest, UsageRequest};
 use clap::error::ErrorKind;
 use clap::{ArgMatches, Command, Error};
-use program_edge::Settings;
 use std::alloc::{AllocError, Global};
 use std::env::Env;
 use std::io;
@@ -67,7 +66,7 @@ pub enum Ask<'a> {
     /// To serve the queues of the configuration at this path.
     Serve {
         config: &'a str,
-        settings: Settings<'a>,
+        request: ServeRequest<'a>,
     },
     /// To send a command to a server's control socket.
     Control(ControlRequest<'a>),
@@ -170,8 +169,8 @@ fn asked_to_serve<'a>(alloc: Global, matches: &ArgMatches<'a>) -> Result<Ask<'a>
         (AsksNothing (Some (codes "serve", rows_of (found_of matches.now)))) }
 {
     let config = text_of(matches, "config")?;
-    let settings = serving_of(alloc, matches)?;
-    Ok(Ask::Serve { config, settings })
+    let request = serving_of(alloc, matches)?;
+    Ok(Ask::Serve { config, request })
 }
 
 /// What the words of `control` ask for.

@@ -4,6 +4,7 @@ mod Found
 mod Lists
 mod Names
 mod OneMore
+mod PlaceTexts
 mod Rows
 mod Sound
 mod Texts

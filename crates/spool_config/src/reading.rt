@@ -77,7 +77,7 @@ fn config(alloc: Global, document: &Table) -> Result<Config, ConfigFault>
 }
 
 /// What stands at a key of a table.
-fn value_at(table: &Table, key: Key) -> Option<&Value>
+pub(crate) fn value_at(table: &Table, key: Key) -> Option<&Value>
     ensures { option_map (λ v. view v.now) result ≡ K.value_at key (table_view table.now) }
 {
     table.get(key.word())

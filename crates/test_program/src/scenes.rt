@@ -51,7 +51,7 @@ use std::time::{Clock, Duration};
 use std::{fs, thread};
 use test_kit::Spool;
 use test_kit::rows::{number, octets, short_number, word};
-use word_actions::{RunOutcome, System, read_config};
+use word_actions::{RunOutcome, System, printers_of, read_config};
 
 /// How often it is looked for a line that comes soon, and how many milliseconds apart.
 const LOOKS: u32 = 40;
@@ -396,12 +396,18 @@ fn plan_of<
         &mut output,
         &mut faults,
     );
-    let RunOutcome::Serve { config, settings } = outcome else {
+    let RunOutcome::Serve { config, request } = outcome else {
         panic!(rt; "it doesn't serve");
     };
     let config = read_config(alloc, &mut StreamReader::open(rt, config));
+    let config = config.expect(rt, "a configuration");
+    let printers = printers_of(alloc, &config, &[], request.printers.as_slice());
+    let settings = Settings {
+        printers: printers.expect(rt, "its printers"),
+        ..request.settings
+    };
     Plan {
-        config: config.expect(rt, "a configuration"),
+        config,
         settings: stage.settings(settings),
         counter: Counter::CLOSED,
     }

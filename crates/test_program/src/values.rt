@@ -9,7 +9,7 @@ use page_chain::ChainError;
 use page_pool::Pool;
 use queues::Book;
 use std::test::Fail;
-use word_actions::ActionFault;
+use word_actions::{ActionFault, PlacesFault};
 
 /// Refusals as they are printed, with their numbers and the octets that are sent.
 const REFUSALS: &str = "\
@@ -48,8 +48,9 @@ fn texts_of_faults(rt: HostRuntime) {
     let (taken, full) = (ChainError::NameTaken, ChainError::FilesFull);
     let text = format!(in alloc; "{taken} {full}").expect(&rt, "memory");
     expect(&rt, b"chains", text.as_bytes(), b"7 NameTaken 8 FilesFull");
-    let text = String::from_str(alloc, "9=file:x").expect(&rt, "memory");
-    let faults: [(ActionFault, &[u8]); 9] = [
+    let text = String::from_str(alloc, "printer 9 isn't there: 9=file:x");
+    let text = text.expect(&rt, "memory");
+    let faults: [(ActionFault, &[u8]); 11] = [
         (
             ActionFault::Send(SendFault::Refused(1)),
             b"fault 60 Refused 1",
@@ -71,8 +72,16 @@ fn texts_of_faults(rt: HostRuntime) {
             b"fault 73 WriteFile",
         ),
         (
-            ActionFault::Printer { number: 9, text },
+            ActionFault::Printer(text),
             b"printer 9 isn't there: 9=file:x",
+        ),
+        (
+            ActionFault::Places(PlacesFault::NotToml),
+            b"fault 50 NotToml",
+        ),
+        (
+            ActionFault::Places(PlacesFault::WrongType),
+            b"fault 52 WrongType queue.places",
         ),
     ];
     for (fault, wanted) in faults {

@@ -37,6 +37,17 @@ limit = 256
 printers = 2
 ";
 
+/// Queues whose names have points, or are digits: `a.2` is the second printer of the first one and the first of the second.
+const POINTS: &[u8] = b"pages = 4\npage_size = 8\nmax_jobs = 8\naccount = 100000\n\
+      [[queue]]\nname = \"a\"\nlimit = 3\nprinters = 2\n\
+      [[queue]]\nname = \"a.2\"\nlimit = 3\nprinters = 1\n\
+      [[queue]]\nname = \"7\"\nlimit = 3\nprinters = 1\n";
+
+/// Two queues that say what their first printers print to.
+const PLACED: &[u8] = b"pages = 4\npage_size = 8\nmax_jobs = 8\naccount = 100000\n\
+      [[queue]]\nname = \"lp\"\nlimit = 3\nprinters = 1\nplaces = [\"socket://10.0.0.9\"]\n\
+      [[queue]]\nname = \"plotter\"\nlimit = 3\nprinters = 2\nplaces = [\"folder:jobs\"]\n";
+
 /// An account with room for fifty jobs of the first queue; for fifty of the second but for the entry of the close, so for 49; and for
 /// none of the third.
 const FEW: &[u8] = b"pages = 2600\npage_size = 8\nmax_jobs = 8\naccount = 515600\n\
@@ -49,7 +60,7 @@ const FEW: &[u8] = b"pages = 2600\npage_size = 8\nmax_jobs = 8\naccount = 515600
 ///
 /// A configuration is a script of bad lines, and a script is no configuration. A file that can't be read comes before a fault of the
 /// configuration.
-const TOLD: [(&str, &[u8], &[u8]); 53] = [
+const TOLD: [(&str, &[u8], &[u8]); 68] = [
     ("", SCRIPT, b"free 4\nstatus 0\n"),
     ("", CONFIG, b"status 0\n"),
     (
@@ -79,13 +90,13 @@ const TOLD: [(&str, &[u8], &[u8]); 53] = [
         "check,FILE,--printer,2=socket://10.0.0.9:65535,--printer,1=folder:jobs",
         EXAMPLE,
         b"ok pages 1024 page_size 65536 queues 2 printers 3\n\
-          printer 1 folder:jobs\nprinter 2 socket://10.0.0.9:65535\nprinter 3 DIR/printer-3\nstatus 0\n",
+          printer 1 lp folder:jobs\nprinter 2 plotter socket://10.0.0.9:65535\nprinter 3 plotter DIR/printer-3\nstatus 0\n",
     ),
     (
         "check,FILE,--sizes,--printer,3=file:/dev/usb/lp0",
         EXAMPLE,
         b"ok pages 1024 page_size 65536 queues 2 printers 3\nqueue lp jobs 101\nqueue lp held 75\nqueue plotter jobs 50\nqueue plotter held 38\n\
-          printer 1 DIR/printer-1\nprinter 2 DIR/printer-2\nprinter 3 file:/dev/usb/lp0\nstatus 0\n",
+          printer 1 lp DIR/printer-1\nprinter 2 plotter DIR/printer-2\nprinter 3 plotter file:/dev/usb/lp0\nstatus 0\n",
     ),
     (
         "check,FILE,--printer,1=file:x,--printer,9=socket://10.0.0.9:0515,--printer,8=file:x",
@@ -96,12 +107,92 @@ const TOLD: [(&str, &[u8], &[u8]); 53] = [
         "check,FILE,--printer,1=folder:/tmp,--printer,3=folder:/tmp/",
         EXAMPLE,
         b"ok pages 1024 page_size 65536 queues 2 printers 3\n\
-          printer 1 folder:/tmp\nprinter 2 DIR/printer-2\nprinter 3 folder:/tmp/\nfault 73 WriteFile /tmp/\nstatus 4\n",
+          printer 1 lp folder:/tmp\nprinter 2 plotter DIR/printer-2\nprinter 3 plotter folder:/tmp/\nfault 73 WriteFile /tmp/\nstatus 4\n",
     ),
     (
         "check,FILE,--printer,9=file:x",
         b"pages = 0\n",
         b"fault 53 OutOfRange pages\nstatus 2\n",
+    ),
+    (
+        "check,FILE,--printer,lp=file:x,--printer,plotter.2=folder:jobs",
+        EXAMPLE,
+        b"ok pages 1024 page_size 65536 queues 2 printers 3\n\
+          printer 1 lp file:x\nprinter 2 plotter DIR/printer-2\nprinter 3 plotter folder:jobs\nstatus 0\n",
+    ),
+    (
+        "check,FILE,--printer,plotter=file:x,--out,/",
+        EXAMPLE,
+        b"ok pages 1024 page_size 65536 queues 2 printers 3\n\
+          printer 1 lp //printer-1\nprinter 2 plotter file:x\nprinter 3 plotter //printer-3\nout / is there\nstatus 0\n",
+    ),
+    (
+        "check,FILE,--printer,plotter.3=file:x",
+        EXAMPLE,
+        b"printer plotter.3 isn't there: plotter.3=file:x\nstatus 1\n",
+    ),
+    (
+        "check,FILE,--printer,+1=file:x",
+        EXAMPLE,
+        b"printer +1 isn't there: +1=file:x\nstatus 1\n",
+    ),
+    (
+        "check,FILE,--printer,lp=file:x,--printer,1=file:y",
+        EXAMPLE,
+        b"'1=file:y' is a second PLACE for its printer\nstatus 1\n",
+    ),
+    (
+        "check,FILE,--printer,7=file:x",
+        POINTS,
+        b"printer 7 isn't there: 7=file:x\nstatus 1\n",
+    ),
+    (
+        "check,FILE,--printer,7.1=file:x,--printer,a.1=file:y",
+        POINTS,
+        b"ok pages 4 page_size 8 queues 3 printers 4\n\
+          printer 1 a file:y\nprinter 2 a DIR/printer-2\nprinter 3 a.2 DIR/printer-3\nprinter 4 7 file:x\nstatus 0\n",
+    ),
+    (
+        "check,FILE,--printer,a.2=file:x",
+        POINTS,
+        b"printer a.2 may be one of two: a.2=file:x\nstatus 1\n",
+    ),
+    (
+        "check,FILE",
+        PLACED,
+        b"ok pages 4 page_size 8 queues 2 printers 3\n\
+          printer 1 lp socket://10.0.0.9:9100\nprinter 2 plotter folder:jobs\nprinter 3 plotter DIR/printer-3\nstatus 0\n",
+    ),
+    (
+        "check,FILE,--printer,plotter.2=file:x",
+        PLACED,
+        b"ok pages 4 page_size 8 queues 2 printers 3\n\
+          printer 1 lp socket://10.0.0.9:9100\nprinter 2 plotter folder:jobs\nprinter 3 plotter file:x\nstatus 0\n",
+    ),
+    (
+        "check,FILE,--printer,lp=file:x",
+        PLACED,
+        b"'lp=file:x' is a second PLACE for its printer\nstatus 1\n",
+    ),
+    (
+        "check,FILE",
+        b"pages = 4\npage_size = 8\nmax_jobs = 8\naccount = 100000\n[[queue]]\nname = \"lp\"\nlimit = 3\nprinters = 1\nplaces = \"file:x\"\n",
+        b"fault 52 WrongType queue.places\nstatus 2\n",
+    ),
+    (
+        "check,FILE",
+        b"pages = 4\npage_size = 8\nmax_jobs = 8\naccount = 100000\n[[queue]]\nname = \"lp\"\nlimit = 3\nprinters = 1\nplaces = [1]\n",
+        b"fault 52 WrongType queue.places\nstatus 2\n",
+    ),
+    (
+        "check,FILE",
+        b"pages = 4\npage_size = 8\nmax_jobs = 8\naccount = 100000\n[[queue]]\nname = \"lp\"\nlimit = 3\nprinters = 1\nplaces = [\"file:\"]\n",
+        b"fault 53 OutOfRange queue.places\nstatus 2\n",
+    ),
+    (
+        "check,FILE",
+        b"pages = 4\npage_size = 8\nmax_jobs = 8\naccount = 100000\n[[queue]]\nname = \"lp\"\nlimit = 3\nprinters = 1\nplaces = [\"file:x\", \"file:y\"]\n",
+        b"fault 53 OutOfRange queue.places\nstatus 2\n",
     ),
     (
         "check,FILE,--spool,/no-folder-is-here",
@@ -111,7 +202,7 @@ const TOLD: [(&str, &[u8], &[u8]); 53] = [
     (
         "check,FILE,--sizes,--spool=no-folder-is-here//,--printer,1=file:x",
         CONFIG,
-        b"ok pages 4 page_size 8 queues 1 printers 1\nqueue lp jobs 140\nqueue lp held 105\nprinter 1 file:x\n\
+        b"ok pages 4 page_size 8 queues 1 printers 1\nqueue lp jobs 140\nqueue lp held 105\nprinter 1 lp file:x\n\
           spool no-folder-is-here// will be made\nstatus 0\n",
     ),
     (
@@ -149,7 +240,7 @@ const TOLD: [(&str, &[u8], &[u8]); 53] = [
     (
         "check,FILE,--control=no-socket-is-here,--printer,1=file:x",
         CONFIG,
-        b"ok pages 4 page_size 8 queues 1 printers 1\nprinter 1 file:x\ncontrol no-socket-is-here will be made\nstatus 0\n",
+        b"ok pages 4 page_size 8 queues 1 printers 1\nprinter 1 lp file:x\ncontrol no-socket-is-here will be made\nstatus 0\n",
     ),
     (
         "check,FILE,--out,/there/is/no/such/folder,--spool,/",
@@ -240,8 +331,8 @@ const TOLD: [(&str, &[u8], &[u8]); 53] = [
          --printer,4294967295=socket://255.255.255.255:1,--printer,10=file:/dev/lp0",
         b"",
         b"serves a 1 127.0.0.1 . 8 None None None None None 5 5 1000 false [] [] None \
-          [PlacedPrinter { printer: 2, place: Folder(\"jobs/a=b\") }, PlacedPrinter { printer: 1, place: Socket(10.0.0.9:9100) }, \
-          PlacedPrinter { printer: 4294967295, place: Socket(255.255.255.255:1) }, PlacedPrinter { printer: 10, place: File(\"/dev/lp0\") }] \
+          [NamedPrinter { name: \"2\", place: Folder(\"jobs/a=b\") }, NamedPrinter { name: \"1\", place: Socket(10.0.0.9:9100) }, \
+          NamedPrinter { name: \"4294967295\", place: Socket(255.255.255.255:1) }, NamedPrinter { name: \"10\", place: File(\"/dev/lp0\") }] \
           Some(10) Some(4294967295) Some(1) None None Plain false \
           None None\n",
     ),
@@ -444,8 +535,6 @@ serve,a,--port,515,--printer,1=file:
 serve,a,--port,515,--printer,1=folder:
 serve,a,--port,515,--printer,0=file:x
 serve,a,--port,515,--printer,007=file:x
-serve,a,--port,515,--printer,+1=file:x
-serve,a,--port,515,--printer,1 =file:x
 serve,a,--port,515,--printer,4294967296=file:x
 serve,a,--port,515,--printer,1=socket://
 serve,a,--port,515,--printer,1=socket:10.0.0.9

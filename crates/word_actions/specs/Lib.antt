@@ -8,6 +8,7 @@ pub mod Order
 pub mod Outcome
 pub mod Places
 pub mod Progress
+pub mod Reasons
 pub mod Sending
 pub mod Sizes
 pub mod Status

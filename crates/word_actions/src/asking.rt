@@ -8,6 +8,7 @@ ghost use Rattle.word_actions.specs.declared.fault.ActionFault.TheVariants.{Netw
 
 use crate::fault::ActionFault;
 use crate::files::print;
+use crate::reasons::tell_reason;
 use log::Log;
 use lpd_commands::{Command, OctetRead, OctetWrite, write_command};
 use lpr_client::{AskFault, ask, ask_silently};
@@ -132,5 +133,8 @@ pub(crate) fn ask_question<R: Net + Log, O: OctetWrite>(
     let (mut reader, mut writer) = (StreamReader::new(reader), StreamWriter::new(writer));
     let end = ask_queue(alloc, &mut reader, &mut writer, &question.command, output);
     tell_cause(rt, &address, reader.cause().or(writer.cause()));
+    if let Err(ActionFault::Send(fault)) = &end {
+        tell_reason(rt, address, fault);
+    }
     end
 }

@@ -4,10 +4,11 @@ ghost use Rattle.std.specs.Prelude.{◌≡◌};
 ghost use Rattle.word_actions.specs.Status.{status_of};
 ghost use Rattle.word_actions.specs.declared.fault.ActionFault.TheVariants.{Memory, Run};
 
-use crate::{folders, readers, sockets};
+use crate::{folders, readers, reasons, sockets};
 use lpr_client::SendFault;
 use printer_devices::SHARED_FOLDERS;
 use program_edge::FaultName;
+use spool_config::PlacesFault;
 use std::alloc::AllocError;
 use thiserror::Error;
 
@@ -17,6 +18,7 @@ pub const CAUSES: &[&str] = &[
     SHARED_FOLDERS,
     folders::PART,
     readers::PART,
+    reasons::PART,
     sockets::PART,
 ];
 
@@ -35,9 +37,12 @@ pub enum ActionFault {
     /// The server didn't take the job.
     #[error("{0}")]
     Send(SendFault),
-    /// The configuration has no printer of this number, and this text says what it prints to.
-    #[error("printer {number} isn't there: {text}")]
-    Printer { number: u32, text: String },
+    /// A word names no printer of the configuration, may name two, or names one that has a place: this text says so.
+    #[error("{0}")]
+    Printer(String),
+    /// The configuration says of its printers what it may not.
+    #[error("{0}")]
+    Places(PlacesFault),
     /// The folder at this path can't be taken to keep jobs, or isn't there for the printers' files.
     #[error("{name} {0}", name = FaultName::WriteFile)]
     Folder(String),
@@ -63,13 +68,14 @@ impl From<lpd_script::Fault> for ActionFault {
 }
 
 impl ActionFault {
-    /// The exit status: 1 for a printer that isn't there, 2 for the configuration, 3 for the script,
+    /// The exit status: 1 for a printer that can't be named so, 2 for the configuration, 3 for the script,
     /// 5 for a job that wasn't taken, 4 for the rest.
     pub fn status(&self) -> u8
         ensures { result ≡ status_of self.now }
     {
         match self {
-            ActionFault::Printer { .. } => 1,
+            ActionFault::Printer(_) => 1,
+            ActionFault::Places(_) => 2,
             ActionFault::Run(fault) => fault.status(),
             ActionFault::Memory
             | ActionFault::Network

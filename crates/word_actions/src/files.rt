@@ -6,20 +6,21 @@ ghost use Rattle.lpd_commands.specs.Ends.{Writes};
 ghost use Rattle.lpd_script.specs.declared.fault.Fault.TheVariants.{ReadFile, WriteFile};
 ghost use Rattle.word_actions.specs.declared.fault.ActionFault.TheVariants.{Run};
 ghost use Rattle.word_actions.specs.Causes.{IsRunFault};
-ghost use Rattle.word_actions.specs.Order.{Checked, IsConfigFault, IsMissed, IsSpoolFault, ReadsConfig};
+ghost use Rattle.word_actions.specs.Order.{Checked, IsConfigFault, IsSpoolFault, IsUnchecked, ReadsConfig, ReadsSpool};
 ghost use Rattle.word_actions.specs.Order.{StopsAt, write_faults};
-ghost use Rattle.word_actions.specs.Places.{AreThere};
 ghost use Rattle.word_actions.specs.Sizes.{few_text, held_line, size_line, size_lines};
-ghost use Rattle.word_actions.specs.Summary.{check_text, spool_text, summary_line};
+ghost use Rattle.word_actions.specs.Summary.{check_text, out_of, spool_text, summary_line};
 ghost use Rattle.spool_config.specs.Answers.{fault_of};
 ghost use Rattle.spool_config.specs.declared.settings.ConfigFault.{ConfigFault};
 
 use crate::fault::ActionFault;
-use crate::places::{check_printers, place_lines};
+use crate::places::{place_lines, printers_of};
 use config_values::Config;
 use lpd_commands::{OctetRead, OctetWrite, write_all};
 use lpd_script::{read_all, run_parts};
 use program_edge::PlacedPrinter;
+use program_words::Checking;
+use spool_config::{PlacesFault, ToldPlace, read_places};
 use std::alloc::{AllocError, Global};
 
 /// Where fewer jobs than these fit into the account, the line says that they are few.
@@ -50,24 +51,32 @@ pub fn read_config<I: OctetRead>(alloc: Global, input: &mut I) -> Result<Config,
     }
 }
 
-/// Reads a configuration to its end, as `read_config` does, which has these printers. Answers
-/// `Printer` with the first that isn't there, too.
-pub fn read_spool<I: OctetRead>(
-    alloc: Global,
-    input: &mut I,
-    printers: &[PlacedPrinter],
-) -> Result<Config, ActionFault>
-    ensures config { IfOk result (λ config. ReadsConfig (I.left input.old) (I.left input.new) config
-        × AreThere config printers.now) }
+/// A configuration, and what its text says that its printers print to.
+#[derive(Debug, Drop)]
+pub struct ReadSpool {
+    pub config: Config,
+    pub told: Vec<ToldPlace>,
+}
+
+/// Reads a configuration to its end, as `read_config` does, and what it says of its printers. Answers `Places` where that is wrong, too.
+pub fn read_spool<I: OctetRead>(alloc: Global, input: &mut I) -> Result<ReadSpool, ActionFault>
+    ensures spool { IfOk result (ReadsSpool (I.left input.old) (I.left input.new)) }
     ensures read_fault { I.faults input.new ≢ I.faults input.old → result ≡ Err (Run ReadFile) }
-    ensures fault { IfErr result (IsSpoolFault printers.now (I.left input.old) (I.left input.new)) }
+    ensures fault { IfErr result (IsSpoolFault (I.left input.old) (I.left input.new)) }
     // The configuration's fault comes first.
     ensures faulty { (text : List ℕ) → I.left input.old ≡ Some text → (due : ConfigFault) →
         fault_of text ≡ Some due → StopsAt due result }
 {
-    let config = read_config(alloc, input)?;
-    check_printers(alloc, &config, printers)?;
-    Ok(config)
+    let text = read_all(alloc, input)?;
+    let config = match spool_config::read(alloc, text.as_slice()) {
+        Ok(config) => config,
+        Err(fault) => return Err(ActionFault::Run(lpd_script::Fault::Config(fault))),
+    };
+    match read_places(alloc, text.as_slice()) {
+        Ok(told) => Ok(ReadSpool { config, told }),
+        Err(PlacesFault::Memory) => Err(ActionFault::Memory),
+        Err(fault) => Err(ActionFault::Places(fault)),
+    }
 }
 
 /// What is said of this number of jobs where it is few.
@@ -157,33 +166,41 @@ fn check_text(
     alloc: Global,
     config: &Config,
     sizes: bool,
+    out: &str,
     printers: &[PlacedPrinter],
 ) -> Result<Vec<u8>, AllocError>
-    ensures { IfOk result (λ text. text.items ≡ check_text config.now sizes printers.now) }
+    ensures { IfOk result (λ text. text.items ≡ check_text config.now sizes out.now printers.now) }
 {
     let mut text = spool_text(alloc, config, sizes)?;
-    let lines = place_lines(alloc, printers, config.printer_count())?;
+    let lines = place_lines(alloc, config, out, printers)?;
     text.extend_from_slice(lines.as_slice())?;
     Ok(text)
 }
 
+/// The directory of the printers' files, as `check` names it.
+fn out_of<'a>(checking: &Checking<'a>) -> &'a str
+    ensures { result.now ≡ out_of checking.now.out }
+{
+    match checking.out {
+        Some(directory) => directory,
+        None => "DIR",
+    }
+}
+
 /// Reads a configuration to its end, and prints what spool it is for; where sizes are asked for, also
 /// how many jobs of each queue fit into the account, and may be held at once; and where anything is said of printers, what
-/// each of them prints to. Answers the first fault: `ReadFile`, a fault of the configuration,
-/// `Printer` where one isn't there, `WriteFile`, and `Memory`.
+/// each of them prints to. Answers the first fault: `ReadFile`, a fault of the configuration, `Places`,
+/// `Printer` where a word names no printer, `WriteFile`, and `Memory`.
 pub fn check<I: OctetRead, W: OctetWrite>(
     alloc: Global,
     config: &mut I,
-    sizes: bool,
-    printers: &[PlacedPrinter],
+    checking: &Checking,
     output: &mut W,
-) -> Result<(), ActionFault>
-    ensures checked { OnOk result (Checked sizes printers.now (I.left config.old)
-        (I.left config.new)
+) -> Result<ReadSpool, ActionFault>
+    ensures checked { IfOk result (Checked checking.now (I.left config.old) (I.left config.new)
         (W.written output.old) (W.written output.new)) }
     // A printer that isn't there is told before anything is printed.
-    ensures missing { IfErr result (IsMissed printers.now (I.left config.old) (I.left config.new)
-        (W.written output.old) (W.written output.new)) }
+    ensures missing { IfErr result (IsUnchecked checking.now (W.written output.old) (W.written output.new)) }
     ensures read_fault { I.faults config.new ≢ I.faults config.old → result ≡ Err (Run ReadFile) }
     ensures write_fault { W.faults output.new ≡ write_faults (W.faults output.old) result }
     // A fault of the configuration is told before anything is printed.
@@ -191,9 +208,15 @@ pub fn check<I: OctetRead, W: OctetWrite>(
         fault_of text ≡ Some due →
         StopsAt due result × (W.written output.new ≡ W.written output.old) }
 {
-    let config = read_spool(alloc, config, printers)?;
-    let text = check_text(alloc, &config, sizes, printers)?;
-    print(output, text.as_slice())
+    let spool = read_spool(alloc, config)?;
+    let text = {
+        let (told, said) = (spool.told.as_slice(), checking.printers.as_slice());
+        let printers = printers_of(alloc, &spool.config, told, said)?;
+        let (sizes, out) = (checking.sizes, out_of(checking));
+        check_text(alloc, &spool.config, sizes, out, printers.as_slice())?
+    };
+    print(output, text.as_slice())?;
+    Ok(spool)
 }
 
 /// Reads a configuration and a script to their ends, and runs the script on the spool that the

@@ -9,12 +9,16 @@ mod folders;
 mod places;
 mod progress;
 mod readers;
+mod reasons;
 mod running;
 mod sockets;
 
 pub use asking::ask_queue;
 pub use controlling::{ControlFault, ask_server, control};
 pub use fault::{ActionFault, CAUSES};
-pub use files::{check, read_config, read_spool, replay};
+pub use files::{ReadSpool, check, read_config, read_spool, replay};
+pub use places::{PLACE_LINES, printers_of, tell_places};
+pub use program_words::ServeRequest;
 pub use progress::PROGRESS;
 pub use running::{RunOutcome, System, data_file, run, send, tell_unread};
+pub use spool_config::PlacesFault;

@@ -13,7 +13,7 @@ ghost use Rattle.word_actions.specs.Causes.{IsFileFault, IsNetworkFault, IsRunFa
 ghost use Rattle.program_words.specs.CommandLine.{command_line};
 ghost use Rattle.word_actions.specs.DataFiles.{AreRead};
 ghost use Rattle.word_actions.specs.Sending.{sent_line};
-ghost use Rattle.word_actions.specs.Order.{write_faults};
+ghost use Rattle.word_actions.specs.Order.{IsUnchecked, write_faults};
 ghost use Rattle.word_actions.specs.Outcome.{IfControls, IfEnded, IfReports, IfServes};
 ghost use Rattle.word_actions.specs.Status.{end_status, status_of};
 ghost use Rattle.program_words.specs.Refused.{AsksOfPrinters, IsRefused, IsTaken};
@@ -26,24 +26,30 @@ ghost use Rattle.lpr_client.specs.declared.file.DataFile.{DataFile};
 
 use crate::asking::{ask_question, connect, socket_of};
 use crate::fault::ActionFault;
-use crate::files::{check, print, replay};
+use crate::files::{ReadSpool, check, print, replay};
 use crate::folders::{check_account, check_folder, check_out};
+use crate::places::printers_of;
 use crate::progress::ProgressWriter;
 use crate::readers::OpenReaders;
+use crate::reasons::tell_reason;
 use crate::sockets::check_socket;
-use log::Log;
+use log::{Log, info};
 use lpd_commands::{OctetRead, OctetWrite, write_all};
 use lpd_script::{read_all, run_input};
 use lpr_client::{DataFile, FileName, Octets, SendFault, job_length, send_job};
 use printer_devices::shared_folder;
-use program_edge::{PlacedPrinter, Settings, StreamReader, StreamWriter, tell, tell_cause};
+use program_edge::{StreamReader, StreamWriter, tell, tell_cause};
 use program_words::{
-    Ask, AuditRequest, Checking, ControlRequest, Envelope, Sending, Server, Unread, UsageRequest,
-    read_words, three_digits,
+    Ask, AuditRequest, Checking, ControlRequest, Envelope, Sending, ServeRequest, Server, Unread,
+    UsageRequest, read_words, three_digits,
 };
 use std::alloc::{AllocError, Global};
 use std::fs::{File, Files};
+use std::io::Error;
 use std::net::Net;
+
+/// The part of the program that tells which file of a script can't be read, as the log names it.
+const SCRIPTS: &str = "lpd_words::scripts";
 
 /// The exit status where the words can't be read.
 const UNREAD: u8 = 1;
@@ -56,7 +62,7 @@ pub enum RunOutcome<'a> {
     /// They ask to serve the queues of the configuration at this path.
     Serve {
         config: &'a str,
-        settings: Settings<'a>,
+        request: ServeRequest<'a>,
     },
     /// They ask to send a command to a server's control socket.
     Control(ControlRequest<'a>),
@@ -186,6 +192,9 @@ pub fn send<R: Net + Log>(
     let mut writer = ProgressWriter::new(rt, StreamWriter::new(writer), octets, sending.progress);
     let sent = send_job(alloc, &mut reader, &mut writer, queue, name, control, files);
     tell_cause(rt, &address, reader.cause().or(writer.writer().cause()));
+    if let Err(fault) = &sent {
+        tell_reason(rt, address, fault);
+    }
     sent.map_err(ActionFault::Send)
 }
 
@@ -210,38 +219,54 @@ fn send_files<R: Files + Net + Log, W: OctetWrite>(
     print(output, line.as_slice())
 }
 
-/// Checks the configuration at this path. The log is told why it can't be read.
+/// Checks a configuration at its path, and answers it. The log is told why it can't be read.
 fn check_file<R: Files + Log + Alloc<A = Global>, W: OctetWrite>(
     rt: &R,
-    config: &str,
-    sizes: bool,
-    printers: &[PlacedPrinter],
+    checking: &Checking,
     output: &mut W,
-) -> Result<(), ActionFault>
+) -> Result<ReadSpool, ActionFault>
     ensures write_fault { W.faults output.new ≡ write_faults (W.faults output.old) result }
-    ensures missing { IfErr result (λ fault. status_of fault ≡ 1 →
-        (0 < length printers.now) × (W.written output.new ≡ W.written output.old)) }
+    ensures missing { IfErr result (IsUnchecked checking.now (W.written output.old) (W.written output.new)) }
 {
-    let mut file = StreamReader::open(rt, config);
-    let end = check(rt.alloc(), &mut file, sizes, printers, output);
-    tell_cause(rt, &config, file.cause());
+    let mut file = StreamReader::open(rt, checking.config);
+    let end = check(rt.alloc(), &mut file, checking, output);
+    tell_cause(rt, &checking.config, file.cause());
     end
+}
+
+/// The folder that two printers of a spool would print to. AllocError where memory is refused.
+fn shared_path<R: Files + Log>(
+    rt: &R,
+    alloc: Global,
+    spool: &ReadSpool,
+    checking: &Checking,
+) -> Result<Option<String>, AllocError> {
+    // What they print to was told before: memory alone can be wanting.
+    let (told, said) = (spool.told.as_slice(), checking.printers.as_slice());
+    let Ok(printers) = printers_of(alloc, &spool.config, told, said) else {
+        return Err(AllocError);
+    };
+    match shared_folder(rt, printers.as_slice()) {
+        Some(shared) => Ok(Some(String::from_str(alloc, shared.path)?)),
+        None => Ok(None),
+    }
 }
 
 /// Looks at the directory of printers' files, at the control socket, and at the folders of jobs and of the account, as far as it is
 /// asked for.
-fn check_places<R: Files<File = File> + Log, N: Net, W: OctetWrite>(
-    alloc: Global,
+fn check_places<R: Files<File = File> + Log + Alloc<A = Global>, N: Net, W: OctetWrite>(
     rt: &R,
     host: &N,
     checking: &Checking,
+    spool: &ReadSpool,
     output: &mut W,
 ) -> Result<(), ActionFault>
     ensures write_fault { W.faults output.new ≡ write_faults (W.faults output.old) result }
     ensures fault { IfErr result (λ fault. status_of fault ≢ 1) }
 {
-    if let Some(shared) = shared_folder(rt, checking.printers.as_slice()) {
-        return Err(ActionFault::Folder(String::from_str(alloc, shared.path)?));
+    let alloc = rt.alloc();
+    if let Some(path) = shared_path(rt, alloc, spool, checking)? {
+        return Err(ActionFault::Folder(path));
     }
     if let Some(path) = checking.out {
         check_out(alloc, rt, path, output)?;
@@ -255,6 +280,14 @@ fn check_places<R: Files<File = File> + Log, N: Net, W: OctetWrite>(
     match checking.account {
         Some(path) => check_account(alloc, rt, path, output),
         None => Ok(()),
+    }
+}
+
+/// Tells the log which file of a script can't be read, and why. Not by the part that tells the causes of all other faults: where standard error
+/// is no terminal a script's fault is one line.
+fn tell_unread_file<R: Log>(rt: &R, path: &str, cause: Option<Error>) {
+    if let Some(cause) = cause {
+        info!(rt; target: SCRIPTS, "{path}: {cause}");
     }
 }
 
@@ -276,8 +309,8 @@ fn replay_files<R: Files + Log, W: OctetWrite>(
     if let Err(ActionFault::Run(lpd_script::Fault::ReadFile)) = &end {
         // The configuration is read first: where that failed the script wasn't read.
         match config_file.cause() {
-            None => tell_cause(rt, &script, script_file.cause()),
-            cause => tell_cause(rt, &config, cause),
+            None => tell_unread_file(rt, script, script_file.cause()),
+            cause => tell_unread_file(rt, config, cause),
         }
     }
     end
@@ -300,9 +333,8 @@ fn run_asked<R: Files<File = File> + Net + Log + Alloc<A = Global>, N: Net, W: O
         Ask::Input | Ask::Serve { .. } | Ask::Control(_) => Ok(()),
         Ask::Audit(_) | Ask::Usage(_) => Ok(()),
         Ask::Check(checking) => {
-            let (config, printers) = (checking.config, checking.printers.as_slice());
-            check_file(rt, config, checking.sizes, printers, output)?;
-            check_places(alloc, rt, host, checking, output)
+            let spool = check_file(rt, checking, output)?;
+            check_places(rt, host, checking, &spool, output)
         }
         Ask::Replay { config, script } => replay_files(alloc, rt, config, script, output),
         Ask::Send { sending, envelope } => send_files(alloc, rt, sending, envelope, output),
@@ -367,9 +399,9 @@ pub fn run<
     ensures unread { result ≡ Ended 1 → (W.written output.new ≡ W.written output.old)
         × (I.left input.new ≡ I.left input.old) }
     // Words that ask to serve are taken, and nothing is read, printed or told.
-    ensures serve { IfServes result (λ config settings.
+    ensures serve { IfServes result (λ config request.
         IsAsked (subcommand_of command_line (map string_bytes words.entry.now))
-        (Serve config settings)
+        (Serve config request)
         × (fault_of command_line (map string_bytes words.entry.now) ≡ [])) }
     ensures serve_output { IfServes result (λ _ _. IsUntouched
         (W.written output.old) (W.faults output.old) (W.written output.new) (W.faults output.new)) }
@@ -402,7 +434,7 @@ pub fn run<
     let alloc = rt.alloc();
     match read_words(alloc, words) {
         Ok(Ask::Input) => RunOutcome::Ended(run_input(alloc, input, output, faults)),
-        Ok(Ask::Serve { config, settings }) => RunOutcome::Serve { config, settings },
+        Ok(Ask::Serve { config, request }) => RunOutcome::Serve { config, request },
         Ok(Ask::Control(request)) => RunOutcome::Control(request),
         Ok(Ask::Audit(request)) => RunOutcome::Audit(request),
         Ok(Ask::Usage(request)) => RunOutcome::Usage(request),

@@ -8,7 +8,7 @@ use std::fs::{File, Files};
 use std::net::{Ipv4Addr, Net, OpenListener, SocketAddr, TcpListener, TcpStream};
 use std::process::Abort;
 use std::rt::Env;
-use word_actions::{RunOutcome, System, run};
+use word_actions::{RunOutcome, ServeRequest, System, run};
 
 /// A configuration of one queue and one printer.
 pub const CONFIG: &[u8] =
@@ -38,7 +38,8 @@ pub fn words_of(
 }
 
 /// How a server is to run, in a line.
-fn line_of(alloc: Global, config: &str, settings: &Settings) -> Result<String, AllocError> {
+fn line_of(alloc: Global, config: &str, request: &ServeRequest) -> Result<String, AllocError> {
+    let printers = &request.printers;
     let Settings {
         port,
         bind,
@@ -51,7 +52,7 @@ fn line_of(alloc: Global, config: &str, settings: &Settings) -> Result<String, A
         allowed,
         proxied,
         control,
-        printers,
+        printers: _,
         printer_limits,
         restart_seconds,
         spool,
@@ -60,7 +61,7 @@ fn line_of(alloc: Global, config: &str, settings: &Settings) -> Result<String, A
         log_jobs,
         status,
         status_host,
-    } = settings;
+    } = &request.settings;
     let PrinterLimits {
         patience_minutes,
         silence_seconds,
@@ -103,7 +104,7 @@ pub fn told<
     told.extend_from_slice(faults.into_stream().as_slice())?;
     let end = match &outcome {
         RunOutcome::Ended(status) => format!(in alloc; "status {status}\n")?,
-        RunOutcome::Serve { config, settings } => line_of(alloc, config, settings)?,
+        RunOutcome::Serve { config, request } => line_of(alloc, config, request)?,
         RunOutcome::Control(request) => format!(in alloc; "controls {} ", request.path)?,
         RunOutcome::Audit(request) => format!(in alloc; "audits {request:?}\n")?,
         RunOutcome::Usage(request) => format!(in alloc; "uses {request:?}\n")?,

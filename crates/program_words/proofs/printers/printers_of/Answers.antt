@@ -1,7 +1,7 @@
 use Rattle.std.proofs.Common.{◌≡◌, ◌∙◌, ◌++◌, ◌∷◌, [], add-one, ap, drop, subst, suc, sym, take, Some}
-use Rattle.program_edge.specs.Places.{IsPrinterText}
+use Rattle.printer_names.specs.Texts.{IsNamedText}
 use Rattle.program_words.proofs.AllowLemmas.{texts}
-use Rattle.program_words.proofs.PrinterLemmas.{one_is_for, one_more_differs, one_more_said, text_between}
+use Rattle.program_words.proofs.PrinterLemmas.{one_has_name, one_more_differs, one_more_said, text_between}
 use Rattle.program_words.proofs.printers.printers_of.Goals as goal
 
 pub returns-in_default-read-clause-fault : goal.returns-in_default-read-clause-fault
@@ -16,11 +16,11 @@ returns-in_default-read-clause-fault c =
         c.loop-text.invariant.said,
         c.loop-text.invariant.once,
       ),
-      λ said is. c.in_default-read.ensures.none said (subst (λ t. IsPrinterText t said) c.in_ok-from_str.ensures.ok is),
+      λ said is. c.in_default-read.ensures.none said (subst (λ t. IsNamedText t said) c.in_ok-from_str.ensures.ok is),
     )
 
-pub returns-then-has_printer-clause-fault : goal.returns-then-has_printer-clause-fault
-returns-then-has_printer-clause-fault c =
+pub returns-then-has_name-clause-fault : goal.returns-then-has_name-clause-fault
+returns-then-has_name-clause-fault c =
     let i = c.loop-text.text-index in
     let all = texts c.in-Ok.texts.now in (
       c.loop-text.printers.items,
@@ -34,7 +34,7 @@ returns-then-has_printer-clause-fault c =
       (
         c.in-Some.said,
         rw c.in_ok-from_str-2.ensures.ok c.in-Some.ensures.place,
-        one_is_for c.loop-text.printers.items c.in-Some.said.printer (rw c.as_slice.ensures.value at (sym c.has_printer.ensures ∙ c.if-has_printer.true)),
+        one_has_name c.loop-text.printers.items c.in-Some.said.name.now (rw c.as_slice.ensures.value at (sym c.has_name.ensures ∙ c.if-has_name.true)),
       ),
     )
 
@@ -47,7 +47,7 @@ loop-text-preserved c =
     c.loop-text.invariant.said c.in-Some.ensures.place in
     let differ =
     one_more_differs c.loop-text.printers.items c.in-Some.said c.loop-text.invariant.once
-    (rw c.as_slice.ensures.value at (sym c.has_printer.ensures ∙ c.if-has_printer.false)) in
+    (rw c.as_slice.ensures.value at (sym c.has_name.ensures ∙ c.if-has_name.false)) in
     record {
       said = rw (items, add-one) more;
       once = rw items differ;
