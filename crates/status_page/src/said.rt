@@ -1,7 +1,7 @@
 //! What the page says of a printer, a job, the spool and the pool, before it is put there.
 
 ghost use Rattle.std.specs.Prelude.{◌≡◌};
-ghost use Rattle.status_page.specs.Said.{column_words, job_kind, job_word, place_count, place_words, printer_kind, printer_remark, printer_word, sender_octets, since_words, spool_word};
+ghost use Rattle.status_page.specs.Said.{column_words, job_kind, job_word, place_count, place_words, printer_kind, printer_remark, printer_word, sender_octets, since_words, spool_word, there_words};
 
 use crate::figures::{Grouped, Size, Span};
 use html_page::Tag;
@@ -48,6 +48,20 @@ impl fmt::Display for SinceCause<'_> {
     }
 }
 
+/// Which job waits at a printer.
+#[derive(Clone, Copy)]
+struct JobThere(u64);
+
+impl fmt::Display for JobThere {
+    ghost use Rattle.std.specs.Prelude.{Some};
+
+    ghost output = { λ there. Some (there_words there.0) };
+
+    fn fmt<W: fmt::Write>(&self, f: &mut fmt::Formatter<W>) -> fmt::Result {
+        write!(f, "; job {} waits there", self.0)
+    }
+}
+
 /// What is said of a printer behind that word: the page of its job, from 1, or since when something is the matter, and what.
 #[derive(Clone, Copy)]
 pub(crate) struct PrinterRemark<'a> {
@@ -69,7 +83,7 @@ impl fmt::Display for PrinterRemark<'_> {
             }
             PrinterStanding::Unreached { job, seconds, .. } => {
                 let since = SinceCause { seconds, cause };
-                write!(f, "{since}; job {job} waits there")
+                write!(f, "{since}{}", JobThere(job))
             }
             PrinterStanding::Stopped {
                 seconds: Some(seconds),
