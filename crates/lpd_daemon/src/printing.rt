@@ -208,12 +208,7 @@ impl<
         let (printer, limits) = (seat.printer(), hall.printer_limits);
         let device = match opened {
             OpenedPlace::File(outlet) => {
-                Device::File(PrinterFile::new(
-                    printer,
-                    outlet,
-                    self,
-                    hall.kept.is_some(),
-                ))
+                Device::File(PrinterFile::new(printer, outlet, self, hall.kept.is_some()))
             }
             OpenedPlace::Socket(address) => {
                 let silence = limits.silence_seconds;

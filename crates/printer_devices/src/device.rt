@@ -29,12 +29,7 @@ pub struct PrinterFile<'a, Q: Errand> {
 impl<'a, Q: Errand> PrinterFile<'a, Q> {
     /// The pages of the printer of this number are written to this, which asks that while it waits. Where `is_synced` a job that is done
     /// has to be on the disk, if the file is one of a disk.
-    pub fn new(
-        printer: u32,
-        outlet: Outlet,
-        errand: &'a Q,
-        is_synced: bool,
-    ) -> PrinterFile<'a, Q> {
+    pub fn new(printer: u32, outlet: Outlet, errand: &'a Q, is_synced: bool) -> PrinterFile<'a, Q> {
         PrinterFile {
             synced: if is_synced { outlet.twin() } else { None },
             file: StreamWriter::new(PatientFile::new(printer, outlet.file, errand)),

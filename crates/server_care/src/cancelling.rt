@@ -75,7 +75,9 @@ impl<R: Files<File = File> + Clock + Log + Wait, E: HouseLedger> Care<'_, '_, R,
     ) -> Result<Vec<u8>, AllocError> {
         let number = job.number;
         if matches!(stage_of(job), JobStage::Arriving) {
-            let why = format!(in self.hall.alloc; "{name} is still arriving: it can be removed once it is whole")?;
+            let why = format!(in self.hall.alloc;
+                "{name} is still arriving: it can be removed once it is whole"
+            )?;
             return self.refuse(why);
         }
         let queue = self.hall.oversight.config.name_of(job.queue);
@@ -139,11 +141,15 @@ impl<R: Files<File = File> + Clock + Log + Wait, E: HouseLedger> Care<'_, '_, R,
         match kept.let_go(self.hall.rt, number, &filed.owner) {
             Ok(FileEnd::Gone) => self.tell_done("removed", &name),
             Ok(FileEnd::IsFed) => {
-                let why = format!(in self.hall.alloc; "{name} is being handed to the spool: ask again")?;
+                let why = format!(in self.hall.alloc;
+                    "{name} is being handed to the spool: ask again"
+                )?;
                 self.refuse(why)
             }
             Err(fault) => {
-                let why = format!(in self.hall.alloc; "{name} neither waits nor has failed: ask again: {fault}")?;
+                let why = format!(in self.hall.alloc;
+                    "{name} neither waits nor has failed: ask again: {fault}"
+                )?;
                 self.refuse(why)
             }
         }

@@ -139,7 +139,9 @@ impl<R: Files<File = File> + Clock + Log + Wait, E: HouseLedger> Care<'_, '_, R,
         }
         let queue = Escaped(queue);
         for printer in stopped.iter() {
-            let line = format!(in answer.alloc; "nothing held: printer {printer} is stopped: start {queue}")?;
+            let line = format!(in answer.alloc;
+                "nothing held: printer {printer} is stopped: start {queue}"
+            )?;
             answer.line(&line)?;
         }
         Ok(())
@@ -166,12 +168,16 @@ impl<R: Files<File = File> + Clock + Log + Wait, E: HouseLedger> Care<'_, '_, R,
         };
         let sight = self.spool.sight(self.hall.rt, self.hall.alloc)?;
         let mut jobs = sight.spool.jobs.iter();
-        let is_meant = |job: &&SeenJob| job.number == number && job.queue == queue && is_received(job);
+        let is_meant = |job: &&SeenJob| job.number == number
+            && job.queue == queue
+            && is_received(job);
         let Some(job) = jobs.find(is_meant) else {
             return Ok(None);
         };
         let name = self.name_of(job);
-        let line = format!(in self.hall.alloc; "remove takes the number that the client gave: for {name} say cancel job {number}")?;
+        let line = format!(in self.hall.alloc;
+            "remove takes the number that the client gave: for {name} say cancel job {number}"
+        )?;
         Ok(Some(line))
     }
 

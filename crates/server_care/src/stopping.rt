@@ -110,9 +110,7 @@ impl<R: Clock + Log + Wait, E: HouseLedger> Care<'_, '_, R, E> {
 
     /// Tells of each of these jobs that is whole, or of each that isn't, that it is lost.
     fn tell_each_lost(&self, jobs: &[SeenJob], whole: bool) {
-        let lost = jobs
-            .iter()
-            .filter(|job| is_whole(job) == whole);
+        let lost = jobs.iter().filter(|job| is_whole(job) == whole);
         for (at, job) in lost.enumerate() {
             self.tell_lost(job);
             if at % LINES == LINES - 1 {

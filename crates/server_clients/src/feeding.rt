@@ -135,10 +135,7 @@ impl<R: Files<File = File> + Clock + Log + Wait, E: HouseLedger> Feeding<'_, '_,
         };
         let seated = Seated::new(self.hall.rt, self.spool, seat);
         let keeping = Keeping::new(self.hall.alloc, seated, FedFolder::new(&kept.disk));
-        let mut feeder = Noting::new(
-            keeping,
-            SessionNotes::new(self.hall),
-        );
+        let mut feeder = Noting::new(keeping, SessionNotes::new(self.hall));
         for _ in self.hall.rt.forever() {
             if self.hall.ending.stops() || self.hall.ending.is_over() {
                 break;

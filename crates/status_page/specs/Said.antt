@@ -34,15 +34,23 @@ printer_word (printer.Printing job place) = codes "job " ++ decimal job
 printer_word (printer.Unreached job place seconds) = codes "not reached"
 printer_word (printer.Stopped seconds) = codes "stopped"
 
+-- since when something is the matter, and what
+abbrev pub since_words : ℕ → List ℕ → List ℕ
+since_words seconds cause = span_words seconds ++ (codes ": " ++ cause)
+
+-- which job waits there
+abbrev pub there_words : ℕ → List ℕ
+there_words number = codes "; job " ++ (decimal number ++ codes " waits there")
+
 -- and more of it: pages are numbered from 1
 abbrev pub printer_remark : PrinterStanding → List ℕ → List ℕ
 printer_remark printer.Idle cause = []
 printer_remark printer.Held cause = []
 printer_remark (printer.Printing job place) cause = codes "page " ++ grouped_words (counted (place + 1))
 printer_remark (printer.Unreached job place seconds) cause =
-    span_words seconds ++ (codes ": " ++ (cause ++ (codes "; job " ++ (decimal job ++ codes " waits there"))))
+    since_words seconds cause ++ there_words job
 printer_remark (printer.Stopped None) cause = []
-printer_remark (printer.Stopped (Some seconds)) cause = span_words seconds ++ (codes ": " ++ cause)
+printer_remark (printer.Stopped (Some seconds)) cause = since_words seconds cause
 
 abbrev pub printer_kind : PrinterStanding → List ℕ
 printer_kind printer.Idle = codes "idle"

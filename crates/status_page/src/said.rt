@@ -1,7 +1,7 @@
 //! What the page says of a printer, a job, the spool and the pool, before it is put there.
 
 ghost use Rattle.std.specs.Prelude.{◌≡◌};
-ghost use Rattle.status_page.specs.Said.{column_words, job_kind, job_word, place_count, place_words, printer_kind, printer_remark, printer_word, sender_octets, spool_word};
+ghost use Rattle.status_page.specs.Said.{column_words, job_kind, job_word, place_count, place_words, printer_kind, printer_remark, printer_word, sender_octets, since_words, spool_word, there_words};
 
 use crate::figures::{Grouped, Size, Span};
 use html_page::Tag;
@@ -30,6 +30,38 @@ impl fmt::Display for PrinterWord {
     }
 }
 
+/// Since when something is the matter, and what.
+#[derive(Clone, Copy)]
+struct SinceCause<'a> {
+    seconds: u64,
+    cause: &'a str,
+}
+
+impl fmt::Display for SinceCause<'_> {
+    ghost use Rattle.std.specs.Prelude.{Some};
+
+    ghost output = { λ since. Some (since_words since.seconds since.cause.now) };
+
+    fn fmt<W: fmt::Write>(&self, f: &mut fmt::Formatter<W>) -> fmt::Result {
+        let (span, cause) = (Span(self.seconds), self.cause);
+        write!(f, "{span}: {cause}")
+    }
+}
+
+/// Which job waits at a printer.
+#[derive(Clone, Copy)]
+struct JobThere(u64);
+
+impl fmt::Display for JobThere {
+    ghost use Rattle.std.specs.Prelude.{Some};
+
+    ghost output = { λ there. Some (there_words there.0) };
+
+    fn fmt<W: fmt::Write>(&self, f: &mut fmt::Formatter<W>) -> fmt::Result {
+        write!(f, "; job {} waits there", self.0)
+    }
+}
+
 /// What is said of a printer behind that word: the page of its job, from 1, or since when something is the matter, and what.
 #[derive(Clone, Copy)]
 pub(crate) struct PrinterRemark<'a> {
@@ -50,11 +82,12 @@ impl fmt::Display for PrinterRemark<'_> {
                 write!(f, "page {}", Grouped(place.saturating_add(1)))
             }
             PrinterStanding::Unreached { job, seconds, .. } => {
-                write!(f, "{}: {cause}; job {job} waits there", Span(seconds))
+                let since = SinceCause { seconds, cause };
+                write!(f, "{since}{}", JobThere(job))
             }
             PrinterStanding::Stopped {
                 seconds: Some(seconds),
-            } => { write!(f, "{}: {cause}", Span(seconds)) }
+            } => { write!(f, "{}", SinceCause { seconds, cause }) }
             PrinterStanding::Stopped { seconds: None } => Ok(()),
         }
     }
