@@ -12,7 +12,7 @@ _lpd_server() {
     case $words[CURRENT-1] in
         --log) compadd time journal; return ;;
         --by) compadd user host queue; return ;;
-        --printer) compadd -S '' 1=file: 1=folder: 1=socket://; return ;;
+        --printer) compadd -S '' lp=file: lp=folder: lp=socket://; return ;;
         --port|--bind|--server|--allow|--proxied|--status|--status-host|--sessions|--connections|--rotate|--silence|--per-host|--slowest|--patience|--printer-silence|--restart|--since|--until|--after|--ends)
             return ;;
         --out|--spool|--account|--control|--printed) _files; return ;;
@@ -21,7 +21,7 @@ _lpd_server() {
         found=(${(f)"$("$program" --help 2> /dev/null | sed -n '/^Commands:/,/^$/s/^  \([a-z]*\) .*/\1/p')"} ${(f)"$(_lpd_server_options "$program")"})
         compadd -a found
     elif [[ $command == control && $CURRENT -eq 4 ]]; then
-        compadd status start hold release remove resend rotate stop
+        compadd status start hold release remove cancel resend rotate stop
     elif [[ $words[CURRENT] == -* ]]; then
         found=(${(f)"$(_lpd_server_options "$program" "$command")"})
         compadd -a found

@@ -17,8 +17,8 @@ use Rattle.program_edge.specs.declared.settings.LogForm.TheVariants.{Journal, Pl
 use Rattle.program_edge.specs.declared.settings.PrinterLimits.{PrinterLimits}
 use Rattle.program_edge.specs.declared.settings.TheConstants.{MOST_CONTROL_PATH}
 use Rattle.program_edge.specs.declared.status.StatusPlace.{StatusPlace}
-use Rattle.program_words.specs.declared.serving.Listening.{Listening}
-use Rattle.program_words.specs.declared.serving.Printing.{Printing}
+use Rattle.program_words.specs.declared.serving.ListeningWords.{ListeningWords}
+use Rattle.program_words.specs.declared.serving.PrintingWords.{PrintingWords}
 use Rattle.program_words.specs.declared.serving.ServeRequest.{ServeRequest}
 use Rattle.program_words.specs.declared.serving.Telling.{Telling}
 
@@ -125,7 +125,7 @@ pub record IsServing (rows : List Row) (request : ServeRequest) : Type 0 where
   pub status_host : IsStatusHost rows (option_map (λ name. name.now) request.settings.status_host)
 
 -- the part of it that says where a server listens, and how many connections it serves
-pub record IsListening (rows : List Row) (listening : Listening) : Type 0 where
+pub record IsListening (rows : List Row) (listening : ListeningWords) : Type 0 where
   pub port : IsNumber rows (codes "port") listening.port
   pub bind : IsAddress (codes "bind") rows listening.bind
   pub sessions : IsGivenOr 8 rows (codes "sessions") listening.sessions
@@ -134,7 +134,7 @@ pub record IsListening (rows : List Row) (listening : Listening) : Type 0 where
   pub limits : AreLimits rows listening.limits
 
 -- the part of it that says what a server prints to
-pub record IsPrinting (rows : List Row) (printing : Printing) : Type 0 where
+pub record IsPrinting (rows : List Row) (printing : PrintingWords) : Type 0 where
   pub printers : ArePrinters rows printing.printers.items
   pub limits : ArePrinterLimits rows printing.limits
   pub restart : IsLimit rows (codes "restart") (option_map non_zero_u64_get printing.restart_seconds)

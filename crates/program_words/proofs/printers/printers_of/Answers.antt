@@ -33,7 +33,7 @@ returns-then-has_name-clause-fault c =
       ),
       (
         c.in-Some.said,
-        rw c.in_ok-from_str-2.ensures.ok c.in-Some.ensures.place,
+        rw c.in_ok-from_str-2.ensures.ok c.in-Some.ensures.said,
         one_has_name c.loop-text.printers.items c.in-Some.said.name.now (rw c.as_slice.ensures.value at (sym c.has_name.ensures ∙ c.if-has_name.true)),
       ),
     )
@@ -44,7 +44,7 @@ loop-text-preserved c =
     rw c.in_ok-push.was at c.push.ensures.items in
     let more =
     one_more_said c.in-Ok.texts.now c.loop-text.text-index _ c.loop-text.printers.items c.in-Some.said c.loop-text-test.true
-    c.loop-text.invariant.said c.in-Some.ensures.place in
+    c.loop-text.invariant.said c.in-Some.ensures.said in
     let differ =
     one_more_differs c.loop-text.printers.items c.in-Some.said c.loop-text.invariant.once
     (rw c.as_slice.ensures.value at (sym c.has_name.ensures ∙ c.if-has_name.false)) in

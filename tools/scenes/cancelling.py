@@ -1,0 +1,153 @@
+#!/usr/bin/env python3
+"""Scenes of single jobs that are removed at a control socket: cancelling.py PROGRAM [SCENE..], where PROGRAM is the built lpd_server.
+
+Each is named by its number of acceptance or by that of its file; jobs of two hosts have one client's number. A line says what was seen; the last
+line is 'N passed, M failed'."""
+import contextlib
+import os
+import sys
+import time
+
+from client import begin, send
+from keeping import Room
+from scene import check, main
+
+# Longer than what a pipe holds: its printer has begun it, and isn't through with it.
+LONG = b"x" * 200_000
+
+
+def spool(jobs):
+    """Two queues in a spool for so many jobs."""
+    return f"pages = 256\npage_size = 4096\nmax_jobs = {jobs}\naccount = 4000000\n" + "".join(
+        f'[[queue]]\nname = "{name}"\nlimit = 64\nprinters = 1\n' for name in ("lp", "bad"))
+
+
+class Desk(Room):
+    """A server at whose control socket jobs are removed. A pipe that nobody reads is its first printer, and its second one has no room."""
+
+    def __init__(self, keeps):
+        super().__init__(config=spool(16))
+        self.keeps = keeps
+        os.mkfifo(f"{self.folder}/printer-1")
+        os.symlink("/dev/full", f"{self.folder}/printer-2")
+
+    def line(self):
+        line = super().line()
+        if not self.keeps:
+            at = line.index("--spool")
+            del line[at:at + 2]
+        return line
+
+    def send(self, number, octets=b"y", queue="lp", host="127.0.0.1"):
+        check(send(self.port, number, octets, queue=queue, host=host) == 0, f"job {number} isn't taken")
+
+    def says(self, words, said):
+        """A command is answered so."""
+        told = self.tell(*words.split())
+        check(told == said, f"{words}: {told!r}, and not {said!r}")
+
+    def refuses(self, words, why):
+        told = self.tell(*words.split())
+        check(told.startswith("fault 60 Refused ") and why in told, f"{words}: {told!r} has no {why!r}")
+
+    def await_status(self, part, there=True):
+        for _ in range(200):
+            told = self.tell("status")
+            if (part in told) == there:
+                return told
+            time.sleep(0.05)
+        raise AssertionError(f"status has {'no ' if there else ''}{part!r}: {told}")
+
+
+def jobs_of_two_hosts():
+    """Two hosts have sent a job 002: the one that is named goes, begun or not, and no other."""
+    with Desk(keeps=False) as desk:
+        desk.start()
+        desk.send(2, LONG, host="127.0.0.2")
+        desk.await_status("prints 1 place")
+        desk.send(2, host="127.0.0.3")
+        desk.send(2, host="127.0.0.2")
+        desk.says("cancel job 2", "removed job 2 (002) ann@h1 of lp\n")
+        told = desk.await_status("job 2 lp", there=False)
+        check("job 1 lp 127.0.0.2" in told and "job 3 lp 127.0.0.2" in told, f"another host's job went too: {told}")
+        desk.says("cancel job 1", "removed job 1 (002) ann@h1 of lp\n")
+        check("job 3 lp 127.0.0.2" in desk.tell("status"), "a job that wasn't named went too")
+        desk.refuses("cancel job 2", "no job 2 is held")
+        desk.refuses("cancel file 3", "the server has no --spool")
+        return "of three with one number the one that was named went"
+
+
+def an_arriving_job():
+    """One that is still arriving stays, and its peer goes on."""
+    with Desk(keeps=False) as desk:
+        desk.start()
+        with contextlib.closing(begin(desk.port, 7, 10, b"half")):
+            desk.await_status("job 1 lp")
+            desk.refuses("cancel job 1", "is still arriving")
+            return "it stays"
+
+
+def what_would_help():
+    """Where nothing was done the answer says so, and what would help."""
+    with Desk(keeps=False) as desk:
+        desk.start()
+        desk.says("release lp", "nothing held\n")
+        desk.says("hold lp", "")
+        desk.says("hold lp", "held already\n")
+        desk.says("start lp", "started none\nlp is held: release lp\n")
+        desk.send(9, host="127.0.0.2")
+        desk.says("remove lp 1", "nothing removed\nremove takes the number that the client gave: for job 1 (009) ann@h1 of lp say cancel job 1\n")
+        desk.says("remove lp 4", "nothing removed\n")
+        desk.says("release lp", "")
+        desk.send(3, queue="bad")
+        desk.await_status("printer 2 bad stopped")
+        desk.says("release bad", "nothing held: printer 2 is stopped: start bad\n")
+        desk.says("start bad", "started 2\n")
+        return "told"
+
+
+def files_of_jobs():
+    """A kept job goes by the number of its file: from its printer, from the folder where it waits to be fed, or where it has failed."""
+    with Desk(keeps=True) as desk:
+        desk.start()
+        desk.send(1, LONG)
+        for number in (2, 3, 4):
+            desk.send(number, host=f"127.0.0.{number}")
+        desk.await_files(4)
+        desk.kill()
+        # Two of them have room at the next start, and two wait in the folder.
+        with open(f"{desk.folder}/spool.toml", "w") as file:
+            file.write(spool(2))
+        desk.start()
+        desk.await_status("kept waiting 2 failed 0")
+        desk.says("cancel file 4", "removed file 4 (004) ann@h1 of lp\n")
+        desk.await_status("kept waiting 1 failed 0")
+        check(desk.files("job") == ["1.job", "2.job", "3.job"], desk.files("job"))
+        desk.says("cancel file 1", "removed file 1 (001) ann@h1 of lp\n")
+        desk.await_files(2)
+        desk.refuses("cancel file 1", "No such file")
+        desk.refuses("cancel file 99", "No such file")
+        return "from the spool and from the folder"
+
+
+def a_failed_file():
+    """One that has failed is printed again, and removed, by its number; whose it is is told."""
+    with Desk(keeps=True) as desk:
+        desk.start()
+        desk.send(5, queue="bad")
+        desk.await_files(1, "failed")
+        desk.says("start bad", "started 2\n")
+        desk.says("resend 1", "resent file 1 (005) ann@h1 of bad\n")
+        desk.await_files(1, "failed")
+        desk.says("cancel file 1", "removed file 1 (005) ann@h1 of bad\n")
+        check(desk.files("failed") == [] and desk.files("job") == [], "its file is there")
+        desk.await_status("kept waiting 0 failed 0")
+        desk.refuses("resend 1", "No such file")
+        return "sent again, and removed"
+
+
+SCENES = [jobs_of_two_hosts, an_arriving_job, what_would_help, files_of_jobs, a_failed_file]
+
+
+if __name__ == "__main__":
+    sys.exit(main(SCENES, __doc__))
