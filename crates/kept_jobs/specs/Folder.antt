@@ -37,6 +37,10 @@ NoMore old new = (c : Option (List ℕ)) → new c → old c
 abbrev pub OrNone : (old new : Option (List ℕ) → Type 0) → Type 0
 OrNone old new = (c : Option (List ℕ)) → new c → old c ⊎ (c ≡ None)
 
+-- what a crash might have left before, or nothing
+abbrev pub OldOrNone : (Option (List ℕ) → Type 0) → Option (List ℕ) → Type 0
+OldOrNone may_leave c = may_leave c ⊎ (c ≡ None)
+
 -- no crash leaves a job
 abbrev pub IsNever : (Option (List ℕ) → Type 0) → Type 0
 IsNever may_leave = (c : Option (List ℕ)) → may_leave c → c ≡ None
@@ -66,3 +70,10 @@ pub record LeavesOnly {D : Type 0} (moment : D → ℕ) (left_since : D → ℕ 
     (P : Option (List ℕ) → Type 0) : Type 0 where
   pub later : moment old ≤ moment new
   pub each : (c : Option (List ℕ)) → left_since new (moment old) c → P c
+
+-- What a call, or some in a row, come to at each moment: a crash might have left what it might have left before, or what P says,
+-- and leaves of each job that was passed on or left the whole as before.
+pub record GoesOn {F : Type 0} (moment : F → ℕ) (left_since : F → ℕ → Option (List ℕ) → Type 0) (may_lack : F → List ℕ → Type 0)
+    (old new : F) (P : Option (List ℕ) → Type 0) : Type 0 where
+  pub time : Elapses (moment old) (moment new) (left_since old) (left_since new) P
+  pub lacks : LacksNoMore (may_lack old) (may_lack new)
