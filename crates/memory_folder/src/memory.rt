@@ -1,9 +1,9 @@
 //! A folder in memory, which fails from some call on as one does whose machine has crashed.
 
-ghost use Rattle.std.specs.Prelude.{◌≡◌, ◌<◌, ◌++◌, ◌&&◌, not, [], MatchOption, None, Some, OnOk, is_some, true, vec_capacity, vec_len};
+ghost use Rattle.std.specs.Prelude.{◌≡◌, ◌<◌, ◌++◌, ◌&&◌, not, [], MatchOption, None, Some, OnOk, count_by, is_some, true, vec_capacity, vec_len};
 ghost use Rattle.std.proofs.Common.{inl};
 ghost use Rattle.kept_jobs.specs.Folder.{HasCause, octets_of};
-ghost use Rattle.memory_folder.specs.Memory.{Lacks, LeftSince, MayHold, MayLeave, gone_with, left_of, moment_of, octets_in, only_left, passed_in};
+ghost use Rattle.memory_folder.specs.Memory.{Lacks, LeftSince, MayHold, MayLeave, gone_with, is_let_out, left_of, moment_of, octets_in, only_left, passed_in};
 
 use crate::file::{Crash, DiskFile};
 use kept_jobs::{Folder, KeepError};
@@ -27,6 +27,15 @@ pub struct GoneFile {
     pub end: FileEnd,
     /// The file, as it was then.
     pub file: DiskFile,
+}
+
+impl GoneFile {
+    /// Whether its job was passed on, or left.
+    pub fn is_let_out(&self) -> bool
+        ensures { result ≡ is_let_out self.now.end }
+    {
+        !matches!(self.end, FileEnd::Discarded)
+    }
 }
 
 /// A folder in memory, as one session has it.
@@ -120,6 +129,13 @@ impl MemoryFolder {
         ensures { result.now ≡ self.now.gone.items }
     {
         self.gone.as_slice()
+    }
+
+    /// How many jobs were passed on or left.
+    pub fn let_out(&self) -> usize
+        ensures { result ≡ count_by (λ gone. is_let_out gone.end) self.now.gone.items }
+    {
+        self.gone.iter().filter(|gone| gone.is_let_out()).count()
     }
 
     /// Nothing is in hand any more; a whole file that was came to this end.
