@@ -398,10 +398,11 @@ impl<F: Folder> Hand<F> {
             → GoesOn F.moment F.left_since F.may_lack self.old.folder self.new.folder
             (OldOrNone (F.may_leave self.old.folder)) }
     {
-        if let HandStage::Kept = self.stage {
-            self.folder.leave();
-            self.stage = HandStage::Idle;
-        }
+        let HandStage::Kept = self.stage else {
+            return;
+        };
+        self.folder.leave();
+        self.stage = HandStage::Idle;
     }
 
     /// Takes away what is in the folder of the job in hand, which isn't to be kept for this cause.
