@@ -133,6 +133,8 @@ impl<R: Files<File = File> + Wait> Folder for DiskFolder<'_, R> {
 
     ghost left_since = { λ _ t left. ⊥ };
 
+    ghost may_lack = { λ _ octets. ⊥ };
+
     ghost faults = { λ folder. folder.faults };
 
     fn has_earlier(&self, sender: u32, queue: &[u8]) -> bool {
@@ -171,6 +173,12 @@ impl<R: Files<File = File> + Wait> Folder for DiskFolder<'_, R> {
         self.in_hand = InHand::Nothing;
         if let Err(fault) = self.disk.pass(job, self.number) {
             self.fault = Some(fault);
+        }
+    }
+
+    fn leave(&mut self) {
+        if let InHand::Whole = &self.in_hand {
+            self.in_hand = InHand::Nothing;
         }
     }
 

@@ -7,7 +7,7 @@ use Rattle.lpd_commands.specs.declared.sub.Sub.TheVariants as sub
 use Rattle.lpd_commands.specs.declared.command.Command.TheVariants.{Receive}
 use Rattle.control_file.specs.Written.{control_text}
 use Rattle.job_heads.specs.Head.{head}
-use Rattle.kept_jobs.specs.Folder.{IsSeen, Seen}
+use Rattle.kept_jobs.specs.Folder.{Elapses, GoesOn, IsNever, IsSeen, LacksNoMore, OldOrNone, Seen}
 use Rattle.kept_jobs.specs.Kept.{AllOrNone, IsInHand, IsKept}
 use Rattle.job_streams.specs.Stream.{Coming, IsFit, Part, control_line, control_name, data_line, first_line, is_whole, stream}
 use Rattle.job_streams.specs.Coming.{new_job, with_control, with_end, with_file, with_octets}
@@ -16,7 +16,7 @@ use Rattle.job_hand.specs.Known.{Knows}
 use Rattle.job_hand.specs.declared.hand.Hand.{Hand}
 use Rattle.job_hand.specs.declared.cause.Cause.{Cause}
 use Rattle.job_hand.specs.declared.hand.HandStage.TheVariants as stage
-use Rattle.job_hand.specs.Hand.{Telling, Leaving, Stands, Holds, Follows, FollowsAs, IsOfWhole, MayLeave}
+use Rattle.job_hand.specs.Hand.{Telling, Leaving, Stands, Holds, Follows, FollowsAs, IsOfWhole, LeavesAt, MayLeave}
 
 -- what is so at Ok is so where it is Ok
 pub when_ok : {A E : Type 0} {P : Type 0} (r : Result A E) → OnOk r P → IsTrue (is_ok r) → P
@@ -108,3 +108,44 @@ module _ {F : Type 0} (seen : Telling F) (may_leave : Leaving F) where
 
   pub follows_broken : (hand : Hand F) (job : Option Coming) (cause : Cause) → hand.stage ≡ stage.Broken cause → Follows seen may_leave hand job
   follows_broken hand job cause is = subst (λ st. FollowsAs seen may_leave st hand job) (sym is) tt
+
+  module _ (moment : F → ℕ) (left_since : F → ℕ → Option (List ℕ) → Type 0) (may_lack : F → List ℕ → Type 0) where
+    -- a job is in hand no more
+    pub moments_out : (old new : F) → IsNever (may_leave new) → Elapses (moment old) (moment new) (left_since old) (left_since new) (may_leave new) → LacksNoMore (may_lack old) (may_lack new) → GoesOn moment left_since may_lack old new (OldOrNone (may_leave old))
+    moments_out old new never time lacks = record {
+      time = record {
+        later = time.later;
+        nothing_else = λ t c le since. ⊎_elim (λ was. inl was) (λ now. inr (inr (never c now))) (time.nothing_else t c le since);
+        keeps = time.keeps;
+      };
+      lacks = lacks;
+    }
+
+    pub moments_left : (old : Hand F) (new : F) (job : Option Coming) → Follows seen may_leave old job → old.stage ≡ stage.Kept → IsNever (may_leave new) →
+        Elapses (moment old.folder) (moment new) (left_since old.folder) (left_since new) (may_leave new) →
+        ((octets : List ℕ) → IsKept (seen old.folder) (may_leave old.folder) octets → LacksNoMore (may_lack old.folder) (may_lack new)) →
+        GoesOn moment left_since may_lack old.folder new (OldOrNone (may_leave old.folder))
+    moments_left old new job h kept never time lacks =
+        let s = subst (λ st. FollowsAs seen may_leave st old job) kept h in
+        moments_out old.folder new never time (lacks (stream s.0) s.2.kept)
+
+    -- a job that is whole is kept, or isn't
+    pub moments_whole : (old : Hand F) (new : F) (job : Option Coming) → Follows seen may_leave old job → old.stage ≡ stage.Coming → ((j : Coming) → Knows old.known j → true ≡ is_whole j) →
+        ((octets : List ℕ) → Has old.folder octets → Elapses (moment old.folder) (moment new) (left_since old.folder) (left_since new) (AllOrNone (seen old.folder) octets)) →
+        LacksNoMore (may_lack old.folder) (may_lack new) → GoesOn moment left_since may_lack old.folder new (LeavesAt seen may_leave old.folder job)
+    moments_whole old new job h coming whole times lacks =
+        let s = subst (λ st. FollowsAs seen may_leave st old job) coming h in
+        let fit : IsFit s.0 = record { sender = s.2.sender; queue = s.2.queue; blocks = s.2.knows.fit } in
+        let time = times (stream s.0) s.2.in_hand in record {
+          time = record {
+            later = time.later;
+            nothing_else = λ t c le since.
+                ⊎_elim (λ was. inl was)
+                (λ all.
+                ⊎_elim (λ none. inr (inl (inr none))) (λ its. inr (inr (subst (λ j. IsSeen (λ x. IsOfWhole j c) (seen old.folder)) (sym s.1) its)))
+                (of_whole (seen old.folder) s.0 c fit (sym (whole s.0 s.2.knows)) all))
+                (time.nothing_else t c le since);
+            keeps = time.keeps;
+          };
+          lacks = lacks;
+        }

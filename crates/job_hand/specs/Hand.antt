@@ -2,8 +2,8 @@
 use Rattle.std.specs.Prelude.{◌≡◌, ◌<◌, ◌≤◌, ◌⊎◌, ◌^◌, ℕ, IsErrOf, Result, IsTrue, Bool, true, false, if◌then◌else◌, List, Option, None, Some}
 use Rattle.lpd_commands.specs.Written.{command_has_line}
 use Rattle.lpd_commands.specs.declared.command.Command.TheVariants.{Receive}
-use Rattle.kept_jobs.specs.Folder.{IsSeen, SamePassed, Seen}
-use Rattle.kept_jobs.specs.Kept.{IsInHand, IsKept, Passes}
+use Rattle.kept_jobs.specs.Folder.{IsSeen, OldOrNone, SamePassed, Seen}
+use Rattle.kept_jobs.specs.Kept.{IsInHand, IsKept, LetsOut}
 use Rattle.job_streams.specs.Stream.{Coming, IsFit, is_whole, stream}
 use Rattle.job_hand.specs.Known.{Knows}
 use Rattle.job_hand.specs.declared.hand.HandStage.{HandStage}
@@ -61,6 +61,10 @@ MayLeave seen may_leave old new job =
     (c : Option (List ℕ)) → may_leave new c →
     (may_leave old c ⊎ (c ≡ None)) ⊎ IsSeen (λ s. IsOfWhole job c) (seen old)
 
+-- At each moment a crash might have left what it might have left before, or nothing, or the whole of this job.
+abbrev pub LeavesAt : {F : Type 0} → Telling F → Leaving F → (old : F) → Option Coming → Option (List ℕ) → Type 0
+LeavesAt seen may_leave old job c = OldOrNone (may_leave old) c ⊎ IsSeen (λ s. IsOfWhole job c) (seen old)
+
 -- the folder is told to have failed only where it has
 pub record HasFailed {T : Type 0} (before now : ℕ) (result : Result T Cause) : Type 0 where
   pub later : before ≤ now
@@ -83,11 +87,12 @@ abbrev pub settled : Option Coming → Option Coming
 settled None = None
 settled (Some job) = if is_whole job then None else Some job
 
--- a job that is whole was passed on with its octets, which are read back as it; and no other was
-abbrev pub SettlesAs : Bool → (number : ℕ) → Coming → (old new : Option Seen) → Type 0
-SettlesAs true number job old new = IsFit job × Passes number (stream job) old new
+-- a job that is whole was passed on under this number, or left where it has none, with its octets, which are read back as it; and
+-- no other was
+abbrev pub SettlesAs : Bool → (number : Option ℕ) → Coming → (old new : Option Seen) → Type 0
+SettlesAs true number job old new = IsFit job × LetsOut number (stream job) old new
 SettlesAs false number job old new = SamePassed old new
 
-abbrev pub Settles : (number : ℕ) → Option Coming → (old new : Option Seen) → Type 0
+abbrev pub Settles : (number : Option ℕ) → Option Coming → (old new : Option Seen) → Type 0
 Settles number None old new = SamePassed old new
 Settles number (Some job) old new = SettlesAs (is_whole job) number job old new

@@ -7,12 +7,12 @@ ghost use Rattle.lpd_values.specs.Name.{is_control_name, number_of};
 ghost use Rattle.lpd_commands.specs.Written.{command_has_line};
 ghost use Rattle.lpd_commands.specs.declared.command.Command.TheVariants.{Receive};
 ghost use Rattle.control_file.specs.View.{contents};
-ghost use Rattle.kept_jobs.specs.Folder.{IsNever, OrNone, SamePassed};
+ghost use Rattle.kept_jobs.specs.Folder.{GoesOn, IsNever, OldOrNone, OrNone, SamePassed};
 ghost use Rattle.kept_jobs.specs.Kept.{Passes};
 ghost use Rattle.job_streams.specs.Stream.{Coming, control_name, is_whole, stream};
 ghost use Rattle.job_streams.specs.Coming.{new_job, with_control, with_end, with_file, with_octets};
 ghost use Rattle.job_hand.specs.Known.{Knows};
-ghost use Rattle.job_hand.specs.Hand.{Blames, Follows, HasFailed, Holds, IsDecided, MayLeave, Settles, Stands, at_job, settled};
+ghost use Rattle.job_hand.specs.Hand.{Blames, Follows, HasFailed, Holds, IsDecided, LeavesAt, MayLeave, Settles, Stands, at_job, settled};
 ghost use Rattle.job_hand.specs.declared.cause.Cause.{Cause};
 ghost use Rattle.job_hand.specs.declared.hand.HandStage.TheVariants as stage;
 
@@ -28,8 +28,8 @@ use std::alloc::Global;
 /// How far the job in hand has come.
 ///
 /// ```text
-///         begin           keep_whole          settle
-///   Idle --------> Coming ------------> Kept ---------> Idle
+///         begin           keep_whole          settle, leave
+///   Idle --------> Coming ------------> Kept ---------------> Idle
 ///                    |                    |
 ///       can't be kept|                    |more comes of it
 ///                    v                    v
@@ -125,6 +125,8 @@ impl<F: Folder> Hand<F> {
             (new_job sender queue.now)) }
         ensures cause { HasFailed (F.faults self.old.folder) (F.faults self.new.folder) result }
         ensures crash { OrNone (F.may_leave self.old.folder) (F.may_leave self.new.folder) }
+        ensures moments { GoesOn F.moment F.left_since F.may_lack self.old.folder self.new.folder
+            (OldOrNone (F.may_leave self.old.folder)) }
         ensures passed { SamePassed (F.seen self.old.folder) (F.seen self.new.folder) }
     {
         if !is_queue_word(queue) {
@@ -143,6 +145,8 @@ impl<F: Folder> Hand<F> {
         ensures follows { Follows F.seen F.may_leave self.new (Some (new_job sender queue.now)) }
         ensures blame { Blames F.faults self.old self.new }
         ensures crash { OrNone (F.may_leave self.old.folder) (F.may_leave self.new.folder) }
+        ensures moments { GoesOn F.moment F.left_since F.may_lack self.old.folder self.new.folder
+            (OldOrNone (F.may_leave self.old.folder)) }
         ensures passed { SamePassed (F.seen self.old.folder) (F.seen self.new.folder) }
     {
         self.known = Known::new(self.alloc);
@@ -160,6 +164,8 @@ impl<F: Folder> Hand<F> {
         ensures stage { self.new.stage ≡ self.old.stage }
         ensures cause { HasFailed (F.faults self.old.folder) (F.faults self.new.folder) result }
         ensures crash { OrNone (F.may_leave self.old.folder) (F.may_leave self.new.folder) }
+        ensures moments { GoesOn F.moment F.left_since F.may_lack self.old.folder self.new.folder
+            (OldOrNone (F.may_leave self.old.folder)) }
         ensures passed { SamePassed (F.seen self.old.folder) (F.seen self.new.folder) }
     {
         self.known.begin_file(name, count)?;
@@ -175,6 +181,8 @@ impl<F: Folder> Hand<F> {
             → Follows F.seen F.may_leave self.new (at_job (with_file name count) job) }
         ensures blame { Blames F.faults self.old self.new }
         ensures crash { OrNone (F.may_leave self.old.folder) (F.may_leave self.new.folder) }
+        ensures moments { GoesOn F.moment F.left_since F.may_lack self.old.folder self.new.folder
+            (OldOrNone (F.may_leave self.old.folder)) }
         ensures passed { SamePassed (F.seen self.old.folder) (F.seen self.new.folder) }
     {
         match self.stage {
@@ -196,6 +204,8 @@ impl<F: Folder> Hand<F> {
         ensures stage { self.new.stage ≡ self.old.stage }
         ensures cause { HasFailed (F.faults self.old.folder) (F.faults self.new.folder) result }
         ensures crash { OrNone (F.may_leave self.old.folder) (F.may_leave self.new.folder) }
+        ensures moments { GoesOn F.moment F.left_since F.may_lack self.old.folder self.new.folder
+            (OldOrNone (F.may_leave self.old.folder)) }
         ensures passed { SamePassed (F.seen self.old.folder) (F.seen self.new.folder) }
     {
         self.known.put(octets.len() as u64)?;
@@ -209,6 +219,8 @@ impl<F: Folder> Hand<F> {
             → Follows F.seen F.may_leave self.new (at_job (with_octets octets.now) job) }
         ensures blame { Blames F.faults self.old self.new }
         ensures crash { OrNone (F.may_leave self.old.folder) (F.may_leave self.new.folder) }
+        ensures moments { GoesOn F.moment F.left_since F.may_lack self.old.folder self.new.folder
+            (OldOrNone (F.may_leave self.old.folder)) }
         ensures passed { SamePassed (F.seen self.old.folder) (F.seen self.new.folder) }
     {
         match self.stage {
@@ -230,6 +242,8 @@ impl<F: Folder> Hand<F> {
         ensures stage { self.new.stage ≡ self.old.stage }
         ensures cause { HasFailed (F.faults self.old.folder) (F.faults self.new.folder) result }
         ensures crash { OrNone (F.may_leave self.old.folder) (F.may_leave self.new.folder) }
+        ensures moments { GoesOn F.moment F.left_since F.may_lack self.old.folder self.new.folder
+            (OldOrNone (F.may_leave self.old.folder)) }
         ensures passed { SamePassed (F.seen self.old.folder) (F.seen self.new.folder) }
     {
         self.known.end_file()?;
@@ -243,6 +257,8 @@ impl<F: Folder> Hand<F> {
             → Follows F.seen F.may_leave self.new (at_job with_end job) }
         ensures blame { Blames F.faults self.old self.new }
         ensures crash { OrNone (F.may_leave self.old.folder) (F.may_leave self.new.folder) }
+        ensures moments { GoesOn F.moment F.left_since F.may_lack self.old.folder self.new.folder
+            (OldOrNone (F.may_leave self.old.folder)) }
         ensures passed { SamePassed (F.seen self.old.folder) (F.seen self.new.folder) }
     {
         match self.stage {
@@ -264,6 +280,8 @@ impl<F: Folder> Hand<F> {
         ensures stage { self.new.stage ≡ self.old.stage }
         ensures cause { HasFailed (F.faults self.old.folder) (F.faults self.new.folder) result }
         ensures crash { OrNone (F.may_leave self.old.folder) (F.may_leave self.new.folder) }
+        ensures moments { GoesOn F.moment F.left_since F.may_lack self.old.folder self.new.folder
+            (OldOrNone (F.may_leave self.old.folder)) }
         ensures passed { SamePassed (F.seen self.old.folder) (F.seen self.new.folder) }
     {
         let Some(name) = name_of(control.number) else {
@@ -290,6 +308,8 @@ impl<F: Folder> Hand<F> {
             (contents control.now)) job) }
         ensures blame { Blames F.faults self.old self.new }
         ensures crash { OrNone (F.may_leave self.old.folder) (F.may_leave self.new.folder) }
+        ensures moments { GoesOn F.moment F.left_since F.may_lack self.old.folder self.new.folder
+            (OldOrNone (F.may_leave self.old.folder)) }
         ensures passed { SamePassed (F.seen self.old.folder) (F.seen self.new.folder) }
     {
         match self.stage {
@@ -313,6 +333,9 @@ impl<F: Folder> Hand<F> {
         ensures blame { Blames F.faults self.old self.new }
         ensures crash { (job : Option Coming) → Follows F.seen F.may_leave self.old job
             → MayLeave F.seen F.may_leave self.old.folder self.new.folder job }
+        ensures moments { (job : Option Coming) → Follows F.seen F.may_leave self.old job
+            → GoesOn F.moment F.left_since F.may_lack self.old.folder self.new.folder
+            (LeavesAt F.seen F.may_leave self.old.folder job) }
         ensures passed { SamePassed (F.seen self.old.folder) (F.seen self.new.folder) }
     {
         let HandStage::Coming = self.stage else {
@@ -334,6 +357,9 @@ impl<F: Folder> Hand<F> {
             → Passes number (stream job) (F.seen self.old.folder) (F.seen self.new.folder) }
         ensures never { IsNever (F.may_leave self.new.folder) }
         ensures idle { self.new.stage ≡ stage.Idle }
+        ensures moments { (job : Coming) → Holds F.seen F.may_leave self.old job
+            → GoesOn F.moment F.left_since F.may_lack self.old.folder self.new.folder
+            (OldOrNone (F.may_leave self.old.folder)) }
     {
         self.folder.pass(number);
         self.stage = HandStage::Idle;
@@ -347,18 +373,44 @@ impl<F: Folder> Hand<F> {
             → Follows F.seen F.may_leave self.new (settled job) }
         ensures settles { (job : Option Coming) → Follows F.seen F.may_leave self.old job
             → IsDecided F.seen F.may_leave self.old job
-            → Settles number job (F.seen self.old.folder) (F.seen self.new.folder) }
+            → Settles (Some number) job (F.seen self.old.folder) (F.seen self.new.folder) }
         ensures crash { OrNone (F.may_leave self.old.folder) (F.may_leave self.new.folder) }
+        ensures moments { (job : Option Coming) → Follows F.seen F.may_leave self.old job
+            → GoesOn F.moment F.left_since F.may_lack self.old.folder self.new.folder
+            (OldOrNone (F.may_leave self.old.folder)) }
     {
         if let HandStage::Kept = self.stage {
             self.pass(number);
         }
     }
 
+    /// Leaves a job that was kept in the folder, and nobody is told it. None is in hand then; one that is still coming stays in hand.
+    pub fn leave(&mut self)
+        requires { (cause : Cause) → self.old.stage ≡ stage.Broken cause → ⊥ }
+        ensures follows { (job : Option Coming) → Follows F.seen F.may_leave self.old job
+            → IsDecided F.seen F.may_leave self.old job
+            → Follows F.seen F.may_leave self.new (settled job) }
+        ensures settles { (job : Option Coming) → Follows F.seen F.may_leave self.old job
+            → IsDecided F.seen F.may_leave self.old job
+            → Settles None job (F.seen self.old.folder) (F.seen self.new.folder) }
+        ensures crash { OrNone (F.may_leave self.old.folder) (F.may_leave self.new.folder) }
+        ensures moments { (job : Option Coming) → Follows F.seen F.may_leave self.old job
+            → GoesOn F.moment F.left_since F.may_lack self.old.folder self.new.folder
+            (OldOrNone (F.may_leave self.old.folder)) }
+    {
+        let HandStage::Kept = self.stage else {
+            return;
+        };
+        self.folder.leave();
+        self.stage = HandStage::Idle;
+    }
+
     /// Takes away what is in the folder of the job in hand, which isn't to be kept for this cause.
     pub fn fail(&mut self, cause: Cause)
         ensures broken { self.new.stage ≡ stage.Broken cause }
         ensures crash { OrNone (F.may_leave self.old.folder) (F.may_leave self.new.folder) }
+        ensures moments { GoesOn F.moment F.left_since F.may_lack self.old.folder self.new.folder
+            (OldOrNone (F.may_leave self.old.folder)) }
         ensures passed { SamePassed (F.seen self.old.folder) (F.seen self.new.folder) }
     {
         self.folder.discard();
@@ -369,6 +421,8 @@ impl<F: Folder> Hand<F> {
     pub fn let_go(&mut self)
         ensures idle { self.new.stage ≡ stage.Idle }
         ensures crash { OrNone (F.may_leave self.old.folder) (F.may_leave self.new.folder) }
+        ensures moments { GoesOn F.moment F.left_since F.may_lack self.old.folder self.new.folder
+            (OldOrNone (F.may_leave self.old.folder)) }
         ensures passed { SamePassed (F.seen self.old.folder) (F.seen self.new.folder) }
     {
         self.folder.discard();

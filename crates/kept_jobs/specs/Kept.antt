@@ -16,6 +16,14 @@ pub record IsKept (seen : Option Seen) (may_leave : Option (List ℕ) → Type 0
 abbrev pub AllOrNone : Option Seen → List ℕ → Option (List ℕ) → Type 0
 AllOrNone seen octets c = IsSeen (λ s. (c ≡ None) ⊎ (c ≡ Some octets)) seen
 
--- this job was passed on with these octets, and nothing is in hand
+-- a job with these octets is in hand no more: it was passed on under this number, or left where it has none
+abbrev pub LetsOut : (number : Option ℕ) → (octets : List ℕ) → (old new : Option Seen) → Type 0
+LetsOut number octets = Leads (λ old new. new.passed ≡ (number, octets) ∷ old.passed)
+
+-- this job was passed on with these octets
 abbrev pub Passes : (job : ℕ) → (octets : List ℕ) → (old new : Option Seen) → Type 0
-Passes job octets = Leads (λ old new. new.passed ≡ (job, octets) ∷ old.passed)
+Passes job = LetsOut (Some job)
+
+-- a job with these octets was left: its whole file stays, and nobody is told its job
+abbrev pub Leaves : (octets : List ℕ) → (old new : Option Seen) → Type 0
+Leaves = LetsOut None

@@ -2,8 +2,8 @@
 
 ghost use Rattle.std.specs.Prelude.{◌≡◌, ◌⊎◌, ◌≤◌, ◌++◌, [], List, ℕ, Option, None, Some, OnOk, is_some};
 ghost use Rattle.kept_jobs.specs.declared.folder.KeepError.TheVariants.{Memory};
-ghost use Rattle.kept_jobs.specs.Folder.{Elapses, HasCause, IsNever, IsSeen, Leads, NoMore, OrNone, SamePassed, SomeOf, octets_of};
-ghost use Rattle.kept_jobs.specs.Kept.{IsKept, Passes};
+ghost use Rattle.kept_jobs.specs.Folder.{Elapses, HasCause, IsNever, IsSeen, LacksNoMore, Leads, NoMore, OrNone, SamePassed, SomeOf, octets_of};
+ghost use Rattle.kept_jobs.specs.Kept.{IsKept, Leaves, Passes};
 
 use std::alloc::{AllocError, AllocFailed};
 
@@ -51,9 +51,13 @@ pub trait Folder {
     /// The moment, as a number that doesn't fall.
     ghost moment: { Self → ℕ };
 
-    /// What a crash at some moment from that one on might have left of the job in hand, during a call
+    /// What a crash at some moment from that one on might have left of the job that was in hand then, during a call
     /// or between two.
     ghost left_since: { Self → ℕ → Option (List ℕ) → Type 0 };
+
+    /// Whether a crash at some moment since a job with these octets was passed on or left, and before it was let go, might have
+    /// left anything else of it than a whole file with just these octets.
+    ghost may_lack: { Self → List ℕ → Type 0 };
 
     /// How often the folder has failed.
     ghost faults: { Self → ℕ };
@@ -69,6 +73,9 @@ pub trait Folder {
         ensures passed { SamePassed (seen self.old) (seen self.new) }
         ensures never { OnOk result (IsNever (may_leave self.new)) }
         ensures crash { OrNone (may_leave self.old) (may_leave self.new) }
+        ensures time { Elapses (moment self.old) (moment self.new) (left_since self.old)
+            (left_since self.new) (may_leave self.new) }
+        ensures lacks { LacksNoMore (may_lack self.old) (may_lack self.new) }
         ensures cause { HasCause (faults self.old) (faults self.new) result };
 
     /// Writes octets at the end of the temporary file. Until a sync, a crash may leave any octets in
@@ -81,6 +88,7 @@ pub trait Folder {
         ensures crash { NoMore (may_leave self.old) (may_leave self.new) }
         ensures time { Elapses (moment self.old) (moment self.new) (left_since self.old)
             (left_since self.new) (may_leave self.new) }
+        ensures lacks { LacksNoMore (may_lack self.old) (may_lack self.new) }
         ensures cause { HasCause (faults self.old) (faults self.new) result };
 
     /// Has the octets of the temporary file on the disk. After an error nothing is known of what the
@@ -92,6 +100,7 @@ pub trait Folder {
         ensures crash { NoMore (may_leave self.old) (may_leave self.new) }
         ensures time { Elapses (moment self.old) (moment self.new) (left_since self.old)
             (left_since self.new) (may_leave self.new) }
+        ensures lacks { LacksNoMore (may_lack self.old) (may_lack self.new) }
         ensures cause { HasCause (faults self.old) (faults self.new) result };
 
     /// Gives the temporary file the name of a whole one, at once. Until the folder is synced, a crash
@@ -105,6 +114,7 @@ pub trait Folder {
             → may_leave self.old c ⊎ SomeOf (may_hold self.old) c }
         ensures time { Elapses (moment self.old) (moment self.new) (left_since self.old)
             (left_since self.new) (may_leave self.new) }
+        ensures lacks { LacksNoMore (may_lack self.old) (may_lack self.new) }
         ensures cause { HasCause (faults self.old) (faults self.new) result };
 
     /// Has the names of the folder on the disk: after it, a crash leaves the job exactly where it is
@@ -116,6 +126,7 @@ pub trait Folder {
         ensures crash { NoMore (may_leave self.old) (may_leave self.new) }
         ensures time { Elapses (moment self.old) (moment self.new) (left_since self.old)
             (left_since self.new) (may_leave self.new) }
+        ensures lacks { LacksNoMore (may_lack self.old) (may_lack self.new) }
         ensures cause { HasCause (faults self.old) (faults self.new) result };
 
     /// Passes the job in hand, if it is kept, on to whoever lets it go once the job of this number has
@@ -123,12 +134,29 @@ pub trait Folder {
     fn pass(&mut self, job: u64)
         ensures passes { (octets : List ℕ) → IsKept (seen self.old) (may_leave self.old) octets
             → Passes job octets (seen self.old) (seen self.new) }
-        ensures never { IsNever (may_leave self.new) };
+        ensures never { IsNever (may_leave self.new) }
+        ensures time { Elapses (moment self.old) (moment self.new) (left_since self.old)
+            (left_since self.new) (may_leave self.new) }
+        ensures lacks { (octets : List ℕ) → IsKept (seen self.old) (may_leave self.old) octets
+            → LacksNoMore (may_lack self.old) (may_lack self.new) };
+
+    /// Leaves the job in hand, if it is kept: its whole file stays, and nobody is told its job. Nothing is in hand then.
+    fn leave(&mut self)
+        ensures leaves { (octets : List ℕ) → IsKept (seen self.old) (may_leave self.old) octets
+            → Leaves octets (seen self.old) (seen self.new) }
+        ensures never { IsNever (may_leave self.new) }
+        ensures time { Elapses (moment self.old) (moment self.new) (left_since self.old)
+            (left_since self.new) (may_leave self.new) }
+        ensures lacks { (octets : List ℕ) → IsKept (seen self.old) (may_leave self.old) octets
+            → LacksNoMore (may_lack self.old) (may_lack self.new) };
 
     /// Takes away what is in hand, if it can. After a crash a job that was whole may come back.
     fn discard(&mut self)
         ensures passed { SamePassed (seen self.old) (seen self.new) }
-        ensures crash { OrNone (may_leave self.old) (may_leave self.new) };
+        ensures crash { OrNone (may_leave self.old) (may_leave self.new) }
+        ensures time { Elapses (moment self.old) (moment self.new) (left_since self.old)
+            (left_since self.new) (may_leave self.new) }
+        ensures lacks { LacksNoMore (may_lack self.old) (may_lack self.new) };
 
     /// This moment is one of those since an earlier one.
     ghost counts_now: { (folder : Self) (t : ℕ) (c : Option (List ℕ)) → t ≤ moment folder

@@ -11,7 +11,7 @@ use Rattle.request_session.specs.Carried.{CarriesAll, CarriesDue, Carrying, Endi
 use Rattle.request_session.specs.Course.{Course, Came, Did, session_after}
 use Rattle.request_session.specs.Served.{Around, ServedBy}
 use Rattle.kept_jobs.specs.Folder.{IsSeen, SamePassed, Seen}
-use Rattle.kept_jobs.specs.Kept.{Passes}
+use Rattle.kept_jobs.specs.Kept.{LetsOut}
 use Rattle.job_streams.specs.Stream.{Coming, is_whole, stream}
 use Rattle.job_streams.specs.Coming.{with_control, with_end}
 use Rattle.job_hand.specs.Hand.{Follows, IsOfWhole, Leaving, MayLeave, Settles, SettlesAs, Telling, at_job}
@@ -36,26 +36,26 @@ same_grew : (a b : Option Seen) → SamePassed a b → Grew a b
 same_grew None b h = h
 same_grew (Some s) b h = (h.0, h.1, ([], h.2))
 
-passes_grew : (number : ℕ) (octets : List ℕ) (a b : Option Seen) → Passes number octets a b → Grew a b
+passes_grew : (number : Option ℕ) (octets : List ℕ) (a b : Option Seen) → LetsOut number octets a b → Grew a b
 passes_grew number octets None b h = h
 passes_grew number octets (Some s) b h = (h.0, h.1, ((number, octets) ∷ [], h.2))
 
-settles_as_grew : (whole : Bool) (number : ℕ) (job : Coming) (a b : Option Seen) → SettlesAs whole number job a b → Grew a b
+settles_as_grew : (whole : Bool) (number : Option ℕ) (job : Coming) (a b : Option Seen) → SettlesAs whole number job a b → Grew a b
 settles_as_grew true number job a b h = passes_grew number (stream job) a b h.1
 settles_as_grew false number job a b h = same_grew a b h
 
-settles_grew : (number : ℕ) (work : Option Coming) (a b : Option Seen) → Settles number work a b → Grew a b
+settles_grew : (number : Option ℕ) (work : Option Coming) (a b : Option Seen) → Settles number work a b → Grew a b
 settles_grew number None a b h = same_grew a b h
 settles_grew number (Some job) a b h = settles_as_grew (is_whole job) number job a b h
 
 settles_by_grew : (answer : Answer) (number : ℕ) (work : Option Coming) (a b : Option Seen) → settles_by answer number work a b → Grew a b
-settles_by_grew answer.Yes number work a b h = settles_grew number work a b h
-settles_by_grew (answer.Accepted job) number work a b h = settles_grew number work a b h
-settles_by_grew (answer.Lent page_size) number work a b h = settles_grew number work a b h
-settles_by_grew answer.Later number work a b h = settles_grew number work a b h
-settles_by_grew answer.Stored number work a b h = settles_grew number work a b h
-settles_by_grew answer.Received number work a b h = settles_grew number work a b h
-settles_by_grew (answer.Told text) number work a b h = settles_grew number work a b h
+settles_by_grew answer.Yes number work a b h = settles_grew (Some number) work a b h
+settles_by_grew (answer.Accepted job) number work a b h = settles_grew (Some number) work a b h
+settles_by_grew (answer.Lent page_size) number work a b h = settles_grew (Some number) work a b h
+settles_by_grew answer.Later number work a b h = settles_grew (Some number) work a b h
+settles_by_grew answer.Stored number work a b h = settles_grew (Some number) work a b h
+settles_by_grew answer.Received number work a b h = settles_grew (Some number) work a b h
+settles_by_grew (answer.Told text) number work a b h = settles_grew (Some number) work a b h
 settles_by_grew (answer.Refused n) number work a b h = same_grew a b h
 
 request_grew : (r : Request) (job : ℕ) (answer : Answer) (work : Option Coming) (a b : Option Seen) → PassesOn job r answer work a b → Grew a b

@@ -28,7 +28,7 @@ same_refl None = refl
 same_refl (Some s) = (s, refl, refl)
 
 -- nothing is passed on and then this
-pub leads_after : (P : List (ℕ × List ℕ) → List (ℕ × List ℕ) → Type 0) (a b c : Option Seen) → SamePassed a b → Leads (λ old new. P old.passed new.passed) b c → Leads (λ old new. P old.passed new.passed) a c
+pub leads_after : (P : List (Option ℕ × List ℕ) → List (Option ℕ × List ℕ) → Type 0) (a b c : Option Seen) → SamePassed a b → Leads (λ old new. P old.passed new.passed) b c → Leads (λ old new. P old.passed new.passed) a c
 leads_after P None b c first then = subst (λ o. Leads (λ old new. P old.passed new.passed) o c) first then
 leads_after P (Some s) b c first then =
     let last = subst (λ o. Leads (λ old new. P old.passed new.passed) o c) first.1 then in
@@ -37,11 +37,11 @@ leads_after P (Some s) b c first then =
 pub same_then : (a b c : Option Seen) → SamePassed a b → SamePassed b c → SamePassed a c
 same_then a b c first then = leads_after (λ old new. new ≡ old) a b c first then
 
-settles_as_after : (whole : Bool) (number : ℕ) (job : Coming) (a b c : Option Seen) → SamePassed a b → SettlesAs whole number job b c → SettlesAs whole number job a c
+settles_as_after : (whole : Bool) (number : Option ℕ) (job : Coming) (a b c : Option Seen) → SamePassed a b → SettlesAs whole number job b c → SettlesAs whole number job a c
 settles_as_after true number job a b c first then = (then.0, leads_after (λ old new. new ≡ (number, stream job) ∷ old) a b c first then.1)
 settles_as_after false number job a b c first then = same_then a b c first then
 
-pub settles_after : (number : ℕ) (work : Option Coming) (a b c : Option Seen) → SamePassed a b → Settles number work b c → Settles number work a c
+pub settles_after : (number : Option ℕ) (work : Option Coming) (a b c : Option Seen) → SamePassed a b → Settles number work b c → Settles number work a c
 settles_after number None a b c first then = same_then a b c first then
 settles_after number (Some job) a b c first then = settles_as_after (is_whole job) number job a b c first then
 
@@ -70,7 +70,7 @@ control_accepted (Ok receipt.Stored) said work sender P ok h = h
 control_accepted (Ok receipt.Received) said work sender P ok h = h
 control_accepted (Err back) said work sender P ok h = absurd (true≢false ok)
 
-pub control_passes : (result : Result Receipt ReturnedControl) (said : Contents) (job : ℕ) (work : Option Coming) (old new : Option Seen) → true ≡ is_ok result → Settles job (at_job (with_control said) work) old new → PassesOn job (Control said) (controlled_by result) work old new
+pub control_passes : (result : Result Receipt ReturnedControl) (said : Contents) (job : ℕ) (work : Option Coming) (old new : Option Seen) → true ≡ is_ok result → Settles (Some job) (at_job (with_control said) work) old new → PassesOn job (Control said) (controlled_by result) work old new
 control_passes (Ok receipt.Stored) said job work old new ok h = h
 control_passes (Ok receipt.Received) said job work old new ok h = h
 control_passes (Err back) said job work old new ok h = absurd (true≢false ok)
@@ -86,7 +86,7 @@ end_accepted (Ok receipt.Stored) work sender P ok h = h
 end_accepted (Ok receipt.Received) work sender P ok h = h
 end_accepted (Err n) work sender P ok h = absurd (true≢false ok)
 
-pub end_passes : (result : Result Receipt Refusal) (job : ℕ) (work : Option Coming) (old new : Option Seen) → true ≡ is_ok result → Settles job (at_job with_end work) old new → PassesOn job EndFile (kept_by result) work old new
+pub end_passes : (result : Result Receipt Refusal) (job : ℕ) (work : Option Coming) (old new : Option Seen) → true ≡ is_ok result → Settles (Some job) (at_job with_end work) old new → PassesOn job EndFile (kept_by result) work old new
 end_passes (Ok receipt.Stored) job work old new ok h = h
 end_passes (Ok receipt.Received) job work old new ok h = h
 end_passes (Err n) job work old new ok h = absurd (true≢false ok)

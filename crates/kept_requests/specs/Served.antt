@@ -54,9 +54,9 @@ module _ (sender : ℕ) where
       IsOfWhole (last_due (due_in (session_after sender c)) (work_of c)) kept ⊎ HadWhole c kept
   HadWhole (move ∷ c) kept = HadWhole c kept
 
--- more jobs were passed on, or none
+-- more jobs were passed on or left, or none
 abbrev pub Grew : (old new : Option Seen) → Type 0
-Grew = Leads (λ old new. (more : List (ℕ × List ℕ)) × (new.passed ≡ more ++ old.passed))
+Grew = Leads (λ old new. (more : List (Option ℕ × List ℕ)) × (new.passed ≡ more ++ old.passed))
 
 -- A moment of a session, after the beginning of its course: just what this says has been passed on; later only more is;
 -- and a crash leaves of the job in hand the whole or none, or what it might have left at the start.

@@ -31,7 +31,7 @@ work_after sender r answer work = work
 
 abbrev pub settles_by : Answer → (job : ℕ) → Option Coming → (old new : Option Seen) → Type 0
 settles_by (Refused n) job work old new = SamePassed old new
-settles_by answer job work old new = Settles job work old new
+settles_by answer job work old new = Settles (Some job) work old new
 
 -- what is passed on by a request of the session whose last job has this number: the job, where the file that has come
 -- makes it whole, and nothing else

@@ -5,4 +5,4 @@ mod file;
 mod memory;
 
 pub use file::{Crash, DiskFile};
-pub use memory::{MemoryFolder, Passed};
+pub use memory::{FileEnd, GoneFile, MemoryFolder};

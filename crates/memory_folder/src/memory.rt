@@ -1,21 +1,41 @@
 //! A folder in memory, which fails from some call on as one does whose machine has crashed.
 
-ghost use Rattle.std.specs.Prelude.{◌≡◌, ◌<◌, ◌++◌, ◌&&◌, not, [], MatchOption, None, Some, OnOk, is_some, true, vec_capacity, vec_len};
+ghost use Rattle.std.specs.Prelude.{◌≡◌, ◌<◌, ◌++◌, ◌&&◌, not, [], MatchOption, None, Some, OnOk, count_by, is_some, true, vec_capacity, vec_len};
 ghost use Rattle.std.proofs.Common.{inl};
 ghost use Rattle.kept_jobs.specs.Folder.{HasCause, octets_of};
-ghost use Rattle.memory_folder.specs.Memory.{LeftSince, MayHold, MayLeave, left_of, moment_of, octets_in, only_left, passed_in};
+ghost use Rattle.memory_folder.specs.Memory.{Lacks, LeftSince, MayHold, MayLeave, gone_with, is_let_out, left_of, moment_of, octets_in, only_left, passed_in};
 
 use crate::file::{Crash, DiskFile};
 use kept_jobs::{Folder, KeepError};
 use std::alloc::{AllocError, Global};
 
-/// A job that was passed on.
+/// What became of a whole file that was in hand.
+#[derive(Clone, Copy, Debug, PartialEq, Eq)]
+pub enum FileEnd {
+    /// Its job was passed on, and has this number.
+    Passed(u64),
+    /// It was left.
+    Left,
+    /// It was taken away.
+    Discarded,
+}
+
+/// A whole file that is in hand no more.
 #[derive(Drop)]
-pub struct Passed {
-    /// Its number.
-    pub job: u64,
-    /// Its file.
+pub struct GoneFile {
+    /// What became of it.
+    pub end: FileEnd,
+    /// The file, as it was then.
     pub file: DiskFile,
+}
+
+impl GoneFile {
+    /// Whether its job was passed on, or left.
+    pub fn is_let_out(&self) -> bool
+        ensures { result ≡ is_let_out self.now.end }
+    {
+        !matches!(self.end, FileEnd::Discarded)
+    }
 }
 
 /// A folder in memory, as one session has it.
@@ -24,13 +44,14 @@ pub struct MemoryFolder {
     alloc: Global,
     partial: Option<DiskFile>,
     whole: Option<DiskFile>,
-    passed: Vec<Passed>,
+    /// The whole files that were in hand before, the oldest first.
+    gone: Vec<GoneFile>,
     /// How many more calls go well. After these each call fails, and what is in the folder stays.
     calls: u64,
     faults: u64,
     /// Whether it says that an earlier job of each sender waits for each queue.
     earlier: bool,
-    ghost room: { is_some whole ≡ true → vec_len passed < vec_capacity passed },
+    ghost room: { is_some whole ≡ true → vec_len gone < vec_capacity gone },
 }
 
 /// Fails where no call is left, or this one isn't possible.
@@ -58,18 +79,32 @@ fn is_ready(partial: &Option<DiskFile>, whole: &Option<DiskFile>) -> bool
     partial.is_some() && whole.is_none()
 }
 
+/// Puts octets behind those of a temporary file, which is made where there is none.
+fn write(alloc: Global, partial: &mut Option<DiskFile>, octets: &[u8]) -> Result<(), AllocError>
+    ensures { OnOk result (octets_in partial.new
+        ≡ Some (octets_of (octets_in partial.old) ++ octets.now)) }
+{
+    match partial {
+        Some(file) => file.octets.extend_from_slice(octets),
+        None => {
+            *partial = Some(DiskFile::new(Vec::from_slice(alloc, octets)?));
+            Ok(())
+        }
+    }
+}
+
 impl MemoryFolder {
     /// An empty one, of which so many calls go well. It says of every sender and queue whether an earlier job waits.
     pub fn new(alloc: Global, calls: u64, earlier: bool) -> MemoryFolder
         ensures empty { (result.partial ≡ None) × (result.whole ≡ None)
-            × (result.passed.items ≡ []) }
+            × (result.gone.items ≡ []) }
         ensures calls { (result.calls ≡ calls) × (result.earlier ≡ earlier) }
     {
         MemoryFolder {
             alloc,
             partial: None,
             whole: None,
-            passed: Vec::new(alloc),
+            gone: Vec::new(alloc),
             calls,
             faults: 0,
             earlier,
@@ -89,24 +124,29 @@ impl MemoryFolder {
         }
     }
 
-    /// The jobs that were passed on.
-    pub fn passed(&self) -> &[Passed]
-        ensures { result.now ≡ self.now.passed.items }
+    /// The whole files that were in hand before, the oldest first.
+    pub fn gone(&self) -> &[GoneFile]
+        ensures { result.now ≡ self.now.gone.items }
     {
-        self.passed.as_slice()
+        self.gone.as_slice()
     }
 
-    fn write(&mut self, octets: &[u8]) -> Result<(), AllocError>
-        ensures ok { OnOk result (octets_in self.new.partial
-            ≡ Some (octets_of (octets_in self.old.partial) ++ octets.now)) }
-        ensures same { self.new ≡ record self.old { partial = self.new.partial } }
+    /// How many jobs were passed on or left.
+    pub fn let_out(&self) -> usize
+        ensures { result ≡ count_by (λ gone. is_let_out gone.end) self.now.gone.items }
     {
-        match &mut self.partial {
-            Some(file) => file.octets.extend_from_slice(octets),
-            None => {
-                self.partial = Some(DiskFile::new(Vec::from_slice(self.alloc, octets)?));
-                Ok(())
-            }
+        self.gone.iter().filter(|gone| gone.is_let_out()).count()
+    }
+
+    /// Nothing is in hand any more; a whole file that was came to this end.
+    fn empty(&mut self, end: FileEnd)
+        ensures nothing { (self.new.partial ≡ None) × (self.new.whole ≡ None) }
+        ensures gone { self.new.gone.items ≡ gone_with end self.old.whole self.old.gone.items }
+        ensures faults { self.new.faults ≡ self.old.faults }
+    {
+        self.partial = None;
+        if let Some(file) = self.whole.take() {
+            self.gone.push_reserved(GoneFile { end, file });
         }
     }
 }
@@ -117,16 +157,18 @@ impl Folder for MemoryFolder {
     ghost seen = { λ m. Some (record {
       partial = octets_in m.partial;
       whole = octets_in m.whole;
-      passed = passed_in m.passed.items;
+      passed = passed_in m.gone.items;
     }) };
 
     ghost may_hold = { λ m octets. MayHold m.partial octets };
 
     ghost may_leave = { λ m c. MayLeave m.whole c };
 
-    ghost moment = { λ m. moment_of m.whole };
+    ghost moment = { λ m. moment_of m.gone.items m.whole };
 
-    ghost left_since = { λ m t c. LeftSince m.whole t c };
+    ghost left_since = { λ m t c. LeftSince m.gone.items m.whole t c };
+
+    ghost may_lack = { λ m octets. Lacks m.gone.items octets };
 
     ghost faults = { λ m. m.faults };
 
@@ -136,14 +178,15 @@ impl Folder for MemoryFolder {
 
     fn create(&mut self) -> Result<(), KeepError> {
         step(&mut self.calls, &mut self.faults, true)?;
+        self.empty(FileEnd::Discarded);
         self.partial = Some(DiskFile::new(Vec::new(self.alloc)));
-        self.whole = None;
         Ok(())
     }
 
     fn append(&mut self, octets: &[u8]) -> Result<(), KeepError> {
         step(&mut self.calls, &mut self.faults, true)?;
-        Ok(self.write(octets)?)
+        write(self.alloc, &mut self.partial, octets)?;
+        Ok(())
     }
 
     fn sync(&mut self) -> Result<(), KeepError> {
@@ -157,7 +200,7 @@ impl Folder for MemoryFolder {
     fn publish(&mut self) -> Result<(), KeepError> {
         let possible = is_ready(&self.partial, &self.whole);
         step(&mut self.calls, &mut self.faults, possible)?;
-        self.passed.reserve(1)?;
+        self.gone.reserve(1)?;
         self.whole = self.partial.take();
         Ok(())
     }
@@ -171,20 +214,20 @@ impl Folder for MemoryFolder {
     }
 
     fn pass(&mut self, job: u64) {
-        self.partial = None;
-        if let Some(file) = self.whole.take() {
-            self.passed.push_reserved(Passed { job, file });
-        }
+        self.empty(FileEnd::Passed(job));
+    }
+
+    fn leave(&mut self) {
+        self.empty(FileEnd::Left);
     }
 
     fn discard(&mut self) {
         if step(&mut self.calls, &mut self.faults, true).is_ok() {
-            self.partial = None;
-            self.whole = None;
+            self.empty(FileEnd::Discarded);
         }
     }
 
-    ghost counts_now = { λ m t c le now. inl now };
+    ghost counts_now = { λ m t c le now. inl (inl now) };
 
-    ghost only_now = { λ m c left. only_left m.whole c left };
+    ghost only_now = { λ m c left. only_left m.gone.items m.whole c left };
 }

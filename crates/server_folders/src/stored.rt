@@ -159,6 +159,8 @@ impl<R: Files<File = File> + Wait> Folder for FedFolder<'_, R> {
 
     ghost left_since = { λ _ t left. ⊥ };
 
+    ghost may_lack = { λ _ octets. ⊥ };
+
     ghost faults = { λ _. 0 };
 
     fn has_earlier(&self, _sender: u32, _queue: &[u8]) -> bool {
@@ -193,6 +195,9 @@ impl<R: Files<File = File> + Wait> Folder for FedFolder<'_, R> {
             self.fault = Some(fault);
         }
     }
+
+    /// The file stays, and whoever feeds it sees that its job wasn't passed on.
+    fn leave(&mut self) {}
 
     fn discard(&mut self) {}
 

@@ -1,4 +1,4 @@
-use Rattle.std.proofs.Common.{inl}
+use Rattle.std.proofs.Common.{Some, inl}
 use Rattle.control_file.specs.View.{contents}
 use Rattle.job_streams.specs.Coming.{with_control}
 use Rattle.job_hand.specs.Hand.{Follows, at_job}
@@ -29,7 +29,7 @@ returns-then-is_ok g c = record {
             let h1 = c.control.ensures.follows work h in
             let h2 = c.keep_whole.ensures.follows _ h1 in
             control_passes c.control-answer.result said c.args.job work _ _ ok
-            (settles_after c.args.job (at_job (with_control said) work) (g.F.Folder.seen c.args.self.now.hand.folder) (g.F.Folder.seen c.keep_whole.new.self.folder) (g.F.Folder.seen c.settle.new.self.folder) (same_then _ _ _ c.control.ensures.passed c.keep_whole.ensures.passed) (c.settle.ensures.settles _ h2 (c.keep_whole.ensures.decided _ h1)));
+            (settles_after (Some c.args.job) (at_job (with_control said) work) (g.F.Folder.seen c.args.self.now.hand.folder) (g.F.Folder.seen c.keep_whole.new.self.folder) (g.F.Folder.seen c.settle.new.self.folder) (same_then _ _ _ c.control.ensures.passed c.keep_whole.ensures.passed) (c.settle.ensures.settles _ h2 (c.keep_whole.ensures.decided _ h1)));
         leaves = λ work h. file_leaves g.F.Folder.seen g.F.Folder.may_leave c.args.self.now.hand.folder c.control.new.self.folder c.keep_whole.new.self.folder c.settle.new.self.folder (at_job (with_control said) work) c.control.ensures.crash c.control.ensures.passed
             (c.keep_whole.ensures.crash _ (c.control.ensures.follows work h)) c.settle.ensures.crash;
       };

@@ -1,4 +1,4 @@
-use Rattle.std.proofs.Common.{inl}
+use Rattle.std.proofs.Common.{Some, inl}
 use Rattle.job_streams.specs.Coming.{with_end}
 use Rattle.job_hand.specs.Hand.{Follows, at_job}
 use Rattle.job_hand.proofs.Standing.{follows_broken}
@@ -25,7 +25,7 @@ returns-then-is_ok g c = λ sender.
           let h1 = c.end_file.ensures.follows work h in
           let h2 = c.keep_whole.ensures.follows _ h1 in
           end_passes c.end_file-answer.result c.args.job work _ _ ok
-          (settles_after c.args.job (at_job with_end work) (g.F.Folder.seen c.args.self.now.hand.folder) (g.F.Folder.seen c.keep_whole.new.self.folder) (g.F.Folder.seen c.settle.new.self.folder) (same_then _ _ _ c.end_file.ensures.passed c.keep_whole.ensures.passed) (c.settle.ensures.settles _ h2 (c.keep_whole.ensures.decided _ h1)));
+          (settles_after (Some c.args.job) (at_job with_end work) (g.F.Folder.seen c.args.self.now.hand.folder) (g.F.Folder.seen c.keep_whole.new.self.folder) (g.F.Folder.seen c.settle.new.self.folder) (same_then _ _ _ c.end_file.ensures.passed c.keep_whole.ensures.passed) (c.settle.ensures.settles _ h2 (c.keep_whole.ensures.decided _ h1)));
       leaves = λ work h. file_leaves g.F.Folder.seen g.F.Folder.may_leave c.args.self.now.hand.folder c.end_file.new.self.folder c.keep_whole.new.self.folder c.settle.new.self.folder (at_job with_end work) c.end_file.ensures.crash c.end_file.ensures.passed
           (c.keep_whole.ensures.crash _ (c.end_file.ensures.follows work h)) c.settle.ensures.crash;
     }

@@ -1,10 +1,13 @@
-use Rattle.std.proofs.Common.{◌∷◌, ◌∙◌, ap, refl, sym}
-use Rattle.kept_jobs.specs.Folder.{octets_of}
-use Rattle.memory_folder.specs.Memory.{octets_in, passed_in}
-use Rattle.memory_folder.proofs.Steps.{passed_more}
+use Rattle.std.proofs.Common.{refl}
+use Rattle.memory_folder.specs.declared.memory.FileEnd.TheVariants.{Passed}
+use Rattle.memory_folder.proofs.Steps.{end_time, out_lacks, out_passed}
 use Rattle.memory_folder.proofs.memory.MemoryFolderFolder.pass.Goals as goal
 
-pub returns-in-Some-clause-passes : goal.returns-in-Some-clause-passes
-returns-in-Some-clause-passes c = λ octets h.
-    let same = ap octets_of (ap octets_in (sym c.in-Some.is ∙ c.take.ensures.value) ∙ h.told) in
-    (_, refl, ap passed_in c.push_reserved.ensures.items ∙ (passed_more c.args.self.now.passed.items _ ∙ ap (λ o. (c.args.job, o) ∷ passed_in c.args.self.now.passed.items) same))
+pub returns-clause-passes : goal.returns-clause-passes
+returns-clause-passes c = λ octets kept. (_, refl, out_passed (Passed c.args.job) c.args.self.now.gone.items c.empty.new.self.gone.items c.args.self.now.whole octets kept.told c.empty.ensures.gone)
+
+pub returns-clause-time : goal.returns-clause-time
+returns-clause-time c = end_time (Passed c.args.job) c.args.self.now.gone.items c.empty.new.self.gone.items c.args.self.now.whole c.empty.new.self.whole c.empty.ensures.nothing.1 c.empty.ensures.gone
+
+pub returns-clause-lacks : goal.returns-clause-lacks
+returns-clause-lacks c = λ octets kept. out_lacks (Passed c.args.job) c.args.self.now.gone.items c.empty.new.self.gone.items c.args.self.now.whole octets kept.told kept.durable c.empty.ensures.gone

@@ -1,0 +1,13 @@
+use Rattle.std.proofs.Common.{refl}
+use Rattle.memory_folder.specs.declared.memory.FileEnd.TheVariants.{Left}
+use Rattle.memory_folder.proofs.Steps.{end_time, out_lacks, out_passed}
+use Rattle.memory_folder.proofs.memory.MemoryFolderFolder.leave.Goals as goal
+
+pub returns-clause-leaves : goal.returns-clause-leaves
+returns-clause-leaves c = λ octets kept. (_, refl, out_passed Left c.args.self.now.gone.items c.empty.new.self.gone.items c.args.self.now.whole octets kept.told c.empty.ensures.gone)
+
+pub returns-clause-time : goal.returns-clause-time
+returns-clause-time c = end_time Left c.args.self.now.gone.items c.empty.new.self.gone.items c.args.self.now.whole c.empty.new.self.whole c.empty.ensures.nothing.1 c.empty.ensures.gone
+
+pub returns-clause-lacks : goal.returns-clause-lacks
+returns-clause-lacks c = λ octets kept. out_lacks Left c.args.self.now.gone.items c.empty.new.self.gone.items c.args.self.now.whole octets kept.told kept.durable c.empty.ensures.gone
