@@ -22,6 +22,12 @@ def run(room, *words, **how):
         return ended.returncode, faults.read().decode().splitlines()
 
 
+def bound(off):
+    """The address of a socket of loopback, bound just now, at which nobody listens."""
+    off.bind(("127.0.0.1", 0))
+    return "%s:%d" % off.getsockname()
+
+
 @contextlib.contextmanager
 def a_room():
     with tempfile.TemporaryDirectory() as room:
@@ -101,7 +107,8 @@ def a_refusal_tells_what_it_may_mean():
     """Of a server that doesn't take a job or a question: by octet 01, by octet 02, and without a word, since it doesn't let the address in."""
     with a_room() as room:
         job = ["1", "myhost", "ann", "file"]
-        with Server(PROGRAM, spool(account=3_000, limit=4, jobs=1), device="fifo") as it:
+        # (a printer that is off: its socket is bound, and nobody listens)
+        with socket.socket() as off, Server(PROGRAM, spool(account=3_000, limit=4, jobs=1), "--printer", f"1=socket://{bound(off)}") as it:
             port = str(it.port)
             fails(room, ["send", port, "nosuch", *job], 5, "fault 60 Refused 1", r"no such queue, or the job is larger than the queue's limit")
             fails(room, ["state", port, "nosuch"], 5, "fault 60 Refused 1", r"no such queue")
