@@ -9,6 +9,7 @@ ghost use Rattle.std.specs.Process.{exit_status};
 ghost use Rattle.word_actions.specs.Outcome.{IfEnded};
 
 use account_reports::AUDIT;
+use config_values::Config;
 use log::filter::{Builder, Filter, FilteredLog};
 use log::sink::Console;
 use log::{Level, LevelFilter, Log, Logged, error, info};
@@ -218,10 +219,9 @@ fn refuse<R: Log>(rt: &R, fault: &ActionFault) -> u8
     fault.status()
 }
 
-/// Serves the queues of the configuration at this path, which has each printer that words say something of. Faults
-/// are told in the log. The control socket, where the settings
-/// name one, is made by `host`, since a logger hands no Unix sockets on. Answers the exit status.
-fn serve<
+/// Serves the queues of this configuration. The control socket, where the settings name one, is made by `host`, since a logger hands no Unix
+/// sockets on. Answers the exit status.
+fn serve_plan<
     R: Files<File = File>
         + Net<Listener = TcpListener, Stream = TcpStream>
         + Clock
@@ -231,34 +231,13 @@ fn serve<
         + Sync,
     N: AllocGlobal + Clock + Files<File = File> + Net,
     O: Write + Drop,
->(rt: &R, host: &N, config: &str, request: ServeRequest, output: O) -> u8
+>(rt: &R, host: &N, config: Config, settings: Settings, output: O) -> u8
 where
     R::Dir: Send + Sync,
     ensures { result ≤ 5 }
 {
     let alloc = host.alloc();
     let mut output = StreamWriter::new(output);
-    let mut file = StreamReader::open(rt, config);
-    let ServeRequest { settings, printers } = request;
-    let spool = match word_actions::read_spool(alloc, &mut file) {
-        Ok(spool) => spool,
-        Err(fault) => {
-            tell_cause(rt, &config, file.cause());
-            return refuse(rt, &fault);
-        }
-    };
-    let ReadSpool { config, told } = spool;
-    let printers = match printers_of(alloc, &config, told.as_slice(), printers.as_slice()) {
-        Ok(printers) => printers,
-        Err(fault) => return refuse(rt, &fault),
-    };
-    if tell_places(rt, alloc, &config, settings.out, printers.as_slice()).is_err() {
-        return refuse(rt, &ActionFault::Memory);
-    }
-    let settings = Settings {
-        printers,
-        ..settings
-    };
     let (counter, socket) = match Counter::open(host, alloc, settings.control) {
         Ok(opened) => opened,
         Err(why) => return refuse_control(rt, settings.control, &why),
@@ -281,6 +260,77 @@ where
             fault.status()
         }
     }
+}
+
+/// Serves the queues of the configuration at this path, which has each printer that words say something of. Faults are told in the log.
+/// Answers the exit status.
+fn serve<
+    R: Files<File = File>
+        + Net<Listener = TcpListener, Stream = TcpStream>
+        + Clock
+        + Log
+        + Threads
+        + Wait
+        + Sync,
+    N: AllocGlobal + Clock + Files<File = File> + Net,
+    O: Write + Drop,
+>(rt: &R, host: &N, config: &str, request: ServeRequest, output: O) -> u8
+where
+    R::Dir: Send + Sync,
+    ensures { result ≤ 5 }
+{
+    let alloc = host.alloc();
+    let mut file = StreamReader::open(rt, config);
+    let ServeRequest { settings, printers } = request;
+    let spool = match word_actions::read_spool(alloc, &mut file) {
+        Ok(spool) => spool,
+        Err(fault) => {
+            tell_cause(rt, &config, file.cause());
+            return refuse(rt, &fault);
+        }
+    };
+    let ReadSpool { config, told } = spool;
+    let printers = match printers_of(alloc, &config, told.as_slice(), printers.as_slice()) {
+        Ok(printers) => printers,
+        Err(fault) => return refuse(rt, &fault),
+    };
+    if tell_places(rt, alloc, &config, settings.out, printers.as_slice()).is_err() {
+        return refuse(rt, &ActionFault::Memory);
+    }
+    let settings = Settings {
+        printers,
+        ..settings
+    };
+    serve_plan(rt, host, config, settings, output)
+}
+
+/// Serves by what was asked for, with a log of its own. Standard descriptors that were closed have to have been `filled`. Answers the exit
+/// status.
+fn serve_asked(rt: HostRuntime, filled: bool, config: &str, request: ServeRequest) -> u8
+    ensures { result ≤ 5 }
+{
+    let alloc = rt.alloc();
+    let Ok(queue) = start_log(&rt, alloc, request.settings.log, rt.stderr()) else {
+        let mut faults = StreamWriter::new(rt.stderr());
+        return refuse_memory(alloc, &mut faults);
+    };
+    let informing = informing(&request.settings);
+    let lines = LineLog::new(&rt, alloc, &queue);
+    // For information: causes, the lines of jobs and of the account's segments, and at a terminal all.
+    let lines = if rt.stderr().is_terminal() {
+        lines
+    } else {
+        lines.informed_by(informing)
+    };
+    let logged = Logged::new(rt, Level::Info, lines);
+    let status = if filled {
+        serve(&logged, &rt, config, request, rt.stdout())
+    } else {
+        error!(logged; "{} /dev/null", FaultName::ReadFile);
+        4
+    };
+    queue.end(&rt, Duration::from_secs(PATIENCE_SECONDS));
+    status
 }
 
 /// The exit code of this status.
@@ -309,29 +359,6 @@ fn main(rt: HostRuntime) -> ExitCode {
         RunOutcome::Control(request) => code(control(&rt, &request)),
         RunOutcome::Audit(request) => code(audit(&rt, &request)),
         RunOutcome::Usage(request) => code(usage(&rt, &request)),
-        RunOutcome::Serve { config, request } => {
-            let Ok(queue) = start_log(&rt, alloc, request.settings.log, rt.stderr()) else {
-                let mut faults = StreamWriter::new(rt.stderr());
-                return code(refuse_memory(alloc, &mut faults));
-            };
-            let is_terminal = rt.stderr().is_terminal();
-            let informing = informing(&request.settings);
-            let lines = LineLog::new(&rt, alloc, &queue);
-            // For information: causes, the lines of jobs and of the account's segments, and at a terminal all.
-            let lines = if is_terminal {
-                lines
-            } else {
-                lines.informed_by(informing)
-            };
-            let logged = Logged::new(rt, Level::Info, lines);
-            let status = if filled {
-                serve(&logged, &rt, config, request, rt.stdout())
-            } else {
-                error!(logged; "{} /dev/null", FaultName::ReadFile);
-                4
-            };
-            queue.end(&rt, Duration::from_secs(PATIENCE_SECONDS));
-            code(status)
-        }
+        RunOutcome::Serve { config, request } => { code(serve_asked(rt, filled, config, request)) }
     }
 }

@@ -8,6 +8,6 @@ mod parts;
 mod state;
 
 pub use job::{JobSize, NewJob, ParkedJob, pages_in};
-pub use lines::{OpenFault, ParkedLines};
+pub use lines::{AdmissionFault, ParkedLines};
 pub use parts::{FreePart, PartUse, QueuePart, SpoolShape};
 pub use state::{JobMove, ParkState};

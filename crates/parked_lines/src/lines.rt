@@ -18,7 +18,7 @@ use std::marker::Model;
 
 /// Why a job isn't taken into a line.
 #[derive(Clone, Copy, Debug, PartialEq, Eq)]
-pub enum OpenFault {
+pub enum AdmissionFault {
     /// There is no such queue.
     NoQueue,
     /// A job of this number stands in a line.
@@ -27,14 +27,14 @@ pub enum OpenFault {
     Memory,
 }
 
-impl From<AllocError> for OpenFault {
+impl From<AllocError> for AdmissionFault {
     ghost use Rattle.std.specs.Prelude.{◌≡◌};
-    ghost use Rattle.parked_lines.specs.declared.lines.OpenFault.TheVariants.{Memory};
+    ghost use Rattle.parked_lines.specs.declared.lines.AdmissionFault.TheVariants.{Memory};
 
     ghost from_gives = { λ _ e. e ≡ Memory };
 
     fn from(_: AllocError) -> Self {
-        OpenFault::Memory
+        AdmissionFault::Memory
     }
 }
 
@@ -119,7 +119,7 @@ impl ParkedLines {
     }
 
     /// Takes a job into the line of a queue.
-    fn enter(&mut self, queue: usize, job: ParkedJob) -> Result<(), OpenFault>
+    fn enter(&mut self, queue: usize, job: ParkedJob) -> Result<(), AdmissionFault>
         ensures ok { OnOk result (MovesOne self.old self.new queue job.number (Some job)) }
         ensures new { OnOk result (has_known self.old job.number ≡ false) }
         ensures once { IsOnce self.new }
@@ -127,10 +127,10 @@ impl ParkedLines {
         ensures err { OnErr result (self.new ≡ self.old) }
     {
         if queue >= self.lines.len() {
-            return Err(OpenFault::NoQueue);
+            return Err(AdmissionFault::NoQueue);
         }
         if self.is_known(job.number) {
-            return Err(OpenFault::Known);
+            return Err(AdmissionFault::Known);
         }
         self.put_in(queue, job)?;
         Ok(())
@@ -147,7 +147,7 @@ impl ParkedLines {
         queue: usize,
         job: NewJob,
         has_room: bool,
-    ) -> Result<ParkState, OpenFault>
+    ) -> Result<ParkState, AdmissionFault>
         ensures way { IfOk result (λ state. state
             ≡ way_of (line_of self.old queue) job.sender job.number has_room) }
         ensures opened { IfOk result (λ state. MovesOne self.old self.new queue job.number
@@ -176,7 +176,12 @@ impl ParkedLines {
     }
 
     /// A job that a start has found whole in the folder waits. The errors are those of `open`.
-    pub fn add_found(&mut self, queue: usize, job: NewJob, size: JobSize) -> Result<(), OpenFault>
+    pub fn add_found(
+        &mut self,
+        queue: usize,
+        job: NewJob,
+        size: JobSize,
+    ) -> Result<(), AdmissionFault>
         ensures added { OnOk result (MovesOne self.old self.new queue job.number
             (Some (job_at job Waiting size))) }
         ensures lost { LosesNone self.old self.new }

@@ -1,5 +1,4 @@
-//! The words of `state`, `remove` and `start`: as `clap` is told them, and what they say. Which server `send` is for is
-//! said by the same ones.
+//! The words of `state`, `remove` and `start`, and those that say which server `send` is for: as `clap` is told them, and what they say.
 
 ghost use Rattle.std.specs.Prelude.{IfErr, IfOk};
 ghost use Rattle.clap.specs.Words.{found_of, rows_of};

@@ -5,7 +5,7 @@ use crate::commanding::AnswerLines;
 use crate::owned_job::OwnedJob;
 use control_lines::AnswerEnd;
 use log::Log;
-use server_folders::{FileEnd, FiledJob, JobFolder};
+use server_folders::{FileRemoval, FiledJob, JobFolder};
 use server_house::{HouseLedger, HouseSeat};
 use shared_spool::{SeenJob, Unremoved};
 use standings::{JobName, JobNumber, JobStage, stage_of};
@@ -139,8 +139,8 @@ impl<R: Files<File = File> + Clock + Log + Wait, E: HouseLedger> Care<'_, '_, R,
     ) -> Result<Vec<u8>, AllocError> {
         let name = filed_name(number, filed);
         match kept.let_go(self.hall.rt, number, &filed.owner) {
-            Ok(FileEnd::Gone) => self.tell_done("removed", &name),
-            Ok(FileEnd::IsFed) => {
+            Ok(FileRemoval::Gone) => self.tell_done("removed", &name),
+            Ok(FileRemoval::IsFed) => {
                 let why = format!(in self.hall.alloc;
                     "{name} is being handed to the spool: ask again"
                 )?;

@@ -42,7 +42,7 @@ struct KeptLine {
 
 /// What came of a file whose job was to go.
 #[derive(Clone, Copy, Debug, PartialEq, Eq)]
-pub enum FileEnd {
+pub enum FileRemoval {
     /// It waited to be fed, or had failed, and is removed.
     Gone,
     /// It is being fed to the spool.
@@ -180,25 +180,20 @@ impl<'a, R: Files<File = File> + Log + Wait> JobFolder<'a, R> {
     /// Has the job in this file go, which waits to be fed or has failed: its file is removed, and nobody waits for it any more.
     ///
     /// An error where it doesn't wait and no file of it has failed, or the file can't be removed. Nothing changes then.
-    pub fn let_go(
-        &self,
-        rt: &R,
-        number: u64,
-        owner: &Owner,
-    ) -> Result<FileEnd, DiskFault<'a>> {
+    pub fn let_go(&self, rt: &R, number: u64, owner: &Owner) -> Result<FileRemoval, DiskFault<'a>> {
         let mut line = self.line.lock(rt);
         if line.is_feeding && line.numbers.front() == Some(&number) {
-            return Ok(FileEnd::IsFed);
+            return Ok(FileRemoval::IsFed);
         }
         let Some(place) = line.numbers.iter().position(|waiting| *waiting == number) else {
             self.disk.drop_failed(number)?;
-            return Ok(FileEnd::Gone);
+            return Ok(FileRemoval::Gone);
         };
         self.disk.drop_whole(number)?;
         line.numbers.remove(place);
         drop(line);
         self.disk.fed(owner.sender, owner.queue.as_slice());
-        Ok(FileEnd::Gone)
+        Ok(FileRemoval::Gone)
     }
 
     /// Each job that had room at the start has been fed.

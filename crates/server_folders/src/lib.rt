@@ -10,7 +10,7 @@ mod stored;
 mod told_places;
 
 pub use archive::{ACCOUNT_LINES, Archive, LAST_TRIES, open_archive};
-pub use kept::{FileEnd, JobFolder};
+pub use kept::{FileRemoval, JobFolder};
 pub use owner::{FiledJob, Owner};
 pub use refusal::FOLDER_CAUSES;
 pub use stored::{FedFolder, StoredJobs};
