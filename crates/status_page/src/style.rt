@@ -15,9 +15,9 @@ header,main,footer{max-width:1160px;margin:0 auto;padding:0 20px}
 header{display:flex;flex-wrap:wrap;align-items:center;gap:8px 14px;padding-top:22px;padding-bottom:14px}
 h1{font-size:24px;letter-spacing:-.02em;margin:0}
 p{margin:0}
-header .what{flex:1;color:var(--soft);padding-top:5px}
+header .what{flex:1;white-space:nowrap;color:var(--soft);padding-top:5px}
 .meta,footer,small,.none,.soft{color:var(--soft)}
-.chip{padding:3px 12px;border-radius:999px;font-weight:600;font-size:14px;white-space:nowrap}
+.chip{padding:3px 12px;border-radius:14px;font-weight:600;font-size:14px;overflow-wrap:anywhere}
 .good{color:var(--good);background:var(--goodbg)}
 .wait{color:var(--wait);background:var(--waitbg)}
 .bad{color:var(--bad);background:var(--badbg)}
