@@ -1,5 +1,5 @@
 -- A session whose jobs are kept.
-use Rattle.std.proofs.Common.{◌≡◌, ◌⊎◌, inl, inr, ⊎_elim, ℕ, Bool, true, false, List, [], ◌∷◌, ◌++◌, Option, None, Some, refl, ap, ◌∙◌, sym, subst, append_assoc}
+use Rattle.std.proofs.Common.{◌≡◌, ◌≤◌, arith, ◌⊎◌, inl, inr, ⊎_elim, ℕ, Bool, true, false, List, [], ◌∷◌, ◌++◌, Option, None, Some, refl, ap, ◌∙◌, sym, subst, append_assoc}
 use Rattle.receiver.specs.Script.{Request, Queue, Open, BeginFile, AskPage, Filled, EndFile, Control, AbortJob, StartPrinters, QueueState, RemoveJobs}
 use Rattle.receiver.specs.Reading.{Due, Requests, Waits, Ends as DueEnds, Writes}
 use Rattle.spool_requests.specs.declared.answer.Answer.{Answer}
@@ -10,14 +10,15 @@ use Rattle.request_session.specs.declared.ending.SessionEnd.{SessionEnd}
 use Rattle.request_session.specs.Carried.{CarriesAll, CarriesDue, Carrying, Ending}
 use Rattle.request_session.specs.Course.{Course, Came, Did, session_after}
 use Rattle.request_session.specs.Served.{Around, ServedBy}
-use Rattle.kept_jobs.specs.Folder.{IsSeen, SamePassed, Seen}
+use Rattle.kept_jobs.specs.Folder.{GoesOn, IsSeen, SamePassed, Seen}
 use Rattle.kept_jobs.specs.Kept.{LetsOut}
 use Rattle.job_streams.specs.Stream.{Coming, is_whole, stream}
 use Rattle.job_streams.specs.Coming.{with_control, with_end}
-use Rattle.job_hand.specs.Hand.{Follows, IsOfWhole, Leaving, MayLeave, Settles, SettlesAs, Telling, at_job}
+use Rattle.job_hand.specs.Hand.{Follows, IsOfWhole, Leaving, LeavesAt, MayLeave, Settles, SettlesAs, Telling, at_job}
 use Rattle.kept_requests.specs.Work.{PassesOn, settles_by}
 use Rattle.kept_requests.specs.Carried.{Carries, Ends}
-use Rattle.kept_requests.specs.Served.{AsksAll, AsksDue, Grew, HadWhole, IsMoment, PassesAll, PassesDue, ServedKept, last_due, work_due, work_of}
+use Rattle.kept_requests.specs.Served.{AsksAll, AsksDue, Grew, HadWhole, IsMoment, LeavesIn, PassesAll, PassesDue, ServedKept, last_due, work_due, work_of}
+use Rattle.kept_requests.proofs.Passing.{goes_then, later_then}
 use Rattle.kept_requests.specs.declared.keeping.Keeping.{Keeping}
 
 grew_refl : (o : Option Seen) → Grew o o
@@ -97,19 +98,34 @@ leaves_then seen may_leave start old new before last kept grew first (inl (inr n
 leaves_then seen may_leave start old new before last kept grew first (inr whole) =
     inr (seen_map (last kept) (last kept ⊎ before kept) (seen start) (λ h. inl h) (told_before (last kept) (seen start) (seen old) grew whole))
 
-module _ {Q F : Type 0} (carries : Carrying Q) (seen : Telling F) (may_leave : Leaving F) (sender : ℕ) where
+-- a job that came to be whole before the last request came to be so
+leaves_on : (before last old : Type 0) (o : Option Seen) → old ⊎ IsSeen (λ s. before) o → old ⊎ IsSeen (λ s. last ⊎ before) o
+leaves_on before last old o left = ⊎_elim (λ was. inl was) (λ had. inr (seen_map before (last ⊎ before) o (λ h. inr h) had)) left
+
+no_later : (n : ℕ) → n ≤ n
+no_later n = omega arith
+
+-- no time goes on
+goes_nowhere : {F : Type 0} (moment : F → ℕ) (left_since : F → ℕ → Option (List ℕ) → Type 0) (may_lack : F → List ℕ → Type 0) (a : F) (P : Option (List ℕ) → Type 0) → GoesOn moment left_since may_lack a a P
+goes_nowhere moment left_since may_lack a P = record {
+  time = record { later = no_later (moment a); nothing_else = λ t kept le since. inl since; keeps = λ t kept le past. past };
+  lacks = λ octets lack. lack;
+}
+
+module _ {Q F : Type 0} (carries : Carrying Q) (seen : Telling F) (may_leave : Leaving F) (moment : F → ℕ) (left_since : F → ℕ → Option (List ℕ) → Type 0) (may_lack : F → List ℕ → Type 0) (sender : ℕ) where
   -- what is so after a request
   pub record One (due : Due) (job : ℕ) (answer : Answer) (work : Option Coming) (old new : Keeping Q F) : Type 0 where
     pub asked : AsksDue carries sender due job answer old.inner new.inner
     pub passes : PassesDue due job answer work (seen old.hand.folder) (seen new.hand.folder)
     pub leaves : MayLeave seen may_leave old.hand.folder new.hand.folder (last_due due work)
+    pub moments : GoesOn moment left_since may_lack old.hand.folder new.hand.folder (LeavesAt seen may_leave old.hand.folder (last_due due work))
     pub follows : Follows seen may_leave new.hand (work_due sender due answer work)
 
-  one : (due : Due) (job : ℕ) (answer : Answer) (work : Option Coming) (old new : Keeping Q F) → CarriesDue (Carries carries seen may_leave) sender due job answer old new → Follows seen may_leave old.hand work → One due job answer work old new
+  one : (due : Due) (job : ℕ) (answer : Answer) (work : Option Coming) (old new : Keeping Q F) → CarriesDue (Carries carries seen may_leave moment left_since may_lack) sender due job answer old new → Follows seen may_leave old.hand work → One due job answer work old new
   one Waits job answer work old new h f = absurd h
   one DueEnds job answer work old new h f = absurd h
   one (Writes w items text) job answer work old new h f = absurd h
-  one (Requests r items text) job answer work old new h f = record { asked = h.asked; passes = h.passes work f; leaves = h.leaves work f; follows = h.follows work f }
+  one (Requests r items text) job answer work old new h f = record { asked = h.asked; passes = h.passes work f; leaves = h.leaves work f; moments = h.moments work f; follows = h.follows work f }
 
   -- what is so after a course
   pub record All (c : Course) (old new : Keeping Q F) : Type 0 where
@@ -119,6 +135,7 @@ module _ {Q F : Type 0} (carries : Carrying Q) (seen : Telling F) (may_leave : L
     pub leaves :
         (kept : Option (List ℕ)) → may_leave new.hand.folder kept →
         (may_leave old.hand.folder kept ⊎ (kept ≡ None)) ⊎ IsSeen (λ s. HadWhole sender c kept) (seen old.hand.folder)
+    pub moments : GoesOn moment left_since may_lack old.hand.folder new.hand.folder (LeavesIn seen may_leave sender c old.hand.folder)
     pub follows : Follows seen may_leave new.hand (work_of sender c)
 
   -- nothing has happened
@@ -128,10 +145,11 @@ module _ {Q F : Type 0} (carries : Carrying Q) (seen : Telling F) (may_leave : L
     passes = refl;
     grew = grew_refl (seen old.hand.folder);
     leaves = λ kept there. inl (inl there);
+    moments = goes_nowhere moment left_since may_lack old.hand.folder (LeavesIn seen may_leave sender [] old.hand.folder);
     follows = f;
   })
 
-  pub all_kept : (c : Course) (old new : Keeping Q F) → Follows seen may_leave old.hand None → CarriesAll (Carries carries seen may_leave) sender c old new → All c old new
+  pub all_kept : (c : Course) (old new : Keeping Q F) → Follows seen may_leave old.hand None → CarriesAll (Carries carries seen may_leave moment left_since may_lack) sender c old new → All c old new
   all_kept [] old new f h = none old new h f
   all_kept (Did (deed.Asked asked answer) ∷ c) old new f h =
       let before = all_kept c old h.0 f h.1 in
@@ -144,20 +162,26 @@ module _ {Q F : Type 0} (carries : Carrying Q) (seen : Telling F) (may_leave : L
         passes = (seen h.0.hand.folder, before.passes, last.passes);
         grew = grew_then _ _ _ before.grew (due_grew due job answer work (seen h.0.hand.folder) (seen new.hand.folder) last.passes);
         leaves = λ kept there. leaves_then seen may_leave old.hand.folder h.0.hand.folder new.hand.folder (HadWhole sender c) (IsOfWhole (last_due due work)) kept before.grew before.leaves (last.leaves kept there);
+        moments =
+            goes_then moment left_since may_lack (LeavesIn seen may_leave sender c old.hand.folder) (LeavesAt seen may_leave h.0.hand.folder (last_due due work)) (LeavesIn seen may_leave sender (Did (deed.Asked asked answer) ∷ c) old.hand.folder)
+            old.hand.folder h.0.hand.folder new.hand.folder
+            (λ kept left. leaves_on (HadWhole sender c kept) (IsOfWhole (last_due due work) kept) (may_leave old.hand.folder kept ⊎ (kept ≡ None)) (seen old.hand.folder) left)
+            (λ kept left. leaves_then seen may_leave old.hand.folder h.0.hand.folder new.hand.folder (HadWhole sender c) (IsOfWhole (last_due due work)) kept before.grew before.leaves left)
+            before.moments last.moments;
         follows = last.follows;
       }
-  all_kept (Did deed.Acked ∷ c) old new f h = let a = all_kept c old new f h in record { asked = a.asked; passes = a.passes; grew = a.grew; leaves = a.leaves; follows = a.follows }
-  all_kept (Did (deed.Refused n) ∷ c) old new f h = let a = all_kept c old new f h in record { asked = a.asked; passes = a.passes; grew = a.grew; leaves = a.leaves; follows = a.follows }
-  all_kept (Did deed.Waited ∷ c) old new f h = let a = all_kept c old new f h in record { asked = a.asked; passes = a.passes; grew = a.grew; leaves = a.leaves; follows = a.follows }
-  all_kept (Did deed.Ended ∷ c) old new f h = let a = all_kept c old new f h in record { asked = a.asked; passes = a.passes; grew = a.grew; leaves = a.leaves; follows = a.follows }
-  all_kept (Came octets ∷ c) old new f h = let a = all_kept c old new f h in record { asked = a.asked; passes = a.passes; grew = a.grew; leaves = a.leaves; follows = a.follows }
+  all_kept (Did deed.Acked ∷ c) old new f h = let a = all_kept c old new f h in record { asked = a.asked; passes = a.passes; grew = a.grew; leaves = a.leaves; moments = a.moments; follows = a.follows }
+  all_kept (Did (deed.Refused n) ∷ c) old new f h = let a = all_kept c old new f h in record { asked = a.asked; passes = a.passes; grew = a.grew; leaves = a.leaves; moments = a.moments; follows = a.follows }
+  all_kept (Did deed.Waited ∷ c) old new f h = let a = all_kept c old new f h in record { asked = a.asked; passes = a.passes; grew = a.grew; leaves = a.leaves; moments = a.moments; follows = a.follows }
+  all_kept (Did deed.Ended ∷ c) old new f h = let a = all_kept c old new f h in record { asked = a.asked; passes = a.passes; grew = a.grew; leaves = a.leaves; moments = a.moments; follows = a.follows }
+  all_kept (Came octets ∷ c) old new f h = let a = all_kept c old new f h in record { asked = a.asked; passes = a.passes; grew = a.grew; leaves = a.leaves; moments = a.moments; follows = a.follows }
 
   -- each beginning of a course ended at a moment
-  pub each_moment : (later c : Course) (old new : Keeping Q F) → Follows seen may_leave old.hand None → CarriesAll (Carries carries seen may_leave) sender (later ++ c) old new →
-      (at : F) × IsMoment seen may_leave sender c old.hand.folder at new.hand.folder
+  pub each_moment : (later c : Course) (old new : Keeping Q F) → Follows seen may_leave old.hand None → CarriesAll (Carries carries seen may_leave moment left_since may_lack) sender (later ++ c) old new →
+      (at : F) × IsMoment seen may_leave moment left_since may_lack sender c old.hand.folder at new.hand.folder
   each_moment [] c old new f h =
       let a = all_kept c old new f h in
-      (new.hand.folder, record { passes = a.passes; more = grew_refl (seen new.hand.folder); leaves = a.leaves })
+      (new.hand.folder, record { passes = a.passes; more = grew_refl (seen new.hand.folder); leaves = a.leaves; since = a.moments; later = no_later (moment new.hand.folder) })
   each_moment (Did (deed.Asked asked answer) ∷ later) c old new f h =
       let before = each_moment later c old h.0 f h.1 in
       let due = due_in (session_after sender (later ++ c)) in
@@ -170,6 +194,8 @@ module _ {Q F : Type 0} (carries : Carrying Q) (seen : Telling F) (may_leave : L
           passes = m.passes;
           more = grew_then _ _ _ m.more (due_grew due job answer work (seen h.0.hand.folder) (seen new.hand.folder) last.passes);
           leaves = m.leaves;
+          since = m.since;
+          later = later_then (moment before.0) (moment h.0.hand.folder) (moment new.hand.folder) m.later last.moments.time.later;
         },
       )
   each_moment (Did deed.Acked ∷ later) c old new f h = each_moment later c old new f h
@@ -178,7 +204,7 @@ module _ {Q F : Type 0} (carries : Carrying Q) (seen : Telling F) (may_leave : L
   each_moment (Did deed.Ended ∷ later) c old new f h = each_moment later c old new f h
   each_moment (Came octets ∷ later) c old new f h = each_moment later c old new f h
 
-  pub served_kept : (leaves : Ending Q) (end : SessionEnd) (before after : Around (Keeping Q F)) → Follows seen may_leave before.spool.hand None → ServedBy (Carries carries seen may_leave) (Ends leaves seen may_leave) end sender before after → ServedKept carries leaves seen may_leave end sender before after
+  pub served_kept : (leaves : Ending Q) (end : SessionEnd) (before after : Around (Keeping Q F)) → Follows seen may_leave before.spool.hand None → ServedBy (Carries carries seen may_leave moment left_since may_lack) (Ends leaves seen may_leave moment left_since may_lack) end sender before after → ServedKept carries leaves seen may_leave moment left_since may_lack end sender before after
   served_kept leaves end before after f s =
       let a = all_kept s.course before.spool s.asked f s.carried in record {
         course = s.course;
@@ -187,6 +213,7 @@ module _ {Q F : Type 0} (carries : Carrying Q) (seen : Telling F) (may_leave : L
         asked = s.asked;
         below = a.asked;
         passes = a.passes;
-        moments = λ later c is. each_moment later c before.spool s.asked f (subst (λ course. CarriesAll (Carries carries seen may_leave) sender course before.spool s.asked) is s.carried);
+        moments = λ later c is. each_moment later c before.spool s.asked f (subst (λ course. CarriesAll (Carries carries seen may_leave moment left_since may_lack) sender course before.spool s.asked) is s.carried);
+        run = a.moments;
         aborts = s.aborts;
       }

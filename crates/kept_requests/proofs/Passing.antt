@@ -1,5 +1,5 @@
 -- What is passed on, from one call to the next.
-use Rattle.std.proofs.Common.{◌≡◌, ⊎_elim, ℕ, List, ◌∷◌, Bool, true, false, Option, None, Some, Result, Ok, Err, refl, sym, subst, inl, inr, true≢false}
+use Rattle.std.proofs.Common.{◌≡◌, ◌≤◌, arith, ⊎_elim, ℕ, List, ◌∷◌, Bool, true, false, Option, None, Some, Result, Ok, Err, refl, sym, subst, inl, inr, true≢false}
 use Rattle.std.specs.Prelude.{is_ok}
 use Rattle.lpd_values.specs.declared.refusal.Refusal.{Refusal}
 use Rattle.lpd_values.specs.declared.refusal.Refusal.TheVariants.{NotOpen}
@@ -12,12 +12,12 @@ use Rattle.spool_requests.specs.Follows.{controlled_by, kept_by}
 use Rattle.spool_requests.specs.declared.answer.Answer.{Answer}
 use Rattle.spool_requests.specs.declared.answer.Answer.TheVariants.{Refused}
 use Rattle.request_session.specs.Carried.{Carrying}
-use Rattle.kept_jobs.specs.Folder.{IsSeen, Leads, OrNone, SamePassed, Seen}
+use Rattle.kept_jobs.specs.Folder.{GoesOn, IsSeen, Leads, OldOrNone, OrNone, SamePassed, Seen}
 use Rattle.job_streams.specs.Stream.{Coming, is_whole, stream}
 use Rattle.job_streams.specs.Coming.{with_control, with_end}
 use Rattle.job_hand.specs.declared.cause.Cause.{Cause}
 use Rattle.job_hand.specs.declared.hand.HandStage.TheVariants as stage
-use Rattle.job_hand.specs.Hand.{Follows, IsOfWhole, Leaving, MayLeave, Settles, SettlesAs, Telling, at_job, settled}
+use Rattle.job_hand.specs.Hand.{Follows, IsOfWhole, Leaving, LeavesAt, MayLeave, Settles, SettlesAs, Telling, at_job, settled}
 use Rattle.job_hand.proofs.Standing.{follows_broken}
 use Rattle.kept_requests.specs.Work.{PassesOn, with_last, work_after}
 use Rattle.kept_requests.specs.Carried.{Carries}
@@ -112,14 +112,60 @@ file_leaves seen may_leave a b c d job first same middle last kept there =
     (λ none. inl (inr none))
     (last kept there)
 
+pub later_then : (a b c : ℕ) → a ≤ b → b ≤ c → a ≤ c
+later_then a b c one other = omega arith
+
+-- time goes on, in two steps
+module _ {F : Type 0} (moment : F → ℕ) (left_since : F → ℕ → Option (List ℕ) → Type 0) (may_lack : F → List ℕ → Type 0) where
+  abbrev pub Goes : (old new : F) → (Option (List ℕ) → Type 0) → Type 0
+  Goes = GoesOn moment left_since may_lack
+
+  pub goes_then : (P Q R : Option (List ℕ) → Type 0) (a b c : F) → ((kept : Option (List ℕ)) → P kept → R kept) → ((kept : Option (List ℕ)) → Q kept → R kept) → Goes a b P → Goes b c Q → Goes a c R
+  goes_then P Q R a b c first second one other = record {
+    time = record {
+      later = later_then (moment a) (moment b) (moment c) one.time.later other.time.later;
+      nothing_else = λ t kept le since.
+          ⊎_elim (λ was. ⊎_elim (λ old. inl old) (λ left. inr (first kept left)) (one.time.nothing_else t kept le was)) (λ now. inr (second kept now)) (other.time.nothing_else t kept (later_then t (moment a) (moment b) le one.time.later) since);
+      keeps = λ t kept le past. other.time.keeps t kept (later_then t (moment a) (moment b) le one.time.later) (one.time.keeps t kept le past);
+    };
+    lacks = λ octets lack. one.lacks octets (other.lacks octets lack);
+  }
+
+  -- what is left before, or nothing, is that or the whole of a job
+  pub or_none_moments : (seen : Telling F) (may_leave : Leaving F) (a b : F) (job : Option Coming) → Goes a b (OldOrNone (may_leave a)) → Goes a b (LeavesAt seen may_leave a job)
+  or_none_moments seen may_leave a b job goes = record {
+    time = record {
+      later = goes.time.later;
+      nothing_else = λ t kept le since. ⊎_elim (λ was. inl was) (λ left. inr (inl left)) (goes.time.nothing_else t kept le since);
+      keeps = goes.time.keeps;
+    };
+    lacks = goes.lacks;
+  }
+
+  -- the same of a whole job whose hand goes on before it and after it
+  pub file_moments : (seen : Telling F) (may_leave : Leaving F) (a b c d : F) (job : Option Coming) → OrNone (may_leave a) (may_leave b) → SamePassed (seen a) (seen b) → MayLeave seen may_leave b c job →
+      Goes a b (OldOrNone (may_leave a)) → Goes b c (LeavesAt seen may_leave b job) → Goes c d (OldOrNone (may_leave c)) → Goes a d (LeavesAt seen may_leave a job)
+  file_moments seen may_leave a b c d job first same middle one two three =
+      let back : (kept : Option (List ℕ)) → LeavesAt seen may_leave b job kept → LeavesAt seen may_leave a job kept = λ kept left.
+      ⊎_elim
+      (λ was. ⊎_elim (λ old. inl (first kept old)) (λ none. inl (inr none)) was)
+      (λ whole. inr (told_back (IsOfWhole job kept) (seen a) (seen b) same whole))
+      left in
+      goes_then (LeavesAt seen may_leave a job) (OldOrNone (may_leave c)) (LeavesAt seen may_leave a job) a c d (λ kept left. left)
+      (λ kept left. ⊎_elim (λ now. back kept (middle kept now)) (λ none. inl (inr none)) left)
+      (goes_then (OldOrNone (may_leave a)) (LeavesAt seen may_leave b job) (LeavesAt seen may_leave a job) a b c (λ kept left. inl left) back one two)
+      three
+
 -- the job was given up
-pub given_up : {Q F : Type 0} (carries : Carrying Q) (seen : Telling F) (may_leave : Leaving F) (old new : Keeping Q F) (sender job : ℕ) (r : Request) (aborted : Answer) (cause : Cause) →
+pub given_up : {Q F : Type 0} (carries : Carrying Q) (seen : Telling F) (may_leave : Leaving F) (moment : F → ℕ) (left_since : F → ℕ → Option (List ℕ) → Type 0) (may_lack : F → List ℕ → Type 0) (old new : Keeping Q F) (sender job : ℕ) (r : Request) (aborted : Answer) (cause : Cause) →
     carries old.inner sender job AbortJob aborted new.inner → new.hand.stage ≡ stage.Broken cause → SamePassed (seen old.hand.folder) (seen new.hand.folder) →
     ((work : Option Coming) → Follows seen may_leave old.hand work → MayLeave seen may_leave old.hand.folder new.hand.folder (with_last r work)) →
-    Carries carries seen may_leave old sender job r (Refused NotOpen) new
-given_up carries seen may_leave old new sender job r aborted cause carried broken passed leaves = record {
+    ((work : Option Coming) → Follows seen may_leave old.hand work → GoesOn moment left_since may_lack old.hand.folder new.hand.folder (LeavesAt seen may_leave old.hand.folder (with_last r work))) →
+    Carries carries seen may_leave moment left_since may_lack old sender job r (Refused NotOpen) new
+given_up carries seen may_leave moment left_since may_lack old new sender job r aborted cause carried broken passed leaves moments = record {
   asked = inr (inl (record { aborted = aborted; carried = carried; refused = refl }));
   follows = λ work h. follows_broken seen may_leave new.hand _ cause broken;
   passes = λ work h. refused_passes job r NotOpen work _ _ passed;
   leaves = leaves;
+  moments = moments;
 }

@@ -1,14 +1,14 @@
 -- What a request comes to that is carried out and kept.
-use Rattle.std.specs.Prelude.{◌≡◌, ◌⊎◌, ℕ, Option}
+use Rattle.std.specs.Prelude.{◌≡◌, ◌⊎◌, ℕ, List, Option}
 use Rattle.lpd_values.specs.declared.refusal.Refusal.TheVariants.{NotOpen, TableFull}
 use Rattle.page_pool.specs.Page.{Page}
 use Rattle.receiver.specs.Script.{Request, AbortJob, Open}
 use Rattle.spool_requests.specs.declared.answer.Answer.{Answer}
 use Rattle.spool_requests.specs.declared.answer.Answer.TheVariants.{Refused}
 use Rattle.request_session.specs.Carried.{Carrying, Ending}
-use Rattle.kept_jobs.specs.Folder.{OrNone, SamePassed}
+use Rattle.kept_jobs.specs.Folder.{GoesOn, OldOrNone, OrNone, SamePassed}
 use Rattle.job_streams.specs.Stream.{Coming}
-use Rattle.job_hand.specs.Hand.{Follows, Leaving, MayLeave, Telling}
+use Rattle.job_hand.specs.Hand.{Follows, Leaving, LeavesAt, MayLeave, Telling}
 use Rattle.kept_requests.specs.Work.{PassesOn, with_last, work_after}
 use Rattle.kept_requests.specs.declared.keeping.Keeping.{Keeping}
 
@@ -28,10 +28,11 @@ abbrev pub Asks : {Q : Type 0} → Carrying Q → Q → (sender job : ℕ) → R
 Asks carries old sender job r answer new =
     carries old sender job r answer new ⊎ (Aborts carries old sender job answer new ⊎ Waits r answer old new)
 
-module _ {Q F : Type 0} (carries : Carrying Q) (seen : Telling F) (may_leave : Leaving F) where
+module _ {Q F : Type 0} (carries : Carrying Q) (seen : Telling F) (may_leave : Leaving F) (moment : F → ℕ)
+    (left_since : F → ℕ → Option (List ℕ) → Type 0) (may_lack : F → List ℕ → Type 0) where
   -- What was asked, and which job the hand follows then. A job that is whole by the request, where that isn't refused, is
-  -- passed on, kept with the octets that have come of it; and a crash leaves no job but one that is whole by the request,
-  -- or what it might have left before.
+  -- passed on, kept with the octets that have come of it; and a crash, after it or at a moment of it, leaves no job but one that is
+  -- whole by the request, or what it might have left before, and those that were passed on as whole as before.
   pub record Carries (old : Keeping Q F) (sender job : ℕ) (r : Request) (answer : Answer) (new : Keeping Q F) : Type 0 where
     pub asked : Asks carries old.inner sender job r answer new.inner
     pub follows :
@@ -43,10 +44,15 @@ module _ {Q F : Type 0} (carries : Carrying Q) (seen : Telling F) (may_leave : L
     pub leaves :
         (work : Option Coming) → Follows seen may_leave old.hand work →
         MayLeave seen may_leave old.hand.folder new.hand.folder (with_last r work)
+    pub moments :
+        (work : Option Coming) → Follows seen may_leave old.hand work →
+        GoesOn moment left_since may_lack old.hand.folder new.hand.folder (LeavesAt seen may_leave old.hand.folder (with_last r work))
 
 -- at the end of a session nothing is passed on, and nothing more may be left
-pub record Ends {Q F : Type 0} (ends : Ending Q) (seen : Telling F) (may_leave : Leaving F) (old : Keeping Q F) (job : ℕ)
+pub record Ends {Q F : Type 0} (ends : Ending Q) (seen : Telling F) (may_leave : Leaving F) (moment : F → ℕ)
+    (left_since : F → ℕ → Option (List ℕ) → Type 0) (may_lack : F → List ℕ → Type 0) (old : Keeping Q F) (job : ℕ)
     (page : Option Page) (new : Keeping Q F) : Type 0 where
   pub below : ends old.inner job page new.inner
   pub passed : SamePassed (seen old.hand.folder) (seen new.hand.folder)
   pub leaves : OrNone (may_leave old.hand.folder) (may_leave new.hand.folder)
+  pub moments : GoesOn moment left_since may_lack old.hand.folder new.hand.folder (OldOrNone (may_leave old.hand.folder))

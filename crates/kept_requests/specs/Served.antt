@@ -1,5 +1,5 @@
 -- What serving a session comes to whose jobs are kept.
-use Rattle.std.specs.Prelude.{◌≡◌, ◌⊎◌, ℕ, List, [], ◌∷◌, ◌++◌, Option, None}
+use Rattle.std.specs.Prelude.{◌≡◌, ◌⊎◌, ◌≤◌, ℕ, List, [], ◌∷◌, ◌++◌, Option, None}
 use Rattle.receiver.specs.Reading.{Due, Requests}
 use Rattle.spool_requests.specs.declared.answer.Answer.{Answer}
 use Rattle.spool_trace.specs.declared.reply.Deed.TheVariants as deed
@@ -9,7 +9,7 @@ use Rattle.request_session.specs.Carried.{AtEnd, Carrying, Ending}
 use Rattle.request_session.specs.Course.{Course, Did, session_after}
 use Rattle.request_session.specs.Served.{Around, HasRead}
 use Rattle.request_session.specs.Served as served
-use Rattle.kept_jobs.specs.Folder.{IsSeen, Leads, Seen}
+use Rattle.kept_jobs.specs.Folder.{GoesOn, IsSeen, Leads, Seen}
 use Rattle.job_streams.specs.Stream.{Coming}
 use Rattle.job_hand.specs.Hand.{IsOfWhole, Leaving, Telling}
 use Rattle.kept_requests.specs.Work.{PassesOn, with_last, work_after}
@@ -58,15 +58,23 @@ module _ (sender : ℕ) where
 abbrev pub Grew : (old new : Option Seen) → Type 0
 Grew = Leads (λ old new. (more : List (Option ℕ × List ℕ)) × (new.passed ≡ more ++ old.passed))
 
--- A moment of a session, after the beginning of its course: just what this says has been passed on; later only more is;
--- and a crash leaves of the job in hand the whole or none, or what it might have left at the start.
-pub record IsMoment {F : Type 0} (seen : Telling F) (may_leave : Leaving F) (sender : ℕ) (c : Course) (start at end : F)
+-- in a course a crash leaves what it might have left at the start, or none, or a whole job of the course
+abbrev pub LeavesIn : {F : Type 0} → Telling F → Leaving F → (sender : ℕ) → Course → (start : F) → Option (List ℕ) → Type 0
+LeavesIn seen may_leave sender c start kept =
+    (may_leave start kept ⊎ (kept ≡ None)) ⊎ IsSeen (λ s. HadWhole sender c kept) (seen start)
+
+-- A moment of a session's run, after the beginning of its course: just what this says has been passed on; later only more is; a crash
+-- leaves of the job in hand the whole or none, or what it might have left at the start, at this moment and at each one since
+-- then; and of each job that was passed on no less than then.
+pub record IsMoment {F : Type 0} (seen : Telling F) (may_leave : Leaving F) (moment : F → ℕ)
+    (left_since : F → ℕ → Option (List ℕ) → Type 0) (may_lack : F → List ℕ → Type 0) (sender : ℕ) (c : Course) (start at end : F)
     : Type 0 where
   pub passes : PassesAll sender c (seen start) (seen at)
   pub more : Grew (seen at) (seen end)
   pub leaves :
-      (kept : Option (List ℕ)) → may_leave at kept →
-      (may_leave start kept ⊎ (kept ≡ None)) ⊎ IsSeen (λ s. HadWhole sender c kept) (seen start)
+      (kept : Option (List ℕ)) → may_leave at kept → LeavesIn seen may_leave sender c start kept
+  pub since : GoesOn moment left_since may_lack start at (LeavesIn seen may_leave sender c start)
+  pub later : moment at ≤ moment end
 
 module _ {Q : Type 0} (carries : Carrying Q) (sender : ℕ) where
   -- what the request that was due asked of the spool below
@@ -84,7 +92,7 @@ module _ {Q : Type 0} (carries : Carrying Q) (sender : ℕ) where
 
 -- a session was served and ended so; what it wrote and read is as of any session
 pub record ServedKept {Q F : Type 0} (carries : Carrying Q) (leaves : Ending Q) (seen : Telling F) (may_leave : Leaving F)
-    (end : SessionEnd) (sender : ℕ) (before after : Around (Keeping Q F)) : Type 0 where
+    (moment : F → ℕ) (left_since : F → ℕ → Option (List ℕ) → Type 0) (may_lack : F → List ℕ → Type 0) (end : SessionEnd) (sender : ℕ) (before after : Around (Keeping Q F)) : Type 0 where
   pub course : Course
   pub ends : served.Ends end sender course before.writer after.writer
   pub read : HasRead end (session_after sender course).arrived before.reader after.reader
@@ -93,6 +101,7 @@ pub record ServedKept {Q F : Type 0} (carries : Carrying Q) (leaves : Ending Q) 
   pub passes : PassesAll sender course (seen before.spool.hand.folder) (seen asked.hand.folder)
   pub moments :
       (later c : Course) → course ≡ later ++ c →
-      (at : F) × IsMoment seen may_leave sender c before.spool.hand.folder at asked.hand.folder
+      (at : F) × IsMoment seen may_leave moment left_since may_lack sender c before.spool.hand.folder at asked.hand.folder
+  pub run : GoesOn moment left_since may_lack before.spool.hand.folder asked.hand.folder (LeavesIn seen may_leave sender course before.spool.hand.folder)
   pub aborts :
-      AtEnd (Ends leaves seen may_leave) (session_after sender course).progress.job (session_after sender course).job asked after.spool
+      AtEnd (Ends leaves seen may_leave moment left_since may_lack) (session_after sender course).progress.job (session_after sender course).job asked after.spool

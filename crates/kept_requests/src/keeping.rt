@@ -3,7 +3,7 @@
 ghost use Rattle.std.specs.Prelude.{◌≡◌, ℕ, None, Some};
 ghost use Rattle.receiver.specs.Script.{AbortJob};
 ghost use Rattle.spool_requests.specs.declared.answer.Answer.{Answer};
-ghost use Rattle.kept_jobs.specs.Folder.{OrNone, SamePassed};
+ghost use Rattle.kept_jobs.specs.Folder.{GoesOn, OldOrNone, OrNone, SamePassed};
 ghost use Rattle.job_hand.specs.declared.hand.HandStage.TheVariants as stage;
 ghost use Rattle.job_hand.specs.Hand.{Follows};
 
@@ -42,6 +42,8 @@ impl<Q: Requests, F: Folder> Keeping<Q, F> {
         ensures passed { SamePassed (F.seen self.old.hand.folder) (F.seen self.new.hand.folder) }
         ensures crash { OrNone (F.may_leave self.old.hand.folder)
             (F.may_leave self.new.hand.folder) }
+        ensures moments { GoesOn F.moment F.left_since F.may_lack self.old.hand.folder
+            self.new.hand.folder (OldOrNone (F.may_leave self.old.hand.folder)) }
         ensures aborted { (sender : ℕ) → (answer : Answer)
             × Q.carries self.old.inner sender job AbortJob answer self.new.inner }
     {

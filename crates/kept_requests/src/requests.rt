@@ -10,9 +10,9 @@ use request_calls::{Asked, Receipt, Requests, ReturnedControl, ReturnedPage, Ret
 impl<Q: Requests, F: Folder> Requests for Keeping<Q, F> {
     ghost use Rattle.kept_requests.specs.Carried.{Carries, Ends};
 
-    ghost carries = { Carries Q.carries F.seen F.may_leave };
+    ghost carries = { Carries Q.carries F.seen F.may_leave F.moment F.left_since F.may_lack };
 
-    ghost ends = { Ends Q.ends F.seen F.may_leave };
+    ghost ends = { Ends Q.ends F.seen F.may_leave F.moment F.left_since F.may_lack };
 
     fn admits(&mut self, queue: &[u8]) -> Result<(), Refusal> {
         self.inner.admits(queue)

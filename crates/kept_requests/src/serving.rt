@@ -13,7 +13,8 @@ use std::alloc::Global;
 use std::sync::Wait;
 
 /// Serves a session of a sender as `serve_by` does. The octet 00 for the file that makes a job whole is
-/// written only after the job was kept; at each moment between two requests a crash leaves of the job in hand the whole or none.
+/// written only after the job was kept; at each moment of the run a crash leaves of the job in hand the whole or none, and of each job
+/// that was passed on the whole.
 pub fn serve_kept<Q: Requests, F: Folder, R: Wait, I: OctetRead, W: OctetWrite>(
     rt: &R,
     alloc: Global,
@@ -23,7 +24,8 @@ pub fn serve_kept<Q: Requests, F: Folder, R: Wait, I: OctetRead, W: OctetWrite>(
     writer: &mut W,
 ) -> SessionEnd
     requires { Follows F.seen F.may_leave spool.old.hand None }
-    ensures { ServedKept Q.carries Q.ends F.seen F.may_leave result sender
+    ensures { ServedKept Q.carries Q.ends F.seen F.may_leave F.moment F.left_since F.may_lack
+        result sender
         (around (source (I.left reader.old) (I.faults reader.old) (I.reads reader.old))
         (side (W.written writer.old) (W.faults writer.old)) spool.old)
         (around (source (I.left reader.new) (I.faults reader.new) (I.reads reader.new))

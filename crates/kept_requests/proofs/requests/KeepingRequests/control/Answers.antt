@@ -3,16 +3,18 @@ use Rattle.control_file.specs.View.{contents}
 use Rattle.job_streams.specs.Coming.{with_control}
 use Rattle.job_hand.specs.Hand.{Follows, at_job}
 use Rattle.job_hand.proofs.Standing.{follows_broken}
-use Rattle.kept_requests.proofs.Passing.{control_accepted, control_passes, control_refused, file_leaves, given_up, same_then, settles_after}
+use Rattle.kept_requests.proofs.Passing.{control_accepted, control_passes, control_refused, file_leaves, file_moments, given_up, same_then, settles_after}
 use Rattle.kept_requests.proofs.requests.KeepingRequests.control.Goals as goal
 
 pub returns-in-Broken-clause-carries : goal.returns-in-Broken-clause-carries
 returns-in-Broken-clause-carries g c = λ sender.
     let a = c.give_up.ensures.aborted sender in
-    given_up g.Q.Requests.carries g.F.Folder.seen g.F.Folder.may_leave c.args.self.now c.give_up.new.self sender c.args.job _ a.0 _ a.1 c.give_up.ensures.broken
+    given_up g.Q.Requests.carries g.F.Folder.seen g.F.Folder.may_leave g.F.Folder.moment g.F.Folder.left_since g.F.Folder.may_lack c.args.self.now c.give_up.new.self sender c.args.job _ a.0 _ a.1 c.give_up.ensures.broken
     (same_then _ _ _ (same_then _ _ _ c.control.ensures.passed c.keep_whole.ensures.passed) c.give_up.ensures.passed)
     (λ work h. file_leaves g.F.Folder.seen g.F.Folder.may_leave c.args.self.now.hand.folder c.control.new.self.folder c.keep_whole.new.self.folder c.give_up.new.self.hand.folder (at_job (with_control (contents c.args.control)) work) c.control.ensures.crash c.control.ensures.passed
     (c.keep_whole.ensures.crash _ (c.control.ensures.follows work h)) c.give_up.ensures.crash)
+    (λ work h. file_moments g.F.Folder.moment g.F.Folder.left_since g.F.Folder.may_lack g.F.Folder.seen g.F.Folder.may_leave c.args.self.now.hand.folder c.control.new.self.folder c.keep_whole.new.self.folder c.give_up.new.self.hand.folder (at_job (with_control (contents c.args.control)) work) c.control.ensures.crash c.control.ensures.passed
+    (c.keep_whole.ensures.crash _ (c.control.ensures.follows work h)) c.control.ensures.moments (c.keep_whole.ensures.moments _ (c.control.ensures.follows work h)) c.give_up.ensures.moments)
 
 pub returns-then-is_ok : goal.returns-then-is_ok
 returns-then-is_ok g c = record {
@@ -32,6 +34,10 @@ returns-then-is_ok g c = record {
             (settles_after (Some c.args.job) (at_job (with_control said) work) (g.F.Folder.seen c.args.self.now.hand.folder) (g.F.Folder.seen c.keep_whole.new.self.folder) (g.F.Folder.seen c.settle.new.self.folder) (same_then _ _ _ c.control.ensures.passed c.keep_whole.ensures.passed) (c.settle.ensures.settles _ h2 (c.keep_whole.ensures.decided _ h1)));
         leaves = λ work h. file_leaves g.F.Folder.seen g.F.Folder.may_leave c.args.self.now.hand.folder c.control.new.self.folder c.keep_whole.new.self.folder c.settle.new.self.folder (at_job (with_control said) work) c.control.ensures.crash c.control.ensures.passed
             (c.keep_whole.ensures.crash _ (c.control.ensures.follows work h)) c.settle.ensures.crash;
+        moments = λ work h.
+            let h2 = c.keep_whole.ensures.follows _ (c.control.ensures.follows work h) in
+            file_moments g.F.Folder.moment g.F.Folder.left_since g.F.Folder.may_lack g.F.Folder.seen g.F.Folder.may_leave c.args.self.now.hand.folder c.control.new.self.folder c.keep_whole.new.self.folder c.settle.new.self.folder (at_job (with_control said) work) c.control.ensures.crash c.control.ensures.passed
+            (c.keep_whole.ensures.crash _ (c.control.ensures.follows work h)) c.control.ensures.moments (c.keep_whole.ensures.moments _ (c.control.ensures.follows work h)) (c.settle.ensures.moments _ h2);
       };
 }
 
@@ -46,5 +52,7 @@ returns-else-is_ok g c = record {
         passes = λ work h. control_refused c.control-answer.result said c.args.job work _ _ c.if-is_ok.ensures.value passed;
         leaves = λ work h. file_leaves g.F.Folder.seen g.F.Folder.may_leave c.args.self.now.hand.folder c.control.new.self.folder c.keep_whole.new.self.folder c.fail.new.self.folder (at_job (with_control said) work) c.control.ensures.crash c.control.ensures.passed
             (c.keep_whole.ensures.crash _ (c.control.ensures.follows work h)) c.fail.ensures.crash;
+        moments = λ work h. file_moments g.F.Folder.moment g.F.Folder.left_since g.F.Folder.may_lack g.F.Folder.seen g.F.Folder.may_leave c.args.self.now.hand.folder c.control.new.self.folder c.keep_whole.new.self.folder c.fail.new.self.folder (at_job (with_control said) work) c.control.ensures.crash c.control.ensures.passed
+            (c.keep_whole.ensures.crash _ (c.control.ensures.follows work h)) c.control.ensures.moments (c.keep_whole.ensures.moments _ (c.control.ensures.follows work h)) c.fail.ensures.moments;
       };
 }
