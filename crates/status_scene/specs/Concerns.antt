@@ -5,7 +5,7 @@ use Rattle.standings.specs.Printers.{count_at, is_unreached_at}
 use Rattle.status_scene.specs.declared.concern.Concern.{Concern}
 use Rattle.status_scene.specs.declared.concern.Concern.TheVariants as needs
 use Rattle.status_scene.specs.declared.scene.Scene.{Scene}
-use Rattle.status_scene.specs.Refusing.{has_full_pool, has_full_table, is_refused_at, pages_for, stuck_queue}
+use Rattle.status_scene.specs.Refusing.{has_full_pool, has_full_table, is_refused_at, filling_queue, pages_for}
 
 -- where there are some
 abbrev pub where_some : ℕ → Concern → Option Concern
@@ -18,13 +18,13 @@ abbrev pub refusal_concern : Scene → Option Concern
 refusal_concern s =
     if has_full_table s.config.now s.spool.now then Some (needs.TableFull (length s.spool.now.jobs.items)) else account_concern (count_at (λ at _. is_refused_at s.config.now s.spool.now at) 0 s.config.now.queues) (length s.config.now.queues)
 
-abbrev pub stuck_concern : Option ℕ → Scene → Option Concern
-stuck_concern None s = None
-stuck_concern (Some queue) s = Some (needs.PoolFull queue (pages_for queue s.spool.now.claims.rows) s.config.now.pages)
+abbrev pub filling_concern : Option ℕ → Scene → Option Concern
+filling_concern None s = None
+filling_concern (Some queue) s = Some (needs.PoolFull queue (pages_for queue s.spool.now.claims.rows) s.config.now.pages)
 
 abbrev pub pool_concern : Scene → Option Concern
 pool_concern s =
-    if has_full_pool s.spool.now s.outside.now.noted then stuck_concern (stuck_queue s.outside.now.noted s.spool.now.printers.items s.spool.now.claims.rows) s else None
+    if has_full_pool s.spool.now s.outside.now.noted then filling_concern (filling_queue s.outside.now.noted s.spool.now.printers.items s.spool.now.claims.rows s.config.now.pages s.spool.now.claims.rows) s else None
 
 abbrev pub unreached_among : (count all : ℕ) → Option Concern
 unreached_among count all = where_some count (needs.Unreached count all)

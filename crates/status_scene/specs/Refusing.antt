@@ -1,5 +1,5 @@
 -- Whether jobs are refused, or wait for pages that nobody gives back.
-use Rattle.std.specs.Prelude.{ℕ, ◌+◌, ◌-◌, ◌^◌, ◌==◌, ◌&&◌, ◌||◌, Bool, not, List, [], ◌∷◌, Option, Some, None, find, if◌then◌else◌, length, nat_le, nat_lt}
+use Rattle.std.specs.Prelude.{ℕ, ◌+◌, ◌-◌, ◌/◌, ◌^◌, ◌==◌, ◌&&◌, ◌||◌, Bool, not, List, [], ◌∷◌, Option, Some, None, find, if◌then◌else◌, length, nat_le, nat_lt}
 use Rattle.claims.specs.declared.row.Row.{Row}
 use Rattle.config_values.specs.Config.{Config, reserve_of}
 use Rattle.counts.specs.Amounts.{amount}
@@ -31,19 +31,19 @@ has_full_pool s e = (s.pages.free == 0) || not (length e.put_off.now == 0)
 abbrev pub is_stuck : EdgeNotes → List Printer → (queue : ℕ) → Bool
 is_stuck e printers queue = is_held e.held.now queue || (count_at (is_reached_for e.printers.now queue) 0 printers == 0)
 
--- a job holds a page, and nothing is printed of its queue
-abbrev pub holds_stuck : EdgeNotes → List Printer → Row → Bool
-holds_stuck e printers row = not (amount row.held 0 == 0) && is_stuck e printers row.queue
+-- how many pages the jobs of a queue hold, as far as 64 bits count
+abbrev pub pages_for : (queue : ℕ) → List Row → ℕ
+pages_for queue [] = 0
+pages_for queue (row ∷ rows) = counted ((if row.queue == queue then amount row.held 0 else 0) + pages_for queue rows)
+
+-- the jobs of a queue hold more than half of so many pages, and nothing is printed of it
+abbrev pub fills_pool : EdgeNotes → List Printer → List Row → ℕ → (queue : ℕ) → Bool
+fills_pool e printers all total queue = nat_lt (total / 2) (pages_for queue all) && is_stuck e printers queue
 
 abbrev pub queue_in : Option Row → Option ℕ
 queue_in None = None
 queue_in (Some row) = Some row.queue
 
--- the queue of the first of them
-abbrev pub stuck_queue : EdgeNotes → List Printer → List Row → Option ℕ
-stuck_queue e printers rows = queue_in (find (holds_stuck e printers) rows)
-
--- how many pages the jobs of a queue hold, as far as 64 bits count
-abbrev pub pages_for : (queue : ℕ) → List Row → ℕ
-pages_for queue [] = 0
-pages_for queue (row ∷ rows) = counted ((if row.queue == queue then amount row.held 0 else 0) + pages_for queue rows)
+-- the first such queue of these rows
+abbrev pub filling_queue : EdgeNotes → List Printer → (all : List Row) → ℕ → List Row → Option ℕ
+filling_queue e printers all total rows = queue_in (find (λ (row : Row). fills_pool e printers all total row.queue) rows)

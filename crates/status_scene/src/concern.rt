@@ -3,7 +3,7 @@
 ghost use Rattle.std.specs.Prelude.{◌≡◌, count_by};
 ghost use Rattle.status_scene.specs.Concerns.{concerns_of, held_concern, pool_concern, refusal_concern, stopped_concern, unreached_concern};
 
-use crate::refusing::{has_full_pool, has_full_table, pages_for, refusing_queues, stuck_queue};
+use crate::refusing::{filling_queue, has_full_pool, has_full_table, pages_for, refusing_queues};
 use crate::scene::Scene;
 use standings::{stopped_printers, unreached_printers};
 
@@ -14,7 +14,7 @@ pub enum Concern {
     TableFull { jobs: usize },
     /// The account has no room for a job of so many of the queues: it is refused.
     AccountFull { queues: usize, of: usize },
-    /// Jobs wait for pages, of which so many are held for a queue that isn't printed.
+    /// Jobs wait for pages, of which so many, more than half, are held for a queue that isn't printed.
     PoolFull { queue: u32, pages: u64, of: u32 },
     /// So many of the printers aren't reached, or take nothing.
     Unreached { printers: usize, of: usize },
@@ -49,8 +49,9 @@ fn pool_concern(scene: &Scene<'_>) -> Option<Concern>
     if !has_full_pool(spool, noted) {
         return None;
     }
-    let rows = spool.claims.rows();
-    let queue = stuck_queue(noted, spool.printers.as_slice(), rows)?;
+    let (rows, printers) = (spool.claims.rows(), spool.printers.as_slice());
+    let total = u64::from(scene.config.pages());
+    let queue = filling_queue(noted, printers, rows, total, rows)?;
     Some(Concern::PoolFull {
         queue,
         pages: pages_for(queue, rows),

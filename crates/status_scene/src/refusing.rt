@@ -2,7 +2,7 @@
 
 ghost use Rattle.std.specs.Prelude.{◌≡◌, ◌<◌, ◌^◌};
 ghost use Rattle.standings.specs.Printers.{count_at, one_if};
-ghost use Rattle.status_scene.specs.Refusing.{has_full_pool, has_full_table, holds_stuck, is_refused_at, is_stuck, pages_for, refuses, stuck_queue};
+ghost use Rattle.status_scene.specs.Refusing.{filling_queue, fills_pool, has_full_pool, has_full_table, is_refused_at, is_stuck, pages_for, refuses};
 
 use claims::Row;
 use config_values::{Config, Queue};
@@ -68,15 +68,34 @@ fn is_stuck(noted: &EdgeNotes<'_>, printers: &[Printer], queue: u32) -> bool
     is_held(noted.held, queue) || reached_printers(noted.printers, queue, printers) == 0
 }
 
-/// The queue of the first of these rows that holds a page, of which nothing is printed.
-pub(crate) fn stuck_queue(noted: &EdgeNotes<'_>, printers: &[Printer], rows: &[Row]) -> Option<u32>
-    ensures { result ≡ stuck_queue noted.now printers.now rows.now }
+/// Whether the jobs of a queue hold more than half of this many pages, and nothing is printed of it.
+fn fills_pool(
+    noted: &EdgeNotes<'_>,
+    printers: &[Printer],
+    all: &[Row],
+    total: u64,
+    queue: u32,
+) -> bool
+    ensures { result ≡ fills_pool noted.now printers.now all.now total queue }
+{
+    total / 2 < pages_for(queue, all) && is_stuck(noted, printers, queue)
+}
+
+/// The first queue of these rows that fills a pool of this many pages, where these are the rows of all jobs.
+pub(crate) fn filling_queue(
+    noted: &EdgeNotes<'_>,
+    printers: &[Printer],
+    all: &[Row],
+    total: u64,
+    rows: &[Row],
+) -> Option<u32>
+    ensures { result ≡ filling_queue noted.now printers.now all.now total rows.now }
 {
     let (first, rest) = rows.split_first()?;
-    if pages_of(&first.held) != 0 && is_stuck(noted, printers, first.queue) {
+    if fills_pool(noted, printers, all, total, first.queue) {
         return Some(first.queue);
     }
-    stuck_queue(noted, printers, rest)
+    filling_queue(noted, printers, all, total, rest)
 }
 
 /// How many pages the jobs of a queue hold.
