@@ -2,4 +2,4 @@ use Rattle.word_actions.proofs.OrderLemmas.{not_read}
 use Rattle.word_actions.proofs.files.check.Goals as goal
 
 pub returns-clause-faulty : goal.returns-clause-faulty
-returns-clause-faulty g c text left due first = absurd (not_read due _ (c.in_ok-config.ensures.faulty text left due first))
+returns-clause-faulty g c text left due first = absurd (not_read due _ (c.in_ok-spool.ensures.faulty text left due first))
