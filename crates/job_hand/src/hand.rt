@@ -8,7 +8,7 @@ ghost use Rattle.lpd_commands.specs.Written.{command_has_line};
 ghost use Rattle.lpd_commands.specs.declared.command.Command.TheVariants.{Receive};
 ghost use Rattle.control_file.specs.View.{contents};
 ghost use Rattle.kept_jobs.specs.Folder.{GoesOn, IsNever, OldOrNone, OrNone, SamePassed};
-ghost use Rattle.kept_jobs.specs.Kept.{Passes};
+ghost use Rattle.kept_jobs.specs.Kept.{Leaves, Passes};
 ghost use Rattle.job_streams.specs.Stream.{Coming, control_name, is_whole, stream};
 ghost use Rattle.job_streams.specs.Coming.{new_job, with_control, with_end, with_file, with_octets};
 ghost use Rattle.job_hand.specs.Known.{Knows};
@@ -384,6 +384,20 @@ impl<F: Folder> Hand<F> {
         }
     }
 
+    /// Leaves the job in hand, which is kept, in the folder. None is in hand then.
+    fn let_lie(&mut self)
+        ensures leaves { (job : Coming) → Holds F.seen F.may_leave self.old job
+            → Leaves (stream job) (F.seen self.old.folder) (F.seen self.new.folder) }
+        ensures never { IsNever (F.may_leave self.new.folder) }
+        ensures idle { self.new.stage ≡ stage.Idle }
+        ensures moments { (job : Coming) → Holds F.seen F.may_leave self.old job
+            → GoesOn F.moment F.left_since F.may_lack self.old.folder self.new.folder
+            (OldOrNone (F.may_leave self.old.folder)) }
+    {
+        self.folder.leave();
+        self.stage = HandStage::Idle;
+    }
+
     /// Leaves a job that was kept in the folder, and nobody is told it. None is in hand then; one that is still coming stays in hand.
     pub fn leave(&mut self)
         requires { (cause : Cause) → self.old.stage ≡ stage.Broken cause → ⊥ }
@@ -398,11 +412,10 @@ impl<F: Folder> Hand<F> {
             → GoesOn F.moment F.left_since F.may_lack self.old.folder self.new.folder
             (OldOrNone (F.may_leave self.old.folder)) }
     {
-        let HandStage::Kept = self.stage else {
-            return;
-        };
-        self.folder.leave();
-        self.stage = HandStage::Idle;
+        match self.stage {
+            HandStage::Kept => self.let_lie(),
+            _ => {}
+        }
     }
 
     /// Takes away what is in the folder of the job in hand, which isn't to be kept for this cause.
