@@ -304,33 +304,16 @@ where
     serve_plan(rt, host, config, settings, output)
 }
 
-/// Serves by what was asked for, with a log of its own. Standard descriptors that were closed have to have been `filled`. Answers the exit
-/// status.
-fn serve_asked(rt: HostRuntime, filled: bool, config: &str, request: ServeRequest) -> u8
-    ensures { result ≤ 5 }
-{
-    let alloc = rt.alloc();
-    let Ok(queue) = start_log(&rt, alloc, request.settings.log, rt.stderr()) else {
-        let mut faults = StreamWriter::new(rt.stderr());
-        return refuse_memory(alloc, &mut faults);
-    };
-    let informing = informing(&request.settings);
-    let lines = LineLog::new(&rt, alloc, &queue);
-    // For information: causes, the lines of jobs and of the account's segments, and at a terminal all.
-    let lines = if rt.stderr().is_terminal() {
-        lines
-    } else {
-        lines.informed_by(informing)
-    };
-    let logged = Logged::new(rt, Level::Info, lines);
-    let status = if filled {
-        serve(&logged, &rt, config, request, rt.stdout())
-    } else {
-        error!(logged; "{} /dev/null", FaultName::ReadFile);
-        4
-    };
-    queue.end(&rt, Duration::from_secs(PATIENCE_SECONDS));
-    status
+/// These lines of a log: for information causes, the lines of jobs and of the account's segments, and at a terminal all.
+fn informed<'a, R: Clock + Wait>(
+    lines: LineLog<'a, R>,
+    is_terminal: bool,
+    settings: &Settings,
+) -> LineLog<'a, R> {
+    if is_terminal {
+        return lines;
+    }
+    lines.informed_by(informing(settings))
 }
 
 /// The exit code of this status.
@@ -359,6 +342,23 @@ fn main(rt: HostRuntime) -> ExitCode {
         RunOutcome::Control(request) => code(control(&rt, &request)),
         RunOutcome::Audit(request) => code(audit(&rt, &request)),
         RunOutcome::Usage(request) => code(usage(&rt, &request)),
-        RunOutcome::Serve { config, request } => { code(serve_asked(rt, filled, config, request)) }
+        RunOutcome::Serve { config, request } => {
+            let settings = &request.settings;
+            let Ok(queue) = start_log(&rt, alloc, settings.log, rt.stderr()) else {
+                let mut faults = StreamWriter::new(rt.stderr());
+                return code(refuse_memory(alloc, &mut faults));
+            };
+            let lines = LineLog::new(&rt, alloc, &queue);
+            let lines = informed(lines, rt.stderr().is_terminal(), settings);
+            let logged = Logged::new(rt, Level::Info, lines);
+            let status = if filled {
+                serve(&logged, &rt, config, request, rt.stdout())
+            } else {
+                error!(logged; "{} /dev/null", FaultName::ReadFile);
+                4
+            };
+            queue.end(&rt, Duration::from_secs(PATIENCE_SECONDS));
+            code(status)
+        }
     }
 }
