@@ -1,6 +1,6 @@
 //! What bites a server later is said at its start: once, and not of one that is to end after so many connections, as a script's does.
 
-ghost use Rattle.std.specs.Prelude.{◌≡◌, ◌-◌, ◌/◌, ◌<◌, ◌↔◌, IsTrue};
+ghost use Rattle.std.specs.Prelude.{◌≡◌, ◌-◌, ◌/◌, ◌<◌, ◌↔◌, IsTrue, false, true};
 ghost use Rattle.config_values.specs.Config.{IsQueue, reserve_of};
 
 use config_values::Config;
@@ -14,9 +14,16 @@ const PART: &str = "lpd_daemon::serving";
 /// How many jobs of a queue are few for an account.
 const FEW: u64 = 50;
 
+/// How many jobs of a queue, each as large as that allows, these entries are enough for. The last entry is that of the close.
+fn jobs_of(config: &Config, queue: u32, entries: u64) -> u64
+    requires { IsQueue config.now queue }
+    ensures { result ≡ (entries - 1) / reserve_of config.now queue }
+{
+    entries.saturating_sub(1) / config.reserve_of(queue)
+}
+
 /// How many jobs of a queue, each as large as that allows, the account has room for: of those between two moments without held jobs, and where
-/// room is kept, which is done once a quarter of it is counted for jobs that are gone, of those that are held at once. The last entry is that
-/// of the close.
+/// room is kept, which is done once a quarter of it is counted for jobs that are gone, of those that are held at once.
 fn room_for(config: &Config, queue: u32, keep_room: bool) -> u64
     requires { IsQueue config.now queue }
     ensures fits { keep_room ≡ false → result
@@ -25,12 +32,11 @@ fn room_for(config: &Config, queue: u32, keep_room: bool) -> u64
         ≡ (config.now.account - config.now.account / 4 - 1) / reserve_of config.now queue }
 {
     let account = config.account();
-    let room = if keep_room {
-        account - account / 4
+    if keep_room {
+        jobs_of(config, queue, account - account / 4)
     } else {
-        account
-    };
-    room.saturating_sub(1) / config.reserve_of(queue)
+        jobs_of(config, queue, account)
+    }
 }
 
 /// Whether this number of jobs is few.
