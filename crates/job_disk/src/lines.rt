@@ -1,0 +1,142 @@
+//! Where the jobs of a folder are, under its lock.
+
+use crate::jobs::FolderJobs;
+use parked_lines::{
+    AdmissionFault, FreePart, JobMove, JobSize, NewJob, ParkState, ParkedJob, PartUse,
+};
+use std::alloc::{AllocError, Global};
+use std::sync::MutexGuard;
+
+/// Jobs are told by their files here, and not by who owns them.
+const NO_OWNER: u32 = 0;
+
+/// What came of a file whose job was to go.
+#[derive(Clone, Copy, Debug, PartialEq, Eq)]
+pub enum FileRemoval {
+    /// It waited to be fed, or had failed, and is removed.
+    Gone,
+    /// It doesn't wait: it is coming, is being fed, or the spool has it.
+    IsElsewhere,
+}
+
+/// A job whose way is chosen, with the number that its file gets.
+#[derive(Clone, Copy, Debug, PartialEq, Eq)]
+pub struct NumberedJob {
+    /// The number of its file.
+    pub number: u64,
+    /// Where it is: it comes through the spool, or beside it.
+    pub state: ParkState,
+}
+
+/// Where the jobs of a folder are, which nobody else changes while this is held. A queue is told by its place, from 0.
+#[derive(Drop)]
+pub struct HeldLines<'d> {
+    pub(crate) jobs: MutexGuard<'d, FolderJobs>,
+}
+
+impl HeldLines<'_> {
+    /// What the jobs of a queue have of the spool, each of which may come to this many pages.
+    pub fn used(&self, queue: usize, limit: u32) -> PartUse {
+        self.jobs.lines.used(queue, limit)
+    }
+
+    /// How many queues have jobs.
+    pub fn busy(&self) -> usize {
+        self.jobs.lines.busy()
+    }
+
+    /// A session at this seat opens a job of a sender for a queue: its file's number is taken and its way chosen, as `ParkedLines::open`
+    /// says. The session's next file gets that number.
+    ///
+    /// An error as there. Memory also where no number is left.
+    pub fn open(
+        &mut self,
+        seat: u32,
+        queue: usize,
+        sender: u32,
+        has_room: bool,
+    ) -> Result<NumberedJob, AdmissionFault> {
+        let Some(number) = self.jobs.numbers.take() else {
+            return Err(AdmissionFault::Memory);
+        };
+        let job = NewJob {
+            number,
+            sender,
+            owner: NO_OWNER,
+        };
+        let state = self.jobs.lines.open(queue, job, has_room)?;
+        if self.jobs.taken.insert(seat, number).is_err() {
+            self.jobs.lines.end(queue, number);
+            return Err(AdmissionFault::Memory);
+        }
+        Ok(NumberedJob { number, state })
+    }
+
+    /// A job that came through the spool goes on beside it.
+    pub fn turn_aside(&mut self, queue: usize, number: u64) {
+        self.jobs.lines.advance(queue, number, JobMove::TurnAside);
+    }
+
+    /// A job that came is whole and kept, and has this size. What is known of it then, where it was coming.
+    pub fn keep(&mut self, queue: usize, number: u64, size: JobSize) -> Option<ParkedJob> {
+        self.jobs.lines.keep(queue, number, size)
+    }
+
+    /// A job that a session at this seat began doesn't come to its end.
+    pub fn give_up(&mut self, seat: u32, queue: usize, number: u64) {
+        self.jobs.lines.end(queue, number);
+        self.jobs.taken.remove(&seat);
+    }
+
+    /// A whole job of a sender in this file waits, which a start has found there, or which had failed. The errors are those of
+    /// `ParkedLines::add_found`.
+    pub fn add_found(
+        &mut self,
+        queue: usize,
+        number: u64,
+        sender: u32,
+        size: JobSize,
+    ) -> Result<(), AdmissionFault> {
+        let job = NewJob {
+            number,
+            sender,
+            owner: NO_OWNER,
+        };
+        self.jobs.lines.add_found(queue, job, size)
+    }
+
+    /// The job that is fed next, with its queue, as `ParkedLines::take_next` says.
+    pub fn take_next(&mut self, turn: usize, free: &[FreePart]) -> Option<(usize, ParkedJob)> {
+        self.jobs.lines.take_next(turn, free)
+    }
+
+    /// The spool has the whole of a job that was fed.
+    pub fn enter(&mut self, queue: usize, number: u64) {
+        self.jobs.lines.advance(queue, number, JobMove::Enter);
+    }
+
+    /// A job that was fed waits again.
+    pub fn put_back(&mut self, queue: usize, number: u64) {
+        self.jobs.lines.advance(queue, number, JobMove::PutBack);
+    }
+
+    /// A job that was fed isn't to be fed any more: its file stays.
+    pub fn leave(&mut self, queue: usize, number: u64) {
+        self.jobs.lines.end(queue, number);
+    }
+
+    /// How many jobs of a queue wait, or are being fed.
+    pub fn parked(&self, queue: usize) -> usize {
+        self.jobs.lines.parked(queue)
+    }
+
+    /// The first jobs of a queue that wait or are being fed, in order, this many at most. AllocError where memory is refused.
+    pub fn listed(
+        &self,
+        alloc: Global,
+        queue: usize,
+        most: usize,
+    ) -> Result<Vec<ParkedJob>, AllocError> {
+        self.jobs.lines.listed(alloc, queue, most)
+    }
+}
