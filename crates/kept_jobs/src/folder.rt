@@ -62,9 +62,6 @@ pub trait Folder {
     /// How often the folder has failed.
     ghost faults: { Self → ℕ };
 
-    /// Whether an earlier job of this sender for this queue is still in the folder and nowhere else, so that a new one of theirs has to wait.
-    fn has_earlier(&self, sender: u32, queue: &[u8]) -> bool;
-
     /// Takes an empty temporary file of a number of its own in hand.
     fn create(&mut self) -> Result<(), KeepError>
         ensures made { OnOk result (Leads (λ old new. new

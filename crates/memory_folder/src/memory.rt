@@ -49,8 +49,6 @@ pub struct MemoryFolder {
     /// How many more calls go well. After these each call fails, and what is in the folder stays.
     calls: u64,
     faults: u64,
-    /// Whether it says that an earlier job of each sender waits for each queue.
-    earlier: bool,
     ghost room: { is_some whole ≡ true → vec_len gone < vec_capacity gone },
 }
 
@@ -94,11 +92,11 @@ fn write(alloc: Global, partial: &mut Option<DiskFile>, octets: &[u8]) -> Result
 }
 
 impl MemoryFolder {
-    /// An empty one, of which so many calls go well. It says of every sender and queue whether an earlier job waits.
-    pub fn new(alloc: Global, calls: u64, earlier: bool) -> MemoryFolder
+    /// An empty one, of which so many calls go well.
+    pub fn new(alloc: Global, calls: u64) -> MemoryFolder
         ensures empty { (result.partial ≡ None) × (result.whole ≡ None)
             × (result.gone.items ≡ []) }
-        ensures calls { (result.calls ≡ calls) × (result.earlier ≡ earlier) }
+        ensures calls { result.calls ≡ calls }
     {
         MemoryFolder {
             alloc,
@@ -107,7 +105,6 @@ impl MemoryFolder {
             gone: Vec::new(alloc),
             calls,
             faults: 0,
-            earlier,
         }
     }
 
@@ -171,10 +168,6 @@ impl Folder for MemoryFolder {
     ghost may_lack = { λ m octets. Lacks m.gone.items octets };
 
     ghost faults = { λ m. m.faults };
-
-    fn has_earlier(&self, _sender: u32, _queue: &[u8]) -> bool {
-        self.earlier
-    }
 
     fn create(&mut self) -> Result<(), KeepError> {
         step(&mut self.calls, &mut self.faults, true)?;
