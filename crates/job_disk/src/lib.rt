@@ -17,6 +17,6 @@ pub use fault::DiskFault;
 pub use folder::DiskFolder;
 pub use lines::{FileRemoval, HeldLines, NumberedJob};
 pub use looking::{FolderState, look};
-pub use parked_lines::{AdmissionFault, FreePart, JobSize, ParkState, ParkedJob, PartUse};
+pub use parked_lines::{AdmissionFault, JobSize};
 pub use server_folder::{FolderError, FolderUse};
 pub use store::DiskStore;

@@ -83,6 +83,7 @@ fn close_spool<R: Clock + Log + Wait, E: HouseLedger>(
     seat: &mut HouseSeat<E>,
 ) {
     let House { spool, hall } = house;
+    Feeding { spool, hall }.await_fed();
     let care = Care { spool, hall };
     care.wait_until_done();
     care.tell_all_lost();
