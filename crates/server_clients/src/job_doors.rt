@@ -4,12 +4,13 @@
 //! sender's comes beside the spool, where its queue has its part of the spool, until a start has read all that it found, and where the
 //! spool has no room for it. So a queue that can't print takes nothing from the others, and its senders aren't refused.
 
-ghost use Rattle.std.specs.Prelude.{◌≡◌, ◌++◌, ℕ, List};
+ghost use Rattle.std.specs.Prelude.{ℕ};
+ghost use Rattle.parked_requests.specs.Ways.{AddsTo, Opens};
 
 use config_values::Config;
-use log::Log;
+use log::{Log, warn};
 use lpd_values::{Octets, Refusal};
-use parked_lines::{AdmissionFault, JobSize, ParkState, QueuePart, SpoolShape};
+use parked_lines::{JobSize, ParkState, QueuePart, SpoolShape};
 use parked_requests::{JobWays, OpenedJob};
 use request_session::Requests;
 use server_folders::{HeldLines, JobFolder};
@@ -20,6 +21,9 @@ use std::rt::Clock;
 use std::sync::Wait;
 use told_jobs::StateQuery;
 
+/// The part of the program that logs what happens here, as the log names it.
+const PART: &str = "lpd_daemon::parking";
+
 /// The job that a session has in hand.
 #[derive(Clone, Copy)]
 struct DoorJob {
@@ -29,13 +33,9 @@ struct DoorJob {
     number: u64,
 }
 
-/// Why the lines don't take a job, as its session is told.
-fn refusal_of(fault: AdmissionFault) -> Refusal {
-    match fault {
-        AdmissionFault::NoQueue => Refusal::UnknownQueue,
-        AdmissionFault::Known => Refusal::TableFull,
-        AdmissionFault::Memory => Refusal::Memory,
-    }
+/// The place of the queue of this number.
+fn place_of(queue: u32) -> usize {
+    queue.saturating_sub(1) as usize
 }
 
 /// How much of a spool of this configuration a queue may have, where so many queues have jobs.
@@ -67,7 +67,7 @@ pub(crate) fn is_stopped<R: Wait, E: HouseLedger>(
 
 /// A text with more behind it, or without where memory for that is refused.
 fn appended(text: Octets, more: &[u8]) -> Octets
-    ensures { (octets : List ℕ) × (result ≡ text ++ octets) }
+    ensures { AddsTo text result }
 {
     let mut octets = text.into_vec();
     // Where memory is refused nothing is appended.
@@ -118,29 +118,31 @@ impl<'h, 'a, R: Files<File = File> + Clock + Log + Wait, E: HouseLedger> JobDoor
         part.free(&used).has_room(limit)
     }
 
-    /// Opens a job for the queue of this number at this place. All that is chosen, and the number of its file, are under one lock.
+    /// Opens a job for the queue of this name and number. All that is chosen, and the number of its file, are under one lock.
     fn open_at<Q: Requests>(
         &mut self,
         spool: &mut Q,
         sender: u32,
+        name: &[u8],
         queue: u32,
-        place: usize,
-    ) -> Result<OpenedJob, Refusal> {
+    ) -> Result<OpenedJob, Refusal>
+        ensures { (job : ℕ) → Opens Q.carries spool.old sender job name.now result spool.new }
+    {
         let (rt, config) = (self.hall.rt, &self.hall.oversight.config);
-        let limit = config.limit_of(queue);
+        let (limit, place) = (config.limit_of(queue), place_of(queue));
         let may_go_through = self.kept.is_read(rt) && !self.stands(queue, place);
         let mut lines = self.kept.disk.lines();
         let has_room = may_go_through && self.has_part(&lines, queue, place);
-        let numbered = match lines.open(self.seat, place, sender, has_room) {
-            Ok(numbered) => numbered,
-            Err(fault) => return Err(refusal_of(fault)),
+        let Ok(numbered) = lines.open(self.seat, place, sender, has_room) else {
+            warn!(rt; target: PART, "memory was refused: a job is kept that is printed after the next start");
+            return Ok(OpenedJob { job: None, limit });
         };
         let number = numbered.number;
         self.job = Some(DoorJob { place, number });
         if numbered.state != ParkState::Coming {
             return Ok(OpenedJob { job: None, limit });
         }
-        match spool.open(sender, config.name_of(queue)) {
+        match spool.open(sender, name) {
             Ok(job) => Ok(OpenedJob {
                 job: Some(job),
                 limit,
@@ -167,12 +169,13 @@ impl<R: Files<File = File> + Clock + Log + Wait, E: HouseLedger> JobWays
         sender: u32,
         queue: &[u8],
     ) -> Result<OpenedJob, Refusal> {
-        let named = self.hall.oversight.config.queue_named(queue);
-        let Some(queue) = named else {
-            return Err(Refusal::UnknownQueue);
+        let Some(number) = self.hall.oversight.config.queue_named(queue) else {
+            // Why it isn't accepted is the spool's word.
+            let job = spool.open(sender, queue)?;
+            let job = Some(job);
+            return Ok(OpenedJob { job, limit: 0 });
         };
-        let place = queue.saturating_sub(1) as usize;
-        self.open_at(spool, sender, queue, place)
+        self.open_at(spool, sender, queue, number)
     }
 
     fn turns_aside(&mut self) -> bool {
