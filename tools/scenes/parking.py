@@ -258,8 +258,9 @@ def a_queue_is_held():
         lines = text.decode().splitlines()
         check(lines[0] == "queue q1 jobs 0 printers 1 stopped 0" and lines[1] == "30 jobs wait in the folder", lines[:3])
         check(lines[2] == "waiting 000 ann h1 pages 1" and len(lines) == 32, lines[2:])
-        room.tell("stop", limit=60)
+        told = room.tell("stop", limit=60)
         room.server.wait(30)
+        check("30 jobs wait in the folder for the next start" in told, told)
         check(len(room.files()) == 30 and not room.printed(1), f"{len(room.files())} files, {len(room.printed(1))} octets")
         room.start()
         for number in range(30, 60):

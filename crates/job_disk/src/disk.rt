@@ -265,6 +265,11 @@ impl<'a, R: Files<File = File> + Wait> Disk<'a, R> {
         self.jobs().waiting()
     }
 
+    /// How many whole jobs there are, where none is coming: those that wait, and those that the spool has.
+    pub fn left(&self) -> usize {
+        self.jobs().left()
+    }
+
     /// How many jobs have failed.
     pub fn failed(&self) -> usize {
         self.jobs().failed

@@ -88,4 +88,12 @@ impl FolderJobs {
             so_far.saturating_add(self.lines.parked(queue))
         })
     }
+
+    /// How many jobs wait, or the spool has.
+    pub(crate) fn left(&self) -> usize {
+        (0..self.lines.queues()).fold(0usize, |so_far, queue| {
+            let held = self.lines.used(queue, 0).rows as usize;
+            so_far.saturating_add(self.lines.parked(queue).saturating_add(held))
+        })
+    }
 }

@@ -196,6 +196,12 @@ impl<'a, R: Files<File = File> + Log + Wait> JobFolder<'a, R> {
         }
     }
 
+    /// How many whole jobs are in the folder, also those that the spool has: what a server leaves to the next one.
+    pub fn left(&self, rt: &R) -> u64 {
+        let unread = self.state.lock(rt).found.len();
+        self.disk.left().saturating_add(unread) as u64
+    }
+
     /// Has the file of a job that has ended taken away, or renamed. The log is told where that fails.
     pub fn end(&self, rt: &R, job: u64, end: JobEnd) {
         if let Err(fault) = self.disk.end(job, end) {
