@@ -15,7 +15,7 @@ use Rattle.kept_jobs.specs.Kept.{LetsOut}
 use Rattle.job_streams.specs.Stream.{Coming, is_whole, stream}
 use Rattle.job_streams.specs.Coming.{with_control, with_end}
 use Rattle.job_hand.specs.Hand.{Follows, IsOfWhole, Leaving, LeavesAt, MayLeave, Settles, SettlesAs, Telling, at_job}
-use Rattle.kept_requests.specs.Work.{PassesOn, settles_by}
+use Rattle.kept_requests.specs.Work.{PassesOn, settles_by, told}
 use Rattle.kept_requests.specs.Carried.{Carries, Ends}
 use Rattle.kept_requests.specs.Served.{AsksAll, AsksDue, Grew, HadWhole, IsMoment, LeavesIn, PassesAll, PassesDue, ServedKept, last_due, work_due, work_of}
 use Rattle.kept_requests.proofs.Passing.{goes_then, later_then}
@@ -49,34 +49,34 @@ settles_grew : (number : Option ℕ) (work : Option Coming) (a b : Option Seen) 
 settles_grew number None a b h = same_grew a b h
 settles_grew number (Some job) a b h = settles_as_grew (is_whole job) number job a b h
 
-settles_by_grew : (answer : Answer) (number : ℕ) (work : Option Coming) (a b : Option Seen) → settles_by answer number work a b → Grew a b
-settles_by_grew answer.Yes number work a b h = settles_grew (Some number) work a b h
-settles_by_grew (answer.Accepted job) number work a b h = settles_grew (Some number) work a b h
-settles_by_grew (answer.Lent page_size) number work a b h = settles_grew (Some number) work a b h
-settles_by_grew answer.Later number work a b h = settles_grew (Some number) work a b h
-settles_by_grew answer.Stored number work a b h = settles_grew (Some number) work a b h
-settles_by_grew answer.Received number work a b h = settles_grew (Some number) work a b h
-settles_by_grew (answer.Told text) number work a b h = settles_grew (Some number) work a b h
+settles_by_grew : (answer : Answer) (number : Option ℕ) (work : Option Coming) (a b : Option Seen) → settles_by answer number work a b → Grew a b
+settles_by_grew answer.Yes number work a b h = settles_grew number work a b h
+settles_by_grew (answer.Accepted job) number work a b h = settles_grew number work a b h
+settles_by_grew (answer.Lent page_size) number work a b h = settles_grew number work a b h
+settles_by_grew answer.Later number work a b h = settles_grew number work a b h
+settles_by_grew answer.Stored number work a b h = settles_grew number work a b h
+settles_by_grew answer.Received number work a b h = settles_grew number work a b h
+settles_by_grew (answer.Told text) number work a b h = settles_grew number work a b h
 settles_by_grew (answer.Refused n) number work a b h = same_grew a b h
 
-request_grew : (r : Request) (job : ℕ) (answer : Answer) (work : Option Coming) (a b : Option Seen) → PassesOn job r answer work a b → Grew a b
-request_grew (Queue queue) job answer work a b h = same_grew a b h
-request_grew (Open queue) job answer work a b h = same_grew a b h
-request_grew (BeginFile name count) job answer work a b h = same_grew a b h
-request_grew AskPage job answer work a b h = same_grew a b h
-request_grew (Filled page) job answer work a b h = same_grew a b h
-request_grew EndFile job answer work a b h = settles_by_grew answer job (at_job with_end work) a b h
-request_grew (Control said) job answer work a b h = settles_by_grew answer job (at_job (with_control said) work) a b h
-request_grew AbortJob job answer work a b h = same_grew a b h
-request_grew (StartPrinters queue) job answer work a b h = same_grew a b h
-request_grew (QueueState queue list long) job answer work a b h = same_grew a b h
-request_grew (RemoveJobs queue agent list) job answer work a b h = same_grew a b h
+request_grew : (r : Request) (number : Option ℕ) (answer : Answer) (work : Option Coming) (a b : Option Seen) → PassesOn number r answer work a b → Grew a b
+request_grew (Queue queue) number answer work a b h = same_grew a b h
+request_grew (Open queue) number answer work a b h = same_grew a b h
+request_grew (BeginFile name count) number answer work a b h = same_grew a b h
+request_grew AskPage number answer work a b h = same_grew a b h
+request_grew (Filled page) number answer work a b h = same_grew a b h
+request_grew EndFile number answer work a b h = settles_by_grew answer number (at_job with_end work) a b h
+request_grew (Control said) number answer work a b h = settles_by_grew answer number (at_job (with_control said) work) a b h
+request_grew AbortJob number answer work a b h = same_grew a b h
+request_grew (StartPrinters queue) number answer work a b h = same_grew a b h
+request_grew (QueueState queue list long) number answer work a b h = same_grew a b h
+request_grew (RemoveJobs queue agent list) number answer work a b h = same_grew a b h
 
 due_grew : (due : Due) (job : ℕ) (answer : Answer) (work : Option Coming) (a b : Option Seen) → PassesDue due job answer work a b → Grew a b
 due_grew Waits job answer work a b h = absurd h
 due_grew DueEnds job answer work a b h = absurd h
 due_grew (Writes w items text) job answer work a b h = absurd h
-due_grew (Requests r items text) job answer work a b h = request_grew r job answer work a b h
+due_grew (Requests r items text) job answer work a b h = request_grew r h.0 answer work a b h.2
 
 -- what was told later was told before
 told_before : (P : Type 0) (a b : Option Seen) → Grew a b → IsSeen (λ s. P) b → IsSeen (λ s. P) a
@@ -112,7 +112,12 @@ goes_nowhere moment left_since may_lack a P = record {
   lacks = λ octets lack. lack;
 }
 
-module _ {Q F : Type 0} (carries : Carrying Q) (seen : Telling F) (may_leave : Leaving F) (moment : F → ℕ) (left_since : F → ℕ → Option (List ℕ) → Type 0) (may_lack : F → List ℕ → Type 0) (sender : ℕ) where
+-- a job is told under its own number, or none
+told_number : (beside : Bool) (job : ℕ) → (told beside job ≡ Some job) ⊎ (told beside job ≡ None)
+told_number true job = inr refl
+told_number false job = inl refl
+
+module _ {Q F : Type 0} (carries : Carrying Q) (beside : Q → Bool) (seen : Telling F) (may_leave : Leaving F) (moment : F → ℕ) (left_since : F → ℕ → Option (List ℕ) → Type 0) (may_lack : F → List ℕ → Type 0) (sender : ℕ) where
   -- what is so after a request
   pub record One (due : Due) (job : ℕ) (answer : Answer) (work : Option Coming) (old new : Keeping Q F) : Type 0 where
     pub asked : AsksDue carries sender due job answer old.inner new.inner
@@ -121,11 +126,11 @@ module _ {Q F : Type 0} (carries : Carrying Q) (seen : Telling F) (may_leave : L
     pub moments : GoesOn moment left_since may_lack old.hand.folder new.hand.folder (LeavesAt seen may_leave old.hand.folder (last_due due work))
     pub follows : Follows seen may_leave new.hand (work_due sender due answer work)
 
-  one : (due : Due) (job : ℕ) (answer : Answer) (work : Option Coming) (old new : Keeping Q F) → CarriesDue (Carries carries seen may_leave moment left_since may_lack) sender due job answer old new → Follows seen may_leave old.hand work → One due job answer work old new
+  one : (due : Due) (job : ℕ) (answer : Answer) (work : Option Coming) (old new : Keeping Q F) → CarriesDue (Carries carries beside seen may_leave moment left_since may_lack) sender due job answer old new → Follows seen may_leave old.hand work → One due job answer work old new
   one Waits job answer work old new h f = absurd h
   one DueEnds job answer work old new h f = absurd h
   one (Writes w items text) job answer work old new h f = absurd h
-  one (Requests r items text) job answer work old new h f = record { asked = h.asked; passes = h.passes work f; leaves = h.leaves work f; moments = h.moments work f; follows = h.follows work f }
+  one (Requests r items text) job answer work old new h f = record { asked = h.asked; passes = (told (beside new.inner) job, told_number (beside new.inner) job, h.passes work f); leaves = h.leaves work f; moments = h.moments work f; follows = h.follows work f }
 
   -- what is so after a course
   pub record All (c : Course) (old new : Keeping Q F) : Type 0 where
@@ -149,7 +154,7 @@ module _ {Q F : Type 0} (carries : Carrying Q) (seen : Telling F) (may_leave : L
     follows = f;
   })
 
-  pub all_kept : (c : Course) (old new : Keeping Q F) → Follows seen may_leave old.hand None → CarriesAll (Carries carries seen may_leave moment left_since may_lack) sender c old new → All c old new
+  pub all_kept : (c : Course) (old new : Keeping Q F) → Follows seen may_leave old.hand None → CarriesAll (Carries carries beside seen may_leave moment left_since may_lack) sender c old new → All c old new
   all_kept [] old new f h = none old new h f
   all_kept (Did (deed.Asked asked answer) ∷ c) old new f h =
       let before = all_kept c old h.0 f h.1 in
@@ -177,7 +182,7 @@ module _ {Q F : Type 0} (carries : Carrying Q) (seen : Telling F) (may_leave : L
   all_kept (Came octets ∷ c) old new f h = let a = all_kept c old new f h in record { asked = a.asked; passes = a.passes; grew = a.grew; leaves = a.leaves; moments = a.moments; follows = a.follows }
 
   -- each beginning of a course ended at a moment
-  pub each_moment : (later c : Course) (old new : Keeping Q F) → Follows seen may_leave old.hand None → CarriesAll (Carries carries seen may_leave moment left_since may_lack) sender (later ++ c) old new →
+  pub each_moment : (later c : Course) (old new : Keeping Q F) → Follows seen may_leave old.hand None → CarriesAll (Carries carries beside seen may_leave moment left_since may_lack) sender (later ++ c) old new →
       (at : F) × IsMoment seen may_leave moment left_since may_lack sender c old.hand.folder at new.hand.folder
   each_moment [] c old new f h =
       let a = all_kept c old new f h in
@@ -204,7 +209,7 @@ module _ {Q F : Type 0} (carries : Carrying Q) (seen : Telling F) (may_leave : L
   each_moment (Did deed.Ended ∷ later) c old new f h = each_moment later c old new f h
   each_moment (Came octets ∷ later) c old new f h = each_moment later c old new f h
 
-  pub served_kept : (leaves : Ending Q) (end : SessionEnd) (before after : Around (Keeping Q F)) → Follows seen may_leave before.spool.hand None → ServedBy (Carries carries seen may_leave moment left_since may_lack) (Ends leaves seen may_leave moment left_since may_lack) end sender before after → ServedKept carries leaves seen may_leave moment left_since may_lack end sender before after
+  pub served_kept : (leaves : Ending Q) (end : SessionEnd) (before after : Around (Keeping Q F)) → Follows seen may_leave before.spool.hand None → ServedBy (Carries carries beside seen may_leave moment left_since may_lack) (Ends leaves seen may_leave moment left_since may_lack) end sender before after → ServedKept carries leaves seen may_leave moment left_since may_lack end sender before after
   served_kept leaves end before after f s =
       let a = all_kept s.course before.spool s.asked f s.carried in record {
         course = s.course;
@@ -213,7 +218,7 @@ module _ {Q F : Type 0} (carries : Carrying Q) (seen : Telling F) (may_leave : L
         asked = s.asked;
         below = a.asked;
         passes = a.passes;
-        moments = λ later c is. each_moment later c before.spool s.asked f (subst (λ course. CarriesAll (Carries carries seen may_leave moment left_since may_lack) sender course before.spool s.asked) is s.carried);
+        moments = λ later c is. each_moment later c before.spool s.asked f (subst (λ course. CarriesAll (Carries carries beside seen may_leave moment left_since may_lack) sender course before.spool s.asked) is s.carried);
         run = a.moments;
         aborts = s.aborts;
       }

@@ -19,7 +19,7 @@ use Rattle.job_hand.specs.declared.cause.Cause.{Cause}
 use Rattle.job_hand.specs.declared.hand.HandStage.TheVariants as stage
 use Rattle.job_hand.specs.Hand.{Follows, IsOfWhole, Leaving, LeavesAt, MayLeave, Settles, SettlesAs, Telling, at_job, settled}
 use Rattle.job_hand.proofs.Standing.{follows_broken}
-use Rattle.kept_requests.specs.Work.{PassesOn, with_last, work_after}
+use Rattle.kept_requests.specs.Work.{PassesOn, told, with_last, work_after}
 use Rattle.kept_requests.specs.Carried.{Carries}
 use Rattle.kept_requests.specs.declared.keeping.Keeping.{Keeping}
 
@@ -51,18 +51,18 @@ told_back P None b same h = tt
 told_back P (Some s) b same h = subst (IsSeen (λ s. P)) same.1 h
 
 -- where a request is refused nothing is passed on
-pub refused_passes : (job : ℕ) (r : Request) (n : Refusal) (work : Option Coming) (old new : Option Seen) → SamePassed old new → PassesOn job r (Refused n) work old new
-refused_passes job (Queue queue) n work old new h = h
-refused_passes job (Open queue) n work old new h = h
-refused_passes job (BeginFile name count) n work old new h = h
-refused_passes job AskPage n work old new h = h
-refused_passes job (Filled page) n work old new h = h
-refused_passes job EndFile n work old new h = h
-refused_passes job (Control said) n work old new h = h
-refused_passes job AbortJob n work old new h = h
-refused_passes job (StartPrinters queue) n work old new h = h
-refused_passes job (QueueState queue list long) n work old new h = h
-refused_passes job (RemoveJobs queue agent list) n work old new h = h
+pub refused_passes : (number : Option ℕ) (r : Request) (n : Refusal) (work : Option Coming) (old new : Option Seen) → SamePassed old new → PassesOn number r (Refused n) work old new
+refused_passes number (Queue queue) n work old new h = h
+refused_passes number (Open queue) n work old new h = h
+refused_passes number (BeginFile name count) n work old new h = h
+refused_passes number AskPage n work old new h = h
+refused_passes number (Filled page) n work old new h = h
+refused_passes number EndFile n work old new h = h
+refused_passes number (Control said) n work old new h = h
+refused_passes number AbortJob n work old new h = h
+refused_passes number (StartPrinters queue) n work old new h = h
+refused_passes number (QueueState queue list long) n work old new h = h
+refused_passes number (RemoveJobs queue agent list) n work old new h = h
 
 -- a control file that is accepted settles its job
 pub control_accepted : (result : Result Receipt ReturnedControl) (said : Contents) (work : Option Coming) (sender : ℕ) (P : Option Coming → Type 0) → true ≡ is_ok result → P (settled (at_job (with_control said) work)) → P (work_after sender (Control said) (controlled_by result) work)
@@ -70,15 +70,15 @@ control_accepted (Ok receipt.Stored) said work sender P ok h = h
 control_accepted (Ok receipt.Received) said work sender P ok h = h
 control_accepted (Err back) said work sender P ok h = absurd (true≢false ok)
 
-pub control_passes : (result : Result Receipt ReturnedControl) (said : Contents) (job : ℕ) (work : Option Coming) (old new : Option Seen) → true ≡ is_ok result → Settles (Some job) (at_job (with_control said) work) old new → PassesOn job (Control said) (controlled_by result) work old new
-control_passes (Ok receipt.Stored) said job work old new ok h = h
-control_passes (Ok receipt.Received) said job work old new ok h = h
-control_passes (Err back) said job work old new ok h = absurd (true≢false ok)
+pub control_passes : (result : Result Receipt ReturnedControl) (said : Contents) (number : Option ℕ) (work : Option Coming) (old new : Option Seen) → true ≡ is_ok result → Settles number (at_job (with_control said) work) old new → PassesOn number (Control said) (controlled_by result) work old new
+control_passes (Ok receipt.Stored) said number work old new ok h = h
+control_passes (Ok receipt.Received) said number work old new ok h = h
+control_passes (Err back) said number work old new ok h = absurd (true≢false ok)
 
-pub control_refused : (result : Result Receipt ReturnedControl) (said : Contents) (job : ℕ) (work : Option Coming) (old new : Option Seen) → false ≡ is_ok result → SamePassed old new → PassesOn job (Control said) (controlled_by result) work old new
-control_refused (Ok receipt.Stored) said job work old new not_ok h = absurd (true≢false (sym not_ok))
-control_refused (Ok receipt.Received) said job work old new not_ok h = absurd (true≢false (sym not_ok))
-control_refused (Err back) said job work old new not_ok h = h
+pub control_refused : (result : Result Receipt ReturnedControl) (said : Contents) (number : Option ℕ) (work : Option Coming) (old new : Option Seen) → false ≡ is_ok result → SamePassed old new → PassesOn number (Control said) (controlled_by result) work old new
+control_refused (Ok receipt.Stored) said number work old new not_ok h = absurd (true≢false (sym not_ok))
+control_refused (Ok receipt.Received) said number work old new not_ok h = absurd (true≢false (sym not_ok))
+control_refused (Err back) said number work old new not_ok h = h
 
 -- so does the end of a data file
 pub end_accepted : (result : Result Receipt Refusal) (work : Option Coming) (sender : ℕ) (P : Option Coming → Type 0) → true ≡ is_ok result → P (settled (at_job with_end work)) → P (work_after sender EndFile (kept_by result) work)
@@ -86,15 +86,15 @@ end_accepted (Ok receipt.Stored) work sender P ok h = h
 end_accepted (Ok receipt.Received) work sender P ok h = h
 end_accepted (Err n) work sender P ok h = absurd (true≢false ok)
 
-pub end_passes : (result : Result Receipt Refusal) (job : ℕ) (work : Option Coming) (old new : Option Seen) → true ≡ is_ok result → Settles (Some job) (at_job with_end work) old new → PassesOn job EndFile (kept_by result) work old new
-end_passes (Ok receipt.Stored) job work old new ok h = h
-end_passes (Ok receipt.Received) job work old new ok h = h
-end_passes (Err n) job work old new ok h = absurd (true≢false ok)
+pub end_passes : (result : Result Receipt Refusal) (number : Option ℕ) (work : Option Coming) (old new : Option Seen) → true ≡ is_ok result → Settles number (at_job with_end work) old new → PassesOn number EndFile (kept_by result) work old new
+end_passes (Ok receipt.Stored) number work old new ok h = h
+end_passes (Ok receipt.Received) number work old new ok h = h
+end_passes (Err n) number work old new ok h = absurd (true≢false ok)
 
-pub end_refused : (result : Result Receipt Refusal) (job : ℕ) (work : Option Coming) (old new : Option Seen) → false ≡ is_ok result → SamePassed old new → PassesOn job EndFile (kept_by result) work old new
-end_refused (Ok receipt.Stored) job work old new not_ok h = absurd (true≢false (sym not_ok))
-end_refused (Ok receipt.Received) job work old new not_ok h = absurd (true≢false (sym not_ok))
-end_refused (Err n) job work old new not_ok h = h
+pub end_refused : (result : Result Receipt Refusal) (number : Option ℕ) (work : Option Coming) (old new : Option Seen) → false ≡ is_ok result → SamePassed old new → PassesOn number EndFile (kept_by result) work old new
+end_refused (Ok receipt.Stored) number work old new not_ok h = absurd (true≢false (sym not_ok))
+end_refused (Ok receipt.Received) number work old new not_ok h = absurd (true≢false (sym not_ok))
+end_refused (Err n) number work old new not_ok h = h
 
 -- a crash leaves what it might have left before, or nothing
 pub or_none_leaves : {F : Type 0} (seen : Telling F) (may_leave : Leaving F) (a b : F) (job : Option Coming) → OrNone (may_leave a) (may_leave b) → MayLeave seen may_leave a b job
@@ -157,15 +157,15 @@ module _ {F : Type 0} (moment : F → ℕ) (left_since : F → ℕ → Option (L
       three
 
 -- the job was given up
-pub given_up : {Q F : Type 0} (carries : Carrying Q) (seen : Telling F) (may_leave : Leaving F) (moment : F → ℕ) (left_since : F → ℕ → Option (List ℕ) → Type 0) (may_lack : F → List ℕ → Type 0) (old new : Keeping Q F) (sender job : ℕ) (r : Request) (aborted : Answer) (cause : Cause) →
+pub given_up : {Q F : Type 0} (carries : Carrying Q) (beside : Q → Bool) (seen : Telling F) (may_leave : Leaving F) (moment : F → ℕ) (left_since : F → ℕ → Option (List ℕ) → Type 0) (may_lack : F → List ℕ → Type 0) (old new : Keeping Q F) (sender job : ℕ) (r : Request) (aborted : Answer) (cause : Cause) →
     carries old.inner sender job AbortJob aborted new.inner → new.hand.stage ≡ stage.Broken cause → SamePassed (seen old.hand.folder) (seen new.hand.folder) →
     ((work : Option Coming) → Follows seen may_leave old.hand work → MayLeave seen may_leave old.hand.folder new.hand.folder (with_last r work)) →
     ((work : Option Coming) → Follows seen may_leave old.hand work → GoesOn moment left_since may_lack old.hand.folder new.hand.folder (LeavesAt seen may_leave old.hand.folder (with_last r work))) →
-    Carries carries seen may_leave moment left_since may_lack old sender job r (Refused NotOpen) new
-given_up carries seen may_leave moment left_since may_lack old new sender job r aborted cause carried broken passed leaves moments = record {
-  asked = inr (inl (record { aborted = aborted; carried = carried; refused = refl }));
+    Carries carries beside seen may_leave moment left_since may_lack old sender job r (Refused NotOpen) new
+given_up carries beside seen may_leave moment left_since may_lack old new sender job r aborted cause carried broken passed leaves moments = record {
+  asked = inr (record { aborted = aborted; carried = carried; refused = refl });
   follows = λ work h. follows_broken seen may_leave new.hand _ cause broken;
-  passes = λ work h. refused_passes job r NotOpen work _ _ passed;
+  passes = λ work h. refused_passes (told (beside new.inner) job) r NotOpen work _ _ passed;
   leaves = leaves;
   moments = moments;
 }

@@ -1,5 +1,5 @@
 -- What serving a session comes to whose jobs are kept.
-use Rattle.std.specs.Prelude.{◌≡◌, ◌⊎◌, ◌≤◌, ℕ, List, [], ◌∷◌, ◌++◌, Option, None}
+use Rattle.std.specs.Prelude.{◌≡◌, ◌⊎◌, ◌≤◌, ℕ, List, [], ◌∷◌, ◌++◌, Option, None, Some}
 use Rattle.receiver.specs.Reading.{Due, Requests}
 use Rattle.spool_requests.specs.declared.answer.Answer.{Answer}
 use Rattle.spool_trace.specs.declared.reply.Deed.TheVariants as deed
@@ -21,9 +21,10 @@ abbrev pub work_due : (sender : ℕ) → Due → Answer → Option Coming → Op
 work_due sender (Requests r items text) answer work = work_after sender r answer work
 work_due sender due answer work = work
 
--- what the request that was due passes on
+-- what the request that was due passes on under the number of the session's last job, or leaves
 abbrev pub PassesDue : Due → (job : ℕ) → Answer → Option Coming → (old new : Option Seen) → Type 0
-PassesDue (Requests r items text) job answer work old new = PassesOn job r answer work old new
+PassesDue (Requests r items text) job answer work old new =
+    (number : Option ℕ) × ((number ≡ Some job) ⊎ (number ≡ None)) × PassesOn number r answer work old new
 PassesDue due job answer work old new = ⊥
 
 -- the job with the file that the request that was due brings the end of
@@ -38,7 +39,7 @@ module _ (sender : ℕ) where
   work_of (Did (deed.Asked asked answer) ∷ c) = work_due sender (due_in (session_after sender c)) answer (work_of c)
   work_of (move ∷ c) = work_of c
 
-  -- what a course passes on: at each moment each job that is whole by then, with the octets that have come of it, and no
+  -- what a course passes on or leaves: at each moment each job that is whole by then, with the octets that have come of it, and no
   -- other. The octet 00 for the file that makes a job whole is a later move.
   abbrev pub PassesAll : Course → (old new : Option Seen) → Type 0
   PassesAll [] old new = new ≡ old
@@ -63,9 +64,9 @@ abbrev pub LeavesIn : {F : Type 0} → Telling F → Leaving F → (sender : ℕ
 LeavesIn seen may_leave sender c start kept =
     (may_leave start kept ⊎ (kept ≡ None)) ⊎ IsSeen (λ s. HadWhole sender c kept) (seen start)
 
--- A moment of a session's run, after the beginning of its course: just what this says has been passed on; later only more is; a crash
--- leaves of the job in hand the whole or none, or what it might have left at the start, at this moment and at each one since
--- then; and of each job that was passed on no less than then.
+-- A moment of a session's run, after the beginning of its course: just what this says has been passed on or left; later only more
+-- is; a crash leaves of the job in hand the whole or none, or what it might have left at the start, at this moment and at each one
+-- since then; and of each job that was passed on or left no less than then.
 pub record IsMoment {F : Type 0} (seen : Telling F) (may_leave : Leaving F) (moment : F → ℕ)
     (left_since : F → ℕ → Option (List ℕ) → Type 0) (may_lack : F → List ℕ → Type 0) (sender : ℕ) (c : Course) (start at end : F)
     : Type 0 where

@@ -1,5 +1,5 @@
 -- What the requests of a session make of the job that is coming.
-use Rattle.std.specs.Prelude.{ℕ, Option, None, Some}
+use Rattle.std.specs.Prelude.{ℕ, Bool, true, false, Option, None, Some}
 use Rattle.receiver.specs.Script.{Request, Open, BeginFile, Filled, EndFile, Control, AbortJob}
 use Rattle.spool_requests.specs.declared.answer.Answer.{Answer}
 use Rattle.spool_requests.specs.declared.answer.Answer.TheVariants.{Yes, Accepted, Refused}
@@ -29,13 +29,18 @@ work_after sender (Control said) answer work = settled_by answer work (at_job (w
 work_after sender AbortJob Yes work = None
 work_after sender r answer work = work
 
-abbrev pub settles_by : Answer → (job : ℕ) → Option Coming → (old new : Option Seen) → Type 0
-settles_by (Refused n) job work old new = SamePassed old new
-settles_by answer job work old new = Settles (Some job) work old new
+-- under which number a job is told that was kept: none where it goes beside the spool, since it is left then, and else its own
+abbrev pub told : (beside : Bool) → (job : ℕ) → Option ℕ
+told true job = None
+told false job = Some job
 
--- what is passed on by a request of the session whose last job has this number: the job, where the file that has come
--- makes it whole, and nothing else
-abbrev pub PassesOn : (job : ℕ) → Request → Answer → Option Coming → (old new : Option Seen) → Type 0
-PassesOn job EndFile answer work old new = settles_by answer job (at_job with_end work) old new
-PassesOn job (Control said) answer work old new = settles_by answer job (at_job (with_control said) work) old new
-PassesOn job r answer work old new = SamePassed old new
+abbrev pub settles_by : Answer → (number : Option ℕ) → Option Coming → (old new : Option Seen) → Type 0
+settles_by (Refused n) number work old new = SamePassed old new
+settles_by answer number work old new = Settles number work old new
+
+-- what a request passes on under this number, or leaves where it is none: the job, where the file that has come makes it whole,
+-- and nothing else
+abbrev pub PassesOn : (number : Option ℕ) → Request → Answer → Option Coming → (old new : Option Seen) → Type 0
+PassesOn number EndFile answer work old new = settles_by answer number (at_job with_end work) old new
+PassesOn number (Control said) answer work old new = settles_by answer number (at_job (with_control said) work) old new
+PassesOn number r answer work old new = SamePassed old new

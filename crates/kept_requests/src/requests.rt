@@ -5,12 +5,13 @@ use control_file::Control;
 use job_hand::{Cause, Folder, HandStage};
 use lpd_values::{FileName, Octets, Refusal};
 use page_pool::{FilledPage, PageTicket};
+use parked_requests::Parks;
 use request_calls::{Asked, Receipt, Requests, ReturnedControl, ReturnedPage, ReturnedTicket};
 
-impl<Q: Requests, F: Folder> Requests for Keeping<Q, F> {
+impl<Q: Parks, F: Folder> Requests for Keeping<Q, F> {
     ghost use Rattle.kept_requests.specs.Carried.{Carries, Ends};
 
-    ghost carries = { Carries Q.carries F.seen F.may_leave F.moment F.left_since F.may_lack };
+    ghost carries = { Carries Q.carries Q.beside F.seen F.may_leave F.moment F.left_since F.may_lack };
 
     ghost ends = { Ends Q.ends F.seen F.may_leave F.moment F.left_since F.may_lack };
 
@@ -19,10 +20,6 @@ impl<Q: Requests, F: Folder> Requests for Keeping<Q, F> {
     }
 
     fn open(&mut self, sender: u32, queue: &[u8]) -> Result<u64, Refusal> {
-        // Jobs of one sender for a queue are printed in the order in which they came.
-        if self.hand.folder.has_earlier(sender, queue) {
-            return Err(Refusal::TableFull);
-        }
         let answer = self.inner.open(sender, queue);
         if answer.is_ok() {
             self.hand.begin(sender, queue);
@@ -69,7 +66,7 @@ impl<Q: Requests, F: Folder> Requests for Keeping<Q, F> {
         }
         let answer = self.inner.end_file(job);
         if answer.is_ok() {
-            self.hand.settle(job);
+            self.let_out(job);
         } else {
             self.hand.fail(Cause::Refused);
         }
@@ -89,7 +86,7 @@ impl<Q: Requests, F: Folder> Requests for Keeping<Q, F> {
         }
         let answer = self.inner.control(job, control);
         if answer.is_ok() {
-            self.hand.settle(job);
+            self.let_out(job);
         } else {
             self.hand.fail(Cause::Refused);
         }

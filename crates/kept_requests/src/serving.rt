@@ -7,7 +7,7 @@ ghost use Rattle.kept_requests.specs.Served.{ServedKept};
 
 use crate::keeping::Keeping;
 use job_hand::Folder;
-use request_calls::Requests;
+use parked_requests::Parks;
 use request_session::{OctetRead, OctetWrite, SessionEnd, serve_by};
 use std::alloc::Global;
 use std::sync::Wait;
@@ -15,7 +15,7 @@ use std::sync::Wait;
 /// Serves a session of a sender as `serve_by` does. The octet 00 for the file that makes a job whole is
 /// written only after the job was kept; at each moment of the run a crash leaves of the job in hand the whole or none, and of each job
 /// that was passed on the whole.
-pub fn serve_kept<Q: Requests, F: Folder, R: Wait, I: OctetRead, W: OctetWrite>(
+pub fn serve_kept<Q: Parks, F: Folder, R: Wait, I: OctetRead, W: OctetWrite>(
     rt: &R,
     alloc: Global,
     spool: &mut Keeping<Q, F>,

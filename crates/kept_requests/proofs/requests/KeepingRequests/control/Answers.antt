@@ -1,15 +1,18 @@
-use Rattle.std.proofs.Common.{Some, inl}
+use Rattle.std.proofs.Common.{inl, subst, sym}
+use Rattle.receiver.specs.Script.{Control}
+use Rattle.spool_requests.specs.Follows.{controlled_by}
 use Rattle.control_file.specs.View.{contents}
 use Rattle.job_streams.specs.Coming.{with_control}
-use Rattle.job_hand.specs.Hand.{Follows, at_job}
+use Rattle.job_hand.specs.Hand.{Follows, Settles, at_job}
 use Rattle.job_hand.proofs.Standing.{follows_broken}
+use Rattle.kept_requests.specs.Work.{told}
 use Rattle.kept_requests.proofs.Passing.{control_accepted, control_passes, control_refused, file_leaves, file_moments, given_up, same_then, settles_after}
 use Rattle.kept_requests.proofs.requests.KeepingRequests.control.Goals as goal
 
 pub returns-in-Broken-clause-carries : goal.returns-in-Broken-clause-carries
 returns-in-Broken-clause-carries g c = λ sender.
     let a = c.give_up.ensures.aborted sender in
-    given_up g.Q.Requests.carries g.F.Folder.seen g.F.Folder.may_leave g.F.Folder.moment g.F.Folder.left_since g.F.Folder.may_lack c.args.self.now c.give_up.new.self sender c.args.job _ a.0 _ a.1 c.give_up.ensures.broken
+    given_up g.Q.Requests.carries g.Q.Parks.beside g.F.Folder.seen g.F.Folder.may_leave g.F.Folder.moment g.F.Folder.left_since g.F.Folder.may_lack c.args.self.now c.give_up.new.self sender c.args.job _ a.0 _ a.1 c.give_up.ensures.broken
     (same_then _ _ _ (same_then _ _ _ c.control.ensures.passed c.keep_whole.ensures.passed) c.give_up.ensures.passed)
     (λ work h. file_leaves g.F.Folder.seen g.F.Folder.may_leave c.args.self.now.hand.folder c.control.new.self.folder c.keep_whole.new.self.folder c.give_up.new.self.hand.folder (at_job (with_control (contents c.args.control)) work) c.control.ensures.crash c.control.ensures.passed
     (c.keep_whole.ensures.crash _ (c.control.ensures.follows work h)) c.give_up.ensures.crash)
@@ -22,22 +25,24 @@ returns-then-is_ok g c = record {
   carries = λ sender.
       let said = contents c.args.control in
       let ok = c.if-is_ok.ensures.value in record {
-        asked = inl (c.control-answer.ensures.carries sender);
+        asked = inl (subst (λ inner. g.Q.Requests.carries c.args.self.now.inner sender c.args.job (Control said) (controlled_by c.control-answer.result) inner) (sym c.let_out.ensures.inner) (c.control-answer.ensures.carries sender));
         follows = λ work h.
             let h1 = c.control.ensures.follows work h in
             let h2 = c.keep_whole.ensures.follows _ h1 in
-            control_accepted c.control-answer.result said work sender (Follows g.F.Folder.seen g.F.Folder.may_leave c.settle.new.self) ok (c.settle.ensures.follows _ h2 (c.keep_whole.ensures.decided _ h1));
+            control_accepted c.control-answer.result said work sender (Follows g.F.Folder.seen g.F.Folder.may_leave c.let_out.new.self.hand) ok (c.let_out.ensures.follows _ h2 (c.keep_whole.ensures.decided _ h1));
         passes = λ work h.
             let h1 = c.control.ensures.follows work h in
             let h2 = c.keep_whole.ensures.follows _ h1 in
-            control_passes c.control-answer.result said c.args.job work _ _ ok
-            (settles_after (Some c.args.job) (at_job (with_control said) work) (g.F.Folder.seen c.args.self.now.hand.folder) (g.F.Folder.seen c.keep_whole.new.self.folder) (g.F.Folder.seen c.settle.new.self.folder) (same_then _ _ _ c.control.ensures.passed c.keep_whole.ensures.passed) (c.settle.ensures.settles _ h2 (c.keep_whole.ensures.decided _ h1)));
-        leaves = λ work h. file_leaves g.F.Folder.seen g.F.Folder.may_leave c.args.self.now.hand.folder c.control.new.self.folder c.keep_whole.new.self.folder c.settle.new.self.folder (at_job (with_control said) work) c.control.ensures.crash c.control.ensures.passed
-            (c.keep_whole.ensures.crash _ (c.control.ensures.follows work h)) c.settle.ensures.crash;
+            let number = told (g.Q.Parks.beside c.let_out.new.self.inner) c.args.job in
+            control_passes c.control-answer.result said number work _ _ ok
+            (settles_after number (at_job (with_control said) work) (g.F.Folder.seen c.args.self.now.hand.folder) (g.F.Folder.seen c.keep_whole.new.self.folder) (g.F.Folder.seen c.let_out.new.self.hand.folder) (same_then _ _ _ c.control.ensures.passed c.keep_whole.ensures.passed) 
+            (subst (λ inner. Settles (told (g.Q.Parks.beside inner) c.args.job) (at_job (with_control said) work) (g.F.Folder.seen c.keep_whole.new.self.folder) (g.F.Folder.seen c.let_out.new.self.hand.folder)) (sym c.let_out.ensures.inner) (c.let_out.ensures.settles _ h2 (c.keep_whole.ensures.decided _ h1))));
+        leaves = λ work h. file_leaves g.F.Folder.seen g.F.Folder.may_leave c.args.self.now.hand.folder c.control.new.self.folder c.keep_whole.new.self.folder c.let_out.new.self.hand.folder (at_job (with_control said) work) c.control.ensures.crash c.control.ensures.passed
+            (c.keep_whole.ensures.crash _ (c.control.ensures.follows work h)) c.let_out.ensures.crash;
         moments = λ work h.
             let h2 = c.keep_whole.ensures.follows _ (c.control.ensures.follows work h) in
-            file_moments g.F.Folder.moment g.F.Folder.left_since g.F.Folder.may_lack g.F.Folder.seen g.F.Folder.may_leave c.args.self.now.hand.folder c.control.new.self.folder c.keep_whole.new.self.folder c.settle.new.self.folder (at_job (with_control said) work) c.control.ensures.crash c.control.ensures.passed
-            (c.keep_whole.ensures.crash _ (c.control.ensures.follows work h)) c.control.ensures.moments (c.keep_whole.ensures.moments _ (c.control.ensures.follows work h)) (c.settle.ensures.moments _ h2);
+            file_moments g.F.Folder.moment g.F.Folder.left_since g.F.Folder.may_lack g.F.Folder.seen g.F.Folder.may_leave c.args.self.now.hand.folder c.control.new.self.folder c.keep_whole.new.self.folder c.let_out.new.self.hand.folder (at_job (with_control said) work) c.control.ensures.crash c.control.ensures.passed
+            (c.keep_whole.ensures.crash _ (c.control.ensures.follows work h)) c.control.ensures.moments (c.keep_whole.ensures.moments _ (c.control.ensures.follows work h)) (c.let_out.ensures.moments _ h2);
       };
 }
 
@@ -49,7 +54,7 @@ returns-else-is_ok g c = record {
       let passed = same_then _ _ _ (same_then _ _ _ c.control.ensures.passed c.keep_whole.ensures.passed) c.fail.ensures.passed in record {
         asked = inl (c.control-answer.ensures.carries sender);
         follows = λ work h. follows_broken g.F.Folder.seen g.F.Folder.may_leave c.fail.new.self _ _ c.fail.ensures.broken;
-        passes = λ work h. control_refused c.control-answer.result said c.args.job work _ _ c.if-is_ok.ensures.value passed;
+        passes = λ work h. control_refused c.control-answer.result said _ work _ _ c.if-is_ok.ensures.value passed;
         leaves = λ work h. file_leaves g.F.Folder.seen g.F.Folder.may_leave c.args.self.now.hand.folder c.control.new.self.folder c.keep_whole.new.self.folder c.fail.new.self.folder (at_job (with_control said) work) c.control.ensures.crash c.control.ensures.passed
             (c.keep_whole.ensures.crash _ (c.control.ensures.follows work h)) c.fail.ensures.crash;
         moments = λ work h. file_moments g.F.Folder.moment g.F.Folder.left_since g.F.Folder.may_lack g.F.Folder.seen g.F.Folder.may_leave c.args.self.now.hand.folder c.control.new.self.folder c.keep_whole.new.self.folder c.fail.new.self.folder (at_job (with_control said) work) c.control.ensures.crash c.control.ensures.passed
