@@ -16,4 +16,4 @@ pub use own_page::OwnPage;
 pub use parking::Parking;
 pub use parks::Parks;
 pub use through::Through;
-pub use ways::{JobWays, OpenedJob};
+pub use ways::{JobWays, OpenedJob, is_full};

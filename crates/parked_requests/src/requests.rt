@@ -4,7 +4,7 @@ ghost use Rattle.std.specs.Prelude.{◌≡◌, None, Some, MatchResult};
 
 use crate::parking::Parking;
 use crate::parks::Parks;
-use crate::ways::JobWays;
+use crate::ways::{JobWays, is_full};
 use control_file::Control;
 use lpd_values::{FileName, Octets, Refusal};
 use page_pool::{FilledPage, PageTicket};
@@ -29,7 +29,7 @@ impl<Q: Requests, W: JobWays> Requests for Parking<Q, W> {
 
     fn admits(&mut self, queue: &[u8]) -> Result<(), Refusal> {
         match self.inner.admits(queue) {
-            Err(Refusal::TableFull | Refusal::AccountFull) => Ok(()),
+            Err(refusal) if is_full(refusal) => Ok(()),
             answer => answer,
         }
     }
@@ -43,7 +43,10 @@ impl<Q: Requests, W: JobWays> Requests for Parking<Q, W> {
     }
 
     fn begin_file(&mut self, job: u64, name: FileName, count: u64) -> Result<(), Refusal> {
-        if self.hand.is_beside || self.turns_aside(job) {
+        if self.hand.is_beside {
+            return self.hand.begin_file(name, count);
+        }
+        if self.turns_aside(job) {
             return self.hand.begin_file(name, count);
         }
         let answer = self.inner.begin_file(job, name, count);
@@ -54,7 +57,10 @@ impl<Q: Requests, W: JobWays> Requests for Parking<Q, W> {
     }
 
     fn ask(&mut self, job: u64) -> Result<Asked, Refusal> {
-        if self.hand.is_beside || self.turns_aside(job) {
+        if self.hand.is_beside {
+            return self.hand.ask();
+        }
+        if self.turns_aside(job) {
             return self.hand.ask();
         }
         self.inner.ask(job)

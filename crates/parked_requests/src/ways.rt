@@ -1,6 +1,7 @@
 //! Which way each job goes.
 
-ghost use Rattle.std.specs.Prelude.{ℕ};
+ghost use Rattle.std.specs.Prelude.{◌↔◌, ℕ, IsTrue};
+ghost use Rattle.parked_requests.specs.Ways.{IsFull};
 
 use lpd_values::{Octets, Refusal};
 use request_calls::Requests;
@@ -12,6 +13,13 @@ pub struct OpenedJob {
     pub job: Option<u64>,
     /// How many pages it may have.
     pub limit: u32,
+}
+
+/// Whether a spool that refuses a job so has no room for it now.
+pub fn is_full(refusal: Refusal) -> bool
+    ensures { IsTrue result ↔ IsFull refusal }
+{
+    matches!(refusal, Refusal::TableFull | Refusal::AccountFull)
 }
 
 /// Chooses which way each job goes, and is told what becomes of it.
