@@ -1,10 +1,21 @@
 //! Where the jobs of a folder are, under its lock.
 
+ghost use Rattle.std.specs.Prelude.{◌≡◌, None, Some, IfOk, IfSome, MatchOption, OnErr, OnOk, count_by, filter, length, nat_lt, take};
+ghost use Rattle.std.specs.Option.{option_and_then};
+ghost use Rattle.parked_lines.specs.declared.state.JobMove.TheVariants.{Enter, PutBack, TurnAside};
+ghost use Rattle.parked_lines.specs.declared.state.ParkState.TheVariants.{Coming, Fed};
+ghost use Rattle.parked_lines.specs.Line.{job_kept, job_moved};
+ghost use Rattle.parked_lines.specs.Lines.{found, IsNext, line_of, MovesOne, next_of};
+ghost use Rattle.parked_lines.specs.Parts.{pages_used, rows_used};
+ghost use Rattle.parked_lines.specs.States.{is_parked};
+ghost use Rattle.job_disk.specs.HeldLines.{found_job, new_job};
+
 use crate::jobs::FolderJobs;
 use parked_lines::{
     AdmissionFault, FreePart, JobMove, JobSize, NewJob, ParkState, ParkedJob, PartUse,
 };
 use std::alloc::{AllocError, Global};
+use std::marker::Model;
 use std::sync::MutexGuard;
 
 /// Jobs are told by their files here, and not by who owns them.
@@ -34,14 +45,29 @@ pub struct HeldLines<'d> {
     pub(crate) jobs: MutexGuard<'d, FolderJobs>,
 }
 
+impl<'d> Model for HeldLines<'d> {
+    ghost use Rattle.std.specs.Prelude.{List};
+    ghost use Rattle.std.specs.Sync.Mutex.{mutex_guard_value};
+    ghost use Rattle.parked_lines.specs.declared.job.ParkedJob.{ParkedJob};
+
+    ghost Value = { List (List ParkedJob) };
+
+    ghost view = { λ held. (mutex_guard_value held.jobs).lines };
+}
+
 impl HeldLines<'_> {
     /// What the jobs of a queue have of the spool, each of which may come to this many pages.
-    pub fn used(&self, queue: usize, limit: u32) -> PartUse {
+    pub fn used(&self, queue: usize, limit: u32) -> PartUse
+        ensures rows { result.rows ≡ rows_used (line_of self.now queue) }
+        ensures pages { result.pages ≡ pages_used limit (line_of self.now queue) }
+    {
         self.jobs.lines.used(queue, limit)
     }
 
     /// How many queues have jobs.
-    pub fn busy(&self) -> usize {
+    pub fn busy(&self) -> usize
+        ensures { result ≡ count_by (λ line. nat_lt 0 (length line)) self.now }
+    {
         self.jobs.lines.busy()
     }
 
@@ -55,35 +81,56 @@ impl HeldLines<'_> {
         queue: usize,
         sender: u32,
         has_room: bool,
-    ) -> Result<NumberedJob, AdmissionFault> {
+    ) -> Result<NumberedJob, AdmissionFault>
+        ensures opened { IfOk result (λ job. MovesOne self.old self.new queue job.number
+            (Some (new_job job sender))) }
+        ensures order { IfOk result (λ job. job.state ≡ Coming
+            → IsNext self.old queue sender job.number) }
+        ensures err { OnErr result (self.new ≡ self.old) }
+    {
         let Some(number) = self.jobs.numbers.take() else {
             return Err(AdmissionFault::Memory);
         };
+        if self.jobs.taken.insert(seat, number).is_err() {
+            return Err(AdmissionFault::Memory);
+        }
         let job = NewJob {
             number,
             sender,
             owner: NO_OWNER,
         };
-        let state = self.jobs.lines.open(queue, job, has_room)?;
-        if self.jobs.taken.insert(seat, number).is_err() {
-            self.jobs.lines.end(queue, number);
-            return Err(AdmissionFault::Memory);
+        match self.jobs.lines.open(queue, job, has_room) {
+            Ok(state) => Ok(NumberedJob { number, state }),
+            Err(fault) => {
+                self.jobs.taken.remove(&seat);
+                Err(fault)
+            }
         }
-        Ok(NumberedJob { number, state })
     }
 
     /// A job that came through the spool goes on beside it.
-    pub fn turn_aside(&mut self, queue: usize, number: u64) {
+    pub fn turn_aside(&mut self, queue: usize, number: u64)
+        ensures { MatchOption (option_and_then (job_moved TurnAside) (found self.old queue number))
+            (self.new ≡ self.old)
+            (λ job. MovesOne self.old self.new queue number (Some job)) }
+    {
         self.jobs.lines.advance(queue, number, JobMove::TurnAside);
     }
 
     /// A job that came is whole and kept, and has this size. What is known of it then, where it was coming.
-    pub fn keep(&mut self, queue: usize, number: u64, size: JobSize) -> Option<ParkedJob> {
+    pub fn keep(&mut self, queue: usize, number: u64, size: JobSize) -> Option<ParkedJob>
+        ensures answer { result ≡ option_and_then (λ job. job_kept job size)
+            (found self.old queue number) }
+        ensures changed { MatchOption result (self.new ≡ self.old)
+            (λ job. MovesOne self.old self.new queue number (Some job)) }
+    {
         self.jobs.lines.keep(queue, number, size)
     }
 
     /// A job that a session at this seat began doesn't come to its end.
-    pub fn give_up(&mut self, seat: u32, queue: usize, number: u64) {
+    pub fn give_up(&mut self, seat: u32, queue: usize, number: u64)
+        ensures { MovesOne self.old self.new queue number None }
+    {
         self.jobs.lines.end(queue, number);
         self.jobs.taken.remove(&seat);
     }
@@ -96,7 +143,11 @@ impl HeldLines<'_> {
         number: u64,
         sender: u32,
         size: JobSize,
-    ) -> Result<(), AdmissionFault> {
+    ) -> Result<(), AdmissionFault>
+        ensures ok { OnOk result (MovesOne self.old self.new queue number
+            (Some (found_job number sender size))) }
+        ensures err { OnErr result (self.new ≡ self.old) }
+    {
         let job = NewJob {
             number,
             sender,
@@ -106,27 +157,45 @@ impl HeldLines<'_> {
     }
 
     /// The job that is fed next, with its queue, as `ParkedLines::take_next` says.
-    pub fn take_next(&mut self, turn: usize, free: &[FreePart]) -> Option<(usize, ParkedJob)> {
+    pub fn take_next(&mut self, turn: usize, free: &[FreePart]) -> Option<(usize, ParkedJob)>
+        ensures next { IfSome result (λ next. next_of self.old free.now next.0 ≡ Some next.1) }
+        ensures fed { IfSome result (λ next. MovesOne self.old self.new next.0 next.1.number
+            (Some (record next.1 { state = Fed }))) }
+        ensures order { IfSome result (λ next.
+            IsNext self.old next.0 next.1.sender next.1.number) }
+    {
         self.jobs.lines.take_next(turn, free)
     }
 
     /// The spool has the whole of a job that was fed.
-    pub fn enter(&mut self, queue: usize, number: u64) {
+    pub fn enter(&mut self, queue: usize, number: u64)
+        ensures { MatchOption (option_and_then (job_moved Enter) (found self.old queue number))
+            (self.new ≡ self.old)
+            (λ job. MovesOne self.old self.new queue number (Some job)) }
+    {
         self.jobs.lines.advance(queue, number, JobMove::Enter);
     }
 
     /// A job that was fed waits again.
-    pub fn put_back(&mut self, queue: usize, number: u64) {
+    pub fn put_back(&mut self, queue: usize, number: u64)
+        ensures { MatchOption (option_and_then (job_moved PutBack) (found self.old queue number))
+            (self.new ≡ self.old)
+            (λ job. MovesOne self.old self.new queue number (Some job)) }
+    {
         self.jobs.lines.advance(queue, number, JobMove::PutBack);
     }
 
     /// A job that was fed isn't to be fed any more: its file stays.
-    pub fn leave(&mut self, queue: usize, number: u64) {
+    pub fn leave(&mut self, queue: usize, number: u64)
+        ensures { MovesOne self.old self.new queue number None }
+    {
         self.jobs.lines.end(queue, number);
     }
 
     /// How many jobs of a queue wait, or are being fed.
-    pub fn parked(&self, queue: usize) -> usize {
+    pub fn parked(&self, queue: usize) -> usize
+        ensures { result ≡ count_by (λ job. is_parked job.state) (line_of self.now queue) }
+    {
         self.jobs.lines.parked(queue)
     }
 
@@ -136,7 +205,10 @@ impl HeldLines<'_> {
         alloc: Global,
         queue: usize,
         most: usize,
-    ) -> Result<Vec<ParkedJob>, AllocError> {
+    ) -> Result<Vec<ParkedJob>, AllocError>
+        ensures { IfOk result (λ jobs. jobs.items
+            ≡ take most (filter (λ job. is_parked job.state) (line_of self.now queue))) }
+    {
         self.jobs.lines.listed(alloc, queue, most)
     }
 }
