@@ -1,11 +1,14 @@
 -- What a request comes to whose job goes through the spool or beside it.
-use Rattle.std.specs.Prelude.{◌≡◌, ◌⊎◌, ℕ, Bool, true, false, Option}
+use Rattle.std.specs.Prelude.{◌≡◌, ◌⊎◌, ℕ, Bool, true, false, List, Option, None}
 use Rattle.page_pool.specs.Page.{Page}
-use Rattle.receiver.specs.Script.{Request, Queue, Open, BeginFile, AskPage, AbortJob, StartPrinters, QueueState, RemoveJobs}
+use Rattle.receiver.specs.Script.{Request, Queue, Open, BeginFile, AskPage, EndFile, Control, AbortJob, StartPrinters, QueueState, RemoveJobs}
 use Rattle.spool_requests.specs.declared.answer.Answer.{Answer}
 use Rattle.spool_requests.specs.declared.answer.Answer.TheVariants.{Yes, Accepted, Refused, Told}
 use Rattle.parked_requests.specs.Ways.{AddsTo, Carrying, Ending, IsFull}
-use Rattle.parked_requests.specs.Hand.{Answers}
+use Rattle.parked_requests.specs.Lone.{with_end, with_file, with_prints, with_size}
+use Rattle.parked_requests.specs.Known.{Knows}
+use Rattle.parked_requests.specs.Told.{Fate}
+use Rattle.parked_requests.specs.Hand.{Answers, IsNewIn, at_job, settled, tells_by, tells_gone}
 use Rattle.parked_requests.specs.declared.in_hand.JobInHand.{JobInHand}
 use Rattle.parked_requests.specs.declared.parking.Parking.{Parking}
 
@@ -40,12 +43,25 @@ MayTurnAside (BeginFile name count) = Unit {0}
 MayTurnAside AskPage = Unit {0}
 MayTurnAside r = ⊥
 
+-- what is known of a job that goes through the spool, by what the spool has answered
+abbrev pub Follows : Request → Answer → (old new : JobInHand) → Type 0
+Follows (Open queue) (Accepted job) old new = IsNewIn new.page.page_size new.job × (new.is_known ≡ true)
+Follows (Open queue) answer old new = new.job ≡ None
+Follows (BeginFile name count) Yes old new = Knows (with_file name count) (with_size count) old new
+Follows EndFile answer old new = (new.job ≡ settled answer (at_job with_end old.job)) × (new.is_known ≡ old.is_known)
+Follows (Control said) answer old new =
+    (middle : JobInHand) × Knows (with_prints said.prints) (λ job. job) old middle
+    × (new.job ≡ settled answer middle.job) × (new.is_known ≡ middle.is_known)
+Follows AbortJob answer old new = new.job ≡ None
+Follows r answer old new = new ≡ old
+
 module _ {Q W : Type 0} (carries : Carrying Q) (old : Parking Q W) (sender job : ℕ) (r : Request) (answer : Answer)
     (new : Parking Q W) where
   -- the spool was asked, and answered so
   pub record Asked : Type 0 where
     pub asked : carries old.inner sender job r answer new.inner
     pub through : GoesThrough r answer old.hand.is_beside new.hand.is_beside
+    pub follows : Follows r answer old.hand new.hand
 
   -- nothing was asked of the spool: the job goes beside it, and is answered as by a spool that has this one job
   pub record Unasked : Type 0 where
@@ -69,15 +85,28 @@ module _ {Q W : Type 0} (carries : Carrying Q) (old : Parking Q W) (sender job :
     pub beside : new.hand.is_beside ≡ true
     pub answers : Answers new.hand.page.page_size old.hand.job r answer new.hand.job
 
--- what a request comes to
-abbrev pub Carries : {Q W : Type 0} → Carrying Q → Parking Q W → (sender job : ℕ) → Request → Answer → Parking Q W → Type 0
-Carries carries old sender job r answer new =
+-- what was asked of the spool, and what was made of its answer
+abbrev pub Asks : {Q W : Type 0} → Carrying Q → Parking Q W → (sender job : ℕ) → Request → Answer → Parking Q W → Type 0
+Asks carries old sender job r answer new =
     Asked carries old sender job r answer new
     ⊎ (Unasked carries old sender job r answer new
     ⊎ (Turned carries old sender job r answer new ⊎ TurnedAside carries old sender job r answer new))
 
+-- what a request comes to, and what the ways are told by it
+pub record Carries {Q W : Type 0} (carries : Carrying Q) (told : W → Option (List Fate)) (old : Parking Q W) (sender job : ℕ)
+    (r : Request) (answer : Answer) (new : Parking Q W) : Type 0 where
+  pub asked : Asks carries old sender job r answer new
+  pub tells : told new.ways ≡ tells_by r answer old.hand.job (told old.ways)
+
 -- what the end of a session comes to: a job that goes beside is no matter of the spool's
-abbrev pub Ends : {Q W : Type 0} → Ending Q → Parking Q W → (job : ℕ) → Option Page → Parking Q W → Type 0
-Ends ends old job page new =
+abbrev pub EndsBelow : {Q W : Type 0} → Ending Q → Parking Q W → (job : ℕ) → Option Page → Parking Q W → Type 0
+EndsBelow ends old job page new =
     ((old.hand.is_beside ≡ false) × ends old.inner job page new.inner)
     ⊎ ((old.hand.is_beside ≡ true) × (new.inner ≡ old.inner))
+
+-- no job is in hand then, and of one that was the ways are told that it is gone
+pub record Ends {Q W : Type 0} (ends : Ending Q) (told : W → Option (List Fate)) (old : Parking Q W) (job : ℕ)
+    (page : Option Page) (new : Parking Q W) : Type 0 where
+  pub below : EndsBelow ends old job page new
+  pub none : new.hand.job ≡ None
+  pub tells : told new.ways ≡ tells_gone old.hand.job (told old.ways)

@@ -7,6 +7,7 @@ use Rattle.spool_calls.specs.declared.answers.Receipt.TheVariants as receipt
 use Rattle.spool_requests.specs.declared.answer.Answer.{Answer}
 use Rattle.spool_requests.specs.declared.answer.Answer.TheVariants.{Yes, Accepted, Lent, Stored, Received, Refused}
 use Rattle.parked_requests.specs.Lone.{IsNew, RefusesFile, TakesFile, is_whole, may_lend, with_end, with_file, with_page, with_prints}
+use Rattle.parked_requests.specs.Told.{Fate, Kept, Gone, and_told}
 use Rattle.parked_requests.specs.declared.lone.LoneJob.{LoneJob}
 
 -- where no job is in hand the request is refused
@@ -86,3 +87,37 @@ pub record Answers (page_size : ℕ) (old : Option LoneJob) (r : Request) (answe
   pub job : Option LoneJob
   pub said : Says page_size old r answer job
   pub settled : new ≡ settled_by r answer job
+
+-- the ways are told that the job in hand is whole, if there is one
+abbrev pub tells_kept : Option LoneJob → Option (List Fate) → Option (List Fate)
+tells_kept None told = told
+tells_kept (Some job) told = and_told (Kept job.octets job.pages) told
+
+-- they are told that it doesn't come to its end
+abbrev pub tells_gone : Option LoneJob → Option (List Fate) → Option (List Fate)
+tells_gone None told = told
+tells_gone (Some job) told = and_told Gone told
+
+-- of a file that was taken, or was refused: None
+abbrev pub tells_receipt : Option Receipt → Option LoneJob → Option (List Fate) → Option (List Fate)
+tells_receipt (Some receipt.Stored) job told = told
+tells_receipt (Some receipt.Received) job told = tells_kept job told
+tells_receipt None job told = tells_gone job told
+
+abbrev pub tells_answer : Answer → Option LoneJob → Option (List Fate) → Option (List Fate)
+tells_answer Stored job told = told
+tells_answer Received job told = tells_kept job told
+tells_answer answer job told = tells_gone job told
+
+-- what a request that is answered so tells the ways of the job that was in hand
+abbrev pub tells_by : Request → Answer → Option LoneJob → Option (List Fate) → Option (List Fate)
+tells_by (Open queue) answer job told = tells_gone job told
+tells_by EndFile answer job told = tells_answer answer job told
+tells_by (Control said) answer job told = tells_answer answer job told
+tells_by AbortJob answer job told = tells_gone job told
+tells_by r answer job told = told
+
+-- the job in hand, changed
+abbrev pub at_job : (LoneJob → LoneJob) → Option LoneJob → Option LoneJob
+at_job change None = None
+at_job change (Some job) = Some (change job)

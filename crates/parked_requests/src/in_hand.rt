@@ -34,7 +34,9 @@ pub struct JobInHand {
 }
 
 impl JobInHand {
-    ghost use Rattle.parked_requests.specs.Hand.{Says};
+    ghost use Rattle.parked_requests.specs.Lone.{with_end, with_file, with_prints, with_size};
+    ghost use Rattle.parked_requests.specs.Hand.{Says, at_job};
+    ghost use Rattle.parked_requests.specs.Known.{Knows};
 
     /// No job in hand. Pages have so many octets.
     pub(crate) fn new(alloc: Global, page_size: u32) -> JobInHand
@@ -57,6 +59,7 @@ impl JobInHand {
         ensures number { MatchOption opened.job (result ≡ BESIDE) (λ number. result ≡ number) }
         ensures beside { self.new.is_beside ≡ not (is_some opened.job) }
         ensures job { IsSomeAnd self.new.job (IsNew opened.limit self.new.page.page_size) }
+        ensures known { self.new.is_known ≡ true }
     {
         self.job = Some(LoneJob::new(self.alloc, opened.limit, self.page.page_size()));
         self.is_known = true;
@@ -164,6 +167,7 @@ impl JobInHand {
 
     /// The spool has begun a data file of the job in hand.
     pub(crate) fn follow_file(&mut self, name: FileName, count: u64)
+        ensures knows { Knows (with_file name count) (with_size count) self.old self.new }
         ensures beside { self.new.is_beside ≡ self.old.is_beside }
     {
         if let Some(job) = &mut self.job {
@@ -173,9 +177,9 @@ impl JobInHand {
         }
     }
 
-    /// The spool has ended the open data file of the job in hand.
+    /// The spool has ended the open data file of the job in hand, or has refused to.
     pub(crate) fn follow_end(&mut self)
-        ensures beside { self.new.is_beside ≡ self.old.is_beside }
+        ensures { self.new ≡ record self.old { job = at_job with_end self.old.job } }
     {
         if let Some(job) = &mut self.job {
             job.end_file();
@@ -184,12 +188,16 @@ impl JobInHand {
 
     /// The spool is handed the control file of the job in hand.
     pub(crate) fn follow_control(&mut self, control: &Control)
+        ensures knows { Knows (with_prints (contents control.now).prints) (λ job. job)
+            self.old self.new }
         ensures beside { self.new.is_beside ≡ self.old.is_beside }
     {
-        if let Some(job) = &mut self.job {
-            if job.control(self.alloc, control).is_err() {
-                self.is_known = false;
-            }
+        let Some(job) = &mut self.job else {
+            return;
+        };
+        match job.control(self.alloc, control) {
+            Ok(_) => {}
+            Err(_) => self.is_known = false,
         }
     }
 }

@@ -1,6 +1,6 @@
 //! A job that comes beside the spool.
 
-ghost use Rattle.std.specs.Prelude.{◌≡◌, ◌<◌, ◌↔◌, IsTrue, MatchOption, true, false, if◌then◌else◌};
+ghost use Rattle.std.specs.Prelude.{◌≡◌, ◌<◌, ◌↔◌, IsTrue, MatchOption, OnErr, true, false, if◌then◌else◌};
 ghost use Rattle.std.specs.List.{list_all};
 ghost use Rattle.lpd_values.specs.Kept.{is_among};
 ghost use Rattle.control_file.specs.View.{contents};
@@ -178,7 +178,8 @@ impl LoneJob {
     /// Takes the control file, and says whether the job is whole by that. ControlTwice where it has one; Memory where the names
     /// that it prints can't be kept. Nothing changes then.
     pub fn control(&mut self, alloc: Global, control: &Control) -> Result<Receipt, Refusal>
-        ensures { TakesControl self.old (contents control.now).prints result self.new }
+        ensures takes { TakesControl self.old (contents control.now).prints result self.new }
+        ensures refused { OnErr result (self.new ≡ self.old) }
     {
         if self.prints.is_some() {
             return Err(Refusal::ControlTwice);

@@ -39,12 +39,14 @@ impl<Q, W> Parking<Q, W> {
 }
 
 impl<Q, W: JobWays> Parking<Q, W> {
-    ghost use Rattle.parked_requests.specs.Hand.{still_in_hand};
+    ghost use Rattle.parked_requests.specs.Hand.{still_in_hand, tells_gone, tells_receipt};
 
     /// No job is in hand any more, as at a session's end. Where one still is, the ways are told that it is gone.
     pub fn let_go(&mut self)
         ensures inner { self.new.inner ≡ self.old.inner }
         ensures hand { self.new.hand ≡ record self.old.hand { job = None } }
+        ensures told { W.told self.new.ways
+            ≡ tells_gone self.old.hand.job (W.told self.old.ways) }
     {
         if self.hand.job.take().is_some() {
             self.ways.gone();
@@ -56,6 +58,8 @@ impl<Q, W: JobWays> Parking<Q, W> {
         ensures inner { self.new.inner ≡ self.old.inner }
         ensures hand { self.new.hand
             ≡ record self.old.hand { job = still_in_hand receipt self.old.hand.job } }
+        ensures told { W.told self.new.ways
+            ≡ tells_receipt receipt self.old.hand.job (W.told self.old.ways) }
     {
         match receipt {
             Some(Receipt::Stored) => {}
@@ -91,6 +95,7 @@ impl<Q: Requests, W: JobWays> Parking<Q, W> {
         ensures aborted { IsTrue result → (sender : ℕ) → (answer : Answer)
             × Q.carries self.old.inner sender job AbortJob answer self.new.inner }
         ensures same { result ≡ false → self.new.inner ≡ self.old.inner }
+        ensures told { W.told self.new.ways ≡ W.told self.old.ways }
     {
         if !self.hand.is_known || !self.ways.turns_aside() {
             return false;

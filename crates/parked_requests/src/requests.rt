@@ -23,9 +23,9 @@ fn receipt_in(answer: &Result<Receipt, ReturnedControl>) -> Option<Receipt>
 impl<Q: Requests, W: JobWays> Requests for Parking<Q, W> {
     ghost use Rattle.parked_requests.specs.Carried.{Carries, Ends};
 
-    ghost carries = { Carries Q.carries };
+    ghost carries = { Carries Q.carries W.told };
 
-    ghost ends = { Ends Q.ends };
+    ghost ends = { Ends Q.ends W.told };
 
     fn admits(&mut self, queue: &[u8]) -> Result<(), Refusal> {
         match self.inner.admits(queue) {
