@@ -30,5 +30,6 @@ returns-in_err-placed-clause-fault c =
     let r = c.from_residual-in_err-placed in
     let p = err_from_is_err_and r.result r.ensures.1 in
     rw (p.1, p.2) (
-    placing_fault c.args.config.now c.args.said.now c.loop-word.word-index _ c.in_err-placed.field-0.0 c.loop-word-test.true c.in_err-placed.ensures
+    placing_fault c.args.config.now (map told_view c.args.told.now) c.args.said.now c.loop-word.word-index _ c.loop-word.printers.items c.in_err-placed.field-0.0 c.loop-word-test.true
+    c.loop-word.invariant c.in_err-placed.ensures
     )
