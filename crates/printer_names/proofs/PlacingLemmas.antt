@@ -12,7 +12,7 @@ use Rattle.config_values.specs.Config as C
 use Rattle.program_edge.specs.declared.places.PlacedPrinter.{PlacedPrinter}
 use Rattle.spool_config.specs.Places.{told_view}
 use Rattle.spool_config.specs.declared.places.ToldPlace.{ToldPlace}
-use Rattle.printer_names.specs.Placing.{AreOfDifferentPrinters, ArePlaced, AreUnplaced, IsFirstAtFault, IsOfTexts, IsPlacingFault, IsSaid, IsTold, IsUnnamed}
+use Rattle.printer_names.specs.Placing.{AreOfDifferentPrinters, ArePlaced, AreUnplaced, IsFirstAtFault, IsOfTexts, IsPlacingFault, IsSaid, IsTaken, IsTold, IsUnnamed}
 use Rattle.printer_names.specs.Names.{IsNthOf, Means, served_by}
 use Rattle.printer_names.specs.declared.fault.PlacingFault.{PlacingFault}
 use Rattle.printer_names.specs.declared.fault.PlacingFault.TheVariants.{Ambiguous, Memory, OutOfRange, Twice, Unknown}
@@ -170,3 +170,8 @@ placing_fault c told words i other printers (Ambiguous word) few all is =
 placing_fault c told words i other printers (Twice word) few all is = absurd is
 placing_fault c told words i other printers OutOfRange few all is = absurd is
 placing_fault c told words i other printers Memory few all is = absurd is
+
+-- a word whose printer has a place
+pub taken_word : (c : C.Config) (told : List (ℕ × ℕ × List ℕ)) (words : List NamedPrinter) (i : ℕ) (other : NamedPrinter) (printers : List PlacedPrinter) (placed : PlacedPrinter) → i < length words → ArePlaced c told (take i words) printers → IsSaid c (get_or words i other) placed → list_any (λ (one : PlacedPrinter). one.printer == placed.printer) printers ≡ true → (0 < length words) × IsFirstAtFault c told words (get_or words i other) (IsTaken c (get_or words i other))
+taken_word c told words i other printers placed few all one found =
+    first_fault c told words i other (get_or words i other) printers (IsTaken c (get_or words i other)) few refl all (placed, one, found)
