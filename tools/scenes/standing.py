@@ -336,12 +336,15 @@ def kept_jobs_are_called_by_their_files():
             line = line_of(it, "job 2 ", "number 004")
             file = re.search(r" number 004 file (\d+) ", line)
             check(file, line)
-            has(page(it), f"file {file[1]} (004)", "job 2\n")
+            has(page(it), f"file {file[1]} (004)", "job 2\n", "1 kept job has failed")
             check(metric(it, 'hurgwaye_kept_jobs{state="failed"}') == 1, "the metric")
             until(10, "the log", lambda: re.search(rf"job 2 lp 004 ann@h1 .* received in [\d.]+ s file {file[1]}$", it.log(), re.M))
         with served(spool(), *words[:3]) as it:
             until(20, "it is printed", lambda: os.path.exists(it.path()) and os.path.getsize(it.path()) == 100)
             until(10, "the log", lambda: re.search(rf"job 1 lp 004 ann@h1 .* done in [\d.]+ s file {file[1]}$", it.log(), re.M))
+            seen = page(it)
+            has(seen, "1 kept job has failed", " + 1 failed")
+            lacks(seen, "every printer runs")
         return f"file {file[1]} (004), in `status`, on the page and in the log, before and after a restart"
 
 
