@@ -3,10 +3,7 @@
 ghost use Rattle.std.specs.Prelude.{None};
 
 use lpd_commands::{OctetFault, OctetRead};
-use std::io::{ErrorKind, Read, Seek, SeekFrom};
-
-/// How often a read that was interrupted is tried.
-const TRIES: u32 = 1_000;
+use std::io::{Read, Seek, SeekFrom};
 
 /// A file whose octets are read one after another, or passed over.
 pub(crate) trait ScannedFile: OctetRead {
@@ -42,15 +39,13 @@ impl<F: Read + Seek + Drop> OctetRead for SeekingReader<F> {
 
     fn read(&mut self, into: &mut [u8]) -> Result<usize, OctetFault> {
         self.reads = self.reads.saturating_add(1);
-        for _ in 0..TRIES {
-            match self.file.read(into) {
-                Ok(count) => return Ok(count),
-                Err(error) if error.kind() == ErrorKind::Interrupted => {}
-                Err(_) => break,
+        match self.file.read(into) {
+            Ok(count) => Ok(count),
+            Err(_) => {
+                self.faults = self.faults.saturating_add(1);
+                Err(OctetFault)
             }
         }
-        self.faults = self.faults.saturating_add(1);
-        Err(OctetFault)
     }
 }
 

@@ -102,7 +102,9 @@ impl ToldJobs for WaitingJobs {
 pub(crate) fn places_of(prints: &[FileName], files: &[FiledFile], page_size: u32) -> u128 {
     let octets_of = |name: &FileName| {
         let mut files = files.iter();
-        files.find(|file| file.name.octets() == name.octets()).map_or(0, |file| file.count)
+        files
+            .find(|file| file.name.octets() == name.octets())
+            .map_or(0, |file| file.count)
     };
     let size = u64::from(page_size).max(1);
     prints.iter().fold(0u128, |so_far, name| {

@@ -40,7 +40,12 @@ impl<R: Files<File = File> + Log + Wait> JobFolder<'_, R> {
     /// 1,000 of them that it chooses, and how many more there are. Nothing where none waits.
     ///
     /// AllocError where memory is refused.
-    pub fn listing(&self, rt: &R, alloc: Global, query: &StateQuery) -> Result<Vec<u8>, AllocError> {
+    pub fn listing(
+        &self,
+        rt: &R,
+        alloc: Global,
+        query: &StateQuery,
+    ) -> Result<Vec<u8>, AllocError> {
         let place = place_of(query.queue);
         let (count, first) = {
             let lines = self.disk.lines();
@@ -85,7 +90,10 @@ impl<R: Files<File = File> + Log + Wait> JobFolder<'_, R> {
         if words.is_empty() {
             return Ok(Vec::new(alloc));
         }
-        let parked = self.disk.lines().listed(alloc, place_of(queue), usize::MAX)?;
+        let parked = self
+            .disk
+            .lines()
+            .listed(alloc, place_of(queue), usize::MAX)?;
         for parked in &parked {
             let Some(job) = self.waiting_job(rt, alloc, queue, parked.number) else {
                 continue;
