@@ -15,7 +15,7 @@ import threading
 import time
 import urllib.request
 
-from client import Server, begin, finish, free_port, send, spool
+from client import Server, answer, begin, connect, control, finish, free_port, send, spool
 from scene import PROGRAM, check, main
 
 # What a printer is given at once that takes nothing: more than its socket and the server's hold.
@@ -195,11 +195,16 @@ def a_printer_that_is_stopped():
 
 
 def jobs_that_arrive():
-    """Jobs that come: one of which nothing came yet, and one with pages of those that are told. Their peers go away, and they are given up."""
+    """Jobs that come: one whose control file is there and no octet else, and one with pages of those that are told. Their peers go away, and they are
+    given up."""
     with served(spool(pages=64)) as it:
-        with contextlib.closing(begin(it.port, 1, 100)), contextlib.closing(begin(it.port, 2, 4096 * 8, b"x" * 4096 * 3, host="127.0.0.2")):
-            line_of(it, "job 1 ", "receiving pages 0 octets 0 ", "nothing of it came yet")
-            line_of(it, "job 2 ", "receiving pages 3 ", "number 002", "3 of 8 pages came")
+        with contextlib.closing(connect(it.port)) as first, contextlib.closing(begin(it.port, 2, 4096 * 8, b"x" * 4096 * 3, host="127.0.0.2")):
+            text = control(1)
+            for line in (b"\x02lp\n", f"\x02{len(text)} cfA001h1\n".encode(), text + b"\0"):
+                first.sendall(line)
+                check(answer(first) == 0, f"{line} isn't taken")
+            line_of(it, "job ", " ann h1 receiving pages 0 octets 0 ", " number 001 nothing of it came yet")
+            line_of(it, "job ", "receiving pages 3 ", " number 002 3 of 8 pages came")
             has(page(it), "arriving", "nothing of it came yet", "3 of 8 pages came", "every printer runs")
             check(metric(it, 'hurgwaye_jobs{queue="lp",phase="arriving"}') == 2, "the metric")
         until(20, "both are given up", lambda: "job " not in ask(it, "status"))
@@ -271,9 +276,9 @@ def a_removed_job_that_ends():
         line_of(it, "job 2 ", "number 003 waits for a printer")
         check(ask(it, "cancel", "job", "1") == "removed job 1 (002) ann@h1 of lp\n", "the job isn't removed")
         line = line_of(it, "job 1 ", " ended ")
-        check(line.endswith(" number 002 a page of it is still at a printer"), line)
+        check(line.endswith(" number - a page of it is still at a printer"), line)
         has(line_of(it, "printer 1 "), "printer 1 lp prints 1 place ")
-        has(page(it), "ended", "a page of it is still at a printer", "waits for a printer", "job 1 (002)")
+        has(page(it), "ended", "a page of it is still at a printer", "waits for a printer")
         check(metric(it, 'hurgwaye_jobs{queue="lp",phase="ended"}') == 1, "the metric")
         check(" job 1 lp 002 ann@h1 " in it.log() and " removed in " in it.log(), it.log())
         pipe = os.open(it.path(), os.O_RDONLY | os.O_NONBLOCK)
