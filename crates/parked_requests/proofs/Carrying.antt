@@ -128,12 +128,13 @@ known_size answer prints old middle told (inr lost) =
     ap (λ j. tells_answer answer j told) lost.0 ∙ same_job answer old.job told
 
 -- the spool was handed the control file of a job that goes through it
-pub controlled : {Q W : Type 0} (carries : Carrying Q) (told : W → Option (List Fate)) (old new : Parking Q W) (sender job : ℕ) (said : Contents) (result : Result Receipt ReturnedControl) (taken : Option Receipt) (middle : JobInHand) (below : Q) → old.hand.is_beside ≡ false → Knows (with_prints said.prints) (λ j. j) old.hand middle → middle.is_beside ≡ old.hand.is_beside → carries old.inner sender job (Control said) (controlled_by result) below → GivesReceipt result taken → new.inner ≡ below → new.hand ≡ record middle { job = still_in_hand taken middle.job } → told new.ways ≡ tells_receipt taken middle.job (told old.ways) → Carries carries told old sender job (Control said) (controlled_by result) new
-controlled carries told old new sender job said result taken middle below through knows beside carried is inner hand tell = record {
+pub controlled : {Q W : Type 0} (carries : Carrying Q) (told : W → Option (List Fate)) (old new : Parking Q W) (sender job : ℕ) (said : Contents) (result : Result Receipt ReturnedControl) (taken : Option Receipt) (middle : JobInHand) (below : Q) → old.hand.is_beside ≡ false → Knows (with_prints said.prints) (λ j. j) old.hand middle → middle.is_beside ≡ old.hand.is_beside → middle.page ≡ old.hand.page → carries old.inner sender job (Control said) (controlled_by result) below → GivesReceipt result taken → new.inner ≡ below → new.hand ≡ record middle { job = still_in_hand taken middle.job } → told new.ways ≡ tells_receipt taken middle.job (told old.ways) → Carries carries told old sender job (Control said) (controlled_by result) new
+controlled carries told old new sender job said result taken middle below through knows beside page carried is inner hand tell = record {
   asked = inl (record {
     asked = subst (λ q. carries old.inner sender job (Control said) (controlled_by result) q) (sym inner) carried;
     through = (through, ap (λ h. h.is_beside) hand ∙ beside ∙ through);
     follows = (middle, knows, ap (λ h. h.job) hand ∙ settles result taken middle.job is, ap (λ h. h.is_known) hand);
   });
   tells = tell ∙ tells result taken middle.job (told old.ways) is ∙ known_size (controlled_by result) said.prints old.hand middle (told old.ways) knows;
+  sized = ap (λ h. h.page.page_size) hand ∙ ap (λ p. p.page_size) page;
 }

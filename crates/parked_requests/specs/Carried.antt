@@ -93,11 +93,12 @@ Asks carries old sender job r answer new =
     ⊎ (Unasked carries old sender job r answer new
     ⊎ (Turned carries old sender job r answer new ⊎ TurnedAside carries old sender job r answer new))
 
--- what a request comes to, and what the ways are told by it
+-- what a request comes to, and what the ways are told by it; the session's page has the size that it had
 pub record Carries {Q W : Type 0} (carries : Carrying Q) (told : W → Option (List Fate)) (old : Parking Q W) (sender job : ℕ)
     (r : Request) (answer : Answer) (new : Parking Q W) : Type 0 where
   pub asked : Asks carries old sender job r answer new
   pub tells : told new.ways ≡ tells_by r answer old.hand.job (told old.ways)
+  pub sized : new.hand.page.page_size ≡ old.hand.page.page_size
 
 -- what the end of a session comes to: a job that goes beside is no matter of the spool's
 abbrev pub EndsBelow : {Q W : Type 0} → Ending Q → Parking Q W → (job : ℕ) → Option Page → Parking Q W → Type 0

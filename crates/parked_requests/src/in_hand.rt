@@ -60,6 +60,7 @@ impl JobInHand {
         ensures beside { self.new.is_beside ≡ not (is_some opened.job) }
         ensures job { IsSomeAnd self.new.job (IsNew opened.limit self.new.page.page_size) }
         ensures known { self.new.is_known ≡ true }
+        ensures page { self.new.page ≡ self.old.page }
     {
         self.job = Some(LoneJob::new(self.alloc, opened.limit, self.page.page_size()));
         self.is_known = true;
@@ -176,6 +177,7 @@ impl JobInHand {
     pub(crate) fn follow_file(&mut self, name: FileName, count: u64)
         ensures knows { Knows (with_file name count) (with_size count) self.old self.new }
         ensures beside { self.new.is_beside ≡ self.old.is_beside }
+        ensures page { self.new.page ≡ self.old.page }
     {
         if let Some(job) = &mut self.job {
             if !job.follow_file(name, count) {
@@ -198,6 +200,7 @@ impl JobInHand {
         ensures knows { Knows (with_prints (contents control.now).prints) (λ job. job)
             self.old self.new }
         ensures beside { self.new.is_beside ≡ self.old.is_beside }
+        ensures page { self.new.page ≡ self.old.page }
     {
         let Some(job) = &mut self.job else {
             return;

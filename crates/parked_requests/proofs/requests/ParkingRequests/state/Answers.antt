@@ -6,4 +6,5 @@ pub returns-in-Ok : goal.returns-in-Ok
 returns-in-Ok g c = λ sender job. record {
   asked = told_more g.Q.Requests.carries _ _ sender job _ _ _ _ c.in-Ok.is (c.with_parked.ensures.adds, refl) (c.state.ensures sender job);
   tells = c.with_parked.ensures.told;
+  sized = refl;
 }
