@@ -191,11 +191,11 @@ def site_plan(jobs, with_held):
 
 def run_site(room, jobs, with_held):
     """The site's jobs; those of queues that can't print stay. Answers the flood and how many of the others were printed a second."""
+    if with_held:
+        os.symlink("/dev/full", room.path(int(FAILED[1:])))
     room.start()
     for queue in HELD:
         room.tell("hold", queue)
-    with contextlib.suppress(OSError):
-        os.symlink("/dev/full", room.path(int(FAILED[1:])))
     if with_held:
         # Its printer fails at its first job, and stands then.
         send(room.port, 999, job(FAILED, 99, 0), FAILED, "127.0.1.99")
