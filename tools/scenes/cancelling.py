@@ -8,7 +8,7 @@ import os
 import sys
 import time
 
-from client import begin, send
+from client import begin, finish, send
 from keeping import Room
 from scene import check, main
 
@@ -16,17 +16,17 @@ from scene import check, main
 LONG = b"x" * 200_000
 
 
-def spool(jobs):
-    """Two queues in a spool for so many jobs."""
-    return f"pages = 256\npage_size = 4096\nmax_jobs = {jobs}\naccount = 4000000\n" + "".join(
+def spool(jobs, pages=256):
+    """Two queues in a spool for so many jobs, each of up to 64 pages."""
+    return f"pages = {pages}\npage_size = 4096\nmax_jobs = {jobs}\naccount = 4000000\n" + "".join(
         f'[[queue]]\nname = "{name}"\nlimit = 64\nprinters = 1\n' for name in ("lp", "bad"))
 
 
 class Desk(Room):
     """A server at whose control socket jobs are removed. A pipe that nobody reads is its first printer, and its second one has no room."""
 
-    def __init__(self, keeps):
-        super().__init__(config=spool(16))
+    def __init__(self, keeps, pages=256):
+        super().__init__(config=spool(16, pages))
         self.keeps = keeps
         os.mkfifo(f"{self.folder}/printer-1")
         os.symlink("/dev/full", f"{self.folder}/printer-2")
@@ -146,7 +146,31 @@ def a_failed_file():
         return "sent again, and removed"
 
 
-SCENES = [jobs_of_two_hosts, an_arriving_job, what_would_help, files_of_jobs, a_failed_file]
+def a_job_that_is_being_fed():
+    """A kept job is being handed to the spool, and waits there: the pages that are free are kept for a job that is arriving, which may need them all. It
+    can be removed neither by its file nor by its number, and both say so; it goes on once the other job is whole, and then it goes by its file."""
+    with Desk(keeps=True, pages=64) as desk:
+        desk.start()
+        desk.send(5, b"x" * 4096 * 40, queue="bad")
+        desk.await_files(1, "failed")
+        desk.says("start bad", "started 2\n")
+        with contextlib.closing(begin(desk.port, 7, 4096 * 12, b"y" * 4096 * 10, host="127.0.0.2")) as peer:
+            desk.await_status(" receiving pages 10 ")
+            desk.says("resend 1", "resent file 1 (005) ann@h1 of bad\n")
+            told = desk.await_status("waits for a page: those free are kept for job 2")
+            check("\njob 3 bad 127.0.0.1 " in told, f"the kept job isn't the one that waits: {told}")
+            desk.refuses("cancel file 1", "file 1 (005) ann@h1 of bad is being handed to the spool: ask again")
+            desk.refuses("cancel job 3", " is still arriving: it can be removed once it is whole")
+            check(desk.files("job") == ["1.job"], desk.files("job"))
+            check(finish(peer, 7, b"y" * 4096 * 2) == 0, "the arriving job isn't taken")
+        desk.await_files(1, "failed")
+        desk.says("cancel file 1", "removed file 1 (005) ann@h1 of bad\n")
+        desk.await_status("kept waiting 0 failed 0")
+        check(desk.files("failed") == [], desk.files("failed"))
+        return "it stays until it is whole, and both answers say so"
+
+
+SCENES = [jobs_of_two_hosts, an_arriving_job, what_would_help, files_of_jobs, a_failed_file, a_job_that_is_being_fed]
 
 
 if __name__ == "__main__":

@@ -15,7 +15,7 @@ import threading
 import time
 import urllib.request
 
-from client import Server, begin, free_port, send, spool
+from client import Server, begin, finish, free_port, send, spool
 from scene import PROGRAM, check, main
 
 # What a printer is given at once that takes nothing: more than its socket and the server's hold.
@@ -23,11 +23,11 @@ MUCH = 6_000_000
 
 
 @contextlib.contextmanager
-def served(config, *words, printers=1):
-    """A server with a control socket and a status page."""
+def served(config, *words, device=None):
+    """A server with a printer, a control socket and a status page."""
     with tempfile.TemporaryDirectory() as room:
         port = free_port()
-        with Server(PROGRAM, config, "--control", f"{room}/control", "--status", str(port), "--log-jobs", *words, printers=printers, device=None) as it:
+        with Server(PROGRAM, config, "--control", f"{room}/control", "--status", str(port), "--log-jobs", *words, device=device) as it:
             it.control, it.board = f"{room}/control", port
             yield it
 
@@ -84,9 +84,9 @@ def lacks(text, *words):
 
 
 class Halting:
-    """A printer at a port that takes connections and reads nothing until it is told to."""
+    """A printer at a port that takes connections and reads nothing until it is told to. Where it doesn't end them it keeps each once it was read."""
 
-    def __init__(self, port=0):
+    def __init__(self, port=0, ends=True):
         self.there = socket.socket()
         self.there.setsockopt(socket.SOL_SOCKET, socket.SO_REUSEADDR, 1)
         self.there.setsockopt(socket.SOL_SOCKET, socket.SO_RCVBUF, 4096)
@@ -94,7 +94,7 @@ class Halting:
         self.there.listen(4)
         self.port = self.there.getsockname()[1]
         self.reads = threading.Event()
-        self.count = 0
+        self.count, self.ends, self.kept = 0, ends, []
         threading.Thread(target=self.serve, daemon=True).start()
 
     def serve(self):
@@ -103,7 +103,10 @@ class Halting:
             self.reads.wait()
             while piece := peer.recv(1 << 16):
                 self.count += len(piece)
-            peer.close()
+            if self.ends:
+                peer.close()
+            else:
+                self.kept.append(peer)
 
 
 def idle_and_held():
@@ -192,19 +195,120 @@ def a_printer_that_is_stopped():
 
 
 def jobs_that_arrive():
-    """Jobs that come: begun, with pages of those that are told, and one that waits for a page, which the pool has no more."""
-    config = spool(pages=16, limit=16, account=1_000_000)
-    with served(config) as it:
+    """Jobs that come: one of which nothing came yet, and one with pages of those that are told. Their peers go away, and they are given up."""
+    with served(spool(pages=64)) as it:
+        with contextlib.closing(begin(it.port, 1, 100)), contextlib.closing(begin(it.port, 2, 4096 * 8, b"x" * 4096 * 3, host="127.0.0.2")):
+            line_of(it, "job 1 ", "receiving pages 0 octets 0 ", "nothing of it came yet")
+            line_of(it, "job 2 ", "receiving pages 3 ", "number 002", "3 of 8 pages came")
+            has(page(it), "arriving", "nothing of it came yet", "3 of 8 pages came", "every printer runs")
+            check(metric(it, 'hurgwaye_jobs{queue="lp",phase="arriving"}') == 2, "the metric")
+        until(20, "both are given up", lambda: "job " not in ask(it, "status"))
+        until(10, "the log", lambda: it.log().count(" aborted in ") == 2)
+        return "arriving, with nothing and with pages, and given up"
+
+
+def pages_kept_for_another_job():
+    """Pages are free, and a job waits for one all the same: they are kept for the job that can finish with them. Once that has them none is free, and
+    the job waits on. The queue's hold ends, what is held is printed, and the job gets its pages."""
+    with served(spool(pages=16, limit=16)) as it:
         ask(it, "hold", "lp")
         check(send(it.port, 1, b"x" * 4096 * 8) == 0, "the first job isn't taken")
-        with contextlib.closing(begin(it.port, 2, 4096 * 8, b"x" * 4096 * 3)):
-            line_of(it, "job 2 ", "receiving", "number 002", " of 8 pages came")
-            with contextlib.closing(begin(it.port, 3, 4096 * 12, b"x" * 4096, host="127.0.0.2")):
-                line_of(it, "job 3 ", "waits for a page")
-                seen = page(it)
-                has(seen, " of 8 pages came", "waits for a page", "jobs wait: the pool is full of jobs for lp")
+        with contextlib.closing(begin(it.port, 2, 4096 * 8, b"x" * 4096 * 3)) as second:
+            line_of(it, "job 2 ", "receiving", "number 002", "3 of 8 pages came")
+            with contextlib.closing(begin(it.port, 3, 4096 * 12, b"x" * 4096, host="127.0.0.2")) as third:
+                line = line_of(it, "job 3 ", "waits for a page: ")
+                check(line.endswith(" holds 0 needs 16 number 003 waits for a page: those free are kept for job 2"), line)
+                has(page(it), "3 of 8 pages came", "waits for a page: those free are kept for job 2", "jobs wait: the pool is full of jobs for lp, 11 of 16 pages")
                 check(metric(it, "hurgwaye_pool_full") == 1 and metric(it, "hurgwaye_jobs_put_off") == 1, "the metrics")
-        return "arriving with its pages, and put off for want of pages, of which the held queue has them"
+                check(metric(it, 'hurgwaye_pages{place="free"}') == 5, "no page is free")
+                check(finish(second, 2, b"x" * 4096 * 5) == 0, "the second job isn't taken")
+                line_of(it, "job 3 ", "waits for a page: none is free")
+                has(page(it), "waits for a page: none is free", "jobs wait: the pool is full of jobs for lp, 16 of 16 pages")
+                check(metric(it, 'hurgwaye_pages{place="free"}') == 0 and metric(it, "hurgwaye_jobs_put_off") == 1, "the metrics of a full pool")
+                ask(it, "release", "lp")
+                check(finish(third, 3, b"x" * 4096 * 11) == 0, "the third job isn't taken")
+        until(30, "all are printed", lambda: "job " not in ask(it, "status"))
+        until(10, "the log", lambda: it.log().count(" done in ") == 3)
+        check(metric(it, "hurgwaye_pool_full") == 0, "the pool is full")
+        return "kept for another job, and none free, told at each; and printed once there was room"
+
+
+def a_next_page_that_is_due():
+    """Between two pages of a job none is at its printer, and the next one is due: for so short that jobs of many small pages are sent, and each that tells
+    how a job stands is asked until it has told that."""
+    config = spool(pages=8192, size=16, limit=2000, account=4_000_000)
+    with served(config) as it:
+        ended = threading.Event()
+
+        def send_all():
+            for number in range(200):
+                if ended.is_set() or send(it.port, number, b"x" * 16 * 2000) != 0:
+                    return
+
+        sender = threading.Thread(target=send_all, daemon=True)
+        sender.start()
+        until(60, "status", lambda: " its next page is due" in ask(it, "status"))
+        until(60, "the page", lambda: "its next page is due" in page(it))
+        printing, busy = 'hurgwaye_jobs{queue="lp",phase="printing"} 1\n', 'hurgwaye_printer_busy{queue="lp",printer="1"} 0\n'
+        until(60, "the metrics", lambda: all(part in told for told in [fetched(it, "/metrics")] for part in (printing, busy)))
+        ended.set()
+        sender.join(60)
+        until(60, "all are printed", lambda: "job " not in ask(it, "status"))
+        until(10, "the log", lambda: it.log().count(" done in ") > 0)
+        lacks(it.log(), " failed in ")
+        return f"told at each, amid {it.log().count(' done in ')} jobs"
+
+
+def a_removed_job_that_ends():
+    """A job is removed while a page of it is at its printer, a pipe that nobody reads: it is ending until that page is back, and the next one waits. Once
+    somebody reads, it is gone, and the next one is printed."""
+    with served(spool(pages=256, limit=64), device="fifo") as it:
+        check(send(it.port, 2, b"x" * 4096 * 40) == 0, "the job isn't taken")
+        line = line_of(it, "job 1 ", " is at printer 1")
+        check(re.search(r" received pages 40 octets 163840 .* number 002 page \d+ is at printer 1$", line), line)
+        has(page(it), "printing", " is at printer 1", "every printer runs")
+        check(send(it.port, 3, b"y" * 100, host="127.0.0.2") == 0, "the second job isn't taken")
+        line_of(it, "job 2 ", "number 003 waits for a printer")
+        check(ask(it, "cancel", "job", "1") == "removed job 1 (002) ann@h1 of lp\n", "the job isn't removed")
+        line = line_of(it, "job 1 ", " ended ")
+        check(line.endswith(" number 002 a page of it is still at a printer"), line)
+        has(line_of(it, "printer 1 "), "printer 1 lp prints 1 place ")
+        has(page(it), "ended", "a page of it is still at a printer", "waits for a printer", "job 1 (002)")
+        check(metric(it, 'hurgwaye_jobs{queue="lp",phase="ended"}') == 1, "the metric")
+        check(" job 1 lp 002 ann@h1 " in it.log() and " removed in " in it.log(), it.log())
+        pipe = os.open(it.path(), os.O_RDONLY | os.O_NONBLOCK)
+
+        def gone():
+            with contextlib.suppress(BlockingIOError):
+                os.read(pipe, 1 << 20)
+            return "job " not in ask(it, "status")
+
+        until(30, "both jobs go", gone)
+        os.close(pipe)
+        check(metric(it, 'hurgwaye_jobs{queue="lp",phase="ended"}') == 0, "the metric afterwards")
+        until(10, "the log", lambda: re.search(r"job 2 lp 003 .* done in ", it.log()))
+        return "printing, ending and waiting for a printer, told at each; and over once the pipe was read"
+
+
+def a_printer_that_keeps_its_connection():
+    """A printer on the network has taken a whole job, and doesn't end the connection: the job is held no more, nothing is said of the printer, and the next
+    job waits for it. Once that isn't waited for any more, the log has the job's end and the doubt."""
+    printer = Halting(ends=False)
+    printer.reads.set()
+    with served(spool(), "--printer", f"1=socket://127.0.0.1:{printer.port}") as it:
+        check(send(it.port, 1, b"x" * 100) == 0, "the job isn't taken")
+        until(10, "the printer has it", lambda: printer.count == 100)
+        until(5, "it is held no more", lambda: "job " not in ask(it, "status"))
+        has(line_of(it, "printer 1 "), "printer 1 lp idle")
+        has(page(it), "every printer runs", "No job is held.")
+        lacks(it.log(), " done in ")
+        check(send(it.port, 2, b"y" * 100, host="127.0.0.2") == 0, "the next job isn't taken")
+        line_of(it, "job 2 ", "number 002 waits for a printer")
+        has(page(it), "waits for a printer", "idle")
+        until(30, "the log", lambda: re.search(r"job 1 lp 001 .* done in ", it.log()))
+        has(it.log(), "printer 1: job 1: ", "the printer didn't end the connection: its last octets may not have come")
+        until(10, "the next job comes", lambda: printer.count == 200)
+        return "idle, and the next job waits; told in the log once it was over"
 
 
 def jobs_that_are_refused():
@@ -232,12 +336,15 @@ def kept_jobs_are_called_by_their_files():
             line = line_of(it, "job 2 ", "number 004")
             file = re.search(r" number 004 file (\d+) ", line)
             check(file, line)
-            has(page(it), f"file {file[1]} (004)", "job 2\n")
+            has(page(it), f"file {file[1]} (004)", "job 2\n", "1 kept job has failed")
             check(metric(it, 'hurgwaye_kept_jobs{state="failed"}') == 1, "the metric")
             until(10, "the log", lambda: re.search(rf"job 2 lp 004 ann@h1 .* received in [\d.]+ s file {file[1]}$", it.log(), re.M))
         with served(spool(), *words[:3]) as it:
             until(20, "it is printed", lambda: os.path.exists(it.path()) and os.path.getsize(it.path()) == 100)
             until(10, "the log", lambda: re.search(rf"job 1 lp 004 ann@h1 .* done in [\d.]+ s file {file[1]}$", it.log(), re.M))
+            seen = page(it)
+            has(seen, "1 kept job has failed", " + 1 failed")
+            lacks(seen, "every printer runs")
         return f"file {file[1]} (004), in `status`, on the page and in the log, before and after a restart"
 
 
@@ -246,8 +353,12 @@ SCENES = [
     a_printer_that_is_not_reached,
     a_printer_that_is_stopped,
     jobs_that_arrive,
+    pages_kept_for_another_job,
+    a_next_page_that_is_due,
+    a_removed_job_that_ends,
     jobs_that_are_refused,
     kept_jobs_are_called_by_their_files,
+    a_printer_that_keeps_its_connection,
     a_printer_that_takes_nothing,
 ]
 

@@ -1,2 +1,3 @@
 pub mod FileNumbers
+pub mod HeldLines
 pub mod Syncs

@@ -1,25 +1,17 @@
 //! A folder of jobs, which the threads of a server share.
 
 use crate::fault::DiskFault;
+use crate::jobs::FolderJobs;
+use crate::lines::{FileRemoval, HeldLines};
 use crate::listing::names_in;
-use crate::numbers::FileNumbers;
 use crate::syncs::{SyncTold, Syncs};
-use job_files::{FileStage, JobEnd, JobFiles, KeptFileName, WaitingJobs};
+use job_files::{FileStage, JobEnd, KeptFileName};
 use server_folder::{FILE_MODE, FolderError, FolderUse};
 use std::alloc::{AllocError, Global};
 use std::fs::{File, Files, OpenOptions};
 use std::os::unix::fs::OpenOptionsExt;
-use std::sync::{Condvar, Mutex, Wait};
+use std::sync::{Condvar, Mutex, MutexGuard, Wait};
 use std::{fs, io};
-
-/// What is known of the folder's jobs.
-#[derive(Drop)]
-struct FolderJobs {
-    numbers: FileNumbers,
-    files: JobFiles,
-    waiting: WaitingJobs,
-    failed: usize,
-}
 
 /// A folder of jobs, which sessions, printers and whoever feeds its jobs share. One server has it at a time.
 #[derive(Drop)]
@@ -36,8 +28,8 @@ pub struct Disk<'a, R> {
 }
 
 impl<'a, R: Files<File = File> + Wait> Disk<'a, R> {
-    /// The folder at this path, which is made where nothing is there, with room in memory for this many jobs that are passed on and
-    /// haven't ended.
+    /// The folder at this path, which is made where nothing is there, for this many queues and with room in memory for this many jobs that
+    /// are passed on and haven't ended.
     ///
     /// # Errors
     ///
@@ -47,18 +39,13 @@ impl<'a, R: Files<File = File> + Wait> Disk<'a, R> {
         alloc: Global,
         path: &'a str,
         jobs: usize,
+        queues: usize,
     ) -> Result<Disk<'a, R>, FolderError> {
         let lock = server_folder::take(rt, alloc, FolderUse::Jobs, path)?;
         let names = names_in(rt, alloc, path)?;
-        let standing = FolderJobs {
-            numbers: FileNumbers::behind(names.as_slice()),
-            files: JobFiles::with_room(alloc, jobs).map_err(io::Error::from)?,
-            waiting: WaitingJobs::new(alloc),
-            failed: names
-                .iter()
-                .filter(|name| name.stage == FileStage::Failed)
-                .count(),
-        };
+        let standing = FolderJobs::new(alloc, names.as_slice(), jobs, queues).map_err(
+            io::Error::from,
+        )?;
         Ok(Disk {
             rt,
             alloc,
@@ -81,9 +68,20 @@ impl<'a, R: Files<File = File> + Wait> Disk<'a, R> {
         DiskFault::new(self.path, None, cause)
     }
 
-    /// A number that no other file gets. An error where none is left.
-    pub(crate) fn number(&self) -> io::Result<u64> {
-        let number = self.standing.lock(self.rt).numbers.take();
+    /// What is known of the folder's jobs, which nobody else changes meanwhile.
+    pub(crate) fn jobs(&self) -> MutexGuard<'_, FolderJobs> {
+        self.standing.lock(self.rt)
+    }
+
+    /// Where the jobs are, which nobody else changes while that is held.
+    pub fn lines(&self) -> HeldLines<'_> {
+        HeldLines { jobs: self.jobs() }
+    }
+
+    /// The number of the file of the job that a session at this seat begins: the one that was taken as its way was chosen, else one that
+    /// no other file gets. An error where none is left.
+    pub(crate) fn number(&self, seat: u32) -> io::Result<u64> {
+        let number = self.jobs().number_for(seat);
         number.ok_or(io::Error::new(io::ErrorKind::Other, "no number is left"))
     }
 
@@ -163,7 +161,7 @@ impl<'a, R: Files<File = File> + Wait> Disk<'a, R> {
             return Err(self.fault_at(name, cause));
         }
         if end == JobEnd::Failed {
-            let mut standing = self.standing.lock(self.rt);
+            let mut standing = self.jobs();
             standing.failed = standing.failed.saturating_add(1);
         }
         Ok(())
@@ -175,7 +173,7 @@ impl<'a, R: Files<File = File> + Wait> Disk<'a, R> {
     /// An error where the file can't be taken away or renamed, or memory is refused: the file stays then, and is printed again after
     /// the next start.
     pub fn pass(&self, job: u64, file: u64) -> Result<(), DiskFault<'a>> {
-        let answer = self.standing.lock(self.rt).files.pass(job, file);
+        let answer = self.jobs().pass(job, file);
         match answer {
             Ok(Some(end)) => self.act(file, end),
             Ok(None) => Ok(()),
@@ -189,7 +187,7 @@ impl<'a, R: Files<File = File> + Wait> Disk<'a, R> {
     /// An error where the file can't be taken away or renamed, or memory is refused: the file stays then, and is printed again after
     /// the next start.
     pub fn end(&self, job: u64, end: JobEnd) -> Result<(), DiskFault<'a>> {
-        let answer = self.standing.lock(self.rt).files.end(job, end);
+        let answer = self.jobs().end(job, end);
         match answer {
             Ok(Some(file)) => self.act(file, end),
             Ok(None) => Ok(()),
@@ -199,25 +197,41 @@ impl<'a, R: Files<File = File> + Wait> Disk<'a, R> {
 
     /// The number of the file of a held job of this number, where it is known.
     pub fn file_of(&self, job: u64) -> Option<u64> {
-        self.standing.lock(self.rt).files.file_of(job)
+        self.jobs().files.file_of(job)
     }
 
     /// The number of acceptance of the held job whose file has this number, where it is known.
     pub fn job_of(&self, file: u64) -> Option<u64> {
-        self.standing.lock(self.rt).files.job_of(file)
+        self.jobs().files.job_of(file)
     }
 
-    /// Removes a whole file whose job no spool has: one that was to be fed.
+    /// Removes the file of a job that waits, or of one that has failed: nobody waits for it any more.
     ///
-    /// An error where there is no such file, or it can't be removed.
-    pub fn drop_whole(&self, number: u64) -> Result<(), DiskFault<'a>> {
-        self.act(number, JobEnd::Removed)
+    /// An error where there is no such file, or it can't be removed. Nothing changes then.
+    pub fn drop_kept(&self, number: u64) -> Result<FileRemoval, DiskFault<'a>> {
+        let mut jobs = self.jobs();
+        let Some((queue, job)) = jobs.find(number) else {
+            drop(jobs);
+            self.drop_failed(number)?;
+            return Ok(FileRemoval::Gone);
+        };
+        if !job.state.is_waiting() {
+            return Ok(FileRemoval::IsElsewhere);
+        }
+        let stage = FileStage::Whole;
+        let name = KeptFileName { number, stage };
+        // Under the lock, so that nobody feeds it meanwhile.
+        if let Err(cause) = self.remove(name) {
+            return Err(self.fault_at(name, cause));
+        }
+        jobs.lines.end(queue, number);
+        Ok(FileRemoval::Gone)
     }
 
     /// Removes a file that failed.
     ///
     /// An error where there is no such file, or it can't be removed.
-    pub fn drop_failed(&self, number: u64) -> Result<(), DiskFault<'a>> {
+    fn drop_failed(&self, number: u64) -> Result<(), DiskFault<'a>> {
         let stage = FileStage::Failed;
         let name = KeptFileName { number, stage };
         if let Err(cause) = self.remove(name) {
@@ -229,7 +243,7 @@ impl<'a, R: Files<File = File> + Wait> Disk<'a, R> {
 
     /// One of the files that failed isn't there any more.
     fn note_one_less(&self) {
-        let mut standing = self.standing.lock(self.rt);
+        let mut standing = self.jobs();
         standing.failed = standing.failed.saturating_sub(1);
     }
 
@@ -246,30 +260,18 @@ impl<'a, R: Files<File = File> + Wait> Disk<'a, R> {
         self.sync_names().map_err(|cause| self.fault(cause))
     }
 
-    /// A whole job of this sender for this queue waits in the folder to be fed.
-    ///
-    /// AllocError where memory is refused. Nothing changes then.
-    pub fn wait_for(&self, sender: u32, queue: &[u8]) -> Result<(), AllocError> {
-        self.standing.lock(self.rt).waiting.wait_for(sender, queue)
-    }
-
-    /// A job of this sender for this queue that waited was fed, or isn't going to be.
-    pub fn fed(&self, sender: u32, queue: &[u8]) {
-        self.standing.lock(self.rt).waiting.fed(sender, queue);
-    }
-
-    /// Whether a job of this sender for this queue waits.
-    pub(crate) fn has_waiting(&self, sender: u32, queue: &[u8]) -> bool {
-        self.standing.lock(self.rt).waiting.has(sender, queue)
-    }
-
-    /// How many jobs wait to be fed.
+    /// How many jobs wait to be fed, or are being fed.
     pub fn waiting(&self) -> usize {
-        self.standing.lock(self.rt).waiting.len()
+        self.jobs().waiting()
+    }
+
+    /// How many whole jobs there are, where none is coming: those that wait, and those that the spool has.
+    pub fn left(&self) -> usize {
+        self.jobs().left()
     }
 
     /// How many jobs have failed.
     pub fn failed(&self) -> usize {
-        self.standing.lock(self.rt).failed
+        self.jobs().failed
     }
 }

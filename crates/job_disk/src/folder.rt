@@ -26,6 +26,8 @@ enum InHand {
 #[derive(Drop)]
 pub struct DiskFolder<'a, R> {
     disk: &'a Disk<'a, R>,
+    /// The seat of its session.
+    seat: u32,
     in_hand: InHand,
     number: u64,
     faults: u64,
@@ -33,10 +35,11 @@ pub struct DiskFolder<'a, R> {
 }
 
 impl<'a, R: Files<File = File> + Wait> DiskFolder<'a, R> {
-    /// A hand with nothing in it.
-    pub fn new(disk: &'a Disk<'a, R>) -> DiskFolder<'a, R> {
+    /// The hand of a session at this seat, with nothing in it.
+    pub fn new(disk: &'a Disk<'a, R>, seat: u32) -> DiskFolder<'a, R> {
         DiskFolder {
             disk,
+            seat,
             in_hand: InHand::Nothing,
             number: 0,
             faults: 0,
@@ -87,7 +90,7 @@ impl<'a, R: Files<File = File> + Wait> DiskFolder<'a, R> {
         ensures { self.new.faults ≡ self.old.faults }
     {
         self.in_hand = InHand::Nothing;
-        self.number = self.disk.number()?;
+        self.number = self.disk.number(self.seat)?;
         let file = self.disk.create(self.name(FileStage::Temporary))?;
         self.in_hand = InHand::Temporary(file);
         Ok(())
@@ -136,10 +139,6 @@ impl<R: Files<File = File> + Wait> Folder for DiskFolder<'_, R> {
     ghost may_lack = { λ _ octets. ⊥ };
 
     ghost faults = { λ folder. folder.faults };
-
-    fn has_earlier(&self, sender: u32, queue: &[u8]) -> bool {
-        self.disk.has_waiting(sender, queue)
-    }
 
     fn create(&mut self) -> Result<(), KeepError> {
         let answer = self.create_file();

@@ -4,6 +4,8 @@
 mod disk;
 mod fault;
 mod folder;
+mod jobs;
+mod lines;
 mod listing;
 mod looking;
 mod numbers;
@@ -13,6 +15,8 @@ mod syncs;
 pub use disk::Disk;
 pub use fault::DiskFault;
 pub use folder::DiskFolder;
+pub use lines::{FileRemoval, HeldLines, NumberedJob};
 pub use looking::{FolderState, look};
+pub use parked_lines::{AdmissionFault, JobSize};
 pub use server_folder::{FolderError, FolderUse};
 pub use store::DiskStore;

@@ -78,11 +78,12 @@ fn keep<T: Drop, F: Drop>(
 }
 
 /// Closes the spool once nothing is left to do, or nothing is waited for any more: who looks after it or at it ends.
-fn close_spool<R: Clock + Log + Wait, E: HouseLedger>(
+fn close_spool<R: Files<File = File> + Clock + Log + Wait, E: HouseLedger>(
     house: House<'_, '_, R, E>,
     seat: &mut HouseSeat<E>,
 ) {
     let House { spool, hall } = house;
+    Feeding { spool, hall }.await_fed();
     let care = Care { spool, hall };
     care.wait_until_done();
     care.tell_all_lost();
@@ -201,7 +202,7 @@ impl<E: HouseLedger + Send + Sync> Crew<E> {
     /// Joins the threads of sessions that have ended, closes the spool once nothing is left to do, or
     /// nothing is waited for any more, and joins the others: their seats. One is missing where memory
     /// for it is refused.
-    fn close<R: Clock + Log + Threads + Wait>(
+    fn close<R: Files<File = File> + Clock + Log + Threads + Wait>(
         self,
         house: House<'_, '_, R, E>,
         seat: HouseSeat<E>,

@@ -209,7 +209,8 @@ where
     let Returned { seats, counter } = returned;
     let ended = finish(&hall, spool, seats, told, output);
     if let Some(counter) = counter {
-        counter.end(hall.rt, hall.alloc, &ended);
+        let left = hall.kept.as_ref().map_or(0, |kept| kept.left(hall.rt));
+        counter.end(hall.rt, hall.alloc, &ended, left);
     }
     ended
 }

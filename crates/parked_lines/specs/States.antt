@@ -44,3 +44,10 @@ is_outside Beside = true
 is_outside Waiting = true
 is_outside Fed = true
 is_outside _ = false
+
+-- the spool has it, or is given it: it comes through it, is being fed, or is whole there
+abbrev pub is_in_spool : ParkState → Bool
+is_in_spool Coming = true
+is_in_spool Fed = true
+is_in_spool Whole = true
+is_in_spool _ = false

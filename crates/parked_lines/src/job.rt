@@ -2,7 +2,7 @@
 
 ghost use Rattle.std.specs.Prelude.{◌≡◌, ◌+◌, ◌-◌, ◌/◌, ◌<◌, ◌^◌, min};
 ghost use Rattle.parked_lines.specs.Line.{is_earlier, job_at, job_kept, job_moved};
-ghost use Rattle.parked_lines.specs.Parts.{pages_of};
+ghost use Rattle.parked_lines.specs.Parts.{pages_in_state, pages_of};
 
 use crate::state::{JobMove, ParkState};
 
@@ -123,5 +123,16 @@ impl ParkedJob {
         ensures { result ≡ is_earlier sender number self.now }
     {
         self.number < number && self.state.is_outside() && self.sender == sender
+    }
+
+    /// The pages of the pool that it has: all that it may come to, which is this limit, while it comes through the spool.
+    pub(crate) fn pages_used(&self, limit: u32) -> u32
+        ensures { result ≡ pages_in_state limit self.now.pages self.now.state }
+    {
+        match self.state {
+            ParkState::Coming => limit,
+            ParkState::Fed | ParkState::Whole => self.pages,
+            ParkState::Beside | ParkState::Waiting => 0,
+        }
     }
 }

@@ -4,9 +4,11 @@ ghost use Rattle.std.specs.Prelude.{◌≡◌, ◌<◌, ◌≤◌, [], None, Som
 ghost use Rattle.std.specs.Bool.{OnFalse, OnTrue};
 ghost use Rattle.std.specs.List.{AllWithin, list_any, take_while};
 ghost use Rattle.parked_lines.specs.Line.{Becomes, has_earlier, has_parked, is_earlier, IsAt, IsRising, job_of, may_feed, way_of};
+ghost use Rattle.parked_lines.specs.Parts.{pages_used, rows_used};
 ghost use Rattle.parked_lines.specs.States.{is_parked};
 
 use crate::job::{NewJob, ParkedJob};
+use crate::parts::PartUse;
 use crate::state::ParkState;
 use std::alloc::{AllocError, Global};
 use std::collections::VecDeque;
@@ -148,6 +150,33 @@ impl QueueLine {
         ensures { result ≡ count_by (λ job. is_parked job.state) self.now }
     {
         self.jobs.iter().filter(|job| job.state.is_parked()).count()
+    }
+
+    /// What its jobs have of the spool, each of which may come to this many pages.
+    pub(crate) fn used(&self, limit: u32) -> PartUse
+        ensures rows { result.rows ≡ rows_used self.now }
+        ensures pages { result.pages ≡ pages_used limit self.now }
+    {
+        let rows = self
+            .jobs
+            .iter()
+            .filter(|job| job.state.is_in_spool())
+            .count();
+        let pages = self.jobs.iter().fold(
+            0u64,
+            |so_far, job| so_far.saturating_add(u64::from(job.pages_used(limit))),
+        );
+        PartUse {
+            rows: rows as u64,
+            pages,
+        }
+    }
+
+    /// Whether it has a job.
+    pub(crate) fn has_jobs(&self) -> bool
+        ensures { result ≡ nat_lt 0 (length self.now) }
+    {
+        self.jobs.len() > 0
     }
 
     /// The first jobs that wait or are being fed, in order, this many at most. AllocError where memory is refused.

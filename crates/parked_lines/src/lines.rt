@@ -1,17 +1,18 @@
 //! The lines of all queues.
 
-ghost use Rattle.std.specs.Prelude.{◌≡◌, ◌<◌, ◌≤◌, [], None, Some, IfErr, IfNone, IfOk, IfSome, MatchOption, OnErr, OnOk, count_by, false, filter, is_some, length, replicate, take};
+ghost use Rattle.std.specs.Prelude.{◌≡◌, ◌<◌, ◌≤◌, [], None, Some, IfErr, IfNone, IfOk, IfSome, MatchOption, OnErr, OnOk, count_by, false, filter, is_some, length, nat_lt, replicate, take};
 ghost use Rattle.std.specs.Option.{option_and_then};
 ghost use Rattle.std.specs.Bool.{OnFalse, OnTrue};
 ghost use Rattle.parked_lines.specs.declared.state.ParkState.TheVariants.{Coming, Fed, Waiting};
 ghost use Rattle.parked_lines.specs.Cause.{IsCause};
 ghost use Rattle.parked_lines.specs.Line.{job_at, job_kept, job_moved, way_of};
 ghost use Rattle.parked_lines.specs.Lines.{found, has_known, IsFirstFrom, IsNext, IsOnce, line_of, LosesNone, MovesOne, next_of, NoneFrom};
+ghost use Rattle.parked_lines.specs.Parts.{pages_used, rows_used};
 ghost use Rattle.parked_lines.specs.States.{is_parked};
 
 use crate::job::{JobSize, NewJob, ParkedJob};
 use crate::line::QueueLine;
-use crate::parts::FreePart;
+use crate::parts::{FreePart, PartUse};
 use crate::state::{JobMove, ParkState};
 use std::alloc::{AllocError, Global};
 use std::marker::Model;
@@ -309,6 +310,25 @@ impl ParkedLines {
             Some(line) => line.parked(),
             None => 0,
         }
+    }
+
+    /// What the jobs of a queue have of the spool, each of which may come to this many pages: rows of the table, and pages that they hold or
+    /// may still claim.
+    pub fn used(&self, queue: usize, limit: u32) -> PartUse
+        ensures rows { result.rows ≡ rows_used (line_of self.now queue) }
+        ensures pages { result.pages ≡ pages_used limit (line_of self.now queue) }
+    {
+        match self.lines.get(queue) {
+            Some(line) => line.used(limit),
+            None => PartUse { rows: 0, pages: 0 },
+        }
+    }
+
+    /// How many queues have jobs.
+    pub fn busy(&self) -> usize
+        ensures { result ≡ count_by (λ line. nat_lt 0 (length line)) self.now }
+    {
+        self.lines.iter().filter(|line| line.has_jobs()).count()
     }
 
     /// The first jobs of a queue that wait or are being fed, in order, this many at most. AllocError where memory is refused.

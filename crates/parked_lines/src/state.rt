@@ -1,7 +1,7 @@
 //! Where a job is that is kept, as a state.
 
 ghost use Rattle.std.specs.Prelude.{◌≡◌};
-ghost use Rattle.parked_lines.specs.States.{is_outside, is_parked, is_waiting, kept, moved};
+ghost use Rattle.parked_lines.specs.States.{is_in_spool, is_outside, is_parked, is_waiting, kept, moved};
 
 /// Where a job is that is kept in a folder.
 ///
@@ -90,5 +90,12 @@ impl ParkState {
             self,
             ParkState::Beside | ParkState::Waiting | ParkState::Fed
         )
+    }
+
+    /// Whether the spool has it, or is given it: it comes through it, is being fed, or is whole there.
+    pub fn is_in_spool(self) -> bool
+        ensures { result ≡ is_in_spool self }
+    {
+        matches!(self, ParkState::Coming | ParkState::Fed | ParkState::Whole)
     }
 }

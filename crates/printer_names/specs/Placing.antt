@@ -1,6 +1,6 @@
 -- What the printers of a configuration print to, as its texts and the words of a command line say it.
-use Rattle.std.specs.Prelude.{◌≡◌, ◌≢◌, ◌<◌, ◌++◌, ℕ, List, Ok, Err, codes, length}
-use Rattle.std.specs.List.{AllPairs, AllZip}
+use Rattle.std.specs.Prelude.{◌≡◌, ◌≢◌, ◌<◌, ◌==◌, ◌++◌, ◌∷◌, ℕ, true, List, Ok, Err, codes, length}
+use Rattle.std.specs.List.{AllPairs, AllZip, list_any}
 use Rattle.config_values.specs.Config as C
 use Rattle.program_edge.specs.Places.{IsPlaceText}
 use Rattle.program_edge.specs.declared.places.PlacedPrinter.{PlacedPrinter}
@@ -41,19 +41,37 @@ IsUnnamed c said (Twice other) = ⊥
 IsUnnamed c said OutOfRange = ⊥
 IsUnnamed c said Memory = ⊥
 
--- why the texts of a configuration can't be placed
-abbrev pub IsOfTexts : PlacingFault → Type 0
-IsOfTexts OutOfRange = Unit {0}
-IsOfTexts Memory = Unit {0}
-IsOfTexts fault = ⊥
+-- what texts say can't be had: one says nothing of a printer, or two are for one
+abbrev pub AreUnplaced : C.Config → List (ℕ × ℕ × List ℕ) → Type 0
+AreUnplaced c told = (printers : List PlacedPrinter) → AllZip (IsTold c) told printers → AreOfDifferentPrinters printers → ⊥
 
--- why texts and words can't be placed: a word's fault comes only where there are words
-abbrev pub IsPlacingFault : C.Config → List NamedPrinter → PlacingFault → Type 0
-IsPlacingFault c said (Unknown word) = (0 < length said) × Means c word.name.now (Err name.Unknown)
-IsPlacingFault c said (Ambiguous word) = (0 < length said) × Means c word.name.now (Err name.Ambiguous)
-IsPlacingFault c said (Twice word) = 0 < length said
-IsPlacingFault c said OutOfRange = Unit {0}
-IsPlacingFault c said Memory = Unit {0}
+-- why the texts of a configuration can't be placed
+abbrev pub IsOfTexts : C.Config → List (ℕ × ℕ × List ℕ) → PlacingFault → Type 0
+IsOfTexts c told OutOfRange = AreUnplaced c told
+IsOfTexts c told Memory = Unit {0}
+IsOfTexts c told fault = ⊥
+
+-- the first word at fault: the texts and the words before it are placed, and this is so of it and of the printers that have a place then
+pub record IsFirstAtFault (c : C.Config) (told : List (ℕ × ℕ × List ℕ)) (said : List NamedPrinter) (word : NamedPrinter) (IsWhy : List PlacedPrinter → Type 0) : Type 0 where
+  pub before : List NamedPrinter
+  pub behind : List NamedPrinter
+  pub parts : said ≡ before ++ word ∷ behind
+  pub printers : List PlacedPrinter
+  pub placed : ArePlaced c told before printers
+  pub why : IsWhy printers
+
+-- the printer that a word is for is one of these
+abbrev pub IsTaken : C.Config → NamedPrinter → List PlacedPrinter → Type 0
+IsTaken c word printers =
+    (one : PlacedPrinter) × IsSaid c word one × (list_any (λ (other : PlacedPrinter). other.printer == one.printer) printers ≡ true)
+
+-- Why texts and words can't be placed: each but for memory exactly where it is so. A word's fault comes only where there are words.
+abbrev pub IsPlacingFault : C.Config → List (ℕ × ℕ × List ℕ) → List NamedPrinter → PlacingFault → Type 0
+IsPlacingFault c told said (Unknown word) = (0 < length said) × IsFirstAtFault c told said word (λ _. Means c word.name.now (Err name.Unknown))
+IsPlacingFault c told said (Ambiguous word) = (0 < length said) × IsFirstAtFault c told said word (λ _. Means c word.name.now (Err name.Ambiguous))
+IsPlacingFault c told said (Twice word) = (0 < length said) × IsFirstAtFault c told said word (IsTaken c word)
+IsPlacingFault c told said OutOfRange = AreUnplaced c told
+IsPlacingFault c told said Memory = Unit {0}
 
 -- the line that tells it
 abbrev pub placing_words : PlacingFault → List ℕ

@@ -50,7 +50,7 @@ fn said_printer<'a>(
     }
 }
 
-/// What the texts of a configuration say of its printers, in order. `OutOfRange` where one says nothing of one, and `Memory`.
+/// What the texts of a configuration say of its printers, in order. `OutOfRange` where one says nothing of one, or two are for one, and `Memory`.
 fn told_printers<'a>(
     alloc: Global,
     config: &Config,
@@ -59,14 +59,14 @@ fn told_printers<'a>(
     ensures told { IfOk result (λ printers.
         AllZip (IsTold config.now) (map told_view told.now) printers.items) }
     ensures once { IfOk result (λ printers. AreOfDifferentPrinters printers.items) }
-    ensures fault { IfErr result IsOfTexts }
+    ensures fault { IfErr result (IsOfTexts config.now (map told_view told.now)) }
 {
     let mut printers = Vec::new(alloc);
     for text in told {
         let Some(placed) = told_printer(config, text) else {
             return Err(PlacingFault::OutOfRange);
         };
-        // Never of one configuration's texts: each is for another printer.
+        // Never of the texts that one configuration has: each is for another printer.
         if has_printer(printers.as_slice(), placed.printer) {
             return Err(PlacingFault::OutOfRange);
         }
@@ -82,8 +82,9 @@ fn told_printers<'a>(
 ///
 /// # Errors
 ///
-/// `OutOfRange` where a text of the configuration says nothing that a printer may print to, or is for one that its queue doesn't have; `Unknown`,
-/// `Ambiguous` or `Twice` with the first word whose name means no printer, may mean two, or is for one that has a place; `Memory`.
+/// `OutOfRange` where a text of the configuration says nothing that a printer may print to, is for one that its queue doesn't have, or for the same one
+/// as another text; else `Unknown`, `Ambiguous` or `Twice` with the first word whose name means no printer, may mean two, or is for one that has a
+/// place: of the texts, or of a word before it; `Memory`.
 pub fn placed_printers<'a>(
     alloc: Global,
     config: &Config,
@@ -92,7 +93,7 @@ pub fn placed_printers<'a>(
 ) -> Result<Vec<PlacedPrinter<'a>>, PlacingFault<'a>>
     ensures placed { IfOk result (λ printers.
         ArePlaced config.now (map told_view told.now) said.now printers.items) }
-    ensures fault { IfErr result (IsPlacingFault config.now said.now) }
+    ensures fault { IfErr result (IsPlacingFault config.now (map told_view told.now) said.now) }
 {
     let mut printers = told_printers(alloc, config, told)?;
     for word in said {

@@ -5,7 +5,7 @@ use crate::commanding::AnswerLines;
 use crate::owned_job::OwnedJob;
 use control_lines::AnswerEnd;
 use log::Log;
-use server_folders::{FileRemoval, FiledJob, JobFolder};
+use server_folders::{AdmissionFault, FileRemoval, FiledJob, JobFolder};
 use server_house::{HouseLedger, HouseSeat};
 use shared_spool::{SeenJob, Unremoved};
 use standings::{JobName, JobNumber, JobStage, stage_of};
@@ -138,9 +138,9 @@ impl<R: Files<File = File> + Clock + Log + Wait, E: HouseLedger> Care<'_, '_, R,
         filed: &FiledJob,
     ) -> Result<Vec<u8>, AllocError> {
         let name = filed_name(number, filed);
-        match kept.let_go(self.hall.rt, number, &filed.owner) {
+        match kept.let_go(number) {
             Ok(FileRemoval::Gone) => self.tell_done("removed", &name),
-            Ok(FileRemoval::IsFed) => {
+            Ok(FileRemoval::IsElsewhere) => {
                 let why = format!(in self.hall.alloc;
                     "{name} is being handed to the spool: ask again"
                 )?;
@@ -185,8 +185,13 @@ impl<R: Files<File = File> + Clock + Log + Wait, E: HouseLedger> Care<'_, '_, R,
         }
         // Whose it is is read before the spool may have it printed.
         let filed = kept.filed(self.hall.rt, self.hall.alloc, number);
-        if !kept.enter(self.hall.rt, self.hall.alloc, number)? {
-            return self.refuse(NO_JOB);
+        let config = &self.hall.oversight.config;
+        match kept.enter(self.hall.rt, self.hall.alloc, config, number) {
+            Ok(true) => {}
+            Ok(false) | Err(AdmissionFault::Known | AdmissionFault::NoQueue) => {
+                return self.refuse(NO_JOB);
+            }
+            Err(AdmissionFault::Memory) => return Err(AllocError),
         }
         match filed {
             Ok(Some(filed)) => self.tell_done("resent", &filed_name(number, &filed)),

@@ -118,6 +118,17 @@ impl<R: Files<File = File> + Clock + Log + Wait, E: HouseLedger> Care<'_, '_, R,
         }
     }
 
+    /// The folder of kept jobs, if there is one, is told that the queue of a name is held, or isn't any more.
+    fn note_held(&self, queue: &[u8], is_held: bool) {
+        let Some(kept) = &self.hall.kept else {
+            return;
+        };
+        let number = self.hall.oversight.config.queue_named(queue);
+        if let Some(place) = number.and_then(|number| number.checked_sub(1)) {
+            kept.set_held(self.hall.rt, place as usize, is_held);
+        }
+    }
+
     /// Holds a queue. Tells where it was held before.
     fn hold_queue(&self, queue: &[u8]) -> Result<Vec<u8>, AllocError> {
         let mut answer = AnswerLines::new(self.hall.alloc);
@@ -125,6 +136,7 @@ impl<R: Files<File = File> + Clock + Log + Wait, E: HouseLedger> Care<'_, '_, R,
         if let Err(refusal) = self.spool.hold(self.hall.rt, queue) {
             return answer.end_by(Some(refusal));
         }
+        self.note_held(queue, true);
         if was_held {
             answer.line(&"held already")?;
         }
@@ -154,6 +166,7 @@ impl<R: Files<File = File> + Clock + Log + Wait, E: HouseLedger> Care<'_, '_, R,
         if let Err(refusal) = self.spool.release(self.hall.rt, queue) {
             return answer.end_by(Some(refusal));
         }
+        self.note_held(queue, false);
         if !was_held {
             self.tell_unheld(&mut answer, queue)?;
         }
@@ -181,6 +194,14 @@ impl<R: Files<File = File> + Clock + Log + Wait, E: HouseLedger> Care<'_, '_, R,
         Ok(Some(line))
     }
 
+    /// Removes the jobs of a queue that wait in the folder of kept jobs, if there is one, and that these words name: a line for each.
+    fn remove_waiting(&self, queue: u32, words: &[Octets]) -> Result<Vec<u8>, AllocError> {
+        match &self.hall.kept {
+            Some(kept) => kept.remove_waiting(self.hall.rt, self.hall.alloc, queue, AGENT, words),
+            None => Ok(Vec::new(self.hall.alloc)),
+        }
+    }
+
     /// Removes a job or a user's jobs of a queue, and tells which.
     fn remove_jobs(
         &self,
@@ -194,14 +215,21 @@ impl<R: Files<File = File> + Clock + Log + Wait, E: HouseLedger> Care<'_, '_, R,
             .remove_telling(self.hall.rt, seat, queue, AGENT, &list)
         {
             Ok(removal) => {
+                let parked = self.remove_waiting(removal.queue, &list)?;
                 let mut more = AnswerLines::new(self.hall.alloc);
-                if removal.numbers.is_empty() {
+                if removal.numbers.is_empty() && parked.is_empty() {
                     if let Some(hint) = self.hint_of(removal.queue, whom)? {
                         more.line(&hint)?;
                     }
                 }
+                let has_text = !removal.numbers.is_empty() || parked.is_empty();
                 self.hall.end_removed(removal.numbers);
-                let mut octets = removal.text.into_vec();
+                let mut octets = if has_text {
+                    removal.text.into_vec()
+                } else {
+                    Vec::new(self.hall.alloc)
+                };
+                octets.extend_from_slice(parked.as_slice())?;
                 let end = more.end(AnswerEnd::Done)?;
                 octets.extend_from_slice(end.as_slice())?;
                 Ok(octets)

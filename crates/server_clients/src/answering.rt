@@ -5,6 +5,7 @@ ghost use Rattle.std.specs.Prelude.{◌≡◌, Some, max, option_map};
 ghost use Rattle.server_clients.specs.Ends.{failure_text};
 ghost use Rattle.connection_lobby.specs.declared.desk.Serves.TheVariants.{All, NoJobs};
 
+use crate::job_doors::JobDoors;
 use crate::served::Served;
 use crate::session_notes::SessionNotes;
 use connection_lobby::{Serves, Visit, keep_asking, send_in_pieces};
@@ -14,6 +15,7 @@ use kept_requests::Keeping;
 use log::{Log, warn};
 use lpd_commands::{OctetRead, OctetWrite};
 use noted_requests::Noting;
+use parked_requests::Parking;
 use program_edge::{Limits, StreamReader, StreamWriter, pass_over};
 use request_session::{Input, Requests, serve_with};
 use server_folders::JobFolder;
@@ -251,7 +253,10 @@ impl<R: Files<File = File> + Clock + Wait + Log, E: HouseLedger> Answering<'_, '
         let hall = self.hall;
         let number = seat.number();
         let seated = Seated::new(hall.rt, self.spool, seat);
-        let keeping = Keeping::new(hall.alloc, seated, DiskFolder::new(&kept.disk));
+        let doors = JobDoors::new(self.spool, hall, kept, number);
+        let page_size = hall.oversight.config.page_size();
+        let parking = Parking::new(hall.alloc, page_size, seated, doors);
+        let keeping = Keeping::new(hall.alloc, parking, DiskFolder::new(&kept.disk, number));
         let mut noting = Noting::new(keeping, SessionNotes::new(hall));
         let attendant = Attendant {
             hall,
@@ -261,7 +266,7 @@ impl<R: Files<File = File> + Clock + Wait + Log, E: HouseLedger> Answering<'_, '
         attendant.serve_all(&mut noting);
         let Noting { inner, .. } = noting;
         let Keeping { inner, .. } = inner;
-        inner.into_seat()
+        inner.into_inner().into_seat()
     }
 
     /// Serves connections through a seat, one after another, until no more can come. Answers the

@@ -1,12 +1,14 @@
-//! The thread that has the spool take the jobs that its folder has kept.
+//! The thread that has the spool take the jobs that wait in its folder.
 //!
-//! It has a seat of its own, so that a start never waits for pages. Connections are taken only once all that has room was fed, and a new
-//! job of a sender whose earlier one for that queue still waits is refused for now (`TableFull`, octet 02): so one sender's jobs in a
-//! queue keep their order across a start. A kept job gets a new number of acceptance; the number of its file stays.
+//! At first it reads whose the jobs are that the start found; until it has, each new job waits behind them. Then it takes the first job of
+//! each queue's line in turn, where the queue has room in its part of the spool and the spool has room for the job. It has a seat of its
+//! own, and waits for no page: a job that finds none is aborted in the spool and waits again, so that no queue holds up another one. A job
+//! that is fed gets a new number of acceptance; the number of its file stays.
 //!
 //! What can't be fed stays, with a warning: nothing that was acknowledged is taken away by anything but its end. A failed job becomes
-//! `N.failed` for the same reason.
+//! `N.failed` for the same reason. A server that stops feeds nothing more: what waits, waits for the next start.
 
+use crate::job_doors::{is_stopped, part_of};
 use crate::served::HouseSeated;
 use crate::session_notes::SessionNotes;
 use kept_recovery::{Fed, feed_one};
@@ -14,9 +16,13 @@ use kept_requests::Keeping;
 use log::{Log, warn};
 use lpd_values::Refusal;
 use noted_requests::Noting;
-use server_folders::{FedFolder, JobFolder, Owner, StoredJobs};
+use parked_lines::{FreePart, ParkedJob};
+use parked_requests::Through;
+use server_folders::{FedFolder, JobFolder, StoredJobs};
 use server_house::{Hall, HouseLedger, HouseSeat, HouseSpool};
 use session::{Seated, SessionEnd};
+use shared_spool::Vacancy;
+use std::alloc::AllocError;
 use std::fs::{File, Files};
 use std::rt::Clock;
 use std::sync::Wait;
@@ -26,7 +32,7 @@ use std::{fmt, thread};
 /// The part of the program that logs what happens here, as the log names it.
 const PART: &str = "lpd_daemon::feeding";
 
-/// The time between two looks at whether there is room, in milliseconds.
+/// The longest time between two looks at whether there is room, in milliseconds.
 const LOOK_MS: u64 = 100;
 
 /// Why a job that was fed isn't in the spool.
@@ -62,7 +68,7 @@ fn waits_for_room(fed: Fed) -> bool {
 
 /// The seat of whoever feeds, with the hand that has the file which is being fed, and what is told of its job.
 type Feeder<'h, 'a, R, E> = Noting<
-    Keeping<HouseSeated<'h, R, E>, FedFolder<'h, R>>,
+    Keeping<Through<HouseSeated<'h, R, E>>, FedFolder<'h, R>>,
     SessionNotes<'h, 'a, R>,
 >;
 
@@ -74,39 +80,62 @@ pub struct Feeding<'h, 'a, R, E: HouseLedger> {
 }
 
 impl<R: Files<File = File> + Clock + Log + Wait, E: HouseLedger> Feeding<'_, '_, R, E> {
-    /// Whether the spool has room for a job of this owner whose file has N octets: free pages for all of them, a row of the table,
-    /// and its reserve in the account, beside one entry for the close; or has no job at all.
-    fn has_room(&self, owner: &Owner, octets: u64) -> bool {
-        let config = &self.hall.oversight.config;
-        let vacancy = self.spool.vacancy(self.hall.rt);
-        let free = (vacancy.pages as u64).saturating_mul(u64::from(config.page_size()));
-        let reserve = config
-            .queue_named(owner.queue.as_slice())
-            .map_or(0, |queue| config.reserve_of(queue));
-        let has_row = 0 < vacancy.rows;
-        vacancy.held == 0 || (octets <= free && has_row && reserve < vacancy.entries)
+    /// What is free for each queue, by their places: of its part, and of the spool; nothing where it is held or all its printers stand.
+    /// AllocError where memory is refused.
+    ///
+    /// Where the spool has no job at all each queue has room, whatever it asks for: what doesn't fit then never will.
+    fn free_parts(&self, kept: &JobFolder<'_, R>) -> Result<Vec<FreePart>, AllocError> {
+        let (rt, config) = (self.hall.rt, &self.hall.oversight.config);
+        let vacancy = self.spool.vacancy(rt);
+        let mut free = Vec::new(self.hall.alloc);
+        for place in 0..config.queues().len() {
+            let queue = (place as u32).saturating_add(1);
+            let stands = kept.is_held(rt, place) || is_stopped(rt, config, self.spool, queue);
+            free.push(if stands {
+                FreePart::NOTHING
+            } else if vacancy.held == 0 {
+                FreePart {
+                    rows: 1,
+                    pages: u32::MAX,
+                }
+            } else {
+                self.free_of(kept, &vacancy, queue, place)
+            })?;
+        }
+        Ok(free)
     }
 
-    /// Feeds the job that waits first. False where it is to wait on.
-    fn feed_first(
+    /// What is free for the queue of this number at this place.
+    fn free_of(
+        &self,
+        kept: &JobFolder<'_, R>,
+        vacancy: &Vacancy,
+        queue: u32,
+        place: usize,
+    ) -> FreePart {
+        let config = &self.hall.oversight.config;
+        if config.reserve_of(queue) >= vacancy.entries {
+            return FreePart::NOTHING;
+        }
+        let lines = kept.disk.lines();
+        let used = lines.used(place, config.limit_of(queue));
+        let part = part_of(config, queue, lines.busy()).free(&used);
+        FreePart {
+            rows: part.rows.min(vacancy.rows as u64),
+            pages: part.pages.min(vacancy.pages as u32),
+        }
+    }
+
+    /// Feeds a job that was taken from its line. False where it waits again.
+    fn feed(
         &self,
         kept: &JobFolder<'_, R>,
         feeder: &mut Feeder<'_, '_, R, E>,
-        number: u64,
+        place: usize,
+        job: ParkedJob,
     ) -> bool {
-        let (rt, alloc) = (self.hall.rt, self.hall.alloc);
-        let Some(owner) = kept.owner(rt, alloc, number) else {
-            kept.pass_over(rt, number);
-            return true;
-        };
+        let (rt, alloc, number) = (self.hall.rt, self.hall.alloc, job.number);
         let mut store = StoredJobs::new(&kept.disk);
-        let octets = store.length_of(number);
-        if !self.has_room(&owner, octets) {
-            return false;
-        }
-        if !kept.take_first(rt, number) {
-            return true;
-        }
         feeder.inner.hand.folder.take(number);
         let fed = feed_one(rt, alloc, &mut store, feeder, number);
         let hand = &mut feeder.inner.hand;
@@ -115,43 +144,99 @@ impl<R: Files<File = File> + Clock + Log + Wait, E: HouseLedger> Feeding<'_, '_,
         if let Some(fault) = hand.folder.take_fault() {
             warn!(rt; target: PART, "{fault}: the job is printed again after the next start");
         }
-        if !is_passed && (waits_for_room(fed) || self.hall.ending.is_over()) {
-            kept.put_back(rt);
+        if is_passed {
+            kept.disk.lines().enter(place, number);
+            return true;
+        }
+        if waits_for_room(fed) || self.hall.ending.is_over() {
+            kept.disk.lines().put_back(place, number);
             return false;
         }
-        kept.leave(rt, &owner);
-        if !is_passed {
-            let why = Unfed(fed);
-            warn!(rt; target: PART, "the job in file {number}.job isn't printed, and stays where it is: {why}");
-        }
+        kept.disk.lines().leave(place, number);
+        let why = Unfed(fed);
+        warn!(rt; target: PART, "the job in file {number}.job isn't printed, and stays where it is: {why}");
         true
     }
 
-    /// Has the spool take the jobs that its folder has kept, in the order of their files, as there is room, until the server stops.
-    /// Answers the seat; at once where no jobs are kept.
+    /// Takes the job that is fed next from its line, the queues in turn from this place on. None where none has room, or memory is
+    /// refused.
+    fn next(&self, kept: &JobFolder<'_, R>, turn: usize) -> Option<(usize, ParkedJob)> {
+        if kept.disk.waiting() == 0 {
+            return None;
+        }
+        let free = self.free_parts(kept).ok()?;
+        kept.disk.lines().take_next(turn, free.as_slice())
+    }
+
+    /// Reads whose the jobs are that the start found.
+    fn read_found(&self, kept: &JobFolder<'_, R>) {
+        let (rt, alloc) = (self.hall.rt, self.hall.alloc);
+        for _ in 0..u64::MAX {
+            if self.hall.ending.is_over() || !kept.read_one(rt, alloc, &self.hall.oversight.config)
+            {
+                break;
+            }
+        }
+    }
+
+    /// Has the spool take the jobs that wait in its folder, as there is room, until the server stops. Answers the seat; at once where no
+    /// jobs are kept.
     pub fn feed_all(&self, seat: HouseSeat<E>) -> HouseSeat<E> {
         let Some(kept) = &self.hall.kept else {
             return seat;
         };
-        let seated = Seated::new(self.hall.rt, self.spool, seat);
+        let seated = Through {
+            inner: Seated::at_once(self.hall.rt, self.spool, seat),
+        };
         let keeping = Keeping::new(self.hall.alloc, seated, FedFolder::new(&kept.disk));
         let mut feeder = Noting::new(keeping, SessionNotes::new(self.hall));
+        self.read_found(kept);
+        let mut turn = 0;
         for _ in self.hall.rt.forever() {
             if self.hall.ending.stops() || self.hall.ending.is_over() {
                 break;
             }
-            let has_fed = match kept.first(self.hall.rt) {
-                Some(number) => self.feed_first(kept, &mut feeder, number),
+            let has_fed = match self.next(kept, turn) {
+                Some((place, job)) => {
+                    turn = place.saturating_add(1);
+                    self.feed(kept, &mut feeder, place, job)
+                }
                 None => false,
             };
             if !has_fed {
-                kept.settle(self.hall.rt);
-                thread::sleep(self.hall.rt, Duration::from_millis(LOOK_MS));
+                kept.await_ring(self.hall.rt, LOOK_MS);
             }
         }
-        kept.settle(self.hall.rt);
         let Noting { inner, .. } = feeder;
         let Keeping { inner, .. } = inner;
+        let Through { inner } = inner;
         inner.into_seat()
+    }
+
+    /// Whether a job waits in the folder that isn't read yet, or whose queue isn't held and has a printer that doesn't stand.
+    fn has_more(&self, kept: &JobFolder<'_, R>) -> bool {
+        let (rt, config) = (self.hall.rt, &self.hall.oversight.config);
+        if !kept.is_read(rt) {
+            return true;
+        }
+        (0..config.queues().len()).any(|place| {
+            let queue = (place as u32).saturating_add(1);
+            kept.disk.lines().parked(place) > 0
+                && !kept.is_held(rt, place)
+                && !is_stopped(rt, config, self.spool, queue)
+        })
+    }
+
+    /// Waits until no job waits in the folder that may be fed, or the server stops: at its end, once nobody sends jobs any more.
+    pub fn await_fed(&self) {
+        let Some(kept) = &self.hall.kept else {
+            return;
+        };
+        for _ in self.hall.rt.forever() {
+            if self.hall.ending.stops() || !self.has_more(kept) {
+                break;
+            }
+            thread::sleep(self.hall.rt, Duration::from_millis(LOOK_MS));
+        }
     }
 }

@@ -4,6 +4,7 @@
 
 mod answering;
 mod feeding;
+mod job_doors;
 mod listening;
 mod served;
 mod session_notes;

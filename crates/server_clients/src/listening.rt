@@ -32,7 +32,6 @@ const PAUSE_MS: u64 = 100;
 
 /// The longest time for which one wait for the jobs that were kept lasts, in milliseconds. Between two of them the server's end is looked
 /// at.
-const FEED_MS: u64 = 100;
 
 /// The time between two looks at whether jobs that wait are let in, in milliseconds.
 const LOOK_MS: u64 = 10;
@@ -173,19 +172,6 @@ impl<'h, 'a, R: Clock + Log + Wait, E: HouseLedger> Porter<'h, 'a, R, E> {
         }
     }
 
-    /// Waits until each job that was kept, and has room now, is in the spool: they come before all that is to come.
-    fn wait_until_fed(&self) {
-        let hall = self.hall;
-        let Some(kept) = &hall.kept else {
-            return;
-        };
-        for _ in hall.rt.forever() {
-            if kept.is_settled(hall.rt, FEED_MS) || hall.ending.stops() {
-                break;
-            }
-        }
-    }
-
     /// Hands a connection on.
     fn hand_on(&mut self, visit: Visit) {
         let (hall, rt) = (self.hall, self.hall.rt);
@@ -211,7 +197,6 @@ impl<'h, 'a, R: Clock + Log + Wait, E: HouseLedger> Porter<'h, 'a, R, E> {
         if !started {
             return told;
         }
-        self.wait_until_fed();
         'rounds: for _ in rt.forever() {
             self.look_whether_it_stops();
             let lets_jobs_in = self.lets_jobs_in();

@@ -4,6 +4,8 @@ use job_disk::DiskFolder;
 use kept_requests::{Cause, Keeping};
 use log::{Log, warn};
 use noted_requests::Noting;
+use parked_requests::{JobWays, Parking, Parks};
+use request_session::Requests;
 use server_house::{HandedOf, HouseLedger, KindsOf};
 use session::Seated;
 use std::fs::{File, Files};
@@ -43,13 +45,25 @@ impl<Q: Served, N> Served for Noting<Q, N> {
     }
 }
 
-impl<Q: Served, R: Files<File = File> + Wait> Served for Keeping<Q, DiskFolder<'_, R>> {
+impl<Q: Served + Requests, W: JobWays> Served for Parking<Q, W> {
+    fn take_removed(&mut self) -> Option<Vec<u64>> {
+        self.inner.take_removed()
+    }
+
+    fn let_go<L: Log>(&mut self, rt: &L, peer: SocketAddr) {
+        Parking::let_go(self);
+        self.inner.let_go(rt, peer);
+    }
+}
+
+impl<Q: Served + Parks, R: Files<File = File> + Wait> Served for Keeping<Q, DiskFolder<'_, R>> {
     fn take_removed(&mut self) -> Option<Vec<u64>> {
         self.inner.take_removed()
     }
 
     fn let_go<L: Log>(&mut self, rt: &L, peer: SocketAddr) {
         self.hand.let_go();
+        self.inner.let_go(rt, peer);
         match (self.given_up.take(), self.hand.folder.take_fault()) {
             (None | Some(Cause::Refused), None) => {}
             (Some(Cause::Unfit), None) => {

@@ -1,9 +1,10 @@
-//! What a session's jobs are told to.
+//! What a session's jobs are told to. A job that goes beside the spool has no number of acceptance, and isn't noted before it is fed.
 
 use control_file::Control;
 use log::Log;
 use lpd_values::FileName;
 use noted_requests::JobNotes;
+use parked_requests::BESIDE;
 use server_house::Hall;
 use server_notes::JobBook;
 use std::fs::{File, Files};
@@ -27,42 +28,53 @@ impl<'h, 'a, R> SessionNotes<'h, 'a, R> {
             book: &hall.job_book,
         }
     }
+
+    /// The book, where there is one and this job goes through the spool.
+    fn book_for(&self, job: u64) -> Option<&JobBook> {
+        if job == BESIDE {
+            return None;
+        }
+        self.book.as_ref()
+    }
 }
 
 impl<R: Files<File = File> + Clock + Log + Wait> JobNotes for SessionNotes<'_, '_, R> {
     fn opened(&mut self, job: u64, _sender: u32, queue: &[u8]) {
-        if let Some(book) = &self.book {
+        if let Some(book) = self.book_for(job) {
             book.begin(self.rt, job, queue);
         }
     }
 
     fn file_began(&mut self, job: u64, name: &FileName) {
-        if let Some(book) = &self.book {
+        if let Some(book) = self.book_for(job) {
             book.note_number(self.rt, job, name.number());
         }
     }
 
     fn page_came(&mut self, job: u64, octets: usize) {
-        if let Some(book) = &self.book {
+        if let Some(book) = self.book_for(job) {
             book.note_page(self.rt, job, octets);
         }
     }
 
     fn controlled(&mut self, job: u64, control: &Control) {
-        if let Some(book) = &self.book {
+        if let Some(book) = self.book_for(job) {
             book.note_control(self.rt, job, control);
         }
     }
 
     fn received(&mut self, job: u64) {
+        if job == BESIDE {
+            return;
+        }
         self.hall.note_file(job);
-        if let Some(book) = &self.book {
+        if let Some(book) = self.book_for(job) {
             book.receive(self.rt, job);
         }
     }
 
     fn given_up(&mut self, job: u64) {
-        if let Some(book) = &self.book {
+        if let Some(book) = self.book_for(job) {
             book.let_go(self.rt, job);
         }
     }

@@ -5,61 +5,52 @@ ghost use Rattle.program_edge.specs.Openings.{IsUnopened};
 ghost use Rattle.program_edge.specs.declared.opening.StartPart.{StartPart};
 ghost use Rattle.program_edge.specs.declared.opening.StartPart.TheVariants.{Spool};
 
-use crate::owner::{FiledJob, Owner, filed_job, owner_of};
+use crate::owner::{FiledJob, filed_job};
 use crate::refusal::refused;
+use crate::scanned::SeekingReader;
 use crate::stored::StoredJobs;
 use config_values::Config;
-use job_disk::{Disk, DiskFault, DiskStore};
+use job_disk::{AdmissionFault, Disk, DiskFault, DiskStore, FileRemoval};
 use job_files::JobEnd;
-use job_store::{Store, recover};
+use job_store::recover;
 use log::{Log, warn};
-use program_edge::{StartFault, StartPart, StreamReader};
+use program_edge::{StartFault, StartPart};
 use status_lines::KeptJobs;
-use std::alloc::{AllocError, Global};
+use std::alloc::Global;
 use std::collections::VecDeque;
 use std::fs::{File, Files};
 use std::rt::Clock;
 use std::sync::{Condvar, Mutex, Wait};
 use std::time::Duration;
 
-/// The jobs of the folder that wait for the spool to take them.
+/// What is known of a folder beside its files.
 ///
 /// ```text
-///   entered ---> waits ---> first ------------> is fed ------> left
-///                  |          |  ^                |
-///                  |          |  +--- no room ----+
-///                  +----------+---> let go
+///   a start ---> reading ---> read: jobs may go through the spool
 /// ```
 #[derive(Drop)]
-struct KeptLine {
-    /// The numbers of their files, in order.
-    numbers: VecDeque<u64>,
-    /// The first of them is being fed.
-    is_feeding: bool,
-    /// Each that had room at the start was fed.
-    is_settled: bool,
-}
-
-/// What came of a file whose job was to go.
-#[derive(Clone, Copy, Debug, PartialEq, Eq)]
-pub enum FileRemoval {
-    /// It waited to be fed, or had failed, and is removed.
-    Gone,
-    /// It is being fed to the spool.
-    IsFed,
+struct FolderState {
+    /// The numbers of the files that a start found and that weren't read yet, in order.
+    found: VecDeque<u64>,
+    /// Which queues are held, by their places.
+    held: Vec<bool>,
+    /// Something changed by which a job may have to be fed.
+    is_rung: bool,
 }
 
 /// The folder in which jobs are kept.
 #[derive(Drop)]
 pub struct JobFolder<'a, R> {
     pub disk: Disk<'a, R>,
-    line: Mutex<KeptLine>,
-    settled: Condvar,
+    /// How many octets a page has.
+    pub(crate) page_size: u32,
+    state: Mutex<FolderState>,
+    bell: Condvar,
 }
 
 impl<'a, R: Files<File = File> + Log + Wait> JobFolder<'a, R> {
-    /// Opens the folder at a path, which is made where nothing is there. What was coming when the server before ended is removed, and
-    /// the whole jobs wait to be fed, by the numbers of their files.
+    /// Opens the folder at a path, which is made where nothing is there. What was coming when the server before ended is removed. Whose
+    /// the whole jobs are isn't read yet: until it is, each new job waits behind them.
     ///
     /// Opening where it can't be used, or another server has it, of which the log is told why too; Memory.
     pub fn open(
@@ -70,7 +61,8 @@ impl<'a, R: Files<File = File> + Log + Wait> JobFolder<'a, R> {
     ) -> Result<JobFolder<'a, R>, StartFault>
         ensures { IfErr result (IsUnopened (λ (part : StartPart). part ≡ Spool)) }
     {
-        let disk = match Disk::open(rt, alloc, path, config.max_jobs() as usize) {
+        let queues = config.queues().len();
+        let disk = match Disk::open(rt, alloc, path, config.max_jobs() as usize, queues) {
             Ok(disk) => disk,
             Err(error) => return Err(refused(rt, alloc, StartPart::Spool, path, &error)),
         };
@@ -81,81 +73,24 @@ impl<'a, R: Files<File = File> + Log + Wait> JobFolder<'a, R> {
                 return Err(refused(rt, alloc, StartPart::Spool, path, &why));
             }
         };
-        let line = KeptLine {
-            numbers: VecDeque::new(alloc),
-            is_feeding: false,
-            is_settled: false,
-        };
-        let kept = JobFolder {
-            disk,
-            line: Mutex::new(line),
-            settled: Condvar::new(),
-        };
+        let mut found = VecDeque::new(alloc);
         for number in numbers {
-            kept.enter(rt, alloc, number)?;
+            found.push_back(number)?;
         }
-        Ok(kept)
-    }
-
-    /// Whose the job in this file is. None where the file doesn't say it, of which the log is told.
-    pub fn owner(&self, rt: &R, alloc: Global, number: u64) -> Option<Owner> {
-        let mut store = StoredJobs::new(&self.disk);
-        let Ok(Some(mut job)) = store.open(number) else {
-            warn!(rt; "the job in file {number}.job isn't printed: it can't be opened");
-            return None;
-        };
-        match owner_of(alloc, &mut job) {
-            Ok(owner) => Some(owner),
-            Err(why) => {
-                warn!(rt; "the job in file {number}.job isn't printed: {why}");
-                None
-            }
+        let mut held = Vec::with_capacity(alloc, queues)?;
+        for _ in 0..queues {
+            held.push(false)?;
         }
-    }
-
-    /// The job in this file waits to be fed, behind all others. False where the file isn't that of a job, of which the log is told.
-    pub fn enter(&self, rt: &R, alloc: Global, number: u64) -> Result<bool, AllocError> {
-        let Some(owner) = self.owner(rt, alloc, number) else {
-            return Ok(false);
-        };
-        self.disk.wait_for(owner.sender, owner.queue.as_slice())?;
-        self.line.lock(rt).numbers.push_back(number)?;
-        Ok(true)
-    }
-
-    /// The file of the job that waits to be fed first.
-    pub fn first(&self, rt: &R) -> Option<u64> {
-        self.line.lock(rt).numbers.front().copied()
-    }
-
-    /// The job in this file isn't to be fed, where it waits first, and nothing is known of whose it is.
-    pub fn pass_over(&self, rt: &R, number: u64) {
-        let mut line = self.line.lock(rt);
-        if line.numbers.front() == Some(&number) {
-            line.numbers.pop_front();
-        }
-    }
-
-    /// The job in this file is being fed from now on, where it still waits first. False where it doesn't: it was let go.
-    pub fn take_first(&self, rt: &R, number: u64) -> bool {
-        let mut line = self.line.lock(rt);
-        line.is_feeding = line.numbers.front() == Some(&number);
-        line.is_feeding
-    }
-
-    /// The job that was being fed waits on, since there was no room for it.
-    pub fn put_back(&self, rt: &R) {
-        self.line.lock(rt).is_feeding = false;
-    }
-
-    /// The job that was being fed isn't to be fed any more: its owner's new jobs don't wait for it.
-    pub fn leave(&self, rt: &R, owner: &Owner) {
-        {
-            let mut line = self.line.lock(rt);
-            line.numbers.pop_front();
-            line.is_feeding = false;
-        }
-        self.disk.fed(owner.sender, owner.queue.as_slice());
+        Ok(JobFolder {
+            disk,
+            page_size: config.page_size(),
+            state: Mutex::new(FolderState {
+                found,
+                held,
+                is_rung: false,
+            }),
+            bell: Condvar::new(),
+        })
     }
 
     /// The job in this file, of one that is whole or has failed, as the file says whose it is.
@@ -168,7 +103,7 @@ impl<'a, R: Files<File = File> + Log + Wait> JobFolder<'a, R> {
         number: u64,
     ) -> Result<Option<FiledJob>, DiskFault<'_>> {
         let file = DiskStore::new(&self.disk).open_kept(number)?;
-        match filed_job(alloc, &mut StreamReader::new(file)) {
+        match filed_job(alloc, &mut SeekingReader::new(file), self.page_size) {
             Ok(job) => Ok(Some(job)),
             Err(why) => {
                 warn!(rt; "it isn't known whose the job in file {number} is: {why}");
@@ -177,40 +112,94 @@ impl<'a, R: Files<File = File> + Log + Wait> JobFolder<'a, R> {
         }
     }
 
+    /// The job in this file, which is whole, waits to be fed, by its number. False where the file isn't that of a job for one of this
+    /// server's queues, of which the log is told.
+    ///
+    /// Memory where that is refused; Known where the job stands in a line already.
+    pub fn enter(
+        &self,
+        rt: &R,
+        alloc: Global,
+        config: &Config,
+        number: u64,
+    ) -> Result<bool, AdmissionFault> {
+        let job = match self.filed(rt, alloc, number) {
+            Ok(Some(job)) => job,
+            Ok(None) => return Ok(false),
+            Err(fault) => {
+                warn!(rt; "{fault}: the job isn't printed");
+                return Ok(false);
+            }
+        };
+        let queue = config.queue_named(job.owner.queue.as_slice());
+        let Some(place) = queue.and_then(|queue| queue.checked_sub(1)) else {
+            warn!(rt; "the job in file {number}.job isn't printed, and stays where it is: no queue has the name that it was sent to");
+            return Ok(false);
+        };
+        let entered = self
+            .disk
+            .lines()
+            .add_found(place as usize, number, job.owner.sender, job.size);
+        entered?;
+        self.ring(rt);
+        Ok(true)
+    }
+
+    /// Reads whose one more of the jobs is that the start found. False once all were.
+    pub fn read_one(&self, rt: &R, alloc: Global, config: &Config) -> bool {
+        let first = self.state.lock(rt).found.front().copied();
+        let Some(number) = first else {
+            return false;
+        };
+        if self.enter(rt, alloc, config, number).is_err() {
+            warn!(rt; "the job in file {number}.job is printed after the next start: memory was refused");
+        }
+        // Only now, so that no job goes through the spool before it is known which ones wait.
+        self.state.lock(rt).found.pop_front();
+        true
+    }
+
+    /// Whether all jobs that the start found were read.
+    pub fn is_read(&self, rt: &R) -> bool {
+        self.state.lock(rt).found.is_empty()
+    }
+
+    /// Whether the queue at this place is held.
+    pub fn is_held(&self, rt: &R, place: usize) -> bool {
+        let state = self.state.lock(rt);
+        state.held.get(place).copied().unwrap_or(false)
+    }
+
+    /// The queue at this place is held from now on, or isn't any more.
+    pub fn set_held(&self, rt: &R, place: usize, is_held: bool) {
+        let mut state = self.state.lock(rt);
+        if let Some(held) = state.held.get_mut(place) {
+            *held = is_held;
+        }
+        drop(state);
+        self.ring(rt);
+    }
+
     /// Has the job in this file go, which waits to be fed or has failed: its file is removed, and nobody waits for it any more.
     ///
     /// An error where it doesn't wait and no file of it has failed, or the file can't be removed. Nothing changes then.
-    pub fn let_go(&self, rt: &R, number: u64, owner: &Owner) -> Result<FileRemoval, DiskFault<'a>> {
-        let mut line = self.line.lock(rt);
-        if line.is_feeding && line.numbers.front() == Some(&number) {
-            return Ok(FileRemoval::IsFed);
-        }
-        let Some(place) = line.numbers.iter().position(|waiting| *waiting == number) else {
-            self.disk.drop_failed(number)?;
-            return Ok(FileRemoval::Gone);
-        };
-        self.disk.drop_whole(number)?;
-        line.numbers.remove(place);
-        drop(line);
-        self.disk.fed(owner.sender, owner.queue.as_slice());
-        Ok(FileRemoval::Gone)
-    }
-
-    /// Each job that had room at the start has been fed.
-    pub fn settle(&self, rt: &R) {
-        let mut line = self.line.lock(rt);
-        if !line.is_settled {
-            line.is_settled = true;
-            self.settled.notify_all();
-        }
+    pub fn let_go(&self, number: u64) -> Result<FileRemoval, DiskFault<'a>> {
+        self.disk.drop_kept(number)
     }
 
     /// How many jobs wait in the folder to be fed, and how many in it have failed.
-    pub fn counts(&self) -> KeptJobs {
+    pub fn counts(&self, rt: &R) -> KeptJobs {
+        let unread = self.state.lock(rt).found.len();
         KeptJobs {
-            waiting: self.disk.waiting() as u64,
+            waiting: self.disk.waiting().saturating_add(unread) as u64,
             failed: self.disk.failed() as u64,
         }
+    }
+
+    /// How many whole jobs are in the folder, also those that the spool has: what a server leaves to the next one.
+    pub fn left(&self, rt: &R) -> u64 {
+        let unread = self.state.lock(rt).found.len();
+        self.disk.left().saturating_add(unread) as u64
     }
 
     /// Has the file of a job that has ended taken away, or renamed. The log is told where that fails.
@@ -218,17 +207,24 @@ impl<'a, R: Files<File = File> + Log + Wait> JobFolder<'a, R> {
         if let Err(fault) = self.disk.end(job, end) {
             warn!(rt; "{fault}: the job is printed again after the next start");
         }
+        self.ring(rt);
+    }
+
+    /// Wakes who feeds: something changed by which a job may have to be fed.
+    pub fn ring(&self, rt: &R) {
+        self.state.lock(rt).is_rung = true;
+        self.bell.notify_all();
     }
 }
 
 impl<R: Clock + Wait> JobFolder<'_, R> {
-    /// Whether each job that had room at the start has been fed. Waits for that for N milliseconds at most.
-    pub fn is_settled(&self, rt: &R, limit_ms: u64) -> bool {
+    /// Waits until it is rung, for N milliseconds at most.
+    pub fn await_ring(&self, rt: &R, limit_ms: u64) {
         let limit = Duration::from_millis(limit_ms);
-        let line = self.line.lock(rt);
-        let (line, _) = self
-            .settled
-            .wait_timeout_while(rt, line, limit, |line| !line.is_settled);
-        line.is_settled
+        let state = self.state.lock(rt);
+        let (mut state, _) = self
+            .bell
+            .wait_timeout_while(rt, state, limit, |state| !state.is_rung);
+        state.is_rung = false;
     }
 }

@@ -6,11 +6,15 @@ mod archive;
 mod kept;
 mod owner;
 mod refusal;
+mod scanned;
 mod stored;
+mod told;
 mod told_places;
+mod waiting;
 
 pub use archive::{ACCOUNT_LINES, Archive, LAST_TRIES, open_archive};
-pub use kept::{FileRemoval, JobFolder};
+pub use job_disk::{AdmissionFault, FileRemoval, HeldLines};
+pub use kept::JobFolder;
 pub use owner::{FiledJob, Owner};
 pub use refusal::FOLDER_CAUSES;
 pub use stored::{FedFolder, StoredJobs};

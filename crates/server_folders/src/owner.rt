@@ -1,11 +1,14 @@
-//! Whose a kept job is: what stands at the head of its file, and its control file.
+//! Whose a kept job is, and how long: what stands at the head of its file, its lines, and its control file.
 
+use crate::scanned::ScannedFile;
+use crate::told::FiledFile;
 use control_file::Control;
+use job_disk::JobSize;
 use job_heads::HeadFault;
 use job_store::read_sender;
 use lpd_commands::{Command, OctetFault, OctetRead, Sub, parse_command, parse_sub};
 use lpd_values::{MAX_CONTROL_TEXT, MAX_FILES, MAX_LINE, Octets, Refusal};
-use std::alloc::Global;
+use std::alloc::{AllocFailed, Global};
 use std::fmt;
 
 /// Who sent a kept job, and to which queue.
@@ -24,10 +27,11 @@ pub struct FiledJob {
     pub owner: Owner,
     /// Its control file.
     pub control: Control,
+    /// Its data files, in order.
+    pub files: Vec<FiledFile>,
+    /// How long these are.
+    pub size: JobSize,
 }
-
-/// How many octets are read at once of what is passed over.
-const BLOCK: usize = 8_192;
 
 /// Why a file doesn't say whose its job is.
 #[derive(Clone, Copy, Debug, PartialEq, Eq)]
@@ -50,6 +54,12 @@ impl fmt::Display for OwnerFault {
             OwnerFault::Unread => "the file can't be read",
             OwnerFault::Memory => "memory was refused",
         })
+    }
+}
+
+impl From<AllocFailed<FiledFile>> for OwnerFault {
+    fn from(_: AllocFailed<FiledFile>) -> OwnerFault {
+        OwnerFault::Memory
     }
 }
 
@@ -77,7 +87,7 @@ impl From<HeadFault> for OwnerFault {
     }
 }
 
-/// The first line behind the head, without its end. None where no line ends within `MAX_LINE` octets.
+/// The next line, without its end. None where no line ends within `MAX_LINE` octets.
 fn line_of<I: OctetRead>(alloc: Global, job: &mut I) -> Result<Option<Vec<u8>>, OwnerFault> {
     let mut line = Vec::new(alloc);
     for _ in 0..=MAX_LINE {
@@ -95,8 +105,8 @@ fn line_of<I: OctetRead>(alloc: Global, job: &mut I) -> Result<Option<Vec<u8>>, 
     Ok(None)
 }
 
-/// Whose the job is that stands here, of which only its head and its first line are read.
-pub(crate) fn owner_of<I: OctetRead>(alloc: Global, job: &mut I) -> Result<Owner, OwnerFault> {
+/// Whose the job is that stands here: its head and its first line.
+fn owner_of<I: OctetRead>(alloc: Global, job: &mut I) -> Result<Owner, OwnerFault> {
     let sender = read_sender(job)??;
     let line = line_of(alloc, job)?.ok_or(OwnerFault::NoJob)?;
     match parse_command(alloc, line.as_slice()) {
@@ -105,25 +115,7 @@ pub(crate) fn owner_of<I: OctetRead>(alloc: Global, job: &mut I) -> Result<Owner
     }
 }
 
-/// Passes over N octets.
-fn pass_over<I: OctetRead>(job: &mut I, count: u64) -> Result<(), OwnerFault> {
-    let mut block = [0; BLOCK];
-    let mut left = count;
-    for _ in 0..count {
-        if left == 0 {
-            break;
-        }
-        let wanted = left.min(BLOCK as u64) as usize;
-        let read = job.read(&mut block[..wanted])?;
-        if read == 0 {
-            return Err(OwnerFault::NoJob);
-        }
-        left = left.saturating_sub(read as u64);
-    }
-    Ok(())
-}
-
-/// The text of a control file of N octets.
+/// The text of a control file of N octets, and the octet 00 behind it.
 fn text_of<I: OctetRead>(alloc: Global, job: &mut I, count: u64) -> Result<Vec<u8>, OwnerFault> {
     if count > MAX_CONTROL_TEXT as u64 {
         return Err(OwnerFault::NoJob);
@@ -138,29 +130,74 @@ fn text_of<I: OctetRead>(alloc: Global, job: &mut I, count: u64) -> Result<Vec<u
             return Err(OwnerFault::Memory);
         }
     }
+    if job.read(&mut [0])? == 0 {
+        return Err(OwnerFault::NoJob);
+    }
     Ok(text)
 }
 
-/// The control file of a job whose files stand here, which are read up to it.
-fn control_of<I: OctetRead>(alloc: Global, job: &mut I) -> Result<Control, OwnerFault> {
-    for _ in 0..=MAX_FILES {
-        let line = line_of(alloc, job)?.ok_or(OwnerFault::NoJob)?;
-        match parse_sub(line.as_slice())? {
-            Sub::ControlFile { count, name } => {
-                let text = text_of(alloc, job, count)?;
-                return Ok(Control::parse(alloc, &name, text.as_slice())?);
-            }
-            // An octet 00 ends it.
-            Sub::DataFile { count, .. } => pass_over(job, count.saturating_add(1))?,
-            Sub::Abort => return Err(OwnerFault::NoJob),
-        }
-    }
-    Err(OwnerFault::NoJob)
+/// What is known of a job while its files are read.
+#[derive(Drop)]
+struct FilesSoFar {
+    control: Option<Control>,
+    files: Vec<FiledFile>,
+    size: JobSize,
 }
 
-/// The job that stands here, of which the files before its control file are passed over.
-pub(crate) fn filed_job<I: OctetRead>(alloc: Global, job: &mut I) -> Result<FiledJob, OwnerFault> {
+impl FilesSoFar {
+    /// Takes what one line more says, with the file behind it, of which only a control file's octets are read.
+    fn take<F: ScannedFile>(
+        &mut self,
+        alloc: Global,
+        job: &mut F,
+        page_size: u32,
+        line: &[u8],
+    ) -> Result<(), OwnerFault> {
+        match parse_sub(line)? {
+            Sub::ControlFile { count, name } => {
+                let text = text_of(alloc, job, count)?;
+                self.control = Some(Control::parse(alloc, &name, text.as_slice())?);
+            }
+            Sub::DataFile { count, name } => {
+                // An octet 00 ends it.
+                job.skip(count.saturating_add(1))?;
+                self.files.push(FiledFile { name, count })?;
+                self.size = self.size.with_file(count, page_size.max(1));
+            }
+            Sub::Abort => return Err(OwnerFault::NoJob),
+        }
+        Ok(())
+    }
+}
+
+/// The job that stands here, whose pages have this many octets, of which the data is passed over.
+pub(crate) fn filed_job<F: ScannedFile>(
+    alloc: Global,
+    job: &mut F,
+    page_size: u32,
+) -> Result<FiledJob, OwnerFault> {
     let owner = owner_of(alloc, job)?;
-    let control = control_of(alloc, job)?;
-    Ok(FiledJob { owner, control })
+    let mut files = FilesSoFar {
+        control: None,
+        files: Vec::new(alloc),
+        size: JobSize::NOTHING,
+    };
+    for _ in 0..=MAX_FILES {
+        let Some(line) = line_of(alloc, job)? else {
+            break;
+        };
+        files.take(alloc, job, page_size, line.as_slice())?;
+    }
+    let FilesSoFar {
+        control,
+        files,
+        size,
+    } = files;
+    let control = control.ok_or(OwnerFault::NoJob)?;
+    Ok(FiledJob {
+        owner,
+        control,
+        files,
+        size,
+    })
 }

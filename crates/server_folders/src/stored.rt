@@ -36,14 +36,6 @@ impl<'a, R: Files<File = File> + Wait> StoredJobs<'a, R> {
         self.fault.take()
     }
 
-    /// How many octets a whole file has; none where that can't be told.
-    pub fn length_of(&self, number: u64) -> u64 {
-        let Ok(file) = self.store.open_job(number) else {
-            return 0;
-        };
-        file.metadata().map_or(0, |metadata| metadata.len())
-    }
-
     /// Fails where the call did, and keeps why.
     fn checked<T: Drop>(&mut self, answer: Result<T, DiskFault<'a>>) -> Result<T, KeepError>
         ensures { HasCause self.old.faults self.new.faults result }
@@ -162,10 +154,6 @@ impl<R: Files<File = File> + Wait> Folder for FedFolder<'_, R> {
     ghost may_lack = { λ _ octets. ⊥ };
 
     ghost faults = { λ _. 0 };
-
-    fn has_earlier(&self, _sender: u32, _queue: &[u8]) -> bool {
-        false
-    }
 
     fn create(&mut self) -> Result<(), KeepError> {
         Ok(())

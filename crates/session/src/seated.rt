@@ -18,6 +18,8 @@ pub struct Seated<'a, R, E: SpoolLedger, K: Ledger, H: Ledger> {
     rt: &'a R,
     spool: &'a SharedSpool<E, K, H>,
     seat: SessionSeat<E, K, H>,
+    /// Whether it waits for a page that can't be lent now.
+    waits: bool,
     /// The numbers of the jobs that its last removal took, until they are asked for.
     removed: Option<Vec<u64>>,
 }
@@ -43,6 +45,24 @@ impl<'a, R, E: SpoolLedger, K: Ledger, H: Ledger> Seated<'a, R, E, K, H> {
             rt,
             spool,
             seat,
+            waits: true,
+            removed: None,
+        }
+    }
+
+    /// A seat at this spool that waits for no page: where none can be lent now, that is refused by TableFull.
+    pub fn at_once(
+        rt: &'a R,
+        spool: &'a SharedSpool<E, K, H>,
+        seat: SessionSeat<E, K, H>,
+    ) -> Seated<'a, R, E, K, H>
+        ensures { result ≡ seat }
+    {
+        Seated {
+            rt,
+            spool,
+            seat,
+            waits: false,
             removed: None,
         }
     }
@@ -85,7 +105,13 @@ impl<R: Wait, E: SpoolLedger, K: Ledger, H: Ledger> Requests for Seated<'_, R, E
     }
 
     fn ask(&mut self, job: u64) -> Result<Asked, Refusal> {
-        self.spool.ask_wait(self.rt, &mut self.seat, job)
+        if self.waits {
+            return self.spool.ask_wait(self.rt, &mut self.seat, job);
+        }
+        match self.spool.ask(self.rt, &mut self.seat, job) {
+            Ok(Asked::Later) => Err(Refusal::TableFull),
+            answer => answer,
+        }
     }
 
     fn put(&mut self, job: u64, page: FilledPage) -> Result<(), ReturnedPage> {

@@ -43,7 +43,7 @@ fn chip(page: &mut HtmlPage, kind: &str, text: &str) {
 /// The class of what needs somebody.
 fn concern_kind(concern: Concern) -> &'static str {
     match concern {
-        Concern::Held { .. } => "chip wait",
+        Concern::Failed { .. } | Concern::Held { .. } => "chip wait",
         Concern::TableFull { .. }
         | Concern::AccountFull { .. }
         | Concern::PoolFull { .. }

@@ -2,6 +2,7 @@
 use Rattle.std.specs.Prelude.{ℕ, ◌==◌, Bool, List, [], ◌∷◌, Option, Some, None, count_by, if◌then◌else◌, length}
 use Rattle.spool_calls.specs.declared.printer.Printer.{Printer}
 use Rattle.standings.specs.Printers.{count_at, is_unreached_at}
+use Rattle.status_lines.specs.declared.outside.KeptJobs.{KeptJobs}
 use Rattle.status_scene.specs.declared.concern.Concern.{Concern}
 use Rattle.status_scene.specs.declared.concern.Concern.TheVariants as needs
 use Rattle.status_scene.specs.declared.scene.Scene.{Scene}
@@ -39,12 +40,19 @@ stopped_among count all = where_some count (needs.Stopped count all)
 abbrev pub stopped_concern : Scene → Option Concern
 stopped_concern s = stopped_among (count_by (λ (p : Printer). p.stopped) s.spool.now.printers.items) (length s.spool.now.printers.items)
 
+abbrev pub failed_among : Option KeptJobs → Option Concern
+failed_among None = None
+failed_among (Some kept) = where_some kept.failed (needs.Failed kept.failed)
+
+abbrev pub failed_concern : Scene → Option Concern
+failed_concern s = failed_among s.outside.now.kept
+
 abbrev pub held_among : (count all : ℕ) → Option Concern
 held_among count all = where_some count (needs.Held count all)
 
 abbrev pub held_concern : Scene → Option Concern
 held_concern s = held_among (count_by (λ (held : Bool). held) s.outside.now.noted.held.now) (length s.outside.now.noted.held.now)
 
--- jobs are refused, wait for pages; printers aren't reached, are stopped; queues are held
+-- jobs are refused, wait for pages; printers aren't reached, are stopped; kept jobs have failed; queues are held
 abbrev pub concerns_of : Scene → List (Option Concern)
-concerns_of s = refusal_concern s ∷ pool_concern s ∷ unreached_concern s ∷ stopped_concern s ∷ held_concern s ∷ []
+concerns_of s = refusal_concern s ∷ pool_concern s ∷ unreached_concern s ∷ stopped_concern s ∷ failed_concern s ∷ held_concern s ∷ []

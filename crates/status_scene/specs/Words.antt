@@ -18,6 +18,9 @@ stopped_words count all = of_words count all (codes " printers is stopped") (cod
 abbrev pub held_words : (count all : ℕ) → List ℕ
 held_words count all = of_words count all (codes " queues is held") (codes " queues are held")
 
+abbrev pub failed_words : ℕ → List ℕ
+failed_words jobs = if jobs == 1 then codes "1 kept job has failed" else decimal jobs ++ codes " kept jobs have failed"
+
 abbrev pub refused_words : (count all : ℕ) → List ℕ
 refused_words count all =
     if count == all then codes "refuses jobs: the account is full" else codes "refuses jobs of " ++ (decimal count ++ (codes " of " ++ (decimal all ++ codes " queues: the account is full")))
@@ -30,4 +33,5 @@ concern_words (needs.PoolFull queue pages all) name =
     codes "jobs wait: the pool is full of jobs for " ++ (name ++ (codes ", " ++ (decimal pages ++ (codes " of " ++ (decimal all ++ codes " pages")))))
 concern_words (needs.Unreached printers all) name = unreached_words printers all
 concern_words (needs.Stopped printers all) name = stopped_words printers all
+concern_words (needs.Failed jobs) name = failed_words jobs
 concern_words (needs.Held queues all) name = held_words queues all

@@ -1,7 +1,7 @@
 //! What needs somebody.
 
 ghost use Rattle.std.specs.Prelude.{◌≡◌, count_by};
-ghost use Rattle.status_scene.specs.Concerns.{concerns_of, held_concern, pool_concern, refusal_concern, stopped_concern, unreached_concern};
+ghost use Rattle.status_scene.specs.Concerns.{concerns_of, failed_concern, held_concern, pool_concern, refusal_concern, stopped_concern, unreached_concern};
 
 use crate::refusing::{filling_queue, has_full_pool, has_full_table, pages_for, refusing_queues};
 use crate::scene::Scene;
@@ -20,6 +20,8 @@ pub enum Concern {
     Unreached { printers: usize, of: usize },
     /// So many of the printers are stopped.
     Stopped { printers: u64, of: usize },
+    /// So many of the jobs in the folder that keeps them have failed: they stay there until somebody sends them again or removes them.
+    Failed { jobs: u64 },
     /// So many of the queues are held.
     Held { queues: usize, of: usize },
 }
@@ -87,6 +89,16 @@ fn stopped_concern(scene: &Scene<'_>) -> Option<Concern>
     }
 }
 
+/// Kept jobs have failed.
+fn failed_concern(scene: &Scene<'_>) -> Option<Concern>
+    ensures { result ≡ failed_concern scene.now }
+{
+    match scene.outside.kept?.failed {
+        0 => None,
+        jobs => Some(Concern::Failed { jobs }),
+    }
+}
+
 /// Queues are held.
 fn held_concern(scene: &Scene<'_>) -> Option<Concern>
     ensures { result ≡ held_concern scene.now }
@@ -103,7 +115,7 @@ fn held_concern(scene: &Scene<'_>) -> Option<Concern>
 }
 
 /// What needs somebody, the worst first. None of them is there where nothing waits for a person.
-pub fn concerns(scene: &Scene<'_>) -> [Option<Concern>; 5]
+pub fn concerns(scene: &Scene<'_>) -> [Option<Concern>; 6]
     ensures { result ≡ concerns_of scene.now }
 {
     [
@@ -111,6 +123,7 @@ pub fn concerns(scene: &Scene<'_>) -> [Option<Concern>; 5]
         pool_concern(scene),
         unreached_concern(scene),
         stopped_concern(scene),
+        failed_concern(scene),
         held_concern(scene),
     ]
 }

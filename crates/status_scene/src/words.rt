@@ -1,6 +1,6 @@
 //! What is said of what needs somebody.
 
-ghost use Rattle.status_scene.specs.Words.{concern_words, held_words, refused_words, stopped_words, unreached_words};
+ghost use Rattle.status_scene.specs.Words.{concern_words, failed_words, held_words, refused_words, stopped_words, unreached_words};
 
 use crate::concern::Concern;
 use std::fmt;
@@ -37,6 +37,23 @@ impl fmt::Display for StoppedCount {
         match printers {
             1 => write!(f, "1 of {of} printers is stopped"),
             _ => write!(f, "{printers} of {of} printers are stopped"),
+        }
+    }
+}
+
+/// So many kept jobs that have failed.
+#[derive(Clone, Copy)]
+struct FailedCount(u64);
+
+impl fmt::Display for FailedCount {
+    ghost use Rattle.std.specs.Prelude.{Some};
+
+    ghost output = { λ count. Some (failed_words count.0) };
+
+    fn fmt<W: fmt::Write>(&self, f: &mut fmt::Formatter<W>) -> fmt::Result {
+        match self.0 {
+            1 => f.write_str("1 kept job has failed"),
+            jobs => write!(f, "{jobs} kept jobs have failed"),
         }
     }
 }
@@ -110,6 +127,7 @@ impl fmt::Display for ConcernWords<'_> {
             }
             Concern::Unreached { printers, of } => write!(f, "{}", UnreachedCount(printers, of)),
             Concern::Stopped { printers, of } => write!(f, "{}", StoppedCount(printers, of)),
+            Concern::Failed { jobs } => write!(f, "{}", FailedCount(jobs)),
             Concern::Held { queues, of } => write!(f, "{}", HeldCount(queues, of)),
         }
     }

@@ -4,7 +4,7 @@ use Rattle.std.proofs.lemmas.Result.{err_from_is_err_and}
 use Rattle.spool_config.specs.Places.{told_view}
 use Rattle.printer_names.specs.Placing.{ArePlaced}
 use Rattle.printer_names.specs.declared.named.NamedPrinter.{NamedPrinter}
-use Rattle.printer_names.proofs.PlacingLemmas.{one_more_word, placing_fault, texts_alone}
+use Rattle.printer_names.proofs.PlacingLemmas.{one_more_word, placing_fault, taken_word, texts_alone}
 use Rattle.printer_names.proofs.placing.placed_printers.Goals as goal
 
 pub loop-word-init : goal.loop-word-init
@@ -30,5 +30,12 @@ returns-in_err-placed-clause-fault c =
     let r = c.from_residual-in_err-placed in
     let p = err_from_is_err_and r.result r.ensures.1 in
     rw (p.1, p.2) (
-    placing_fault c.args.config.now c.args.said.now c.loop-word.word-index _ c.in_err-placed.field-0.0 c.loop-word-test.true c.in_err-placed.ensures
+    placing_fault c.args.config.now (map told_view c.args.told.now) c.args.said.now c.loop-word.word-index _ c.loop-word.printers.items c.in_err-placed.field-0.0 c.loop-word-test.true
+    c.loop-word.invariant c.in_err-placed.ensures
     )
+
+pub returns-then-has_printer-clause-fault : goal.returns-then-has_printer-clause-fault
+returns-then-has_printer-clause-fault c =
+    taken_word c.args.config.now (map told_view c.args.told.now) c.args.said.now c.loop-word.word-index _ c.loop-word.printers.items c.in_ok-placed.placed c.loop-word-test.true
+    c.loop-word.invariant c.in_ok-placed.ensures
+    (rw c.as_slice.ensures.value at (sym c.has_printer.ensures ∙ c.if-has_printer.true))
