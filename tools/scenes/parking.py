@@ -4,6 +4,7 @@
 Queues are held, printers have failed or are off, servers are killed. JOBS says how many jobs the site's clients send, 20,000 where nothing is said, MANY
 how many wait in one queue. Each scene is bounded in time and runs on loopback alone. A line says what was seen; the last line is 'N passed, M failed'."""
 import contextlib
+import fcntl
 import glob
 import os
 import re
@@ -414,13 +415,12 @@ def pages_by_file():
     text = ('pages = 60\npage_size = 64\nmax_jobs = 8\naccount = 1000000\n[[queue]]\nname = "a"\nlimit = 52\nprinters = 1\n'
             '[[queue]]\nname = "b"\nlimit = 52\nprinters = 1\n')
     with Room(text) as room:
-        for number in (1, 2):
+        readers = []
+        for number, room_left in ((1, 29 * 64), (2, 0)):
             os.mkfifo(room.path(number))
-        readers = [os.open(room.path(number), os.O_RDWR | os.O_NONBLOCK) for number in (1, 2)]
-        for reader in readers:
-            with contextlib.suppress(BlockingIOError):
-                while os.write(reader, b"x" * 4096):
-                    pass
+            readers.append(os.open(room.path(number), os.O_RDWR | os.O_NONBLOCK))
+            fcntl.fcntl(readers[-1], 1031, 4096)
+            os.write(readers[-1], b"x" * (4096 - room_left))
         room.start()
 
         def files(queue, number, files, host):
@@ -437,6 +437,8 @@ def pages_by_file():
                     check(got == 0, f"{line[:20]!r}: {got}")
 
         files(b"a", 1, [b"A" * 64 * 30], "127.0.0.2")
+        # All but one page of it is printed, so that the next one has room.
+        time.sleep(1)
         files(b"b", 2, [b"B"] * 52, "127.0.0.3")
         room.kill()
         room.start()
@@ -446,6 +448,40 @@ def pages_by_file():
         for reader in readers:
             os.close(reader)
     return f"a question is answered in {took:.2f} s while a job of 52 files waits for pages"
+
+
+def a_file_that_is_gone():
+    """A file that somebody took away holds up nobody: its sender's later jobs are printed, and the log says what isn't."""
+    with Room(config(queues=1)) as room:
+        room.start()
+        room.tell("hold", "q1")
+        for number in range(3):
+            check(send(room.port, number, job("q1", 0, number), "q1") == 0, f"job {number} is refused")
+        os.unlink(f"{room.kept}/1.job")
+        room.tell("release", "q1")
+        room.await_files(0, 20)
+        seen = jobs_in(room.printed(1), "q1")
+        check(seen == [(0, 1), (0, 2)], f"{seen}")
+        check("the job in file 1.job isn't printed" in room.log(), room.log()[-400:])
+    return "two later jobs of its sender are printed, and the log names the file"
+
+
+def no_session_waits():
+    """A job that would have to wait for pages that another queue's jobs hold, whose printer takes nothing, goes beside the spool: it is acknowledged at once."""
+    with Room(config(queues=2, pages=64, jobs=16, limit=40)) as room:
+        os.mkfifo(room.path(1))
+        reader = os.open(room.path(1), os.O_RDWR | os.O_NONBLOCK)
+        with contextlib.suppress(BlockingIOError):
+            while os.write(reader, b"x" * 4096):
+                pass
+        room.start()
+        check(send(room.port, 1, job("q1", 0, 1, 7_000), "q1") == 0, "the first job")
+        begun = time.monotonic()
+        check(send(room.port, 2, job("q2", 0, 2, 7_000), "q2") == 0, "the second job")
+        took = time.monotonic() - begun
+        check(took < 10, f"acknowledged after {took:.1f} s")
+        os.close(reader)
+    return f"acknowledged after {took:.2f} s, while a printer that takes nothing has the pages"
 
 
 def one_queue_holds_up_no_other():
@@ -473,5 +509,5 @@ def one_queue_holds_up_no_other():
 
 
 if __name__ == "__main__":
-    raise SystemExit(main((a_queue_is_held, removed_while_they_wait, refused_as_any_other, pages_by_file, one_queue_holds_up_no_other, killed_amid_it,
+    raise SystemExit(main((a_queue_is_held, removed_while_they_wait, refused_as_any_other, pages_by_file, a_file_that_is_gone, no_session_waits, one_queue_holds_up_no_other, killed_amid_it,
                            many_wait, a_site), __doc__))

@@ -1,6 +1,6 @@
 -- What a request comes to, from what was asked and what was made of it.
-use Rattle.std.proofs.Common.{◌≡◌, ℕ, List, Bool, true, false, not, Option, None, Some, Result, Ok, Err, refl, sym, ap, subst, ◌∙◌, inl, inr}
-use Rattle.std.specs.Prelude.{IsSomeAnd, MatchOption, MatchResult, is_some}
+use Rattle.std.proofs.Common.{◌≡◌, ℕ, List, true, false, not, Option, None, Some, Result, Ok, Err, refl, sym, ap, subst, ◌∙◌, inl, inr}
+use Rattle.std.specs.Prelude.{IsSome, IsSomeAnd, MatchOption, MatchResult, is_some}
 use Rattle.lpd_values.specs.declared.refusal.Refusal.{Refusal}
 use Rattle.receiver.specs.Script.{Request, Queue, Open, Control, AbortJob}
 use Rattle.lpd_values.specs.Contents.{Contents}
@@ -75,12 +75,13 @@ opened carries old new sender job queue before result job_opened number is same 
     (subst (λ r. Opens carries before sender job queue r new.inner) is opens) numbered beside h known
 
 -- the job was aborted below, and is answered as one that goes beside
-pub turned_aside : {Q W : Type 0} (carries : Carrying Q) (old new : Parking Q W) (sender job : ℕ) (r : Request) (answer aborted : Answer) (hand : JobInHand) → MayTurnAside r → old.hand.is_beside ≡ false → hand ≡ record old.hand { is_beside = true } → carries old.inner sender job AbortJob aborted new.inner → Says hand.page.page_size hand.job r answer new.hand.job → new.hand.job ≡ settled_by r answer new.hand.job → new.hand.is_beside ≡ hand.is_beside → new.hand.page.page_size ≡ hand.page.page_size → Asks carries old sender job r answer new
-turned_aside carries old new sender job r answer aborted hand may through turned asked says stays beside sized = inr (inr (inr (record {
+pub turned_aside : {Q W : Type 0} (carries : Carrying Q) (old new : Parking Q W) (sender job : ℕ) (r : Request) (answer aborted : Answer) (hand : JobInHand) → MayTurnAside r → old.hand.is_beside ≡ false → IsSome old.hand.job × (old.hand.is_known ≡ true) → hand ≡ record old.hand { is_beside = true } → carries old.inner sender job AbortJob aborted new.inner → Says hand.page.page_size hand.job r answer new.hand.job → new.hand.job ≡ settled_by r answer new.hand.job → new.hand.is_beside ≡ hand.is_beside → new.hand.page.page_size ≡ hand.page.page_size → Asks carries old sender job r answer new
+turned_aside carries old new sender job r answer aborted hand may through known turned asked says stays beside sized = inr (inr (inr (record {
   may = may;
   aborted = aborted;
   asked = asked;
   through = through;
+  known = known;
   beside = beside ∙ ap (λ h. h.is_beside) turned;
   answers = record {
     job = new.hand.job;

@@ -1,5 +1,5 @@
 -- What a request comes to whose job goes through the spool or beside it.
-use Rattle.std.specs.Prelude.{◌≡◌, ◌⊎◌, ℕ, Bool, true, false, List, Option, None}
+use Rattle.std.specs.Prelude.{◌≡◌, ◌⊎◌, ℕ, Bool, true, false, List, Option, None, IsSome}
 use Rattle.page_pool.specs.Page.{Page}
 use Rattle.receiver.specs.Script.{Request, Queue, Open, BeginFile, AskPage, EndFile, Control, AbortJob, StartPrinters, QueueState, RemoveJobs}
 use Rattle.spool_requests.specs.declared.answer.Answer.{Answer}
@@ -82,6 +82,7 @@ module _ {Q W : Type 0} (carries : Carrying Q) (old : Parking Q W) (sender job :
     pub aborted : Answer
     pub asked : carries old.inner sender job AbortJob aborted new.inner
     pub through : old.hand.is_beside ≡ false
+    pub known : IsSome old.hand.job × (old.hand.is_known ≡ true)
     pub beside : new.hand.is_beside ≡ true
     pub answers : Answers new.hand.page.page_size old.hand.job r answer new.hand.job
 

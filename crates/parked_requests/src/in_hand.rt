@@ -1,6 +1,6 @@
 //! The job that a session has in hand, and which way it goes.
 
-ghost use Rattle.std.specs.Prelude.{◌≡◌, ◌<◌, true, false, not, None, Some, IfErr, IfOk, IsSomeAnd, MatchOption, is_some};
+ghost use Rattle.std.specs.Prelude.{◌≡◌, ◌<◌, true, false, not, None, Some, IfErr, IfOk, IsSome, IsSomeAnd, IsTrue, MatchOption, is_some};
 ghost use Rattle.control_file.specs.View.{contents};
 ghost use Rattle.receiver.specs.Script as script;
 ghost use Rattle.request_calls.specs.Pages.{IsBlank};
@@ -163,6 +163,13 @@ impl JobInHand {
         if let Some(page) = ticket {
             self.page.put_back(page);
         }
+    }
+
+    /// Whether a job is in hand of which all is known, so that it can go on beside the spool.
+    pub(crate) fn can_turn_aside(&self) -> bool
+        ensures { IsTrue result → IsSome self.now.job × (self.now.is_known ≡ true) }
+    {
+        self.job.is_some() && self.is_known
     }
 
     /// The spool has begun a data file of the job in hand.

@@ -1,6 +1,6 @@
 //! A session's requests, with the way that its job goes.
 
-ghost use Rattle.std.specs.Prelude.{◌≡◌, ◌<◌, ℕ, None, true, false, IsTrue, if◌then◌else◌};
+ghost use Rattle.std.specs.Prelude.{◌≡◌, ◌<◌, ℕ, None, true, false, IsSome, IsTrue, if◌then◌else◌};
 ghost use Rattle.receiver.specs.Script.{AbortJob};
 ghost use Rattle.spool_requests.specs.declared.answer.Answer.{Answer};
 
@@ -92,12 +92,13 @@ impl<Q: Requests, W: JobWays> Parking<Q, W> {
     pub(crate) fn turns_aside(&mut self, job: u64) -> bool
         ensures hand { self.new.hand
             ≡ (if result then record self.old.hand { is_beside = true } else self.old.hand) }
+        ensures known { IsTrue result → IsSome self.old.hand.job × (self.old.hand.is_known ≡ true) }
         ensures aborted { IsTrue result → (sender : ℕ) → (answer : Answer)
             × Q.carries self.old.inner sender job AbortJob answer self.new.inner }
         ensures same { result ≡ false → self.new.inner ≡ self.old.inner }
         ensures told { W.told self.new.ways ≡ W.told self.old.ways }
     {
-        if !self.hand.is_known || !self.ways.turns_aside() {
+        if !self.hand.can_turn_aside() || !self.ways.turns_aside() {
             return false;
         }
         if let Err(returned) = self.inner.abort(job, None) {

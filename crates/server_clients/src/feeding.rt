@@ -8,7 +8,7 @@
 //! What can't be fed stays, with a warning: nothing that was acknowledged is taken away by anything but its end. A failed job becomes
 //! `N.failed` for the same reason. A server that stops feeds nothing more: what waits, waits for the next start.
 
-use crate::job_doors::{is_stopped, part_of};
+use crate::job_doors::{is_stopped, part_of, unclaimed};
 use crate::served::HouseSeated;
 use crate::session_notes::SessionNotes;
 use kept_recovery::{Fed, feed_one};
@@ -122,7 +122,7 @@ impl<R: Files<File = File> + Clock + Log + Wait, E: HouseLedger> Feeding<'_, '_,
         let part = part_of(config, queue, lines.busy()).free(&used);
         FreePart {
             rows: part.rows.min(vacancy.rows as u64),
-            pages: part.pages.min(vacancy.pages as u32),
+            pages: u64::from(part.pages).min(unclaimed(config, &lines)) as u32,
         }
     }
 
@@ -172,7 +172,8 @@ impl<R: Files<File = File> + Clock + Log + Wait, E: HouseLedger> Feeding<'_, '_,
     fn read_found(&self, kept: &JobFolder<'_, R>) {
         let (rt, alloc) = (self.hall.rt, self.hall.alloc);
         for _ in 0..u64::MAX {
-            if self.hall.ending.is_over() || !kept.read_one(rt, alloc, &self.hall.oversight.config)
+            if self.hall.ending.is_over()
+                || !kept.read_one(rt, alloc, &self.hall.oversight.config)
             {
                 break;
             }

@@ -1,8 +1,9 @@
 //! Which way each job of a server's sessions goes that keeps jobs in a folder: through the spool, or beside it.
 //!
 //! A job goes beside the spool where its queue is held or all its printers stand, where jobs of it wait in the folder or one of its
-//! sender's comes beside the spool, where its queue has its part of the spool, until a start has read all that it found, and where the
-//! spool has no room for it. So a queue that can't print takes nothing from the others, and its senders aren't refused.
+//! sender's comes beside the spool, where its queue has its part of the spool, or the pool doesn't have all that it may claim, until a start has
+//! read all that it found, and where the spool has no room for it. So a queue that can't print takes nothing from the others, its
+//! senders aren't refused, and no session waits for a page that another job has.
 
 ghost use Rattle.std.specs.Prelude.{ℕ};
 ghost use Rattle.parked_requests.specs.Ways.{AddsTo, Opens};
@@ -45,7 +46,20 @@ pub(crate) fn part_of(config: &Config, queue: u32, busy: usize) -> QueuePart {
         pages: config.pages(),
         queues: config.queues().len() as u32,
     };
-    shape.part_of(config.printers_of(queue), config.limit_of(queue), busy as u32)
+    shape.part_of(
+        config.printers_of(queue),
+        config.limit_of(queue),
+        busy as u32,
+    )
+}
+
+/// How many pages of a spool of this configuration no job holds or may still claim, as these lines tell of the jobs.
+pub(crate) fn unclaimed(config: &Config, lines: &HeldLines<'_>) -> u64 {
+    let claimed = (0..config.queues().len()).fold(0u64, |so_far, place| {
+        let queue = (place as u32).saturating_add(1);
+        so_far.saturating_add(lines.used(place, config.limit_of(queue)).pages)
+    });
+    u64::from(config.pages()).saturating_sub(claimed)
 }
 
 /// Whether all printers of a queue are stopped.
@@ -109,13 +123,14 @@ impl<'h, 'a, R: Files<File = File> + Clock + Log + Wait, E: HouseLedger> JobDoor
         self.kept.is_held(rt, place) || is_stopped(rt, config, self.spool, queue)
     }
 
-    /// Whether a job of a queue that is opened now has room in its queue's part of the spool.
+    /// Whether a job of a queue that is opened now has room in its queue's part of the spool, and for all that it may claim: then it never
+    /// waits for a page that another job has.
     fn has_part(&self, lines: &HeldLines<'_>, queue: u32, place: usize) -> bool {
         let config = &self.hall.oversight.config;
         let limit = config.limit_of(queue);
         let used = lines.used(place, limit);
         let part = part_of(config, queue, lines.busy());
-        part.free(&used).has_room(limit)
+        part.free(&used).has_room(limit) && u64::from(limit) <= unclaimed(config, lines)
     }
 
     /// Opens a job for the queue of this name and number. All that is chosen, and the number of its file, are under one lock.
@@ -161,8 +176,7 @@ impl<'h, 'a, R: Files<File = File> + Clock + Log + Wait, E: HouseLedger> JobDoor
 }
 
 impl<R: Files<File = File> + Clock + Log + Wait, E: HouseLedger> JobWays
-    for JobDoors<'_, '_, R, E>
-{
+    for JobDoors<'_, '_, R, E> {
     fn open<Q: Requests>(
         &mut self,
         spool: &mut Q,
