@@ -31,7 +31,7 @@ returns-then-is_ok g c = λ sender.
           let h2 = c.keep_whole.ensures.follows _ h1 in
           let number = told (g.Q.Parks.beside c.let_out.new.self.inner) c.args.job in
           end_passes c.end_file-answer.result number work _ _ ok
-          (settles_after number (at_job with_end work) (g.F.Folder.seen c.args.self.now.hand.folder) (g.F.Folder.seen c.keep_whole.new.self.folder) (g.F.Folder.seen c.let_out.new.self.hand.folder) (same_then _ _ _ c.end_file.ensures.passed c.keep_whole.ensures.passed) 
+          (settles_after number (at_job with_end work) (g.F.Folder.seen c.args.self.now.hand.folder) (g.F.Folder.seen c.keep_whole.new.self.folder) (g.F.Folder.seen c.let_out.new.self.hand.folder) (same_then _ _ _ c.end_file.ensures.passed c.keep_whole.ensures.passed)
           (subst (λ inner. Settles (told (g.Q.Parks.beside inner) c.args.job) (at_job with_end work) (g.F.Folder.seen c.keep_whole.new.self.folder) (g.F.Folder.seen c.let_out.new.self.hand.folder)) (sym c.let_out.ensures.inner) (c.let_out.ensures.settles _ h2 (c.keep_whole.ensures.decided _ h1))));
       leaves = λ work h. file_leaves g.F.Folder.seen g.F.Folder.may_leave c.args.self.now.hand.folder c.end_file.new.self.folder c.keep_whole.new.self.folder c.let_out.new.self.hand.folder (at_job with_end work) c.end_file.ensures.crash c.end_file.ensures.passed
           (c.keep_whole.ensures.crash _ (c.end_file.ensures.follows work h)) c.let_out.ensures.crash;
