@@ -242,11 +242,11 @@ pub struct Answering<'h, 'a, R, E: HouseLedger> {
     pub hall: &'h Hall<'a, R>,
 }
 
-impl<R: Files<File = File> + Clock + Wait + Log, E: HouseLedger> Answering<'_, '_, R, E> {
+impl<'h, 'a, R: Files<File = File> + Clock + Wait + Log, E: HouseLedger> Answering<'h, 'a, R, E> {
     /// Serves connections through a seat, with a folder in which jobs are kept until they are printed.
     fn answer_keeping(
         &self,
-        kept: &JobFolder<'_, R>,
+        kept: &'h JobFolder<'a, R>,
         seat: HouseSeat<E>,
         serves: Serves,
     ) -> HouseSeat<E> {

@@ -28,37 +28,41 @@ impl<'h, 'a, R> SessionNotes<'h, 'a, R> {
             book: &hall.job_book,
         }
     }
-
-    /// The book, where there is one and this job goes through the spool.
-    fn book_for(&self, job: u64) -> Option<&JobBook> {
-        if job == BESIDE {
-            return None;
-        }
-        self.book.as_ref()
-    }
 }
 
 impl<R: Files<File = File> + Clock + Log + Wait> JobNotes for SessionNotes<'_, '_, R> {
     fn opened(&mut self, job: u64, _sender: u32, queue: &[u8]) {
-        if let Some(book) = self.book_for(job) {
+        if job == BESIDE {
+            return;
+        }
+        if let Some(book) = &self.book {
             book.begin(self.rt, job, queue);
         }
     }
 
     fn file_began(&mut self, job: u64, name: &FileName) {
-        if let Some(book) = self.book_for(job) {
+        if job == BESIDE {
+            return;
+        }
+        if let Some(book) = &self.book {
             book.note_number(self.rt, job, name.number());
         }
     }
 
     fn page_came(&mut self, job: u64, octets: usize) {
-        if let Some(book) = self.book_for(job) {
+        if job == BESIDE {
+            return;
+        }
+        if let Some(book) = &self.book {
             book.note_page(self.rt, job, octets);
         }
     }
 
     fn controlled(&mut self, job: u64, control: &Control) {
-        if let Some(book) = self.book_for(job) {
+        if job == BESIDE {
+            return;
+        }
+        if let Some(book) = &self.book {
             book.note_control(self.rt, job, control);
         }
     }
@@ -68,13 +72,16 @@ impl<R: Files<File = File> + Clock + Log + Wait> JobNotes for SessionNotes<'_, '
             return;
         }
         self.hall.note_file(job);
-        if let Some(book) = self.book_for(job) {
+        if let Some(book) = &self.book {
             book.receive(self.rt, job);
         }
     }
 
     fn given_up(&mut self, job: u64) {
-        if let Some(book) = self.book_for(job) {
+        if job == BESIDE {
+            return;
+        }
+        if let Some(book) = &self.book {
             book.let_go(self.rt, job);
         }
     }
