@@ -46,11 +46,8 @@ pub(crate) fn part_of(config: &Config, queue: u32, busy: usize) -> QueuePart {
         pages: config.pages(),
         queues: config.queues().len() as u32,
     };
-    shape.part_of(
-        config.printers_of(queue),
-        config.limit_of(queue),
-        busy as u32,
-    )
+    let busy = u32::try_from(busy).unwrap_or(u32::MAX);
+    shape.part_of(config.printers_of(queue), config.limit_of(queue), busy)
 }
 
 /// How many pages of a spool of this configuration no job holds or may still claim, as these lines tell of the jobs.
