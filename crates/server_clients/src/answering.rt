@@ -215,11 +215,13 @@ impl<R: Files<File = File> + Clock + Wait + Log> Attendant<'_, '_, R> {
         }
     }
 
-    /// Serves connections, one after another, until no more can come. `requests` carries out what they ask for: it is of any type with
-    /// `Requests`, and is made once for the thread, so a type that keeps jobs can stand between a session and the spool. `session::serve`
-    /// is for those who have one connection to serve, and makes a `Seated` for that.
-    fn serve_all<T: Requests + Served>(&self, requests: &mut T) {
+    /// Serves connections, one after another, until no more can come, and notes what becomes of their jobs. `requests` carries out what
+    /// they ask for, and is answered then: it is of any type with `Requests`, and is made once for the thread, so a type that keeps jobs
+    /// can stand between a session and the spool. `session::serve` is for those who have one connection to serve, and makes a `Seated`
+    /// for that.
+    fn serve_all<T: Requests + Served + Drop>(&self, requests: T) -> T {
         let (hall, rt) = (self.hall, self.hall.rt);
+        let mut noting = Noting::new(requests, SessionNotes::new(hall));
         // What the thread keeps from one connection to the next.
         let mut input = None;
         for _ in rt.forever() {
@@ -229,9 +231,11 @@ impl<R: Files<File = File> + Clock + Wait + Log> Attendant<'_, '_, R> {
             if let Some(book) = &hall.job_book {
                 book.note_connection(rt);
             }
-            self.answer(requests, &mut input, &visit);
+            self.answer(&mut noting, &mut input, &visit);
             hall.desk.leave(rt, self.serves, visit);
         }
+        let Noting { inner, .. } = noting;
+        inner
     }
 }
 
@@ -257,15 +261,12 @@ impl<'h, 'a, R: Files<File = File> + Clock + Wait + Log, E: HouseLedger> Answeri
         let page_size = hall.oversight.config.page_size();
         let parking = Parking::new(hall.alloc, page_size, seated, doors);
         let keeping = Keeping::new(hall.alloc, parking, DiskFolder::new(&kept.disk, number));
-        let mut noting = Noting::new(keeping, SessionNotes::new(hall));
         let attendant = Attendant {
             hall,
             number,
             serves,
         };
-        attendant.serve_all(&mut noting);
-        let Noting { inner, .. } = noting;
-        let Keeping { inner, .. } = inner;
+        let Keeping { inner, .. } = attendant.serve_all(keeping);
         inner.into_inner().into_seat()
     }
 
@@ -278,14 +279,11 @@ impl<'h, 'a, R: Files<File = File> + Clock + Wait + Log, E: HouseLedger> Answeri
         }
         let number = seat.number();
         let seated = Seated::new(hall.rt, self.spool, seat);
-        let mut noting = Noting::new(seated, SessionNotes::new(hall));
         let attendant = Attendant {
             hall,
             number,
             serves,
         };
-        attendant.serve_all(&mut noting);
-        let Noting { inner, .. } = noting;
-        inner.into_seat()
+        attendant.serve_all(seated).into_seat()
     }
 }
