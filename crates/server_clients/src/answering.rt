@@ -15,7 +15,7 @@ use kept_requests::Keeping;
 use log::{Log, warn};
 use lpd_commands::{OctetRead, OctetWrite};
 use noted_requests::Noting;
-use parked_requests::Parking;
+use parked_requests::{Parking, Parks};
 use program_edge::{Limits, StreamReader, StreamWriter, pass_over};
 use request_session::{Input, Requests, serve_with};
 use server_folders::JobFolder;
@@ -247,19 +247,16 @@ pub struct Answering<'h, 'a, R, E: HouseLedger> {
 }
 
 impl<'h, 'a, R: Files<File = File> + Clock + Wait + Log, E: HouseLedger> Answering<'h, 'a, R, E> {
-    /// Serves connections through a seat, with a folder in which jobs are kept until they are printed.
-    fn answer_keeping(
+    /// Serves connections at a seat of this number, with a folder in which jobs are kept until they are printed, whichever way they go.
+    /// Answers what carries out the requests.
+    fn serve_keeping<P: Parks + Served + Drop>(
         &self,
         kept: &'h JobFolder<'a, R>,
-        seat: HouseSeat<E>,
+        number: u32,
         serves: Serves,
-    ) -> HouseSeat<E> {
+        parking: P,
+    ) -> P {
         let hall = self.hall;
-        let number = seat.number();
-        let seated = Seated::new(hall.rt, self.spool, seat);
-        let doors = JobDoors::new(self.spool, hall, kept, number);
-        let page_size = hall.oversight.config.page_size();
-        let parking = Parking::new(hall.alloc, page_size, seated, doors);
         let keeping = Keeping::new(hall.alloc, parking, DiskFolder::new(&kept.disk, number));
         let attendant = Attendant {
             hall,
@@ -267,7 +264,36 @@ impl<'h, 'a, R: Files<File = File> + Clock + Wait + Log, E: HouseLedger> Answeri
             serves,
         };
         let Keeping { inner, .. } = attendant.serve_all(keeping);
-        inner.into_inner().into_seat()
+        inner
+    }
+
+    /// Serves connections as `serve_keeping` does, where each job goes through the spool or beside it. Answers what carries out the
+    /// requests of the spool.
+    fn serve_parking<Q: Requests + Served + Drop>(
+        &self,
+        kept: &'h JobFolder<'a, R>,
+        number: u32,
+        serves: Serves,
+        spool: Q,
+    ) -> Q {
+        let hall = self.hall;
+        let doors = JobDoors::new(self.spool, hall, kept, number);
+        let page_size = hall.oversight.config.page_size();
+        let parking = Parking::new(hall.alloc, page_size, spool, doors);
+        self.serve_keeping(kept, number, serves, parking)
+            .into_inner()
+    }
+
+    /// Serves connections through a seat, with a folder in which jobs are kept until they are printed.
+    fn answer_keeping(
+        &self,
+        kept: &'h JobFolder<'a, R>,
+        seat: HouseSeat<E>,
+        serves: Serves,
+    ) -> HouseSeat<E> {
+        let number = seat.number();
+        let seated = Seated::new(self.hall.rt, self.spool, seat);
+        self.serve_parking(kept, number, serves, seated).into_seat()
     }
 
     /// Serves connections through a seat, one after another, until no more can come. Answers the
