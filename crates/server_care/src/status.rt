@@ -155,7 +155,11 @@ impl<R: Files<File = File> + Clock + Log + Wait, E: HouseLedger> Care<'_, '_, R,
             uptime: now.saturating_duration_since(start).as_secs(),
             stops: self.hall.ending.stops(),
             lobby: self.hall.oversight.in_lobby() as usize,
-            kept: self.hall.kept.as_ref().map(|kept| kept.counts(self.hall.rt)),
+            kept: self
+                .hall
+                .kept
+                .as_ref()
+                .map(|kept| kept.counts(self.hall.rt)),
             sessions: self.seen_sessions(start, now)?,
             printers: self.seen_printers(now)?,
             put_off: put_off_of(self.hall.alloc, sight)?,
