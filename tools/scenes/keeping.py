@@ -290,6 +290,11 @@ def a_job_is_removed():
         room.start()
         for job in (1, 2, 3):
             check(send(room.port, job, b"%d" % job * 70_000) == 0, f"job {job}")
+        # One that is being fed to the spool just then isn't found.
+        for _ in range(100):
+            if "kept waiting 0" in room.tell("status"):
+                break
+            time.sleep(0.05)
         with contextlib.closing(connect(room.port)) as peer:
             peer.sendall(b"\x05lp root 3\n")
             while peer.recv(65536):
@@ -322,8 +327,9 @@ def files_that_are_no_jobs():
         room.start()
         room.await_files(5)
         check(room.printed() == good, room.printed()[:60])
-        for number in (50, 51, 52, 53, 54):
-            room.await_log(f"{number}.job isn't printed")
+        for number in (50, 51, 53, 54):
+            room.await_log(f"it isn't known whose the job in file {number} is")
+        room.await_log("52.job isn't printed, and stays where it is: no queue has the name that it was sent to")
         check(send(room.port, 2, b"more") == 0, "it goes on")
         room.await_files(5)
         check(room.printed() == good + b"more", room.printed()[-60:])
@@ -426,7 +432,7 @@ def stopped_now_amid_a_job():
         peer, _ = listener.accept()
         check(peer.recv(10), "it begins")
         told = room.tell("stop", "now")
-        check("end done" in told or told == "", told)
+        check("1 jobs wait in the folder for the next start" in told, told)
         room.server.wait(10)
         peer.close()
         check(len(room.files("job")) == 1 and not room.files("failed"), room.files("*"))
