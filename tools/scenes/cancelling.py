@@ -146,9 +146,8 @@ def a_failed_file():
         return "sent again, and removed"
 
 
-def a_job_that_is_being_fed():
-    """A kept job is being handed to the spool, and waits there: the pages that are free are kept for a job that is arriving, which may need them all. It
-    can be removed neither by its file nor by its number, and both say so; it goes on once the other job is whole, and then it goes by its file."""
+def a_job_that_waits_for_pages():
+    """A kept job waits in the folder while a job that is arriving may need all pages that are free: it goes by its file, and the other one is printed."""
     with Desk(keeps=True, pages=64) as desk:
         desk.start()
         desk.send(5, b"x" * 4096 * 40, queue="bad")
@@ -157,20 +156,15 @@ def a_job_that_is_being_fed():
         with contextlib.closing(begin(desk.port, 7, 4096 * 12, b"y" * 4096 * 10, host="127.0.0.2")) as peer:
             desk.await_status(" receiving pages 10 ")
             desk.says("resend 1", "resent file 1 (005) ann@h1 of bad\n")
-            told = desk.await_status("waits for a page: those free are kept for job 2")
-            check("\njob 3 bad 127.0.0.1 " in told, f"the kept job isn't the one that waits: {told}")
-            desk.refuses("cancel file 1", "file 1 (005) ann@h1 of bad is being handed to the spool: ask again")
-            desk.refuses("cancel job 3", " is still arriving: it can be removed once it is whole")
-            check(desk.files("job") == ["1.job"], desk.files("job"))
+            desk.await_status("kept waiting 1 failed 0")
+            desk.says("cancel file 1", "removed file 1 (005) ann@h1 of bad\n")
+            desk.await_status("kept waiting 0 failed 0")
+            check(desk.files("job") == [], desk.files("job"))
             check(finish(peer, 7, b"y" * 4096 * 2) == 0, "the arriving job isn't taken")
-        desk.await_files(1, "failed")
-        desk.says("cancel file 1", "removed file 1 (005) ann@h1 of bad\n")
-        desk.await_status("kept waiting 0 failed 0")
-        check(desk.files("failed") == [], desk.files("failed"))
-        return "it stays until it is whole, and both answers say so"
+        return "it goes while it waits, and the arriving job is taken"
 
 
-SCENES = [jobs_of_two_hosts, an_arriving_job, what_would_help, files_of_jobs, a_failed_file, a_job_that_is_being_fed]
+SCENES = [jobs_of_two_hosts, an_arriving_job, what_would_help, files_of_jobs, a_failed_file, a_job_that_waits_for_pages]
 
 
 if __name__ == "__main__":
