@@ -331,26 +331,29 @@ def jobs_that_are_refused():
 
 
 def kept_jobs_are_called_by_their_files():
-    """With --spool a job is called by its file, which lasts over a restart, and by its sender's number."""
+    """With --spool a job is called by its file, which lasts over a restart, and by its sender's number; one that waits in the folder has no other number."""
     with tempfile.TemporaryDirectory() as kept:
         words = ("--spool", f"{kept}/jobs", "--keep-room", "--printer", "1=file:/dev/full")
         with served(spool(), *words) as it:
             check(send(it.port, 2, b"x" * 100) == 0, "the job isn't taken")
             line_of(it, "printer 1 lp stopped ")
             check(send(it.port, 4, b"x" * 100) == 0, "the second job isn't taken")
-            line = line_of(it, "job 2 ", "number 004")
-            file = re.search(r" number 004 file (\d+) ", line)
-            check(file, line)
-            has(page(it), f"file {file[1]} (004)", "job 2\n", "1 kept job has failed")
+            line_of(it, "kept waiting 1 failed 1")
+            has(page(it), "1 kept job has failed")
             check(metric(it, 'hurgwaye_kept_jobs{state="failed"}') == 1, "the metric")
-            until(10, "the log", lambda: re.search(rf"job 2 lp 004 ann@h1 .* received in [\d.]+ s file {file[1]}$", it.log(), re.M))
+            check(metric(it, 'hurgwaye_kept_jobs{state="waiting"}') == 1, "the metric of those that wait")
         with served(spool(), *words[:3]) as it:
             until(20, "it is printed", lambda: os.path.exists(it.path()) and os.path.getsize(it.path()) == 100)
-            until(10, "the log", lambda: re.search(rf"job 1 lp 004 ann@h1 .* done in [\d.]+ s file {file[1]}$", it.log(), re.M))
+            until(10, "the log", lambda: re.search(r"job 1 lp 004 ann@h1 .* done in [\d.]+ s file 2$", it.log(), re.M))
             seen = page(it)
             has(seen, "1 kept job has failed", " + 1 failed")
             lacks(seen, "every printer runs")
-        return f"file {file[1]} (004), in `status`, on the page and in the log, before and after a restart"
+        with served(spool(limit=64), *words[:3], device="fifo") as it:
+            check(send(it.port, 6, b"x" * 100_000) == 0, "the third job isn't taken")
+            line_of(it, "job 1 ", "number 006 file 2 ")
+            has(page(it), "file 2 (006)", "job 1\n")
+            until(10, "the log", lambda: re.search(r"job 1 lp 006 ann@h1 .* received in [\d.]+ s file 2$", it.log(), re.M))
+        return "file 2 (006), in `status`, on the page and in the log; another file 2 before and after a restart"
 
 
 SCENES = [
