@@ -9,6 +9,7 @@ import signal
 import socket
 import struct
 import sys
+import tempfile
 import threading
 import time
 
@@ -291,6 +292,38 @@ def a_peer_that_drips():
         check(took < 75, took)
         check(send(server.port, 2, b"g" * 100) == 0, "the next job is refused")
         return f"it is left after {took:.0f} s"
+
+
+def peers_that_drip_beside_honest_ones():
+    """With the words that a site has (those of the package's options), eight peers that drip, of one address and of eight, keep nobody away: neither another
+    address nor their own, with --spool and without."""
+    with open(f"{os.path.dirname(os.path.abspath(__file__))}/../../packaging/options") as file:
+        site = next(line for line in file if line.startswith("OPTIONS=")).split("=", 1)[1].split()
+    words = [word for word in site if "printer-" not in word and not word.startswith(("1=", "--printer", "--log"))]
+    took = []
+    for spooled in (False, True):
+        for hosts in (["127.0.4.1"] * 8, [f"127.0.4.{number + 1}" for number in range(8)]):
+            with tempfile.TemporaryDirectory() as kept:
+                more = ["--spool", f"{kept}/jobs"] if spooled else []
+                with Server(PROGRAM, spool(), *words, *more) as server:
+                    drips = [begin(server.port, number + 1, 4000, b"", host=host) for number, host in enumerate(hosts)]
+                    ended = threading.Event()
+
+                    def drip(peer):
+                        with contextlib.suppress(OSError):
+                            while not ended.wait(1):
+                                peer.sendall(b"d")
+
+                    for peer in drips:
+                        threading.Thread(target=drip, args=(peer,), daemon=True).start()
+                    time.sleep(2)
+                    for number, host in ((21, "127.0.5.1"), (22, "127.0.4.1")):
+                        start = time.monotonic()
+                        check(send(server.port, number, b"g" * 1000, host=host) == 0, f"job {number} is refused")
+                        took.append(time.monotonic() - start)
+                    ended.set()
+    check(max(took) < 30, took)
+    return f"acknowledged after {max(took):.2f} s at most"
 
 
 def a_log_that_nobody_reads():
