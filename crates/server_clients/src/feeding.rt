@@ -11,6 +11,7 @@
 use crate::job_doors::{is_stopped, part_of, unclaimed};
 use crate::served::HouseSeated;
 use crate::session_notes::SessionNotes;
+use config_values::Config;
 use kept_recovery::{Fed, feed_one};
 use kept_requests::Keeping;
 use log::{Log, warn};
@@ -66,6 +67,29 @@ fn waits_for_room(fed: Fed) -> bool {
     )
 }
 
+/// What all queues share of a spool, at one look.
+#[derive(Clone, Copy)]
+struct SharedRoom {
+    /// How many pages no job holds or may still claim.
+    unclaimed: u64,
+    /// How many queues have jobs.
+    busy: usize,
+}
+
+impl SharedRoom {
+    /// As the lines of this folder tell of the jobs: one walk over them.
+    fn of<R: Files<File = File> + Log + Wait>(
+        config: &Config,
+        kept: &JobFolder<'_, R>,
+    ) -> SharedRoom {
+        let lines = kept.disk.lines();
+        SharedRoom {
+            unclaimed: unclaimed(config, &lines),
+            busy: lines.busy(),
+        }
+    }
+}
+
 /// The seat of whoever feeds, with the hand that has the file which is being fed, and what is told of its job.
 type Feeder<'h, 'a, R, E> = Noting<
     Keeping<Through<HouseSeated<'h, R, E>>, FedFolder<'h, R>>,
@@ -87,6 +111,7 @@ impl<R: Files<File = File> + Clock + Log + Wait, E: HouseLedger> Feeding<'_, '_,
     fn free_parts(&self, kept: &JobFolder<'_, R>) -> Result<Vec<FreePart>, AllocError> {
         let (rt, config) = (self.hall.rt, &self.hall.oversight.config);
         let vacancy = self.spool.vacancy(rt);
+        let shared = SharedRoom::of(config, kept);
         let mut free = Vec::new(self.hall.alloc);
         for place in 0..config.queues().len() {
             let queue = (place as u32).saturating_add(1);
@@ -99,30 +124,30 @@ impl<R: Files<File = File> + Clock + Log + Wait, E: HouseLedger> Feeding<'_, '_,
                     pages: u32::MAX,
                 }
             } else {
-                self.free_of(kept, &vacancy, queue, place)
+                self.free_of(kept, &vacancy, &shared, place)
             })?;
         }
         Ok(free)
     }
 
-    /// What is free for the queue of this number at this place.
+    /// What is free for the queue at this place.
     fn free_of(
         &self,
         kept: &JobFolder<'_, R>,
         vacancy: &Vacancy,
-        queue: u32,
+        shared: &SharedRoom,
         place: usize,
     ) -> FreePart {
         let config = &self.hall.oversight.config;
+        let queue = (place as u32).saturating_add(1);
         if config.reserve_of(queue) >= vacancy.entries {
             return FreePart::NOTHING;
         }
-        let lines = kept.disk.lines();
-        let used = lines.used(place, config.limit_of(queue));
-        let part = part_of(config, queue, lines.busy()).free(&used);
+        let used = kept.disk.lines().used(place, config.limit_of(queue));
+        let part = part_of(config, queue, shared.busy).free(&used);
         FreePart {
             rows: part.rows.min(vacancy.rows as u64),
-            pages: u64::from(part.pages).min(unclaimed(config, &lines)) as u32,
+            pages: u64::from(part.pages).min(shared.unclaimed) as u32,
         }
     }
 
