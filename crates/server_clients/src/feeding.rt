@@ -124,22 +124,22 @@ impl<R: Files<File = File> + Clock + Log + Wait, E: HouseLedger> Feeding<'_, '_,
                     pages: u32::MAX,
                 }
             } else {
-                self.free_of(kept, &vacancy, &shared, place)
+                self.free_of(kept, &vacancy, &shared, queue)
             })?;
         }
         Ok(free)
     }
 
-    /// What is free for the queue at this place.
+    /// What is free for the queue of this number.
     fn free_of(
         &self,
         kept: &JobFolder<'_, R>,
         vacancy: &Vacancy,
         shared: &SharedRoom,
-        place: usize,
+        queue: u32,
     ) -> FreePart {
         let config = &self.hall.oversight.config;
-        let queue = (place as u32).saturating_add(1);
+        let place = queue.saturating_sub(1) as usize;
         if config.reserve_of(queue) >= vacancy.entries {
             return FreePart::NOTHING;
         }
