@@ -21,7 +21,7 @@ use Rattle.std.specs.Result.{IsErrAnd}
 use Rattle.control_lines.specs.declared.command.CommandFault.{CommandFault}
 use Rattle.control_lines.specs.declared.command.CommandFault.TheVariants.{Unknown, Memory}
 use Rattle.control_lines.specs.declared.command.ControlCommand.{ControlCommand}
-use Rattle.control_lines.specs.declared.command.ControlCommand.TheVariants.{Status, Start, Hold, Release, Remove, CancelJob, CancelFile, Resend, Rotate, Stop, StopNow}
+use Rattle.control_lines.specs.declared.command.ControlCommand.TheVariants.{Status, Start, Hold, Release, Remove, CancelJob, CancelFile, Resend, ResendAll, ResendQueue, Rotate, Stop, StopNow}
 
 -- what follows the first word of a command and a space
 abbrev pub operand_of : ControlCommand → Option (List ℕ)
@@ -33,6 +33,8 @@ operand_of (Remove queue whom) = Some (queue ++ 32 ∷ whom)
 operand_of (CancelJob number) = Some (codes "job " ++ decimal number)
 operand_of (CancelFile number) = Some (codes "file " ++ decimal number)
 operand_of (Resend number) = Some (decimal number)
+operand_of ResendAll = Some (codes "all")
+operand_of (ResendQueue queue) = Some (codes "all " ++ queue)
 operand_of Rotate = None
 operand_of (Stop None) = None
 operand_of (Stop (Some seconds)) = Some (decimal seconds)
@@ -52,6 +54,8 @@ parts (Remove queue whom) = refl
 parts (CancelJob number) = refl
 parts (CancelFile number) = refl
 parts (Resend number) = refl
+parts ResendAll = refl
+parts (ResendQueue queue) = refl
 parts Rotate = refl
 parts (Stop None) = refl
 parts (Stop (Some seconds)) = refl
@@ -148,7 +152,10 @@ MeansAt verb.Remove operand c =
 MeansAt verb.Cancel operand c =
     ((n : ℕ) × (operand ≡ Some (codes "job " ++ decimal n)) × (c ≡ CancelJob n) × (n < 2 ^ 64))
     ⊎ ((n : ℕ) × (operand ≡ Some (codes "file " ++ decimal n)) × (c ≡ CancelFile n) × (n < 2 ^ 64))
-MeansAt verb.Resend operand c = (n : ℕ) × (operand ≡ Some (decimal n)) × (c ≡ Resend n) × (n < 2 ^ 64)
+MeansAt verb.Resend operand c =
+    ((n : ℕ) × (operand ≡ Some (decimal n)) × (c ≡ Resend n) × (n < 2 ^ 64))
+    ⊎ ((operand ≡ Some (codes "all")) × (c ≡ ResendAll))
+    ⊎ ((queue : List ℕ) × (operand ≡ Some (codes "all " ++ queue)) × (c ≡ ResendQueue queue) × IsTrue (is_queue_name queue))
 MeansAt verb.Rotate operand c = (operand ≡ None) × (c ≡ Rotate)
 MeansAt verb.Stop operand c =
     ((operand ≡ None) × (c ≡ Stop None)) ⊎ ((operand ≡ Some (codes "now")) × (c ≡ StopNow))
@@ -162,7 +169,9 @@ by_verb (Release queue) h = (queue, refl, refl, h)
 by_verb (Remove queue whom) h = (queue, whom, refl, refl, h.0, h.1)
 by_verb (CancelJob number) h = inl (number, refl, refl, h)
 by_verb (CancelFile number) h = inr (number, refl, refl, h)
-by_verb (Resend number) h = (number, refl, refl, h)
+by_verb (Resend number) h = inl (number, refl, refl, h)
+by_verb ResendAll h = inr (inl (refl, refl))
+by_verb (ResendQueue queue) h = inr (inr (queue, refl, refl, h))
 by_verb Rotate h = (refl, refl)
 by_verb (Stop None) h = inl (refl, refl)
 by_verb (Stop (Some seconds)) h = inr (inr (seconds, refl, refl, h))
@@ -204,10 +213,6 @@ releases operand c m =
     let r = at verb.Release (Some operand) c m in
     subst (λ (q : List ℕ). IsTrue (is_queue_name q)) (sym (some_is _ _ r.1)) r.3
 
--- a job is sent again by its number
-pub resends : (operand : List ℕ) (c : ControlCommand) → Means (codes "resend " ++ operand) c → (n : ℕ) × (n < 2 ^ 64) × (operand ≡ decimal n)
-resends operand c m = let r = at verb.Resend (Some operand) c m in (r.0, r.3, some_is _ _ r.1)
-
 -- a removal is cut at the first space behind its first word
 pub removes : (operands queue whom : List ℕ) → IsCut operands queue whom → (c : ControlCommand) → Means (codes "remove " ++ operands) c → IsTrue (is_queue_name queue) × IsTrue (is_whom whom)
 removes operands queue whom cut c m =
@@ -229,6 +234,37 @@ number_is_no_now n h e =
     let digits : list_all is_digit (decimal n) ≡ true = (decimal_is n (omega arith)).0 in
     let first_ : is_digit 110 ≡ true = (and_parts (is_digit 110) (list_all is_digit (111 ∷ 119 ∷ [])) (subst (λ (s : List ℕ). list_all is_digit s ≡ true) e digits)).0 in
     cc
+
+-- what begins with an `a` is no number
+number_is_no_word : (n : ℕ) (rest : List ℕ) → n < 2 ^ 64 → decimal n ≡ 97 ∷ rest → ⊥
+number_is_no_word n rest h e =
+    let digits : list_all is_digit (decimal n) ≡ true = (decimal_is n h).0 in
+    let first_ : is_digit 97 ≡ true = (and_parts (is_digit 97) (list_all is_digit rest) (subst (λ (s : List ℕ). list_all is_digit s ≡ true) e digits)).0 in
+    cc
+
+-- all is no queue
+all_is_alone : (queue : List ℕ) → codes "all" ≡ codes "all " ++ queue → ⊥
+all_is_alone queue e = cc
+
+after_all : (x y : List ℕ) → codes "all " ++ x ≡ codes "all " ++ y → x ≡ y
+after_all x y e = ap (λ (s : List ℕ). others (others (others (others s)))) e
+
+-- neither all nor a number
+pub resends_none : (operand : List ℕ) → (operand ≡ codes "all" → ⊥) → ((queue : List ℕ) → operand ≡ codes "all " ++ queue → ⊥) → ((n : ℕ) → n < 2 ^ 64 → operand ≡ decimal n → ⊥) → (c : ControlCommand) → Means (codes "resend " ++ operand) c → ⊥
+resends_none operand no_all no_queue no_number c m with at verb.Resend (Some operand) c m
+... | inl p = no_number p.0 p.3 (some_is _ _ p.1)
+... | inr (inl p) = no_all (some_is _ _ p.0)
+... | inr (inr p) = no_queue p.0 (some_is _ _ p.1)
+
+no_such_queue : (queue : List ℕ) → (IsTrue (is_queue_name queue) → ⊥) → (c : ControlCommand) → MeansAt verb.Resend (Some (codes "all " ++ queue)) c → ⊥
+no_such_queue queue h c (inl p) = number_is_no_word p.0 _ p.3 (sym (some_is _ _ p.1))
+no_such_queue queue h c (inr (inl p)) = all_is_alone queue (sym (some_is _ _ p.0))
+no_such_queue queue h c (inr (inr p)) = h (subst (λ (q : List ℕ). IsTrue (is_queue_name q)) (sym (after_all _ _ (some_is _ _ p.1))) p.3)
+
+-- no queue, or no memory for its name
+pub resends_all_none : (queue : List ℕ) (fault : CommandFault) → IsQueueOf queue (Err fault) → Refuses (codes "resend all " ++ queue) fault
+resends_all_none queue Unknown h = λ c m. no_such_queue queue h c (at verb.Resend (Some (codes "all " ++ queue)) c m)
+resends_all_none queue Memory h = (ResendQueue queue, (refl, h), tt)
 
 letters_differ : ◌≡◌ {A = ℕ} 106 102 → ⊥
 letters_differ e = omega arith
@@ -260,9 +296,18 @@ one_at verb.Cancel o a b (inr p) (inl q) = absurd (job_is_no_file _ _ (same_some
 one_at verb.Cancel o a b (inr p) (inr q) =
     let e : p.0 ≡ q.0 = decimal_injective p.0 q.0 p.3 q.3 (after_file _ _ (same_some o _ _ p.1 q.1)) in
     p.2 ∙ (ap (λ (n : ℕ). CancelFile n) e ∙ sym q.2)
-one_at verb.Resend o a b p q =
+one_at verb.Resend o a b (inl p) (inl q) =
     let e : p.0 ≡ q.0 = decimal_injective p.0 q.0 p.3 q.3 (same_some o _ _ p.1 q.1) in
     p.2 ∙ (ap (λ (n : ℕ). Resend n) e ∙ sym q.2)
+one_at verb.Resend o a b (inl p) (inr (inl q)) = absurd (number_is_no_word p.0 _ p.3 (same_some o _ _ p.1 q.0))
+one_at verb.Resend o a b (inl p) (inr (inr q)) = absurd (number_is_no_word p.0 _ p.3 (same_some o _ _ p.1 q.1))
+one_at verb.Resend o a b (inr (inl p)) (inl q) = absurd (number_is_no_word q.0 _ q.3 (same_some o _ _ q.1 p.0))
+one_at verb.Resend o a b (inr (inl p)) (inr (inl q)) = p.1 ∙ sym q.1
+one_at verb.Resend o a b (inr (inl p)) (inr (inr q)) = absurd (all_is_alone _ (same_some o _ _ p.0 q.1))
+one_at verb.Resend o a b (inr (inr p)) (inl q) = absurd (number_is_no_word q.0 _ q.3 (same_some o _ _ q.1 p.1))
+one_at verb.Resend o a b (inr (inr p)) (inr (inl q)) = absurd (all_is_alone _ (same_some o _ _ q.0 p.1))
+one_at verb.Resend o a b (inr (inr p)) (inr (inr q)) =
+    p.2 ∙ (ap (λ (t : List ℕ). ResendQueue t) (after_all _ _ (same_some o _ _ p.1 q.1)) ∙ sym q.2)
 one_at verb.Rotate o a b p q = p.1 ∙ sym q.1
 one_at verb.Stop o a b (inl p) (inl q) = p.1 ∙ sym q.1
 one_at verb.Stop o a b (inl p) (inr (inl q)) = absurd (none_or_some o _ p.0 q.0)
@@ -311,6 +356,8 @@ is_short (Resend n) h =
     let p : 2 ^ 64 < 10 ^ 20 = lit< tt in
     let few = length-decimal-le 20 n (lit< tt) (omega arith) h in
     omega arith
+is_short ResendAll h = lit≤ tt
+is_short (ResendQueue queue) h = let few = queue_short queue h in omega arith
 is_short Rotate h = lit≤ tt
 is_short (Stop None) h = lit≤ tt
 is_short (Stop (Some n)) h =

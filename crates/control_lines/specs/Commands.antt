@@ -5,7 +5,7 @@ use Rattle.control_lines.specs.Operands.{is_queue_name, is_whom}
 use Rattle.control_lines.specs.declared.verb.Verb.{Verb}
 use Rattle.control_lines.specs.declared.verb.Verb.TheVariants as verb
 use Rattle.control_lines.specs.declared.command.ControlCommand.{ControlCommand}
-use Rattle.control_lines.specs.declared.command.ControlCommand.TheVariants.{Status, Start, Hold, Release, Remove, CancelJob, CancelFile, Resend, Rotate, Stop, StopNow}
+use Rattle.control_lines.specs.declared.command.ControlCommand.TheVariants.{Status, Start, Hold, Release, Remove, CancelJob, CancelFile, Resend, ResendAll, ResendQueue, Rotate, Stop, StopNow}
 use Rattle.control_lines.specs.declared.command.CommandFault.{CommandFault}
 use Rattle.control_lines.specs.declared.command.CommandFault.TheVariants.{Unknown, Memory}
 
@@ -19,6 +19,8 @@ written (Remove queue whom) = codes "remove " ++ (queue ++ 32 ∷ whom)
 written (CancelJob number) = codes "cancel job " ++ decimal number
 written (CancelFile number) = codes "cancel file " ++ decimal number
 written (Resend number) = codes "resend " ++ decimal number
+written ResendAll = codes "resend all"
+written (ResendQueue queue) = codes "resend all " ++ queue
 written Rotate = codes "rotate"
 written (Stop None) = codes "stop"
 written (Stop (Some seconds)) = codes "stop " ++ decimal seconds
@@ -34,6 +36,8 @@ IsSayable (Remove queue whom) = IsTrue (is_queue_name queue) × IsTrue (is_whom 
 IsSayable (CancelJob number) = number < 2 ^ 64
 IsSayable (CancelFile number) = number < 2 ^ 64
 IsSayable (Resend number) = number < 2 ^ 64
+IsSayable ResendAll = Unit {0}
+IsSayable (ResendQueue queue) = IsTrue (is_queue_name queue)
 IsSayable Rotate = Unit {0}
 IsSayable (Stop None) = Unit {0}
 IsSayable (Stop (Some seconds)) = seconds < 2 ^ 32
@@ -49,6 +53,7 @@ NamesQueue (Start queue) = Unit {0}
 NamesQueue (Hold queue) = Unit {0}
 NamesQueue (Release queue) = Unit {0}
 NamesQueue (Remove queue whom) = Unit {0}
+NamesQueue (ResendQueue queue) = Unit {0}
 NamesQueue _ = ⊥
 
 -- a line that means nothing is unknown, and memory is wanted only for a queue
@@ -76,6 +81,8 @@ verb_of (Remove queue whom) = verb.Remove
 verb_of (CancelJob number) = verb.Cancel
 verb_of (CancelFile number) = verb.Cancel
 verb_of (Resend number) = verb.Resend
+verb_of ResendAll = verb.Resend
+verb_of (ResendQueue queue) = verb.Resend
 verb_of Rotate = verb.Rotate
 verb_of (Stop seconds) = verb.Stop
 verb_of StopNow = verb.Stop

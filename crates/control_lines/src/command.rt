@@ -30,6 +30,10 @@ pub enum ControlCommand {
     CancelFile { number: u64 },
     /// Has a job printed that failed, by the number of its file.
     Resend { number: u64 },
+    /// Has each job printed that failed.
+    ResendAll,
+    /// Has each job of the queue printed that failed.
+    ResendQueue { queue: Octets },
     /// Rotates the account.
     Rotate,
     /// Stops the server once the held jobs are printed, at the latest after so many seconds where they are told.
@@ -98,6 +102,21 @@ fn cancel_of(operand: &[u8]) -> Result<ControlCommand, CommandFault>
     Ok(ControlCommand::CancelFile { number })
 }
 
+/// The command to print what failed, with this operand.
+fn resend_of(alloc: Global, operand: &[u8]) -> Result<ControlCommand, CommandFault>
+    ensures { Reads (codes "resend " ++ operand.now) result }
+{
+    if operand == b"all".as_slice() {
+        return Ok(ControlCommand::ResendAll);
+    }
+    if let Some(name) = after(operand, b"all ") {
+        let queue = queue_of(alloc, name)?;
+        return Ok(ControlCommand::ResendQueue { queue });
+    }
+    let number = read_decimal(operand).ok_or(CommandFault::Unknown)?;
+    Ok(ControlCommand::Resend { number })
+}
+
 /// The stop with this operand.
 fn stop_of(operand: &[u8]) -> Result<ControlCommand, CommandFault>
     ensures { Reads (codes "stop " ++ operand.now) result }
@@ -146,10 +165,7 @@ impl Verb {
             }
             Verb::Remove => removal_of(alloc, operand),
             Verb::Cancel => cancel_of(operand),
-            Verb::Resend => {
-                let number = read_decimal(operand).ok_or(CommandFault::Unknown)?;
-                Ok(ControlCommand::Resend { number })
-            }
+            Verb::Resend => resend_of(alloc, operand),
             Verb::Stop => stop_of(operand),
             Verb::Status | Verb::Rotate => Err(CommandFault::Unknown),
         }
@@ -189,7 +205,9 @@ impl ControlCommand {
             ControlCommand::Release { .. } => Verb::Release,
             ControlCommand::Remove { .. } => Verb::Remove,
             ControlCommand::CancelJob { .. } | ControlCommand::CancelFile { .. } => Verb::Cancel,
-            ControlCommand::Resend { .. } => Verb::Resend,
+            ControlCommand::Resend { .. }
+            | ControlCommand::ResendAll
+            | ControlCommand::ResendQueue { .. } => Verb::Resend,
             ControlCommand::Rotate => Verb::Rotate,
             ControlCommand::Stop { .. } | ControlCommand::StopNow => Verb::Stop,
         }
@@ -224,6 +242,11 @@ impl ControlCommand {
                 put_number(alloc, &mut line, *number)?;
             }
             ControlCommand::Resend { number } => put_number(alloc, &mut line, *number)?,
+            ControlCommand::ResendAll => put_operand(&mut line, b"all")?,
+            ControlCommand::ResendQueue { queue } => {
+                put_operand(&mut line, b"all")?;
+                put_operand(&mut line, queue.as_slice())?;
+            }
             ControlCommand::Stop {
                 seconds: Some(seconds),
             } => put_number(alloc, &mut line, u64::from(*seconds))?,

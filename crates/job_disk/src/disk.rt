@@ -205,6 +205,12 @@ impl<'a, R: Files<File = File> + Wait> Disk<'a, R> {
         self.jobs().files.job_of(file)
     }
 
+    /// Whether the job whose file has this number is being fed.
+    pub fn is_fed(&self, number: u64) -> bool {
+        let found = self.jobs().find(number);
+        found.is_some_and(|(_, job)| job.state.is_fed())
+    }
+
     /// Removes the file of a job that waits, or of one that has failed: nobody waits for it any more.
     ///
     /// An error where there is no such file, or it can't be removed. Nothing changes then.

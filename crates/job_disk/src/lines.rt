@@ -1,16 +1,19 @@
 //! Where the jobs of a folder are, under its lock.
 
-ghost use Rattle.std.specs.Prelude.{◌≡◌, None, Some, IfOk, IfSome, MatchOption, OnErr, OnOk, count_by, filter, length, nat_lt, take};
+ghost use Rattle.std.specs.Prelude.{◌≡◌, ℕ, None, Some, IfNone, IfOk, IfSome, IsTrue, MatchOption, OnErr, OnOk, count_by, filter, length, nat_lt, take};
+ghost use Rattle.std.specs.List.{list_any};
 ghost use Rattle.std.specs.Option.{option_and_then};
 ghost use Rattle.parked_lines.specs.declared.state.JobMove.TheVariants.{Enter, PutBack, TurnAside};
-ghost use Rattle.parked_lines.specs.declared.state.ParkState.TheVariants.{Coming, Fed};
+ghost use Rattle.parked_lines.specs.declared.state.ParkState.TheVariants.{Coming, Fed, Whole};
 ghost use Rattle.parked_lines.specs.Line.{job_kept, job_moved};
 ghost use Rattle.parked_lines.specs.Lines.{found, IsNext, line_of, MovesOne, next_of};
 ghost use Rattle.parked_lines.specs.Parts.{pages_used, rows_used};
-ghost use Rattle.parked_lines.specs.States.{is_parked};
+ghost use Rattle.parked_lines.specs.States.{is_fed, is_parked};
+ghost use Rattle.parked_lines.specs.declared.job.ParkedJob.{ParkedJob};
 ghost use Rattle.job_disk.specs.HeldLines.{found_job, new_job};
 
 use crate::jobs::FolderJobs;
+use job_files::JobEnd;
 use parked_lines::{
     AdmissionFault, FreePart, JobMove, JobSize, NewJob, ParkState, ParkedJob, PartUse,
 };
@@ -163,6 +166,7 @@ impl HeldLines<'_> {
             (Some (record next.1 { state = Fed }))) }
         ensures order { IfSome result (λ next.
             IsNext self.old next.0 next.1.sender next.1.number) }
+        ensures none { IfNone result (self.new ≡ self.old) }
     {
         self.jobs.lines.take_next(turn, free)
     }
@@ -190,6 +194,41 @@ impl HeldLines<'_> {
         ensures { MovesOne self.old self.new queue number None }
     {
         self.jobs.lines.end(queue, number);
+    }
+
+    /// Whether a job of a queue is being fed.
+    pub fn is_feeding(&self, queue: usize) -> bool
+        ensures { result ≡ list_any (λ job. is_fed job.state) (line_of self.now queue) }
+    {
+        self.jobs.lines.is_feeding(queue)
+    }
+
+    /// Whether the job of this number of acceptance is one of a queue that the spool has whole, with a file of which that is known.
+    pub fn is_whole(&self, queue: usize, job: u64) -> bool
+        ensures { IsTrue result → (number : ℕ) × (known : ParkedJob)
+            × (found self.now queue number ≡ Some known) × (known.state ≡ Whole) }
+    {
+        let Some(file) = self.jobs.files.file_of(job) else {
+            return false;
+        };
+        let known = self.jobs.lines.job(queue, file);
+        known.is_some_and(|known| known.state == ParkState::Whole)
+    }
+
+    /// The job of this number of acceptance, one of a queue that the spool had whole, isn't there any more, and waits again. Answers the
+    /// number of its file; None, and nothing changes, where that isn't known.
+    pub fn take_back(&mut self, queue: usize, job: u64) -> Option<u64>
+        ensures none { IfNone result (self.new ≡ self.old) }
+        ensures back { IfSome result (λ number.
+            MatchOption (option_and_then (job_moved PutBack) (found self.old queue number))
+            (self.new ≡ self.old)
+            (λ job. MovesOne self.old self.new queue number (Some job))) }
+    {
+        let file = self.jobs.files.file_of(job)?;
+        // Nobody else ends a job that waits: this forgets its number of acceptance.
+        let _ = self.jobs.files.end(job, JobEnd::Removed);
+        self.jobs.lines.advance(queue, file, JobMove::PutBack);
+        Some(file)
     }
 
     /// How many jobs of a queue wait, or are being fed.

@@ -83,9 +83,15 @@ fn close_spool<R: Files<File = File> + Clock + Log + Wait, E: HouseLedger>(
     seat: &mut HouseSeat<E>,
 ) {
     let House { spool, hall } = house;
-    Feeding { spool, hall }.await_fed();
-    let care = Care { spool, hall };
-    care.wait_until_done();
+    let (feeding, care) = (Feeding { spool, hall }, Care { spool, hall });
+    for _ in hall.rt.forever() {
+        feeding.await_fed();
+        care.wait_until_done();
+        // A printer may have given a job back meanwhile.
+        if !feeding.has_more() {
+            break;
+        }
+    }
     care.tell_all_lost();
     spool.close(hall.rt, seat);
     hall.ending.close();

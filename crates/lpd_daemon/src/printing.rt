@@ -18,6 +18,7 @@ use std::io::Error;
 use std::net::{Net, TcpListener, TcpStream};
 use std::rt::Clock;
 use std::sync::Wait;
+use std::time::Instant;
 
 /// How a job ends for its folder that a printer has left so: None where others end it, or it stays for the next start. What was printed
 /// and isn't where it should be has failed.
@@ -46,7 +47,13 @@ struct Watched<'h, 'a, R, E: HouseLedger, S> {
     job: Option<u64>,
 }
 
-impl<R: Clock + Log + Wait, E: HouseLedger, S: PrintSink + Explains> Watched<'_, '_, R, E, S> {
+impl<R: Files<File = File> + Clock + Log + Wait, E: HouseLedger, S: PrintSink + Explains> Watched<
+    '_,
+    '_,
+    R,
+    E,
+    S,
+> {
     /// Tells of a page that wasn't written, once, with its printer, its job, its place and the cause. The printer will stand still, so
     /// the number of these warnings needs no bound.
     fn tell_fault(&self, page: &HandedPage) {
@@ -60,10 +67,20 @@ impl<R: Clock + Log + Wait, E: HouseLedger, S: PrintSink + Explains> Watched<'_,
         }
     }
 
+    /// Whether the printer waits until it is tried again: its job was put back.
+    fn is_put_off(&self) -> bool {
+        let hall = self.house.hall;
+        hall.put_offs.is_waiting(hall.rt, self.printer)
+    }
+
     /// Notes a page that came back as not written, with which the printer stands still: its job has failed, or, where none is lost, had
-    /// been removed. Then the printer has no cause to stand still where the next job may be tried all the same.
+    /// been removed. Then the printer has no cause to stand still where the next job may be tried all the same. One whose job was put back
+    /// stands still until it is tried again.
     fn note_failed(&self, is_lost: bool) {
         let (hall, printer) = (self.house.hall, self.printer);
+        if self.is_put_off() {
+            return;
+        }
         if is_lost || !self.sink.may_go_on() {
             hall.restarts.note_failure(hall.rt, self.queue, is_lost);
             return;
@@ -96,6 +113,9 @@ impl<R: Files<File = File> + Clock + Log + Wait, E: HouseLedger, S: PrintSink + 
         let written = self.sink.write_page(page);
         if written.is_ok() {
             hall.restarts.note_page(hall.rt, self.queue);
+            hall.put_offs.end(hall.rt, self.printer);
+        } else if self.is_put_off() {
+            self.was_given_up = true;
         } else {
             self.tell_fault(page);
             self.was_given_up = !self.house.is_wanted(page.job);
@@ -107,7 +127,10 @@ impl<R: Files<File = File> + Clock + Log + Wait, E: HouseLedger, S: PrintSink + 
         let (hall, printer) = (self.house.hall, self.printer);
         let how = self.how_left(leaving, self.was_given_up);
         self.was_given_up = false;
-        hall.oversight.delays.end(hall.rt, printer);
+        if !self.is_put_off() {
+            hall.oversight.delays.end(hall.rt, printer);
+            hall.put_offs.end(hall.rt, printer);
+        }
         if leaving == Leaving::Failed {
             self.note_failed(how == Leaving::Failed);
         }
@@ -151,7 +174,7 @@ impl<'h, 'a, R, E: HouseLedger> Printing<'h, 'a, R, E> {
     }
 }
 
-impl<R: Clock + Log + Wait, E: HouseLedger> Errand for Printing<'_, '_, R, E> {
+impl<R: Files<File = File> + Clock + Log + Wait, E: HouseLedger> Errand for Printing<'_, '_, R, E> {
     fn is_wanted(&self, job: u64) -> bool {
         self.house().is_wanted(job)
     }
@@ -174,6 +197,18 @@ impl<R: Clock + Log + Wait, E: HouseLedger> Errand for Printing<'_, '_, R, E> {
 
     fn note_taken(&self, printer: u32) {
         self.house().note_taken(printer);
+    }
+
+    fn first_try(&self, printer: u32, job: u64) -> Option<Instant> {
+        self.house().first_try(printer, job)
+    }
+
+    fn offer(&self, printer: u32, job: u64, tried_ms: u64) {
+        self.house().offer(printer, job, tried_ms);
+    }
+
+    fn withdraw(&self, printer: u32) -> bool {
+        self.house().withdraw(printer)
     }
 }
 
@@ -213,7 +248,7 @@ impl<
             OpenedPlace::Socket(address) => {
                 let silence = limits.silence_seconds;
                 let dial = TcpDial::new(hall.rt, printer, address.into(), silence, self);
-                let pauses = Pauses::new(hall.rt, limits.patience_minutes, self);
+                let pauses = Pauses::new(hall.rt, printer, limits.patience_minutes, self);
                 Device::Socket(SocketSink::new(dial, pauses, u64::MAX))
             }
             OpenedPlace::Folder { path, next } => {

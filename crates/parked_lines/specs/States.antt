@@ -26,6 +26,11 @@ abbrev pub is_waiting : ParkState → Bool
 is_waiting Waiting = true
 is_waiting _ = false
 
+-- it is being fed
+abbrev pub is_fed : ParkState → Bool
+is_fed Fed = true
+is_fed _ = false
+
 -- it is whole in the folder, and not in the spool: it waits, or is being fed
 abbrev pub is_parked : ParkState → Bool
 is_parked Waiting = true

@@ -5,7 +5,7 @@ ghost use Rattle.std.specs.Bool.{OnFalse, OnTrue};
 ghost use Rattle.std.specs.List.{AllWithin, list_any, take_while};
 ghost use Rattle.parked_lines.specs.Line.{Becomes, has_earlier, has_parked, is_earlier, IsAt, IsRising, job_of, may_feed, way_of};
 ghost use Rattle.parked_lines.specs.Parts.{pages_used, rows_used};
-ghost use Rattle.parked_lines.specs.States.{is_parked};
+ghost use Rattle.parked_lines.specs.States.{is_fed, is_parked};
 
 use crate::job::{NewJob, ParkedJob};
 use crate::parts::PartUse;
@@ -150,6 +150,13 @@ impl QueueLine {
         ensures { result ≡ count_by (λ job. is_parked job.state) self.now }
     {
         self.jobs.iter().filter(|job| job.state.is_parked()).count()
+    }
+
+    /// Whether a job is being fed.
+    pub(crate) fn is_feeding(&self) -> bool
+        ensures { result ≡ list_any (λ job. is_fed job.state) self.now }
+    {
+        self.jobs.iter().any(|job| job.state.is_fed())
     }
 
     /// What its jobs have of the spool, each of which may come to this many pages.

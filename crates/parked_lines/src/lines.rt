@@ -3,12 +3,13 @@
 ghost use Rattle.std.specs.Prelude.{◌≡◌, ◌<◌, ◌≤◌, [], None, Some, IfErr, IfNone, IfOk, IfSome, MatchOption, OnErr, OnOk, count_by, false, filter, is_some, length, nat_lt, replicate, take};
 ghost use Rattle.std.specs.Option.{option_and_then};
 ghost use Rattle.std.specs.Bool.{OnFalse, OnTrue};
+ghost use Rattle.std.specs.List.{list_any};
 ghost use Rattle.parked_lines.specs.declared.state.ParkState.TheVariants.{Coming, Fed, Waiting};
 ghost use Rattle.parked_lines.specs.Cause.{IsCause};
 ghost use Rattle.parked_lines.specs.Line.{job_at, job_kept, job_moved, way_of};
 ghost use Rattle.parked_lines.specs.Lines.{found, has_known, IsFirstFrom, IsNext, IsOnce, line_of, LosesNone, MovesOne, next_of, NoneFrom};
 ghost use Rattle.parked_lines.specs.Parts.{pages_used, rows_used};
-ghost use Rattle.parked_lines.specs.States.{is_parked};
+ghost use Rattle.parked_lines.specs.States.{is_fed, is_parked};
 
 use crate::job::{JobSize, NewJob, ParkedJob};
 use crate::line::QueueLine;
@@ -309,6 +310,16 @@ impl ParkedLines {
         match self.lines.get(queue) {
             Some(line) => line.parked(),
             None => 0,
+        }
+    }
+
+    /// Whether a job of a queue is being fed.
+    pub fn is_feeding(&self, queue: usize) -> bool
+        ensures { result ≡ list_any (λ job. is_fed job.state) (line_of self.now queue) }
+    {
+        match self.lines.get(queue) {
+            Some(line) => line.is_feeding(),
+            None => false,
         }
     }
 

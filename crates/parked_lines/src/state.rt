@@ -1,7 +1,7 @@
 //! Where a job is that is kept, as a state.
 
 ghost use Rattle.std.specs.Prelude.{◌≡◌};
-ghost use Rattle.parked_lines.specs.States.{is_in_spool, is_outside, is_parked, is_waiting, kept, moved};
+ghost use Rattle.parked_lines.specs.States.{is_fed, is_in_spool, is_outside, is_parked, is_waiting, kept, moved};
 
 /// Where a job is that is kept in a folder.
 ///
@@ -73,6 +73,13 @@ impl ParkState {
         ensures { result ≡ is_waiting self }
     {
         matches!(self, ParkState::Waiting)
+    }
+
+    /// Whether it is being fed.
+    pub fn is_fed(self) -> bool
+        ensures { result ≡ is_fed self }
+    {
+        matches!(self, ParkState::Fed)
     }
 
     /// Whether it is whole in the folder, and not in the spool: it waits, or is being fed.

@@ -5,3 +5,4 @@ pub mod Ways
 pub mod Hand
 pub mod Known
 pub mod Carried
+pub mod Parted

@@ -9,17 +9,17 @@ ghost use Rattle.printer_devices.specs.declared.device.Device.TheVariants as dev
 
 use crate::faults::DeviceFault;
 use crate::outlet::{Outlet, PatientFile};
-use lpd_commands::write_all;
 use printer_sinks::{Dial, FolderSink, Pause, PrinterFolder, SocketSink};
-use program_edge::StreamWriter;
 use sink_devices::{Causes, Errand};
 use std::fs::File;
-use std::io::Error;
+use std::io::{Error, Write};
 
 /// A file that the pages of a printer are written to.
 #[derive(Drop)]
 pub struct PrinterFile<'a, Q: Errand> {
-    file: StreamWriter<PatientFile<'a, Q>>,
+    file: PatientFile<'a, Q>,
+    /// Why a page wasn't written last.
+    cause: Option<Error>,
     /// The same file, where a job that is done has to be on the disk before it is let go.
     synced: Option<File>,
     /// Why the last job that was done may not be on the disk.
@@ -32,9 +32,19 @@ impl<'a, Q: Errand> PrinterFile<'a, Q> {
     pub fn new(printer: u32, outlet: Outlet, errand: &'a Q, is_synced: bool) -> PrinterFile<'a, Q> {
         PrinterFile {
             synced: if is_synced { outlet.twin() } else { None },
-            file: StreamWriter::new(PatientFile::new(printer, outlet.file, errand)),
+            file: PatientFile::new(printer, outlet.file, errand),
+            cause: None,
             unsynced: None,
         }
+    }
+
+    /// Writes a page of a job.
+    fn write(&mut self, job: u64, octets: &[u8]) -> Result<(), DeviceFault> {
+        self.file.come_to(job);
+        self.file.write_all(octets).map_err(|cause| {
+            self.cause = Some(cause);
+            DeviceFault
+        })
     }
 
     /// Has what was printed on the disk, where that is asked.
@@ -68,7 +78,7 @@ impl<Q: Errand, D: Dial + Causes + Drop, P: Pause + Drop, F: PrinterFolder + Cau
     /// Writes a page of a job.
     pub fn write(&mut self, job: u64, octets: &[u8]) -> Result<(), DeviceFault> {
         match self {
-            Device::File(file) => write_all(&mut file.file, octets).or(Err(DeviceFault)),
+            Device::File(file) => file.write(job, octets),
             Device::Socket(socket) => socket.print(job, octets).or(Err(DeviceFault)),
             Device::Folder(folder) => folder.print(job, octets).or(Err(DeviceFault)),
         }
@@ -109,7 +119,7 @@ impl<Q: Errand, D: Dial + Causes + Drop, P: Pause + Drop, F: PrinterFolder + Cau
     /// Why a page wasn't written last.
     pub fn cause(&self) -> Option<Error> {
         match self {
-            Device::File(file) => file.file.cause(),
+            Device::File(file) => file.cause,
             Device::Socket(socket) => socket.dial().cause(),
             Device::Folder(folder) => folder.folder().cause(),
         }

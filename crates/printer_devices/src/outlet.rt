@@ -92,12 +92,17 @@ pub fn has_unread(pipe: &File) -> bool {
     is_told(pipe.as_raw_fd(), POLLIN, 0)
 }
 
-/// A printer's file, of which a write waits while the printer takes nothing, until the server waits for nothing any more.
+/// A printer's file, of which a write waits while the printer takes nothing, until the server waits for nothing any more. A job of which
+/// no octet has gone is offered to the server meanwhile, which may put it back.
 #[derive(Drop)]
 pub struct PatientFile<'a, Q: Errand> {
     printer: u32,
     file: File,
     errand: &'a Q,
+    /// The job whose octets are written.
+    job: u64,
+    /// Whether an octet of it has gone.
+    is_begun: bool,
 }
 
 impl<'a, Q: Errand> PatientFile<'a, Q> {
@@ -107,7 +112,31 @@ impl<'a, Q: Errand> PatientFile<'a, Q> {
             printer,
             file,
             errand,
+            job: 0,
+            is_begun: false,
         }
+    }
+
+    /// Octets of this job are written from now on.
+    pub(crate) fn come_to(&mut self, job: u64) {
+        if job != self.job {
+            self.job = job;
+            self.is_begun = false;
+        }
+    }
+
+    /// Waits for a second at most until the printer takes octets, which it hasn't for this many seconds. False where the server has put the
+    /// job back meanwhile.
+    fn waits_on(&self, seconds: u64) -> bool {
+        if self.is_begun {
+            is_told(self.file.as_raw_fd(), POLLOUT, TURN_MS);
+            return true;
+        }
+        let tried_ms = seconds.saturating_mul(1_000);
+        self.errand.offer(self.printer, self.job, tried_ms);
+        is_told(self.file.as_raw_fd(), POLLOUT, TURN_MS);
+        // From here on octets of it may go.
+        !self.errand.withdraw(self.printer)
     }
 }
 
@@ -120,12 +149,15 @@ impl<Q: Errand> Write for PatientFile<'_, Q> {
                         break;
                     }
                     self.errand.note_halt(self.printer);
-                    is_told(self.file.as_raw_fd(), POLLOUT, TURN_MS);
+                    if !self.waits_on(turn) {
+                        break;
+                    }
                 }
                 written => {
                     if turn != 0 {
                         self.errand.note_taken(self.printer);
                     }
+                    self.is_begun |= written.is_ok();
                     return written;
                 }
             }

@@ -97,6 +97,8 @@ pub struct Settings<'a> {
     /// The path of the directory where jobs are kept until they are printed, where they are kept: they
     /// outlive the server.
     pub spool: Option<&'a str>,
+    /// Whether each queue has its part of the spool and no more, where no jobs are kept: a job over it is refused for now.
+    pub parts: bool,
     /// The path of the directory where each segment of the account becomes a file, where they do.
     pub account: Option<&'a str>,
     /// What stands before each line of the log. But for `Plain`, a warning that a peer causes again and again is told
@@ -130,7 +132,7 @@ impl<'a> Settings<'a> {
         ensures printer_limits { (result.printer_limits.patience_minutes ≡ None)
             × (result.printer_limits.silence_seconds ≡ None) }
         ensures restart_seconds { result.restart_seconds ≡ None }
-        ensures spool { result.spool ≡ None }
+        ensures spool { (result.spool ≡ None) × (result.parts ≡ false) }
         ensures account { result.account ≡ None }
         ensures log { (result.log ≡ Plain) × (result.log_jobs ≡ false) }
         ensures status { (result.status ≡ None) × (result.status_host ≡ None) }
@@ -151,6 +153,7 @@ impl<'a> Settings<'a> {
             printer_limits: PrinterLimits::NONE,
             restart_seconds: None,
             spool: None,
+            parts: false,
             account: None,
             log: LogForm::Plain,
             log_jobs: false,

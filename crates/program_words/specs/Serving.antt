@@ -41,7 +41,7 @@ serve_words =
     ∷ count (codes "per-host") ∷ count (codes "slowest") ∷ flag (codes "keep-room")
     ∷ repeated (codes "allow") ∷ repeated (codes "proxied") ∷ option (codes "control") ∷ printer ∷ count (codes "patience")
     ∷ count (codes "printer-silence") ∷ count (codes "restart") ∷ option (codes "spool")
-    ∷ option (codes "account") ∷ option (codes "log") ∷ flag (codes "log-jobs") ∷ option (codes "status")
+    ∷ flag (codes "parts") ∷ option (codes "account") ∷ option (codes "log") ∷ flag (codes "log-jobs") ∷ option (codes "status")
     ∷ option (codes "status-host") ∷ []
 
 abbrev pub serve_app : App
@@ -118,6 +118,7 @@ pub record IsServing (rows : List Row) (request : ServeRequest) : Type 0 where
   pub printer_limits : ArePrinterLimits rows request.settings.printer_limits
   pub restart : IsLimit rows (codes "restart") (option_map non_zero_u64_get request.settings.restart_seconds)
   pub spool : option_map (λ path. path.now) request.settings.spool ≡ first_of (codes "spool") rows
+  pub parts : IsFlag rows (codes "parts") request.settings.parts
   pub account : option_map (λ path. path.now) request.settings.account ≡ first_of (codes "account") rows
   pub log : IsLog rows request.settings.log
   pub log_jobs : IsFlag rows (codes "log-jobs") request.settings.log_jobs

@@ -146,6 +146,11 @@ pub(crate) const SERVE: CommandTable = CommandTable {
             help: "Keeps each job in a file of DIR until it is printed, so that it outlives the server",
         },
         Word {
+            id: "parts",
+            shape: Shape::Flag,
+            help: "Gives each queue its part of the spool, and refuses a job over it for now, where no jobs are kept",
+        },
+        Word {
             id: "account",
             shape: Shape::Option("DIR"),
             help: "Writes each segment of the account into a file of DIR, as it is rotated and at the end",
@@ -403,6 +408,7 @@ pub(crate) fn serving_of<'a>(
         printer_limits: printing.limits,
         restart_seconds: printing.restart_seconds,
         spool: text_if(matches, "spool"),
+        parts: flag_of(matches, "parts"),
         account: text_if(matches, "account"),
         log: telling.log,
         log_jobs: flag_of(matches, "log-jobs"),

@@ -5,11 +5,12 @@ use crate::commanding::AnswerLines;
 use crate::owned_job::OwnedJob;
 use control_lines::AnswerEnd;
 use log::Log;
-use server_folders::{AdmissionFault, FileRemoval, FiledJob, JobFolder};
+use server_folders::{AdmissionFault, DiskFault, FileRemoval, FiledJob, JobFolder};
 use server_house::{HouseLedger, HouseSeat};
-use shared_spool::{SeenJob, Unremoved};
+use shared_spool::{Refusal, SeenJob, Unremoved};
 use standings::{JobName, JobNumber, JobStage, stage_of};
 use std::alloc::AllocError;
+use std::fmt;
 use std::fmt::Display;
 use std::fs::{File, Files};
 use std::rt::Clock;
@@ -20,6 +21,30 @@ const NOT_KEPT: &str = "no jobs are kept: the server has no --spool";
 
 /// Why one can't be named whose file says nothing of it.
 const NO_JOB: &str = "the file isn't that of a kept job";
+
+/// How many jobs are told of that are fed again together, at most.
+const MOST_TOLD: usize = 1_000;
+
+/// Why a failed job isn't fed again.
+#[derive(Clone, Copy)]
+enum Unsent<'a> {
+    /// Its file can't be renamed, or isn't there.
+    Fault(DiskFault<'a>),
+    /// The file isn't that of a job of this server's, or the job waits already.
+    NoJob,
+    /// Memory was refused: it is fed after the next start.
+    Memory,
+}
+
+impl fmt::Display for Unsent<'_> {
+    fn fmt<W: fmt::Write>(&self, f: &mut fmt::Formatter<W>) -> fmt::Result {
+        match self {
+            Unsent::Fault(fault) => write!(f, "{fault}"),
+            Unsent::NoJob => f.write_str(NO_JOB),
+            Unsent::Memory => f.write_str("memory was refused"),
+        }
+    }
+}
 
 /// The name of a job in this file.
 fn filed_name(number: u64, job: &FiledJob) -> OwnedJob<'_> {
@@ -130,7 +155,7 @@ impl<R: Files<File = File> + Clock + Log + Wait, E: HouseLedger> Care<'_, '_, R,
         }
     }
 
-    /// Has a job go that waits in the folder, or has failed there.
+    /// Has a job go that waits in the folder, has failed there, or is being fed.
     fn cancel_waiting(
         &self,
         kept: &JobFolder<'_, R>,
@@ -138,12 +163,10 @@ impl<R: Files<File = File> + Clock + Log + Wait, E: HouseLedger> Care<'_, '_, R,
         filed: &FiledJob,
     ) -> Result<Vec<u8>, AllocError> {
         let name = filed_name(number, filed);
-        match kept.let_go(number) {
+        match kept.remove(self.hall.rt, number) {
             Ok(FileRemoval::Gone) => self.tell_done("removed", &name),
             Ok(FileRemoval::IsElsewhere) => {
-                let why = format!(in self.hall.alloc;
-                    "{name} is being handed to the spool: ask again"
-                )?;
+                let why = format!(in self.hall.alloc; "{name} is just entering the spool: ask again")?;
                 self.refuse(why)
             }
             Err(fault) => {
@@ -175,27 +198,97 @@ impl<R: Files<File = File> + Clock + Log + Wait, E: HouseLedger> Care<'_, '_, R,
         }
     }
 
+    /// Has a failed job of this folder fed again, by the number of its file. Answers whose it is, where that is known.
+    fn resend_one(
+        &self,
+        kept: &JobFolder<'_, R>,
+        number: u64,
+    ) -> Result<Option<FiledJob>, Unsent<'_>> {
+        kept.disk.resend(number).map_err(Unsent::Fault)?;
+        // Whose it is is read before the spool may have it printed.
+        let filed = kept.filed(self.hall.rt, self.hall.alloc, number);
+        let config = &self.hall.oversight.config;
+        match kept.enter(self.hall.rt, self.hall.alloc, config, number) {
+            Ok(true) => Ok(filed.ok().flatten()),
+            Ok(false) | Err(AdmissionFault::Known | AdmissionFault::NoQueue) => Err(Unsent::NoJob),
+            Err(AdmissionFault::Memory) => Err(Unsent::Memory),
+        }
+    }
+
     /// Has a job fed again that has failed, by the number of its file, and tells whose it is.
     pub(crate) fn resend_job(&self, number: u64) -> Result<Vec<u8>, AllocError> {
         let Some(kept) = &self.hall.kept else {
             return self.refuse(NOT_KEPT);
         };
-        if let Err(fault) = kept.disk.resend(number) {
-            return self.refuse(fault);
-        }
-        // Whose it is is read before the spool may have it printed.
-        let filed = kept.filed(self.hall.rt, self.hall.alloc, number);
-        let config = &self.hall.oversight.config;
-        match kept.enter(self.hall.rt, self.hall.alloc, config, number) {
-            Ok(true) => {}
-            Ok(false) | Err(AdmissionFault::Known | AdmissionFault::NoQueue) => {
-                return self.refuse(NO_JOB);
-            }
-            Err(AdmissionFault::Memory) => return Err(AllocError),
-        }
-        match filed {
+        match self.resend_one(kept, number) {
             Ok(Some(filed)) => self.tell_done("resent", &filed_name(number, &filed)),
-            Ok(None) | Err(_) => AnswerLines::new(self.hall.alloc).end(AnswerEnd::Done),
+            Ok(None) => AnswerLines::new(self.hall.alloc).end(AnswerEnd::Done),
+            Err(Unsent::Memory) => Err(AllocError),
+            Err(why) => self.refuse(why),
+        }
+    }
+
+    /// Whether the failed job in this file is one of a queue, where a queue is named.
+    fn is_meant(&self, kept: &JobFolder<'_, R>, number: u64, queue: Option<&[u8]>) -> bool {
+        let Some(queue) = queue else {
+            return true;
+        };
+        match kept.filed(self.hall.rt, self.hall.alloc, number) {
+            Ok(Some(filed)) => filed.owner.queue.as_slice() == queue,
+            Ok(None) | Err(_) => false,
+        }
+    }
+
+    /// Has each job fed again that has failed, of the queue of a name where one is given. Tells whose the first 1,000 are, how many more
+    /// there are, and which couldn't be.
+    pub(crate) fn resend_all(&self, queue: Option<&[u8]>) -> Result<Vec<u8>, AllocError> {
+        let Some(kept) = &self.hall.kept else {
+            return self.refuse(NOT_KEPT);
+        };
+        if queue.is_some_and(|name| self.hall.oversight.config.queue_named(name).is_none()) {
+            return self.refuse(Refusal::UnknownQueue);
+        }
+        let numbers = match kept.failed(self.hall.alloc) {
+            Ok(numbers) => numbers,
+            Err(fault) => return self.refuse(fault),
+        };
+        let mut answer = AnswerLines::new(self.hall.alloc);
+        let mut sent = 0usize;
+        for number in numbers {
+            if self.is_meant(kept, number, queue) {
+                sent = sent.saturating_add(1);
+                self.tell_resent(&mut answer, kept, number, sent <= MOST_TOLD)?;
+            }
+        }
+        if sent == 0 {
+            answer.line(&"resent none")?;
+        } else if sent > MOST_TOLD {
+            let line = format!(in self.hall.alloc; ".. and {} more", sent - MOST_TOLD)?;
+            answer.line(&line)?;
+        }
+        answer.end(AnswerEnd::Done)
+    }
+
+    /// Has a failed job fed again. Tells whose it is where that is wanted, and in any case where it couldn't be.
+    fn tell_resent(
+        &self,
+        answer: &mut AnswerLines,
+        kept: &JobFolder<'_, R>,
+        number: u64,
+        is_told: bool,
+    ) -> Result<(), AllocError> {
+        match self.resend_one(kept, number) {
+            Ok(Some(filed)) if is_told => {
+                let name = filed_name(number, &filed);
+                let line = format!(in self.hall.alloc; "resent {name}")?;
+                answer.line(&line)
+            }
+            Ok(_) => Ok(()),
+            Err(Unsent::Memory) => Err(AllocError),
+            Err(why) => {
+                let line = format!(in self.hall.alloc; "file {number} isn't resent: {why}")?;
+                answer.line(&line)
+            }
         }
     }
 }

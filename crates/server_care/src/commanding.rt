@@ -6,7 +6,7 @@ use control_lines::{AnswerEnd, ControlCommand, Escaped};
 use decimals::read_decimal;
 use log::Log;
 use server_house::{HouseLedger, HouseSeat, PrintedLine, rotation_of};
-use shared_spool::{Octets, SeenJob};
+use shared_spool::{Octets, Refusal, SeenJob};
 use std::alloc::{AllocError, Global};
 use std::fmt::Display;
 use std::fs::{File, Files};
@@ -129,14 +129,31 @@ impl<R: Files<File = File> + Clock + Log + Wait, E: HouseLedger> Care<'_, '_, R,
         }
     }
 
+    /// Holds a queue in the spool and in the folder, while no job of it is fed or leaves the spool: that holds it for a moment too.
+    fn hold_all(&self, queue: &[u8]) -> Result<(), Refusal> {
+        let lines = self.hall.kept.as_ref().map(|kept| kept.disk.lines());
+        self.spool.hold(self.hall.rt, queue)?;
+        self.note_held(queue, true);
+        drop(lines);
+        Ok(())
+    }
+
+    /// Releases a queue in the spool and in the folder, in the same way.
+    fn release_all(&self, queue: &[u8]) -> Result<(), Refusal> {
+        let lines = self.hall.kept.as_ref().map(|kept| kept.disk.lines());
+        self.spool.release(self.hall.rt, queue)?;
+        self.note_held(queue, false);
+        drop(lines);
+        Ok(())
+    }
+
     /// Holds a queue. Tells where it was held before.
     fn hold_queue(&self, queue: &[u8]) -> Result<Vec<u8>, AllocError> {
         let mut answer = AnswerLines::new(self.hall.alloc);
         let was_held = self.is_held_by_name(queue)?;
-        if let Err(refusal) = self.spool.hold(self.hall.rt, queue) {
+        if let Err(refusal) = self.hold_all(queue) {
             return answer.end_by(Some(refusal));
         }
-        self.note_held(queue, true);
         if was_held {
             answer.line(&"held already")?;
         }
@@ -163,10 +180,9 @@ impl<R: Files<File = File> + Clock + Log + Wait, E: HouseLedger> Care<'_, '_, R,
     fn release_queue(&self, queue: &[u8]) -> Result<Vec<u8>, AllocError> {
         let mut answer = AnswerLines::new(self.hall.alloc);
         let was_held = self.is_held_by_name(queue)?;
-        if let Err(refusal) = self.spool.release(self.hall.rt, queue) {
+        if let Err(refusal) = self.release_all(queue) {
             return answer.end_by(Some(refusal));
         }
-        self.note_held(queue, false);
         if !was_held {
             self.tell_unheld(&mut answer, queue)?;
         }
@@ -277,6 +293,8 @@ impl<R: Files<File = File> + Clock + Log + Wait, E: HouseLedger> Care<'_, '_, R,
             ControlCommand::CancelJob { number } => self.cancel_job(seat, *number),
             ControlCommand::CancelFile { number } => self.cancel_file(seat, *number),
             ControlCommand::Resend { number } => self.resend_job(*number),
+            ControlCommand::ResendAll => self.resend_all(None),
+            ControlCommand::ResendQueue { queue } => self.resend_all(Some(queue.as_slice())),
             ControlCommand::Rotate => self.rotate_account(seat),
             ControlCommand::Stop { .. } | ControlCommand::StopNow => AnswerLines::new(
                 self.hall.alloc,

@@ -6,6 +6,7 @@ ghost use Rattle.server_clients.specs.Ends.{failure_text};
 ghost use Rattle.connection_lobby.specs.declared.desk.Serves.TheVariants.{All, NoJobs};
 
 use crate::job_doors::JobDoors;
+use crate::queue_parts::PartDoors;
 use crate::served::Served;
 use crate::session_notes::SessionNotes;
 use connection_lobby::{Serves, Visit, keep_asking, send_in_pieces};
@@ -15,7 +16,7 @@ use kept_requests::Keeping;
 use log::{Log, warn};
 use lpd_commands::{OctetRead, OctetWrite};
 use noted_requests::Noting;
-use parked_requests::{Parking, Parks};
+use parked_requests::{Parking, Parks, Parted};
 use program_edge::{Limits, StreamReader, StreamWriter, pass_over};
 use request_session::{Input, Requests, serve_with};
 use server_folders::JobFolder;
@@ -27,7 +28,7 @@ use std::fs::{File, Files};
 use std::io;
 use std::net::{Shutdown, SocketAddr, TcpStream};
 use std::rt::Clock;
-use std::sync::Wait;
+use std::sync::{Mutex, Wait};
 use std::time::{Duration, Instant};
 
 /// The part of the program that logs what happens here, as the log names it.
@@ -296,12 +297,35 @@ impl<'h, 'a, R: Files<File = File> + Clock + Wait + Log, E: HouseLedger> Answeri
         self.serve_parking(kept, number, serves, seated).into_seat()
     }
 
+    /// Serves connections through a seat, at a spool of which each queue has a part and no more.
+    fn answer_parted(
+        &self,
+        turn: &'h Mutex<()>,
+        seat: HouseSeat<E>,
+        serves: Serves,
+    ) -> HouseSeat<E> {
+        let (hall, number) = (self.hall, seat.number());
+        let parted = Parted {
+            inner: Seated::new(hall.rt, self.spool, seat),
+            parts: PartDoors::new(self.spool, hall, turn),
+        };
+        let attendant = Attendant {
+            hall,
+            number,
+            serves,
+        };
+        attendant.serve_all(parted).into_inner().into_seat()
+    }
+
     /// Serves connections through a seat, one after another, until no more can come. Answers the
     /// seat.
     pub fn answer_all(&self, seat: HouseSeat<E>, serves: Serves) -> HouseSeat<E> {
         let hall = self.hall;
         if let Some(kept) = &hall.kept {
             return self.answer_keeping(kept, seat, serves);
+        }
+        if let Some(turn) = &hall.parts {
+            return self.answer_parted(turn, seat, serves);
         }
         let number = seat.number();
         let seated = Seated::new(hall.rt, self.spool, seat);

@@ -8,7 +8,7 @@
 //! What can't be fed stays, with a warning: nothing that was acknowledged is taken away by anything but its end. A failed job becomes
 //! `N.failed` for the same reason. A server that stops feeds nothing more: what waits, waits for the next start.
 
-use crate::job_doors::{is_stopped, part_of, unclaimed};
+use crate::job_doors::{is_awaited, is_stopped, is_tried, part_of, unclaimed};
 use crate::served::HouseSeated;
 use crate::session_notes::SessionNotes;
 use config_values::Config;
@@ -145,8 +145,14 @@ impl<R: Files<File = File> + Clock + Log + Wait, E: HouseLedger> Feeding<'_, '_,
         }
         let used = kept.disk.lines().used(place, config.limit_of(queue));
         let part = part_of(config, queue, shared.busy).free(&used);
+        // A printer that wasn't reached is tried with one job.
+        let most = if is_tried(self.hall, self.spool, queue) {
+            1u64.saturating_sub(used.rows)
+        } else {
+            vacancy.rows as u64
+        };
         FreePart {
-            rows: part.rows.min(vacancy.rows as u64),
+            rows: part.rows.min(most),
             pages: u64::from(part.pages).min(shared.unclaimed) as u32,
         }
     }
@@ -239,9 +245,16 @@ impl<R: Files<File = File> + Clock + Log + Wait, E: HouseLedger> Feeding<'_, '_,
         inner.into_seat()
     }
 
-    /// Whether a job waits in the folder that isn't read yet, or whose queue isn't held and has a printer that doesn't stand.
-    fn has_more(&self, kept: &JobFolder<'_, R>) -> bool {
+    /// Whether a job waits in the folder that isn't read yet, or whose queue isn't held and has a printer that goes on by itself; not where
+    /// the server stops.
+    pub fn has_more(&self) -> bool {
         let (rt, config) = (self.hall.rt, &self.hall.oversight.config);
+        let Some(kept) = &self.hall.kept else {
+            return false;
+        };
+        if self.hall.ending.stops() {
+            return false;
+        }
         if !kept.is_read(rt) {
             return true;
         }
@@ -249,17 +262,14 @@ impl<R: Files<File = File> + Clock + Log + Wait, E: HouseLedger> Feeding<'_, '_,
             let queue = (place as u32).saturating_add(1);
             kept.disk.lines().parked(place) > 0
                 && !kept.is_held(rt, place)
-                && !is_stopped(rt, config, self.spool, queue)
+                && is_awaited(self.hall, self.spool, queue)
         })
     }
 
     /// Waits until no job waits in the folder that may be fed, or the server stops: at its end, once nobody sends jobs any more.
     pub fn await_fed(&self) {
-        let Some(kept) = &self.hall.kept else {
-            return;
-        };
         for _ in self.hall.rt.forever() {
-            if self.hall.ending.stops() || !self.has_more(kept) {
+            if !self.has_more() {
                 break;
             }
             thread::sleep(self.hall.rt, Duration::from_millis(LOOK_MS));

@@ -35,7 +35,7 @@ struct DoorJob {
 }
 
 /// The place of the queue of this number.
-fn place_of(queue: u32) -> usize {
+pub(crate) fn place_of(queue: u32) -> usize {
     queue.saturating_sub(1) as usize
 }
 
@@ -74,6 +74,35 @@ pub(crate) fn is_stopped<R: Wait, E: HouseLedger>(
         }
     }
     true
+}
+
+/// Whether a queue has a printer for which its jobs wait: one that isn't stopped, or that is tried again by itself.
+pub(crate) fn is_awaited<R: Wait, E: HouseLedger>(
+    hall: &Hall<'_, R>,
+    spool: &HouseSpool<E>,
+    queue: u32,
+) -> bool {
+    let (rt, config) = (hall.rt, &hall.oversight.config);
+    (0..config.printer_count()).any(|before| {
+        let printer = before + 1;
+        config.queue_of(printer) == queue
+            && (!spool.is_stopped(rt, printer) || hall.put_offs.is_waiting(rt, printer))
+    })
+}
+
+/// Whether each printer of a queue that isn't stopped gave a job back, and wasn't reached since.
+pub(crate) fn is_tried<R: Wait, E: HouseLedger>(
+    hall: &Hall<'_, R>,
+    spool: &HouseSpool<E>,
+    queue: u32,
+) -> bool {
+    let (rt, config) = (hall.rt, &hall.oversight.config);
+    (0..config.printer_count()).all(|before| {
+        let printer = before + 1;
+        config.queue_of(printer) != queue
+            || spool.is_stopped(rt, printer)
+            || hall.put_offs.is_tried(rt, printer)
+    })
 }
 
 /// A text with more behind it, or without where memory for that is refused.

@@ -4,7 +4,7 @@ use job_disk::DiskFolder;
 use kept_requests::{Cause, Keeping};
 use log::{Log, warn};
 use noted_requests::Noting;
-use parked_requests::{JobWays, Parking, Parks};
+use parked_requests::{JobWays, Parking, Parks, Parted};
 use request_session::Requests;
 use server_house::{HandedOf, HouseLedger, KindsOf};
 use session::Seated;
@@ -36,6 +36,16 @@ impl<R: Wait, E: HouseLedger> Served for HouseSeated<'_, R, E> {
 }
 
 impl<Q: Served, N> Served for Noting<Q, N> {
+    fn take_removed(&mut self) -> Option<Vec<u64>> {
+        self.inner.take_removed()
+    }
+
+    fn let_go<L: Log>(&mut self, rt: &L, peer: SocketAddr) {
+        self.inner.let_go(rt, peer);
+    }
+}
+
+impl<Q: Served, P> Served for Parted<Q, P> {
     fn take_removed(&mut self) -> Option<Vec<u64>> {
         self.inner.take_removed()
     }

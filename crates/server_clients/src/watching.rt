@@ -1,11 +1,14 @@
-//! The thread that gives back the pages of jobs whose peers are gone, and starts queues again.
+//! The thread that gives back the pages of jobs whose peers are gone, has jobs leave the spool that can't be printed now, and starts queues
+//! again.
 
 ghost use Rattle.std.specs.Prelude.{◌≡◌, ◌⊎◌, ◌+◌, ◌-◌, ◌^◌, false, min, true};
 
+use crate::unloading::Unloading;
 use log::{Log, warn};
 use server_house::{House, HouseLedger, HouseSeat};
 use shared_spool::{AbortError, Waiting};
 use std::alloc::AllocError;
+use std::fs::{File, Files};
 use std::rt::Clock;
 use std::sync::Wait;
 use std::thread;
@@ -145,14 +148,18 @@ impl<R: Clock + Log + Wait, E: HouseLedger> Watcher<'_, '_, R, E> {
 }
 
 /// Ends jobs that wait for a page and whose peers are gone, until the server ends; and where
-/// nothing at all happens for as long as a peer may be silent, all that wait. Starts queues again
-/// where that is due. Answers the seat.
-pub fn watch<R: Clock + Log + Wait, E: HouseLedger>(
+/// nothing at all happens for as long as a peer may be silent, all that wait. Has jobs leave the spool that can't be printed now, and starts
+/// queues again where that is due. Answers the seat.
+pub fn watch<R: Files<File = File> + Clock + Log + Wait, E: HouseLedger>(
     house: House<'_, '_, R, E>,
     seat: HouseSeat<E>,
 ) -> HouseSeat<E> {
     let hall = house.hall;
     let Ok(mut buffer) = vec![in hall.alloc; 0u8; LOOKED_AT_OCTETS] else {
+        warn!(hall.rt; target: PART, "memory was refused: peers that are gone aren't looked for");
+        return seat;
+    };
+    let Ok(mut unloading) = Unloading::new(house) else {
         warn!(hall.rt; target: PART, "memory was refused: peers that are gone aren't looked for");
         return seat;
     };
@@ -172,6 +179,9 @@ pub fn watch<R: Clock + Log + Wait, E: HouseLedger>(
             break;
         }
         thread::sleep(hall.rt, Duration::from_millis(STEP_MS));
+        if unloading.look(&mut watcher.seat).is_err() {
+            warn!(hall.rt; target: PART, "memory was refused: jobs that can't be printed now stay in the spool");
+        }
         house.start_all_due(&mut watcher.seat);
         step = step.saturating_add(1) % STEPS;
         if step != 0 {

@@ -19,6 +19,7 @@ use status_lines::KeptJobs;
 use std::alloc::Global;
 use std::collections::VecDeque;
 use std::fs::{File, Files};
+use std::mem;
 use std::rt::Clock;
 use std::sync::{Condvar, Mutex, Wait};
 use std::time::Duration;
@@ -34,6 +35,8 @@ struct FolderState {
     found: VecDeque<u64>,
     /// Which queues are held, by their places.
     held: Vec<bool>,
+    /// The numbers of files whose jobs were removed while they were being fed.
+    removed: Vec<u64>,
     /// Something changed by which a job may have to be fed.
     is_rung: bool,
 }
@@ -87,6 +90,7 @@ impl<'a, R: Files<File = File> + Log + Wait> JobFolder<'a, R> {
             state: Mutex::new(FolderState {
                 found,
                 held,
+                removed: Vec::new(alloc),
                 is_rung: false,
             }),
             bell: Condvar::new(),
@@ -110,6 +114,13 @@ impl<'a, R: Files<File = File> + Log + Wait> JobFolder<'a, R> {
                 Ok(None)
             }
         }
+    }
+
+    /// The numbers of the files whose jobs have failed, in order. An error where the folder can't be read, or memory is refused.
+    pub fn failed(&self, alloc: Global) -> Result<Vec<u64>, DiskFault<'_>> {
+        let mut numbers = DiskStore::new(&self.disk).failed(alloc)?;
+        numbers.sort_unstable();
+        Ok(numbers)
     }
 
     /// The job in this file, which is whole, waits to be fed, by its number. False where the file isn't that of a job for one of this
@@ -185,6 +196,26 @@ impl<'a, R: Files<File = File> + Log + Wait> JobFolder<'a, R> {
     /// An error where it doesn't wait and no file of it has failed, or the file can't be removed. Nothing changes then.
     pub fn let_go(&self, number: u64) -> Result<FileRemoval, DiskFault<'a>> {
         self.disk.drop_kept(number)
+    }
+
+    /// Has the job in this file go, which waits to be fed, has failed, or is being fed just now: then it goes as soon as that has ended, by
+    /// whoever takes `removed`.
+    ///
+    /// An error as for `let_go`. IsElsewhere where the spool has it, or it is coming; or memory is refused.
+    pub fn remove(&self, rt: &R, number: u64) -> Result<FileRemoval, DiskFault<'a>> {
+        if self.let_go(number)? == FileRemoval::Gone {
+            return Ok(FileRemoval::Gone);
+        }
+        if !self.disk.is_fed(number) || self.state.lock(rt).removed.push(number).is_err() {
+            return Ok(FileRemoval::IsElsewhere);
+        }
+        Ok(FileRemoval::Gone)
+    }
+
+    /// The numbers of files whose jobs were removed while they were being fed: each is told once.
+    pub fn take_removed(&self, rt: &R, alloc: Global) -> Vec<u64> {
+        let mut state = self.state.lock(rt);
+        mem::replace(&mut state.removed, Vec::new(alloc))
     }
 
     /// How many jobs wait in the folder to be fed, and how many in it have failed.

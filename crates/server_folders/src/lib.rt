@@ -13,7 +13,7 @@ mod told_places;
 mod waiting;
 
 pub use archive::{ACCOUNT_LINES, Archive, LAST_TRIES, open_archive};
-pub use job_disk::{AdmissionFault, FileRemoval, HeldLines};
+pub use job_disk::{AdmissionFault, DiskFault, FileRemoval, HeldLines};
 pub use kept::JobFolder;
 pub use owner::{FiledJob, Owner};
 pub use refusal::FOLDER_CAUSES;

@@ -101,7 +101,7 @@ impl<R: Files<File = File> + Log + Wait> JobFolder<'_, R> {
             if !is_picked(queue, agent, words, &job) {
                 continue;
             }
-            match self.let_go(job.number) {
+            match self.remove(rt, job.number) {
                 Ok(FileRemoval::Gone) => removed.jobs.push(job)?,
                 Ok(FileRemoval::IsElsewhere) => {}
                 Err(fault) => warn!(rt; "{fault}: the job isn't removed"),

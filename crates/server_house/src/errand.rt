@@ -5,11 +5,16 @@ use crate::ledgers::HouseLedger;
 use log::{Log, warn};
 use server_notes::DelayCause;
 use sink_devices::Errand;
+use std::fs::{File, Files};
 use std::io::Error;
 use std::rt::Clock;
 use std::sync::Wait;
+use std::time::Instant;
 
-impl<R: Clock + Log + Wait, E: HouseLedger> Errand for House<'_, '_, R, E> {
+/// For how many milliseconds a printer is tried before its job may be put back: one that is busy with something else is reached by then.
+const TRIED_MS: u64 = 3_000;
+
+impl<R: Files<File = File> + Clock + Log + Wait, E: HouseLedger> Errand for House<'_, '_, R, E> {
     fn is_wanted(&self, job: u64) -> bool {
         !self.hall.ending.is_over() && self.spool.is_wanted(self.hall.rt, job)
     }
@@ -47,5 +52,22 @@ impl<R: Clock + Log + Wait, E: HouseLedger> Errand for House<'_, '_, R, E> {
 
     fn note_taken(&self, printer: u32) {
         self.hall.oversight.delays.end(self.hall.rt, printer);
+    }
+
+    fn first_try(&self, printer: u32, job: u64) -> Option<Instant> {
+        let kept = self.hall.kept.as_ref()?;
+        let file = kept.disk.file_of(job)?;
+        self.hall.put_offs.first_try(self.hall.rt, printer, file)
+    }
+
+    fn offer(&self, printer: u32, job: u64, tried_ms: u64) {
+        let hall = self.hall;
+        if hall.kept.is_some() && (tried_ms >= TRIED_MS || hall.ending.stops()) {
+            hall.offers.open(hall.rt, printer, job);
+        }
+    }
+
+    fn withdraw(&self, printer: u32) -> bool {
+        self.hall.kept.is_some() && self.hall.offers.withdraw(self.hall.rt, printer)
     }
 }

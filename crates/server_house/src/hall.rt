@@ -11,12 +11,14 @@ use log::Log;
 use mio::Waker;
 use program_edge::{Limits, PrinterLimits, Settings};
 use server_folders::{Archive, JobFolder};
-use server_notes::{JobBook, JobOutcome, Restarts, Rotations, ServerEnding, Withdrawals};
+use server_notes::{
+    JobBook, JobOutcome, Offers, PutOffs, Restarts, Rotations, ServerEnding, Withdrawals,
+};
 use std::alloc::{AllocError, Global};
 use std::fs::{File, Files};
 use std::rt::Clock;
 use std::str;
-use std::sync::Wait;
+use std::sync::{Mutex, Wait};
 
 /// What all threads of a server share beside its spool. It is made once, of the settings, and the scope lends it to each thread, whose
 /// life is one call that is given it. What one thread alone needs is moved into that, as what a printer prints to is.
@@ -31,6 +33,10 @@ pub struct Hall<'a, R> {
     pub restarts: Restarts,
     /// Which queues are started again at once.
     pub withdrawals: Withdrawals,
+    /// The jobs at printers that may be put back.
+    pub offers: Offers,
+    /// Which printers gave their jobs back, and when they are tried again.
+    pub put_offs: PutOffs,
     /// From how many counted entries on the account is rotated, where room is kept in it.
     pub least: Option<u64>,
     pub desk: Desk,
@@ -42,6 +48,8 @@ pub struct Hall<'a, R> {
     pub ending: ServerEnding,
     /// Where jobs are kept until they are printed, if they are.
     pub kept: Option<JobFolder<'a, R>>,
+    /// Held while a job is opened, where each queue has a part of the spool and no more.
+    pub parts: Option<Mutex<()>>,
     /// Where the account's segments become files, if they do.
     pub archive: Option<Archive<'a>>,
     /// What is noted of each job, where the log has lines of them or somebody may ask how they stand.
@@ -65,6 +73,8 @@ impl<'a, R> Hall<'a, R> {
         let is_shown = settings.status.is_some() || settings.control.is_some();
         let restarts = Restarts::new(alloc, config.queues().len(), settings.restart_seconds)?;
         let withdrawals = Withdrawals::new(alloc, config.queues().len())?;
+        let offers = Offers::new(alloc, config.printer_count())?;
+        let put_offs = PutOffs::new(alloc, config.printer_count())?;
         let posts = Posts::new(alloc, sessions_of(settings) as usize)?;
         let job_book = JobBook::open(alloc, settings.log_jobs, is_shown, config.max_jobs())?;
         let oversight = Oversight::new(alloc, config)?;
@@ -76,6 +86,8 @@ impl<'a, R> Hall<'a, R> {
             printer_limits: settings.printer_limits,
             restarts,
             withdrawals,
+            offers,
+            put_offs,
             least: None,
             desk,
             posts,
@@ -84,6 +96,7 @@ impl<'a, R> Hall<'a, R> {
             oversight,
             ending: ServerEnding::new(),
             kept: None,
+            parts: settings.parts.then_some(Mutex::new(())),
             archive: None,
             job_book,
             showing: None,
@@ -123,6 +136,14 @@ impl<R: Files<File = File> + Clock + Log + Wait> Hall<'_, R> {
         }
         if let Some(book) = &self.job_book {
             book.end(self.rt, job, JobOutcome::Ended(end));
+        }
+    }
+
+    /// Notes that a job waits in the folder again.
+    pub fn note_put_back(&self, job: u64, file: u64) {
+        if let Some(book) = &self.job_book {
+            book.note_file(self.rt, job, file);
+            book.end(self.rt, job, JobOutcome::PutBack);
         }
     }
 

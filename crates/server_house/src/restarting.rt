@@ -5,7 +5,8 @@
 //! passes over printers that stand still.
 //!
 //! Without it, too, a queue is started at once whose printer stands still for want of its job alone, which was removed: what one user removes
-//! stops no queue. Where another printer of the queue stands still for a cause of its own it waits for whoever starts the queue.
+//! stops no queue. Where another printer of the queue stands still for a cause of its own it waits for whoever starts the queue. A printer that
+//! wasn't reached and gave its job back is started so too, once it is to be tried again.
 
 use crate::house::House;
 use crate::ledgers::{HouseLedger, HouseSeat};
@@ -52,6 +53,23 @@ impl<R: Clock + Log + Wait, E: HouseLedger> House<'_, '_, R, E> {
         }
     }
 
+    /// Starts the queue of each printer again that gave its job back and is tried again now, unless another of the queue's printers stands
+    /// still for a cause of its own.
+    fn start_put_off(&self, seat: &mut HouseSeat<E>, now: Instant) {
+        let config = &self.hall.oversight.config;
+        for before in 0..config.printer_count() {
+            let printer = before + 1;
+            let queue = config.queue_of(printer);
+            if !self.has_standstill(queue)
+                && self.hall.put_offs.take_due(self.hall.rt, printer, now)
+            {
+                let _ = self
+                    .spool
+                    .start_telling(self.hall.rt, seat, config.name_of(queue));
+            }
+        }
+    }
+
     /// Starts each queue again of which that is due, unless the server is being stopped.
     pub fn start_all_due(&self, seat: &mut HouseSeat<E>) {
         if self.hall.ending.stops() {
@@ -60,6 +78,7 @@ impl<R: Clock + Log + Wait, E: HouseLedger> House<'_, '_, R, E> {
         let Ok(now) = Instant::now(self.hall.rt) else {
             return;
         };
+        self.start_put_off(seat, now);
         for place in 0..self.hall.oversight.config.queues().len() {
             let queue = place as u32 + 1;
             self.start_at_once(seat, queue);

@@ -196,7 +196,7 @@ impl JobBook {
     fn count<R: Wait>(&self, rt: &R, noted: &Noted, outcome: JobOutcome, now: Duration) {
         let mut counts = self.counts.lock(rt);
         match outcome {
-            JobOutcome::Received => {}
+            JobOutcome::Received | JobOutcome::PutBack => {}
             JobOutcome::Ended(JobEnd::Done) => {
                 let since = noted.received.unwrap_or(now);
                 counts.finish(noted.octets, milliseconds(now.saturating_sub(since)));

@@ -15,6 +15,8 @@ pub const JOB_LINES: &str = "lpd_daemon::job_lines";
 /// ```text
 ///             came whole             its printer left it, or it was removed
 ///   accepted ------------> Received ---------------------------------------> Ended
+///       |                     |
+///       |                     +----- it waits in the folder again -----> PutBack
 ///       |
 ///       +----- its session gave it up -----> Aborted
 /// ```
@@ -24,6 +26,8 @@ pub enum JobOutcome {
     Received,
     /// It has ended so.
     Ended(JobEnd),
+    /// It waits in the folder that keeps jobs again, and will be accepted under another number.
+    PutBack,
     /// It was given up before it was whole.
     Aborted,
 }
@@ -35,6 +39,7 @@ impl fmt::Display for JobOutcome {
             JobOutcome::Ended(JobEnd::Done) => "done",
             JobOutcome::Ended(JobEnd::Failed) => "failed",
             JobOutcome::Ended(JobEnd::Removed) => "removed",
+            JobOutcome::PutBack => "put back",
             JobOutcome::Aborted => "aborted",
         })
     }

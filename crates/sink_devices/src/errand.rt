@@ -1,6 +1,7 @@
 //! Whom a device asks while it waits, and tells what it waits for.
 
 use std::io::Error;
+use std::time::Instant;
 
 /// What a device asks while it waits for its printer.
 pub trait Errand {
@@ -21,4 +22,14 @@ pub trait Errand {
 
     /// The printer of this number has taken octets again.
     fn note_taken(&self, printer: u32);
+
+    /// When this job was tried first at the printer of this number, also before it was put back. None where that isn't known.
+    fn first_try(&self, printer: u32, job: u64) -> Option<Instant>;
+
+    /// No octet of this job has gone to the printer of this number, which has been tried for this many milliseconds, and none goes until
+    /// `withdraw` is called: until then the server may put the job back.
+    fn offer(&self, printer: u32, job: u64, tried_ms: u64);
+
+    /// The printer of this number goes on with its job, which isn't offered any more. Whether the server has put it back before.
+    fn withdraw(&self, printer: u32) -> bool;
 }

@@ -28,25 +28,35 @@ pub fn pause_seconds(tries: u64) -> u64
     }
 }
 
-/// Pauses of 1, 2, 4, 8, 16, 30, 30 .. seconds, while the job is wanted.
+/// Pauses of 1, 2, 4, 8, 16, 30, 30 .. seconds, while the job is wanted. Amid them it is offered to the server, which may put it back.
 #[derive(Drop)]
 pub struct Pauses<'a, R: Clock, Q: Errand> {
     rt: &'a R,
     errand: &'a Q,
+    printer: u32,
     patience_ms: Option<u64>,
-    // When the job's first try had failed.
+    // When the job's first try had failed, also before it was put back.
     start: Option<Instant>,
+    // When its first try had failed since it is at the printer.
+    tried: Option<Instant>,
 }
 
 impl<'a, R: Clock, Q: Errand> Pauses<'a, R, Q> {
-    /// Pauses that end for good once a job has waited for `patience` minutes since its first try; never without it. They end
-    /// early where the job isn't wanted any more.
-    pub fn new(rt: &'a R, patience: Option<NonZeroU64>, errand: &'a Q) -> Pauses<'a, R, Q> {
+    /// Pauses of the printer of this number that end for good once a job has waited for `patience` minutes since its first try; never
+    /// without it. They end early where the job isn't wanted any more.
+    pub fn new(
+        rt: &'a R,
+        printer: u32,
+        patience: Option<NonZeroU64>,
+        errand: &'a Q,
+    ) -> Pauses<'a, R, Q> {
         Pauses {
             rt,
             errand,
+            printer,
             patience_ms: patience.map(|minutes| minutes.get().saturating_mul(60_000)),
             start: None,
+            tried: None,
         }
     }
 
@@ -57,20 +67,31 @@ impl<'a, R: Clock, Q: Errand> Pauses<'a, R, Q> {
             None => true,
         }
     }
-}
 
-impl<'a, R: Clock, Q: Errand> Pause for Pauses<'a, R, Q> {
-    fn pause(&mut self, job: u64, tries: u64) -> bool {
-        if tries == 0 {
-            self.start = now(self.rt);
-        }
+    /// Waits between two tries, and offers the job meanwhile. False where there is no time left, or the job isn't wanted any more.
+    fn wait(&self, job: u64, tries: u64) -> bool {
         let mut waiting = PrinterWait::begin(self.rt, self.errand, job);
         for _step in 0..pause_seconds(tries) * 1_000 / STEP_MS {
+            let tried_ms = milliseconds_since(self.rt, self.tried);
+            self.errand.offer(self.printer, job, tried_ms);
             thread::sleep(self.rt, Duration::from_millis(STEP_MS));
             if !self.has_time() || !waiting.goes_on() {
                 return false;
             }
         }
         true
+    }
+}
+
+impl<'a, R: Clock, Q: Errand> Pause for Pauses<'a, R, Q> {
+    fn pause(&mut self, job: u64, tries: u64) -> bool {
+        if tries == 0 {
+            self.tried = now(self.rt);
+            self.start = self.errand.first_try(self.printer, job).or(self.tried);
+        }
+        let goes_on = self.wait(job, tries);
+        // From here on octets of it may go.
+        let is_put_back = self.errand.withdraw(self.printer);
+        goes_on && !is_put_back
     }
 }

@@ -96,20 +96,34 @@ impl<'a, R: Net + Clock + Log, Q: Errand> TcpDial<'a, R, Q> {
         }
     }
 
-    /// Opens a connection. TimedOut where the printer doesn't accept it; as `not_wanted` where nobody waits for the job any
-    /// more.
-    fn connect(&self) -> io::Result<PrinterConnection> {
-        let connection = PrinterConnection::begin(self.rt, self.address)?;
+    /// Waits until the printer has accepted a connection, and offers the job meanwhile. TimedOut where it doesn't; as `not_wanted` where
+    /// nobody waits for the job any more.
+    fn await_accepted(&self, connection: &PrinterConnection) -> io::Result<()> {
         let mut waiting = PrinterWait::begin(self.rt, self.errand, self.job);
         for _turn in 0..CONNECT_TURNS {
+            let tried_ms = waiting.milliseconds();
+            self.errand.offer(self.printer, self.job, tried_ms);
             if connection.is_accepted(TURN_MS)? {
-                return Ok(connection);
+                return Ok(());
             }
             if !waiting.goes_on() {
                 return Err(not_wanted());
             }
         }
         Err(Error::from(ErrorKind::TimedOut))
+    }
+
+    /// Opens a connection. TimedOut where the printer doesn't accept it; as `not_wanted` where nobody waits for the job any
+    /// more.
+    fn connect(&self) -> io::Result<PrinterConnection> {
+        let connection = PrinterConnection::begin(self.rt, self.address)?;
+        let accepted = self.await_accepted(&connection);
+        // From here on octets of it may go.
+        if self.errand.withdraw(self.printer) {
+            return Err(not_wanted());
+        }
+        accepted?;
+        Ok(connection)
     }
 
     /// Tells that the printer isn't reached: at once why, and then once a minute for how long.

@@ -354,6 +354,11 @@ const TOLD: [(&str, &[u8], &[u8]); 68] = [
         b"serves a 1 127.0.0.1 . 8 None None None None None 5 5 1000 false [] [] None [] None None None None None Journal true None None\n",
     ),
     (
+        "serve,a,--port,1,--parts",
+        b"",
+        b"serves a 1 127.0.0.1 . 8 None None None None None 5 5 1000 false [] [] None [] None None None None None Plain false None None parts\n",
+    ),
+    (
         "serve,a,--port,1,--log=time",
         b"",
         b"serves a 1 127.0.0.1 . 8 None None None None None 5 5 1000 false [] [] None [] None None None None None Time false None None\n",

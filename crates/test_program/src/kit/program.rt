@@ -56,6 +56,7 @@ fn line_of(alloc: Global, config: &str, request: &ServeRequest) -> Result<String
         printer_limits,
         restart_seconds,
         spool,
+        parts,
         account,
         log,
         log_jobs,
@@ -74,8 +75,9 @@ fn line_of(alloc: Global, config: &str, request: &ServeRequest) -> Result<String
         leave_seconds,
         room_ms,
     } = *limits;
+    let parts = if *parts { " parts" } else { "" };
     format!(in alloc;
-        "serves {config} {port} {bind} {out} {sessions} {connections:?} {rotate:?} {silence:?} {per_host:?} {slowest:?} {no_job_seconds} {leave_seconds} {room_ms} {keep_room} {allowed:?} {proxied:?} {control:?} {printers:?} {patience_minutes:?} {silence_seconds:?} {restart_seconds:?} {spool:?} {account:?} {log:?} {log_jobs} {status:?} {status_host:?}\n"
+        "serves {config} {port} {bind} {out} {sessions} {connections:?} {rotate:?} {silence:?} {per_host:?} {slowest:?} {no_job_seconds} {leave_seconds} {room_ms} {keep_room} {allowed:?} {proxied:?} {control:?} {printers:?} {patience_minutes:?} {silence_seconds:?} {restart_seconds:?} {spool:?} {account:?} {log:?} {log_jobs} {status:?} {status_host:?}{parts}\n"
     )
 }
 

@@ -1,0 +1,146 @@
+//! Printers that aren't reached and have given their job back: when they are tried again.
+//!
+//! ```text
+//!              its job is put back                    some seconds later
+//!   reached ------------------------> waits until T ----------------------> tried again
+//!      ^                                    ^                                  |  |
+//!      |                                    +------- its job is put back ------+  |
+//!      +------------------------- an octet of a job goes -------------------------+
+//! ```
+//!
+//! The pauses are 5, 10, 20, 40, 60, 60 .. seconds.
+
+ghost use Rattle.std.specs.Prelude.{◌≡◌, ◌*◌, ◌^◌, min};
+
+use std::alloc::{AllocError, Global};
+use std::rt::Clock;
+use std::sync::{Mutex, Wait};
+use std::time::{Duration, Instant};
+
+/// The first pause, in seconds.
+const FIRST_SECONDS: u64 = 5;
+
+/// The longest pause, in seconds.
+const LONGEST_SECONDS: u64 = 60;
+
+/// How long a pause is, in seconds, before which so many have been: 5, 10, 20, 40, 60, 60 and so on.
+pub fn pause_before_try(pauses: u32) -> u64
+    ensures { result ≡ min (5 * 2 ^ pauses) 60 }
+{
+    if pauses < 4 {
+        (FIRST_SECONDS << pauses).min(LONGEST_SECONDS)
+    } else {
+        LONGEST_SECONDS
+    }
+}
+
+/// A printer that was tried in vain.
+#[derive(Clone, Copy)]
+struct PutOff {
+    /// The file of the job that it was tried with.
+    file: u64,
+    /// When it was tried with that first.
+    first: Instant,
+    /// How often it gave its job back since it was reached last.
+    pauses: u32,
+    /// When it is tried again, while it waits for that.
+    due: Option<Instant>,
+}
+
+/// The printers of a server that aren't reached, by their numbers, and what was told of them.
+#[derive(Drop)]
+pub struct PutOffs {
+    printers: Vec<Mutex<Option<PutOff>>>,
+}
+
+impl PutOffs {
+    /// None of N printers was tried in vain. An error where memory is refused.
+    pub fn new(alloc: Global, printers: u32) -> Result<PutOffs, AllocError> {
+        let mut places = Vec::new(alloc);
+        for _printer in 0..printers {
+            places.push(Mutex::new(None))?;
+        }
+        Ok(PutOffs { printers: places })
+    }
+
+    /// The place of a printer, which are numbered from 1.
+    fn place(&self, printer: u32) -> Option<&Mutex<Option<PutOff>>> {
+        self.printers.get((printer as usize).checked_sub(1)?)
+    }
+
+    /// A printer is tried with the job in this file. When it was tried with that first: now, where that is only now.
+    pub fn first_try<R: Clock + Wait>(&self, rt: &R, printer: u32, file: u64) -> Option<Instant> {
+        let now = Instant::now(rt).ok()?;
+        let mut place = self.place(printer)?.lock(rt);
+        let (first, pauses) = match *place {
+            Some(put_off) if put_off.file == file => (put_off.first, put_off.pauses),
+            Some(put_off) => (now, put_off.pauses),
+            None => (now, 0),
+        };
+        *place = Some(PutOff {
+            file,
+            first,
+            pauses,
+            due: None,
+        });
+        Some(first)
+    }
+
+    /// A printer's job was put back. For how many seconds it isn't tried, where that is known.
+    pub fn put_off<R: Clock + Wait>(&self, rt: &R, printer: u32) -> Option<u64> {
+        let now = Instant::now(rt).ok()?;
+        let mut place = self.place(printer)?.lock(rt);
+        let put_off = (*place)?;
+        let seconds = pause_before_try(put_off.pauses);
+        *place = Some(PutOff {
+            pauses: put_off.pauses.saturating_add(1),
+            due: now.checked_add(Duration::from_secs(seconds)),
+            ..put_off
+        });
+        Some(seconds)
+    }
+
+    /// Whether a printer waits until it is tried again.
+    pub fn is_waiting<R: Wait>(&self, rt: &R, printer: u32) -> bool {
+        let Some(place) = self.place(printer) else {
+            return false;
+        };
+        let put_off = *place.lock(rt);
+        put_off.is_some_and(|put_off| put_off.due.is_some())
+    }
+
+    /// Whether a printer gave its job back, and wasn't reached since.
+    pub fn is_tried<R: Wait>(&self, rt: &R, printer: u32) -> bool {
+        let Some(place) = self.place(printer) else {
+            return false;
+        };
+        let put_off = *place.lock(rt);
+        put_off.is_some_and(|put_off| put_off.pauses > 0)
+    }
+
+    /// Whether a printer is tried again now. It counts as tried from then on.
+    pub fn take_due<R: Wait>(&self, rt: &R, printer: u32, now: Instant) -> bool {
+        let Some(place) = self.place(printer) else {
+            return false;
+        };
+        let mut place = place.lock(rt);
+        let Some(put_off) = *place else {
+            return false;
+        };
+        if !put_off.due.is_some_and(|due| due <= now) {
+            return false;
+        }
+        *place = Some(PutOff {
+            due: None,
+            ..put_off
+        });
+        true
+    }
+
+    /// A printer is reached, or its job has ended.
+    pub fn end<R: Wait>(&self, rt: &R, printer: u32) {
+        if let Some(place) = self.place(printer) {
+            *place.lock(rt) = None;
+        }
+    }
+}
