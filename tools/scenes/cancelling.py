@@ -164,7 +164,26 @@ def a_job_that_waits_for_pages():
         return "it goes while it waits, and the arriving job is taken"
 
 
-SCENES = [jobs_of_two_hosts, an_arriving_job, what_would_help, files_of_jobs, a_failed_file, a_job_that_waits_for_pages]
+def all_failed_files():
+    """All that have failed are printed again, or all of a queue; whose they are is told."""
+    with Desk(keeps=True) as desk:
+        desk.start()
+        for number in (5, 6):
+            desk.send(number, queue="bad")
+            desk.await_files(number - 4, "failed")
+            desk.says("start bad", "started 2\n")
+        desk.says("resend all lp", "resent none\n")
+        desk.refuses("resend all nobody", "1 UnknownQueue")
+        desk.says("resend all bad", "resent file 1 (005) ann@h1 of bad\nresent file 2 (006) ann@h1 of bad\n")
+        desk.await_files(1, "failed")
+        desk.says("start bad", "started 2\n")
+        desk.await_files(2, "failed")
+        desk.says("start bad", "started 2\n")
+        desk.says("resend all", "resent file 1 (005) ann@h1 of bad\nresent file 2 (006) ann@h1 of bad\n")
+        return "all of a queue, and all"
+
+
+SCENES = [jobs_of_two_hosts, an_arriving_job, what_would_help, files_of_jobs, a_failed_file, all_failed_files, a_job_that_waits_for_pages]
 
 
 if __name__ == "__main__":

@@ -2,11 +2,13 @@
 """Scenes of a site some of whose printers are off: off.py PROGRAM [SCENE..], where PROGRAM is the built lpd_server.
 
 One printer refuses connections, one answers nothing, one queue is held: the others print as if these weren't there, and once the printers are back
-they print what was sent to them. JOBS says how many jobs the site's clients send, 6,000 where nothing is said. Each scene is bounded in time and runs
+they print what was sent to them. A printer that isn't reached gives its jobs back, so that the spool has none of them, and a stop waits for none. JOBS says how many jobs the site's clients send, 6,000 where nothing is said. Each scene is bounded in time and runs
 on loopback alone. A line says what was seen; the last line is 'N passed, M failed'."""
 import contextlib
 import os
+import re
 import socket
+import subprocess
 import threading
 import time
 
@@ -133,5 +135,147 @@ def a_pool_that_one_printer_could_fill():
     return "all taken, the other queue's printed at once, the rest in order once the printer was on"
 
 
+def await_status(room, words, seconds=20):
+    until = time.monotonic() + seconds
+    while words not in (told := room.tell("status")):
+        check(time.monotonic() < until, f"{words!r} isn't told: {told}\n{room.log()[-800:]}")
+        time.sleep(0.1)
+    return told
+
+
+def a_printer_that_gives_its_jobs_back():
+    """Four jobs for a printer that is off: after some seconds none of them is in the spool, and all its pages are free; once the printer is on they are
+    printed in order, each once."""
+    printer = Printer()
+    with Room(config(queues=2, pages=64, jobs=16, account=100_000, limit=20), f"--printer=1=socket://127.0.0.1:{printer.port}", "--log-jobs") as room:
+        room.start()
+        for number in range(4):
+            check(send(room.port, number, job("q1", 0, number, 400), "q1", "127.0.0.9") == 0, f"job {number} isn't taken")
+        told = await_status(room, "kept waiting 4 failed 0")
+        check("pages free 64 " in told and "\njob " not in told, f"a job is in the spool: {told}")
+        check(re.search(r"^printer 1 q1 putoff \d+ .*refused", told, re.MULTILINE), f"the printer isn't told as put off: {told}")
+        check("parked q1 4\n" in told, f"what waits for q1 isn't told: {told}")
+        check("of queue q1 wait in the folder again: printer 1 takes nothing" in room.log(), f"the log doesn't tell it: {room.log()[-800:]}")
+        check(" put back in " in room.log(), f"the log of jobs doesn't tell it: {room.log()[-800:]}")
+        printer.turn_on()
+        room.await_files(0, 120)
+        time.sleep(0.5)
+        check(jobs_in(b"".join(printer.jobs), "q1") == [(0, number) for number in range(4)], "not in order, or not once")
+        check("putoff" not in room.tell("status"), "the printer is put off still")
+    return "none in the spool after some seconds, all printed in order once the printer was on"
+
+
+def a_queue_of_two_printers():
+    """A queue of two printers, one of them off: one sender's jobs are all printed by the other one, in order."""
+    printer = Printer()
+    text = config(queues=2, pages=256, jobs=16, account=100_000, limit=20).replace("printers = 1", "printers = 2", 1)
+    with Room(text, f"--printer=1=socket://127.0.0.1:{printer.port}") as room:
+        room.start()
+        for number in range(20):
+            check(send(room.port, number, job("q1", 0, number), "q1", "127.0.0.9") == 0, f"job {number} isn't taken")
+        room.await_files(0, 120)
+        check(jobs_in(room.printed(2), "q1") == [(0, number) for number in range(20)], f"not all, or not in order: {room.log()[-800:]}")
+    return "20 of 20 by the printer that is on, in order"
+
+
+def end_of_stop(room, *words):
+    """Stops the server, and answers after how many seconds it had ended."""
+    begun = time.monotonic()
+    told = room.tell(*words)
+    room.server.wait(30)
+    check("refused" not in told, told)
+    return time.monotonic() - begun
+
+
+def stops_beside_a_printer_that_is_off():
+    """A stop where no printer is amid a job: it ends within two seconds, and what it leaves is printed by the next server."""
+    longest = 0
+    for silent in (False, True):
+        printer = Printer(silent)
+        with Room(config(queues=2, pages=64, jobs=16, account=100_000, limit=20), f"--printer=1=socket://127.0.0.1:{printer.port}") as room:
+            for at, words in enumerate((("stop",), ("stop", "now"), ("stop",))):
+                room.start()
+                check(send(room.port, at, job("q1", 0, at), "q1", "127.0.0.9") == 0, "a job isn't taken")
+                time.sleep((0.3, 0.3, 6)[at])
+                longest = max(longest, end_of_stop(room, *words))
+                check(len(room.files()) == at + 1, f"{room.files()}: {room.log()[-800:]}")
+            printer.turn_on()
+            room.start()
+            room.await_files(0, 120)
+            time.sleep(0.5)
+            check(jobs_in(b"".join(printer.jobs), "q1") == [(0, 0), (0, 1), (0, 2)], "not in order, or not once")
+    if not CHECKED:
+        check(longest < 2, f"a stop took {longest:.2f} s")
+    return f"six stops, of which the longest took {longest:.2f} s; all printed by the next server"
+
+
+def a_queue_that_is_held_amid_a_job():
+    """A queue is held while a job of it is at its printer and others are behind it: the one goes on, the others leave the spool; released, all are printed in
+    order."""
+    with Room(config(queues=2, pages=256, jobs=16, account=100_000, limit=80)) as room:
+        os.mkfifo(room.path(1))
+        room.start()
+        for number, lines in enumerate((8_000, 20, 20, 20)):
+            check(send(room.port, number, job("q1", 0, number, lines), "q1", "127.0.0.9") == 0, f"job {number} isn't taken")
+        await_status(room, "prints 1 place ")
+        room.tell("hold", "q1")
+        told = await_status(room, "kept waiting 3 failed 0")
+        check(told.count("\njob ") == 1, f"not the job at the printer alone is in the spool: {told}")
+        seen = []
+        reading = threading.Thread(target=lambda: seen.append(subprocess.run(["timeout", "60", "cat", room.path(1)], capture_output=True).stdout), daemon=True)
+        reading.start()
+        room.await_files(3, 60)
+        room.tell("release", "q1")
+        room.await_files(0, 60)
+        end_of_stop(room, "stop")
+        reading.join(70)
+        check(jobs_in(seen[0], "q1") == [(0, number) for number in range(4)], "not in order, or not once")
+    return "the job at the printer alone stayed in the spool; all were printed in order"
+
+
+def a_full_pipe():
+    """A pipe that nobody reads and that is full: a job of which nothing goes gives way, and comes back once the pipe is read."""
+    with Room(config(queues=2, pages=256, jobs=16, account=100_000, limit=80)) as room:
+        os.mkfifo(room.path(1))
+        room.start()
+        check(send(room.port, 0, b"x" * 65_536, "q1") == 0, "the job that fills it isn't taken")
+        room.await_files(0, 20)
+        check(send(room.port, 1, job("q1", 0, 1), "q1") == 0, "the job behind it isn't taken")
+        told = await_status(room, "kept waiting 1 failed 0")
+        check("\njob " not in told, f"it is in the spool: {told}")
+        seen = []
+        reading = threading.Thread(target=lambda: seen.append(subprocess.run(["timeout", "60", "cat", room.path(1)], capture_output=True).stdout), daemon=True)
+        reading.start()
+        room.await_files(0, 60)
+        end_of_stop(room, "stop")
+        reading.join(70)
+        check(jobs_in(seen[0][65_536:], "q1") == [(0, 1)], "not once")
+    return "it gave way, and was printed once the pipe was read"
+
+
+def patience_across_tries():
+    """A job that isn't reached for `--patience` minutes in all fails, though it is tried again and again, and the one behind it has its own time."""
+    printer = Printer()
+    with Room(config(queues=2, pages=64, jobs=16, account=100_000, limit=20), f"--printer=1=socket://127.0.0.1:{printer.port}", "--patience", "1") as room:
+        room.start()
+        for number in range(2):
+            check(send(room.port, number, job("q1", 0, number), "q1", "127.0.0.9") == 0, f"job {number} isn't taken")
+        begun = time.monotonic()
+        while not room.files("failed"):
+            check(time.monotonic() < begun + 150, f"none has failed: {room.log()[-800:]}")
+            time.sleep(0.2)
+        took = time.monotonic() - begun
+        check(took > 55, f"failed after {took:.0f} s")
+        check([os.path.basename(it) for it in room.files("failed")] == ["1.failed"] and len(room.files()) == 1, f"{room.files()} {room.files('failed')}")
+        printer.turn_on()
+        room.tell("start", "q1")
+        room.await_files(0, 120)
+    return f"it failed after {took:.0f} s, and the one behind it was printed"
+
+
+SCENES = [a_pool_that_one_printer_could_fill, a_printer_that_gives_its_jobs_back, a_queue_of_two_printers, stops_beside_a_printer_that_is_off,
+          a_queue_that_is_held_amid_a_job, a_full_pipe, printers_that_are_off]
+
+
 if __name__ == "__main__":
-    raise SystemExit(main((a_pool_that_one_printer_could_fill, printers_that_are_off), __doc__))
+    raise SystemExit(main(SCENES if SHORT else [*SCENES, patience_across_tries], __doc__))

@@ -35,11 +35,11 @@ def config(queues=QUEUES, pages=4096, page=4096, jobs=64, account=1_200_000, lim
 
 
 class Room:
-    """A folder with a configuration, printers' files and kept jobs, over which one server after another runs."""
+    """A folder with a configuration, printers' files and kept jobs, over which one server after another runs; or one that keeps no jobs."""
 
-    def __init__(self, text, *words):
+    def __init__(self, text, *words, keeps=True):
         self.room = tempfile.TemporaryDirectory()
-        self.folder, self.words, self.server = self.room.name, words, None
+        self.folder, self.words, self.server, self.keeps = self.room.name, words, None, keeps
         self.kept, self.control, self.port = f"{self.folder}/kept", f"{self.folder}/control", free_port()
         with open(f"{self.folder}/spool.toml", "w") as file:
             file.write(text)
@@ -47,7 +47,7 @@ class Room:
     def start(self):
         """Starts a server, and answers after how many seconds it listened."""
         begun = time.monotonic()
-        line = [PROGRAM, "serve", f"{self.folder}/spool.toml", "--port", str(self.port), "--out", self.folder, "--spool", self.kept,
+        line = [PROGRAM, "serve", f"{self.folder}/spool.toml", "--port", str(self.port), "--out", self.folder, *(["--spool", self.kept] if self.keeps else []),
                 "--keep-room", "--sessions", "32", "--control", self.control, *self.words]
         self.server = subprocess.Popen(line, stdin=subprocess.DEVNULL, stdout=open(f"{self.folder}/said", "ab"),
                                        stderr=open(f"{self.folder}/log", "ab"))
@@ -272,6 +272,37 @@ def a_queue_is_held():
     return "30 jobs of a held queue in the folder alone, told by lpq and status, over a stop and a start, all 60 printed in order"
 
 
+def holds_outlive_a_restart():
+    """A queue that is held is held after a stop, after a kill, and by a configuration that has lost another one; a file of holds that can't be read holds all."""
+    with Room(config(queues=3)) as room:
+        room.start()
+        room.tell("hold", "q1")
+        room.tell("hold", "q3")
+        room.tell("release", "q3")
+        room.tell("hold", "q2")
+        room.kill()
+        with open(f"{room.folder}/spool.toml", "w") as file:
+            file.write(config(queues=1))
+        room.start()
+        check("queue q1 held" in room.tell("status"), "the hold is gone after a kill")
+        check("isn't in the configuration any more" in room.log(), room.log()[-400:])
+        room.tell("stop")
+        room.server.wait(30)
+        room.start()
+        check("queue q1 held" in room.tell("status"), "the hold is gone after a stop")
+        check(room.tell("release", "q1") == "", "it isn't released")
+        room.kill()
+        room.start()
+        check("queue q1 runs" in room.tell("status"), "the release is gone after a kill")
+        room.kill()
+        os.unlink(f"{room.kept}/held")
+        os.mkdir(f"{room.kept}/held")
+        room.start()
+        check("queue q1 held" in room.tell("status") and "all queues are held" in room.log(), room.log()[-400:])
+        check("the next server won't know it" in room.tell("release", "q1"), "that it can't be written isn't told")
+    return "after a stop, a kill and a changed configuration; all are held where that isn't known"
+
+
 def removed_while_they_wait():
     """`lprm`, `control remove` and `cancel file` find jobs that wait in the folder."""
     with Room(config(queues=1)) as room:
@@ -409,6 +440,79 @@ def many_wait():
     return f"{MANY} jobs wait, {MANY / seconds:.0f} a second, at {each:.0f} octets each; lpq in {took:.2f} s; a start listens after {listened:.2f} s"
 
 
+def removals_amid_feeding():
+    """Jobs are removed by their files while they are fed, one after another: each is removed or printed, and none is told to ask again."""
+    count = size("REMOVED", 2_000, 200)
+    with Room(config(queues=1, pages=64, jobs=8, limit=20)) as room:
+        room.start()
+        room.tell("hold", "q1")
+        Flood(room, [("q1", 60)] * count, 8).go()
+        room.tell("release", "q1")
+        told = {}
+        for number in range(count, 0, -3):
+            said = room.tell("cancel", "file", str(number)).splitlines()[0]
+            kind = next((it for it in ("removed file", "has ended", "No such file", "ask again") if it in said), said)
+            told[kind] = told.get(kind, 0) + 1
+        room.await_files(0, 120)
+        time.sleep(0.5)
+        seen = jobs_in(room.printed(1), "q1")
+        check(len(seen) == len(set(seen)), "a job was printed twice")
+        check(len(seen) >= count - told.get("removed file", 0), f"{len(seen)} printed, {told}")
+        check(set(told) <= {"removed file", "has ended", "No such file", "ask again"} and told.get("ask again", 0) <= 2, f"{told}")
+    return f"{count} jobs, {len(seen)} printed; what was told: {told}"
+
+
+def parts_without_a_folder():
+    """With `--parts` and no folder: jobs of two held queues and of one whose printer has failed are refused for now beyond their parts; each other one is taken
+    in the end and printed, and so are those that were taken, once their queues print."""
+    with Room(config(), "--parts", keeps=False) as room:
+        os.symlink("/dev/full", room.path(int(FAILED[1:])))
+        room.start()
+        for queue in HELD:
+            room.tell("hold", queue)
+        send(room.port, 999, job(FAILED, 99, 0), FAILED, "127.0.1.99")
+        until = time.monotonic() + 20
+        while "stopped" not in room.tell("status").replace("stopped 0", ""):
+            check(time.monotonic() < until, "the printer doesn't fail")
+            time.sleep(0.1)
+        plan, others = site_plan(JOBS // 4, True)
+        taken, refused, again, lock = [], {}, [0], threading.Lock()
+
+        def client(number):
+            for at in range(number, len(plan), CLIENTS):
+                queue, lines = plan[at]
+                # (as LPRng does, a client tries again where it is refused for now; for a queue that can't print it gives up)
+                for _ in range(1 if queue in (*HELD, FAILED) else 2_000):
+                    octet = send(room.port, at, job(queue, number, at, lines), queue, f"127.0.1.{number + 1}", f"u{number}")
+                    with lock:
+                        if octet == 0:
+                            taken.append((queue, number, at))
+                        elif queue in others:
+                            again[0] += 1
+                        else:
+                            refused[queue, octet] = refused.get((queue, octet), 0) + 1
+                    if octet == 0:
+                        break
+                    time.sleep(0.01)
+
+        together(CLIENTS, client)
+        check({queue for queue, _ in refused} == {*HELD, FAILED} and {octet for _, octet in refused} == {2}, f"refused: {refused}")
+        for queue in others:
+            want = {(number, at) for name, number, at in taken if name == queue}
+            check(len(want) == sum(name == queue for name, _ in plan), f"{queue}: {len(want)} taken")
+        os.unlink(room.path(int(FAILED[1:])))
+        for queue in HELD:
+            room.tell("release", queue)
+        told = room.tell("stop", "30")
+        room.server.wait(60)
+        for queue in (*others, *HELD):
+            seen = jobs_in(room.printed(int(queue[1:])), queue)
+            check_order(seen)
+            want = {(number, at) for name, number, at in taken if name == queue}
+            check(set(seen) == want and len(seen) == len(want), f"{queue}: {len(seen)} printed of {len(want)} {told}")
+    return f"{len(taken)} of {len(plan)} taken, {sum(refused.values())} of the three queues refused for now, {again[0]} of the others, which were sent again"
+
+
 def pages_by_file():
     """A job of many small files isn't fed before there are pages for all of them, so that a start lets everybody in, also where the printer that has the pages
     takes nothing."""
@@ -509,5 +613,5 @@ def one_queue_holds_up_no_other():
 
 
 if __name__ == "__main__":
-    raise SystemExit(main((a_queue_is_held, removed_while_they_wait, refused_as_any_other, pages_by_file, a_file_that_is_gone, no_session_waits, one_queue_holds_up_no_other, killed_amid_it,
-                           many_wait, a_site), __doc__))
+    raise SystemExit(main((a_queue_is_held, holds_outlive_a_restart, removed_while_they_wait, removals_amid_feeding, refused_as_any_other, pages_by_file, a_file_that_is_gone, no_session_waits,
+                           one_queue_holds_up_no_other, killed_amid_it, many_wait, parts_without_a_folder, a_site), __doc__))

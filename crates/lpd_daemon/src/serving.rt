@@ -205,6 +205,7 @@ where
         spool: &spool,
         hall: &hall,
     };
+    house.hold_again();
     let (told, returned) = work(house, roles, entrance, output);
     let Returned { seats, counter } = returned;
     let ended = finish(&hall, spool, seats, told, output);

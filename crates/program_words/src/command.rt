@@ -80,6 +80,7 @@ behind PATH are one command:
   cancel job NUMBER     removes one received job, by the number that `status` tells, and says whose it was
   cancel file NUMBER    removes one kept job, by the number of its file, where jobs are kept
   resend NUMBER         prints the job of the file NUMBER.failed, where jobs are kept, and says whose it is
+  resend all [QUEUE]    the same for each job that failed, or each of the queue
   rotate                rotates the account
   stop                  stops the server once its jobs are printed, and waits for that
   stop SECONDS          the same, at the latest after so many seconds

@@ -163,7 +163,7 @@ pub(crate) const SERVE: CommandTable = CommandTable {
         Word {
             id: "log-jobs",
             shape: Shape::Flag,
-            help: "Logs each job that was received, done, failed, removed or aborted",
+            help: "Logs each job that was received, done, failed, removed, put back or aborted",
         },
         Word {
             id: "status",

@@ -59,7 +59,7 @@ pub enum WordFault {
     #[error("'{0}' is a second PLACE for its printer")]
     PrinterTwice(String),
     /// The words behind the path of a control socket are no command.
-    #[error("the words behind PATH are no command: they are status, start QUEUE, hold QUEUE, release QUEUE, remove QUEUE NUMBER, remove QUEUE USER, cancel job NUMBER, cancel file NUMBER, resend NUMBER, rotate, stop, stop SECONDS or stop now")]
+    #[error("the words behind PATH are no command: they are status, start QUEUE, hold QUEUE, release QUEUE, remove QUEUE NUMBER, remove QUEUE USER, cancel job NUMBER, cancel file NUMBER, resend NUMBER, resend all, resend all QUEUE, rotate, stop, stop SECONDS or stop now")]
     Command,
     /// This text is no digest.
     #[error("'{0}' is no DIGEST: 64 hexadecimal digits")]

@@ -10,6 +10,7 @@ use shared_spool::{Octets, Refusal, SeenJob};
 use std::alloc::{AllocError, Global};
 use std::fmt::Display;
 use std::fs::{File, Files};
+use std::io;
 use std::rt::Clock;
 use std::sync::Wait;
 
@@ -118,41 +119,58 @@ impl<R: Files<File = File> + Clock + Log + Wait, E: HouseLedger> Care<'_, '_, R,
         }
     }
 
-    /// The folder of kept jobs, if there is one, is told that the queue of a name is held, or isn't any more.
-    fn note_held(&self, queue: &[u8], is_held: bool) {
+    /// The folder of kept jobs, if there is one, is told that the queue of a name is held, or isn't any more. An error where it can't tell
+    /// that to the next server.
+    fn note_held(&self, queue: &[u8], is_held: bool) -> io::Result<()> {
+        let (rt, alloc, config) = (
+            self.hall.rt,
+            self.hall.alloc,
+            &self.hall.oversight.config,
+        );
         let Some(kept) = &self.hall.kept else {
-            return;
+            return Ok(());
         };
-        let number = self.hall.oversight.config.queue_named(queue);
-        if let Some(place) = number.and_then(|number| number.checked_sub(1)) {
-            kept.set_held(self.hall.rt, place as usize, is_held);
+        let number = config.queue_named(queue);
+        match number.and_then(|number| number.checked_sub(1)) {
+            Some(place) => kept.set_held(rt, alloc, config, place as usize, is_held),
+            None => Ok(()),
         }
     }
 
-    /// Holds a queue in the spool and in the folder, while no job of it is fed or leaves the spool: that holds it for a moment too.
-    fn hold_all(&self, queue: &[u8]) -> Result<(), Refusal> {
+    /// Holds a queue, or releases it, in the spool and in the folder, while no job of it is fed or leaves the spool: that holds it for a moment
+    /// too. Answers why the next server won't know it, where that is so.
+    fn set_held(&self, queue: &[u8], is_held: bool) -> Result<Option<io::Error>, Refusal> {
         let lines = self.hall.kept.as_ref().map(|kept| kept.disk.lines());
-        self.spool.hold(self.hall.rt, queue)?;
-        self.note_held(queue, true);
+        if is_held {
+            self.spool.hold(self.hall.rt, queue)?;
+        } else {
+            self.spool.release(self.hall.rt, queue)?;
+        }
+        let noted = self.note_held(queue, is_held);
         drop(lines);
-        Ok(())
+        Ok(noted.err())
     }
 
-    /// Releases a queue in the spool and in the folder, in the same way.
-    fn release_all(&self, queue: &[u8]) -> Result<(), Refusal> {
-        let lines = self.hall.kept.as_ref().map(|kept| kept.disk.lines());
-        self.spool.release(self.hall.rt, queue)?;
-        self.note_held(queue, false);
-        drop(lines);
-        Ok(())
+    /// Tells that what was asked lasts until the server ends alone, where that is so.
+    fn tell_unkept(
+        &self,
+        answer: &mut AnswerLines,
+        why: Option<io::Error>,
+    ) -> Result<(), AllocError> {
+        let Some(error) = why else {
+            return Ok(());
+        };
+        let line = format!(in self.hall.alloc; "the next server won't know it: {error}")?;
+        answer.line(&line)
     }
 
     /// Holds a queue. Tells where it was held before.
     fn hold_queue(&self, queue: &[u8]) -> Result<Vec<u8>, AllocError> {
         let mut answer = AnswerLines::new(self.hall.alloc);
         let was_held = self.is_held_by_name(queue)?;
-        if let Err(refusal) = self.hold_all(queue) {
-            return answer.end_by(Some(refusal));
+        match self.set_held(queue, true) {
+            Ok(why) => self.tell_unkept(&mut answer, why)?,
+            Err(refusal) => return answer.end_by(Some(refusal)),
         }
         if was_held {
             answer.line(&"held already")?;
@@ -180,8 +198,9 @@ impl<R: Files<File = File> + Clock + Log + Wait, E: HouseLedger> Care<'_, '_, R,
     fn release_queue(&self, queue: &[u8]) -> Result<Vec<u8>, AllocError> {
         let mut answer = AnswerLines::new(self.hall.alloc);
         let was_held = self.is_held_by_name(queue)?;
-        if let Err(refusal) = self.release_all(queue) {
-            return answer.end_by(Some(refusal));
+        match self.set_held(queue, false) {
+            Ok(why) => self.tell_unkept(&mut answer, why)?,
+            Err(refusal) => return answer.end_by(Some(refusal)),
         }
         if !was_held {
             self.tell_unheld(&mut answer, queue)?;

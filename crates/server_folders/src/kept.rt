@@ -5,6 +5,7 @@ ghost use Rattle.program_edge.specs.Openings.{IsUnopened};
 ghost use Rattle.program_edge.specs.declared.opening.StartPart.{StartPart};
 ghost use Rattle.program_edge.specs.declared.opening.StartPart.TheVariants.{Spool};
 
+use crate::holds::{read_holds, write_holds};
 use crate::owner::{FiledJob, filed_job};
 use crate::refusal::refused;
 use crate::scanned::SeekingReader;
@@ -19,6 +20,7 @@ use status_lines::KeptJobs;
 use std::alloc::Global;
 use std::collections::VecDeque;
 use std::fs::{File, Files};
+use std::io;
 use std::mem;
 use std::rt::Clock;
 use std::sync::{Condvar, Mutex, Wait};
@@ -45,6 +47,7 @@ struct FolderState {
 #[derive(Drop)]
 pub struct JobFolder<'a, R> {
     pub disk: Disk<'a, R>,
+    path: &'a str,
     /// How many octets a page has.
     pub(crate) page_size: u32,
     state: Mutex<FolderState>,
@@ -80,12 +83,10 @@ impl<'a, R: Files<File = File> + Log + Wait> JobFolder<'a, R> {
         for number in numbers {
             found.push_back(number)?;
         }
-        let mut held = Vec::with_capacity(alloc, queues)?;
-        for _ in 0..queues {
-            held.push(false)?;
-        }
+        let held = read_holds(rt, alloc, path, config)?;
         Ok(JobFolder {
             disk,
+            path,
             page_size: config.page_size(),
             state: Mutex::new(FolderState {
                 found,
@@ -181,14 +182,25 @@ impl<'a, R: Files<File = File> + Log + Wait> JobFolder<'a, R> {
         state.held.get(place).copied().unwrap_or(false)
     }
 
-    /// The queue at this place is held from now on, or isn't any more.
-    pub fn set_held(&self, rt: &R, place: usize, is_held: bool) {
+    /// The queue at this place is held from now on, or isn't any more, and the folder says so to the next server.
+    ///
+    /// An error where the folder can't be told that, or memory is refused: it lasts until this server ends then.
+    pub fn set_held(
+        &self,
+        rt: &R,
+        alloc: Global,
+        config: &Config,
+        place: usize,
+        is_held: bool,
+    ) -> io::Result<()> {
         let mut state = self.state.lock(rt);
         if let Some(held) = state.held.get_mut(place) {
             *held = is_held;
         }
+        let written = write_holds(rt, alloc, self.path, config, state.held.as_slice());
         drop(state);
         self.ring(rt);
+        written
     }
 
     /// Has the job in this file go, which waits to be fed or has failed: its file is removed, and nobody waits for it any more.

@@ -3,6 +3,7 @@
 #![tactic(auto)]
 
 mod archive;
+mod holds;
 mod kept;
 mod owner;
 mod refusal;
