@@ -7,6 +7,9 @@ use std::alloc::Global;
 use std::fs::{File, Files};
 use std::io;
 
+/// The file of a folder of jobs that has the names of the queues that are held, one a line.
+pub const HELD_QUEUES: &str = "held";
+
 /// What stands at a path where a server is to keep jobs.
 #[derive(Clone, Copy, Debug, PartialEq, Eq)]
 pub enum FolderState {

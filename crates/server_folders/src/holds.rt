@@ -4,6 +4,7 @@
 //! server that doesn't know it passes it over.
 
 use config_values::Config;
+use job_disk::HELD_QUEUES;
 use log::{Log, warn};
 use server_folder::FILE_MODE;
 use std::alloc::{AllocError, Global};
@@ -11,9 +12,6 @@ use std::fs::{File, Files, OpenOptions};
 use std::io::{ErrorKind, Write};
 use std::os::unix::fs::OpenOptionsExt;
 use std::{fs, io};
-
-/// What the file is called.
-const HELD: &str = "held";
 
 /// Which queues are held, by their places, as the lines of a file say. The log is told of each name that the configuration lacks.
 fn held_in<R: Log>(
@@ -31,7 +29,7 @@ fn held_in<R: Log>(
         let number = config.queue_named(name);
         match number.and_then(|number| held.get_mut((number as usize).saturating_sub(1))) {
             Some(place) => *place = true,
-            None => warn!(rt; "{path}/{HELD}: a queue that was held isn't in the configuration any more"),
+            None => warn!(rt; "{path}/{HELD_QUEUES}: a queue that was held isn't in the configuration any more"),
         }
     }
     Ok(held)
@@ -54,12 +52,12 @@ pub(crate) fn read_holds<R: Files<File = File> + Log>(
     path: &str,
     config: &Config,
 ) -> Result<Vec<bool>, AllocError> {
-    let file = format!(in alloc; "{path}/{HELD}")?;
+    let file = format!(in alloc; "{path}/{HELD_QUEUES}")?;
     match fs::read(rt, file.as_str()) {
         Ok(text) => held_in(rt, alloc, path, config, text.as_slice()),
         Err(error) if error.kind() == ErrorKind::NotFound => all_queues(alloc, config, false),
         Err(error) => {
-            warn!(rt; "{path}/{HELD}: {error}: all queues are held, since it isn't known which ones are");
+            warn!(rt; "{path}/{HELD_QUEUES}: {error}: all queues are held, since it isn't known which ones are");
             all_queues(alloc, config, true)
         }
     }
@@ -80,8 +78,8 @@ pub(crate) fn write_holds<R: Files<File = File>>(
             text.push(b'\n')?;
         }
     }
-    let whole = format!(in alloc; "{path}/{HELD}")?;
-    let temporary = format!(in alloc; "{path}/{HELD}.tmp")?;
+    let whole = format!(in alloc; "{path}/{HELD_QUEUES}")?;
+    let temporary = format!(in alloc; "{path}/{HELD_QUEUES}.tmp")?;
     let mut options = OpenOptions::new();
     options.write(true).create(true).truncate(true).mode(FILE_MODE);
     let mut file = options.open(rt, temporary.as_str())?;

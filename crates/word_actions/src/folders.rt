@@ -11,12 +11,15 @@ ghost use Rattle.word_actions.specs.Status.{status_of};
 use crate::fault::ActionFault;
 use crate::files::print;
 use account_folder::AccountState;
-use job_disk::{FolderState, look};
+use control_lines::Escaped;
+use job_disk::{FolderState, HELD_QUEUES, look};
 use log::{Log, info};
 use lpd_commands::OctetWrite;
 use program_edge::tell_cause;
 use std::alloc::{AllocError, Global};
+use std::fs;
 use std::fs::{File, Files};
+use std::io::ErrorKind;
 
 /// The part of the program that tells the log why, by which a log can choose its lines.
 pub(crate) const PART: &str = "lpd_words::folders";
@@ -33,8 +36,31 @@ fn folder_line(alloc: Global, path: &str, state: FolderState) -> Result<String, 
     }
 }
 
-/// Says what stands in the folder at this path, of which nothing is made or changed. Answers `Folder` where a server
-/// couldn't take it, of which the log is told why, `WriteFile`, and `Memory`.
+/// Tells the log which queues the folder at this path says are held, or why that isn't known. AllocError where memory is refused.
+fn tell_holds<R: Files<File = File> + Log>(
+    alloc: Global,
+    rt: &R,
+    path: &str,
+) -> Result<(), AllocError> {
+    let file = format!(in alloc; "{path}/{HELD_QUEUES}")?;
+    let text = match fs::read(rt, file.as_str()) {
+        Ok(text) => text,
+        Err(error) if error.kind() == ErrorKind::NotFound => return Ok(()),
+        Err(error) => {
+            info!(rt; target: PART, "{file}: {error}: a server would hold all queues");
+            return Ok(());
+        }
+    };
+    for name in text.split(|octet| *octet == b'\n') {
+        if !name.is_empty() {
+            info!(rt; target: PART, "{path}: queue {} is held", Escaped(name));
+        }
+    }
+    Ok(())
+}
+
+/// Says what stands in the folder at this path, of which nothing is made or changed; the log is told which queues are held. Answers `Folder`
+/// where a server couldn't take it, of which the log is told why, `WriteFile`, and `Memory`.
 pub(crate) fn check_folder<R: Files<File = File> + Log, W: OctetWrite>(
     alloc: Global,
     rt: &R,
@@ -53,6 +79,7 @@ pub(crate) fn check_folder<R: Files<File = File> + Log, W: OctetWrite>(
             return Err(ActionFault::Folder(String::from_str(alloc, path)?));
         }
     };
+    tell_holds(alloc, rt, path)?;
     print(output, folder_line(alloc, path, state)?.as_bytes())
 }
 
