@@ -16,7 +16,7 @@ pub use disk::Disk;
 pub use fault::DiskFault;
 pub use folder::DiskFolder;
 pub use lines::{FileRemoval, HeldLines, NumberedJob};
-pub use looking::{FolderState, HELD_QUEUES, look};
+pub use looking::{FolderState, HELD_QUEUES, look, read_held};
 pub use parked_lines::{AdmissionFault, JobSize};
 pub use server_folder::{FolderError, FolderUse};
 pub use store::DiskStore;

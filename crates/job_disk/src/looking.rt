@@ -5,7 +5,8 @@ use job_files::{FileStage, KeptFileName};
 use server_folder::{FolderError, FolderUse};
 use std::alloc::Global;
 use std::fs::{File, Files};
-use std::io;
+use std::io::Read;
+use std::{fs, io};
 
 /// The file of a folder of jobs that has the names of the queues that are held, one a line.
 pub const HELD_QUEUES: &str = "held";
@@ -22,6 +23,19 @@ pub enum FolderState {
         /// How many jobs in it have failed.
         failed: usize,
     },
+}
+
+/// What the file of the folder at this path says that has the names of the queues that are held.
+///
+/// An error where it isn't there (NotFound), is no file, or can't be read; or memory is refused.
+pub fn read_held<R: Files<File = File>>(rt: &R, alloc: Global, path: &str) -> io::Result<Vec<u8>> {
+    let file = format!(in alloc; "{path}/{HELD_QUEUES}")?;
+    if !fs::metadata(rt, file.as_str())?.is_file() {
+        return Err(io::Error::new(io::ErrorKind::Other, "it is no file"));
+    }
+    let mut text = Vec::new(alloc);
+    File::open(rt, file.as_str())?.read_to_end(&mut text)?;
+    Ok(text)
 }
 
 /// How many of these files are at a stage.

@@ -199,17 +199,17 @@ impl<R: Files<File = File> + Clock + Log + Wait, E: HouseLedger> Care<'_, '_, R,
     }
 
     /// Has a failed job of this folder fed again, by the number of its file. Answers whose it is, where that is known.
-    fn resend_one(
+    fn resend_one<'k>(
         &self,
-        kept: &JobFolder<'_, R>,
+        kept: &JobFolder<'k, R>,
         number: u64,
-    ) -> Result<Option<FiledJob>, Unsent<'_>> {
+    ) -> Result<Option<FiledJob>, Unsent<'k>> {
         kept.disk.resend(number).map_err(Unsent::Fault)?;
         // Whose it is is read before the spool may have it printed.
         let filed = kept.filed(self.hall.rt, self.hall.alloc, number);
         let config = &self.hall.oversight.config;
         match kept.enter(self.hall.rt, self.hall.alloc, config, number) {
-            Ok(true) => Ok(filed.ok().flatten()),
+            Ok(true) => Ok(filed.unwrap_or(None)),
             Ok(false) | Err(AdmissionFault::Known | AdmissionFault::NoQueue) => Err(Unsent::NoJob),
             Err(AdmissionFault::Memory) => Err(Unsent::Memory),
         }

@@ -97,7 +97,6 @@ struct LeavingQueue<'o> {
     place: usize,
     /// The jobs that its printers offer.
     offered: &'o [OfferedJob],
-    why: Why,
 }
 
 impl LeavingQueue<'_> {
@@ -229,9 +228,10 @@ impl<'h, 'a, R: Files<File = File> + Clock + Log + Wait, E: HouseLedger> Unloadi
         else {
             return;
         };
-        let is_due = told.is_none_or(|told| {
-            now.saturating_duration_since(told).as_secs() >= TELL_SECONDS
-        });
+        let is_due = match *told {
+            Some(told) => now.saturating_duration_since(told).as_secs() >= TELL_SECONDS,
+            None => true,
+        };
         if is_due {
             *told = Some(now);
             let name = hall.queue_name(queue);
@@ -260,7 +260,6 @@ impl<'h, 'a, R: Files<File = File> + Clock + Log + Wait, E: HouseLedger> Unloadi
             number: queue,
             place,
             offered: offered.as_slice(),
-            why,
         };
         let left = self.take_out(kept, seat, &mut lines, &leaving)?;
         for offer in &offered {

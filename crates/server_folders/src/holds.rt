@@ -4,7 +4,7 @@
 //! server that doesn't know it passes it over.
 
 use config_values::Config;
-use job_disk::HELD_QUEUES;
+use job_disk::{HELD_QUEUES, read_held};
 use log::{Log, warn};
 use server_folder::FILE_MODE;
 use std::alloc::{AllocError, Global};
@@ -26,10 +26,12 @@ fn held_in<R: Log>(
         if name.is_empty() {
             continue;
         }
-        let number = config.queue_named(name);
-        match number.and_then(|number| held.get_mut((number as usize).saturating_sub(1))) {
-            Some(place) => *place = true,
-            None => warn!(rt; "{path}/{HELD_QUEUES}: a queue that was held isn't in the configuration any more"),
+        let Some(number) = config.queue_named(name) else {
+            warn!(rt; "{path}/{HELD_QUEUES}: a queue that was held isn't in the configuration any more");
+            continue;
+        };
+        if let Some(place) = held.get_mut((number as usize).saturating_sub(1)) {
+            *place = true;
         }
     }
     Ok(held)
@@ -52,8 +54,7 @@ pub(crate) fn read_holds<R: Files<File = File> + Log>(
     path: &str,
     config: &Config,
 ) -> Result<Vec<bool>, AllocError> {
-    let file = format!(in alloc; "{path}/{HELD_QUEUES}")?;
-    match fs::read(rt, file.as_str()) {
+    match read_held(rt, alloc, path) {
         Ok(text) => held_in(rt, alloc, path, config, text.as_slice()),
         Err(error) if error.kind() == ErrorKind::NotFound => all_queues(alloc, config, false),
         Err(error) => {

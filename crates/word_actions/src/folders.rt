@@ -12,12 +12,11 @@ use crate::fault::ActionFault;
 use crate::files::print;
 use account_folder::AccountState;
 use control_lines::Escaped;
-use job_disk::{FolderState, HELD_QUEUES, look};
+use job_disk::{FolderState, HELD_QUEUES, look, read_held};
 use log::{Log, info};
 use lpd_commands::OctetWrite;
 use program_edge::tell_cause;
 use std::alloc::{AllocError, Global};
-use std::fs;
 use std::fs::{File, Files};
 use std::io::ErrorKind;
 
@@ -36,19 +35,14 @@ fn folder_line(alloc: Global, path: &str, state: FolderState) -> Result<String, 
     }
 }
 
-/// Tells the log which queues the folder at this path says are held, or why that isn't known. AllocError where memory is refused.
-fn tell_holds<R: Files<File = File> + Log>(
-    alloc: Global,
-    rt: &R,
-    path: &str,
-) -> Result<(), AllocError> {
-    let file = format!(in alloc; "{path}/{HELD_QUEUES}")?;
-    let text = match fs::read(rt, file.as_str()) {
+/// Tells the log which queues the folder at this path says are held, or why that isn't known.
+fn tell_holds<R: Files<File = File> + Log>(alloc: Global, rt: &R, path: &str) {
+    let text = match read_held(rt, alloc, path) {
         Ok(text) => text,
-        Err(error) if error.kind() == ErrorKind::NotFound => return Ok(()),
+        Err(error) if error.kind() == ErrorKind::NotFound => return,
         Err(error) => {
-            info!(rt; target: PART, "{file}: {error}: a server would hold all queues");
-            return Ok(());
+            info!(rt; target: PART, "{path}/{HELD_QUEUES}: {error}: a server would hold all queues");
+            return;
         }
     };
     for name in text.split(|octet| *octet == b'\n') {
@@ -56,7 +50,6 @@ fn tell_holds<R: Files<File = File> + Log>(
             info!(rt; target: PART, "{path}: queue {} is held", Escaped(name));
         }
     }
-    Ok(())
 }
 
 /// Says what stands in the folder at this path, of which nothing is made or changed; the log is told which queues are held. Answers `Folder`
@@ -79,7 +72,7 @@ pub(crate) fn check_folder<R: Files<File = File> + Log, W: OctetWrite>(
             return Err(ActionFault::Folder(String::from_str(alloc, path)?));
         }
     };
-    tell_holds(alloc, rt, path)?;
+    tell_holds(alloc, rt, path);
     print(output, folder_line(alloc, path, state)?.as_bytes())
 }
 
