@@ -79,6 +79,8 @@ impl<R: Files<File = File> + Clock + Log + Wait, E: HouseLedger, S: PrintSink + 
     fn note_failed(&self, is_lost: bool) {
         let (hall, printer) = (self.house.hall, self.printer);
         if self.is_put_off() {
+            // Nor for one of which it stood still before.
+            hall.oversight.standstills.end(hall.rt, printer);
             return;
         }
         if is_lost || !self.sink.may_go_on() {

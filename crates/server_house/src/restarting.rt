@@ -63,9 +63,11 @@ impl<R: Clock + Log + Wait, E: HouseLedger> House<'_, '_, R, E> {
             if !self.has_standstill(queue)
                 && self.hall.put_offs.take_due(self.hall.rt, printer, now)
             {
-                let _ = self
-                    .spool
-                    .start_telling(self.hall.rt, seat, config.name_of(queue));
+                let name = config.name_of(queue);
+                if self.spool.start_telling(self.hall.rt, seat, name).is_err() {
+                    // The account has no room for it now.
+                    self.hall.put_offs.put_off(self.hall.rt, printer);
+                }
             }
         }
     }
