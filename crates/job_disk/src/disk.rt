@@ -13,6 +13,9 @@ use std::os::unix::fs::OpenOptionsExt;
 use std::sync::{Condvar, Mutex, MutexGuard, Wait};
 use std::{fs, io};
 
+/// What is said of what stands in the place of a file and is none.
+pub(crate) const NO_FILE: &str = "it is no file";
+
 /// A folder of jobs, which sessions, printers and whoever feeds its jobs share. One server has it at a time.
 #[derive(Drop)]
 pub struct Disk<'a, R> {
@@ -98,9 +101,12 @@ impl<'a, R: Files<File = File> + Wait> Disk<'a, R> {
         options.open(self.rt, path.as_str())
     }
 
-    /// Opens a file to be read from its head on.
+    /// Opens a file to be read from its head on. An error where none is there, or what is there is no file: a pipe would have its opener wait.
     pub(crate) fn open_file(&self, name: KeptFileName) -> io::Result<File> {
         let path = self.path_of(name)?;
+        if !fs::metadata(self.rt, path.as_str())?.is_file() {
+            return Err(io::Error::new(io::ErrorKind::Other, NO_FILE));
+        }
         File::open(self.rt, path.as_str())
     }
 

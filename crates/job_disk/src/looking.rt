@@ -1,5 +1,6 @@
 //! Looking at a folder of jobs without taking it.
 
+use crate::disk::NO_FILE;
 use crate::listing::names_of;
 use job_files::{FileStage, KeptFileName};
 use server_folder::{FolderError, FolderUse};
@@ -31,7 +32,7 @@ pub enum FolderState {
 pub fn read_held<R: Files<File = File>>(rt: &R, alloc: Global, path: &str) -> io::Result<Vec<u8>> {
     let file = format!(in alloc; "{path}/{HELD_QUEUES}")?;
     if !fs::metadata(rt, file.as_str())?.is_file() {
-        return Err(io::Error::new(io::ErrorKind::Other, "it is no file"));
+        return Err(io::Error::new(io::ErrorKind::Other, NO_FILE));
     }
     let mut text = Vec::new(alloc);
     File::open(rt, file.as_str())?.read_to_end(&mut text)?;
