@@ -8,8 +8,8 @@ use crate::opening::AccountOpenError;
 use segment_text::{LineFault, SegmentLine, SegmentReader};
 use std::alloc::{AllocError, Global};
 use std::fs::{File, Files};
-use std::io;
 use std::io::Read;
+use std::{fs, io};
 
 /// How many octets are read at once.
 const PIECE: usize = 16_384;
@@ -155,6 +155,10 @@ fn read_named<R: Files<File = File>>(
     name: SegmentName,
 ) -> Result<LastSegment, AccountOpenError> {
     let path = format!(in alloc; "{path}/{name}").map_err(io::Error::from)?;
+    // A pipe would have its opener wait.
+    if !fs::metadata(rt, path.as_str())?.is_file() {
+        return Err(AccountOpenError::Broken(name));
+    }
     let mut file = File::open(rt, path.as_str())?;
     match read_segment(alloc, &mut file) {
         Ok(last) => Ok(last),

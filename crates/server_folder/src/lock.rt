@@ -5,8 +5,8 @@ use crate::fault::{FolderError, FolderUse};
 use crate::making::FILE_MODE;
 use std::alloc::{AllocError, Global};
 use std::fs::{File, Files, OpenOptions, TryLockError};
-use std::io;
 use std::os::unix::fs::OpenOptionsExt;
+use std::{fs, io};
 
 /// Where the lock of the folder at this path stands.
 fn path_in(alloc: Global, folder: &str) -> Result<String, AllocError> {
@@ -22,6 +22,16 @@ fn answer_of(tried: Result<(), TryLockError>, purpose: FolderUse) -> Result<(), 
     }
 }
 
+/// An error where what stands at this path is no file: a pipe would have its opener wait. Whether something is there isn't said.
+fn check_file<R: Files<File = File>>(rt: &R, path: &str) -> io::Result<()> {
+    match fs::metadata(rt, path) {
+        Ok(metadata) if !metadata.is_file() => {
+            Err(io::Error::new(io::ErrorKind::Other, "its lock is no file"))
+        }
+        Ok(_) | Err(_) => Ok(()),
+    }
+}
+
 /// Takes the lock of the folder, which lasts as long as the file.
 pub(crate) fn take_lock<R: Files<File = File>>(
     rt: &R,
@@ -30,6 +40,7 @@ pub(crate) fn take_lock<R: Files<File = File>>(
     folder: &str,
 ) -> Result<File, FolderError> {
     let path = path_in(alloc, folder).map_err(io::Error::from)?;
+    check_file(rt, path.as_str())?;
     let mut options = OpenOptions::new();
     options.write(true).create(true).mode(FILE_MODE);
     let file = options.open(rt, path.as_str())?;
@@ -45,6 +56,7 @@ pub(crate) fn check_lock<R: Files<File = File>>(
     folder: &str,
 ) -> Result<(), FolderError> {
     let path = path_in(alloc, folder).map_err(io::Error::from)?;
+    check_file(rt, path.as_str())?;
     match OpenOptions::new().write(true).open(rt, path.as_str()) {
         Ok(file) => answer_of(file.try_lock_shared(), purpose),
         Err(cause) if cause.kind() == io::ErrorKind::NotFound => Ok(()),
