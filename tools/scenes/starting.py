@@ -9,6 +9,7 @@ import socket
 import subprocess
 import sys
 import tempfile
+import time
 
 from client import Server, free_port, spool
 from scene import PROGRAM, check, main
@@ -36,6 +37,10 @@ def a_room():
         with open(f"{room}/file", "w") as file:
             file.write("hello world")
         os.mkdir(f"{room}/folder")
+        # (who opens a pipe that nobody has open waits)
+        for folder, name in (("piped", "lock"), ("chained", "segment-0000000001")):
+            os.mkdir(f"{room}/{folder}")
+            os.mkfifo(f"{room}/{folder}/{name}")
         yield room
 
 
@@ -68,6 +73,8 @@ def a_start_tells_why_it_failed():
             ([*serve, "--spool", "a/b"], 4, "fault 73 WriteFile a/b", r"a/b: No such file"),
             ([*serve, "--spool", "file"], 4, "fault 73 WriteFile file", r"file: Not a directory"),
             ([*serve, "--account", "a/b"], 4, "fault 73 WriteFile a/b", r"a/b: No such file"),
+            ([*serve, "--spool", "piped"], 4, "fault 73 WriteFile piped", r"piped: its lock is no file"),
+            ([*serve, "--account", "chained"], 4, "fault 73 WriteFile chained", r"chained: .*segment-0000000001"),
             ([*serve, "--control", "nosuch/socket"], 4, "fault 72 Network nosuch/socket", r"nosuch/socket: No such file"),
             ([*serve, "--control", "file"], 4, "fault 72 Network file", r"file: "),
         ]
@@ -141,5 +148,19 @@ def a_start_warns_of_what_bites_later():
     return f"{len(cases)} starts"
 
 
+def a_pipe_in_the_place_of_a_job():
+    """A pipe and a folder that have the names of kept jobs: the server listens, warns of both, and prints what is sent."""
+    with tempfile.TemporaryDirectory() as room:
+        os.mkdir(f"{room}/kept")
+        os.mkfifo(f"{room}/kept/3.job")
+        os.mkdir(f"{room}/kept/5.job")
+        with Server(PROGRAM, spool(account=100_000, limit=4), "--spool", f"{room}/kept", "--keep-room") as it:
+            until = time.monotonic() + 5
+            while it.log().count("it is no file") < 2:
+                check(time.monotonic() < until, it.log())
+                time.sleep(0.05)
+    return "both are told, and nothing waits"
+
+
 if __name__ == "__main__":
-    sys.exit(main([a_start_tells_why_it_failed, a_command_tells_why_it_failed, a_refusal_tells_what_it_may_mean, a_start_warns_of_what_bites_later], __doc__))
+    sys.exit(main([a_pipe_in_the_place_of_a_job, a_start_tells_why_it_failed, a_command_tells_why_it_failed, a_refusal_tells_what_it_may_mean, a_start_warns_of_what_bites_later], __doc__))
