@@ -22,6 +22,7 @@ pub struct Survey {
     stops: bool,
     lobby: usize,
     kept: Option<KeptJobs>,
+    parked: Vec<u64>,
     sessions: Vec<SeenSession>,
     printers: Vec<PrinterNotes>,
     put_off: Vec<u64>,
@@ -38,6 +39,7 @@ impl Survey {
             segment: sight.segment,
             lobby: self.lobby,
             kept: self.kept,
+            parked: self.parked.as_slice(),
             sessions: self.sessions.as_slice(),
             noted: EdgeNotes {
                 // No queue has the number 0.
@@ -145,6 +147,17 @@ impl<R: Files<File = File> + Clock + Log + Wait, E: HouseLedger> Care<'_, '_, R,
         Ok(numbers)
     }
 
+    /// How many jobs of each queue wait in the folder of kept jobs, where there is one.
+    fn seen_parked(&self) -> Result<Vec<u64>, AllocError> {
+        let mut parked = Vec::new(self.hall.alloc);
+        if let Some(kept) = &self.hall.kept {
+            for place in 0..self.hall.oversight.config.queues().len() {
+                parked.push(kept.disk.lines().parked(place) as u64)?;
+            }
+        }
+        Ok(parked)
+    }
+
     /// What the edge of the server knows at this moment, at which the spool is as that shows. None where the clock can't be read.
     /// AllocError where memory for it is refused.
     pub fn survey(&self, sight: &Sight) -> Result<Option<Survey>, AllocError> {
@@ -160,6 +173,7 @@ impl<R: Files<File = File> + Clock + Log + Wait, E: HouseLedger> Care<'_, '_, R,
                 .kept
                 .as_ref()
                 .map(|kept| kept.counts(self.hall.rt)),
+            parked: self.seen_parked()?,
             sessions: self.seen_sessions(start, now)?,
             printers: self.seen_printers(now)?,
             put_off: put_off_of(self.hall.alloc, sight)?,

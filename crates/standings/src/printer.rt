@@ -3,13 +3,14 @@
 ghost use Rattle.std.specs.Prelude.{◌≡◌, ◌<◌, ◌^◌, count_by, option_copied, string_bytes};
 ghost use Rattle.std.specs.List.{list_any};
 ghost use Rattle.spool_calls.specs.declared.printer.Printer.{Printer as Seen};
-ghost use Rattle.standings.specs.Printers.{cause_of, count_at, is_reached_for, is_unreached_at, one_if, printer_standing, runs_for};
+ghost use Rattle.standings.specs.Noted.{stop_in, unreached_in};
+ghost use Rattle.standings.specs.Printers.{cause_of, count_at, has_given_back, is_halted_at, is_put_off_at, is_reached_for, is_stopped_at, is_unreached_at, one_if, printer_standing, runs_for, stopped_by};
 
 use crate::noted::PrinterNotes;
 use spool_calls::Printer;
 
-/// How a printer stands. Where several hold the first of these says it: it is stopped, it isn't reached, it prints, its queue is held,
-/// it is idle.
+/// How a printer stands. Where several hold the first of these says it: it is stopped, it is put off, it isn't reached, it prints, its queue
+/// is held, it is idle.
 ///
 /// ```text
 ///            a page is handed to it          nothing of the page goes
@@ -18,10 +19,11 @@ use spool_calls::Printer;
 ///    | | hold                        | | a page fails                      | a page fails
 ///    | v                             | v                                   |
 ///   Held <---------------------------+ Stopped <---------------------------+
-///            the job is left          |
-///                                     | its queue is started
-///                                     v
-///                                  Idle, Held
+///            the job is left          |                                    |
+///                                     | its queue is started               | the job is put back
+///                                     v                                    v
+///                                  Idle, Held <------------------------ PutOff
+///                                                it is tried again
 /// ```
 #[derive(Clone, Copy)]
 pub enum PrinterStanding {
@@ -33,8 +35,31 @@ pub enum PrinterStanding {
     Printing { job: u64, place: u64 },
     /// It has a place of a job, of which nothing goes for so many seconds: it isn't reached, or takes nothing.
     Unreached { job: u64, place: u64, seconds: u64 },
+    /// It isn't reached since so many seconds, and its job was put back: it waits in the folder, and the printer is tried again by itself.
+    PutOff { seconds: u64 },
     /// A page failed at it, so many seconds ago, where that is known; nothing is printed at it until its queue is started.
     Stopped { seconds: Option<u64> },
+}
+
+/// How a printer stands that is stopped, of which this is noted: where no fault stopped it, and it isn't reached, it has given its job back.
+fn stopped_standing(notes: Option<&PrinterNotes>) -> PrinterStanding
+    ensures { result ≡ stopped_by (stop_in (option_copied notes.entry))
+        (unreached_in (option_copied notes.entry)) }
+{
+    let Some(notes) = notes else {
+        return PrinterStanding::Stopped { seconds: None };
+    };
+    if let Some(stop) = &notes.stop {
+        return PrinterStanding::Stopped {
+            seconds: Some(stop.seconds),
+        };
+    }
+    match &notes.unreached {
+        Some(trouble) => PrinterStanding::PutOff {
+            seconds: trouble.seconds,
+        },
+        None => PrinterStanding::Stopped { seconds: None },
+    }
 }
 
 /// How a printer stands, of which this is noted, and whose queue is held or isn't.
@@ -46,10 +71,7 @@ pub fn printer_standing(
     ensures { result ≡ printer_standing printer.now is_held (option_copied notes.entry) }
 {
     if printer.stopped {
-        let stop = notes.and_then(|notes| notes.stop.as_ref());
-        return PrinterStanding::Stopped {
-            seconds: stop.map(|trouble| trouble.seconds),
-        };
+        return stopped_standing(notes);
     }
     let Some(sheet) = printer.out else {
         return if is_held {
@@ -75,7 +97,9 @@ pub fn cause_of<'a>(standing: PrinterStanding, notes: Option<&'a PrinterNotes>) 
 {
     let trouble = match standing {
         PrinterStanding::Stopped { .. } => notes.and_then(|notes| notes.stop.as_ref()),
-        PrinterStanding::Unreached { .. } => notes.and_then(|notes| notes.unreached.as_ref()),
+        PrinterStanding::Unreached { .. } | PrinterStanding::PutOff { .. } => {
+            notes.and_then(|notes| notes.unreached.as_ref())
+        }
         PrinterStanding::Idle | PrinterStanding::Held | PrinterStanding::Printing { .. } => None,
     };
     trouble.map_or("", |trouble| trouble.cause.as_str())
@@ -95,13 +119,6 @@ pub fn is_served(printers: &[Printer], queue: u32) -> bool
     printers.iter().any(|printer| runs_for(queue, printer))
 }
 
-/// How many of these printers are stopped.
-pub fn stopped_printers(printers: &[Printer]) -> u64
-    ensures { result ≡ count_by (λ (p : Seen). p.stopped) printers.now }
-{
-    printers.iter().filter(|printer| printer.stopped).count() as u64
-}
-
 /// 1 where it is so, else 0.
 fn one_if(so: bool) -> usize
     ensures { result ≡ one_if so }
@@ -109,12 +126,56 @@ fn one_if(so: bool) -> usize
     usize::from(so)
 }
 
-/// Whether the printer at a place isn't reached.
-pub fn is_unreached_at(notes: &[PrinterNotes], at: usize, printer: &Printer) -> bool
-    ensures { result ≡ is_unreached_at notes.now at printer.now }
+/// Whether a printer of which this is noted has given its job back, and is tried again by itself.
+fn has_given_back(notes: Option<&PrinterNotes>, printer: &Printer) -> bool
+    ensures { result ≡ has_given_back (option_copied notes.entry) printer.now }
+{
+    match notes {
+        Some(notes) => {
+            notes.unreached.is_some() && !notes.stop.is_some() && printer.stopped
+        }
+        None => false,
+    }
+}
+
+/// Whether the printer at a place has given its job back, and is tried again by itself.
+pub fn is_put_off_at(notes: &[PrinterNotes], at: usize, printer: &Printer) -> bool
+    ensures { result ≡ is_put_off_at notes.now at printer.now }
+{
+    has_given_back(notes.get(at), printer)
+}
+
+/// Whether the printer at a place is stopped, and isn't tried again by itself.
+pub fn is_stopped_at(notes: &[PrinterNotes], at: usize, printer: &Printer) -> bool
+    ensures { result ≡ is_stopped_at notes.now at printer.now }
+{
+    printer.stopped && !is_put_off_at(notes, at, printer)
+}
+
+/// How many of these printers are stopped, and aren't tried again by themselves.
+pub fn stopped_printers(notes: &[PrinterNotes], printers: &[Printer]) -> usize
+    ensures { result ≡ count_at (is_stopped_at notes.now) 0 printers.now }
+{
+    let mut count = 0;
+    for (i, printer) in printers.iter().enumerate() {
+        count += one_if(is_stopped_at(notes, i, printer));
+    }
+    count
+}
+
+/// Whether the printer at a place has a page of which nothing goes.
+fn is_halted_at(notes: &[PrinterNotes], at: usize, printer: &Printer) -> bool
+    ensures { result ≡ is_halted_at notes.now at printer.now }
 {
     let is_noted = notes.get(at).is_some_and(|notes| notes.unreached.is_some());
     is_noted && printer.out.is_some() && !printer.stopped
+}
+
+/// Whether the printer at a place isn't reached: it has a page of which nothing goes, or has given its job back.
+pub fn is_unreached_at(notes: &[PrinterNotes], at: usize, printer: &Printer) -> bool
+    ensures { result ≡ is_unreached_at notes.now at printer.now }
+{
+    is_halted_at(notes, at, printer) || is_put_off_at(notes, at, printer)
 }
 
 /// How many of these printers aren't reached.

@@ -25,7 +25,7 @@ use Rattle.status_lines.specs.declared.outside.KeptJobs.{KeptJobs}
 use Rattle.status_lines.specs.declared.outside.Outside.{Outside}
 use Rattle.status_lines.specs.declared.outside.SeenSession.{SeenSession}
 use Rattle.status_lines.specs.Pieces.{one_line}
-use Rattle.status_lines.specs.Words.{entries_words, job_words, kept_words, lobby_words, pages_words, printer_line, queue_words, session_words, spool_words, trouble_line, uptime_words}
+use Rattle.status_lines.specs.Words.{entries_words, job_words, kept_words, lobby_words, pages_words, parked_words, printer_line, queue_words, session_words, spool_words, trouble_line, uptime_words}
 
 -- the texts of elements by their places, the first of which has this one
 abbrev pub placed : {X : Type 0} → (ℕ → X → List ℕ) → ℕ → List X → List ℕ
@@ -51,6 +51,15 @@ abbrev pub kept_text : Option KeptJobs → List ℕ
 kept_text None = []
 kept_text (Some kept) = ended (kept_words kept.waiting kept.failed)
 
+-- how many jobs of the queue at a place wait in the folder, where some do
+abbrev pub parked_text : List ℕ → ℕ → Queue → List ℕ
+parked_text parked at q =
+    if slice_index_or parked at 0 == 0 then [] else ended (parked_words q.name (slice_index_or parked at 0))
+
+-- so it is told of the queues in the order of the configuration
+abbrev pub all_parked_text : Config → List ℕ → List ℕ
+all_parked_text c parked = placed (parked_text parked) 0 c.queues
+
 abbrev pub session_text : SeenSession → List ℕ
 session_text s = ended (session_words s.peer s.silent)
 
@@ -65,6 +74,8 @@ printer_told number name printer.Held cause = ended (printer_line number name pr
 printer_told number name (printer.Printing job place) cause = ended (printer_line number name (printer.Printing job place))
 printer_told number name (printer.Unreached job place seconds) cause =
     ended (printer_line number name (printer.Unreached job place seconds)) ++ ended (trouble_line number name trouble.Unreached seconds (one_line cause))
+printer_told number name (printer.PutOff seconds) cause =
+    ended (printer_line number name (printer.PutOff seconds)) ++ ended (trouble_line number name trouble.PutOff seconds (one_line cause))
 printer_told number name (printer.Stopped None) cause = ended (printer_line number name (printer.Stopped None))
 printer_told number name (printer.Stopped (Some seconds)) cause = ended (trouble_line number name trouble.Stopped seconds (one_line cause))
 
@@ -108,4 +119,5 @@ jobs_text c s e = placed (job_text c s e) 0 s.jobs.items
 
 abbrev pub status_text : Config → Snapshot → Outside → List ℕ
 status_text c s o =
-    head_text c s o ++ (kept_text o.kept ++ (flat_map session_text o.sessions.now ++ (queues_text c s.printers.items o.noted ++ jobs_text c s o.noted)))
+    head_text c s o ++ (kept_text o.kept ++ (all_parked_text c o.parked.now ++ (flat_map session_text o.sessions.now ++ (
+    queues_text c s.printers.items o.noted ++ jobs_text c s o.noted))))

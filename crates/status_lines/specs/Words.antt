@@ -43,6 +43,7 @@ phase_word far.Ended = codes "ended"
 abbrev pub trouble_word : PrinterTrouble → List ℕ
 trouble_word trouble.Stopped = codes "stopped"
 trouble_word trouble.Unreached = codes "unreached"
+trouble_word trouble.PutOff = codes "putoff"
 
 -- uptime SECONDS
 abbrev pub uptime_words : ℕ → List ℕ
@@ -71,6 +72,10 @@ lobby_words waiting = codes "lobby " ++ decimal waiting
 abbrev pub kept_words : (waiting failed : ℕ) → List ℕ
 kept_words waiting failed = codes "kept waiting " ++ (decimal waiting ++ (codes " failed " ++ decimal failed))
 
+-- parked QUEUE N
+abbrev pub parked_words : List ℕ → ℕ → List ℕ
+parked_words name jobs = codes "parked " ++ (name ++ (codes " " ++ decimal jobs))
+
 -- session PEER silent SECONDS
 abbrev pub session_words : SocketAddr → ℕ → List ℕ
 session_words peer silent = codes "session " ++ (socket_text peer ++ (codes " silent " ++ decimal silent))
@@ -88,6 +93,7 @@ printer_words printer.Idle = codes "idle"
 printer_words printer.Held = codes "idle"
 printer_words (printer.Printing job place) = prints_words job place
 printer_words (printer.Unreached job place seconds) = prints_words job place
+printer_words (printer.PutOff seconds) = codes "idle"
 printer_words (printer.Stopped seconds) = codes "stopped"
 
 -- printer K QUEUE STATE
@@ -95,7 +101,7 @@ abbrev pub printer_line : ℕ → List ℕ → PrinterStanding → List ℕ
 printer_line number name standing =
     codes "printer " ++ (decimal number ++ (codes " " ++ (name ++ (codes " " ++ printer_words standing))))
 
--- printer K QUEUE stopped SECONDS CAUSE, or unreached
+-- printer K QUEUE stopped SECONDS CAUSE, or unreached, or putoff
 abbrev pub trouble_line : ℕ → List ℕ → PrinterTrouble → ℕ → List ℕ → List ℕ
 trouble_line number name what seconds cause =
     codes "printer " ++ (decimal number ++ (codes " " ++ (name ++ (codes " " ++ (trouble_word what ++ (codes " " ++ (decimal seconds ++ (codes " " ++ cause))))))))
@@ -144,6 +150,7 @@ line_words (line.Pages pages) = pages_words pages
 line_words (line.Entries counted most segment) = entries_words counted most segment
 line_words (line.Lobby waiting) = lobby_words waiting
 line_words (line.Kept waiting failed) = kept_words waiting failed
+line_words (line.Parked name jobs) = parked_words name.now jobs
 line_words (line.Session peer silent) = session_words peer silent
 line_words (line.Queue name state) = queue_words name.now state
 line_words (line.Printer number name standing) = printer_line number name.now standing

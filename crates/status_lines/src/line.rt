@@ -54,7 +54,7 @@ impl QueueState {
     }
 }
 
-/// What a printer does, as its line says it: whose queue is held is idle, and one that isn't reached has its page.
+/// What a printer does, as its line says it: whose queue is held is idle, and so is one that is put off; one that isn't reached has its page.
 #[derive(Clone, Copy)]
 struct PrinterWork(PrinterStanding);
 
@@ -63,7 +63,9 @@ impl fmt::Display for PrinterWork {
 
     fn fmt<W: fmt::Write>(&self, f: &mut fmt::Formatter<W>) -> fmt::Result {
         match self.0 {
-            PrinterStanding::Idle | PrinterStanding::Held => f.write_str("idle"),
+            PrinterStanding::Idle | PrinterStanding::Held | PrinterStanding::PutOff { .. } => {
+                f.write_str("idle")
+            }
             PrinterStanding::Printing { job, place }
             | PrinterStanding::Unreached { job, place, .. } => {
                 write!(f, "prints {job} place {place}")
@@ -91,6 +93,8 @@ pub enum PrinterTrouble {
     Stopped,
     /// It isn't reached, or takes nothing.
     Unreached,
+    /// It isn't reached, and its jobs wait in the folder.
+    PutOff,
 }
 
 impl PrinterTrouble {
@@ -100,6 +104,7 @@ impl PrinterTrouble {
         match self {
             PrinterTrouble::Stopped => "stopped",
             PrinterTrouble::Unreached => "unreached",
+            PrinterTrouble::PutOff => "putoff",
         }
     }
 }
@@ -150,6 +155,11 @@ pub enum StatusLine<'a> {
     Kept {
         waiting: u64,
         failed: u64,
+    },
+    /// How many jobs of a queue of this name wait in the folder.
+    Parked {
+        queue: &'a str,
+        jobs: u64,
     },
     /// A session: the address of its peer, and for how many seconds nothing came from that.
     Session {
@@ -284,6 +294,7 @@ impl fmt::Display for StatusLine<'_> {
             StatusLine::Kept { waiting, failed } => {
                 write!(f, "kept waiting {waiting} failed {failed}")
             }
+            StatusLine::Parked { queue, jobs } => write!(f, "parked {queue} {jobs}"),
             StatusLine::Session { peer, silent } => { write!(f, "session {peer} silent {silent}") }
             StatusLine::Queue { name, state } => write!(f, "queue {name} {}", state.word()),
             StatusLine::Printer {

@@ -34,6 +34,8 @@ pub struct Outside<'a> {
     pub lobby: usize,
     /// What is in the folder that keeps the jobs, where there is one.
     pub kept: Option<KeptJobs>,
+    /// How many jobs of each queue wait in that folder, in the order of the configuration; none where there is no folder.
+    pub parked: &'a [u64],
     /// The sessions that serve a connection.
     pub sessions: &'a [SeenSession],
     /// What is noted of its queues, printers and jobs.

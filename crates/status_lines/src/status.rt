@@ -4,7 +4,7 @@ ghost use Rattle.std.specs.Prelude.{◌≡◌, ◌<◌, ◌^◌, ◌++◌, IfOk,
 ghost use Rattle.std.specs.List.{flat_map};
 ghost use Rattle.claims.specs.Claims.{row_at};
 ghost use Rattle.status_lines.specs.Pieces.{one_line};
-ghost use Rattle.status_lines.specs.Status.{ended, head_text, job_text, jobs_text, kept_text, numbers_at, pages_in, placed, printer_text, printer_told, queue_state, queue_text, queues_text, session_text, spool_state, status_text};
+ghost use Rattle.status_lines.specs.Status.{all_parked_text, ended, head_text, job_text, jobs_text, kept_text, numbers_at, pages_in, parked_text, placed, printer_text, printer_told, queue_state, queue_text, queues_text, session_text, spool_state, status_text};
 ghost use Rattle.status_lines.specs.Words.{line_words, trouble_line};
 
 use crate::line::{JobPages, PrinterTrouble, QueueState, SpoolState, StatusLine};
@@ -85,6 +85,36 @@ fn push_kept(text: &mut String, kept: Option<KeptJobs>) -> Result<(), AllocError
     }
 }
 
+/// Puts the line of how many jobs of the queue at a place wait in the folder at the end of the text, where some do.
+fn push_parked_of(
+    text: &mut String,
+    placed: (usize, &Queue),
+    parked: &[u64],
+) -> Result<(), AllocError>
+    requires name { IsUtf8 placed.1.now.name }
+    ensures { OnOk result (string_bytes text.new ≡ string_bytes text.old
+        ++ parked_text parked.now placed.entry.0 placed.entry.1.now) }
+{
+    let (at, queue) = placed;
+    let jobs = parked.get(at).copied().unwrap_or(0);
+    if jobs == 0 {
+        return Ok(());
+    }
+    let queue = name_text(queue.name());
+    push(text, StatusLine::Parked { queue, jobs })
+}
+
+/// Puts the lines of how many jobs of each queue wait in the folder at the end of the text.
+fn push_parked(text: &mut String, config: &Config, parked: &[u64]) -> Result<(), AllocError>
+    ensures { OnOk result (string_bytes text.new
+        ≡ string_bytes text.old ++ all_parked_text config.now parked.now) }
+{
+    for (i, queue) in config.queues().iter().enumerate() {
+        push_parked_of(text, (i, queue), parked)?;
+    }
+    Ok(())
+}
+
 /// Puts the lines of these sessions at the end of the text.
 fn push_sessions(text: &mut String, sessions: &[SeenSession]) -> Result<(), AllocError>
     ensures { OnOk result (string_bytes text.new
@@ -153,16 +183,20 @@ fn push_printer(
         standing,
     };
     push(text, line)?;
-    if let PrinterStanding::Unreached { seconds, .. } = standing {
-        push_trouble(
-            alloc,
-            text,
-            printer,
-            (PrinterTrouble::Unreached, seconds),
-            cause,
-        )?;
+    match standing {
+        PrinterStanding::Unreached { seconds, .. } => {
+            let trouble = (PrinterTrouble::Unreached, seconds);
+            push_trouble(alloc, text, printer, trouble, cause)
+        }
+        PrinterStanding::PutOff { seconds } => {
+            let trouble = (PrinterTrouble::PutOff, seconds);
+            push_trouble(alloc, text, printer, trouble, cause)
+        }
+        PrinterStanding::Idle
+        | PrinterStanding::Held
+        | PrinterStanding::Printing { .. }
+        | PrinterStanding::Stopped { .. } => Ok(()),
     }
-    Ok(())
 }
 
 /// Puts the lines of the printer at a place at the end of the text, where it serves the queue of this number.
@@ -308,7 +342,7 @@ fn push_jobs(
 }
 
 /// The lines of the answer to `status`, each with its LF: the server, its spool, the pages, the account and the lobby; the folder that
-/// keeps the jobs; the sessions;
+/// keeps the jobs, and how many of each queue wait in it; the sessions;
 /// the queues in the order of the configuration, each with its printers under it; and the held jobs in order of acceptance.
 ///
 /// AllocError where memory for it is refused.
@@ -324,6 +358,7 @@ pub fn status_text(
     let mut text = String::new(alloc);
     push_head(&mut text, config, snapshot, outside)?;
     push_kept(&mut text, outside.kept)?;
+    push_parked(&mut text, config, outside.parked)?;
     push_sessions(&mut text, outside.sessions)?;
     let (printers, noted) = (snapshot.printers.as_slice(), &outside.noted);
     push_queues(alloc, &mut text, config, printers, noted)?;

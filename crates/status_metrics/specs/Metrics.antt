@@ -20,7 +20,7 @@ use Rattle.status_scene.specs.Refusing.{has_full_pool, is_refused_at}
 use Rattle.status_scene.specs.Silence.{is_silent}
 use Rattle.standings.specs.declared.stage.JobStage.{JobStage}
 use Rattle.standings.specs.declared.stage.JobStage.TheVariants as far
-use Rattle.standings.specs.Printers.{is_unreached_at}
+use Rattle.standings.specs.Printers.{is_put_off_at, is_stopped_at, is_unreached_at}
 use Rattle.standings.specs.Stages.{is_of_queue_at}
 
 -- 1 where it is so, else 0
@@ -96,12 +96,14 @@ queue_name what_queue.Jobs = codes "hurgwaye_jobs"
 queue_name what_queue.Limit = codes "hurgwaye_queue_limit_pages"
 queue_name what_queue.Held = codes "hurgwaye_queue_held"
 queue_name what_queue.Refusing = codes "hurgwaye_queue_refusing"
+queue_name what_queue.Parked = codes "hurgwaye_queue_parked_jobs"
 
 abbrev pub queue_help : OfQueue → List ℕ
 queue_help what_queue.Jobs = codes "Jobs that are held, by their queue and by how far they are."
 queue_help what_queue.Limit = codes "Pages that a job of the queue may hold."
 queue_help what_queue.Held = codes "Whether the queue is held."
 queue_help what_queue.Refusing = codes "Whether a job of the queue is refused for want of room in the account or the table of jobs."
+queue_help what_queue.Parked = codes "Jobs of the queue that wait in the folder."
 
 -- what is said of the queue at a place
 unfoldable pub of_queue : Scene → OfQueue → ℕ → Queue → List ℕ
@@ -110,6 +112,7 @@ of_queue s what_queue.Jobs at q =
 of_queue s what_queue.Limit at q = of_queue_text (codes "hurgwaye_queue_limit_pages") q.name [] q.limit
 of_queue s what_queue.Held at q = of_queue_text (codes "hurgwaye_queue_held") q.name [] (one_if (slice_index_or s.outside.now.noted.held.now at false))
 of_queue s what_queue.Refusing at q = of_queue_text (codes "hurgwaye_queue_refusing") q.name [] (one_if (is_refused_at s.config.now s.spool.now at))
+of_queue s what_queue.Parked at q = of_queue_text (codes "hurgwaye_queue_parked_jobs") q.name [] (slice_index_or s.outside.now.parked.now at 0)
 
 unfoldable pub queues_text : Scene → OfQueue → List ℕ
 queues_text s what = family_text (queue_name what) (queue_help what) kind.Gauge ++ placed (of_queue s what) 0 s.config.now.queues
@@ -118,16 +121,19 @@ abbrev pub printer_name : OfPrinter → List ℕ
 printer_name what_printer.Stopped = codes "hurgwaye_printer_stopped"
 printer_name what_printer.Busy = codes "hurgwaye_printer_busy"
 printer_name what_printer.Unreached = codes "hurgwaye_printer_unreached"
+printer_name what_printer.PutOff = codes "hurgwaye_printer_put_off"
 
 abbrev pub printer_help : OfPrinter → List ℕ
 printer_help what_printer.Stopped = codes "Whether the printer is stopped."
 printer_help what_printer.Busy = codes "Whether a page is at the printer."
-printer_help what_printer.Unreached = codes "Whether a page is at the printer of which nothing goes: it isn't reached, or takes nothing."
+printer_help what_printer.Unreached = codes "Whether a page is at the printer of which nothing goes, or it has given its job back: it isn't reached, or takes nothing."
+printer_help what_printer.PutOff = codes "Whether the printer isn't reached and its jobs wait in the folder: it is tried again."
 
 abbrev pub printer_value : OfPrinter → Scene → ℕ → Printer → ℕ
-printer_value what_printer.Stopped s at p = one_if p.stopped
+printer_value what_printer.Stopped s at p = one_if (is_stopped_at s.outside.now.noted.printers.now at p)
 printer_value what_printer.Busy s at p = one_if (is_some p.out)
 printer_value what_printer.Unreached s at p = one_if (is_unreached_at s.outside.now.noted.printers.now at p)
+printer_value what_printer.PutOff s at p = one_if (is_put_off_at s.outside.now.noted.printers.now at p)
 
 -- what is said of the printer at a place; printers are numbered from 1
 unfoldable pub of_printer : Scene → OfPrinter → ℕ → Printer → List ℕ
@@ -137,10 +143,19 @@ of_printer s what at p =
 unfoldable pub printers_text : Scene → OfPrinter → List ℕ
 printers_text s what = family_text (printer_name what) (printer_help what) kind.Gauge ++ placed (of_printer s what) 0 s.spool.now.printers.items
 
+-- what is said of each queue
+unfoldable pub all_queues_text : Scene → List ℕ
+all_queues_text s =
+    queues_text s what_queue.Jobs ++ (queues_text s what_queue.Limit ++ (queues_text s what_queue.Held ++ (
+    queues_text s what_queue.Refusing ++ queues_text s what_queue.Parked)))
+
+-- what is said of each printer
+unfoldable pub all_printers_text : Scene → List ℕ
+all_printers_text s =
+    printers_text s what_printer.Stopped ++ (printers_text s what_printer.Busy ++ (printers_text s what_printer.Unreached ++ printers_text s what_printer.PutOff))
+
 unfoldable pub each_text : Scene → List ℕ
-each_text s =
-    queues_text s what_queue.Jobs ++ (queues_text s what_queue.Limit ++ (queues_text s what_queue.Held ++ (queues_text s what_queue.Refusing ++ (
-    printers_text s what_printer.Stopped ++ (printers_text s what_printer.Busy ++ printers_text s what_printer.Unreached)))))
+each_text s = all_queues_text s ++ all_printers_text s
 
 -- what is full, and who is silent
 unfoldable pub needs_text : Scene → List ℕ

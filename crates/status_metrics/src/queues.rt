@@ -8,7 +8,7 @@ use crate::family::{push_family, push_of_queue};
 use crate::kind::SampleKind;
 use config_values::Queue;
 use spool_calls::Printer;
-use standings::{JobStage, is_unreached_at, jobs_of_queue_at};
+use standings::{JobStage, is_put_off_at, is_stopped_at, is_unreached_at, jobs_of_queue_at};
 use status_scene::{Scene, is_refused_at};
 use std::alloc::{AllocError, Global};
 
@@ -19,6 +19,7 @@ pub(crate) enum OfQueue {
     Limit,
     Held,
     Refusing,
+    Parked,
 }
 
 impl OfQueue {
@@ -31,6 +32,7 @@ impl OfQueue {
             OfQueue::Limit => "hurgwaye_queue_limit_pages",
             OfQueue::Held => "hurgwaye_queue_held",
             OfQueue::Refusing => "hurgwaye_queue_refusing",
+            OfQueue::Parked => "hurgwaye_queue_parked_jobs",
         }
     }
 
@@ -44,6 +46,7 @@ impl OfQueue {
             OfQueue::Held => "Whether the queue is held.",
             OfQueue::Refusing =>
                 "Whether a job of the queue is refused for want of room in the account or the table of jobs.",
+            OfQueue::Parked => "Jobs of the queue that wait in the folder.",
         }
     }
 }
@@ -54,6 +57,7 @@ pub(crate) enum OfPrinter {
     Stopped,
     Busy,
     Unreached,
+    PutOff,
 }
 
 impl OfPrinter {
@@ -65,6 +69,7 @@ impl OfPrinter {
             OfPrinter::Stopped => "hurgwaye_printer_stopped",
             OfPrinter::Busy => "hurgwaye_printer_busy",
             OfPrinter::Unreached => "hurgwaye_printer_unreached",
+            OfPrinter::PutOff => "hurgwaye_printer_put_off",
         }
     }
 
@@ -76,7 +81,9 @@ impl OfPrinter {
             OfPrinter::Stopped => "Whether the printer is stopped.",
             OfPrinter::Busy => "Whether a page is at the printer.",
             OfPrinter::Unreached =>
-                "Whether a page is at the printer of which nothing goes: it isn't reached, or takes nothing.",
+                "Whether a page is at the printer of which nothing goes, or it has given its job back: it isn't reached, or takes nothing.",
+            OfPrinter::PutOff =>
+                "Whether the printer isn't reached and its jobs wait in the folder: it is tried again.",
         }
     }
 }
@@ -159,6 +166,10 @@ fn push_queue(
                 u64::from(refused),
             )
         }
+        OfQueue::Parked => {
+            let parked = scene.outside.parked.get(at).copied().unwrap_or(0);
+            push_of_queue(alloc, text, what.name(), queue.name(), "", parked)
+        }
     }
 }
 
@@ -198,9 +209,10 @@ fn push_printer(
     let further = format!(in alloc; ",printer=\"{}\"", at + 1)?;
     let noted = &scene.outside.noted;
     let value = match what {
-        OfPrinter::Stopped => printer.stopped,
+        OfPrinter::Stopped => is_stopped_at(noted.printers, at, printer),
         OfPrinter::Busy => printer.out.is_some(),
         OfPrinter::Unreached => is_unreached_at(noted.printers, at, printer),
+        OfPrinter::PutOff => is_put_off_at(noted.printers, at, printer),
     };
     push_of_queue(
         alloc,

@@ -1,7 +1,7 @@
 //! The whole text.
 
 ghost use Rattle.std.specs.Prelude.{◌≡◌, ◌++◌, IfOk, OnOk, string_bytes};
-ghost use Rattle.status_metrics.specs.Metrics.{each_text, metrics_text, server_text, times_text};
+ghost use Rattle.status_metrics.specs.Metrics.{all_printers_text, all_queues_text, each_text, metrics_text, server_text, times_text};
 
 use crate::family::push_family;
 use crate::histogram::push_histogram;
@@ -58,19 +58,45 @@ fn push_times(alloc: Global, text: &mut String, scene: &Scene<'_>) -> Result<(),
     Ok(())
 }
 
+/// Puts what is said of each queue at the end.
+#[tactic(auto, unfolding(crate::specs::Metrics::all_queues_text))]
+fn push_all_queues(alloc: Global, text: &mut String, scene: &Scene<'_>) -> Result<(), AllocError>
+    ensures { OnOk result
+        (string_bytes text.new ≡ string_bytes text.old ++ all_queues_text scene.now) }
+{
+    push_queues(alloc, text, scene, OfQueue::Jobs)?;
+    push_queues(alloc, text, scene, OfQueue::Limit)?;
+    push_queues(alloc, text, scene, OfQueue::Held)?;
+    push_queues(alloc, text, scene, OfQueue::Refusing)?;
+    push_queues(alloc, text, scene, OfQueue::Parked)?;
+    Ok(())
+}
+
+/// Puts what is said of each printer at the end.
+#[tactic(auto, unfolding(crate::specs::Metrics::all_printers_text))]
+fn push_all_printers(
+    alloc: Global,
+    text: &mut String,
+    scene: &Scene<'_>,
+) -> Result<(), AllocError>
+    ensures { OnOk result
+        (string_bytes text.new ≡ string_bytes text.old ++ all_printers_text scene.now) }
+{
+    push_printers(alloc, text, scene, OfPrinter::Stopped)?;
+    push_printers(alloc, text, scene, OfPrinter::Busy)?;
+    push_printers(alloc, text, scene, OfPrinter::Unreached)?;
+    push_printers(alloc, text, scene, OfPrinter::PutOff)?;
+    Ok(())
+}
+
 /// Puts what is said of each queue and each printer at the end.
 #[tactic(auto, unfolding(crate::specs::Metrics::each_text))]
 fn push_each(alloc: Global, text: &mut String, scene: &Scene<'_>) -> Result<(), AllocError>
     ensures { OnOk result
         (string_bytes text.new ≡ string_bytes text.old ++ each_text scene.now) }
 {
-    push_queues(alloc, text, scene, OfQueue::Jobs)?;
-    push_queues(alloc, text, scene, OfQueue::Limit)?;
-    push_queues(alloc, text, scene, OfQueue::Held)?;
-    push_queues(alloc, text, scene, OfQueue::Refusing)?;
-    push_printers(alloc, text, scene, OfPrinter::Stopped)?;
-    push_printers(alloc, text, scene, OfPrinter::Busy)?;
-    push_printers(alloc, text, scene, OfPrinter::Unreached)?;
+    push_all_queues(alloc, text, scene)?;
+    push_all_printers(alloc, text, scene)?;
     Ok(())
 }
 

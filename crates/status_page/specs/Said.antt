@@ -1,5 +1,5 @@
 -- What the page says of a printer, a job, the spool and the pool.
-use Rattle.std.specs.Prelude.{ℕ, ◌+◌, ◌-◌, ◌*◌, ◌/◌, ◌^◌, List, [], ◌∷◌, ◌++◌, Option, Some, None, codes, max, min}
+use Rattle.std.specs.Prelude.{ℕ, ◌+◌, ◌-◌, ◌*◌, ◌/◌, ◌^◌, ◌==◌, List, [], ◌∷◌, ◌++◌, Option, Some, None, codes, if◌then◌else◌, max, min}
 use Rattle.std.specs.Fmt.{decimal}
 use Rattle.server_counts.specs.declared.hour.Look.{Look}
 use Rattle.spool_snapshot.specs.declared.job.SeenJob.{SeenJob}
@@ -32,6 +32,7 @@ printer_word printer.Idle = codes "idle"
 printer_word printer.Held = codes "idle, its queue is held"
 printer_word (printer.Printing job place) = codes "job " ++ decimal job
 printer_word (printer.Unreached job place seconds) = codes "not reached"
+printer_word (printer.PutOff seconds) = codes "not reached"
 printer_word (printer.Stopped seconds) = codes "stopped"
 
 -- since when something is the matter, and what
@@ -49,6 +50,7 @@ printer_remark printer.Held cause = []
 printer_remark (printer.Printing job place) cause = codes "page " ++ grouped_words (counted (place + 1))
 printer_remark (printer.Unreached job place seconds) cause =
     since_words seconds cause ++ there_words job
+printer_remark (printer.PutOff seconds) cause = since_words seconds cause ++ codes "; its jobs wait in the folder"
 printer_remark (printer.Stopped None) cause = []
 printer_remark (printer.Stopped (Some seconds)) cause = since_words seconds cause
 
@@ -57,7 +59,12 @@ printer_kind printer.Idle = codes "idle"
 printer_kind printer.Held = codes "idle"
 printer_kind (printer.Printing job place) = codes "busy"
 printer_kind (printer.Unreached job place seconds) = codes "stopped"
+printer_kind (printer.PutOff seconds) = codes "stopped"
 printer_kind (printer.Stopped seconds) = codes "stopped"
+
+-- how many jobs of a queue wait in the folder
+abbrev pub parked_words : ℕ → List ℕ
+parked_words jobs = if jobs == 1 then codes "1 job waits in the folder" else grouped_words jobs ++ codes " jobs wait in the folder"
 
 abbrev pub sender_octets : SenderPart → SeenJob → List ℕ
 sender_octets part.User job = job.user

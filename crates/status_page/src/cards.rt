@@ -1,7 +1,7 @@
 //! The printers: first those that need somebody, and under the jobs the queues, each with its printers.
 
 use crate::figures::Grouped;
-use crate::said::{PrinterRemark, PrinterWord, printer_kind};
+use crate::said::{ParkedCount, PrinterRemark, PrinterWord, printer_kind};
 use config_values::Queue;
 use html_page::{Attribute, AttributeName, HtmlPage, Tag, class, id};
 use spool_calls::Printer;
@@ -48,7 +48,9 @@ fn printer_card(
 /// Whether a printer that stands so needs somebody.
 fn needs_somebody(standing: PrinterStanding) -> bool {
     match standing {
-        PrinterStanding::Unreached { .. } | PrinterStanding::Stopped { .. } => true,
+        PrinterStanding::Unreached { .. }
+        | PrinterStanding::PutOff { .. }
+        | PrinterStanding::Stopped { .. } => true,
         PrinterStanding::Idle | PrinterStanding::Held | PrinterStanding::Printing { .. } => false,
     }
 }
@@ -56,7 +58,7 @@ fn needs_somebody(standing: PrinterStanding) -> bool {
 /// The printers that need somebody, where there are some.
 pub(crate) fn troubles(alloc: Global, page: &mut HtmlPage, scene: &Scene<'_>) {
     let (printers, noted) = (scene.spool.printers.as_slice(), &scene.outside.noted);
-    let stopped = stopped_printers(printers);
+    let stopped = stopped_printers(noted.printers, printers);
     if stopped == 0 && unreached_printers(noted.printers, printers) == 0 {
         return;
     }
@@ -94,7 +96,14 @@ fn title(alloc: Global, page: &mut HtmlPage, scene: &Scene<'_>, number: u32, que
     page.close();
     page.words(" ");
     page.element(Tag::Small, &[], remark.as_str());
-    let noted = &scene.outside.noted;
+    let (noted, parked) = (&scene.outside.noted, scene.outside.parked);
+    let place = (number as usize).saturating_sub(1);
+    let waiting = parked.get(place).copied().unwrap_or(0);
+    if waiting != 0 {
+        let said = page.text(format!(in alloc; "{}", ParkedCount(waiting)));
+        page.words(" ");
+        page.element(Tag::Small, &[], said.as_str());
+    }
     if is_held(noted.held, number) {
         page.words(" ");
         page.element(Tag::Span, &[class("chip wait")], "held");

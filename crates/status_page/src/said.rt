@@ -1,7 +1,7 @@
 //! What the page says of a printer, a job, the spool and the pool, before it is put there.
 
 ghost use Rattle.std.specs.Prelude.{◌≡◌};
-ghost use Rattle.status_page.specs.Said.{column_words, job_kind, job_word, place_count, place_words, printer_kind, printer_remark, printer_word, sender_octets, since_words, spool_word, there_words};
+ghost use Rattle.status_page.specs.Said.{column_words, job_kind, job_word, parked_words, place_count, place_words, printer_kind, printer_remark, printer_word, sender_octets, since_words, spool_word, there_words};
 
 use crate::figures::{Grouped, Size, Span};
 use html_page::Tag;
@@ -24,7 +24,9 @@ impl fmt::Display for PrinterWord {
             PrinterStanding::Idle => f.write_str("idle"),
             PrinterStanding::Held => f.write_str("idle, its queue is held"),
             PrinterStanding::Printing { job, .. } => write!(f, "job {job}"),
-            PrinterStanding::Unreached { .. } => f.write_str("not reached"),
+            PrinterStanding::Unreached { .. } | PrinterStanding::PutOff { .. } => {
+                f.write_str("not reached")
+            }
             PrinterStanding::Stopped { .. } => f.write_str("stopped"),
         }
     }
@@ -85,6 +87,9 @@ impl fmt::Display for PrinterRemark<'_> {
                 let since = SinceCause { seconds, cause };
                 write!(f, "{since}{}", JobThere(job))
             }
+            PrinterStanding::PutOff { seconds } => {
+                write!(f, "{}; its jobs wait in the folder", SinceCause { seconds, cause })
+            }
             PrinterStanding::Stopped {
                 seconds: Some(seconds),
             } => { write!(f, "{}", SinceCause { seconds, cause }) }
@@ -100,7 +105,26 @@ pub(crate) fn printer_kind(standing: PrinterStanding) -> &'static str
     match standing {
         PrinterStanding::Idle | PrinterStanding::Held => "idle",
         PrinterStanding::Printing { .. } => "busy",
-        PrinterStanding::Unreached { .. } | PrinterStanding::Stopped { .. } => "stopped",
+        PrinterStanding::Unreached { .. }
+        | PrinterStanding::PutOff { .. }
+        | PrinterStanding::Stopped { .. } => "stopped",
+    }
+}
+
+/// How many jobs of a queue wait in the folder.
+#[derive(Clone, Copy)]
+pub(crate) struct ParkedCount(pub(crate) u64);
+
+impl fmt::Display for ParkedCount {
+    ghost use Rattle.std.specs.Prelude.{Some};
+
+    ghost output = { λ count. Some (parked_words count.0) };
+
+    fn fmt<W: fmt::Write>(&self, f: &mut fmt::Formatter<W>) -> fmt::Result {
+        match self.0 {
+            1 => f.write_str("1 job waits in the folder"),
+            jobs => write!(f, "{} jobs wait in the folder", Grouped(jobs)),
+        }
     }
 }
 

@@ -1,7 +1,6 @@
 -- What needs somebody, the worst first.
 use Rattle.std.specs.Prelude.{ℕ, ◌==◌, Bool, List, [], ◌∷◌, Option, Some, None, count_by, if◌then◌else◌, length}
-use Rattle.spool_calls.specs.declared.printer.Printer.{Printer}
-use Rattle.standings.specs.Printers.{count_at, is_unreached_at}
+use Rattle.standings.specs.Printers.{count_at, is_stopped_at, is_unreached_at}
 use Rattle.status_lines.specs.declared.outside.KeptJobs.{KeptJobs}
 use Rattle.status_scene.specs.declared.concern.Concern.{Concern}
 use Rattle.status_scene.specs.declared.concern.Concern.TheVariants as needs
@@ -38,7 +37,7 @@ abbrev pub stopped_among : (count all : ℕ) → Option Concern
 stopped_among count all = where_some count (needs.Stopped count all)
 
 abbrev pub stopped_concern : Scene → Option Concern
-stopped_concern s = stopped_among (count_by (λ (p : Printer). p.stopped) s.spool.now.printers.items) (length s.spool.now.printers.items)
+stopped_concern s = stopped_among (count_at (is_stopped_at s.outside.now.noted.printers.now) 0 s.spool.now.printers.items) (length s.spool.now.printers.items)
 
 abbrev pub failed_among : Option KeptJobs → Option Concern
 failed_among None = None

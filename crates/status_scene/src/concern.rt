@@ -18,8 +18,8 @@ pub enum Concern {
     PoolFull { queue: u32, pages: u64, of: u32 },
     /// So many of the printers aren't reached, or take nothing.
     Unreached { printers: usize, of: usize },
-    /// So many of the printers are stopped.
-    Stopped { printers: u64, of: usize },
+    /// So many of the printers are stopped, and aren't tried again by themselves.
+    Stopped { printers: usize, of: usize },
     /// So many of the jobs in the folder that keeps them have failed: they stay there until somebody sends them again or removes them.
     Failed { jobs: u64 },
     /// So many of the queues are held.
@@ -79,8 +79,8 @@ fn unreached_concern(scene: &Scene<'_>) -> Option<Concern>
 fn stopped_concern(scene: &Scene<'_>) -> Option<Concern>
     ensures { result ≡ stopped_concern scene.now }
 {
-    let all = scene.spool.printers.as_slice();
-    match stopped_printers(all) {
+    let (all, noted) = (scene.spool.printers.as_slice(), &scene.outside.noted);
+    match stopped_printers(noted.printers, all) {
         0 => None,
         printers => Some(Concern::Stopped {
             printers,

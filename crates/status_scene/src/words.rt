@@ -25,7 +25,7 @@ impl fmt::Display for UnreachedCount {
 
 /// So many printers that are stopped, of how many.
 #[derive(Clone, Copy)]
-struct StoppedCount(u64, usize);
+struct StoppedCount(usize, usize);
 
 impl fmt::Display for StoppedCount {
     ghost use Rattle.std.specs.Prelude.{Some};
