@@ -115,7 +115,7 @@ impl<R: Files<File = File> + Clock + Log + Wait, E: HouseLedger> Feeding<'_, '_,
         let mut free = Vec::new(self.hall.alloc);
         for place in 0..config.queues().len() {
             let queue = (place as u32).saturating_add(1);
-            let stands = kept.is_held(rt, place) || is_stopped(rt, config, self.spool, queue);
+            let stands = kept.is_held(rt, place) || is_stopped(self.hall, self.spool, queue);
             free.push(if stands {
                 FreePart::NOTHING
             } else if vacancy.held == 0 {

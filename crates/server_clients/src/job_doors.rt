@@ -59,21 +59,19 @@ pub(crate) fn unclaimed(config: &Config, lines: &HeldLines<'_>) -> u64 {
     u64::from(config.pages()).saturating_sub(claimed)
 }
 
-/// Whether all printers of a queue are stopped.
+/// Whether all printers of a queue are stopped, or wait until they are tried again.
 pub(crate) fn is_stopped<R: Wait, E: HouseLedger>(
-    rt: &R,
-    config: &Config,
+    hall: &Hall<'_, R>,
     spool: &HouseSpool<E>,
     queue: u32,
 ) -> bool {
-    let count = config.printer_count();
-    for before in 0..count {
+    let (rt, config) = (hall.rt, &hall.oversight.config);
+    (0..config.printer_count()).all(|before| {
         let printer = before + 1;
-        if config.queue_of(printer) == queue && !spool.is_stopped(rt, printer) {
-            return false;
-        }
-    }
-    true
+        config.queue_of(printer) != queue
+            || spool.is_stopped(rt, printer)
+            || hall.put_offs.is_waiting(rt, printer)
+    })
 }
 
 /// Whether a queue has a printer for which its jobs wait: one that isn't stopped, or that is tried again by itself.
@@ -145,8 +143,7 @@ impl<'h, 'a, R: Files<File = File> + Clock + Log + Wait, E: HouseLedger> JobDoor
 
     /// Whether no job of the queue at this place would be printed now: it is held, or all its printers stand.
     fn stands(&self, queue: u32, place: usize) -> bool {
-        let (rt, config) = (self.hall.rt, &self.hall.oversight.config);
-        self.kept.is_held(rt, place) || is_stopped(rt, config, self.spool, queue)
+        self.kept.is_held(self.hall.rt, place) || is_stopped(self.hall, self.spool, queue)
     }
 
     /// Whether a job of a queue that is opened now has room in its queue's part of the spool, and for all that it may claim: then it never

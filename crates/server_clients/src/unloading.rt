@@ -160,14 +160,13 @@ impl<'h, 'a, R: Files<File = File> + Clock + Log + Wait, E: HouseLedger> Unloadi
 
     /// Why jobs of a queue leave the spool, where they do.
     fn why(&self, kept: &JobFolder<'_, R>, queue: u32, offered: &[OfferedJob]) -> Option<Why> {
-        let (rt, config) = (self.hall.rt, &self.hall.oversight.config);
-        if kept.is_held(rt, place_of(queue)) {
+        if kept.is_held(self.hall.rt, place_of(queue)) {
             return Some(Why::Held);
         }
-        if is_stopped(rt, config, self.spool, queue) {
-            return Some(Why::Stopped);
+        if let Some(offer) = offered.first() {
+            return Some(Why::Unreached(offer.printer));
         }
-        offered.first().map(|offer| Why::Unreached(offer.printer))
+        is_stopped(self.hall, self.spool, queue).then_some(Why::Stopped)
     }
 
     /// Removes the jobs from the spool that leave it, and has them wait. Answers their numbers.
