@@ -151,7 +151,8 @@ def a_printer_that_gives_its_jobs_back():
         room.start()
         for number in range(4):
             check(send(room.port, number, job("q1", 0, number, 400), "q1", "127.0.0.9") == 0, f"job {number} isn't taken")
-        told = await_status(room, "kept waiting 4 failed 0")
+        await_status(room, "kept waiting 4 failed 0")
+        told = await_status(room, "printer 1 q1 putoff ")
         check("pages free 64 " in told and "\njob " not in told, f"a job is in the spool: {told}")
         check(re.search(r"^printer 1 q1 putoff \d+ .*refused", told, re.MULTILINE), f"the printer isn't told as put off: {told}")
         check("parked q1 4\n" in told, f"what waits for q1 isn't told: {told}")
@@ -241,7 +242,8 @@ def a_full_pipe():
         check(send(room.port, 0, b"x" * 65_536, "q1") == 0, "the job that fills it isn't taken")
         room.await_files(0, 20)
         check(send(room.port, 1, job("q1", 0, 1), "q1") == 0, "the job behind it isn't taken")
-        told = await_status(room, "kept waiting 1 failed 0")
+        await_status(room, "kept waiting 1 failed 0")
+        told = await_status(room, "printer 1 q1 putoff ")
         check("\njob " not in told, f"it is in the spool: {told}")
         seen = []
         reading = threading.Thread(target=lambda: seen.append(subprocess.run(["timeout", "60", "cat", room.path(1)], capture_output=True).stdout), daemon=True)

@@ -264,8 +264,10 @@ def a_queue_is_held():
         check("30 jobs wait in the folder for the next start" in told, told)
         check(len(room.files()) == 30 and not room.printed(1), f"{len(room.files())} files, {len(room.printed(1))} octets")
         room.start()
+        check("queue q1 held" in room.tell("status"), "the hold didn't outlive the server")
         for number in range(30, 60):
             check(send(room.port, number, job("q1", 0, number), "q1") == 0, f"job {number} is refused")
+        room.tell("release", "q1")
         room.await_files(0, 30)
         seen = jobs_in(room.printed(1), "q1")
         check(seen == [(0, number) for number in range(60)], f"{seen}")
@@ -403,6 +405,7 @@ def killed_amid_it():
         stop.set()
         for thread in threads:
             thread.join(30)
+        room.tell("release", "q1")
         room.await_files(0, 240)
         time.sleep(0.5)
         told = []

@@ -249,13 +249,6 @@ all_is_alone queue e = cc
 after_all : (x y : List ℕ) → codes "all " ++ x ≡ codes "all " ++ y → x ≡ y
 after_all x y e = ap (λ (s : List ℕ). others (others (others (others s)))) e
 
--- neither all nor a number
-pub resends_none : (operand : List ℕ) → (operand ≡ codes "all" → ⊥) → ((queue : List ℕ) → operand ≡ codes "all " ++ queue → ⊥) → ((n : ℕ) → n < 2 ^ 64 → operand ≡ decimal n → ⊥) → (c : ControlCommand) → Means (codes "resend " ++ operand) c → ⊥
-resends_none operand no_all no_queue no_number c m with at verb.Resend (Some operand) c m
-... | inl p = no_number p.0 p.3 (some_is _ _ p.1)
-... | inr (inl p) = no_all (some_is _ _ p.0)
-... | inr (inr p) = no_queue p.0 (some_is _ _ p.1)
-
 no_such_queue : (queue : List ℕ) → (IsTrue (is_queue_name queue) → ⊥) → (c : ControlCommand) → MeansAt verb.Resend (Some (codes "all " ++ queue)) c → ⊥
 no_such_queue queue h c (inl p) = number_is_no_word p.0 _ p.3 (sym (some_is _ _ p.1))
 no_such_queue queue h c (inr (inl p)) = all_is_alone queue (sym (some_is _ _ p.0))

@@ -70,6 +70,10 @@ impl<'a, R: Clock, Q: Errand> Pauses<'a, R, Q> {
 
     /// Waits between two tries, and offers the job meanwhile. False where there is no time left, or the job isn't wanted any more.
     fn wait(&self, job: u64, tries: u64) -> bool {
+        // The try before it may have ended since it wasn't.
+        if !self.errand.is_wanted(job) {
+            return false;
+        }
         let mut waiting = PrinterWait::begin(self.rt, self.errand, job);
         for _step in 0..pause_seconds(tries) * 1_000 / STEP_MS {
             let tried_ms = milliseconds_since(self.rt, self.tried);
