@@ -478,7 +478,7 @@ def parts_without_a_folder():
         while "stopped" not in room.tell("status").replace("stopped 0", ""):
             check(time.monotonic() < until, "the printer doesn't fail")
             time.sleep(0.1)
-        plan, others = site_plan(JOBS // 4, True)
+        plan, others = site_plan(JOBS, True)
         taken, refused, again, lock = [], {}, [0], threading.Lock()
 
         def client(number):

@@ -166,7 +166,9 @@ impl<R: Files<File = File> + Clock + Log + Wait, E: HouseLedger> Care<'_, '_, R,
         match kept.remove(self.hall.rt, number) {
             Ok(FileRemoval::Gone) => self.tell_done("removed", &name),
             Ok(FileRemoval::IsElsewhere) => {
-                let why = format!(in self.hall.alloc; "{name} is just entering the spool: ask again")?;
+                let why = format!(in self.hall.alloc;
+                    "{name} is just entering the spool: ask again"
+                )?;
                 self.refuse(why)
             }
             Err(fault) => {

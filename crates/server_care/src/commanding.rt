@@ -122,11 +122,7 @@ impl<R: Files<File = File> + Clock + Log + Wait, E: HouseLedger> Care<'_, '_, R,
     /// The folder of kept jobs, if there is one, is told that the queue of a name is held, or isn't any more. An error where it can't tell
     /// that to the next server.
     fn note_held(&self, queue: &[u8], is_held: bool) -> io::Result<()> {
-        let (rt, alloc, config) = (
-            self.hall.rt,
-            self.hall.alloc,
-            &self.hall.oversight.config,
-        );
+        let (rt, alloc, config) = (self.hall.rt, self.hall.alloc, &self.hall.oversight.config);
         let Some(kept) = &self.hall.kept else {
             return Ok(());
         };

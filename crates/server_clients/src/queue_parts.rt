@@ -21,19 +21,23 @@ fn is_held_by(queue: u32, job: &SeenJob) -> bool {
 fn used_by(spool: &Snapshot, queue: u32) -> PartUse {
     let nothing = PartUse { rows: 0, pages: 0 };
     let claims = spool.claims.rows().iter();
-    spool.jobs.iter().zip(claims).fold(nothing, |used, (job, row)| {
-        if !is_held_by(queue, job) {
-            return used;
-        }
-        let (holds, needs) = (pages_of(&row.held), pages_of(&row.need));
-        PartUse {
-            rows: used.rows.saturating_add(1),
-            pages: used
-                .pages
-                .saturating_add(u64::from(holds))
-                .saturating_add(u64::from(needs)),
-        }
-    })
+    spool
+        .jobs
+        .iter()
+        .zip(claims)
+        .fold(nothing, |used, (job, row)| {
+            if !is_held_by(queue, job) {
+                return used;
+            }
+            let (holds, needs) = (pages_of(&row.held), pages_of(&row.need));
+            PartUse {
+                rows: used.rows.saturating_add(1),
+                pages: used
+                    .pages
+                    .saturating_add(u64::from(holds))
+                    .saturating_add(u64::from(needs)),
+            }
+        })
 }
 
 /// How many queues have jobs in a spool that shows itself so.

@@ -139,11 +139,7 @@ impl<'h, 'a, R: Files<File = File> + Clock + Log + Wait, E: HouseLedger> Unloadi
     }
 
     /// The jobs that printers of a queue offer.
-    fn offered(
-        &self,
-        offers: &HeldOffers<'_>,
-        queue: u32,
-    ) -> Result<Vec<OfferedJob>, AllocError> {
+    fn offered(&self, offers: &HeldOffers<'_>, queue: u32) -> Result<Vec<OfferedJob>, AllocError> {
         let config = &self.hall.oversight.config;
         let mut offered = Vec::new(self.hall.alloc);
         for before in 0..config.printer_count() {
@@ -186,9 +182,7 @@ impl<'h, 'a, R: Files<File = File> + Clock + Log + Wait, E: HouseLedger> Unloadi
             }
         }
         let name = hall.oversight.config.name_of(queue.number);
-        let removed = self
-            .spool
-            .remove_jobs(rt, seat, name, leaving.as_slice());
+        let removed = self.spool.remove_jobs(rt, seat, name, leaving.as_slice());
         if removed.is_err() {
             return Ok(Vec::new(alloc));
         }
@@ -285,9 +279,7 @@ impl<'h, 'a, R: Files<File = File> + Clock + Log + Wait, E: HouseLedger> Unloadi
             return;
         };
         for queue in hall.oversight.config.queues() {
-            let removed = self
-                .spool
-                .remove_jobs(hall.rt, seat, queue.name(), &[job]);
+            let removed = self.spool.remove_jobs(hall.rt, seat, queue.name(), &[job]);
             if removed.is_ok() {
                 hall.end_job(job, JobEnd::Removed);
                 return;

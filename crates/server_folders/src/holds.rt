@@ -82,7 +82,11 @@ pub(crate) fn write_holds<R: Files<File = File>>(
     let whole = format!(in alloc; "{path}/{HELD_QUEUES}")?;
     let temporary = format!(in alloc; "{path}/{HELD_QUEUES}.tmp")?;
     let mut options = OpenOptions::new();
-    options.write(true).create(true).truncate(true).mode(FILE_MODE);
+    options
+        .write(true)
+        .create(true)
+        .truncate(true)
+        .mode(FILE_MODE);
     let mut file = options.open(rt, temporary.as_str())?;
     file.write_all(text.as_slice())?;
     file.sync_all()?;

@@ -20,11 +20,10 @@ use status_lines::KeptJobs;
 use std::alloc::Global;
 use std::collections::VecDeque;
 use std::fs::{File, Files};
-use std::io;
-use std::mem;
 use std::rt::Clock;
 use std::sync::{Condvar, Mutex, Wait};
 use std::time::Duration;
+use std::{io, mem};
 
 /// What is known of a folder beside its files.
 ///

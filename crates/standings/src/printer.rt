@@ -131,9 +131,7 @@ fn has_given_back(notes: Option<&PrinterNotes>, printer: &Printer) -> bool
     ensures { result ≡ has_given_back (option_copied notes.entry) printer.now }
 {
     match notes {
-        Some(notes) => {
-            notes.unreached.is_some() && !notes.stop.is_some() && printer.stopped
-        }
+        Some(notes) => { notes.unreached.is_some() && !notes.stop.is_some() && printer.stopped }
         None => false,
     }
 }

@@ -74,11 +74,7 @@ fn push_all_queues(alloc: Global, text: &mut String, scene: &Scene<'_>) -> Resul
 
 /// Puts what is said of each printer at the end.
 #[tactic(auto, unfolding(crate::specs::Metrics::all_printers_text))]
-fn push_all_printers(
-    alloc: Global,
-    text: &mut String,
-    scene: &Scene<'_>,
-) -> Result<(), AllocError>
+fn push_all_printers(alloc: Global, text: &mut String, scene: &Scene<'_>) -> Result<(), AllocError>
     ensures { OnOk result
         (string_bytes text.new ≡ string_bytes text.old ++ all_printers_text scene.now) }
 {

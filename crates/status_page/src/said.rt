@@ -88,7 +88,11 @@ impl fmt::Display for PrinterRemark<'_> {
                 write!(f, "{since}{}", JobThere(job))
             }
             PrinterStanding::PutOff { seconds } => {
-                write!(f, "{}; its jobs wait in the folder", SinceCause { seconds, cause })
+                write!(
+                    f,
+                    "{}; its jobs wait in the folder",
+                    SinceCause { seconds, cause }
+                )
             }
             PrinterStanding::Stopped {
                 seconds: Some(seconds),
