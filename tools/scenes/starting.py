@@ -122,7 +122,10 @@ def a_refusal_tells_what_it_may_mean():
             check(run(room, "send", port, "lp", *job)[0] == 0, "the first job isn't taken")
             fails(room, ["send", port, "lp", *job], 5, "fault 60 Refused 2", r"try again later")
         with Server(PROGRAM, spool(account=100_000, limit=4), "--allow", "192.0.2.0/24") as it:
-            fails(room, ["send", str(it.port), "lp", *job], 5, "fault 61 Cut", r"it may not let this address in")
+            # (a connection that is closed with octets unread is reset, where these came in time)
+            ended, lines = run(room, "send", str(it.port), "lp", *job)
+            check(ended == 5 and lines[-1].endswith(("fault 61 Cut", "fault 62 ReadFault")), f"{ended} {lines}")
+            check("it may not let this address in" in lines[-2] or "reset by peer" in lines[-2], lines)
     return "5 refusals"
 
 

@@ -104,13 +104,14 @@ impl<R: Files<File = File> + Clock + Log + Wait, E: HouseLedger> Care<'_, '_, R,
         Ok(Some(SeenTrouble { seconds, cause }))
     }
 
-    /// Since when nothing of the page at a printer goes, at this moment, and why, where that is noted and long enough.
+    /// Since when nothing of the page at a printer goes, at this moment, and why, where that is noted and long enough, or its job was put back.
     fn seen_delay(&self, printer: u32, now: Instant) -> Result<Option<SeenTrouble>, AllocError> {
         let Some(delay) = self.hall.oversight.delays.of(self.hall.rt, printer) else {
             return Ok(None);
         };
         let seconds = now.saturating_duration_since(delay.since).as_secs();
-        if !delay.is_shown(seconds) {
+        let is_put_off = self.hall.put_offs.is_waiting(self.hall.rt, printer);
+        if !is_put_off && !delay.is_shown(seconds) {
             return Ok(None);
         }
         let cause = format!(in self.hall.alloc; "{}", delay.cause)?;

@@ -11,7 +11,7 @@ ghost use Rattle.server_clients.specs.Unloading.{is_offered, leaves, lets_go};
 
 use crate::job_doors::{is_stopped, place_of};
 use job_files::JobEnd;
-use log::{Log, info};
+use log::{Log, warn};
 use server_folders::{HeldLines, JobFolder};
 use server_house::{Hall, House, HouseLedger, HouseSeat, HouseSpool};
 use server_notes::HeldOffers;
@@ -228,7 +228,7 @@ impl<'h, 'a, R: Files<File = File> + Clock + Log + Wait, E: HouseLedger> Unloadi
         if is_due {
             *told = Some(now);
             let name = hall.queue_name(queue);
-            info!(hall.rt; target: PART, "{jobs} jobs of queue {name} wait in the folder again: {why}");
+            warn!(hall.rt; target: PART, "{jobs} jobs of queue {name} wait in the folder again: {why}");
         }
     }
 

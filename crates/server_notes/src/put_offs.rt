@@ -23,6 +23,9 @@ const FIRST_SECONDS: u64 = 5;
 /// The longest pause, in seconds.
 const LONGEST_SECONDS: u64 = 60;
 
+/// The file of a job of which it isn't known when it was tried first: no file has this number.
+const NO_FILE: u64 = 0;
+
 /// How long a pause is, in seconds, before which so many have been: 5, 10, 20, 40, 60, 60 and so on.
 pub fn pause_before_try(pauses: u32) -> u64
     ensures { result ≡ min (5 * 2 ^ pauses) 60 }
@@ -90,7 +93,12 @@ impl PutOffs {
     pub fn put_off<R: Clock + Wait>(&self, rt: &R, printer: u32) -> Option<u64> {
         let now = Instant::now(rt).ok()?;
         let mut place = self.place(printer)?.lock(rt);
-        let put_off = (*place)?;
+        let put_off = (*place).unwrap_or(PutOff {
+            file: NO_FILE,
+            first: now,
+            pauses: 0,
+            due: None,
+        });
         let seconds = pause_before_try(put_off.pauses);
         *place = Some(PutOff {
             pauses: put_off.pauses.saturating_add(1),
