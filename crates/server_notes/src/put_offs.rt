@@ -10,30 +10,27 @@
 //!
 //! The pauses are 5, 10, 20, 40, 60, 60 .. seconds.
 
-ghost use Rattle.std.specs.Prelude.{◌≡◌, ◌*◌, ◌^◌, min};
+ghost use Rattle.std.specs.Prelude.{◌≡◌};
+ghost use Rattle.server_notes.specs.Standing.{pause_before};
 
 use std::alloc::{AllocError, Global};
 use std::rt::Clock;
 use std::sync::{Mutex, Wait};
 use std::time::{Duration, Instant};
 
-/// The first pause, in seconds.
-const FIRST_SECONDS: u64 = 5;
-
-/// The longest pause, in seconds.
-const LONGEST_SECONDS: u64 = 60;
-
 /// The file of a job of which it isn't known when it was tried first: no file has this number.
 const NO_FILE: u64 = 0;
 
 /// How long a pause is, in seconds, before which so many have been: 5, 10, 20, 40, 60, 60 and so on.
 pub fn pause_before_try(pauses: u32) -> u64
-    ensures { result ≡ min (5 * 2 ^ pauses) 60 }
+    ensures { result ≡ pause_before pauses }
 {
-    if pauses < 4 {
-        (FIRST_SECONDS << pauses).min(LONGEST_SECONDS)
-    } else {
-        LONGEST_SECONDS
+    match pauses {
+        0 => 5,
+        1 => 10,
+        2 => 20,
+        3 => 40,
+        _ => 60,
     }
 }
 

@@ -1,11 +1,12 @@
 //! The whole answer.
 
-ghost use Rattle.std.specs.Prelude.{◌≡◌, ◌<◌, ◌^◌, ◌++◌, IfOk, OnOk, IsUtf8, string_bytes};
+ghost use Rattle.std.specs.Prelude.{◌≡◌, ◌<◌, ◌^◌, ◌++◌, IfOk, OnOk, IsUtf8, slice_get, string_bytes};
 ghost use Rattle.std.specs.List.{flat_map};
 ghost use Rattle.claims.specs.Claims.{row_at};
 ghost use Rattle.status_lines.specs.Pieces.{one_line};
-ghost use Rattle.status_lines.specs.Status.{all_parked_text, ended, head_text, job_text, jobs_text, kept_text, numbers_at, pages_in, parked_text, placed, printer_text, printer_told, queue_state, queue_text, queues_text, session_text, spool_state, status_text};
+ghost use Rattle.status_lines.specs.Status.{all_parked_text, ended, head_text, job_text, jobs_text, kept_text, numbers_at, pages_in, parked_text, placed, printer_text, printer_told, queue_state, queue_text, queues_text, session_text, spool_state, standing_at, status_text};
 ghost use Rattle.status_lines.specs.Words.{line_words, trouble_line};
+ghost use Rattle.standings.specs.Printers.{cause_of};
 
 use crate::line::{JobPages, PrinterTrouble, QueueState, SpoolState, StatusLine};
 use crate::outside::{KeptJobs, Outside, SeenSession};
@@ -199,6 +200,21 @@ fn push_printer(
     }
 }
 
+/// How the printer at a place stands.
+fn standing_at(noted: &EdgeNotes<'_>, at: usize, printer: &Printer) -> PrinterStanding
+    ensures { result ≡ standing_at noted.now at printer.now }
+{
+    let is_held = is_held(noted.held, printer.queue);
+    printer_standing(printer, is_held, noted.printers.get(at))
+}
+
+/// What is the matter with the printer at a place that stands so.
+fn cause_at<'a>(noted: &EdgeNotes<'a>, at: usize, standing: PrinterStanding) -> &'a str
+    ensures { result.now ≡ cause_of standing (slice_get noted.now.printers.now at) }
+{
+    cause_of(standing, noted.printers.get(at))
+}
+
 /// Puts the lines of the printer at a place at the end of the text, where it serves the queue of this number.
 fn push_served(
     alloc: Global,
@@ -215,15 +231,9 @@ fn push_served(
     if printer.queue as usize != number {
         return Ok(());
     }
-    let notes = noted.printers.get(at);
-    let standing = printer_standing(printer, is_held(noted.held, printer.queue), notes);
-    push_printer(
-        alloc,
-        text,
-        (at + 1, name),
-        standing,
-        cause_of(standing, notes),
-    )
+    let standing = standing_at(noted, at, printer);
+    let cause = cause_at(noted, at, standing);
+    push_printer(alloc, text, (at + 1, name), standing, cause)
 }
 
 /// Puts the lines of those of these printers that serve the queue of this number at the end of the text.
