@@ -67,7 +67,7 @@ pub(crate) fn is_stopped<R: Wait, E: HouseLedger>(
 ) -> bool {
     let (rt, config) = (hall.rt, &hall.oversight.config);
     (0..config.printer_count()).all(|before| {
-        let printer = before + 1;
+        let printer = u32::saturating_add(before, 1);
         config.queue_of(printer) != queue
             || spool.is_stopped(rt, printer)
             || hall.put_offs.is_waiting(rt, printer)
@@ -82,7 +82,7 @@ pub(crate) fn is_awaited<R: Wait, E: HouseLedger>(
 ) -> bool {
     let (rt, config) = (hall.rt, &hall.oversight.config);
     (0..config.printer_count()).any(|before| {
-        let printer = before + 1;
+        let printer = u32::saturating_add(before, 1);
         config.queue_of(printer) == queue
             && (!spool.is_stopped(rt, printer) || hall.put_offs.is_waiting(rt, printer))
     })
@@ -96,7 +96,7 @@ pub(crate) fn is_tried<R: Wait, E: HouseLedger>(
 ) -> bool {
     let (rt, config) = (hall.rt, &hall.oversight.config);
     (0..config.printer_count()).all(|before| {
-        let printer = before + 1;
+        let printer = u32::saturating_add(before, 1);
         config.queue_of(printer) != queue
             || spool.is_stopped(rt, printer)
             || hall.put_offs.is_tried(rt, printer)
