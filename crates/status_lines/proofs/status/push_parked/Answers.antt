@@ -5,9 +5,11 @@ use Rattle.status_lines.proofs.PlaceLemmas.{step}
 use Rattle.status_lines.proofs.status.push_parked.Goals as goal
 
 pub push_parked_of-requires : goal.push_parked_of-requires
-push_parked_of-requires c =
-    name_at c.args.config.now c.queues-queue-items.ensures.ranges c.queues-queue-items.result.now c.queues-queue-items.ensures.value c.loop-i.i c.queue-item.result
-    c.loop-i-test.true c.queue-item.is
+push_parked_of-requires c = record {
+  name =
+      name_at c.args.config.now c.queues-queue-items.ensures.ranges c.queues-queue-items.result.now c.queues-queue-items.ensures.value c.loop-i.i c.queue-item.result
+      c.loop-i-test.true c.queue-item.is;
+}
 
 pub loop-i-preserved : goal.loop-i-preserved
 loop-i-preserved c =
