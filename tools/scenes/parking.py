@@ -209,7 +209,7 @@ def run_site(room, jobs, with_held):
     check(not flood.refused, f"refused: {flood.refused}; {room.log()[-600:]}")
     kept = sum(name in (*HELD, FAILED) for name, _, _ in flood.taken)
     until = time.monotonic() + 300
-    while len(room.files()) > kept + 1 and time.monotonic() < until:
+    while len(room.files()) > kept and time.monotonic() < until:
         time.sleep(0.05)
     for queue in others:
         seen = jobs_in(room.printed(int(queue[1:])), queue)
