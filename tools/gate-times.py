@@ -3,7 +3,7 @@
 
     python3 tools/gate-times.py TABLE    # at the top of a clone in which nothing else runs
 
-TABLE becomes a table in Markdown: minutes of a processor by crate, for its proof, that of its tests, and its edits, which
+TABLE becomes a table in Markdown: minutes of a processor by crate, for its proof, that of its tests, and its edits, and the most memory of its proof, which
 docs/GATE.md has of the last time. What the gate prints goes on to standard output, and its exit status is this one's.
 
 A quarter of a second is looked at each process that the gate began, so that much of each may be missing; the sum over all is the system's.
@@ -36,6 +36,18 @@ def processes():
     return found
 
 
+def memory_of(process):
+    """The most memory that a process has had at once, in mebioctets."""
+    try:
+        with open(f"/proc/{process}/status", encoding="ascii", errors="replace") as file:
+            for line in file:
+                if line.startswith("VmHWM:"):
+                    return int(line.split()[1]) / 1024
+    except OSError:
+        pass
+    return 0.0
+
+
 def part_of(process):
     """Which crate a process of the gate works on, and for what."""
     try:
@@ -65,7 +77,7 @@ class Watch(threading.Thread):
     def __init__(self, gate):
         super().__init__(daemon=True)
         self.gate, self.ended = gate, threading.Event()
-        self.took, self.parts = {}, {}
+        self.took, self.parts, self.memory = {}, {}, {}
 
     def run(self):
         while not self.ended.wait(PAUSE):
@@ -78,10 +90,20 @@ class Watch(threading.Thread):
                 while left:
                     it = left.pop()
                     seconds += found[it][1]
+                    self.memory[child] = max(memory_of(it), self.memory.get(child, 0.0))
                     left += children[it]
                 self.took[child] = max(seconds, self.took.get(child, 0.0))
                 # (a process that has just begun may be another program's still)
                 self.parts[child] = part_of(child) or self.parts.get(child)
+
+    def memories(self):
+        """The most memory of a proof, by crate."""
+        most = defaultdict(float)
+        for child, memory in self.memory.items():
+            crate, kind = self.parts.get(child) or ("(others)", "runs")
+            if kind == "proof":
+                most[crate] = max(most[crate], memory)
+        return most
 
     def table(self):
         """Seconds by crate and kind."""
@@ -92,17 +114,17 @@ class Watch(threading.Thread):
         return sums
 
 
-def lines_of(sums, all_seconds, wall):
+def lines_of(sums, memories, all_seconds, wall):
     """The table."""
     minutes = lambda seconds: f"{seconds / 60:.1f}" if seconds >= 3 else ""
     whole = {kind: sum(it[kind] for it in sums.values()) for kind in KINDS}
     seen = sum(whole.values())
-    yield f"| Crate | {' | '.join(it.capitalize() for it in KINDS)} | Sum |"
-    yield "|---|" + "---|" * (len(KINDS) + 1)
+    yield f"| Crate | {' | '.join(it.capitalize() for it in KINDS)} | Sum | Memory of its proof, in MiB |"
+    yield "|---|" + "---|" * (len(KINDS) + 2)
     for crate, it in sorted(sums.items(), key=lambda it: -sum(it[1].values())):
-        yield f"| `{crate}` | {' | '.join(minutes(it[kind]) for kind in KINDS)} | {minutes(sum(it.values()))} |"
-    yield f"| what no process was seen to take | | | | | {minutes(all_seconds - seen)} |"
-    yield f"| **all** | {' | '.join(f'**{whole[kind] / 60:.1f}**' for kind in KINDS)} | **{all_seconds / 60:.1f}** |"
+        yield f"| `{crate}` | {' | '.join(minutes(it[kind]) for kind in KINDS)} | {minutes(sum(it.values()))} | {f'{memories[crate]:.0f}' if crate in memories else ''} |"
+    yield f"| what no process was seen to take | | | | | {minutes(all_seconds - seen)} | |"
+    yield f"| **all** | {' | '.join(f'**{whole[kind] / 60:.1f}**' for kind in KINDS)} | **{all_seconds / 60:.1f}** | |"
     yield ""
     yield f"{wall / 60:.0f} minutes by the clock, {len(os.sched_getaffinity(0))} processors."
 
@@ -120,7 +142,7 @@ def main():
     watch.join()
     used = resource.getrusage(resource.RUSAGE_CHILDREN)
     with open(sys.argv[1], "w", encoding="utf-8") as file:
-        for line in lines_of(watch.table(), used.ru_utime + used.ru_stime, time.time() - begun):
+        for line in lines_of(watch.table(), watch.memories(), used.ru_utime + used.ru_stime, time.time() - begun):
             print(line, file=file)
     return status
 
